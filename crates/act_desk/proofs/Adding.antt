@@ -1,4 +1,4 @@
--- The exchange that adds an entry keeps the rule.
+-- The exchange that appends an entry keeps the rule.
 use Rattle.std.proofs.Common.{◌≡◌, ℕ, ◌+◌, ◌<◌, ◌==◌, Bool, true, false, List, [], ◌∷◌, ◌++◌, length, refl, ap, sym, subst, arith, inl, length-append, None}
 use Rattle.std.proofs.lemmas.List.{append-nil}
 use Rattle.std.proofs.lemmas.Bool.Decides.{nat_tests}
@@ -7,7 +7,7 @@ use prog.Atomic.{either}
 use Rattle.logbook.specs.Pages.{Cell, cell, keeps, no_nib, step, Moves, Goes}
 use Rattle.act_store.specs.declared.entry.Entry.{Entry}
 use Rattle.act_desk.specs.Rules.{IsKept, Adds}
-use Rattle.act_desk.proofs.Fronts.{prefix_whole}
+use Rattle.act_desk.proofs.Prefixes.{prefix_whole}
 
 abbrev pub shown : List Entry → List Entry
 shown log = []
@@ -42,7 +42,7 @@ adds_goes log v e old len pre false is =
       rw is (ap length all),
     )
 
--- whatever the book is, the exchange adds the entry to all that was seen, or finds that the history is longer
+-- Whatever the book holds, the exchange appends the entry to everything seen, or finds that the history is longer.
 pub adds_moves : (v : List Entry) (e : Entry) (old : ℕ) → length v ≡ old
     → Moves IsKept shown moved 0 (v, (no_nib, None)) (λ n. either (n == old) (old + 1) n) (Adds (step 0 old (old + 1) e) (v, (no_nib, None)))
 adds_moves v e old len cs log kept pre away =

@@ -1,4 +1,4 @@
--- Why a command is not entered, told by the numbers alone.
+-- Why a command is not entered, by refusal number.
 use Rattle.std.proofs.Common.{◌≡◌, ◌⊎◌, inl, inr, [], ◌∷◌, ◌++◌, length, Bool, true, false, Some, None, Result, Ok, Err, sym, subst}
 use Rattle.std.specs.Prelude.{IfErr, IsErrAnd, nat_le, nat_lt, if◌then◌else◌}
 use Rattle.wf_value.specs.Gives.{no_memory}
@@ -25,7 +25,7 @@ causes s command e (inr is) =
     inr (refusals s.failed (nat_le 100000 (length s.history)) (has_command s.layout command)
     (nat_lt s.area (record_end s (pending_commands s ++ command ∷ []))) e is)
 
--- so also of a refusal that is passed on
+-- the same for a refusal that is passed on
 pub passed_causes : {T D : Type 0} (s : StoreState D) (command : Command) (r : Result T Refusal) (e : Refusal) → IsErrAnd r (λ f. f ≡ e)
     → (e ≡ no_memory) ⊎ (refusal_of_apply s command ≡ Some e)
     → IfErr r (λ f. (f ≡ no_memory) ⊎ (f ≡ history_full) ⊎ (f ≡ old_layout) ⊎ (f ≡ area_full) ⊎ (f ≡ failed_earlier))

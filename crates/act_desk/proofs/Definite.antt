@@ -1,20 +1,20 @@
--- Answers that say whether their commands were entered.
+-- Answers that settle whether their commands were entered.
 use Rattle.std.proofs.Common.{◌≡◌, ℕ, suc, ◌<◌, ◌||◌, true, List, [], ◌∷◌, ◌++◌, length, get_or, arith, ap, sym, subst, ◌∙◌}
-use Rattle.act_sessions.specs.declared.transcript.Asked.{Asked}
-use Rattle.act_sessions.specs.Told.{Told, leaves_open, told_in}
+use Rattle.act_sessions.specs.declared.transcript.LoggedExchange.{LoggedExchange}
+use Rattle.act_sessions.specs.Exchange.{Exchange, leaves_open, exchanges_in}
 use Rattle.act_desk.specs.Settled.{AreDefinite, is_definite}
 
 or_more : (a b : _) → a ≡ true → (a || b) ≡ true
 or_more a b h = rw h
 
-one_more : (t : Told) (told : List Told) → is_definite t.1 ≡ true → AreDefinite told → AreDefinite (t ∷ told)
+one_more : (t : Exchange) (exchanges : List Exchange) → is_definite t.1 ≡ true → AreDefinite exchanges → AreDefinite (t ∷ exchanges)
 one_more t [] h are = or_more (is_definite t.1) (leaves_open t.1) h
-one_more t (u ∷ told) h are = (h, are)
+one_more t (u ∷ exchanges) h are = (h, are)
 
--- the last one stands behind others that do
-pub definite_with : (front : List Asked) (last : Asked) → ((k : ℕ) (one : Asked) → k < length front → is_definite (get_or front k one).answer ≡ true)
-    → (is_definite last.answer || leaves_open last.answer) ≡ true → AreDefinite (told_in (front ++ last ∷ []))
+-- the last answer, after others that settle it
+pub definite_with : (prefix : List LoggedExchange) (last : LoggedExchange) → ((k : ℕ) (one : LoggedExchange) → k < length prefix → is_definite (get_or prefix k one).answer ≡ true)
+    → (is_definite last.answer || leaves_open last.answer) ≡ true → AreDefinite (exchanges_in (prefix ++ last ∷ []))
 definite_with [] last each may = may
-definite_with (a ∷ front) last each may =
-    one_more (a.command, a.answer) (told_in (front ++ last ∷ [])) (each 0 a (omega arith))
-    (definite_with front last (λ k one less. each (suc k) one (omega arith)) may)
+definite_with (a ∷ prefix) last each may =
+    one_more (a.command, a.answer) (exchanges_in (prefix ++ last ∷ [])) (each 0 a (omega arith))
+    (definite_with prefix last (λ k one less. each (suc k) one (omega arith)) may)

@@ -1,4 +1,4 @@
--- What is known of a command once it is entered: the reply is one that its step gives, and the entry stands at the end of the history.
+-- What is known of a command once it is entered: the reply is one that its step gives, and the entry is the last of the history.
 use Rattle.std.proofs.Common.{◌≡◌, ℕ, ◌+◌, ◌-◌, List, [], ◌∷◌, ◌++◌, length, Some, sym, ap, subst, ◌∙◌, arith, length-append}
 use Rattle.std.specs.Prelude.{slice_get}
 use Rattle.std.proofs.Math.Seq.{get_or-append_seam}
@@ -17,11 +17,11 @@ last_stands history e =
     ap (slice_get (history ++ e ∷ [])) place ∙ slice_get-get_or (history ++ e ∷ []) (length history) e (omega arith)
     ∙ ap Some (get_or-append_seam history e [] e)
 
-pub stands : {D : Type 0} (s t : StoreState D) (command : Command) (seat : ℕ) (receipt : Receipt) (front : List Entry)
-    → t ≡ entered s seat command → receipt ≡ receipt_of s command → front ≡ t.history
-    → slice_get front (receipt.place - 1) ≡ Some (record { seat = seat; command = command; reply = receipt.reply })
-stands {D} s t command seat receipt front new given same =
-    subst (λ (r : Receipt). slice_get front (r.place - 1) ≡ Some (record { seat = seat; command = command; reply = r.reply })) (sym given)
+pub stands : {D : Type 0} (s t : StoreState D) (command : Command) (seat : ℕ) (receipt : Receipt) (prefix : List Entry)
+    → t ≡ entered s seat command → receipt ≡ receipt_of s command → prefix ≡ t.history
+    → slice_get prefix (receipt.place - 1) ≡ Some (record { seat = seat; command = command; reply = receipt.reply })
+stands {D} s t command seat receipt prefix new given same =
+    subst (λ (r : Receipt). slice_get prefix (r.place - 1) ≡ Some (record { seat = seat; command = command; reply = r.reply })) (sym given)
     (ap (λ (f : List Entry). slice_get f (length s.history + 1 - 1)) (same ∙ ap (λ (u : StoreState D). u.history) new)
     ∙ last_stands s.history (entry_of s seat command))
 

@@ -1,4 +1,4 @@
--- Why a step of a flusher was refused, and what is left then.
+-- Why a step of a flusher was refused, and its effect.
 use Rattle.std.proofs.Common.{◌≡◌, ◌⊎◌, Some, inl, inr, refl}
 use Rattle.std.specs.Prelude.{Option}
 use Rattle.wf_value.specs.Gives.{no_memory}
@@ -12,14 +12,14 @@ use Rattle.act_store.specs.Steps.{left_by}
 use Rattle.act_store.specs.StoreState.{StoreState}
 use Rattle.act_store.specs.declared.step.Step.TheVariants as asked
 
--- neither memory nor the device
+-- neither out of memory nor a device failure
 pub only_due : (o : Option Refusal) (e : Refusal) → (e ≡ no_memory) ⊎ (e ≡ device_failed) ⊎ (o ≡ Some e) → (e ≡ no_memory → ⊥) → (e ≡ device_failed → ⊥)
     → o ≡ Some e
 only_due o e (inl memory) other fault = absurd (other memory)
 only_due o e (inr (inl device)) other fault = absurd (fault device)
 only_due o e (inr (inr is)) other fault = is
 
--- only want of room drops a checkpoint
+-- only lack of space drops a checkpoint
 pub finish_left : {D : Type 0} (s t : StoreState D) (e : Refusal) → (e ≡ area_full → t ≡ dropped s) → ((e ≡ area_full → ⊥) → t ≡ s)
     → t ≡ left_by s asked.Finish e
 finish_left s t (Numbered AreaFull) drops same = drops refl

@@ -4,7 +4,7 @@ pub mod EnteredAt
 pub mod Crossing
 pub mod Definite
 pub mod Flushes
-pub mod Fronts
+pub mod Prefixes
 pub mod GivenUp
 pub mod Lists
 pub mod Parts

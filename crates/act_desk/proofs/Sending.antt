@@ -1,5 +1,5 @@
--- What may go to another thread. The toolchain finds by itself that most types may; an event that is admitted, which is shared by a count
--- and seen by its bytes, and all that holds one, it does not find, so their parts are named here.
+-- What may move to another thread. The toolchain derives this for most types. It does not for an admitted event, which is
+-- reference-counted and seen by its bytes, or for types that contain one, so their parts are named here.
 use denote.Param.Send.{IsSend, IsSync, sendable, view_send, view_sync}
 use Rattle.std.proofs.Crossing as crossing
 use Rattle.std.proofs.sync.Arc.TheSendSync as arc
@@ -30,9 +30,9 @@ use Rattle.run_plan.proofs.command.Done.TheSendSync as done
 use Rattle.run_plan.proofs.command.Attempt.TheSendSync as attempt
 use Rattle.run_plan.proofs.command.Beat.TheSendSync as beat
 use Rattle.act_sessions.proofs.transcript.Ending.TheSendSync as ending
-use Rattle.workflow_runs.proofs.phases.RunPhase.TheSendSync as phase
-use Rattle.workflow_runs.proofs.job.Job.TheSendSync as job
-use Rattle.workflow_runs.proofs.asks.RunBindings.TheSendSync as asks
+use Rattle.run_states.proofs.job.Job.TheSendSync as job
+use Rattle.run_states.proofs.phases.RunPhase.TheSendSync as phase
+use Rattle.run_bindings.proofs.bindings.RunBindings.TheSendSync as bindings
 use Rattle.workflow_runs.proofs.runs.index.Index.TheSendSync as index
 use Rattle.workflow_runs.proofs.runs.marks.RunMarks.TheSendSync as marks
 use Rattle.run_table.proofs.runners.Runners.TheSendSync as runners
@@ -41,22 +41,22 @@ use Rattle.run_plan.specs.contracts.reply.Reply.{the_row as reply, enum as reply
 use Rattle.run_plan.specs.contracts.shared_body.SharedBody.{the_row as body}
 use Rattle.run_plan.specs.contracts.shared_body.SharedBody.TheInside.{the_row as body_inside}
 use Rattle.act_store.specs.contracts.entry.Entry.{the_row as entry, the_type as entry_type}
-use Rattle.act_sessions.specs.contracts.transcript.Asked.{the_row as asked, the_type as asked_type}
+use Rattle.act_sessions.specs.contracts.transcript.LoggedExchange.{the_row as asked, the_type as asked_type}
 use Rattle.act_sessions.specs.contracts.transcript.Transcript.{the_row as transcript, the_type as transcript_type}
-use Rattle.workflow_runs.specs.contracts.run.Run.{the_row as run}
-use Rattle.workflow_runs.specs.contracts.run.Run.TheInside.{the_row as run_inside, the_type as run_type}
+use Rattle.run_states.specs.contracts.run.Run.{the_row as run}
+use Rattle.run_states.specs.contracts.run.Run.TheInside.{the_row as run_inside, the_type as run_type}
 use Rattle.workflow_runs.specs.contracts.runs.Runs.{the_row as runs}
 use Rattle.workflow_runs.specs.contracts.runs.Runs.TheInside.{the_row as runs_inside, the_type as runs_type}
-use Rattle.run_table.specs.contracts.content.Content.{the_row as content}
-use Rattle.run_table.specs.contracts.content.Content.TheInside.{the_row as content_inside, the_type as content_type}
+use Rattle.run_table.specs.contracts.table_data.TableData.{the_row as table_data}
+use Rattle.run_table.specs.contracts.table_data.TableData.TheInside.{the_row as table_data_inside, the_type as table_data_type}
 use Rattle.run_table.specs.contracts.table.Table.{the_row as table}
 use Rattle.run_table.specs.contracts.table.Table.TheInside.{the_row as table_inside, the_type as table_type}
 use denote.RattleType.{RattleType}
 use Rattle.act_disk.specs.declared.disk.Disk.{Ghosts}
-use Rattle.gated_journal.proofs.standing.Standing.TheSendSync as standing
+use Rattle.gated_journal.proofs.area_pair.AreaPair.TheSendSync as standing
 use Rattle.gated_journal.proofs.gate.Gate.TheSendSync as gate
 use Rattle.act_store.proofs.layout.Layout.TheSendSync as layout
-use Rattle.act_store.proofs.waiting.Waiting.TheSendSync as waiting
+use Rattle.act_store.proofs.pending_batch.PendingBatch.TheSendSync as pending_batch
 use Rattle.act_store.proofs.begun.Begun.TheSendSync as begun
 use Rattle.act_store.specs.contracts.store.Store.{the_row as store}
 use Rattle.act_store.specs.contracts.store.Store.TheInside.{the_row as store_inside, the_type as store_type}
@@ -158,13 +158,13 @@ run_send : IsSend run
 run_send = view_send run_inside _ _ _ _ (declared_send run_type (search (parts, prepared_send) depth 6, (search (parts, number.the_send) depth 6, (search (parts, phase.the_send) depth 6, (search parts depth 6, (search (parts, job.the_send) depth 10, tt))))))
 
 runs_send : IsSend runs
-runs_send = view_send runs_inside _ _ _ _ (declared_send runs_type (search (parts, run_send) depth 10, (search parts depth 10, (search (parts, asks.the_send) depth 10, (search (parts, index.the_send) depth 6, (search (parts, marks.the_send) depth 6, (search parts depth 6, tt)))))))
+runs_send = view_send runs_inside _ _ _ _ (declared_send runs_type (search (parts, run_send) depth 10, (search parts depth 10, (search (parts, bindings.the_send) depth 10, (search (parts, index.the_send) depth 6, (search (parts, marks.the_send) depth 6, (search parts depth 6, tt)))))))
 
-content_send : IsSend content
-content_send = view_send content_inside _ _ _ _ (declared_send content_type (search parts depth 6, (search (parts, runs_send) depth 6, (search (parts, runners.the_send) depth 6, tt))))
+table_data_send : IsSend table_data
+table_data_send = view_send table_data_inside _ _ _ _ (declared_send table_data_type (search parts depth 6, (search (parts, runs_send) depth 6, (search (parts, runners.the_send) depth 6, tt))))
 
 pub table_send : IsSend table
-table_send = view_send table_inside _ _ _ _ (declared_send table_type (search (parts, content_send) depth 6, tt))
+table_send = view_send table_inside _ _ _ _ (declared_send table_type (search (parts, table_data_send) depth 6, tt))
 
 pub store_send : (D : RattleType) (g : Ghosts D.Denot) → IsSend D → IsSend (store D g)
 store_send D g disk =
@@ -179,7 +179,7 @@ store_send D g disk =
             search parts depth 6,
             (
               search (parts, table_send) depth 6,
-              (search (parts, entry_send) depth 10, (search parts depth 6, (search parts depth 6, (search parts depth 6, (search (parts, layout.the_send) depth 6, (search (parts, waiting.the_send) depth 6, (search (parts, begun.the_send) depth 8, (search parts depth 6, tt)))))))),
+              (search (parts, entry_send) depth 10, (search parts depth 6, (search parts depth 6, (search parts depth 6, (search (parts, layout.the_send) depth 6, (search (parts, pending_batch.the_send) depth 6, (search (parts, begun.the_send) depth 8, (search parts depth 6, tt)))))))),
             ),
           ),
         ),

@@ -1,4 +1,4 @@
--- A reply that stands in what was seen at the entry stands in what a seat has seen since.
+-- A reply that is in the prefix seen at entry is in every prefix that a seat has seen since.
 use Rattle.std.proofs.Common.{◌≡◌, ℕ, ◌-◌, List, Some, Result, Ok, Err, slice_get}
 use Rattle.std.specs.Prelude.{IfOk}
 use mathlib.Core.List.{IsPrefix}
@@ -8,7 +8,7 @@ use Rattle.run_plan.specs.declared.reply.Reply.{Reply}
 use Rattle.act_store.specs.declared.entry.Entry.{Entry}
 use Rattle.act_desk.specs.Begins.{Stands}
 use Rattle.act_desk.specs.Shown.{Awaited, IsReplyTo, StandsIn}
-use Rattle.act_desk.proofs.Fronts.{prefix_get}
+use Rattle.act_desk.proofs.Prefixes.{prefix_get}
 
 pub stands_later : (p : Awaited) (seat : ℕ) (command : Command) (seen later : List Entry) (r : Result Reply Refusal)
     → (p.seat ≡ seat) × (p.command ≡ command) × IsPrefix p.seen seen → later ≡ seen

@@ -1,12 +1,12 @@
--- A store that did not refuse a command has no cause to, and has not failed.
+-- A store that did not refuse a command has no reason to refuse it, and has not failed.
 use Rattle.std.proofs.Common.{◌≡◌, ◌∙◌, inl, ℕ, ◌+◌, Bool, true, false, Ok, Err, None, refl}
 use Rattle.std.specs.Prelude.{IfSome, IsErrAnd, Option, Result, Some, if◌then◌else◌}
 use Rattle.wf_value.specs.declared.refusal.Refusal.{Refusal}
 use Rattle.act_disk.specs.Failed.{device_failed}
 use Rattle.act_store.specs.Plain.{failed_earlier}
-use Rattle.act_store.specs.Told.{TellsFault}
+use Rattle.act_store.specs.FaultCauses.{TellsFault}
 
--- whatever is said of a cause holds where there is none
+-- a statement about a cause holds if there is no cause
 pub never_refused : {T : Type 0} (cause : Option Refusal) (P : Refusal → Type 0) (r : Result T Refusal) (x : T) → r ≡ Ok x
     → IfSome cause (λ e. r ≡ Err e) → IfSome cause P
 never_refused None P r x is refused = _
@@ -17,7 +17,7 @@ pub live_by : {T : Type 0} (failed : Bool) (other : Option Refusal) (r : Result 
 live_by true other r x is refused = absurd (cc (is, refused))
 live_by false other r x is refused = refl
 
--- a fault that is passed on is told
+-- a fault that is passed on is reported
 pub fault_told : {T : Type 0} (r : Result T Refusal) (e : Refusal) (old new : ℕ) → IsErrAnd r (λ f. f ≡ e) → e ≡ device_failed
     → new ≡ old + 1 → TellsFault r old new
 fault_told (Ok x) e old new is device more = absurd is

@@ -1,13 +1,13 @@
--- Lists of entries of which one begins the other, and entries that stand in them.
+-- Lists of entries where one is a prefix of the other, and the entries in them.
 use Rattle.std.specs.Prelude.{◌≡◌, ℕ, ◌<◌, List, [], ◌∷◌, ◌++◌, length, slice_get, Some}
 use mathlib.Core.List.{IsPrefix}
 use Rattle.act_store.specs.declared.entry.Entry.{Entry}
 
--- the longer one begins with the other, and goes on
+-- the longer one has the other as a proper prefix
 abbrev pub IsLonger : List Entry → List Entry → Type 0
-IsLonger front history = IsPrefix front history × (length front < length history)
+IsLonger prefix history = IsPrefix prefix history × (length prefix < length history)
 
--- the entry stands at some place of the history
+-- the entry is at some position of the history
 abbrev pub Stands : List Entry → Entry → Type 0
 Stands history entry = (place : ℕ) × (slice_get history place ≡ Some entry)
 

@@ -14,14 +14,14 @@ code_of_fault (Memory store works) = code.NoMemory
 code_of_fault (Unsettled settled) = code.Unsettled
 code_of_fault (Broken settled) = code.StreamFailed
 
--- All sessions have ended, none by its reader or writer, and the history is what they asked.
+-- All sessions have ended, none by its reader or writer, and the history is what they submitted.
 pub record IsServed {D W : Type 0} (ends : W → Transcript → Type 0) (works : List W) (outcome : Settled D) : Type 0 where
   pub ended : HaveEnded ends works outcome.transcripts.items
   pub settled : IsSettled outcome.transcripts.items outcome.store.history
   pub none_broken : NoneBroken outcome.transcripts.items
 
--- What each fault says of these: what it was called with, given back; all sessions have ended, and nothing is said of the history; or the
--- history is what they asked, and a reader or writer has failed.
+-- What each fault says about its arguments. Either they are returned unchanged. Or all sessions have ended, and nothing is said of the
+-- history. Or the history is what they submitted, and a reader or writer has failed.
 abbrev pub IsUnsettledOrBroken : {D W : Type 0} → Settled D → Fault D W → Type 0
 IsUnsettledOrBroken given (Memory store works) = ⊥
 IsUnsettledOrBroken given (Unsettled settled) = settled ≡ given

@@ -1,40 +1,40 @@
--- What the sessions asked, compared with the history of the store. Own: there is no public source.
+-- What the sessions submitted, compared with the history of the store.
 use Rattle.std.specs.Prelude.{◌≡◌, ◌≢◌, ◌⊎◌, ◌==◌, ◌||◌, ◌<◌, ℕ, Bool, true, false, List, [], ◌∷◌, ◌++◌, filter, flat_map, length, get_or, Ok, Err, ⊤, Option, Some, None, IfSome, All}
 use Rattle.wf_value.specs.RefusalText.{refusal_number}
 use Rattle.act_sessions.specs.declared.transcript.Ending.TheVariants.{Broken, Memory}
 use Rattle.act_sessions.specs.declared.transcript.Transcript.{Transcript}
-use Rattle.act_sessions.specs.Told.{Response, Told, leaves_open, told_by}
+use Rattle.act_sessions.specs.Exchange.{Response, Exchange, leaves_open, exchanges_by}
 use Rattle.act_store.specs.declared.entry.Entry.{Entry}
 
--- the entries that a seat has made
+-- the entries of a seat
 abbrev pub part_of : ℕ → List Entry → List Entry
 part_of seat history = filter (λ (e : Entry). e.seat == seat) history
 
--- a command that got a reply stands in the history with it
-abbrev pub entries_of_one : ℕ → Told → List Entry
+-- a command that got a reply is in the history with that reply
+abbrev pub entries_of_one : ℕ → Exchange → List Entry
 entries_of_one seat (command, Ok reply) = record { seat = seat; command = command; reply = reply } ∷ []
 entries_of_one seat (command, Err refusal) = []
 
-abbrev pub entries_of : ℕ → List Told → List Entry
-entries_of seat told = flat_map (entries_of_one seat) told
+abbrev pub entries_of : ℕ → List Exchange → List Entry
+entries_of seat exchanges = flat_map (entries_of_one seat) exchanges
 
--- an answer that says whether its command was entered: a reply, that it was; 46, 47 and 57, the history or the area is full, or the area is
--- of the first layout, that it was not
+-- An answer that settles whether its command was entered. A reply says that it was. 46, 47 and 57, for a full history, a full area and an
+-- area of the first layout, say that it was not.
 abbrev pub is_definite : Response → Bool
 is_definite (Ok reply) = true
 is_definite (Err refusal) = (refusal_number refusal == 46) || (refusal_number refusal == 47) || (refusal_number refusal == 57)
 
--- Each answer says whether its command was entered, but that the last one may leave that open: 50, 51, 52 and 60 do.
-abbrev pub AreDefinite : List Told → Type 0
+-- Each answer settles whether its command was entered. Only the last one may leave it unknown, as 50, 51, 52 and 60 do.
+abbrev pub AreDefinite : List Exchange → Type 0
 AreDefinite [] = ⊤
 AreDefinite (t ∷ []) = (is_definite t.1 || leaves_open t.1) ≡ true
-AreDefinite (t ∷ u ∷ told) = (is_definite t.1 ≡ true) × AreDefinite (u ∷ told)
+AreDefinite (t ∷ u ∷ exchanges) = (is_definite t.1 ≡ true) × AreDefinite (u ∷ exchanges)
 
--- the entry of the last command that was asked, where its answer leaves open whether there is one
-pub record IsOfLast (seat : ℕ) (told : List Told) (entry : Entry) : Type 0 where
-  pub front : List Told
-  pub last : Told
-  pub last_is : told ≡ front ++ last ∷ []
+-- the entry of the last command submitted, if its answer leaves it unknown whether there is one
+pub record IsOfLast (seat : ℕ) (exchanges : List Exchange) (entry : Entry) : Type 0 where
+  pub prefix : List Exchange
+  pub last : Exchange
+  pub last_is : exchanges ≡ prefix ++ last ∷ []
   pub open_is : leaves_open last.1 ≡ true
   pub command_is : entry.command ≡ last.0
   pub seat_is : entry.seat ≡ seat
@@ -43,26 +43,26 @@ abbrev pub if_any : Option Entry → List Entry
 if_any None = []
 if_any (Some entry) = entry ∷ []
 
--- The seat's part of the history is what was asked and got a reply, in order, each once, with the replies; and at its end the last command
--- may stand, where its answer leaves that open. No other answer was given but 46, 47 and 57.
-pub record Agrees (seat : ℕ) (told : List Told) (history : List Entry) : Type 0 where
-  pub answered : AreDefinite told
+-- The seat's part of the history is the commands that got a reply, in order, each once, with the replies. At its end there may also be the
+-- last command, if its answer leaves that unknown. The only other answers were 46, 47 and 57.
+pub record Agrees (seat : ℕ) (exchanges : List Exchange) (history : List Entry) : Type 0 where
+  pub answered : AreDefinite exchanges
   pub over : Option Entry
-  pub part_is : part_of seat history ≡ entries_of seat told ++ if_any over
-  pub of_last : IfSome over (IsOfLast seat told)
+  pub part_is : part_of seat history ≡ entries_of seat exchanges ++ if_any over
+  pub of_last : IfSome over (IsOfLast seat exchanges)
 
--- how far a list of asked commands was found: so many of the first, and perhaps the entry of the last one behind them
+-- how far a list of submitted commands was found: `asked` first ones, and perhaps the entry of the last one after them
 pub record Progress : Type 0 where
   pub asked : ℕ
   pub over : Option Entry
 
--- Nothing was read, and nothing asked: no thread could be started for the session.
+-- Nothing was read or submitted: no thread could be started for the session.
 pub record IsUnread (t : Transcript) : Type 0 where
   pub asked : t.asked.items ≡ []
   pub written : t.written ≡ 0
   pub ending : t.ending ≡ Memory
 
--- The session has ended as its bytes say, or could not be started.
+-- The session ended as its bytes say, or could not be started.
 abbrev pub HasEnded : (Transcript → Type 0) → Transcript → Type 0
 HasEnded ends t = ends t ⊎ IsUnread t
 
@@ -71,9 +71,9 @@ pub record HaveEnded {W : Type 0} (ends : W → Transcript → Type 0) (works : 
   pub len : length transcripts ≡ length works
   pub ended : (i : ℕ) (w : W) (t : Transcript) → i < length works → HasEnded (ends (get_or works i w)) (get_or transcripts i t)
 
--- The part of each seat is what the session of its number asked, and the history has no other entries.
+-- The part of each seat is what the session of that number submitted, and the history has no other entries.
 pub record IsSettled (transcripts : List Transcript) (history : List Entry) : Type 0 where
-  pub agree : (i : ℕ) (t : Transcript) → i < length transcripts → Agrees i (told_by (get_or transcripts i t)) history
+  pub agree : (i : ℕ) (t : Transcript) → i < length transcripts → Agrees i (exchanges_by (get_or transcripts i t)) history
   pub no_other : All (λ (e : Entry). e.seat < length transcripts) history
 
 -- no session was ended by its reader or writer

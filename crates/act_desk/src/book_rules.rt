@@ -2,9 +2,9 @@ use act_store::Entry;
 use logbook::{Gain, Plain, Play, Rule};
 
 /// The rule of a shared history.
-pub struct Law;
+pub struct HistoryRule;
 
-impl Rule<Entry, u64> for Law {
+impl Rule<Entry, u64> for HistoryRule {
     ghost use Rattle.std.specs.Prelude.{[]};
     ghost use base.Fml.{ftrue};
     ghost use Rattle.act_desk.specs.Rules.{IsKept};
@@ -22,26 +22,26 @@ impl Rule<Entry, u64> for Law {
     ghost moves = { λ ask before after answer. Unit {0} };
 }
 
-/// Callers trade nothing.
-pub struct Nothing;
+/// Callers exchange no resource.
+pub struct NoResource;
 
-impl Gain<Entry, u64> for Nothing {
+impl Gain<Entry, u64> for NoResource {
     ghost use base.Fml.{ftrue};
 
     ghost after = { λ names about answer. ftrue };
 }
 
-/// A step that adds an entry.
-pub struct Add;
+/// A step that appends an entry.
+pub struct Append;
 
-impl Play<Entry, u64> for Add {
+impl Play<Entry, u64> for Append {
     ghost use Rattle.act_desk.specs.Rules.{Adds};
 
     ghost then = { Adds };
 }
 
-/// What a step asks for: the entry.
-impl Plain<Entry, Entry, u64> for Add {
+/// The argument of a step: the entry.
+impl Plain<Entry, Entry, u64> for Append {
     ghost use Rattle.std.specs.Prelude.{None};
 
     ghost ask = { λ entry. entry };

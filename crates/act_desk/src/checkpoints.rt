@@ -13,23 +13,23 @@ use std::thread;
 use std::time::{Clock, Duration};
 use wf_value::Refusal;
 
-/// How long a flusher rests between two rounds, in milliseconds.
+/// The pause of a flusher between two rounds, in milliseconds.
 const REST: u64 = 1;
 
-/// How long it rests where no more entries are covered, in milliseconds, at most.
+/// The longest pause while no more entries are covered, in milliseconds.
 const LONG_REST: u64 = 250;
 
-/// Makes checkpoints of the store of a desk beside its seats, until it is told to stop. It answers how many it has finished.
+/// Makes checkpoints of a desk's store beside its seats until it is told to stop. Returns how many it has finished. `Err` is 51 or 52.
 ///
-/// In each round it looks whether it is to stop, and calls the store at most once under the lock, so that seats come in between; then it
-/// rests for a millisecond, and, where no checkpoint is under way, until more entries are covered, for a quarter of a second at most. Where
-/// that brought nothing new it rests for no millisecond more, so while nothing is asked it wakes four times a second. It begins a checkpoint
-/// where less than half of the area is left for the next record and entries were covered since it last tried to, writes it slice by slice,
-/// and finishes it. The round after it first reads `stop` as true is the last that may begin one; one that is under way is then brought to
-/// its end, without rest.
+/// In each round it reads `stop` and calls the store at most once under the lock, so that seats run in between. Then it sleeps for a
+/// millisecond. If no checkpoint is in progress, it also waits until more entries are covered, for at most a quarter of a second. After a
+/// wait that brought nothing new it skips the millisecond, so it wakes four times a second while the service is idle. It begins a
+/// checkpoint if less than half of the area is left for the next record and entries were covered since its last attempt. It writes the
+/// checkpoint slice by slice and finishes it. The round that first reads `stop` as true is the last that may begin a checkpoint. A
+/// checkpoint that is then in progress is completed without pauses.
 ///
-/// Where the store refuses a call with 47, 48, 50 or 56 the flusher passes over it: it goes on with its rounds, or, told to stop, tries
-/// no more. It has no seat, so it enters no command and gives no reply.
+/// The flusher ignores the refusals 47, 48, 50 and 56 of the store and goes on with its rounds; once told to stop, it gives up at such a
+/// refusal. It has no seat, so it enters no command and releases no reply.
 pub fn flusher<D: Disk, E: Named, T: Ledger, R: Wait + Clock>(
     rt: &R,
     alloc: Global,
@@ -56,7 +56,7 @@ pub fn flusher<D: Disk, E: Named, T: Ledger, R: Wait + Clock>(
     Ok(flush.finished())
 }
 
-/// Brings the checkpoint that is under way, if one is, to its end: it is finished, or the store refuses a call.
+/// Completes the checkpoint in progress, if any: it is finished, or the store refuses a call.
 fn bring_to_its_end<D: Disk, E: Named, T: Ledger, R: Wait>(
     rt: &R,
     alloc: Global,

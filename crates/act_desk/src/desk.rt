@@ -7,13 +7,13 @@ ghost use Rattle.act_desk.specs.Answered.{unsettled};
 ghost use Rattle.act_desk.specs.Begins.{Stands};
 ghost use Rattle.act_desk.specs.Shown.{IsReplyTo, StandsIn};
 
-use crate::desked::Desked;
+use crate::desk_state::{DeskState, WakeReason};
 use crate::flush::Flush;
-use crate::front::{Front, Head};
 use crate::ledgers::Ledgers;
-use crate::line::{Line, Turn};
+use crate::locked::LockedStore;
 use crate::named::Named;
 use crate::pending::Pending;
+use crate::prefix::{Head, HistoryPrefix};
 use crate::seat::Seat;
 use crate::seats::Seats;
 use act_disk::Disk;
@@ -27,25 +27,25 @@ use wf_value::Refusal;
 
 /// A store under a lock, and seats that share it: many threads, one history.
 ///
-/// One commit covers the entries of many. Who finds its entry uncovered, and nobody leading, leads: it waits until no seat is on its way
-/// to enter a command or out with a covered reply, and commits for all. The others sleep until then.
+/// One commit makes the entries of many seats durable. A seat whose entry is not covered becomes the leader if there is none. The leader
+/// waits until no seat is entering a command or leaving with a covered reply, and then commits for all. The others sleep until then.
 #[derive(Drop)]
 pub struct Desk<D: Disk, E: Named, T: Ledger> {
     head: Head<E>,
-    line: Mutex<Line<D, E, T>>,
-    /// A leader has done.
+    desk_state: Mutex<DeskState<D, E, T>>,
+    /// A leader is done.
     turned: Condvar,
-    /// As many as a leader waits for are back.
+    /// As many seats as the leader waits for are back.
     gathered: Condvar,
-    /// How many seats are on their way in or out.
-    moving: Mutex<u64>,
-    /// None is.
-    still: Condvar,
+    /// How many seats are in flight: entering a command, or leaving with a reply.
+    in_flight: Mutex<u64>,
+    /// No seat is in flight.
+    quiesced: Condvar,
 }
 
 impl<D: Disk, E: Named, T: Ledger> Desk<D, E, T> {
-    /// A desk over a store whose history is empty. The ledgers get the names `E` and `T`, so it is called in a function over these. No memory
-    /// is taken.
+    /// A desk over a store with an empty history. The ledgers get the names `E` and `T`, so it is called in a function that is generic
+    /// over these. Takes no memory.
     pub fn new(store: Store<D>, ledgers: Ledgers) -> Desk<D, E, T>
         requires empty { store.history ≡ [] }
         requires entries { (ledgers.entries.name ≡ E.name) × (E.parts ≡ 64) }
@@ -59,52 +59,51 @@ impl<D: Disk, E: Named, T: Ledger> Desk<D, E, T> {
         } = ledgers;
         let (entry_book, entry_shares) = entries.open::<E>();
         let (reply_book, reply_shares) = replies.open::<T>();
-        let (head, front) = history.named::<E>();
-        let seats = Seats::new(entry_shares, reply_shares, front.again());
-        let desked = Desked::new(store, entry_book, reply_book, front);
+        let (head, prefix) = history.named::<E>();
+        let seats = Seats::new(entry_shares, reply_shares, prefix.again());
+        let locked = LockedStore::new(store, entry_book, reply_book, prefix);
         Desk {
             head,
-            line: Mutex::new(Line::new(desked, seats)),
+            desk_state: Mutex::new(DeskState::new(locked, seats)),
             turned: Condvar::new(),
             gathered: Condvar::new(),
-            moving: Mutex::new(0),
-            still: Condvar::new(),
+            in_flight: Mutex::new(0),
+            quiesced: Condvar::new(),
         }
     }
 
-    /// The store, with all that was entered.
+    /// The store, with all its entries.
     pub fn into_store(self) -> Store<D> {
         let (store, _whole) = self.into_parts();
         store
     }
 
-    /// The store, and its whole history as a front, which the front of each seat begins (`Front::begins`). There is no such front where
-    /// somebody else wrote the book of the history, which no seat does.
-    pub fn into_parts(self) -> (Store<D>, Option<Front<E>>)
-        ensures { IfSome result.1 (λ front. front ≡ result.0.history) }
+    /// The store and its whole history, of which each seat's history is a prefix (`HistoryPrefix::begins`). The history is `None` if another party
+    /// wrote its book, which no seat does.
+    pub fn into_parts(self) -> (Store<D>, Option<HistoryPrefix<E>>)
+        ensures { IfSome result.1 (λ prefix. prefix ≡ result.0.history) }
     {
-        let Desk { line, .. } = self;
-        let Line { desked, .. } = line.into_inner();
-        desked.into_parts()
+        let Desk { desk_state, .. } = self;
+        let DeskState { locked, .. } = desk_state.into_inner();
+        locked.into_parts()
     }
 
-    /// A seat that nobody has had: its number is from 0 to 63. `None` after 64.
+    /// A fresh seat, with a number from 0 to 63. `None` after 64 seats.
     pub fn seat(&self, rt: &impl Wait) -> Option<Seat<E, T>>
-        ensures { IfSome result (λ seat. (seat.number < 64) × (seat.entered ≡ 0) × (seat.told ≡ 0)) }
+        ensures { IfSome result (λ seat. (seat.number < 64) × (seat.entered ≡ 0) × (seat.released ≡ 0)) }
     {
-        self.line.lock(rt).seats.take()
+        self.desk_state.lock(rt).seats.take()
     }
 
-    /// Takes a seat back, and answers its two shares: how many entries it has made, and how many replies it was given. They stay counted,
-    /// and its number is not given out again.
+    /// Takes a seat back and returns its two shares: how many entries it has made, and how many replies it got. They stay counted, and its
+    /// number is not reused.
     pub fn give_back(&self, seat: Seat<E, T>) -> (u64, u64)
-        ensures { result ≡ (seat.entered, seat.told) }
+        ensures { result ≡ (seat.entered, seat.released) }
     {
-        (seat.entered(), seat.told())
+        (seat.entered(), seat.released())
     }
 
-    /// Enters a command, and keeps its reply back. It is refused with 46, 47, 50, 52 or 57, as `Store::apply` refuses it, and then nothing
-    /// was entered.
+    /// Enters a command and withholds its reply. It is refused with 46, 47, 50, 52 or 57, as by `Store::apply`; then nothing was entered.
     pub fn enter(
         &self,
         rt: &impl Wait,
@@ -116,37 +115,23 @@ impl<D: Disk, E: Named, T: Ledger> Desk<D, E, T> {
         ensures entered { OnOk result (seat.new.entered ≡ seat.old.entered + 1) }
         ensures unchanged { OnErr result (seat.new ≡ seat.old) }
         ensures cause { IfErr result (λ e. (e ≡ no_memory) ⊎ (e ≡ history_full) ⊎ (e ≡ old_layout) ⊎ (e ≡ area_full) ⊎ (e ≡ failed_earlier)) }
-        ensures same { (seat.new.told ≡ seat.old.told) × (seat.new.number ≡ seat.old.number) × IsPrefix seat.old.seen seat.new.seen }
+        ensures same { (seat.new.released ≡ seat.old.released) × (seat.new.number ≡ seat.old.number) × IsPrefix seat.old.seen seat.new.seen }
     {
         let _ = self.moves(rt, 1);
-        let entered = self.enter_now(rt, alloc, seat, command);
+        let mut guard = self.desk_state.lock(rt);
+        let desk_state = &mut *guard;
+        let entered = desk_state.locked.enter(alloc, &self.head, seat, command);
+        drop(guard);
         self.moved(rt);
         entered
     }
 
-    fn enter_now(
-        &self,
-        rt: &impl Wait,
-        alloc: Global,
-        seat: &mut Seat<E, T>,
-        command: Command,
-    ) -> Result<Pending<E>, Refusal>
-        ensures pending { IfOk result (λ p. (p.seat ≡ seat.old.number) × (p.command ≡ command) × IsPrefix p.seen seat.new.seen) }
-        ensures entered { OnOk result (seat.new.entered ≡ seat.old.entered + 1) }
-        ensures unchanged { OnErr result (seat.new ≡ seat.old) }
-        ensures cause { IfErr result (λ e. (e ≡ no_memory) ⊎ (e ≡ history_full) ⊎ (e ≡ old_layout) ⊎ (e ≡ area_full) ⊎ (e ≡ failed_earlier)) }
-        ensures same { (seat.new.told ≡ seat.old.told) × (seat.new.number ≡ seat.old.number) × IsPrefix seat.old.seen seat.new.seen }
-    {
-        let mut guard = self.line.lock(rt);
-        let line = &mut *guard;
-        line.desked.enter(alloc, &self.head, seat, command)
-    }
-
-    /// Gives the reply of an entered command once its entry is covered: it is, or a leader covers it, or this seat leads.
+    /// Returns the reply of an entered command once its entry is covered: it is covered already, or a leader covers it, or this seat
+    /// leads.
     ///
-    /// It is refused with 51 where this seat led and the device failed in its commit; with 52 where the device had failed before, as for each
-    /// that slept while a leader was refused 51; and with 60 where as many replies are out as entries are covered. The entry may then stand or
-    /// not, and no reply is given.
+    /// It is refused with 51 if this seat led and the device failed in its commit; with 52 if the device had failed before, as it had for
+    /// each seat that slept while a leader failed with 51; and with 60 if as many replies are released as entries are covered. It is then
+    /// unknown whether the entry exists, and no reply is released.
     pub fn cover<R: Wait + Clock>(
         &self,
         rt: &R,
@@ -154,33 +139,37 @@ impl<D: Disk, E: Named, T: Ledger> Desk<D, E, T> {
         pending: Pending<E>,
     ) -> Result<Reply, Refusal>
         ensures reply { IfOk result (λ reply. IsReplyTo pending.command reply × StandsIn pending.seen pending reply) }
-        ensures told { OnOk result (seat.new.told ≡ seat.old.told + 1) }
-        ensures untold { OnErr result (seat.new.told ≡ seat.old.told) }
+        ensures released { OnOk result (seat.new.released ≡ seat.old.released + 1) }
+        ensures unreleased { OnErr result (seat.new.released ≡ seat.old.released) }
         ensures cause { IfErr result (λ e. (e ≡ failed_earlier) ⊎ (e ≡ device_failed) ⊎ (e ≡ unsettled)) }
         ensures same { (seat.new.entered ≡ seat.old.entered) × (seat.new.number ≡ seat.old.number) × (seat.new.seen ≡ seat.old.seen) }
     {
         let (mut guard, turn) = self.turn(rt, pending.place());
-        let line = &mut *guard;
+        let desk_state = &mut *guard;
         let began = Instant::now(rt).ok();
-        let (answer, woken) = line.finish(seat, pending, turn);
+        let (answer, woken) = desk_state.finish(seat, pending, turn);
         let came = self.moves(rt, woken);
-        if turn == Turn::Leads && answer.is_ok() {
-            line.linger.has_committed(since(rt, began), came);
+        if turn == WakeReason::Leads && answer.is_ok() {
+            desk_state.linger.has_committed(since(rt, began), came);
         }
         drop(guard);
         match turn {
-            Turn::Leads => self.turned.notify_all(),
-            Turn::Woke => self.moved(rt),
-            Turn::Found => {}
+            WakeReason::Leads => self.turned.notify_all(),
+            WakeReason::Woke => self.moved(rt),
+            WakeReason::Found => {}
         }
         answer
     }
 
-    /// Waits until the entry at a place is covered, or until its seat is to lead and all are still.
-    fn turn<R: Wait + Clock>(&self, rt: &R, place: u64) -> (MutexGuard<'_, Line<D, E, T>>, Turn) {
-        let mut guard = self.line.lock(rt);
+    /// Waits until the entry at a position is covered, or until its seat leads and no seat is in flight.
+    fn turn<R: Wait + Clock>(
+        &self,
+        rt: &R,
+        place: u64,
+    ) -> (MutexGuard<'_, DeskState<D, E, T>>, WakeReason) {
+        let mut guard = self.desk_state.lock(rt);
         if guard.is_covered(place) {
-            return (guard, Turn::Found);
+            return (guard, WakeReason::Found);
         }
         for _ in rt.forever() {
             if !guard.leading {
@@ -193,7 +182,14 @@ impl<D: Disk, E: Named, T: Ledger> Desk<D, E, T> {
             guard = self.turned.wait(rt, guard);
             let counted = guard.wakes(turn);
             if guard.is_covered(place) {
-                return (guard, if counted { Turn::Woke } else { Turn::Found });
+                return (
+                    guard,
+                    if counted {
+                        WakeReason::Woke
+                    } else {
+                        WakeReason::Found
+                    },
+                );
             }
             if counted {
                 self.moved(rt);
@@ -202,11 +198,11 @@ impl<D: Disk, E: Named, T: Ledger> Desk<D, E, T> {
         guard.leads();
         self.linger(rt, guard);
         self.wait_until_still(rt);
-        (self.line.lock(rt), Turn::Leads)
+        (self.desk_state.lock(rt), WakeReason::Leads)
     }
 
-    /// Waits until as many are back as are expected, for half of a commit at most.
-    fn linger<R: Wait + Clock>(&self, rt: &R, guard: MutexGuard<'_, Line<D, E, T>>) {
+    /// Waits until as many seats are back as expected, for at most half the duration of a commit.
+    fn linger<R: Wait + Clock>(&self, rt: &R, guard: MutexGuard<'_, DeskState<D, E, T>>) {
         let mut guard = guard;
         if let Some(limit) = guard.linger.begins() {
             (guard, _) = self.gathered.wait_timeout(rt, guard, limit);
@@ -217,31 +213,31 @@ impl<D: Disk, E: Named, T: Ledger> Desk<D, E, T> {
 
     fn wait_until_still(&self, rt: &impl Wait) {
         drop(
-            self.still
-                .wait_while(rt, self.moving.lock(rt), |moving| *moving > 0),
+            self.quiesced
+                .wait_while(rt, self.in_flight.lock(rt), |in_flight| *in_flight > 0),
         );
     }
 
-    /// So many more are on their way. It answers how many were before.
+    /// Adds `count` seats in flight. Returns how many there were before.
     fn moves(&self, rt: &impl Wait, count: u64) -> u64 {
-        let mut moving = self.moving.lock(rt);
-        let before = *moving;
-        *moving = before.saturating_add(count);
+        let mut in_flight = self.in_flight.lock(rt);
+        let before = *in_flight;
+        *in_flight = before.saturating_add(count);
         before
     }
 
-    /// One has arrived.
+    /// A seat has arrived.
     fn moved(&self, rt: &impl Wait) {
-        let mut moving = self.moving.lock(rt);
-        *moving = moving.saturating_sub(1);
-        if *moving == 0 {
-            self.still.notify_one();
+        let mut in_flight = self.in_flight.lock(rt);
+        *in_flight = in_flight.saturating_sub(1);
+        if *in_flight == 0 {
+            self.quiesced.notify_one();
         }
     }
 
-    /// Calls the store at most once, under the lock, for a flusher. It answers whether the store did what it was asked.
+    /// Calls the store at most once, under the lock, for a flusher. Returns whether the store did what it was asked to do.
     ///
-    /// Entries that this covers are found covered by who waits for them: their leader commits what is not, and wakes all.
+    /// Seats that wait for entries that this covers find them covered: their leader commits the rest and wakes all.
     pub(crate) fn flush(
         &self,
         rt: &impl Wait,
@@ -250,15 +246,15 @@ impl<D: Disk, E: Named, T: Ledger> Desk<D, E, T> {
     ) -> Result<bool, Refusal>
         ensures { IfErr result (λ e. (e ≡ device_failed) ⊎ (e ≡ failed_earlier)) }
     {
-        let mut guard = self.line.lock(rt);
-        let line = &mut *guard;
-        flush.round(alloc, &mut line.desked)
+        let mut guard = self.desk_state.lock(rt);
+        let desk_state = &mut *guard;
+        flush.round(alloc, &mut desk_state.locked)
     }
 
-    /// Rests until other than so many entries are covered, or the sessions have ended, and for so long at most. It answers whether nothing
-    /// was new.
+    /// Waits until the number of covered entries differs from `covered` or the sessions have ended, for at most `most`. Returns true if
+    /// neither happened.
     pub(crate) fn rest<R: Wait + Clock>(&self, rt: &R, covered: u64, most: Duration) -> bool {
-        let mut guard = self.line.lock(rt);
+        let mut guard = self.desk_state.lock(rt);
         if guard.has_news(covered) {
             return false;
         }
@@ -266,16 +262,16 @@ impl<D: Disk, E: Named, T: Ledger> Desk<D, E, T> {
         !guard.has_news(covered)
     }
 
-    /// Has a flusher that rests look whether it is to stop, now that the sessions have ended.
+    /// Wakes a waiting flusher to check whether it has to stop, once the sessions have ended.
     pub(crate) fn wake_flusher(&self, rt: &impl Wait) {
-        self.line.lock(rt).ended = true;
+        self.desk_state.lock(rt).ended = true;
         self.turned.notify_all();
     }
 
-    /// Enters a command, and gives its reply once its entry is covered.
+    /// Enters a command, and returns its reply once its entry is covered.
     ///
-    /// Refused with 46, 47, 50 or 57 it has entered nothing. Refused with 51 or 60 its entry may stand or not, and with 52 too; no reply was
-    /// given then.
+    /// A refusal with 46, 47, 50 or 57 has entered nothing. After 51, 52 or 60 it is unknown whether the entry exists, and no reply was
+    /// released.
     pub fn submit<R: Wait + Clock>(
         &self,
         rt: &R,
@@ -286,8 +282,8 @@ impl<D: Disk, E: Named, T: Ledger> Desk<D, E, T> {
         ensures reply { IfOk result (λ reply. IsReplyTo command reply) }
         ensures stands { IfOk result (λ reply. Stands seat.new.seen (record { seat = seat.old.number; command = command; reply = reply })) }
         ensures entered { OnOk result (seat.new.entered ≡ seat.old.entered + 1) }
-        ensures told { OnOk result (seat.new.told ≡ seat.old.told + 1) }
-        ensures untold { OnErr result (seat.new.told ≡ seat.old.told) }
+        ensures released { OnOk result (seat.new.released ≡ seat.old.released + 1) }
+        ensures unreleased { OnErr result (seat.new.released ≡ seat.old.released) }
         ensures may_enter { OnErr result ((seat.new.entered ≡ seat.old.entered) ⊎ (seat.new.entered ≡ seat.old.entered + 1)) }
         ensures refused { IfErr result (λ e. (e ≡ no_memory) ⊎ (e ≡ history_full) ⊎ (e ≡ old_layout) ⊎ (e ≡ area_full) → seat.new ≡ seat.old) }
         ensures cause { IfErr result (λ e. (e ≡ no_memory) ⊎ (e ≡ history_full) ⊎ (e ≡ old_layout) ⊎ (e ≡ area_full) ⊎ (e ≡ failed_earlier) ⊎ (e ≡ device_failed) ⊎ (e ≡ unsettled)) }
@@ -298,7 +294,7 @@ impl<D: Disk, E: Named, T: Ledger> Desk<D, E, T> {
     }
 }
 
-/// How long ago that was. Where no clock can be read no time has passed.
+/// The time since then, or zero if no clock can be read.
 fn since(clock: &impl Clock, began: Option<Instant>) -> Duration {
     match began {
         Some(began) => began.elapsed(clock).unwrap_or(Duration::ZERO),

@@ -1,6 +1,6 @@
 use act_sessions::Transcript;
 
-/// What the thread of a session gives back.
+/// The result of a session's thread.
 #[derive(Drop)]
 pub(crate) struct Ended {
     pub(crate) transcript: Transcript,

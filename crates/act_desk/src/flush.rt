@@ -3,7 +3,7 @@ ghost use Rattle.wf_value.specs.Gives.{no_memory};
 ghost use Rattle.act_disk.specs.Failed.{device_failed};
 ghost use Rattle.act_store.specs.Plain.{area_full, failed_earlier};
 
-use crate::desked::Desked;
+use crate::locked::LockedStore;
 use crate::named::Named;
 use act_disk::Disk;
 use std::alloc::Global;
@@ -11,12 +11,12 @@ use std::marker::Model;
 use std::sync::ledger::Ledger;
 use wf_value::{Code, Refusal};
 
-/// How far a flusher is.
+/// The state of a flusher.
 #[derive(Drop)]
 pub(crate) struct Flush {
-    /// How many bytes are left to write of the checkpoint that is under way, if one is.
+    /// How many bytes of the checkpoint in progress are left to write, if there is one.
     left: Option<u64>,
-    /// How many entries were covered when it last looked whether to begin one.
+    /// How many entries were covered when it last checked whether to begin one.
     seen: u64,
     /// How many entries were covered when it last tried to begin one.
     tried: Option<u64>,
@@ -53,7 +53,7 @@ impl Flush {
         self.finished
     }
 
-    /// Whether a checkpoint is begun, and not at its end.
+    /// Whether a checkpoint is in progress.
     pub(crate) fn is_under_way(&self) -> bool
         ensures none { result ≡ false → self.now.left ≡ None }
         ensures some { result ≡ true → self.now.left ≡ None → ⊥ }
@@ -61,39 +61,39 @@ impl Flush {
         self.left.is_some()
     }
 
-    /// How many entries were covered when it last looked whether to begin a checkpoint.
+    /// How many entries were covered when it last checked whether to begin a checkpoint.
     pub(crate) fn seen(&self) -> u64 {
         self.seen
     }
 
-    /// Calls the store at most once: goes on with the checkpoint that is under way, or begins one where it is time to. It answers whether the
-    /// store did what it was asked; a refusal that is not of the device is passed over. Nothing is entered, and no reply is given.
+    /// Calls the store at most once: continues the checkpoint in progress, or begins one if that is due. Returns whether the store did
+    /// what it was asked to do. A refusal that is not a device failure is ignored. It enters no command and releases no reply.
     pub(crate) fn round<D: Disk, E: Named, T: Ledger>(
         &mut self,
         alloc: Global,
-        desked: &mut Desked<D, E, T>,
+        locked: &mut LockedStore<D, E, T>,
     ) -> Result<bool, Refusal>
-        ensures steps { Steps self.old self.new desked.old.store desked.new.store result }
-        ensures same { desked.new ≡ record desked.old { store = desked.new.store } }
-        ensures history { (desked.new.store.history ≡ desked.old.store.history) × (desked.new.store.base ≡ desked.old.store.base) }
+        ensures steps { Steps self.old self.new locked.old.store locked.new.store result }
+        ensures same { locked.new ≡ record locked.old { store = locked.new.store } }
+        ensures history { (locked.new.store.history ≡ locked.old.store.history) × (locked.new.store.base ≡ locked.old.store.base) }
         ensures cause { IfErr result IsOfDevice }
     {
         match self.left {
-            None => self.begin(alloc, desked),
-            Some(0) => self.finish(alloc, desked),
-            Some(_) => self.slice(desked),
+            None => self.begin(alloc, locked),
+            Some(0) => self.finish(alloc, locked),
+            Some(_) => self.slice(locked),
         }
     }
 
-    /// Whether a checkpoint is to be begun.
-    fn is_due<D: Disk, E: Named, T: Ledger>(&self, desked: &Desked<D, E, T>) -> bool
-        ensures due { result ≡ true → IsDue self.now desked.now.store }
-        ensures not_due { result ≡ false → IsDue self.now desked.now.store → ⊥ }
+    /// Whether a checkpoint is due.
+    fn is_due<D: Disk, E: Named, T: Ledger>(&self, locked: &LockedStore<D, E, T>) -> bool
+        ensures due { result ≡ true → IsDue self.now locked.now.store }
+        ensures not_due { result ≡ false → IsDue self.now locked.now.store → ⊥ }
     {
-        desked.is_pressed() && !self.has_tried(desked.covered())
+        locked.is_pressed() && !self.has_tried(locked.covered())
     }
 
-    /// Whether it has tried to begin a checkpoint of so many entries.
+    /// Whether it has tried to begin a checkpoint at this number of entries.
     fn has_tried(&self, covered: u64) -> bool
         ensures yes { result ≡ true → self.now.tried ≡ Some covered }
         ensures no { result ≡ false → self.now.tried ≡ Some covered → ⊥ }
@@ -104,22 +104,22 @@ impl Flush {
         }
     }
 
-    /// Begins a checkpoint where less than half of the area is left, and entries were covered since it last tried to, other than for want of
-    /// memory.
+    /// Begins a checkpoint if less than half of the area is left and entries were covered since the last attempt. An attempt that ran out
+    /// of memory does not count.
     fn begin<D: Disk, E: Named, T: Ledger>(
         &mut self,
         alloc: Global,
-        desked: &mut Desked<D, E, T>,
+        locked: &mut LockedStore<D, E, T>,
     ) -> Result<bool, Refusal>
-        ensures begins { (IsDue self.old desked.old.store × Begins self.old self.new desked.old.store desked.new.store result)
-            ⊎ ((IsDue self.old desked.old.store → ⊥) × (self.new ≡ self.old) × (desked.new.store ≡ desked.old.store) × (result ≡ Ok false)) }
-        ensures same { desked.new ≡ record desked.old { store = desked.new.store } }
-        ensures history { (desked.new.store.history ≡ desked.old.store.history) × (desked.new.store.base ≡ desked.old.store.base) }
+        ensures begins { (IsDue self.old locked.old.store × Begins self.old self.new locked.old.store locked.new.store result)
+            ⊎ ((IsDue self.old locked.old.store → ⊥) × (self.new ≡ self.old) × (locked.new.store ≡ locked.old.store) × (result ≡ Ok false)) }
+        ensures same { locked.new ≡ record locked.old { store = locked.new.store } }
+        ensures history { (locked.new.store.history ≡ locked.old.store.history) × (locked.new.store.base ≡ locked.old.store.base) }
         ensures cause { IfErr result IsOfDevice }
     {
-        self.seen = desked.covered();
-        if self.is_due(desked) {
-            self.try_to_begin(alloc, desked)
+        self.seen = locked.covered();
+        if self.is_due(locked) {
+            self.try_to_begin(alloc, locked)
         } else {
             Ok(false)
         }
@@ -128,15 +128,15 @@ impl Flush {
     fn try_to_begin<D: Disk, E: Named, T: Ledger>(
         &mut self,
         alloc: Global,
-        desked: &mut Desked<D, E, T>,
+        locked: &mut LockedStore<D, E, T>,
     ) -> Result<bool, Refusal>
-        ensures begins { Begins self.old self.new desked.old.store desked.new.store result }
-        ensures same { desked.new ≡ record desked.old { store = desked.new.store } }
-        ensures history { (desked.new.store.history ≡ desked.old.store.history) × (desked.new.store.base ≡ desked.old.store.base) }
+        ensures begins { Begins self.old self.new locked.old.store locked.new.store result }
+        ensures same { locked.new ≡ record locked.old { store = locked.new.store } }
+        ensures history { (locked.new.store.history ≡ locked.old.store.history) × (locked.new.store.base ≡ locked.old.store.base) }
         ensures cause { IfErr result IsOfDevice }
     {
-        let covered = desked.covered();
-        match desked.check_begin(alloc) {
+        let covered = locked.covered();
+        match locked.check_begin(alloc) {
             Ok(left) => {
                 self.tried = Some(covered);
                 self.left = Some(left);
@@ -152,17 +152,17 @@ impl Flush {
         }
     }
 
-    /// Writes a slice. Out of turn, the checkpoint is another's.
+    /// Writes a slice. A call out of order means that the checkpoint belongs to another party.
     fn slice<D: Disk, E: Named, T: Ledger>(
         &mut self,
-        desked: &mut Desked<D, E, T>,
+        locked: &mut LockedStore<D, E, T>,
     ) -> Result<bool, Refusal>
-        ensures slices { Slices self.old self.new desked.old.store desked.new.store result }
-        ensures same { desked.new ≡ record desked.old { store = desked.new.store } }
-        ensures history { (desked.new.store.history ≡ desked.old.store.history) × (desked.new.store.base ≡ desked.old.store.base) }
+        ensures slices { Slices self.old self.new locked.old.store locked.new.store result }
+        ensures same { locked.new ≡ record locked.old { store = locked.new.store } }
+        ensures history { (locked.new.store.history ≡ locked.old.store.history) × (locked.new.store.base ≡ locked.old.store.base) }
         ensures cause { IfErr result IsOfDevice }
     {
-        match desked.check_slice() {
+        match locked.check_slice() {
             Ok(left) => {
                 self.left = Some(left);
                 Ok(true)
@@ -175,18 +175,18 @@ impl Flush {
         }
     }
 
-    /// Finishes the checkpoint. For want of memory it stays under way; else, refused, it is no more.
+    /// Finishes the checkpoint. If it is out of memory, the checkpoint stays in progress. Any other refusal ends it.
     fn finish<D: Disk, E: Named, T: Ledger>(
         &mut self,
         alloc: Global,
-        desked: &mut Desked<D, E, T>,
+        locked: &mut LockedStore<D, E, T>,
     ) -> Result<bool, Refusal>
-        ensures finishes { Finishes self.old self.new desked.old.store desked.new.store result }
-        ensures same { desked.new ≡ record desked.old { store = desked.new.store } }
-        ensures history { (desked.new.store.history ≡ desked.old.store.history) × (desked.new.store.base ≡ desked.old.store.base) }
+        ensures finishes { Finishes self.old self.new locked.old.store locked.new.store result }
+        ensures same { locked.new ≡ record locked.old { store = locked.new.store } }
+        ensures history { (locked.new.store.history ≡ locked.old.store.history) × (locked.new.store.base ≡ locked.old.store.base) }
         ensures cause { IfErr result IsOfDevice }
     {
-        match desked.check_finish(alloc) {
+        match locked.check_finish(alloc) {
             Ok(_) => {
                 self.left = None;
                 self.finished = self.finished.saturating_add(1);
@@ -203,7 +203,7 @@ impl Flush {
     }
 }
 
-/// Whether a call was refused for want of memory, where the refusal is passed over. One of the device, in this call or earlier, is not.
+/// Whether an ignored refusal was out of memory. A device failure, in this call or earlier, is not ignored.
 fn lacks_memory(refusal: Refusal) -> Result<bool, Refusal>
     ensures passed { OnOk result ((refusal ≡ device_failed → ⊥) × (refusal ≡ failed_earlier → ⊥)) }
     ensures memory { IfOk result (λ lacks. lacks ≡ true → refusal ≡ area_full → ⊥) }

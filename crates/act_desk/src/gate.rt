@@ -1,4 +1,4 @@
-/// What is called round each command of a session, in its thread, with no lock held. Sessions and calls count from 0.
+/// Called before and after each command of a session, in its thread, without a lock held. Sessions and calls count from 0.
 pub trait Gate {
     fn before(&self, session: u64, call: u64);
 

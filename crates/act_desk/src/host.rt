@@ -6,7 +6,7 @@ use crate::ended::Ended;
 use crate::gate::Gate;
 use crate::named::Named;
 use crate::seat::Seat;
-use crate::seated::hold;
+use crate::seat_answerer::hold;
 use act_disk::Disk;
 use act_sessions::Work;
 use std::alloc::Global;
@@ -14,16 +14,16 @@ use std::sync::ledger::Ledger;
 use std::sync::{Mutex, Wait};
 use std::time::Clock;
 
-/// What holds sessions at seats, whichever thread asks it.
+/// Holds sessions at seats, from any thread.
 pub(crate) trait Host<S> {
     /// A seat for one more session.
     fn seat(&self) -> Option<S>;
 
-    /// Holds a session at a seat, to its end.
+    /// Holds a session at a seat until it ends.
     fn hold<W: Work>(&self, seat: S, work: W) -> Ended
         ensures { HasEnded (W.ends work) result.transcript };
 
-    /// Makes checkpoints beside the sessions, until it is told to stop.
+    /// Makes checkpoints beside the sessions until it is told to stop.
     fn flush(&self, stop: &Mutex<bool>);
 
     /// Tells the flusher to stop.
@@ -32,7 +32,7 @@ pub(crate) trait Host<S> {
 
 /// A desk, with what a session at it needs.
 #[derive(Drop)]
-pub(crate) struct Table<'a, D: Disk, E: Named, T: Ledger, G: Gate, R: Wait + Clock> {
+pub(crate) struct DeskHost<'a, D: Disk, E: Named, T: Ledger, G: Gate, R: Wait + Clock> {
     pub(crate) rt: &'a R,
     pub(crate) alloc: Global,
     pub(crate) desk: &'a Desk<D, E, T>,
@@ -40,7 +40,7 @@ pub(crate) struct Table<'a, D: Disk, E: Named, T: Ledger, G: Gate, R: Wait + Clo
 }
 
 impl<'a, D: Disk, E: Named, T: Ledger, G: Gate, R: Wait + Clock> Host<Seat<E, T>>
-    for Table<'a, D, E, T, G, R> {
+    for DeskHost<'a, D, E, T, G, R> {
     fn seat(&self) -> Option<Seat<E, T>> {
         self.desk.seat(self.rt)
     }
@@ -51,7 +51,7 @@ impl<'a, D: Disk, E: Named, T: Ledger, G: Gate, R: Wait + Clock> Host<Seat<E, T>
         }
     }
 
-    /// A device fault ends it, and shows in the answers of the sessions.
+    /// A device fault ends the flusher; the answers of the sessions report it.
     fn flush(&self, stop: &Mutex<bool>) {
         let _ = flusher(self.rt, self.alloc, self.desk, stop);
     }

@@ -1,13 +1,13 @@
 ghost use Rattle.std.specs.Prelude.{◌≡◌};
 
-use crate::front::Unnamed;
+use crate::prefix::Unnamed;
 use std::sync::ledger::Blank;
 
 /// How many seats a desk has.
-pub const MOST_SEATS: u64 = 64;
+pub const MAX_SEATS: u64 = 64;
 
-/// What a desk counts by, before it has names: the ledgers of entries and of replies, each cut into a share for every seat, and the history
-/// that the seats will see.
+/// What a desk counts with, before it has names: the ledgers of entries and of replies, each split into a share for every seat, and the
+/// history that the seats will see.
 #[derive(Drop)]
 pub struct Ledgers {
     pub(crate) entries: Blank,
@@ -20,8 +20,8 @@ pub struct Ledgers {
 impl Ledgers {
     pub fn new() -> Ledgers {
         Ledgers {
-            entries: Blank::new(MOST_SEATS),
-            replies: Blank::new(MOST_SEATS),
+            entries: Blank::new(MAX_SEATS),
+            replies: Blank::new(MAX_SEATS),
             history: Unnamed::new(),
         }
     }

@@ -1,25 +1,25 @@
-//! The desk: many threads, one history. Each command is entered under one lock, and its reply is given out once a stop can no longer take
-//! the entry away.
+//! The desk: many threads, one history. Each command is entered under one lock, and its reply is released once a crash can no longer lose
+//! the entry.
 #![tactic(auto)]
 
 mod alone;
 mod book_rules;
 mod checkpoints;
 mod desk;
-mod desked;
+mod desk_state;
 mod ended;
 mod flush;
-mod front;
 mod gate;
 mod host;
 mod ledgers;
-mod line;
 mod linger;
+mod locked;
 mod named;
 mod pending;
+mod prefix;
 mod running;
 mod seat;
-mod seated;
+mod seat_answerer;
 mod seats;
 mod serve;
 mod settle;
@@ -29,12 +29,12 @@ mod starting;
 pub use alone::Alone;
 pub use checkpoints::flusher;
 pub use desk::Desk;
-pub use desked::Desked;
-pub use front::{Front, Head, Unnamed};
 pub use gate::{Free, Gate};
-pub use ledgers::{Ledgers, MOST_SEATS};
+pub use ledgers::{Ledgers, MAX_SEATS};
+pub use locked::LockedStore;
 pub use named::Named;
 pub use pending::Pending;
+pub use prefix::{Head, HistoryPrefix, Unnamed};
 pub use seat::Seat;
 pub use serve::serve_all;
 pub use settled::{Fault, Settled};

@@ -1,7 +1,7 @@
 use std::marker::Brand;
 use std::sync::ledger::Ledger;
 
-/// Which history it is: the ledger of its entries, and the book that says how it goes on. Each call of a program picks them.
+/// Identifies a history: the ledger of its entries, and the book that says how it continues. Each call of a program chooses them.
 pub trait Named: Ledger {
     ghost use Rattle.logbook.specs.Pages.{Book};
 

@@ -9,7 +9,7 @@ use std::marker::Model;
 use std::snapshot::Snapshot;
 use std::thread::{Promise, PromisedHandle, Scope, Threads};
 
-/// What the thread of a session gives: the transcript of a session that has ended.
+/// The promise of a session's thread: the transcript of a session that has ended.
 #[derive(Drop)]
 pub(crate) struct Ends<W: Work>(Snapshot<W>);
 
@@ -19,7 +19,7 @@ impl<W: Work> Promise<Ended> for Ends<W> {
     ghost kept_by = { λ p e. HasEnded (W.ends p.0.value) e.transcript };
 }
 
-/// A session that was started, or could not be. Contracts see it as its work.
+/// A session that was started, or could not be started. Contracts see its work.
 #[derive(Drop)]
 pub(crate) struct Running<W: Work> {
     handle: Option<PromisedHandle<Ended, Ends<W>>>,

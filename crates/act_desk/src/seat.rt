@@ -1,33 +1,32 @@
 ghost use Rattle.std.specs.Prelude.{◌≡◌, ◌+◌, ◌<◌, ◌^◌, []};
 ghost use mathlib.Core.List.{IsPrefix};
 
-use crate::front::Front;
 use crate::named::Named;
+use crate::prefix::HistoryPrefix;
 use std::marker::Model;
 use std::sync::ledger::{Book, Ledger, Share};
 
-/// A seat at a desk. It has a number, counts what it enters and what it is told, and knows the beginning of the history that it has
-/// seen.
+/// A seat at a desk. It has a number, counts its entries and its replies, and knows the prefix of the history that it has seen.
 #[derive(Drop)]
 pub struct Seat<E: Named, T: Ledger> {
     number: u64,
     entered: u64,
-    told: u64,
-    /// Its shares of the two ledgers: as many as it has entered, and as it was told.
+    released: u64,
+    /// Its shares of the two ledgers: the number of its entries and of its replies.
     entries: Share<E>,
     replies: Share<T>,
-    front: Front<E>,
+    prefix: HistoryPrefix<E>,
 }
 
 impl<E: Named, T: Ledger> Model for Seat<E, T> {
     ghost use Rattle.std.specs.Prelude.{◌≡◌};
-    ghost use Rattle.act_desk.specs.Shown.{Seated};
+    ghost use Rattle.act_desk.specs.Shown.{SeatView};
 
-    ghost Value = { Seated };
+    ghost Value = { SeatView };
 
-    ghost view = { λ s. record { number = s.number; entered = s.entered; told = s.told; seen = s.front } };
+    ghost view = { λ s. record { number = s.number; entered = s.entered; released = s.released; seen = s.prefix } };
 
-    ghost invariant = { λ s. (s.entries.parts ≡ 1) × (s.entries.amount ≡ s.entered) × (s.replies.parts ≡ 1) × (s.replies.amount ≡ s.told) };
+    ghost invariant = { λ s. (s.entries.parts ≡ 1) × (s.entries.amount ≡ s.entered) × (s.replies.parts ≡ 1) × (s.replies.amount ≡ s.released) };
 }
 
 impl<E: Named, T: Ledger> Seat<E, T> {
@@ -36,19 +35,19 @@ impl<E: Named, T: Ledger> Seat<E, T> {
         number: u64,
         entries: Share<E>,
         replies: Share<T>,
-        front: Front<E>,
+        prefix: HistoryPrefix<E>,
     ) -> Seat<E, T>
         requires entries { (entries.parts ≡ 1) × (entries.amount ≡ 0) }
         requires replies { (replies.parts ≡ 1) × (replies.amount ≡ 0) }
-        ensures { result ≡ record { number = number; entered = 0; told = 0; seen = front } }
+        ensures { result ≡ record { number = number; entered = 0; released = 0; seen = prefix } }
     {
         Seat {
             number,
             entered: 0,
-            told: 0,
+            released: 0,
             entries,
             replies,
-            front,
+            prefix,
         }
     }
 
@@ -65,27 +64,27 @@ impl<E: Named, T: Ledger> Seat<E, T> {
         self.entered
     }
 
-    /// How many replies it was given.
-    pub fn told(&self) -> u64
-        ensures { result ≡ self.now.told }
+    /// How many replies it got.
+    pub fn released(&self) -> u64
+        ensures { result ≡ self.now.released }
     {
-        self.told
+        self.released
     }
 
-    /// The beginning of the history that it has seen. All that it was told stands there.
-    pub fn front(&self) -> &Front<E>
+    /// The prefix of the history that it has seen. It contains all its replies.
+    pub fn prefix(&self) -> &HistoryPrefix<E>
         ensures { result.now ≡ self.now.seen }
     {
-        &self.front
+        &self.prefix
     }
 
-    /// Sees a front of the same history too.
-    pub(crate) fn see(&mut self, front: &Front<E>)
+    /// Sees another prefix of the same history.
+    pub(crate) fn see(&mut self, prefix: &HistoryPrefix<E>)
         ensures before { IsPrefix self.old.seen self.new.seen }
-        ensures front { IsPrefix front.now self.new.seen }
-        ensures same { (self.new.number ≡ self.old.number) × (self.new.entered ≡ self.old.entered) × (self.new.told ≡ self.old.told) }
+        ensures prefix { IsPrefix prefix.now self.new.seen }
+        ensures same { (self.new.number ≡ self.old.number) × (self.new.entered ≡ self.old.entered) × (self.new.released ≡ self.old.released) }
     {
-        self.front = self.front.longer(front);
+        self.prefix = self.prefix.longer(prefix);
     }
 
     /// Counts an entry of this seat.
@@ -108,11 +107,15 @@ impl<E: Named, T: Ledger> Seat<E, T> {
     pub(crate) fn count_reply(&mut self, book: &mut Book<T>)
         requires { book.old.total < 2 ^ 63 }
         ensures book { book.new.total ≡ book.old.total + 1 }
-        ensures counted { self.new ≡ record self.old { told = self.old.told + 1 } }
+        ensures counted { self.new ≡ record self.old { released = self.old.released + 1 } }
     {
-        let Seat { told, replies, .. } = self;
+        let Seat {
+            released,
+            replies,
+            ..
+        } = self;
         book.audit(replies);
         book.add(replies, 1);
-        *told += 1;
+        *released += 1;
     }
 }

@@ -1,21 +1,21 @@
 ghost use Rattle.std.specs.Prelude.{◌≡◌, ◌+◌, ◌<◌, ◌≤◌, MatchOption};
 
-use crate::front::Front;
-use crate::ledgers::MOST_SEATS;
+use crate::ledgers::MAX_SEATS;
 use crate::named::Named;
+use crate::prefix::HistoryPrefix;
 use crate::seat::Seat;
 use std::marker::Model;
 use std::sync::ledger::{Ledger, Share};
 
-/// The seats that were not given out yet. Contracts see the number of the next one.
+/// The remaining seats. Contracts see the number of the next one.
 #[derive(Drop)]
 pub(crate) struct Seats<E: Named, T: Ledger> {
     next: u64,
-    /// A share for each seat that is left.
+    /// A share for each remaining seat.
     entries: Share<E>,
     replies: Share<T>,
-    /// What a seat knows of the history at first.
-    front: Front<E>,
+    /// What a new seat knows of the history.
+    prefix: HistoryPrefix<E>,
 }
 
 impl<E: Named, T: Ledger> Model for Seats<E, T> {
@@ -29,7 +29,7 @@ impl<E: Named, T: Ledger> Model for Seats<E, T> {
 }
 
 impl<E: Named, T: Ledger> Seats<E, T> {
-    pub(crate) fn new(entries: Share<E>, replies: Share<T>, front: Front<E>) -> Seats<E, T>
+    pub(crate) fn new(entries: Share<E>, replies: Share<T>, prefix: HistoryPrefix<E>) -> Seats<E, T>
         requires entries { (entries.parts ≡ 64) × (entries.amount ≡ 0) }
         requires replies { (replies.parts ≡ 64) × (replies.amount ≡ 0) }
         ensures { result ≡ 0 }
@@ -38,23 +38,23 @@ impl<E: Named, T: Ledger> Seats<E, T> {
             next: 0,
             entries,
             replies,
-            front,
+            prefix,
         }
     }
 
-    /// The next seat, which has entered nothing; `None` where all 64 were given out.
+    /// The next seat, which has entered nothing, or `None` after 64 seats.
     pub(crate) fn take(&mut self) -> Option<Seat<E, T>>
         ensures { MatchOption result
             ((64 ≤ self.old) × (self.new ≡ self.old))
-            (λ seat. (self.old < 64) × (self.new ≡ self.old + 1) × (seat.number ≡ self.old) × (seat.entered ≡ 0) × (seat.told ≡ 0)) }
+            (λ seat. (self.old < 64) × (self.new ≡ self.old + 1) × (seat.number ≡ self.old) × (seat.entered ≡ 0) × (seat.released ≡ 0)) }
     {
-        if self.next >= MOST_SEATS {
+        if self.next >= MAX_SEATS {
             return None;
         }
         let number = self.next;
         self.next += 1;
         let entries = self.entries.split_off(1, 0);
         let replies = self.replies.split_off(1, 0);
-        Some(Seat::new(number, entries, replies, self.front.again()))
+        Some(Seat::new(number, entries, replies, self.prefix.again()))
     }
 }

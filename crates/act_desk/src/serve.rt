@@ -4,7 +4,7 @@ ghost use Rattle.act_desk.specs.Settled.{HaveEnded, IsSettled, NoneBroken};
 
 use crate::desk::Desk;
 use crate::gate::Gate;
-use crate::host::Table;
+use crate::host::DeskHost;
 use crate::ledgers::Ledgers;
 use crate::named::Named;
 use crate::running::Running;
@@ -21,17 +21,17 @@ use std::sync::ledger::Ledger;
 use std::thread::Threads;
 use std::time::Clock;
 
-/// Holds 1 to 64 sessions over one store whose history is empty, each in a thread of its own, and compares the history with what they
-/// asked. The session with the number `k`, counted from 0, has the seat `k`. A flusher is beside them (`flusher`), unless no thread can be
-/// started for it: the area then fills as it would without.
+/// Runs 1 to 64 sessions over one store with an empty history, each in its own thread, and compares the history with what they submitted.
+/// The session with number `k`, counted from 0, has seat `k`. A flusher runs beside them (`flusher`), unless no thread can be started for
+/// it: then no checkpoints are made and the area fills up.
 ///
-/// After `Ok` each session has ended as its bytes say, or, where no thread could be started for it, with `Ending::Memory` and nothing
-/// read; and the part of each seat in the history is what the session of that number asked, in order, each command once, with the
-/// replies; there is no other part. A command refused with 46, 47 or 57 stands nowhere; the last one of a session may stand or not where its
-/// answer was 50, 51, 52 or 60. No other answer was given.
+/// After `Ok` each session has ended as its bytes say, or, if no thread could be started for it, with `Ending::Memory` and nothing read.
+/// The part of each seat in the history is what the session of that number submitted, in order, each command once, with the replies; there
+/// is no other part. A command refused with 46, 47 or 57 is not in the history. It is unknown whether the last command of a session is, if
+/// its answer was 50, 51, 52 or 60. There were no other answers.
 ///
-/// It is refused with 50 only before a session is started, and then gives all back; with 60 where that comparison fails; and with 61,
-/// once all have ended and it holds, where a session was ended by its reader or its writer.
+/// It is refused with 50 only before a session is started, and then returns everything; with 60 if that comparison fails; and with 61 if
+/// all sessions have ended, the comparison holds, and a session was ended by its reader or writer.
 pub fn serve_all<D: Disk + Send, W: Work + Send, G: Gate + Sync, R: Threads + Wait + Clock + Sync>(
     rt: &R,
     alloc: Global,
@@ -92,7 +92,7 @@ fn hold_named<
     ensures { HaveEnded W.ends works.items result.transcripts.items }
 {
     let desk: Desk<D, E, T> = Desk::new(store, ledgers);
-    let table = Table {
+    let table = DeskHost {
         rt,
         alloc,
         desk: &desk,
@@ -105,7 +105,7 @@ fn hold_named<
     }
 }
 
-/// Compares the history with what the sessions asked.
+/// Compares the history with what the sessions submitted.
 fn judge<D: Disk, W: Work>(settled: Settled<D>) -> Result<Settled<D>, Fault<D, W>>
     ensures served { IfOk result (λ s. (s ≡ settled) × IsSettled s.transcripts.items s.store.history × NoneBroken s.transcripts.items) }
     ensures cause { IfErr result (IsUnsettledOrBroken settled) }

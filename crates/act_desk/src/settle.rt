@@ -1,26 +1,26 @@
-//! The comparison of the history with what the sessions asked. It takes no memory.
+//! The comparison of the history with what the sessions submitted. It takes no memory.
 
 ghost use Rattle.std.specs.Prelude.{◌≡◌, ◌≢◌, ◌<◌, ◌≤◌, ◌+◌, ℕ, List, [], ◌∷◌, ◌++◌, ◌==◌, ◌||◌, All, get_or, length, take, false, true, IfSome, None, Some};
-ghost use Rattle.act_sessions.specs.Told.{leaves_open as leaves, told_in};
-ghost use Rattle.act_sessions.specs.declared.transcript.Asked.{Asked as AskedOne};
+ghost use Rattle.act_sessions.specs.Exchange.{leaves_open as leaves, exchanges_in};
+ghost use Rattle.act_sessions.specs.declared.transcript.LoggedExchange.{LoggedExchange as AskedOne};
 ghost use Rattle.act_desk.specs.Settled.{Agrees, AreDefinite, IsOfLast, IsSettled, NoneBroken, entries_of, if_any, is_definite as definite, part_of};
 
 use act_disk::Disk;
-use act_sessions::{Asked, Ending, Transcript, leaves_open};
+use act_sessions::{Ending, LoggedExchange, Transcript, leaves_open};
 use act_store::{Entry, Store};
 use run_plan::Reply;
 use std::marker::Model;
 use std::snapshot::Snapshot;
 use wf_value::{Refusal, Same};
 
-/// How far a list of asked commands was found in the history: so many of the first, and perhaps the entry of the last one behind them.
+/// How far a list of submitted commands was found in the history: `asked` first ones, and perhaps the entry of the last one after them.
 #[derive(Drop)]
-struct Found {
+struct HistoryMatch {
     asked: usize,
     over: Option<Snapshot<Entry>>,
 }
 
-impl Model for Found {
+impl Model for HistoryMatch {
     ghost use Rattle.std.specs.Prelude.{option_map};
     ghost use Rattle.act_desk.specs.Settled.{Progress};
 
@@ -29,26 +29,26 @@ impl Model for Found {
     ghost view = { λ f. record { asked = f.asked; over = option_map (λ s. s.value) f.over } };
 }
 
-impl Found {
+impl HistoryMatch {
     /// The first ones, and nothing else.
-    fn first(asked: usize) -> Found
+    fn first(asked: usize) -> HistoryMatch
         ensures { result ≡ record { asked = asked; over = None } }
     {
-        Found { asked, over: None }
+        HistoryMatch { asked, over: None }
     }
 
     /// All of them, and the entry of the last one.
-    fn all_and_over(asked: usize, entry: &Entry) -> Found
+    fn all_and_over(asked: usize, entry: &Entry) -> HistoryMatch
         ensures { result ≡ record { asked = asked; over = Some entry.now } }
     {
-        Found {
+        HistoryMatch {
             asked,
             over: Some(Snapshot::of(entry)),
         }
     }
 }
 
-/// Whether an answer says if its command was entered: a reply does, and so do 46, 47 and 57.
+/// Whether an answer settles if its command was entered: a reply does, and so do 46, 47 and 57.
 fn is_definite(answer: &Result<Reply, Refusal>) -> bool
     ensures { result ≡ definite answer.now }
 {
@@ -64,8 +64,8 @@ fn is_of_a_full_store(number: u64) -> bool
     number == 46 || number == 47 || number == 57
 }
 
-/// Whether each answer says if its command was entered.
-fn are_definite(asked: &[Asked]) -> bool
+/// Whether each answer settles if its command was entered.
+fn are_definite(asked: &[LoggedExchange]) -> bool
     ensures { result ≡ true → ((k : ℕ) (one : AskedOne) → k < length asked.now → definite (get_or asked.now k one).answer ≡ true) }
 {
     for one in asked {
@@ -76,33 +76,33 @@ fn are_definite(asked: &[Asked]) -> bool
     true
 }
 
-/// Whether an answer may be the last one: it says if its command was entered, or leaves that open.
+/// Whether an answer may be the last one: it settles if its command was entered, or leaves that unknown as only the last answer may.
 fn may_be_last(answer: &Result<Reply, Refusal>) -> bool
     ensures { result ≡ (definite answer.now || leaves answer.now) }
 {
     is_definite(answer) || leaves_open(answer)
 }
 
-/// Whether each answer says if its command was entered, but the last one perhaps, which may leave that open.
-fn may_be_answered(asked: &[Asked]) -> bool
-    ensures { result ≡ true → AreDefinite (told_in asked.now) }
+/// Whether each answer settles if its command was entered, except perhaps the last one, which may leave that unknown.
+fn may_be_answered(asked: &[LoggedExchange]) -> bool
+    ensures { result ≡ true → AreDefinite (exchanges_in asked.now) }
 {
     match asked.split_last() {
         None => true,
-        Some((last, front)) => {
+        Some((last, prefix)) => {
             if !may_be_last(&last.answer) {
                 return false;
             }
-            are_definite(front)
+            are_definite(prefix)
         }
     }
 }
 
-/// The next place with a reply.
-fn skip(asked: &[Asked], at: usize) -> usize
+/// The next position with a reply.
+fn skip(asked: &[LoggedExchange], at: usize) -> usize
     requires { at ≤ length asked.now }
     ensures within { result ≤ length asked.now }
-    ensures none { (seat : ℕ) → entries_of seat (told_in (take result asked.now)) ≡ entries_of seat (told_in (take at asked.now)) }
+    ensures none { (seat : ℕ) → entries_of seat (exchanges_in (take result asked.now)) ≡ entries_of seat (exchanges_in (take at asked.now)) }
 {
     for i in at..asked.len() {
         if asked[i].answer.is_ok() {
@@ -113,9 +113,9 @@ fn skip(asked: &[Asked], at: usize) -> usize
 }
 
 /// Whether an entry of the seat may be that of the last command.
-fn is_of_last(asked: &[Asked], seat: u64, entry: &Entry) -> bool
+fn is_of_last(asked: &[LoggedExchange], seat: u64, entry: &Entry) -> bool
     requires { entry.now.seat ≡ seat }
-    ensures { result ≡ true → IsOfLast seat (told_in asked.now) entry.now }
+    ensures { result ≡ true → IsOfLast seat (exchanges_in asked.now) entry.now }
 {
     let Some(last) = asked.last() else {
         return false;
@@ -123,14 +123,19 @@ fn is_of_last(asked: &[Asked], seat: u64, entry: &Entry) -> bool
     leaves_open(&last.answer) && last.command.same(&entry.command)
 }
 
-/// Finds one more entry, or passes over that of another seat.
-fn find(asked: &[Asked], seat: u64, entry: &Entry, found: Found) -> Option<Found>
+/// Finds one more entry, or skips an entry of another seat.
+fn find(
+    asked: &[LoggedExchange],
+    seat: u64,
+    entry: &Entry,
+    found: HistoryMatch,
+) -> Option<HistoryMatch>
     requires within { found.asked ≤ length asked.now }
-    requires over { IfSome found.over (IsOfLast seat (told_in asked.now)) }
+    requires over { IfSome found.over (IsOfLast seat (exchanges_in asked.now)) }
     ensures within { IfSome result (λ f. f.asked ≤ length asked.now) }
-    ensures more { IfSome result (λ f. entries_of seat (told_in (take f.asked asked.now)) ++ if_any f.over
-        ≡ (entries_of seat (told_in (take found.asked asked.now)) ++ if_any found.over) ++ part_of seat (entry.now ∷ [])) }
-    ensures over { IfSome result (λ f. IfSome f.over (IsOfLast seat (told_in asked.now))) }
+    ensures more { IfSome result (λ f. entries_of seat (exchanges_in (take f.asked asked.now)) ++ if_any f.over
+        ≡ (entries_of seat (exchanges_in (take found.asked asked.now)) ++ if_any found.over) ++ part_of seat (entry.now ∷ [])) }
+    ensures over { IfSome result (λ f. IfSome f.over (IsOfLast seat (exchanges_in asked.now))) }
 {
     if entry.seat != seat {
         return Some(found);
@@ -139,13 +144,18 @@ fn find(asked: &[Asked], seat: u64, entry: &Entry, found: Found) -> Option<Found
 }
 
 /// Finds one more entry of the seat.
-fn find_next(asked: &[Asked], seat: u64, entry: &Entry, found: Found) -> Option<Found>
+fn find_next(
+    asked: &[LoggedExchange],
+    seat: u64,
+    entry: &Entry,
+    found: HistoryMatch,
+) -> Option<HistoryMatch>
     requires seat { entry.now.seat ≡ seat }
     requires within { found.asked ≤ length asked.now }
     ensures within { IfSome result (λ f. f.asked ≤ length asked.now) }
-    ensures more { IfSome result (λ f. entries_of seat (told_in (take f.asked asked.now)) ++ if_any f.over
-        ≡ (entries_of seat (told_in (take found.asked asked.now)) ++ if_any found.over) ++ entry.now ∷ []) }
-    ensures over { IfSome result (λ f. IfSome f.over (IsOfLast seat (told_in asked.now))) }
+    ensures more { IfSome result (λ f. entries_of seat (exchanges_in (take f.asked asked.now)) ++ if_any f.over
+        ≡ (entries_of seat (exchanges_in (take found.asked asked.now)) ++ if_any found.over) ++ entry.now ∷ []) }
+    ensures over { IfSome result (λ f. IfSome f.over (IsOfLast seat (exchanges_in asked.now))) }
 {
     if found.over.is_some() {
         return None;
@@ -157,16 +167,16 @@ fn find_next(asked: &[Asked], seat: u64, entry: &Entry, found: Found) -> Option<
     if !is_of_last(asked, seat, entry) {
         return None;
     }
-    Some(Found::all_and_over(at, entry))
+    Some(HistoryMatch::all_and_over(at, entry))
 }
 
-/// Finds the entry of the command at a place, with its reply.
-fn find_reply(asked: &[Asked], seat: u64, entry: &Entry, at: usize) -> Option<Found>
+/// Finds the entry of the command at a position, with its reply.
+fn find_reply(asked: &[LoggedExchange], seat: u64, entry: &Entry, at: usize) -> Option<HistoryMatch>
     requires seat { entry.now.seat ≡ seat }
     requires within { at < length asked.now }
     ensures within { IfSome result (λ f. f.asked ≤ length asked.now) }
-    ensures more { IfSome result (λ f. entries_of seat (told_in (take f.asked asked.now)) ++ if_any f.over
-        ≡ entries_of seat (told_in (take at asked.now)) ++ entry.now ∷ []) }
+    ensures more { IfSome result (λ f. entries_of seat (exchanges_in (take f.asked asked.now)) ++ if_any f.over
+        ≡ entries_of seat (exchanges_in (take at asked.now)) ++ entry.now ∷ []) }
     ensures over { IfSome result (λ f. f.over ≡ None) }
 {
     let one = &asked[at];
@@ -176,17 +186,17 @@ fn find_reply(asked: &[Asked], seat: u64, entry: &Entry, at: usize) -> Option<Fo
     if !one.command.same(&entry.command) || !reply.same(&entry.reply) {
         return None;
     }
-    Some(Found::first(at + 1))
+    Some(HistoryMatch::first(at + 1))
 }
 
-/// Whether the entries of a seat are what its session asked, and its answers leave nothing else open.
-fn agrees<D: Disk>(store: &Store<D>, seat: u64, asked: &[Asked]) -> bool
-    ensures { result ≡ true → Agrees seat (told_in asked.now) store.now.history }
+/// Whether the entries of a seat are what its session submitted, and its answers leave nothing else unknown.
+fn agrees<D: Disk>(store: &Store<D>, seat: u64, asked: &[LoggedExchange]) -> bool
+    ensures { result ≡ true → Agrees seat (exchanges_in asked.now) store.now.history }
 {
     if !may_be_answered(asked) {
         return false;
     }
-    let mut found = Found::first(0);
+    let mut found = HistoryMatch::first(0);
     for index in 0..store.entries() {
         let Some(entry) = store.entry(index + 1) else {
             return false;
@@ -199,7 +209,7 @@ fn agrees<D: Disk>(store: &Store<D>, seat: u64, asked: &[Asked]) -> bool
     skip(asked, found.asked) == asked.len()
 }
 
-/// Whether all entries are of the first seats, so many.
+/// Whether all entries belong to the first `seats` seats.
 fn are_of_first<D: Disk>(store: &Store<D>, seats: u64) -> bool
     ensures { result ≡ true → All (λ e. e.seat < seats) store.now.history }
 {
@@ -212,7 +222,7 @@ fn are_of_first<D: Disk>(store: &Store<D>, seats: u64) -> bool
     true
 }
 
-/// Whether each seat's part of the history is what its session asked, and there is no other part.
+/// Whether each seat's part of the history is what its session submitted, and there is no other part.
 pub(crate) fn is_settled<D: Disk>(store: &Store<D>, transcripts: &[Transcript]) -> bool
     ensures { result ≡ true → IsSettled transcripts.now store.now.history }
 {

@@ -15,11 +15,11 @@ pub struct Settled<D: Disk> {
 /// Why sessions were not served.
 #[derive(Drop)]
 pub enum Fault<D: Disk, W: Work> {
-    /// 50: memory was refused before a session was started. The store and the sessions are as they were.
+    /// 50: out of memory before a session was started. The store and the sessions are unchanged.
     Memory(Store<D>, Vec<W>),
-    /// 60: all sessions have ended, and the history is not what they asked.
+    /// 60: all sessions have ended, and the history is not what they submitted.
     Unsettled(Settled<D>),
-    /// 61: all sessions have ended, the history is what they asked, and one was ended by its reader or its writer.
+    /// 61: all sessions have ended, the history is what they submitted, and one was ended by its reader or writer.
     Broken(Settled<D>),
 }
 

@@ -8,7 +8,7 @@ use std::alloc::Global;
 use std::sync::{Mutex, Wait};
 use std::thread::{self, JoinHandle, Scope, Threads};
 
-/// Starts the sessions, in order. It takes no memory: there is room for all.
+/// Starts the sessions, in order. It takes no memory, since there is room for all.
 fn start_all<'s, 'e, S: Send + Drop + 's, H: Host<S> + Sync + 's, W: Work + Send + 's>(
     scope: &'s Scope<'s, &'e ()>,
     host: &'s H,
@@ -26,7 +26,7 @@ fn start_all<'s, 'e, S: Send + Drop + 's, H: Host<S> + Sync + 's, W: Work + Send
     running
 }
 
-/// Joins the sessions, in order. It takes no memory: there is room for all.
+/// Joins the sessions, in order. It takes no memory, since there is room for all.
 fn join_all<W: Work>(
     rt: &impl Threads,
     alloc: Global,
@@ -43,7 +43,7 @@ fn join_all<W: Work>(
     transcripts
 }
 
-/// Tells the flusher to stop, and waits until it has, where its thread was started.
+/// Tells the flusher to stop, and waits for it if its thread was started.
 fn end_flusher<S, H: Host<S>>(
     rt: &impl Threads,
     host: &H,
@@ -56,8 +56,8 @@ fn end_flusher<S, H: Host<S>>(
     }
 }
 
-/// Holds all sessions at the seats of a host, each in a thread of its own, to their ends. A flusher is beside them, where a thread for it
-/// can be started.
+/// Holds all sessions at the seats of a host, each in its own thread, until they end. A flusher runs beside them, if a thread can be
+/// started for it.
 pub(crate) fn hold_all<S: Send + Drop, H: Host<S> + Sync, W: Work + Send, R: Threads + Wait + Sync>(
     rt: &R,
     alloc: Global,

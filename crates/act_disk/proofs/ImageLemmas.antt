@@ -1,4 +1,4 @@
--- The images that a disk in memory makes are among those that a stop may leave.
+-- The images that an in-memory disk produces are among those that a crash may leave.
 use Rattle.std.proofs.Common.{◌≡◌, ℕ, ◌/◌, ◌<◌, List, [], ◌∷◌, ◌++◌, length, take, drop, replicate, reverse, refl, sym, ◌∙◌, ap, subst}
 use Rattle.std.proofs.Common.{arith, Result, Ok, Err, IfOk}
 use Rattle.std.proofs.lemmas.List.{append_assoc, length-append, length-take, length-take-le, length-replicate, length-reverse}

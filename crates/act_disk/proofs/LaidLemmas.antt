@@ -1,14 +1,14 @@
--- Bytes laid into a file that was filled up with zeros first.
+-- Bytes written into a file that was first extended with zeros.
 use Rattle.std.proofs.Common.{◌≡◌, ℕ, zero, suc, ◌+◌, ◌-◌, ◌≤◌, List, [], ◌∷◌, ◌++◌, length, take, drop, replicate, refl, sym, ◌∙◌, ap}
 use Rattle.std.proofs.Common.{arith}
 use Rattle.std.proofs.lemmas.List.{append-nil, length-replicate, drop_all, take_at, take-replicate}
 use Rattle.act_disk.specs.Laid.{laid}
 
--- the file filled up with zeros to a length
+-- the file, extended with zeros to a length
 abbrev pub grown : List ℕ → ℕ → List ℕ
 grown file len = file ++ replicate (len - length file) 0
 
--- how many zeros there are past the front makes no difference to it
+-- the prefix does not depend on how many zeros follow it
 front_same : (file : List ℕ) (at z w : ℕ) → at ≤ length file + z → at ≤ length file + w
     → take at (file ++ replicate z 0) ≡ take at (file ++ replicate w 0)
 front_same [] at z w le le' = take-replicate at z 0 (omega arith) ∙ sym (take-replicate at w 0 (omega arith))
@@ -25,7 +25,7 @@ rest_same (x ∷ file) (suc len) =
     let less : suc len - length (x ∷ file) ≡ len - length file = omega arith in
     ap (λ (k : ℕ). drop len (file ++ replicate k 0)) less ∙ rest_same file len
 
--- the bytes laid into the file that was filled up to their end are the bytes laid into the file
+-- Writing the bytes into the file extended to their end gives the same as writing them into the file.
 laid_in : (at : ℕ) (bytes file : List ℕ)
     → take at (grown file (at + length bytes)) ++ bytes ++ drop (at + length bytes) (grown file (at + length bytes)) ≡ laid at bytes file
 laid_in at bytes file =

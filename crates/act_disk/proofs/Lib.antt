@@ -1,5 +1,7 @@
 mod ImageLemmas
+pub mod Kept
 mod LaidLemmas
+pub mod Moments
 mod ReadLemmas
 mod RecordLemmas
 mod Walks

@@ -1,4 +1,4 @@
--- Reads of the system, one after another, as one read.
+-- Several system reads in a row, as one read.
 use Rattle.std.proofs.Common.{◌≡◌, ◌+◌, ◌-◌, ◌≤◌, ℕ, List, ◌∷◌, ◌++◌, length, take, drop, IsTrue, sym, ◌∙◌, ap, arith}
 use Rattle.std.proofs.lemmas.List.{length-take-le, drop-drop, take-append-le, drop_at, take_at}
 use Rattle.std.proofs.Math.Seq.{take-add}
@@ -21,14 +21,14 @@ module _ (left : List ℕ → Type 0) (held : List ℕ) where
         sound = so_far.sound;
       }
 
-  -- what an honest read says of the bytes that it gave
+  -- what an honest read implies about the bytes that it returned
   pub gave_bytes : (at : ℕ) (bytes : List ℕ) (old mid : List FileCall) → Reads left held old mid → IsTrue (is_sound old)
       → IsHonest held (Gave at bytes ∷ mid)
       → bytes ≡ take (length bytes) (drop at (contents held old))
   gave_bytes at bytes old mid so_far sound honest =
       honest.1 (so_far.sound ∙ sound) ∙ ap (λ (l : List ℕ). take (length bytes) (drop at l)) so_far.same
 
--- the first bytes of a buffer, once more of them were read
+-- the filled start of a buffer after one more read
 pub filled_more : (at count k : ℕ) (buf new file : List ℕ) → count ≤ length buf → k ≤ length new
     → take count buf ≡ take count (drop at file) → take k new ≡ take (length (take k new)) (drop (at + count) file)
     → take (count + k) (put_mid count (length buf - count) buf new) ≡ take (count + k) (drop at file)

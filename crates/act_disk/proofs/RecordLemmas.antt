@@ -1,4 +1,4 @@
--- One call more in the record of a disk in memory.
+-- One more call in the record of an in-memory disk.
 use Rattle.std.proofs.Common.{◌≡◌, ℕ, List, [], ◌∷◌, ◌++◌, length, reverse, sym, ◌∙◌, ap, subst, arith, Result, Ok, Err, OnOk, OnErr, is_ok}
 use Rattle.std.proofs.lemmas.List.{reverse-append, length-append}
 use Rattle.act_disk.specs.Images.{Torn, IsWritten, Follows, LeavesAny, Elapses}
@@ -8,12 +8,12 @@ use Rattle.act_disk.specs.Record.{Record, seen_after, LeftAfter, bytes_of, MayLe
 use Rattle.act_disk.specs.declared.call.Call.{Call}
 use Rattle.act_disk.specs.declared.call.Call.TheVariants.{Write}
 
--- what holds in both cases of a result
+-- a consequence that holds for `Ok` and for `Err`
 either : {T E R P Q : Type 0} (r : Result T E) → OnOk r P → OnErr r Q → (P → R) → (Q → R) → R
 either (Ok x) p q f g = f p
 either (Err e) p q f g = g q
 
--- what follows where another result has the same case
+-- a consequence at `Ok`, carried to another result of the same case
 pub carried : {T E T' E' P R : Type 0} (r : Result T E) (s : Result T' E') → is_ok s ≡ is_ok r → OnOk r P → (P → R) → OnOk s R
 carried (Ok x) (Ok y) same p f = f p
 carried (Ok x) (Err d) same p f = absurd (cc same)
@@ -44,7 +44,7 @@ module _ (m n : Record) (first : n.first ≡ m.first) where
   newest : (call : Call) → Grown call → reverse n.calls ≡ call ∷ reverse m.calls
   newest call grown = ap (λ (l : List Call). reverse l) grown ∙ reverse_push m.calls call
 
-  -- a statement of the new disk, from one of its first bytes and its calls
+  -- moves a statement from the old first bytes and calls to those of the new disk
   at_new : (P : List ℕ → List Call → Type 0) (call : Call) → Grown call → P m.first (call ∷ reverse m.calls) → P n.first (reverse n.calls)
   at_new P call grown holds =
       subst (λ (f : List ℕ). P f (reverse n.calls)) (sym first) (subst (λ (l : List Call). P m.first l) (sym (newest call grown)) holds)

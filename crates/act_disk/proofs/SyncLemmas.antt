@@ -1,4 +1,4 @@
--- A sync of the system.
+-- A sync by the system.
 use Rattle.std.proofs.Common.{◌≡◌, ⊎_elim, ℕ, List, ◌∷◌, IsTrue, refl, sym, subst, Result, Ok, Err, OnOk, OnErr, is_ok}
 use Rattle.act_disk.specs.Images.{Only}
 use Rattle.act_disk.specs.SystemCalls.{FileCall, Synced, SyncFailed, is_sound, contents, MayLeave}
@@ -6,7 +6,7 @@ use Rattle.act_disk.specs.SystemLaws.{contents_left}
 use Rattle.act_disk.specs.FileCalls.{MayHaveFailed, Passed}
 use Rattle.act_disk.proofs.WriteLemmas.{passed_none, passed_one}
 
--- what follows at `Ok` from two facts at `Ok`, where another result has the same case
+-- a consequence of two facts at `Ok`, carried to another result of the same case
 pub both_at_ok : {T E T' E' P Q R : Type 0} (r : Result T E) (s : Result T' E') → is_ok s ≡ is_ok r → OnOk r P → OnOk r Q → (P → Q → R)
     → OnOk s R
 both_at_ok (Ok x) (Ok y) same p q f = f p q

@@ -1,4 +1,4 @@
--- The names that the walks of ghost data cite.
+-- The names that the ghost-data proofs import.
 pub use Rattle.std.proofs.Common.{[], ◌∷◌, refl}
 pub use Rattle.std.proofs.raw_atomic.Walks.{proved}
 pub use base.Logic.{id⊢}

@@ -1,16 +1,16 @@
--- Writes of the system, one after another, as one write.
+-- Several system writes in a row, as one write.
 use Rattle.std.proofs.Common.{◌≡◌, ◌↔◌, ⊎_elim, ℕ, zero, suc, ◌+◌, ◌-◌, ◌^◌, ◌<◌, ◌≤◌, min, List, [], ◌∷◌, ◌++◌, length, take, drop}
 use Rattle.std.proofs.Common.{replicate, refl, sym, ◌∙◌, ap, subst, arith, append_assoc}
 use Rattle.std.proofs.lemmas.List.{length-append, length-take-le, length-drop, length-replicate, take_at, drop_at, drop-drop}
 use Rattle.std.proofs.Math.Seq.{take-add}
 use Rattle.act_disk.specs.Images.{Torn, From, Follows}
-use Rattle.act_disk.specs.Kept.{front_kept, rest_kept}
+use Rattle.act_disk.proofs.Kept.{front_kept, rest_kept}
 use Rattle.act_disk.specs.Laid.{laid, torn_refl}
 use Rattle.act_disk.specs.Past.{elapses_same, elapses_push, elapses_then}
 use Rattle.act_disk.specs.SystemCalls.{FileCall, Wrote, WriteFailed, Grew, GrowthFailed, contents, MayLeave, MayHaveLeft}
 use Rattle.act_disk.specs.FileCalls.{Puts, Breaks, MayHaveFailed, Passed, partly}
 
--- a write within a range, after one of the range, is one of the range
+-- a write inside a range, after a write of that range, is a write of that range
 pub torn_within : (at n at' n' : ℕ) (a b c : List ℕ) → at ≤ at' → at' + n' ≤ at + n → Torn at n a b → Torn at' n' b c → Torn at n a c
 torn_within at n at' n' a b c from to first second = record {
   no_shorter = omega (arith, first.no_shorter, second.no_shorter);
@@ -21,7 +21,7 @@ torn_within at n at' n' a b c from to first second = record {
   after = rest_kept at' n' b c second (at + n) to ∙ first.after;
 }
 
--- bytes laid behind bytes are all of them laid
+-- two adjacent writes are one write of both texts
 pub laid_behind : (at : ℕ) (a b file : List ℕ) → laid (at + length a) b (laid at a file) ≡ laid at (a ++ b) file
 laid_behind at a b file =
     let zeros = replicate at 0 in
@@ -47,7 +47,7 @@ module _ (left : List ℕ → Type 0) (held : List ℕ) where
   abbrev Images : List FileCall → List ℕ → Type 0
   Images = MayLeave left held
 
-  -- no call was done
+  -- no call was made
   pub passed_none : (calls : List FileCall) → Passed left held calls calls
   passed_none calls = elapses_same Images (length calls) calls
 
@@ -191,7 +191,7 @@ module _ (left : List ℕ → Type 0) (held : List ℕ) where
       honest = ((λ h. so_far.honest.0 (broke.honest.0 h)), (λ h. broke.honest.1 (so_far.honest.1 h)));
     }
 
-  -- a growth is a write of no bytes
+  -- extending a file is a write of no bytes
   module _ (len : ℕ) (bytes : List ℕ) (none : bytes ≡ []) (old new : List FileCall) where
     pub grown_puts : new ≡ Grew len ∷ old → Puts left held len bytes (length bytes) old new
     grown_puts noted =

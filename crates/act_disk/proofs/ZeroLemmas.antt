@@ -1,12 +1,12 @@
--- Zeros written behind zeros.
+-- Zeros written after zeros.
 use Rattle.std.proofs.Common.{◌≡◌, ◌+◌, ◌≤◌, ℕ, List, [], ◌++◌, length, drop, replicate, ◌∙◌, ap, arith, append_assoc}
 use Rattle.std.proofs.lemmas.List.{append-nil, take_all, drop_all, replicate-append-replicate}
 use Rattle.act_disk.specs.Images.{Torn, IsWritten, From, Follows, Elapses, EachSince}
-use Rattle.act_disk.specs.Kept.{written_is}
-use Rattle.act_disk.specs.Moments.{goes_on}
+use Rattle.act_disk.proofs.Kept.{written_is}
+use Rattle.act_disk.proofs.Moments.{goes_on}
 use Rattle.act_disk.proofs.WriteLemmas.{torn_within}
 
--- a write of zeros at the end adds them
+-- a write of zeros at the end appends them
 pub zeros_more : (old mid new bytes : List ℕ) (at k count : ℕ) → mid ≡ old ++ replicate k 0 → at ≡ length mid → bytes ≡ replicate count 0
     → IsWritten at bytes mid new → new ≡ old ++ replicate (k + count) 0
 zeros_more old mid new bytes at k count so_far end zeros written =
@@ -19,17 +19,17 @@ zeros_more old mid new bytes at k count so_far end zeros written =
     ∙ append_assoc old (replicate k 0) (replicate count 0)
     ∙ ap (λ (l : List ℕ). old ++ l) (replicate-append-replicate k count 0)
 
--- A disk that is made longer: each image is what one write of n bytes past the old end makes of one that stood before.
+-- A disk that is extended: each image results from an earlier one by one write of n bytes past the old end.
 module _ {D : Type 0} (moment : D → ℕ) (images_since : D → ℕ → List ℕ → Type 0) (images : D → List ℕ → Type 0) (end n : ℕ) (old : D) where
   abbrev Grown : List ℕ → Type 0
   Grown = From (Torn end n) (images old)
 
-  -- so far, and now
+  -- all images since the start, and those at this moment
   pub record Grows (mid : D) : Type 0 where
     pub since : EachSince moment images_since old mid Grown
     pub now : (c : List ℕ) → images mid c → Grown c
 
-  -- one write more, of a range past the old end
+  -- one more write, of a range past the old end
   pub grows_on : (mid new : D) (at count : ℕ) → end ≤ at → at + count ≤ end + n → Grows mid
       → Follows (Torn at count) (images mid) (images new)
       → Elapses (moment mid) (moment new) (images_since mid) (images_since new) (images new)

@@ -7,6 +7,6 @@ use Rattle.wf_value.specs.declared.refusal.Refusal.TheVariants.{Numbered}
 abbrev pub device_failed : Refusal
 device_failed = Numbered DeviceFailed
 
--- the refusal of a stream that failed, and of a file that can't be opened
+-- the refusal of a failed stream, and of a file that cannot be opened
 abbrev pub stream_failed : Refusal
 stream_failed = Numbered StreamFailed

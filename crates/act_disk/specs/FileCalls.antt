@@ -1,29 +1,29 @@
--- What one call of a disk makes of a file by calls of the system, the newest first: `old` are those before it, and `new` those after it.
+-- The effect of one disk call on a file, in terms of system calls, newest first. `old` are the calls before it, `new` those after it.
 use Rattle.std.specs.Prelude.{◌≡◌, ◌⊎◌, ◌↔◌, ℕ, zero, suc, ◌+◌, ◌^◌, ◌<◌, ◌≤◌, max, List, ◌∷◌, length, take, IsTrue, Bool, false}
 use Rattle.act_disk.specs.Images.{Torn, Follows, LeavesAny, SameImages, Elapses}
 use Rattle.act_disk.specs.Laid.{laid}
 use Rattle.act_disk.specs.SystemCalls.{FileCall, is_sound, contents, MayLeave, MayHaveLeft, IsHonest}
 
--- this call was done and failed, or no call was done
+-- either this call was made and failed, or no call was made
 abbrev pub MayHaveFailed : FileCall → List FileCall → List FileCall → Type 0
 MayHaveFailed call old new = (new ≡ old) ⊎ (new ≡ call ∷ old)
 
--- time went on over the images between
+-- the images since an earlier moment, extended by those after these calls
 abbrev pub Passed : (List ℕ → Type 0) → List ℕ → List FileCall → List FileCall → Type 0
 Passed left held old new =
     Elapses (length old) (length new) (MayHaveLeft left held old) (MayHaveLeft left held new) (MayLeave left held new)
 
--- a file with the first so many of these bytes at `at`; where there are none, the file as it was
+-- the file with the first `count` bytes written at `at`; the unchanged file where `count` is 0
 abbrev pub partly : ℕ → List ℕ → ℕ → List ℕ → List ℕ
 partly at bytes zero file = file
 partly at bytes (suc count) file = laid at (take (suc count) bytes) file
 
--- and how long it is, if it was so long
+-- the length of such a file
 abbrev pub length_after : ℕ → ℕ → ℕ → ℕ
 length_after at zero len = len
 length_after at (suc count) len = max len (at + suc count)
 
--- The first so many of these bytes were put at `at`.
+-- The first `count` bytes were written at `at`.
 pub record Puts (left : List ℕ → Type 0) (held : List ℕ) (at : ℕ) (bytes : List ℕ) (count : ℕ) (old new : List FileCall) : Type 0 where
   pub put : contents held new ≡ laid at (take count bytes) (contents held old)
   pub follows : Follows (Torn at (length bytes)) (MayLeave left held old) (MayLeave left held new)
@@ -32,7 +32,7 @@ pub record Puts (left : List ℕ → Type 0) (held : List ℕ) (at : ℕ) (bytes
   pub honest : IsHonest held new ↔ IsHonest held old
   pub sound : is_sound new ≡ is_sound old
 
--- A call failed after the first so many of these bytes were put at `at`.
+-- A call failed after the first `count` bytes were written at `at`.
 pub record Breaks (left : List ℕ → Type 0) (held : List ℕ) (at : ℕ) (bytes : List ℕ) (count : ℕ) (old new : List FileCall) : Type 0 where
   pub within : count ≤ length bytes
   pub fits : 0 < count → at + count < 2 ^ 64
@@ -41,7 +41,7 @@ pub record Breaks (left : List ℕ → Type 0) (held : List ℕ) (at : ℕ) (byt
   pub passed : Passed left held old new
   pub honest : IsHonest held new ↔ IsHonest held old
 
--- Calls read, and no more.
+-- The calls only read.
 pub record Reads (left : List ℕ → Type 0) (held : List ℕ) (old new : List FileCall) : Type 0 where
   pub same : contents held new ≡ contents held old
   pub images : SameImages (MayLeave left held old) (MayLeave left held new)
@@ -49,7 +49,7 @@ pub record Reads (left : List ℕ → Type 0) (held : List ℕ) (old new : List 
   pub honest : IsHonest held new → IsHonest held old
   pub sound : is_sound new ≡ is_sound old
 
--- What a disk keeps of its file: how long it is, and that nothing has failed until it says so.
+-- What a disk knows about its file: its length, and that no write, extension or sync has failed unless `failed` is set.
 abbrev pub IsLong : List ℕ → List FileCall → ℕ → Type 0
 IsLong held calls len = IsHonest held calls → len ≡ length (contents held calls)
 

@@ -1,4 +1,4 @@
--- What a disk over a file shows.
+-- What contracts see of a disk over a file.
 use Rattle.std.specs.Prelude.{◌≡◌, ℕ, Bool, true, List, length, Result, is_err}
 use Rattle.act_disk.specs.SystemCalls.{contents, MayLeave, MayHaveLeft, IsHonest}
 use Rattle.act_disk.specs.declared.file.FileDisk.{FileDisk}
@@ -21,7 +21,7 @@ module _ {F : Type 0} {g : Ghosts F} where
   abbrev pub failed_of : FileDisk F g → Bool
   failed_of disk = disk.failed
 
-  -- What the disk model has of it, by the calls of its file.
+  -- The functions of the disk model, defined by the calls on the file.
 
   abbrev pub seen_of : FileDisk F g → List ℕ
   seen_of disk = contents g.held (g.calls disk.file)
@@ -38,6 +38,6 @@ module _ {F : Type 0} {g : Ghosts F} where
   abbrev pub honest_of : FileDisk F g → Type 0
   honest_of disk = IsHonest g.held (g.calls disk.file)
 
-  -- a call of a disk on which a write or a sync has failed: it fails, and asks the system nothing
+  -- after a failed write or sync, a call fails without a system call
   abbrev pub StaysFailed : {T E : Type 0} → Result T E → FileDisk F g → FileDisk F g → Type 0
   StaysFailed result old new = failed_of old ≡ true → (is_err result ≡ true) × (g.calls new.file ≡ g.calls old.file)

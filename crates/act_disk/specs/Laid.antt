@@ -1,15 +1,15 @@
--- A file with bytes laid into it, and that it is a write of them.
+-- A file with bytes written into it, and the proof that this is a write of them.
 use Rattle.std.specs.Prelude.{◌≡◌, ℕ, ◌+◌, ◌-◌, ◌≤◌, min, max, List, ◌++◌, length, take, drop, replicate}
 use Rattle.std.proofs.Common.{refl, sym, ◌∙◌, ap, arith, append_assoc}
 use Rattle.std.proofs.lemmas.List.{length-append, length-take-le, length-drop, length-replicate, take-append-le, take-take, take_at}
 use Rattle.std.proofs.lemmas.List.{drop_at, drop-drop}
 use Rattle.act_disk.specs.Images.{Torn, Holds, IsWritten}
 
--- a file with these bytes at `at`; where it was shorter, zeros stand up to there
+-- the file with these bytes at `at`; a shorter file is first extended with zeros up to `at`
 abbrev pub laid : ℕ → List ℕ → List ℕ → List ℕ
 laid at bytes file = take at (file ++ replicate at 0) ++ bytes ++ drop (at + length bytes) file
 
--- a write may leave what was there
+-- a write may leave the old bytes
 pub torn_refl : (at n : ℕ) (file : List ℕ) → Torn at n file file
 torn_refl at n file = record { no_shorter = omega arith; no_longer = omega arith; before = refl; after = refl }
 
@@ -57,7 +57,7 @@ module _ (at : ℕ) (bytes file : List ℕ) where
       ∙ drop-drop more (at + length bytes) file
       ∙ ap (λ (k : ℕ). drop k file) (sym reach)
 
-  -- whatever is laid within a range is a write of that range
+  -- bytes written within a range are a write of that range
   pub torn_laid : (n : ℕ) → length bytes ≤ n → Torn at n file (laid at bytes file)
   torn_laid n le = record {
     no_shorter = omega (arith, length-laid);

@@ -5,9 +5,7 @@ pub mod Fuse
 pub mod HostFile
 pub mod Image
 pub mod Images
-pub mod Kept
 pub mod Laid
-pub mod Moments
 pub mod Noted
 pub mod Past
 pub mod Record

@@ -1,4 +1,4 @@
--- A call of the system, as the list of a file's calls has it.
+-- A system call, as an entry of a file's list of calls.
 use Rattle.act_disk.specs.SystemCalls.{FileCall, Measured, Gave, Wrote, WriteFailed, Grew, GrowthFailed, Synced, SyncFailed}
 use Rattle.act_disk.specs.declared.system_call.SystemCall.{SystemCall}
 use Rattle.act_disk.specs.declared.system_call.SystemCall.TheVariants as told

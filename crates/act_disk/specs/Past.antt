@@ -1,11 +1,11 @@
--- What a stop might have left since an earlier moment, where `Left calls c` says that a stop after these calls may leave c.
--- The calls come newest first, and the moment is their number.
+-- What a crash might have left since an earlier moment, where `Left calls c` says that a crash after these calls may leave c. The calls
+-- come newest first, and the moment is their number.
 use Rattle.std.specs.Prelude.{◌≡◌, ◌⊎◌, ℕ, ◌+◌, ◌≤◌, List, [], ◌∷◌, ◌++◌, length}
 use Rattle.std.proofs.Common.{inl, inr, ⊎_elim, refl, sym, ap, subst, arith}
 use Rattle.std.proofs.lemmas.List.{length-append}
 use Rattle.act_disk.specs.Images.{Elapses}
 
--- a stop when t of these calls were done, or more of them, might have left this image
+-- a crash after t or more of these calls might have left this image
 abbrev pub LeftSince : {X : Type 0} → (List X → List ℕ → Type 0) → List X → ℕ → List ℕ → Type 0
 LeftSince {X = X} Left calls t c =
     (later : List X) × (earlier : List X) × (calls ≡ later ++ earlier) × (t ≤ length earlier) × Left earlier c
@@ -22,7 +22,7 @@ module _ {X : Type 0} (Left : List X → List ℕ → Type 0) where
   pub left_last : (calls : List X) (c : List ℕ) → LeftSince Left calls (length calls) c → Left calls c
   left_last calls c left = last_left calls c left.0 left.1 left.2 left.3 left.4
 
-  -- no call more
+  -- no further call
   pub elapses_same : (n : ℕ) (calls : List X) → Elapses n n (LeftSince Left calls) (LeftSince Left calls) (Left calls)
   elapses_same n calls = record { later = omega arith; nothing_else = λ t c le left. inl left; keeps = λ t c le left. left }
 
@@ -32,7 +32,7 @@ module _ {X : Type 0} (Left : List X → List ℕ → Type 0) where
   since_more x calls t c [] earlier split le left = inr (subst (λ (l : List X). Left l c) (sym split) left)
   since_more x calls t c (y ∷ later) earlier split le left = inl (later, earlier, cc, le, left)
 
-  -- one call more
+  -- one further call
   pub elapses_push : (x : X) (calls : List X) (n m : ℕ) → m ≡ n + 1
       → Elapses n m (LeftSince Left calls) (LeftSince Left (x ∷ calls)) (Left (x ∷ calls))
   elapses_push x calls n m next = record {
@@ -41,7 +41,7 @@ module _ {X : Type 0} (Left : List X → List ℕ → Type 0) where
     keeps = λ t c le left. (x ∷ left.0, left.1, ap (λ (l : List X). x ∷ l) left.2, left.3, left.4);
   }
 
--- two runs, one after the other, where the images of the first are among those of the second
+-- two sequences, one after the other, where the images of the first are among those of the second
 pub elapses_then : (t0 t1 t2 : ℕ) (past mid since : ℕ → List ℕ → Type 0) (images images' : List ℕ → Type 0)
     → Elapses t0 t1 past mid images → Elapses t1 t2 mid since images' → ((c : List ℕ) → images c → images' c)
     → Elapses t0 t2 past since images'

@@ -1,4 +1,4 @@
--- A disk in memory meets the laws of a disk.
+-- An in-memory disk satisfies the laws of a disk.
 use Rattle.std.specs.Prelude.{ℕ, ◌≤◌, List, [], ◌∷◌, length, reverse}
 use Rattle.std.proofs.Common.{refl, arith}
 use Rattle.std.proofs.lemmas.List.{length-reverse}

@@ -1,5 +1,5 @@
--- The calls that the system did on one file, with their answers, and what they make of the file. A list of them comes newest first.
--- A call that a signal interrupted did nothing, and neither did a read that failed: they are in no list.
+-- The system calls made on one file, with their answers, and their effect on the file. Lists are newest first. A call that a signal
+-- interrupted had no effect, and neither did a failed read: no list contains them.
 use Rattle.std.specs.Prelude.{◌≡◌, ℕ, List, [], ◌∷◌, length, take, drop, Bool, true, false, IsTrue, Result, Ok, Err}
 use Rattle.act_disk.specs.Images.{Torn, From}
 use Rattle.act_disk.specs.Laid.{laid}
@@ -8,26 +8,26 @@ use Rattle.act_disk.specs.declared.system_file.CallError.{CallError}
 use Rattle.act_disk.specs.declared.system_file.CallError.TheVariants.{Interrupted, Failed}
 
 pub data FileCall : Type 0 where
-  -- the file was so long
+  -- the file had this length
   Measured : (len : ℕ) → FileCall
-  -- a read from this offset on gave these bytes
+  -- a read from this offset returned these bytes
   Gave : (at : ℕ) → (bytes : List ℕ) → FileCall
-  -- these bytes were to be written at this offset, and the first so many were
+  -- a write of these bytes at this offset wrote the first `count` of them
   Wrote : (at : ℕ) → (bytes : List ℕ) → (count : ℕ) → FileCall
   WriteFailed : (at : ℕ) → (bytes : List ℕ) → FileCall
-  -- the file was made so long, which was no shorter than it was
+  -- the file was extended to this length, which was not below its old length
   Grew : (len : ℕ) → FileCall
   GrowthFailed : (len : ℕ) → FileCall
   Synced : FileCall
   SyncFailed : FileCall
 
--- What each call of the system adds to the list, from its answer.
+-- What each system call adds to the list, given its answer.
 
 abbrev pub measured : Result ℕ CallError → List FileCall → List FileCall
 measured (Ok len) earlier = Measured len ∷ earlier
 measured (Err e) earlier = earlier
 
--- these bytes stood in the buffer after the call
+-- the buffer holds `buf` after the call
 abbrev pub gave : ℕ → List ℕ → Result ℕ CallError → List FileCall → List FileCall
 gave at buf (Ok count) earlier = Gave at (take count buf) ∷ earlier
 gave at buf (Err e) earlier = earlier
@@ -47,8 +47,8 @@ synced (Ok x) earlier = Synced ∷ earlier
 synced (Err Interrupted) earlier = earlier
 synced (Err Failed) earlier = SyncFailed ∷ earlier
 
--- No write, growth or sync has failed. After one that did, the system may have dropped what it was given, and reads and syncs tell
--- nothing any more.
+-- No write, extension or sync has failed. After such a failure the system may have dropped written bytes, and later reads and syncs prove
+-- nothing.
 abbrev pub is_sound : List FileCall → Bool
 is_sound [] = true
 is_sound (Measured len ∷ earlier) = is_sound earlier
@@ -60,7 +60,7 @@ is_sound (GrowthFailed len ∷ earlier) = false
 is_sound (Synced ∷ earlier) = is_sound earlier
 is_sound (SyncFailed ∷ earlier) = false
 
--- The bytes of a file that held these at first.
+-- The bytes of a file that initially held `held`.
 abbrev pub contents : List ℕ → List FileCall → List ℕ
 contents held [] = held
 contents held (Measured len ∷ earlier) = contents held earlier
@@ -72,9 +72,9 @@ contents held (GrowthFailed len ∷ earlier) = contents held earlier
 contents held (Synced ∷ earlier) = contents held earlier
 contents held (SyncFailed ∷ earlier) = contents held earlier
 
--- A stop after these calls may leave this image, where one before the first of them might leave what has `left`. A write or a growth may
--- leave any bytes in its range and past the old end, whole, short or failed. A sync makes no new image, and one that succeeded, with
--- no failure before it, leaves the contents alone.
+-- A crash after these calls may leave this image, if a crash before the first of them might leave an image with `left`. A write or an
+-- extension, complete, short or failed, may leave any bytes in its range and past the old end. A sync adds no image. A successful sync
+-- with no failure before it leaves only the contents.
 abbrev pub MayLeave : (List ℕ → Type 0) → List ℕ → List FileCall → List ℕ → Type 0
 MayLeave left held [] c = left c
 MayLeave left held (Measured len ∷ earlier) c = MayLeave left held earlier c
@@ -86,12 +86,12 @@ MayLeave left held (GrowthFailed len ∷ earlier) c = From (Torn len 0) (MayLeav
 MayLeave left held (Synced ∷ earlier) c = MayLeave left held earlier c × (IsTrue (is_sound earlier) → c ≡ contents held earlier)
 MayLeave left held (SyncFailed ∷ earlier) c = MayLeave left held earlier c
 
--- a stop when t of these calls were done, or more of them, might have left this image
+-- a crash after t or more of these calls might have left this image
 abbrev pub MayHaveLeft : (List ℕ → Type 0) → List ℕ → List FileCall → ℕ → List ℕ → Type 0
 MayHaveLeft left held calls t c = LeftSince (MayLeave left held) calls t c
 
--- The answers are those that a file gives which held these bytes at first, and which nobody else writes: each length and each read,
--- for as long as no write and no sync failed.
+-- The answers are those of a file that initially held these bytes and that nobody else writes. This covers each length and each read until
+-- a write, an extension or a sync fails.
 abbrev pub IsHonest : List ℕ → List FileCall → Type 0
 IsHonest held [] = Unit {0}
 IsHonest held (Measured len ∷ earlier) = IsHonest held earlier × (IsTrue (is_sound earlier) → len ≡ length (contents held earlier))

@@ -1,4 +1,4 @@
--- What a file holds is among the images that a stop may leave of it.
+-- The contents of a file are among the images that a crash may leave.
 use Rattle.std.specs.Prelude.{ℕ, List, [], ◌∷◌, length, take, refl}
 use Rattle.std.proofs.Common.{arith}
 use Rattle.std.proofs.lemmas.List.{length-take}

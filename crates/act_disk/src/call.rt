@@ -1,6 +1,6 @@
 use wf_value::Sequence;
 
-/// A call that a disk in memory did.
+/// A completed call of an in-memory disk.
 #[derive(Drop)]
 pub enum Call {
     /// These bytes were written from this offset on.
@@ -8,15 +8,15 @@ pub enum Call {
     Sync,
 }
 
-/// What an image has of the writes since the last sync.
+/// What an image contains of the writes since the last sync.
 #[derive(Clone, Copy)]
 pub enum Fill {
-    /// Nothing.
+    /// None of them.
     Old,
-    /// All of each.
+    /// All of each write.
     New,
-    /// The first half of the bytes of each, rounded down.
+    /// The first half of each write, rounded down.
     Half,
-    /// Each byte of their ranges is A5.
+    /// The byte 0xA5 throughout the range of each write.
     Gates,
 }

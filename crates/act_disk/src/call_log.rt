@@ -7,7 +7,7 @@ use crate::system_call::SystemCall;
 use crate::system_file::CallError;
 use std::marker::Model;
 
-/// The calls of the system on a file, of which clauses alone know. It takes no memory.
+/// The system calls on a file, as ghost data. It takes no memory.
 #[derive(Drop)]
 pub(crate) struct CallLog {
     pub ghost calls: { List FileCall },
@@ -21,14 +21,14 @@ impl Model for CallLog {
 unsafe impl Send for CallLog {}
 
 impl CallLog {
-    /// No call was done yet.
+    /// An empty list.
     pub(crate) fn new() -> Self
         ensures { result.calls ≡ [] }
     {
         CallLog {}
     }
 
-    /// One call more.
+    /// Adds a call.
     fn note(&mut self, _call: &SystemCall<'_>)
         ensures { self.new.calls ≡ call_of _call.now ∷ self.old.calls }
     {}

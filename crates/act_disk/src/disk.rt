@@ -3,51 +3,48 @@ ghost use Rattle.act_disk.specs.Images.{Torn, IsWritten, Follows, LeavesAny, Sam
 
 use crate::fault::DiskFault;
 
-/// One disk: a row of bytes that keeps what is synced, whenever the machine stops.
+/// A disk: a list of bytes. What is synced survives a crash of the machine.
 ///
-/// Between two syncs each range that was written, by a write that failed too, and all past the old
-/// end may hold any bytes after a stop; other bytes stay. After a sync that succeeded a stop leaves
-/// what a read gives. A sync that failed and a read make nothing stable.
+/// Between two syncs, a crash may leave any bytes in each range that was written, also by a failed write, and past the old end. Other
+/// bytes stay. After a successful sync, a crash leaves what a read returns. A failed sync and a read make nothing durable.
 ///
-/// What is said of bytes and images holds of an honest disk. A write and a sync leave a disk as honest
-/// as it was. A read may end that, by bytes that the disk never held: what is said of a read holds where
-/// the disk is honest after it. The length and the counts of calls and faults are right of any disk.
+/// The clauses on bytes and images hold for an honest disk. A write and a sync keep a disk honest. A read may end that, by returning bytes
+/// that the disk never held: the clauses of a read hold if the disk is honest after it. The length and the counts of calls and faults are
+/// right for any disk.
 pub trait Disk {
-    /// The bytes that a read gives.
+    /// The bytes that a read returns.
     ghost seen: { Self → List ℕ };
 
-    /// The images that a stop at this moment may leave.
+    /// The images that a crash at this moment may leave.
     ghost images: { Self → List ℕ → Type 0 };
 
-    /// The moment, as a number that doesn't fall.
+    /// The moment, as a number that never falls.
     ghost moment: { Self → ℕ };
 
-    /// The images that a stop at some moment from that one on might have left, inside a call or
-    /// between two.
+    /// The images that a crash at that moment or later might have left, inside a call or between two.
     ghost images_since: { Self → ℕ → List ℕ → Type 0 };
 
-    /// The length in bytes, as a call finds it.
+    /// The length in bytes, as `len` returns it.
     ghost size: { Self → ℕ };
 
-    /// How many calls of `read`, `write_at` and `sync` were made, those that failed among them.
+    /// The number of calls of `read`, `write_at` and `sync`, including failed ones.
     ghost calls: { Self → ℕ };
 
-    /// How many calls have failed.
+    /// The number of failed calls.
     ghost fault_count: { Self → ℕ };
 
-    /// The disk is as this model says.
+    /// The disk behaves as this model says.
     ghost honest: { Self → Type 0 };
 
     /// The length in bytes.
     fn len(&self) -> u64
         ensures { result ≡ size self.now };
 
-    /// How many calls have failed.
+    /// The number of failed calls.
     fn faults(&self) -> u64
         ensures { result ≡ fault_count self.now };
 
-    /// Fills `buf` with the bytes from `at` on, which lie within the length. At an `Err` it may hold
-    /// any bytes.
+    /// Fills `buf` with the bytes from `at` on, which lie within the length. At `Err` the buffer may hold any bytes.
     fn read(&mut self, at: u64, buf: &mut [u8]) -> Result<(), DiskFault>
         requires within { at + length buf.old ≤ size self.old }
         requires countable { fault_count self.old < u64.MAX }
@@ -61,8 +58,8 @@ pub trait Disk {
         ensures faults { CountsFault result (fault_count self.old) (fault_count self.new) }
         ensures honest { honest self.new → honest self.old };
 
-    /// Writes over what is there, and past the end. Past the old end a disk may hold any bytes up to
-    /// `at`. A write that fails may have done anything in its range and past the old end.
+    /// Overwrites bytes, and extends the disk where the range passes its end. The bytes between the old end and `at` may then be any. A
+    /// failed write may have done anything in its range and past the old end.
     fn write_at(&mut self, at: u64, bytes: &[u8]) -> Result<(), DiskFault>
         requires { fault_count self.old < u64.MAX }
         ensures written { OnOk result (honest self.old → IsWritten at bytes.now (seen self.old) (seen self.new)) }
@@ -77,7 +74,7 @@ pub trait Disk {
         ensures faults { CountsFault result (fault_count self.old) (fault_count self.new) }
         ensures honest { honest self.new ↔ honest self.old };
 
-    /// After it, a stop leaves what a read gives. Where it fails nothing is stable that was not.
+    /// After a successful sync, a crash leaves what a read returns. A failed sync makes nothing durable.
     fn sync(&mut self) -> Result<(), DiskFault>
         requires { fault_count self.old < u64.MAX }
         ensures stable { OnOk result (honest self.old → Only (seen self.old) (images self.new)) }
@@ -90,15 +87,15 @@ pub trait Disk {
         ensures faults { CountsFault result (fault_count self.old) (fault_count self.new) }
         ensures honest { honest self.new ↔ honest self.old };
 
-    /// What a read gives is one of the images now.
+    /// What a read returns is one of the images at this moment.
     ghost seen_is_image: { (disk : Self) → honest disk → images disk (seen disk) };
 
-    /// What a read gives has the length that a call finds.
+    /// What a read returns has the length that `len` returns.
     ghost seen_length: { (disk : Self) → honest disk → length (seen disk) ≡ size disk };
 
-    /// This moment is one of those since an earlier one.
+    /// The images at this moment count as images since an earlier one.
     ghost counts_now: { (disk : Self) → honest disk → (t : ℕ) (c : List ℕ) → t ≤ moment disk → images disk c → images_since disk t c };
 
-    /// Since this moment there is no other.
+    /// The images since this moment are those at this moment.
     ghost only_now: { (disk : Self) → honest disk → (c : List ℕ) → images_since disk (moment disk) c → images disk c };
 }

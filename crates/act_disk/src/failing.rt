@@ -1,10 +1,10 @@
 ghost use Rattle.std.specs.Prelude.{◌≡◌};
 ghost use Rattle.act_disk.specs.Fuse.{fails_now, after_call};
 
-/// Which of the calls to come are to fail, counted from 0.
+/// Which of the coming calls fail, counted from 0.
 #[derive(Clone, Copy)]
 pub enum Failing {
-    /// This one alone.
+    /// Only this one.
     Once(u64),
     /// This one and all after it.
     From(u64),
@@ -12,7 +12,7 @@ pub enum Failing {
 }
 
 impl Failing {
-    /// Makes the next call, and says whether it is to fail.
+    /// Counts the next call and says whether it fails.
     pub(crate) fn next_fails(&mut self) -> bool
         ensures fails { result ≡ fails_now self.old }
         ensures after { self.new ≡ after_call self.old }

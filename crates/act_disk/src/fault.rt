@@ -4,7 +4,7 @@ ghost use Rattle.act_disk.specs.Images.{CountsFault};
 use thiserror::Error;
 use wf_value::{Code, Refusal};
 
-/// A call of a disk failed, and the disk's count of faults is one higher.
+/// A disk call failed. The disk's fault count is one higher.
 #[derive(Clone, Copy, Debug, Error)]
 #[error("the disk failed")]
 pub struct DiskFault;
@@ -21,7 +21,7 @@ impl From<DiskFault> for Refusal {
     }
 }
 
-/// Counts a call that failed.
+/// Counts a failed call.
 pub(crate) fn counted<T: Drop, E: Drop>(
     outcome: Result<T, E>,
     faults: &mut u64,

@@ -11,11 +11,10 @@ use crate::system_file::SystemFile;
 use crate::tally::CallTally;
 use wf_value::{Code, Refusal};
 
-/// A disk over a file of the system, whose calls may be short, be interrupted, and fail.
+/// A disk over a system file, whose calls may be short, interrupted, or fail.
 ///
-/// After a write or a sync that failed it makes no call of the system any more, and each read, write and
-/// sync fails, until the file is opened anew: the system may have dropped what it could not write, and
-/// would say of a later sync that it succeeded.
+/// After a failed write or sync the disk makes no further system call: each read, write and sync fails until the file is opened again. The
+/// system may have dropped what it could not write, and would report success for a later sync.
 #[derive(Drop)]
 pub struct FileDisk<F: SystemFile> {
     file: F,
@@ -31,7 +30,7 @@ impl<F: SystemFile> FileDisk<F> {
     ghost use Rattle.act_disk.specs.FileDisk.{file_of, len_of, faults_of, failed_of};
     ghost use Rattle.act_disk.specs.SystemCalls.{Measured, is_sound};
 
-    /// A disk over an open file, of which no call has failed. 61 where the system doesn't tell its length.
+    /// A disk over an open file on which no call has failed. It is refused with 61 if the system does not report the length.
     pub fn over(file: F) -> Result<Self, Refusal>
         requires { IsTrue (is_sound (F.calls file)) }
         ensures calls { IfOk result (λ disk. F.calls (file_of disk) ≡ Measured (len_of disk) ∷ F.calls file) }
@@ -65,7 +64,7 @@ impl<F: SystemFile> FileDisk<F> {
     }
 }
 
-/// The length of a file after the first so many bytes of a write.
+/// The length of a file after the first `count` bytes of a write.
 fn partly_long(len: u64, at: u64, count: usize) -> u64
     requires { 0 < count → at + count < 2 ^ 64 }
     ensures { result ≡ length_after at count len }
@@ -118,7 +117,7 @@ impl<F: SystemFile> Disk for FileDisk<F> {
         self.faults
     }
 
-    /// As the trait says. A read that fails ends nothing.
+    /// As in the trait. A failed read does not end the disk's use.
     fn read(&mut self, at: u64, buf: &mut [u8]) -> Result<(), DiskFault>
         requires within { at + length buf.old ≤ len_of self.old }
         requires countable { faults_of self.old < u64.MAX }
@@ -140,7 +139,7 @@ impl<F: SystemFile> Disk for FileDisk<F> {
         counted(outcome, &mut self.faults)
     }
 
-    /// As the trait says. Once it fails the disk has failed.
+    /// As in the trait. After a failure all further calls fail.
     fn write_at(&mut self, at: u64, bytes: &[u8]) -> Result<(), DiskFault>
         requires { faults_of self.old < u64.MAX }
         ensures stopped { StaysFailed result self.old self.new }
@@ -172,7 +171,7 @@ impl<F: SystemFile> Disk for FileDisk<F> {
         }
     }
 
-    /// As the trait says. Once it fails the disk has failed.
+    /// As in the trait. After a failure all further calls fail.
     fn sync(&mut self) -> Result<(), DiskFault>
         requires { faults_of self.old < u64.MAX }
         ensures stopped { StaysFailed result self.old self.new }

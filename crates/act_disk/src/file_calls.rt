@@ -1,4 +1,4 @@
-//! One call of a disk by calls of the system: whole ranges, and again where a signal interrupts.
+//! One disk call as system calls: they cover the whole range and are retried after an interruption by a signal.
 ghost use Rattle.std.specs.Prelude.{◌≡◌, ◌+◌, ◌<◌, ◌≤◌, ◌^◌, ◌∷◌, [], true, false, is_err};
 ghost use Rattle.std.specs.Prelude.{length, take, drop, IsTrue, MatchResult, IfOk, IfErr, OnOk, OnErr};
 ghost use Rattle.act_disk.specs.FileCalls.{MayHaveFailed, Puts, Breaks, Reads};
@@ -8,8 +8,8 @@ ghost use Rattle.act_disk.specs.SystemCalls.{GrowthFailed, Synced, SyncFailed, i
 use crate::fault::DiskFault;
 use crate::system_file::{CallError, SystemFile};
 
-/// More interruptions than a process lives to see.
-const MOST_TRIES: u64 = u64::MAX;
+/// More interruptions than any process can see.
+const MAX_TRIES: u64 = u64::MAX;
 
 /// The length of a file.
 pub(crate) fn measure<F: SystemFile>(file: &mut F) -> Result<u64, DiskFault>
@@ -17,7 +17,7 @@ pub(crate) fn measure<F: SystemFile>(file: &mut F) -> Result<u64, DiskFault>
         (λ len. F.calls file.new ≡ Measured len ∷ F.calls file.old)
         (λ _. F.calls file.new ≡ F.calls file.old) }
 {
-    for _ in 0..MOST_TRIES {
+    for _ in 0..MAX_TRIES {
         match file.len() {
             Ok(len) => return Ok(len),
             Err(CallError::Interrupted) => {}
@@ -27,7 +27,7 @@ pub(crate) fn measure<F: SystemFile>(file: &mut F) -> Result<u64, DiskFault>
     Err(DiskFault)
 }
 
-/// Reads some bytes, one at least.
+/// Reads at least one byte.
 fn read_some<F: SystemFile>(file: &mut F, at: u64, buf: &mut [u8]) -> Result<usize, DiskFault>
     requires { 0 < length buf.old }
     ensures count { IfOk result (λ count. (0 < count) × (count ≤ length buf.old)) }
@@ -35,7 +35,7 @@ fn read_some<F: SystemFile>(file: &mut F, at: u64, buf: &mut [u8]) -> Result<usi
         (λ count. F.calls file.new ≡ Gave at (take count buf.new) ∷ F.calls file.old)
         (λ _. F.calls file.new ≡ F.calls file.old) }
 {
-    for _ in 0..MOST_TRIES {
+    for _ in 0..MAX_TRIES {
         match file.read_at(at, buf) {
             Ok(count) => return Ok(count),
             Err(CallError::Interrupted) => {}
@@ -45,7 +45,7 @@ fn read_some<F: SystemFile>(file: &mut F, at: u64, buf: &mut [u8]) -> Result<usi
     Err(DiskFault)
 }
 
-/// Writes some bytes, one at least where there are any.
+/// Writes at least one byte, unless there are none.
 fn write_some<F: SystemFile>(file: &mut F, at: u64, bytes: &[u8]) -> Result<usize, DiskFault>
     ensures count { IfOk result (λ count. count ≤ length bytes.now) }
     ensures some { 0 < length bytes.now → IfOk result (λ count. 0 < count) }
@@ -53,7 +53,7 @@ fn write_some<F: SystemFile>(file: &mut F, at: u64, bytes: &[u8]) -> Result<usiz
         (λ count. F.calls file.new ≡ Wrote at bytes.now count ∷ F.calls file.old)
         (λ _. MayHaveFailed (WriteFailed at bytes.now) (F.calls file.old) (F.calls file.new)) }
 {
-    for _ in 0..MOST_TRIES {
+    for _ in 0..MAX_TRIES {
         match file.write_at(at, bytes) {
             Ok(count) => return Ok(count),
             Err(CallError::Interrupted) => {}
@@ -63,13 +63,13 @@ fn write_some<F: SystemFile>(file: &mut F, at: u64, bytes: &[u8]) -> Result<usiz
     Err(DiskFault)
 }
 
-/// Makes a file longer, up to that length.
+/// Extends a file to that length.
 fn grow<F: SystemFile>(file: &mut F, len: u64) -> Result<(), DiskFault>
     ensures { MatchResult result
         (λ _. F.calls file.new ≡ Grew len ∷ F.calls file.old)
         (λ _. MayHaveFailed (GrowthFailed len) (F.calls file.old) (F.calls file.new)) }
 {
-    for _ in 0..MOST_TRIES {
+    for _ in 0..MAX_TRIES {
         match file.set_len(len) {
             Ok(()) => return Ok(()),
             Err(CallError::Interrupted) => {}
@@ -84,7 +84,7 @@ fn sync_again<F: SystemFile>(file: &mut F) -> Result<(), DiskFault>
         (λ _. F.calls file.new ≡ Synced ∷ F.calls file.old)
         (λ _. MayHaveFailed SyncFailed (F.calls file.old) (F.calls file.new)) }
 {
-    for _ in 0..MOST_TRIES {
+    for _ in 0..MAX_TRIES {
         match file.sync_data() {
             Ok(()) => return Ok(()),
             Err(CallError::Interrupted) => {}
@@ -126,7 +126,6 @@ pub(crate) fn read_whole<F: SystemFile>(
     fill(file, at, buf)
 }
 
-/// Fills a buffer.
 fn fill<F: SystemFile>(file: &mut F, at: u64, buf: &mut [u8]) -> Result<(), DiskFault>
     requires { at + length buf.old < 2 ^ 64 }
     ensures bytes { OnOk result (IsTrue (is_sound (F.calls file.old)) → IsHonest F.held (F.calls file.new)
@@ -140,8 +139,8 @@ fn fill<F: SystemFile>(file: &mut F, at: u64, buf: &mut [u8]) -> Result<(), Disk
     Ok(())
 }
 
-/// Writes a whole range, unless a call has failed, of a file of that length. A write of no bytes past the
-/// end makes the file longer. At `Err`, how many bytes were written before.
+/// Writes a whole range to a file of that length, unless a call has failed. A write of no bytes past the end extends the file. `Err` holds
+/// how many bytes were written before the failure.
 pub(crate) fn put<F: SystemFile>(
     file: &mut F,
     failed: bool,
@@ -167,7 +166,7 @@ pub(crate) fn put<F: SystemFile>(
     write_whole(file, at, bytes)
 }
 
-/// Writes a whole range. At `Err`, how many bytes were written before.
+/// Writes a whole range. `Err` holds how many bytes were written before the failure.
 fn write_whole<F: SystemFile>(file: &mut F, at: u64, bytes: &[u8]) -> Result<(), usize>
     requires { at + length bytes.now < 2 ^ 64 }
     ensures ok { OnOk result (Puts F.left F.held at bytes.now (length bytes.now) (F.calls file.old) (F.calls file.new)) }

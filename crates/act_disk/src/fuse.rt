@@ -9,11 +9,11 @@ use crate::fault::DiskFault;
 use crate::tally::CallTally;
 use std::marker::Model;
 
-/// A disk that fails a call, or all calls from one on: of its reads, writes and syncs, counted from 0.
-/// The other calls are those of the disk inside.
+/// A disk that fails one call, or all calls from one on. Its reads, writes and syncs are counted from 0. The other calls go to the inner
+/// disk.
 ///
-/// A write that it fails is done inside all the same, since a write that failed may have done anything
-/// in its range. A read or a sync that it fails is not made inside.
+/// A write that the fuse fails is still made on the inner disk, since a failed write may have done anything in its range. A read or a sync
+/// that the fuse fails is not made there.
 #[derive(Drop)]
 pub struct FuseDisk<D: Disk> {
     disk: D,
@@ -41,7 +41,7 @@ impl<D: Disk> FuseDisk<D> {
         FuseDisk::new(disk, Failing::Once(call))
     }
 
-    /// Fails the call with this number, and all after it.
+    /// Fails the call with this number and all after it.
     pub fn from(disk: D, call: u64) -> Self
         ensures { result ≡ record { disk = disk; failing = From call; refused = 0; made = 0 } }
     {
@@ -60,7 +60,7 @@ impl<D: Disk> FuseDisk<D> {
         }
     }
 
-    /// The disk inside.
+    /// The inner disk.
     pub fn into_inner(self) -> D
         ensures { result ≡ self.disk }
     {
@@ -111,7 +111,7 @@ impl<D: Disk> Disk for FuseDisk<D> {
         self.disk.faults() + self.refused
     }
 
-    /// As the trait says, through the fuse. Where the fuse fails it, the disk inside is as it was.
+    /// As in the trait, through the fuse. A call that the fuse fails leaves the inner disk unchanged.
     fn read(&mut self, at: u64, buf: &mut [u8]) -> Result<(), DiskFault>
         requires within { at + length buf.old ≤ D.size self.old.disk }
         requires countable { D.fault_count self.old.disk + self.old.refused < u64.MAX }
@@ -135,7 +135,7 @@ impl<D: Disk> Disk for FuseDisk<D> {
         self.disk.read(at, buf)
     }
 
-    /// As the trait says, through the fuse. Where the fuse fails it, any bytes may stand in its range.
+    /// As in the trait, through the fuse. A call that the fuse fails may leave any bytes in its range.
     fn write_at(&mut self, at: u64, bytes: &[u8]) -> Result<(), DiskFault>
         requires { D.fault_count self.old.disk + self.old.refused < u64.MAX }
         ensures fuse { Passes result self.old self.new }
@@ -164,7 +164,7 @@ impl<D: Disk> Disk for FuseDisk<D> {
         Ok(())
     }
 
-    /// As the trait says, through the fuse. Where the fuse fails it, the disk inside is as it was.
+    /// As in the trait, through the fuse. A call that the fuse fails leaves the inner disk unchanged.
     fn sync(&mut self) -> Result<(), DiskFault>
         requires { D.fault_count self.old.disk + self.old.refused < u64.MAX }
         ensures fuse { Passes result self.old self.new }

@@ -1,4 +1,4 @@
-//! The system's own files. Each method makes one call of the system, and notes it with its answer.
+//! Files of the operating system. Each method makes one system call and records it with its answer.
 ghost use Rattle.std.specs.Prelude.{◌≡◌, ◌<◌, [], Ok, IfOk, is_ok};
 
 use crate::call_log::CallLog;
@@ -10,8 +10,7 @@ use std::io::ErrorKind;
 use std::marker::PhantomData;
 use std::os::unix::fs::FileExt;
 
-/// An open file of the system, which held what `S` says. That the system answers as a file does is a
-/// premise.
+/// An open system file, which held what `S` says. That the system answers as a file does is an assumption.
 #[derive(Drop)]
 pub struct HostFile<S: Start> {
     file: File,
@@ -22,7 +21,7 @@ pub struct HostFile<S: Start> {
 impl<S: Start> HostFile<S> {
     ghost use Rattle.act_disk.specs.HostFile.{calls_of};
 
-    /// A file that was just opened, of which this process asked nothing yet.
+    /// A newly opened file, on which this process has made no call.
     pub fn new(file: File) -> Self
         ensures { calls_of result ≡ [] }
     {
@@ -38,7 +37,7 @@ fn length_of(file: &File) -> io::Result<u64> {
     Ok(file.metadata()?.len())
 }
 
-/// An answer of the system, in which an interruption is told apart.
+/// An answer of the system, with interruptions kept apart from failures.
 fn answered<T: Drop>(answer: io::Result<T>) -> Result<T, CallError>
     ensures ok { IfOk result (λ x. answer ≡ Ok x) }
     ensures same { is_ok result ≡ is_ok answer }
@@ -50,7 +49,7 @@ fn answered<T: Drop>(answer: io::Result<T>) -> Result<T, CallError>
     }
 }
 
-/// An answer that counts bytes, of so many that were asked for. None where some were is a failure.
+/// An answer that counts bytes, of `asked` requested ones. A count of 0 for a request above 0 is a failure.
 fn counted(answer: io::Result<usize>, asked: usize) -> Result<usize, CallError>
     ensures ok { IfOk result (λ count. answer ≡ Ok count) }
     ensures some { 0 < asked → IfOk result (λ count. 0 < count) }

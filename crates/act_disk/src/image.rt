@@ -13,9 +13,8 @@ use wf_value::Refusal;
 const GATE: u8 = 0xA5;
 
 impl MemoryDisk {
-    /// The disk that a stop inside a call of the record leaves, which counts from 0: of the writes
-    /// since the last sync before it, and of the call's own where it is a write, it has what the fill
-    /// says. 50 where memory is refused.
+    /// The disk that a crash inside a recorded call leaves. Calls are counted from 0. The writes since the last sync before that call, and
+    /// the call itself if it is a write, are kept as the fill says. Out of memory is refusal 50.
     pub fn image(&self, alloc: Global, call: u64, fill: Fill) -> Result<MemoryDisk, Refusal>
         requires { call < length self.now.calls }
         ensures image { Gives (λ d. d) result (Ok (image_of self.now call fill)) }
@@ -28,7 +27,7 @@ impl MemoryDisk {
     }
 }
 
-/// The calls before this one, and itself where it is a write.
+/// The calls before this one, and the call itself if it is a write.
 fn begun_calls(calls: &[Call], call: usize) -> &[Call]
     requires { call < length calls.now }
     ensures { result.now ≡ begun calls.now call }
@@ -39,7 +38,7 @@ fn begun_calls(calls: &[Call], call: usize) -> &[Call]
     }
 }
 
-/// What the last sync made stable, and of the writes since what the fill says.
+/// What the last sync made durable, then each later write as the fill says.
 fn filled_bytes(
     alloc: Global,
     first: &[u8],
@@ -55,7 +54,7 @@ fn filled_bytes(
     Ok(bytes)
 }
 
-/// How many calls the last sync made stable, itself among them.
+/// How many calls the last sync made durable, including itself.
 fn stable_count(calls: &[Call]) -> usize
     ensures bound { result ≤ length calls.now }
     ensures since { (fill : Fills) (first : List ℕ) → filled_after fill first (reverse calls.now)
@@ -71,7 +70,7 @@ fn stable_count(calls: &[Call]) -> usize
     count
 }
 
-/// Lays of each write what the fill says.
+/// Applies each write as the fill says.
 fn lay_calls(
     alloc: Global,
     file: &mut Vec<u8>,
@@ -88,7 +87,7 @@ fn lay_calls(
     Ok(())
 }
 
-/// Lays of one write what the fill says.
+/// Applies one write as the fill says.
 fn lay_filled(
     alloc: Global,
     file: &mut Vec<u8>,

@@ -1,4 +1,4 @@
-//! Disks: what a read gives, and what a stop of the machine at any moment may leave.
+//! Disks: what a read returns, and what a crash of the machine at any moment may leave.
 #![tactic(auto)]
 
 mod call;

@@ -14,9 +14,8 @@ use std::alloc::{AllocError, Global};
 use std::marker::Model;
 use wf_value::{Refusal, Sequence};
 
-/// A disk in memory, which keeps a record of its calls: of the writes and syncs that it did. A read is
-/// not in the record, and neither is a call that failed. A call fails where memory is refused to it,
-/// for the bytes or for the record.
+/// An in-memory disk, which records its completed writes and syncs. The record contains no reads and no failed calls. A call fails when it
+/// is out of memory for the bytes or for the record.
 #[derive(Drop)]
 pub struct MemoryDisk {
     alloc: Global,
@@ -46,7 +45,7 @@ impl MemoryDisk {
         MemoryDisk::over(alloc, Vec::new(alloc), Vec::new(alloc))
     }
 
-    /// A disk with these bytes, all of them stable. 50 where memory is refused.
+    /// A disk with these bytes, all of them durable. Out of memory is refusal 50.
     pub fn from_slice(alloc: Global, bytes: &[u8]) -> Result<Self, Refusal>
         ensures { Gives (λ d. d) result (Ok (fresh bytes.now)) }
     {
@@ -75,14 +74,14 @@ impl MemoryDisk {
         self.first.as_slice()
     }
 
-    /// What a read of all of it gives.
+    /// What a read of the whole disk returns.
     pub fn bytes(&self) -> &[u8]
         ensures { result.now ≡ bytes_of self.now }
     {
         self.bytes.as_slice()
     }
 
-    /// The writes and syncs that it did, the first of them first.
+    /// The completed writes and syncs, oldest first.
     pub fn calls(&self) -> &[Call]
         ensures { result.now ≡ self.now.calls }
     {
@@ -90,7 +89,7 @@ impl MemoryDisk {
     }
 }
 
-/// Fills a file up with zeros to a length, where it is shorter.
+/// Extends a file with zeros to a length, if it is shorter.
 fn grow(file: &mut Vec<u8>, len: usize) -> Result<(), AllocError>
     ensures ok { OnOk result (file.new.items ≡ file.old.items ++ replicate (len - length file.old.items) 0) }
     ensures err { OnErr result (file.new.items ≡ file.old.items) }
@@ -101,7 +100,7 @@ fn grow(file: &mut Vec<u8>, len: usize) -> Result<(), AllocError>
     file.resize(len, 0)
 }
 
-/// Lays bytes over what is there.
+/// Overwrites a range with bytes.
 fn overwrite(file: &mut [u8], at: usize, bytes: &[u8])
     requires { at + length bytes.now ≤ length file.old }
     ensures { file.new ≡ take at file.old ++ bytes.now ++ drop (at + length bytes.now) file.old }
@@ -109,7 +108,7 @@ fn overwrite(file: &mut [u8], at: usize, bytes: &[u8])
     file[at..at + bytes.len()].copy_from_slice(bytes);
 }
 
-/// Lays bytes over what is there, and past the end, with zeros up to `at`.
+/// Writes bytes at `at`, past the end if needed. A shorter file gets zeros up to `at`.
 pub(crate) fn lay(file: &mut Vec<u8>, at: u64, bytes: &[u8]) -> Result<(), AllocError>
     ensures ok { OnOk result (file.new.items ≡ laid at bytes.now file.old.items) }
     ensures err { OnErr result (file.new.items ≡ file.old.items) }
@@ -123,7 +122,7 @@ pub(crate) fn lay(file: &mut Vec<u8>, at: u64, bytes: &[u8]) -> Result<(), Alloc
     Ok(())
 }
 
-/// Writes, and notes it in the record. Where memory is refused nothing has changed.
+/// Writes and records the call. Running out of memory changes nothing.
 fn write_noted(
     alloc: Global,
     file: &mut Vec<u8>,
@@ -145,7 +144,6 @@ fn write_noted(
     outcome
 }
 
-/// Notes a call in the record.
 fn note(calls: &mut Vec<Call>, call: Call) -> Result<(), AllocError>
     ensures ok { OnOk result (calls.new.items ≡ calls.old.items ++ call ∷ []) }
     ensures err { OnErr result (calls.new.items ≡ calls.old.items) }
@@ -191,7 +189,7 @@ impl Disk for MemoryDisk {
         self.faults
     }
 
-    /// As the trait says. It never fails, and is not in the record.
+    /// As in the trait. It never fails and is not recorded.
     fn read(&mut self, at: u64, buf: &mut [u8]) -> Result<(), DiskFault>
         requires within { at + length buf.old ≤ length (bytes_of self.old) }
         requires countable { self.old.faults < u64.MAX }
@@ -213,7 +211,7 @@ impl Disk for MemoryDisk {
         Ok(())
     }
 
-    /// As the trait says. It is done and noted, or fails where memory is refused.
+    /// As in the trait. It is completed and recorded, or fails when out of memory.
     fn write_at(&mut self, at: u64, bytes: &[u8]) -> Result<(), DiskFault>
         requires { self.old.faults < u64.MAX }
         ensures noted { Notes result (Write at bytes.now) self.old self.new }
@@ -234,7 +232,7 @@ impl Disk for MemoryDisk {
         counted(outcome, &mut self.faults)
     }
 
-    /// As the trait says. It is noted, or fails where memory is refused.
+    /// As in the trait. It is recorded, or fails when out of memory.
     fn sync(&mut self) -> Result<(), DiskFault>
         requires { self.old.faults < u64.MAX }
         ensures noted { Notes result Synced self.old self.new }

@@ -1,4 +1,4 @@
-//! Opening a disk over a file of the system.
+//! Opening a disk over a system file.
 ghost use Rattle.std.specs.Prelude.{◌≡◌, [], ◌∷◌, false, IfOk, IfErr};
 ghost use Rattle.act_disk.specs.Failed.{stream_failed};
 ghost use Rattle.act_disk.specs.FileDisk.{file_of, len_of, faults_of, failed_of};
@@ -15,7 +15,7 @@ use std::path::Path;
 use wf_value::{Code, Refusal};
 
 impl<S: Start> FileDisk<HostFile<S>> {
-    /// Opens a file that is there, to be read and written. 61 where it can't be opened.
+    /// Opens an existing file for reading and writing. It is refused with 61 if it cannot be opened.
     pub fn open<R: Files<File = File>>(rt: &R, path: &str) -> Result<Self, Refusal>
         ensures calls { IfOk result (λ disk. calls_of (file_of disk) ≡ Measured (len_of disk) ∷ []) }
         ensures faults { IfOk result (λ disk. faults_of disk ≡ 0) }
@@ -26,8 +26,8 @@ impl<S: Start> FileDisk<HostFile<S>> {
         FileDisk::opened(opened)
     }
 
-    /// Opens a file, and makes an empty one first where there is none. Its folder is synced, so that
-    /// the file stays under its name. 61 where it can't be opened, or its folder can't be synced.
+    /// Opens a file, and creates an empty one if there is none. The folder is synced so that the file keeps its name after a crash. It is
+    /// refused with 61 if the file cannot be opened or the folder cannot be synced.
     pub fn create<R: Files<File = File>>(rt: &R, path: &str) -> Result<Self, Refusal>
         ensures calls { IfOk result (λ disk. calls_of (file_of disk) ≡ Measured (len_of disk) ∷ []) }
         ensures faults { IfOk result (λ disk. faults_of disk ≡ 0) }
@@ -60,13 +60,13 @@ impl<S: Start> FileDisk<HostFile<S>> {
     }
 }
 
-/// Asks the kernel to drop its clean pages of a file. After a failed sync these may be other than what
-/// the device has, and a read would give them. It is advice, and whether it was taken is not asked.
+/// Asks the kernel to drop its clean pages of a file. After a failed sync these may differ from the device, and a read would return them.
+/// The call is advice, and its result is ignored.
 fn drop_clean_pages(file: &File) {
     let _ = libc::posix_fadvise(file.as_raw_fd(), 0, 0, libc::POSIX_FADV_DONTNEED);
 }
 
-/// Makes the names in a file's folder stable.
+/// Makes the names in a file's folder durable.
 fn sync_folder<R: Files<File = File>>(rt: &R, path: &str) -> io::Result<()> {
     let folder = match Path::new(path).parent() {
         Some(folder) if !folder.as_str().is_empty() => folder,

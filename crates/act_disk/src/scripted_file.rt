@@ -8,20 +8,20 @@ use crate::system_file::{CallError, SystemFile};
 use std::alloc::Global;
 use std::marker::Model;
 
-/// How a call of a scripted file goes.
+/// How a call on a scripted file goes.
 #[derive(Clone, Copy)]
 pub enum Turn {
     Whole,
-    /// So many bytes at most, and one at least. A call that moves none is whole.
+    /// At most this many bytes, and at least one. A call that moves no bytes completes.
     Short(usize),
     Interrupted,
-    /// A write that fails has written the first half of its bytes.
+    /// A failed write has written the first half of its bytes.
     Failed,
 }
 
-/// A file in memory, empty at first, whose calls go as a script says, and are whole behind its end.
+/// An in-memory file, initially empty, whose calls follow a script. Calls after the end of the script complete.
 ///
-/// It is honest without a premise. A growth that is refused memory fails.
+/// It is honest without an assumption. An extension fails when out of memory.
 #[derive(Drop)]
 pub struct ScriptedFile {
     bytes: Vec<u8>,
@@ -54,7 +54,7 @@ impl ScriptedFile {
         }
     }
 
-    /// Its bytes; the contents, until a call that writes or syncs has failed. The calls are honest.
+    /// Its bytes. They are the contents until a write, an extension or a sync fails. The calls are honest.
     pub fn bytes(&self) -> &[u8]
         ensures honest { IsHonest [] self.now }
         ensures contents { IsTrue (is_sound self.now) → result.now ≡ contents [] self.now }
@@ -62,13 +62,13 @@ impl ScriptedFile {
         self.bytes.as_slice()
     }
 
-    /// How many turns of the script were taken.
+    /// How many steps of the script were taken.
     pub fn turns(&self) -> usize {
         self.done
     }
 }
 
-/// Takes the next turn of a script.
+/// Takes the next step of a script.
 fn next_turn(script: &[Turn], done: &mut usize) -> Turn {
     match script.get(*done) {
         Some(turn) => {
@@ -79,7 +79,7 @@ fn next_turn(script: &[Turn], done: &mut usize) -> Turn {
     }
 }
 
-/// How many of these bytes a turn moves.
+/// How many of these bytes a step moves.
 fn moved(turn: Turn, count: usize) -> Result<usize, CallError>
     ensures within { IfOk result (λ moved. moved ≤ count) }
     ensures some { 0 < count → IfOk result (λ moved. 0 < moved) }
@@ -92,7 +92,7 @@ fn moved(turn: Turn, count: usize) -> Result<usize, CallError>
     }
 }
 
-/// Whether a call that moves no bytes is done.
+/// Whether a call that moves no bytes completes.
 fn is_done(turn: Turn) -> Result<(), CallError> {
     match turn {
         Turn::Whole | Turn::Short(_) => Ok(()),
@@ -101,7 +101,7 @@ fn is_done(turn: Turn) -> Result<(), CallError> {
     }
 }
 
-/// Copies bytes of a file from `at` on, as many as a turn moves and are there. It fails at the file's end.
+/// Copies bytes of a file from `at` on, as many as the step moves and the file has. It fails at the end of the file.
 fn give(file: &[u8], turn: Turn, at: u64, buf: &mut [u8]) -> Result<usize, CallError>
     requires { 0 < length buf.old }
     ensures count { IfOk result (λ count. (0 < count) × (count ≤ length buf.old)) }
@@ -117,7 +117,7 @@ fn give(file: &[u8], turn: Turn, at: u64, buf: &mut [u8]) -> Result<usize, CallE
     Ok(count)
 }
 
-/// Lays bytes into a file, as many as a turn moves.
+/// Writes bytes into a file, as many as the step moves.
 fn take_in(file: &mut Vec<u8>, turn: Turn, at: u64, bytes: &[u8]) -> Result<usize, CallError>
     ensures count { IfOk result (λ count. count ≤ length bytes.now) }
     ensures some { 0 < length bytes.now → IfOk result (λ count. 0 < count) }
@@ -187,7 +187,7 @@ impl SystemFile for ScriptedFile {
     }
 }
 
-/// Makes a file longer, with zeros, where a turn is done.
+/// Extends a file with zeros, if the step completes.
 fn extend(file: &mut Vec<u8>, turn: Turn, len: u64) -> Result<(), CallError>
     ensures ok { OnOk result (file.new.items ≡ laid len [] file.old.items) }
     ensures same { IfErr result (λ e. e ≡ CallError.Interrupted → file.new.items ≡ file.old.items) }

@@ -1,9 +1,8 @@
 ghost use Rattle.std.specs.Prelude.{◌≡◌, ℕ, List, [], refl};
 
-/// What is supposed of a file as it is opened: what it holds, and the images that a stop might leave then.
+/// What is assumed of a file as it is opened: its bytes, and the images that a crash might leave then.
 ///
-/// Clauses alone know of it. What is proved of a function over every `S: Start` holds of a file, whatever
-/// it held.
+/// These are ghost data. What is proved of a function for every `S: Start` holds whatever the file held.
 pub trait Start: Drop {
     ghost held: { List ℕ };
 
@@ -12,7 +11,7 @@ pub trait Start: Drop {
     ghost held_is_left: { left held };
 }
 
-/// A file that is empty as it is opened, and that a stop leaves empty.
+/// A file that is empty as it is opened, and that a crash leaves empty.
 #[derive(Drop)]
 pub struct Empty;
 

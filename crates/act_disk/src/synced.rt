@@ -6,9 +6,8 @@ use crate::fault::DiskFault;
 
 /// Writes and syncs.
 ///
-/// From whatever images a disk has, a stop at any moment of the call leaves what a write of this range
-/// makes of one of them, and outside of the range what stood there. After `Ok` it leaves what a read
-/// gives, in which the bytes stand.
+/// A crash at any moment of the call leaves one of the disk's earlier images with a write of this range applied: any bytes in the range,
+/// the old bytes outside. After `Ok` it leaves what a read returns, which includes the bytes.
 pub fn write_synced<D: Disk>(disk: &mut D, at: u64, bytes: &[u8]) -> Result<(), DiskFault>
     requires { D.fault_count disk.old < u64.MAX }
     ensures any_moment { D.honest disk.old

@@ -1,4 +1,4 @@
-/// A call that the system did on a file, with its answer.
+/// A system call on a file, with its answer.
 #[derive(Clone, Copy)]
 pub(crate) enum SystemCall<'a> {
     Measured(u64),

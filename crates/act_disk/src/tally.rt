@@ -3,8 +3,7 @@ ghost use Rattle.std.specs.Prelude.{◌≡◌, ℕ, ◌+◌, length};
 use crate::call_log::CallLog;
 use std::marker::Model;
 
-/// A number of calls, of which clauses alone know: as many as a log has entries, whatever these are. It
-/// takes no memory.
+/// A number of calls, as ghost data: the number of entries of a log, whatever they are. It takes no memory.
 #[derive(Drop)]
 pub(crate) struct CallTally {
     log: CallLog,
@@ -17,7 +16,7 @@ impl Model for CallTally {
 }
 
 impl CallTally {
-    /// No call was made yet.
+    /// Zero calls.
     pub(crate) fn new() -> Self
         ensures { result ≡ 0 }
     {
@@ -26,7 +25,7 @@ impl CallTally {
         }
     }
 
-    /// One call more.
+    /// Counts a call.
     pub(crate) fn count(&mut self)
         ensures { self.new ≡ self.old + 1 }
     {

@@ -5,11 +5,10 @@ use crate::disk::Disk;
 use crate::fault::DiskFault;
 
 /// How many zeros one write has.
-const MOST_ZEROS: usize = 4096;
+const MAX_ZEROS: usize = 4096;
 
-/// Makes a disk that long with zeros past its old end, where it was shorter. They are written, so that a
-/// file has its blocks from then on; nothing is synced. At each moment, and after a fault, a stop leaves
-/// below the old end what it might have left before.
+/// Extends a shorter disk to this length with zeros. They are written, so that a file has its blocks allocated, and nothing is synced. A
+/// crash at any moment, also after a fault, leaves below the old end what it might have left before.
 pub fn grow_to<D: Disk>(disk: &mut D, len: u64) -> Result<(), DiskFault>
     requires { D.fault_count disk.old < u64.MAX }
     ensures any_moment { D.honest disk.old → EachSince D.moment D.images_since disk.old disk.new
@@ -20,10 +19,10 @@ pub fn grow_to<D: Disk>(disk: &mut D, len: u64) -> Result<(), DiskFault>
     ensures faults { CountsFault result (D.fault_count disk.old) (D.fault_count disk.new) }
     ensures honest { D.honest disk.new ↔ D.honest disk.old }
 {
-    let zeros = [0; MOST_ZEROS];
+    let zeros = [0; MAX_ZEROS];
     while disk.len() < len {
         let at = disk.len();
-        let count = (len - at).min(MOST_ZEROS as u64);
+        let count = (len - at).min(MAX_ZEROS as u64);
         disk.write_at(at, &zeros[..count as usize])?;
     }
     Ok(())

@@ -1,4 +1,4 @@
--- What follows, of how a session ended, for whoever knows the reader's bytes alone.
+-- What the end of a session implies for an observer who knows only the bytes of the reader.
 use Rattle.std.proofs.Common.{◌≡◌, ◌≢◌, ℕ, List, ◌++◌, [], refl, sym, subst, inl, inr, append-nil, arith}
 use Rattle.std.specs.Prelude.{Option, Some, None}
 use Rattle.std.specs.Io.KnownBytes.{Consumes}
@@ -6,23 +6,22 @@ use Rattle.act_sessions.specs.declared.transcript.Ending.{Ending}
 use Rattle.act_sessions.specs.declared.transcript.Ending.TheVariants.{Done, Memory, Broken}
 use Rattle.act_sessions.specs.declared.transcript.Part.{Part}
 use Rattle.act_sessions.specs.declared.transcript.Part.TheVariants.{Waits, Over}
-use Rattle.act_sessions.specs.declared.transcript.SessionFault.{SessionFault}
 use Rattle.act_sessions.specs.declared.transcript.Transcript.{Transcript}
-use Rattle.act_sessions.specs.Ends.{Ends, EndsOver, EndsOverSome, HasEnded}
-use Rattle.act_sessions.specs.Rules.{Rules, Turn, texts, told_of}
+use Rattle.act_sessions.specs.Ends.{Ends, EndsOver, EndsOverSome, HasEnded, HasFailed, HasFinished}
+use Rattle.act_sessions.specs.Rules.{Rules, Turn, texts, exchanges_of}
 use Rattle.act_sessions.specs.Session.{Moment, moment, Place, start, first, Did, HasStopped, IsDone, IsCut, IsPart, IsWhole}
-use Rattle.act_sessions.specs.Told.{AreAsked, OnlyLastOpen, Told, told_by}
+use Rattle.act_sessions.specs.Exchange.{AreAsked, OnlyLastOpen, Exchange, exchanges_by}
 use Rattle.act_sessions.proofs.Shut.{only_open, only_over}
 
--- what a reader still holds, of the bytes that it held
+-- the bytes that a reader still holds
 unread_of : (bytes read : List ℕ) (new : Option (List ℕ)) → Consumes (Some bytes) new read → (unread : List ℕ) × (new ≡ Some unread) × (bytes ≡ read ++ unread)
 unread_of bytes read None c = absurd c
 unread_of bytes read (Some unread) c = (unread, refl, c)
 
-ends_over : {F : Type 0} (p : Rules F) (bytes : List ℕ) (new output written : Option (List ℕ)) (asked told : List Told) (t : Transcript)
-    (turns : List (Turn F)) (rest out : List ℕ) → (did : Did p first (Some bytes) new (start output asked) (moment written told t) turns rest out)
+ends_over : {F : Type 0} (p : Rules F) (bytes : List ℕ) (new output written : Option (List ℕ)) (asked exchanges : List Exchange) (t : Transcript)
+    (turns : List (Turn F)) (rest out : List ℕ) → (did : Did p first (Some bytes) new (start output asked) (moment written exchanges t) turns rest out)
     → ((unread : List ℕ) → new ≡ Some unread → HasEnded p t.ending turns rest unread out) → EndsOver p bytes t
-ends_over p bytes new output written asked told t turns rest out did ended =
+ends_over p bytes new output written asked exchanges t turns rest out did ended =
     let unread = unread_of bytes did.read new did.consumed in (
       did.read,
       unread.0,
@@ -36,13 +35,13 @@ ends_over p bytes new output written asked told t turns rest out did ended =
       ended unread.0 unread.1,
     )
 
-pub ends_done : {F : Type 0} (p : Rules F) (old new output written : Option (List ℕ)) (asked told : List Told) (t : Transcript)
-    → IsDone p old new (start output asked) (moment written told t) → t.ending ≡ Done → Ends p old t
-ends_done {F} p old new output written asked told t (turns, rest, out, did, whole) done bytes is =
-    let did_of : Option (List ℕ) → Type 0 = λ i. Did p first i new (start output asked) (moment written told t) turns rest out in
+pub ends_done : {F : Type 0} (p : Rules F) (old new output written : Option (List ℕ)) (asked exchanges : List Exchange) (t : Transcript)
+    → IsDone p old new (start output asked) (moment written exchanges t) → t.ending ≡ Done → Ends p old t
+ends_done {F} p old new output written asked exchanges t (turns, rest, out, did, whole) done bytes is =
+    let did_of : Option (List ℕ) → Type 0 = λ i. Did p first i new (start output asked) (moment written exchanges t) turns rest out in
     let ended_of : Ending → List ℕ → Type 0 = λ how unread. HasEnded p how turns rest unread out in
     let whole_of : Option (List ℕ) → Type 0 = λ i. IsWhole p turns rest i out in
-    ends_over p bytes new output written asked told t turns rest out (subst did_of is did)
+    ends_over p bytes new output written asked exchanges t turns rest out (subst did_of is did)
     (λ unread same. subst (λ how. ended_of how unread) (sym done) (subst whole_of same whole))
 
 cut_ended : {F : Type 0} (p : Rules F) (how : Ending) (turns : List (Turn F)) (rest unread out : List ℕ) → HasStopped p 0 how turns rest out
@@ -51,83 +50,90 @@ cut_ended p Done turns rest unread out h = absurd h
 cut_ended p Memory turns rest unread out h = h
 cut_ended p Broken turns rest unread out h = h
 
-pub ends_cut : {F : Type 0} (p : Rules F) (old new output written : Option (List ℕ)) (asked told : List Told) (t : Transcript)
-    → IsCut p t.ending old new (start output asked) (moment written told t) → Ends p old t
-ends_cut {F} p old new output written asked told t (turns, rest, out, did, cut) bytes is =
-    let did_of : Option (List ℕ) → Type 0 = λ i. Did p first i new (start output asked) (moment written told t) turns rest out in
-    ends_over p bytes new output written asked told t turns rest out (subst did_of is did) (λ unread same. cut_ended p t.ending turns rest unread out cut)
+pub ends_cut : {F : Type 0} (p : Rules F) (old new output written : Option (List ℕ)) (asked exchanges : List Exchange) (t : Transcript)
+    → IsCut p t.ending old new (start output asked) (moment written exchanges t) → Ends p old t
+ends_cut {F} p old new output written asked exchanges t (turns, rest, out, did, cut) bytes is =
+    let did_of : Option (List ℕ) → Type 0 = λ i. Did p first i new (start output asked) (moment written exchanges t) turns rest out in
+    ends_over p bytes new output written asked exchanges t turns rest out (subst did_of is did) (λ unread same. cut_ended p t.ending turns rest unread out cut)
 
 not_done : {F : Type 0} (p : Rules F) (how : Ending) (turns : List (Turn F)) (rest out : List ℕ) → HasStopped p 0 how turns rest out → how ≢ Done
 not_done p Done turns rest out h e = h
 not_done p Memory turns rest out h e = cc
 not_done p Broken turns rest out h e = cc
 
-pub cut_not_done : {F : Type 0} (p : Rules F) (how : Ending) (old new output written : Option (List ℕ)) (asked told : List Told) (t : Transcript)
-    → IsCut p how old new (start output asked) (moment written told t) → how ≢ Done
-cut_not_done p how old new output written asked told t (turns, rest, out, did, cut) = not_done p how turns rest out cut
+pub cut_not_done : {F : Type 0} (p : Rules F) (how : Ending) (old new output written : Option (List ℕ)) (asked exchanges : List Exchange) (t : Transcript)
+    → IsCut p how old new (start output asked) (moment written exchanges t) → how ≢ Done
+cut_not_done p how old new output written asked exchanges t (turns, rest, out, did, cut) = not_done p how turns rest out cut
 
-pub asked_done : {F : Type 0} (p : Rules F) (old new output written : Option (List ℕ)) (asked told : List Told) (t : Transcript)
-    → IsDone p old new (start output asked) (moment written told t) → AreAsked asked told (told_by t)
-asked_done p old new output written asked told t (turns, rest, out, did, whole) = subst (AreAsked asked told) (sym did.listed_all) did.asked_all
+pub asked_done : {F : Type 0} (p : Rules F) (old new output written : Option (List ℕ)) (asked exchanges : List Exchange) (t : Transcript)
+    → IsDone p old new (start output asked) (moment written exchanges t) → AreAsked asked exchanges (exchanges_by t)
+asked_done p old new output written asked exchanges t (turns, rest, out, did, whole) = subst (AreAsked asked exchanges) (sym did.listed_all) did.asked_all
 
-pub asked_cut : {F : Type 0} (p : Rules F) (how : Ending) (old new output written : Option (List ℕ)) (asked told : List Told) (t : Transcript)
-    → IsCut p how old new (start output asked) (moment written told t) → AreAsked asked told (told_by t)
-asked_cut p how old new output written asked told t (turns, rest, out, did, cut) = subst (AreAsked asked told) (sym did.listed_all) did.asked_all
+pub asked_cut : {F : Type 0} (p : Rules F) (how : Ending) (old new output written : Option (List ℕ)) (asked exchanges : List Exchange) (t : Transcript)
+    → IsCut p how old new (start output asked) (moment written exchanges t) → AreAsked asked exchanges (exchanges_by t)
+asked_cut p how old new output written asked exchanges t (turns, rest, out, did, cut) = subst (AreAsked asked exchanges) (sym did.listed_all) did.asked_all
 
--- what a caller sees of a session that was answered Ok
-pub seen_done : {F : Type 0} (p : Rules F) (i i2 output written : Option (List ℕ)) (asked told : List Told) (t : Transcript)
-    → IsDone p i i2 (start output asked) (moment written told t) → t.ending ≡ Done → (t.ending ≡ Done) × Ends p i t × AreAsked asked told (told_by t)
-seen_done p i i2 output written asked told t done ending =
-    (ending, ends_done p i i2 output written asked told t done ending, asked_done p i i2 output written asked told t done)
+-- ---- for an observer who does not know the input: the bytes that were read are such an input
 
--- and of one that ended with a fault
-pub seen_cut : {F : Type 0} (p : Rules F) (i i2 output written : Option (List ℕ)) (asked told : List Told) (f : SessionFault)
-    → IsCut p f.transcript.ending i i2 (start output asked) (moment written told f.transcript)
-    → (f.transcript.ending ≢ Done) × Ends p i f.transcript × AreAsked asked told (told_by f.transcript)
-seen_cut p i i2 output written asked told f cut = (
-  cut_not_done p f.transcript.ending i i2 output written asked told f.transcript cut,
-  ends_cut p i i2 output written asked told f.transcript cut,
-  asked_cut p f.transcript.ending i i2 output written asked told f.transcript cut,
-)
-
--- ---- for whoever knows nothing of the bytes: those that were read are such bytes
-
-over_read : {F : Type 0} (p : Rules F) (i i2 output written : Option (List ℕ)) (asked told : List Told) (t : Transcript) (turns : List (Turn F))
-    (rest out : List ℕ) → Did p first i i2 (start output asked) (moment written told t) turns rest out → HasEnded p t.ending turns rest [] out → EndsOverSome p t
-over_read p i i2 output written asked told t turns rest out did ended =
+over_read : {F : Type 0} (p : Rules F) (i i2 output written : Option (List ℕ)) (asked exchanges : List Exchange) (t : Transcript) (turns : List (Turn F))
+    (rest out : List ℕ) → Did p first i i2 (start output asked) (moment written exchanges t) turns rest out → HasEnded p t.ending turns rest [] out → EndsOverSome p t
+over_read p i i2 output written asked exchanges t turns rest out did ended =
     (did.read, (did.read, [], turns, rest, out, sym (append-nil did.read), did.reads, did.listed_all, let w = did.wrote_all.1 in omega arith, ended))
 
 whole_read : {F : Type 0} (p : Rules F) (turns : List (Turn F)) (rest out : List ℕ) (input : Option (List ℕ)) → IsWhole p turns rest input out
     → IsWhole p turns rest (Some []) out
 whole_read p turns rest out input (inl ended) = inl ended
 whole_read p turns rest out input (inr (inl (unended, waits, end, e))) = inr (inl (unended, waits, refl, e))
-whole_read p turns rest out input (inr (inr starved)) = inr (inr starved)
+whole_read p turns rest out input (inr (inr out_of_memory_response)) = inr (inr out_of_memory_response)
 
-pub heard_done : {F : Type 0} (p : Rules F) (i i2 output written : Option (List ℕ)) (asked told : List Told) (t : Transcript)
-    → IsDone p i i2 (start output asked) (moment written told t) → t.ending ≡ Done → EndsOverSome p t
-heard_done {F} p i i2 output written asked told t (turns, rest, out, did, whole) done =
+pub heard_done : {F : Type 0} (p : Rules F) (i i2 output written : Option (List ℕ)) (asked exchanges : List Exchange) (t : Transcript)
+    → IsDone p i i2 (start output asked) (moment written exchanges t) → t.ending ≡ Done → EndsOverSome p t
+heard_done {F} p i i2 output written asked exchanges t (turns, rest, out, did, whole) done =
     let ended_of : Ending → Type 0 = λ how. HasEnded p how turns rest [] out in
-    over_read p i i2 output written asked told t turns rest out did (subst ended_of (sym done) (whole_read p turns rest out i2 whole))
+    over_read p i i2 output written asked exchanges t turns rest out did (subst ended_of (sym done) (whole_read p turns rest out i2 whole))
 
-pub heard_cut : {F : Type 0} (p : Rules F) (i i2 output written : Option (List ℕ)) (asked told : List Told) (t : Transcript)
-    → IsCut p t.ending i i2 (start output asked) (moment written told t) → EndsOverSome p t
-heard_cut p i i2 output written asked told t (turns, rest, out, did, cut) =
-    over_read p i i2 output written asked told t turns rest out did (cut_ended p t.ending turns rest [] out cut)
+pub heard_cut : {F : Type 0} (p : Rules F) (i i2 output written : Option (List ℕ)) (asked exchanges : List Exchange) (t : Transcript)
+    → IsCut p t.ending i i2 (start output asked) (moment written exchanges t) → EndsOverSome p t
+heard_cut p i i2 output written asked exchanges t (turns, rest, out, did, cut) =
+    over_read p i i2 output written asked exchanges t turns rest out did (cut_ended p t.ending turns rest [] out cut)
+
+-- ---- what a caller sees of a session that was answered Ok
+
+pub finished : {F : Type 0} (p : Rules F) (i i2 output written : Option (List ℕ)) (asked exchanges : List Exchange) (t : Transcript)
+    → IsDone p i i2 (start output asked) (moment written exchanges t) → t.ending ≡ Done → HasFinished p i i2 output written asked exchanges t
+finished p i i2 output written asked exchanges t done ending = (
+  done,
+  (ending, ends_done p i i2 output written asked exchanges t done ending, asked_done p i i2 output written asked exchanges t done),
+  heard_done p i i2 output written asked exchanges t done ending,
+)
+
+-- and of one that ended with a fault
+pub failed : {F : Type 0} (p : Rules F) (i i2 output written : Option (List ℕ)) (asked exchanges : List Exchange) (t : Transcript)
+    → IsCut p t.ending i i2 (start output asked) (moment written exchanges t) → HasFailed p i i2 output written asked exchanges t
+failed p i i2 output written asked exchanges t cut = (
+  cut,
+  (
+    cut_not_done p t.ending i i2 output written asked exchanges t cut,
+    ends_cut p i i2 output written asked exchanges t cut,
+    asked_cut p t.ending i i2 output written asked exchanges t cut,
+  ),
+  heard_cut p i i2 output written asked exchanges t cut,
+)
 
 -- ---- parts
 
-pub part_told : {F : Type 0} (p : Rules F) (from to : Place) (i i2 output written : Option (List ℕ)) (asked now : List Told) (old new : Transcript) (end : Part)
+pub part_told : {F : Type 0} (p : Rules F) (from to : Place) (i i2 output written : Option (List ℕ)) (asked now : List Exchange) (old new : Transcript) (end : Part)
     → IsPart p from i i2 (moment output asked old) (moment written now new) to end
-    → (told : List Told) × AreAsked asked now told × (told_by new ≡ told_by old ++ told) × OnlyLastOpen told
+    → (exchanges : List Exchange) × AreAsked asked now exchanges × (exchanges_by new ≡ exchanges_by old ++ exchanges) × OnlyLastOpen exchanges
 part_told p from to i i2 output written asked now old new Waits (goes, waits, end) =
-    (told_of goes.turns, inl goes.asked_all, goes.listed_all, only_open p from.turns goes.turns goes.unended)
+    (exchanges_of goes.turns, inl goes.asked_all, goes.listed_all, only_open p from.turns goes.turns goes.unended)
 part_told p from to i i2 output written asked now old new (Over how) (turns, rest, out, did, ends) =
-    (told_of turns, did.asked_all, did.listed_all, only_over p from.turns how turns rest out ends)
+    (exchanges_of turns, did.asked_all, did.listed_all, only_over p from.turns how turns rest out ends)
 
--- a session's only part, that waits at the end of the input
-pub waited : {F : Type 0} (p : Rules F) (to : Place) (i i2 output written : Option (List ℕ)) (asked told : List Told) (t : Transcript)
-    → IsPart p first i i2 (start output asked) (moment written told t) to Waits → IsDone p i i2 (start output asked) (moment written told t)
-waited p to i i2 output written asked told t (goes, waits, end) = (
+-- the only part of a session, which waits at the end of the input
+pub waited : {F : Type 0} (p : Rules F) (to : Place) (i i2 output written : Option (List ℕ)) (asked exchanges : List Exchange) (t : Transcript)
+    → IsPart p first i i2 (start output asked) (moment written exchanges t) to Waits → IsDone p i i2 (start output asked) (moment written exchanges t)
+waited p to i i2 output written asked exchanges t (goes, waits, end) = (
   goes.turns,
   to.held,
   texts p 0 goes.turns,
@@ -144,11 +150,11 @@ waited p to i i2 output written asked told t (goes, waits, end) = (
   inr (inl (goes.unended, waits, end, refl)),
 )
 
--- and one that is over
+-- the only part of a session that is over
 pub was_done : {F : Type 0} (p : Rules F) (to : Place) (i i2 : Option (List ℕ)) (old new : Moment)
     → IsPart p first i i2 old new to (Over Done) → IsDone p i i2 old new
 was_done p to i i2 old new (turns, rest, out, did, inl ended) = (turns, rest, out, did, inl ended)
-was_done p to i i2 old new (turns, rest, out, did, inr starved) = (turns, rest, out, did, inr (inr starved))
+was_done p to i i2 old new (turns, rest, out, did, inr out_of_memory_response) = (turns, rest, out, did, inr (inr out_of_memory_response))
 
 pub was_cut : {F : Type 0} (p : Rules F) (how : Ending) (to : Place) (i i2 : Option (List ℕ)) (old new : Moment) → how ≢ Done
     → IsPart p first i i2 old new to (Over how) → IsCut p how i i2 old new

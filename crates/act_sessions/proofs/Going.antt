@@ -8,14 +8,14 @@ use Rattle.act_sessions.specs.declared.request.Request.{Request}
 use Rattle.act_sessions.specs.declared.transcript.Ending.{Ending}
 use Rattle.act_sessions.specs.declared.transcript.Ending.TheVariants as ending
 use Rattle.act_sessions.specs.declared.transcript.Part.TheVariants.{Waits, Over}
-use Rattle.act_sessions.specs.declared.trouble.Trouble.{Trouble}
-use Rattle.act_sessions.specs.declared.trouble.Trouble.TheVariants.{Memory, Broken}
+use Rattle.act_sessions.specs.declared.error.SessionError.{SessionError}
+use Rattle.act_sessions.specs.declared.error.SessionError.TheVariants.{Memory, Broken}
 use Rattle.act_sessions.specs.Hearing.{Hears}
-use Rattle.act_sessions.specs.Rules.{Rules, Turn, request_of, told_at, told_of, is_last, Reads, turn_text, texts, IsSteady}
+use Rattle.act_sessions.specs.Rules.{Rules, Turn, request_of, exchanges_at, exchanges_of, is_last, Reads, turn_text, texts, IsSteady}
 use Rattle.act_sessions.specs.Session.{Moment, Place, Writes, Did, Goes, IsPart}
-use Rattle.act_sessions.specs.Told.{AreAsked}
-use Rattle.act_sessions.specs.Turns.{WritesNone, AsksTurn, TakesTurn, GivesUp, HasPaused}
-use Rattle.act_sessions.proofs.Listing.{Reads_snoc, Reads_grows, IsOpen_snoc, IsEnded_snoc, texts_snoc, told_snoc, all_listed, AreAsked_after, min_twice}
+use Rattle.act_sessions.specs.Exchange.{AreAsked}
+use Rattle.act_sessions.specs.Turns.{WritesNone, AsksTurn, TakesTurn, Aborts, HasPaused}
+use Rattle.act_sessions.proofs.Listing.{Reads_snoc, Reads_grows, IsOpen_snoc, IsEnded_snoc, texts_snoc, exchanges_snoc, all_listed, AreAsked_after, min_twice}
 
 abbrev pub at : ℕ → List ℕ → Place
 at n buffer = record { turns = n; held = buffer }
@@ -44,7 +44,7 @@ Writes_trans old mid new a b v w =
           ∙ ap (λ k. min k m) (let e = length-append a b in omega arith),
     )
 
--- more was read
+-- more bytes were read
 did_waiting : {F : Type 0} (p : Rules F) → IsSteady p → (from to : Place) (i i1 i2 : Option (List ℕ)) (old new : Moment) (piece : List ℕ)
     → (goes : Goes p from i i1 old new to) → Consumes i1 i2 piece → length (to.held ++ piece) ≤ p.limit
     → Did p from i i2 old new goes.turns (to.held ++ piece) (texts p from.turns goes.turns)
@@ -61,7 +61,7 @@ did_waiting p steady from to i i1 i2 old new piece goes more short = record {
   wrote_all = goes.wrote_all;
 }
 
--- and a request was answered
+-- a request was answered
 did_turn : {F : Type 0} (p : Rules F) → IsSteady p → (from to : Place) (i i1 i2 : Option (List ℕ)) (old mid new : Moment)
     (piece left text : List ℕ) (t : Turn F) → (goes : Goes p from i i1 old mid to) → Consumes i1 i2 piece
     → p.reads (to.held ++ piece) (request_of t) left → length left ≤ p.limit → AsksTurn mid new t → Writes mid new text
@@ -75,13 +75,13 @@ did_turn p steady from to i i1 i2 old mid new piece left text t goes more r shor
       Reads_snoc p (from.held ++ (goes.read ++ piece)) goes.turns (to.held ++ piece) left t before r;
   held = short;
   counted = let e = length-append goes.turns (t ∷ []) in let c = goes.counted in let room = goes.room in omega arith;
-  asked_all = subst (AreAsked old.asked new.asked) (sym (told_snoc goes.turns t)) (AreAsked_after old.asked mid.asked new.asked (told_of goes.turns) (told_at t) goes.asked_all asks.0);
-  listed_all = asks.1 ∙ ap (λ l. l ++ told_at t) goes.listed_all ∙ append_assoc old.listed (told_of goes.turns) (told_at t)
-      ∙ ap (λ l. old.listed ++ l) (sym (told_snoc goes.turns t));
+  asked_all = subst (AreAsked old.asked new.asked) (sym (exchanges_snoc goes.turns t)) (AreAsked_after old.asked mid.asked new.asked (exchanges_of goes.turns) (exchanges_at t) goes.asked_all asks.0);
+  listed_all = asks.1 ∙ ap (λ l. l ++ exchanges_at t) goes.listed_all ∙ append_assoc old.listed (exchanges_of goes.turns) (exchanges_at t)
+      ∙ ap (λ l. old.listed ++ l) (sym (exchanges_snoc goes.turns t));
   wrote_all = Writes_trans old mid new (texts p from.turns goes.turns) text goes.wrote_all writes;
 }
 
--- there is room after a turn that is not the last
+-- after a turn that is not the last, the session may take another one
 still_room : {F : Type 0} (p : Rules F) (n : ℕ) (t : Turn F) → n < p.most → is_last p n t ≡ false → n + 1 < p.most
 still_room p n t room h = grind (arith, nat_tests)
 
@@ -103,8 +103,8 @@ goes_on p steady from i i1 i2 old mid new buffer n piece left r goes more reads 
       unended = IsOpen_snoc p from.turns n goes.turns t goes.unended goes.counted took.2;
       counted = let e = length-append goes.turns (t ∷ []) in let f = goes.counted in omega arith;
       room = still_room p n t goes.room took.2;
-      asked_all = listed ∙ ap (λ l. l ++ told_at t) goes.asked_all ∙ append_assoc old.asked (told_of goes.turns) (told_at t)
-          ∙ ap (λ l. old.asked ++ l) (sym (told_snoc goes.turns t));
+      asked_all = listed ∙ ap (λ l. l ++ exchanges_at t) goes.asked_all ∙ append_assoc old.asked (exchanges_of goes.turns) (exchanges_at t)
+          ∙ ap (λ l. old.asked ++ l) (sym (exchanges_snoc goes.turns t));
       listed_all = did.listed_all;
       wrote_all = subst (Writes old new) (sym texts_are) did.wrote_all;
     }
@@ -144,7 +144,7 @@ waits_at_end p steady from i i1 i2 old new buffer n piece left goes more short w
 
 -- no request came
 pub paused_waiting : {F : Type 0} (p : Rules F) → IsSteady p → (from : Place) (i i1 i2 : Option (List ℕ)) (old new : Moment) (buffer : List ℕ) (n : ℕ)
-    (piece left : List ℕ) (e : Trouble) → Goes p from i i1 old new (at n buffer) → Consumes i1 i2 piece → length (buffer ++ piece) ≤ p.limit
+    (piece left : List ℕ) (e : SessionError) → Goes p from i i1 old new (at n buffer) → Consumes i1 i2 piece → length (buffer ++ piece) ≤ p.limit
     → Hears p i2 (buffer ++ piece) left (Err e) → HasPaused p e from i i2 old new
 paused_waiting p steady from i i1 i2 old new buffer n piece left Memory goes more short hears = (
   goes.turns,
@@ -164,7 +164,7 @@ paused_waiting p steady from i i1 i2 old new buffer n piece left Broken goes mor
 none_written : (old mid new : Moment) (a : List ℕ) → Writes old mid a → WritesNone mid new → Writes old new a
 none_written old mid new a w none = (subst (λ o. Appends old.output o a) (sym none.0) w.0, none.1 ∙ w.1)
 
--- and nothing more was asked
+-- no further command was submitted
 same_did : {F : Type 0} (p : Rules F) (from : Place) (i i2 : Option (List ℕ)) (old mid new : Moment) (turns : List (Turn F)) (rest out text all : List ℕ)
     → Did p from i i2 old mid turns rest out → Writes old new all → all ≡ out ++ text → new.asked ≡ mid.asked → new.listed ≡ mid.listed
     → Did p from i i2 old new turns rest (out ++ text)
@@ -174,7 +174,7 @@ same_did p from i i2 old mid new turns rest out text all did w e asked listed = 
   reads = did.reads;
   held = did.held;
   counted = did.counted;
-  asked_all = subst (λ a. AreAsked old.asked a (told_of turns)) (sym asked) did.asked_all;
+  asked_all = subst (λ a. AreAsked old.asked a (exchanges_of turns)) (sym asked) did.asked_all;
   listed_all = listed ∙ did.listed_all;
   wrote_all = subst (Writes old new) e w;
 }
@@ -188,7 +188,7 @@ did_no_more p from i i2 old mid new turns rest out did none asked listed =
 
 -- a turn failed
 pub paused_turn : {F : Type 0} (p : Rules F) → IsSteady p → (from : Place) (i i1 i2 : Option (List ℕ)) (old mid new : Moment) (buffer : List ℕ) (n : ℕ)
-    (piece left : List ℕ) (r : Request F) (e : Trouble) → Goes p from i i1 old mid (at n buffer) → Consumes i1 i2 piece
+    (piece left : List ℕ) (r : Request F) (e : SessionError) → Goes p from i i1 old mid (at n buffer) → Consumes i1 i2 piece
     → p.reads (buffer ++ piece) r left → length (buffer ++ piece) ≤ p.limit → length left ≤ p.limit → TakesTurn p n r mid new (Err e)
     → HasPaused p e from i i2 old new
 paused_turn p steady from i i1 i2 old mid new buffer n piece left r Memory goes more reads all_short short (none, inl unasked) = (
@@ -218,9 +218,9 @@ paused_turn p steady from i i1 i2 old mid new buffer n piece left r Broken goes 
       inr (goes.turns, (goes.unended, inr (t, refl)), text, inr (t, refl, ap (λ m. turn_text p (is_last p m t) t) same), k, refl),
     )
 
--- a session that can't go on gives up
-pub gave_up : {F : Type 0} (p : Rules F) (e : Trouble) (from to : Place) (i i2 : Option (List ℕ)) (old mid new : Moment) (how : Ending)
-    → HasPaused p e from i i2 old mid → new.asked ≡ mid.asked → GivesUp p e mid new how → IsPart p from i i2 old new to (Over how)
+-- a session that cannot continue is aborted
+pub gave_up : {F : Type 0} (p : Rules F) (e : SessionError) (from to : Place) (i i2 : Option (List ℕ)) (old mid new : Moment) (how : Ending)
+    → HasPaused p e from i i2 old mid → new.asked ≡ mid.asked → Aborts p e mid new how → IsPart p from i i2 old new to (Over how)
 gave_up p Memory from to i i2 old mid new ending.Done (turns, rest, out, did, (passed, are, is)) same (text, words, writes, listed) = (
   turns,
   rest,

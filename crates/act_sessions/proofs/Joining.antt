@@ -1,4 +1,4 @@
--- Two parts of a session in a row are one part.
+-- Two consecutive parts of a session are one part.
 use Rattle.std.proofs.Common.{◌≡◌, ℕ, ◌+◌, ◌-◌, ◌^◌, List, [], ◌∷◌, ◌++◌, length, take, refl, sym, ap, subst, ◌∙◌, inl, inr, append-nil, append_assoc, length-append, arith}
 use Rattle.std.specs.Prelude.{min, Option, Some, None}
 use Rattle.std.specs.Io.KnownBytes.{Consumes, Appends, IsAtEnd}
@@ -6,8 +6,8 @@ use Rattle.act_sessions.specs.declared.transcript.Ending.{Ending}
 use Rattle.act_sessions.specs.declared.transcript.Ending.TheVariants.{Done, Memory, Broken}
 use Rattle.act_sessions.specs.declared.transcript.Part.{Part}
 use Rattle.act_sessions.specs.declared.transcript.Part.TheVariants.{Waits, Over}
-use Rattle.act_sessions.specs.Told.{Told, AreAsked}
-use Rattle.act_sessions.specs.Rules.{Rules, Turn, told_at, told_of, is_last, Reads, IsOpen, IsEnded, turn_text, texts, IsSteady}
+use Rattle.act_sessions.specs.Exchange.{Exchange, AreAsked}
+use Rattle.act_sessions.specs.Rules.{Rules, Turn, exchanges_at, exchanges_of, is_last, Reads, IsOpen, IsEnded, turn_text, texts, IsSteady}
 use Rattle.act_sessions.specs.Session.{Moment, Place, Writes, Did, Goes, IsPart, ArePassed, IsOver, IsFront, IsUnheard, ComesNext, EndsSo}
 use Rattle.act_sessions.specs.Joined.{added, IsJoined}
 use Rattle.act_sessions.proofs.Going.{Writes_trans}
@@ -32,20 +32,20 @@ texts_append p n k [] us e = let same : n ≡ k = omega arith in ap (λ m. texts
 texts_append p n k (t ∷ ts) us e =
     ap (λ l. turn_text p (is_last p n t) t ++ l) (texts_append p (n + 1) k ts us (omega arith)) ∙ sym (append_assoc (turn_text p (is_last p n t) t) (texts p (n + 1) ts) (texts p k us))
 
-pub told_append : {F : Type 0} (ts us : List (Turn F)) → told_of (ts ++ us) ≡ told_of ts ++ told_of us
-told_append [] us = refl
-told_append (t ∷ ts) us = ap (λ l. told_at t ++ l) (told_append ts us) ∙ sym (append_assoc (told_at t) (told_of ts) (told_of us))
+pub exchanges_append : {F : Type 0} (ts us : List (Turn F)) → exchanges_of (ts ++ us) ≡ exchanges_of ts ++ exchanges_of us
+exchanges_append [] us = refl
+exchanges_append (t ∷ ts) us = ap (λ l. exchanges_at t ++ l) (exchanges_append ts us) ∙ sym (append_assoc (exchanges_at t) (exchanges_of ts) (exchanges_of us))
 
-added_is : (old new told : List Told) → new ≡ old ++ told → added old new ≡ told
-added_is [] new told e = e
-added_is (a ∷ old) new told e = rw e (added_is old (old ++ told) told refl)
+added_is : (old new exchanges : List Exchange) → new ≡ old ++ exchanges → added old new ≡ exchanges
+added_is [] new exchanges e = e
+added_is (a ∷ old) new exchanges e = rw e (added_is old (old ++ exchanges) exchanges refl)
 
--- what was asked behind one list could have been asked behind another
-rebased : (old new other told : List Told) → AreAsked old new told → AreAsked other (other ++ added old new) told
-rebased old new other told (inl e) = inl (ap (λ l. other ++ l) (added_is old new told e))
-rebased old new other told (inr (front, c, is, e)) = inr (front, c, is, ap (λ l. other ++ l) (added_is old new front e))
+-- commands appended to one list can be appended to another
+rebased : (old new other exchanges : List Exchange) → AreAsked old new exchanges → AreAsked other (other ++ added old new) exchanges
+rebased old new other exchanges (inl e) = inl (ap (λ l. other ++ l) (added_is old new exchanges e))
+rebased old new other exchanges (inr (front, c, is, e)) = inr (front, c, is, ap (λ l. other ++ l) (added_is old new front e))
 
--- a stream that was cut gives what both its pieces give
+-- a stream that was cut yields what its two pieces yield
 read_on : (x y : List ℕ) (i1 i2 : Option (List ℕ)) (read more : List ℕ) → Consumes (Some x) i1 read → IsAtEnd i1 → Consumes (Some y) i2 more
     → Consumes (Some (x ++ y)) i2 (read ++ more)
 read_on x y None i2 read more c end d = absurd c
@@ -78,11 +78,11 @@ module _ (F : Type 0) (p : Rules F) (steady : IsSteady p) (from to : Place) (x y
     held = did.held;
     counted = let e = length-append goes.turns turns in let f = goes.counted in let g = did.counted in omega arith;
     asked_all =
-        subst (AreAsked old.asked (mid.asked ++ added begin.asked new.asked)) (sym (told_append goes.turns turns))
-        (AreAsked_after old.asked mid.asked (mid.asked ++ added begin.asked new.asked) (told_of goes.turns) (told_of turns) goes.asked_all (rebased begin.asked new.asked mid.asked (told_of turns) did.asked_all));
+        subst (AreAsked old.asked (mid.asked ++ added begin.asked new.asked)) (sym (exchanges_append goes.turns turns))
+        (AreAsked_after old.asked mid.asked (mid.asked ++ added begin.asked new.asked) (exchanges_of goes.turns) (exchanges_of turns) goes.asked_all (rebased begin.asked new.asked mid.asked (exchanges_of turns) did.asked_all));
     listed_all =
-        ap (λ l. mid.listed ++ l) (added_is begin.listed new.listed (told_of turns) did.listed_all) ∙ ap (λ l. l ++ told_of turns) goes.listed_all
-        ∙ append_assoc old.listed (told_of goes.turns) (told_of turns) ∙ ap (λ l. old.listed ++ l) (sym (told_append goes.turns turns));
+        ap (λ l. mid.listed ++ l) (added_is begin.listed new.listed (exchanges_of turns) did.listed_all) ∙ ap (λ l. l ++ exchanges_of turns) goes.listed_all
+        ∙ append_assoc old.listed (exchanges_of goes.turns) (exchanges_of turns) ∙ ap (λ l. old.listed ++ l) (sym (exchanges_append goes.turns turns));
     wrote_all = wrote_on out did.wrote_all;
   }
 
@@ -102,11 +102,11 @@ module _ (F : Type 0) (p : Rules F) (steady : IsSteady p) (from to : Place) (x y
     counted = let e = length-append goes.turns more.turns in let f = goes.counted in let g = more.counted in omega arith;
     room = more.room;
     asked_all =
-        ap (λ l. mid.asked ++ l) (added_is begin.asked new.asked (told_of more.turns) more.asked_all) ∙ ap (λ l. l ++ told_of more.turns) goes.asked_all
-        ∙ append_assoc old.asked (told_of goes.turns) (told_of more.turns) ∙ ap (λ l. old.asked ++ l) (sym (told_append goes.turns more.turns));
+        ap (λ l. mid.asked ++ l) (added_is begin.asked new.asked (exchanges_of more.turns) more.asked_all) ∙ ap (λ l. l ++ exchanges_of more.turns) goes.asked_all
+        ∙ append_assoc old.asked (exchanges_of goes.turns) (exchanges_of more.turns) ∙ ap (λ l. old.asked ++ l) (sym (exchanges_append goes.turns more.turns));
     listed_all =
-        ap (λ l. mid.listed ++ l) (added_is begin.listed new.listed (told_of more.turns) more.listed_all) ∙ ap (λ l. l ++ told_of more.turns) goes.listed_all
-        ∙ append_assoc old.listed (told_of goes.turns) (told_of more.turns) ∙ ap (λ l. old.listed ++ l) (sym (told_append goes.turns more.turns));
+        ap (λ l. mid.listed ++ l) (added_is begin.listed new.listed (exchanges_of more.turns) more.listed_all) ∙ ap (λ l. l ++ exchanges_of more.turns) goes.listed_all
+        ∙ append_assoc old.listed (exchanges_of goes.turns) (exchanges_of more.turns) ∙ ap (λ l. old.listed ++ l) (sym (exchanges_append goes.turns more.turns));
     wrote_all =
         subst (Writes old (whole_of mid begin new (texts p to.turns more.turns))) (sym (texts_append p from.turns to.turns goes.turns more.turns goes.counted))
         (wrote_on (texts p to.turns more.turns) more.wrote_all);
@@ -119,7 +119,7 @@ module _ (F : Type 0) (p : Rules F) (steady : IsSteady p) (from to : Place) (x y
     inr (t, ap (λ l. goes.turns ++ l) e ∙ sym (append_assoc goes.turns passed (t ∷ []))),
   )
 
-  -- bytes behind the texts of more turns
+  -- bytes after the texts of further turns
   texts_on : (passed : List (Turn F)) (out text : List ℕ) → out ≡ texts p to.turns passed ++ text
       → texts p from.turns goes.turns ++ out ≡ texts p from.turns (goes.turns ++ passed) ++ text
   texts_on passed out text e =

@@ -1,11 +1,11 @@
--- Turns with one more at their end.
+-- Turns with one more at the end.
 use Rattle.std.proofs.Common.{◌≡◌, ℕ, ◌+◌, Bool, true, false, ◌||◌, List, [], ◌∷◌, ◌++◌, length, Err, refl, sym, ap, subst, ◌∙◌, inl, inr, append-nil, append_assoc, length-append, arith}
 use Rattle.std.specs.Prelude.{min}
 use Rattle.wf_value.specs.Gives.{no_memory}
 use Rattle.run_plan.specs.declared.command.Command.{Command}
-use Rattle.act_sessions.specs.Rules.{Rules, Turn, Answered, Refused, request_of, told_at, told_of, is_last, IsEnded, IsOpen, IsSteady, Reads, turn_text, texts}
+use Rattle.act_sessions.specs.Rules.{Rules, Turn, Answered, Refused, request_of, exchanges_at, exchanges_of, is_last, IsEnded, IsOpen, IsSteady, Reads, turn_text, texts}
 use Rattle.act_sessions.specs.Last.{ends_session}
-use Rattle.act_sessions.specs.Told.{AreAsked, Response, Told}
+use Rattle.act_sessions.specs.Exchange.{AreAsked, Response, Exchange}
 
 pub Reads_snoc : {F : Type 0} (p : Rules F) (bytes : List ℕ) (ts : List (Turn F)) (middle rest : List ℕ) (t : Turn F) → Reads p bytes ts middle
     → p.reads middle (request_of t) rest → Reads p bytes (ts ++ t ∷ []) rest
@@ -35,26 +35,26 @@ texts_snoc p n k (u ∷ ts) t e =
     ap (λ l. turn_text p (is_last p n u) u ++ l) (texts_snoc p (n + 1) k ts t (omega arith))
     ∙ sym (append_assoc (turn_text p (is_last p n u) u) (texts p (n + 1) ts) _)
 
-pub told_snoc : {F : Type 0} (ts : List (Turn F)) (t : Turn F) → told_of (ts ++ t ∷ []) ≡ told_of ts ++ told_at t
-told_snoc [] t = append-nil _
-told_snoc (u ∷ ts) t = ap (λ l. told_at u ++ l) (told_snoc ts t) ∙ sym (append_assoc (told_at u) (told_of ts) (told_at t))
+pub exchanges_snoc : {F : Type 0} (ts : List (Turn F)) (t : Turn F) → exchanges_of (ts ++ t ∷ []) ≡ exchanges_of ts ++ exchanges_at t
+exchanges_snoc [] t = append-nil _
+exchanges_snoc (u ∷ ts) t = ap (λ l. exchanges_at u ++ l) (exchanges_snoc ts t) ∙ sym (append_assoc (exchanges_at u) (exchanges_of ts) (exchanges_at t))
 
--- ---- lists of what was asked
+-- ---- lists of submitted commands
 
 elim_true : true ≡ false → ⊥
 elim_true e = cc
 
-head_response : List Told → Response
+head_response : List Exchange → Response
 head_response [] = Err no_memory
 head_response (x ∷ xs) = x.1
 
--- one that is missing wanted memory
-missing : (x : Told) (front : List Told) (c : Command) → x ∷ [] ≡ front ++ (c, Err no_memory) ∷ [] → x.1 ≡ Err no_memory
+-- a command missing from the list was answered out of memory
+missing : (x : Exchange) (front : List Exchange) (c : Command) → x ∷ [] ≡ front ++ (c, Err no_memory) ∷ [] → x.1 ≡ Err no_memory
 unfolding head_response
 missing x [] c e = ap head_response e
 missing x (y ∷ front) c e = absurd (omega (arith, ap length e, length-append front ((c, Err no_memory) ∷ [])))
 
-none_missing : (front : List Told) (c : Command) → [] ≡ front ++ (c, Err no_memory) ∷ [] → ⊥
+none_missing : (front : List Exchange) (c : Command) → [] ≡ front ++ (c, Err no_memory) ∷ [] → ⊥
 none_missing front c e = omega (arith, ap length e, length-append front ((c, Err no_memory) ∷ []))
 
 wrong : (a b d : Bool) → b ≡ true → ((a || b) || d) ≡ false → ⊥
@@ -62,19 +62,19 @@ wrong true b d h e = elim_true e
 wrong false true d h e = elim_true e
 wrong false false d h e = elim_true (sym h)
 
--- where a turn is not the last, its command is listed: an answer that wants memory ends a session
-pub all_listed : {F : Type 0} (p : Rules F) (n : ℕ) (t : Turn F) (old new : List Told) → is_last p n t ≡ false → AreAsked old new (told_at t)
-    → new ≡ old ++ told_at t
+-- The command of a turn that is not the last is listed, since an out-of-memory answer ends a session.
+pub all_listed : {F : Type 0} (p : Rules F) (n : ℕ) (t : Turn F) (old new : List Exchange) → is_last p n t ≡ false → AreAsked old new (exchanges_at t)
+    → new ≡ old ++ exchanges_at t
 all_listed p n t old new open_still (inl e) = e
 all_listed p n (Refused f closes) old new open_still (inr h) = absurd (none_missing h.0 h.1 h.2)
 all_listed p n (Answered c closes a) old new open_still (inr h) =
     let m : a ≡ Err no_memory = missing (c, a) h.0 h.1 h.2 in
     absurd (wrong closes (ends_session a) _ (ap ends_session m) open_still)
 
-pub AreAsked_after : (old mid new told more : List Told) → mid ≡ old ++ told → AreAsked mid new more → AreAsked old new (told ++ more)
-AreAsked_after old mid new told more e (inl h) = inl (h ∙ ap (λ l. l ++ more) e ∙ append_assoc old told more)
-AreAsked_after old mid new told more e (inr h) =
-    inr (told ++ h.0, h.1, ap (λ l. told ++ l) h.2 ∙ sym (append_assoc told h.0 _), h.3 ∙ ap (λ l. l ++ h.0) e ∙ append_assoc old told h.0)
+pub AreAsked_after : (old mid new exchanges more : List Exchange) → mid ≡ old ++ exchanges → AreAsked mid new more → AreAsked old new (exchanges ++ more)
+AreAsked_after old mid new exchanges more e (inl h) = inl (h ∙ ap (λ l. l ++ more) e ∙ append_assoc old exchanges more)
+AreAsked_after old mid new exchanges more e (inr h) =
+    inr (exchanges ++ h.0, h.1, ap (λ l. exchanges ++ l) h.2 ∙ sym (append_assoc exchanges h.0 _), h.3 ∙ ap (λ l. l ++ h.0) e ∙ append_assoc old exchanges h.0)
 
 pub min_twice : (x y m : ℕ) → min (min x m + y) m ≡ min (x + y) m
 min_twice x y m = omega arith

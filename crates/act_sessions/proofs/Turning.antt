@@ -6,13 +6,13 @@ use Rattle.wf_value.specs.Gives.{Gives, no_memory}
 use Rattle.wf_value.specs.declared.refusal.Refusal.{Refusal}
 use Rattle.run_plan.specs.declared.command.Command.{Command}
 use Rattle.act_sessions.specs.declared.request.Request.{Request}
-use Rattle.act_sessions.specs.declared.transcript.Asked.{Asked}
-use Rattle.act_sessions.specs.declared.trouble.Trouble.{Trouble}
-use Rattle.act_sessions.specs.declared.trouble.Trouble.TheVariants.{Memory, Broken}
-use Rattle.act_sessions.specs.Rules.{Rules, Turn, Answered, Refused, request_of, told_at, is_last, turn_text}
+use Rattle.act_sessions.specs.declared.transcript.LoggedExchange.{LoggedExchange}
+use Rattle.act_sessions.specs.declared.error.SessionError.{SessionError}
+use Rattle.act_sessions.specs.declared.error.SessionError.TheVariants.{Memory, Broken}
+use Rattle.act_sessions.specs.Rules.{Rules, Turn, Answered, Refused, request_of, exchanges_at, is_last, turn_text}
 use Rattle.act_sessions.specs.Session.{Moment, Writes}
-use Rattle.act_sessions.specs.Told.{AreAsked, Asks, Response, told_in}
-use Rattle.act_sessions.specs.Troubles.{trouble_of}
+use Rattle.act_sessions.specs.Exchange.{AreAsked, Asks, Response, exchanges_in}
+use Rattle.act_sessions.specs.SessionErrors.{error_of}
 use Rattle.act_sessions.specs.Turns.{WritesNone, AsksTurn, AsksNone, TakesTurn, Says}
 
 Writes_from : (old mid new : Moment) (a b : List ℕ) → Writes mid new a → mid.output ≡ old.output → mid.count ≡ old.count → a ≡ b → Writes old new b
@@ -22,10 +22,10 @@ Writes_from old mid new a b w o c e = (
 )
 
 asks_from : {F : Type 0} (old mid new : Moment) (t : Turn F) → AsksTurn old mid t → new.asked ≡ mid.asked → new.listed ≡ mid.listed → AsksTurn old new t
-asks_from old mid new t asks a l = (subst (λ x. AreAsked old.asked x (told_at t)) (sym a) asks.0, l ∙ asks.1)
+asks_from old mid new t asks a l = (subst (λ x. AreAsked old.asked x (exchanges_at t)) (sym a) asks.0, l ∙ asks.1)
 
--- a text was written after the turn's command was asked
-pub turn_said : {F : Type 0} (p : Rules F) (n : ℕ) (t : Turn F) (old mid new : Moment) (text : List ℕ) (last : Bool) (r : Result Bool Trouble)
+-- a text was written after the turn's command was submitted
+pub turn_said : {F : Type 0} (p : Rules F) (n : ℕ) (t : Turn F) (old mid new : Moment) (text : List ℕ) (last : Bool) (r : Result Bool SessionError)
     → Says mid new text last r → is_last p n t ≡ last → text ≡ turn_text p last t → AsksTurn old mid t
     → mid.output ≡ old.output → mid.count ≡ old.count → new.asked ≡ mid.asked → new.listed ≡ mid.listed
     → TakesTurn p n (request_of t) old new r
@@ -45,18 +45,18 @@ turn_said p n t old mid new text last (Err Broken) says is e asks o c a li = (
   Writes_from old mid new (take says.0 text) _ says.1 o c (ap (take says.0) (e ∙ ap (λ b. turn_text p b t) (sym is))),
 )
 
--- a text that was made
+-- a text that was built
 pub gives_ok : {X Y : Type 0} (view : X → Y) (r : Result X Refusal) (x : X) (y : Y) → Gives view r (Ok y) → r ≡ Ok x → view x ≡ y
 gives_ok view (Ok z) x y g e = cc
 gives_ok view (Err z) x y g e = absurd cc
 
--- a text that was not made
-pub only_memory : {Y : Type 0} (e : Refusal) (y : Y) → (e ≡ no_memory) ⊎ (◌≡◌ {A = Result Y Refusal} (Ok y) (Err e)) → trouble_of e ≡ Memory
-only_memory e y (inl h) = ap trouble_of h
+-- a text that was not built
+pub only_memory : {Y : Type 0} (e : Refusal) (y : Y) → (e ≡ no_memory) ⊎ (◌≡◌ {A = Result Y Refusal} (Ok y) (Err e)) → error_of e ≡ Memory
+only_memory e y (inl h) = ap error_of h
 only_memory e y (inr h) = absurd cc
 
--- memory was wanting
-pub turn_starved : {F : Type 0} (p : Rules F) (n : ℕ) (q : Request F) (old new : Moment) (r : Result Bool Trouble) → (e : Trouble) × (r ≡ Err e) × (e ≡ Memory)
+-- out of memory
+pub turn_starved : {F : Type 0} (p : Rules F) (n : ℕ) (q : Request F) (old new : Moment) (r : Result Bool SessionError) → (e : SessionError) × (r ≡ Err e) × (e ≡ Memory)
     → WritesNone old new → AsksNone old new ⊎ ((t : Turn F) × (request_of t ≡ q) × AsksTurn old new t) → TakesTurn p n q old new r
 turn_starved p n q old new r is w a = rw (is.1, is.2) (w, a)
 
@@ -68,13 +68,13 @@ asked_one p old new c closes a (inr e) l = (inr ([], c, ap (λ (b : Response). (
 pub asked_none : {F : Type 0} (old : Moment) (f : F) (closes : Bool) → AsksTurn old old (Refused f closes)
 asked_none old f closes = (inl (sym (append-nil _)), sym (append-nil _))
 
-pub told_in_snoc : (asked : List Asked) (a : Asked) → told_in (asked ++ a ∷ []) ≡ told_in asked ++ (a.command, a.answer) ∷ []
-told_in_snoc [] a = refl
-told_in_snoc (b ∷ asked) a = ap (λ l. (b.command, b.answer) ∷ l) (told_in_snoc asked a)
+pub exchanges_in_snoc : (asked : List LoggedExchange) (a : LoggedExchange) → exchanges_in (asked ++ a ∷ []) ≡ exchanges_in asked ++ (a.command, a.answer) ∷ []
+exchanges_in_snoc [] a = refl
+exchanges_in_snoc (b ∷ asked) a = ap (λ l. (b.command, b.answer) ∷ l) (exchanges_in_snoc asked a)
 
--- a command and its answer were noted
-pub listed_with : (old mid new : List Asked) (copy command : Command) (answer : Response) → new ≡ mid ++ record { command = copy; answer = answer } ∷ []
-    → mid ≡ old → copy ≡ command → told_in new ≡ told_in old ++ (command, answer) ∷ []
+-- a command and its answer were recorded
+pub listed_with : (old mid new : List LoggedExchange) (copy command : Command) (answer : Response) → new ≡ mid ++ record { command = copy; answer = answer } ∷ []
+    → mid ≡ old → copy ≡ command → exchanges_in new ≡ exchanges_in old ++ (command, answer) ∷ []
 listed_with old mid new copy command answer e f g =
-    ap told_in e ∙ told_in_snoc mid (record { command = copy; answer = answer })
-    ∙ ap (λ l. told_in l ++ (copy, answer) ∷ []) f ∙ ap (λ (c : Command). told_in old ++ (c, answer) ∷ []) g
+    ap exchanges_in e ∙ exchanges_in_snoc mid (record { command = copy; answer = answer })
+    ∙ ap (λ l. exchanges_in l ++ (copy, answer) ∷ []) f ∙ ap (λ (c : Command). exchanges_in old ++ (c, answer) ∷ []) g

@@ -1,14 +1,14 @@
--- Two parts of one session, each with an answerer and a list of its own.
+-- Two parts of one session, each with its own answerer and list.
 use Rattle.std.specs.Prelude.{◌≡◌, List, ◌++◌, length, drop}
 use Rattle.act_sessions.specs.Session.{Moment}
-use Rattle.act_sessions.specs.Told.{Told}
+use Rattle.act_sessions.specs.Exchange.{Exchange}
 
--- what a list has got behind what it was
-abbrev pub added : List Told → List Told → List Told
+-- what was appended to a list
+abbrev pub added : List Exchange → List Exchange → List Exchange
 added old new = drop (length old) new
 
--- The whole is what one part has done until mid, and another one from begin to new: the writer is one, and what was asked and listed in
--- the second part stands behind what was in the first.
+-- The whole consists of one part, up to `mid`, and another one, from `begin` to `new`. Both have the same writer. The commands submitted
+-- and listed in the second part follow those of the first.
 pub record IsJoined (mid begin new whole : Moment) : Type 0 where
   pub output : whole.output ≡ new.output
   pub asked : whole.asked ≡ mid.asked ++ added begin.asked new.asked

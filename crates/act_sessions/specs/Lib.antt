@@ -1,10 +1,10 @@
--- What a session asks, and how bytes are requests.
+-- What a session submits, and how bytes encode requests.
 pub mod Ends
 pub mod Hearing
 pub mod Joined
 pub mod Last
 pub mod Rules
 pub mod Session
-pub mod Told
-pub mod Troubles
+pub mod Exchange
+pub mod SessionErrors
 pub mod Turns

@@ -2,9 +2,9 @@ ghost use Rattle.std.specs.Prelude.{◌≡◌, ◌≤◌, ◌<◌, ◌+◌, ◌+
 ghost use Rattle.std.specs.Io.KnownBytes.{Consumes, IsAtEnd, Keeps};
 ghost use Rattle.act_sessions.specs.Hearing.{Awaits};
 
+use crate::error::SessionError;
 use crate::protocol::Protocol;
 use crate::request::Request;
-use crate::trouble::Trouble;
 use byte_streams::read_some;
 use std::alloc::Global;
 use std::io::Read;
@@ -12,9 +12,13 @@ use std::io::Read;
 /// How many bytes are read at a time, at most.
 const CHUNK: usize = 4096;
 
-/// Reads the next piece, of any length, to the end of a buffer that holds less than `limit` bytes, and then at most these. Answers whether
-/// one came: none does at the end of the input.
-fn read_more<R: Read>(reader: &mut R, buffer: &mut Vec<u8>, limit: usize) -> Result<bool, Trouble>
+/// Appends the next piece, of any length, to a buffer that holds fewer than `limit` bytes, without passing the limit. Returns whether a
+/// piece came; at the end of the input none does.
+fn read_more<R: Read>(
+    reader: &mut R,
+    buffer: &mut Vec<u8>,
+    limit: usize,
+) -> Result<bool, SessionError>
     requires { vec_len buffer.old < limit }
     ensures ok { IfOk result (λ more. (piece : List ℕ) × Consumes (R.remaining reader.old) (R.remaining reader.new) piece
         × (buffer.new.items ≡ buffer.old.items ++ piece)) }
@@ -23,8 +27,8 @@ fn read_more<R: Read>(reader: &mut R, buffer: &mut Vec<u8>, limit: usize) -> Res
     ensures end { IfOk result (λ more. more ≡ false → IsAtEnd (R.remaining reader.new) × (buffer.new.items ≡ buffer.old.items)) }
     ensures err { OnErr result ((piece : List ℕ) × Consumes (R.remaining reader.old) (R.remaining reader.new) piece
         × (length buffer.old.items + length piece ≤ limit)) }
-    // A read that fails takes nothing.
-    ensures broken { IfErr result (λ e. e ≡ Trouble.Broken → Keeps (R.remaining reader.old) (R.remaining reader.new)) }
+    // A failed read takes nothing.
+    ensures broken { IfErr result (λ e. e ≡ SessionError.Broken → Keeps (R.remaining reader.old) (R.remaining reader.new)) }
 {
     let mut piece = [0; CHUNK];
     let room = (limit - buffer.len()).min(CHUNK);
@@ -33,12 +37,12 @@ fn read_more<R: Read>(reader: &mut R, buffer: &mut Vec<u8>, limit: usize) -> Res
     Ok(count > 0)
 }
 
-/// Reads until a request is whole, and takes it from the buffer. None comes where the input ends before or inside one.
+/// Reads until a request is whole and takes it from the buffer. Returns `None` if the input ends before or inside a request.
 pub fn await_request<P: Protocol, R: Read>(
     alloc: Global,
     reader: &mut R,
     buffer: &mut Vec<u8>,
-) -> Result<Option<Request<P::Fault>>, Trouble>
+) -> Result<Option<Request<P::Fault>>, SessionError>
     requires { vec_len buffer.old ≤ P.rules.limit }
     ensures { Awaits P.rules (R.remaining reader.old) (R.remaining reader.new) buffer.old.items buffer.new.items result }
 {

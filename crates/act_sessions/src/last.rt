@@ -11,7 +11,7 @@ pub fn ends_by(refusal: &Refusal) -> bool
     matches!(refusal.number(), 46 | 47 | 48 | 57 | 50 | 51 | 52 | 60)
 }
 
-/// Whether an answer ends a session: one that is refused 46, 47, 48, 50, 51, 52, 57 or 60.
+/// Whether an answer ends a session: one refused with 46, 47, 48, 50, 51, 52, 57 or 60.
 fn ends_session(answer: &Result<Reply, Refusal>) -> bool
     ensures { result ≡ ends_session answer.now }
 {
@@ -22,7 +22,7 @@ fn ends_session(answer: &Result<Reply, Refusal>) -> bool
     }
 }
 
-/// Whether a command's turn is the last of a session whatever the count: its request closes it, or its answer ends it.
+/// Whether a command's turn ends the session whatever the count: its request closes it, or its answer ends it.
 pub fn ends_turn(closes: bool, answer: &Result<Reply, Refusal>) -> bool
     ensures { result ≡ (closes || ends_session answer.now) }
 {

@@ -1,8 +1,9 @@
-//! A session over any reader, any writer and any answerer, by the rules of a protocol: bytes become commands, each is asked once, and the
-//! bytes of the answers are written, in whatever pieces the reader gives them.
+//! A session over any reader, writer and answerer, under the rules of a protocol. It reads bytes in pieces of any length, submits each
+//! command once, and writes the answers.
 #![tactic(auto)]
 
 mod answer;
+mod error;
 mod input;
 mod last;
 mod laws;
@@ -13,7 +14,6 @@ mod request;
 mod session;
 mod standing;
 mod transcript;
-mod trouble;
 mod work;
 
 pub use answer::Answer;
@@ -21,8 +21,8 @@ pub use last::ends_by;
 pub use laws::{first_part, one_session, one_session_to_its_end, two_parts};
 pub use parts::{Parts, is_open, leaves_open, run_parts};
 pub use protocol::Protocol;
-pub use request::{Demand, Found, Request};
+pub use request::{Demand, FoundRequest, Request};
 pub use session::run;
 pub use standing::Standing;
-pub use transcript::{Asked, Ending, Part, SessionFault, Transcript};
+pub use transcript::{Ending, LoggedExchange, Part, SessionFault, Transcript};
 pub use work::Work;

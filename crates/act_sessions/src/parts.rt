@@ -1,29 +1,29 @@
-//! Parts of many sessions, one after the other, whose commands one transcript notes.
+//! Parts of many sessions, one after another, recorded in one transcript.
 
 ghost use Rattle.std.specs.Prelude.{◌≡◌, ◌++◌, List, false, true};
-ghost use Rattle.act_sessions.specs.Told.{AreAsked, IsLeftOpen, IsShut, OnlyLastOpen, Told, leaves_open, told_by};
+ghost use Rattle.act_sessions.specs.Exchange.{AreAsked, IsLeftOpen, IsShut, OnlyLastOpen, Exchange, leaves_open, exchanges_by};
 
 use crate::answer::Answer;
-use crate::transcript::{Asked, Ending, Transcript};
+use crate::transcript::{Ending, LoggedExchange, Transcript};
 use run_plan::Reply;
 use std::alloc::Global;
 use std::sync::Wait;
 use wf_value::Refusal;
 
-/// What holds parts of sessions, one after the other, as a seat does that takes whoever comes.
+/// A source of session parts, held one after another. A seat that serves whichever connection is next is one.
 pub trait Parts {
-    /// Holds one more part, and notes what it asks. False where there is none, or may be none behind it.
+    /// Holds one more part and records what it submits. Returns false if there is no part, or if no part may follow this one.
     fn part<A: Answer>(
         &mut self,
         alloc: Global,
         answerer: &mut A,
         transcript: &mut Transcript,
     ) -> bool
-        ensures { (told : List Told) × AreAsked (A.asked answerer.old) (A.asked answerer.new) told
-            × (told_by transcript.new ≡ told_by transcript.old ++ told) × OnlyLastOpen told };
+        ensures { (exchanges : List Exchange) × AreAsked (A.asked answerer.old) (A.asked answerer.new) exchanges
+            × (exchanges_by transcript.new ≡ exchanges_by transcript.old ++ exchanges) × OnlyLastOpen exchanges };
 }
 
-/// Whether an answer leaves open that its command was entered: 50, 51, 52 and 60 do.
+/// Whether an answer leaves it unknown whether its command was entered: 50, 51, 52 and 60 do.
 pub fn leaves_open(answer: &Result<Reply, Refusal>) -> bool
     ensures { result ≡ leaves_open answer.now }
 {
@@ -33,9 +33,9 @@ pub fn leaves_open(answer: &Result<Reply, Refusal>) -> bool
     }
 }
 
-/// Whether the last answer leaves open that its command was entered. Then nothing may be asked behind it, since a history shows no more of
-/// one who asks than that his last command may stand or not.
-pub fn is_open(asked: &[Asked]) -> bool
+/// Whether the last answer leaves it unknown whether its command was entered. Then no further command may be submitted: of one client, a
+/// history may be uncertain only in the last command.
+pub fn is_open(asked: &[LoggedExchange]) -> bool
     ensures shut { result ≡ false → IsShut asked.now }
     ensures open { result ≡ true → IsLeftOpen asked.now }
 {
@@ -45,7 +45,7 @@ pub fn is_open(asked: &[Asked]) -> bool
     }
 }
 
-/// Holds parts until there are no more, or an answer leaves open that its command was entered: that is the last one.
+/// Holds parts until there are no more, or until an answer leaves it unknown whether its command was entered; that answer is the last.
 pub fn run_parts<S: Parts, A: Answer>(
     rt: &impl Wait,
     alloc: Global,
@@ -53,8 +53,8 @@ pub fn run_parts<S: Parts, A: Answer>(
     answerer: &mut A,
 ) -> Transcript
     ensures ending { result.ending ≡ Ending.Done }
-    ensures asked { AreAsked (A.asked answerer.old) (A.asked answerer.new) (told_by result) }
-    ensures shut { OnlyLastOpen (told_by result) }
+    ensures asked { AreAsked (A.asked answerer.old) (A.asked answerer.new) (exchanges_by result) }
+    ensures shut { OnlyLastOpen (exchanges_by result) }
 {
     let mut transcript = Transcript::new(alloc);
     'parts: for _ in rt.forever() {

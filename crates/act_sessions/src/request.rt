@@ -1,6 +1,6 @@
 use run_plan::Command;
 
-/// What a request asks for: a command, or a fault for which nothing is asked.
+/// What a request demands: a command, or a fault for which no command is submitted.
 #[derive(Drop)]
 pub enum Demand<F> {
     Command(Command),
@@ -15,10 +15,10 @@ pub struct Request<F> {
     pub closes: bool,
 }
 
-/// A request that stands whole at the front of some bytes.
+/// A whole request at the start of some bytes.
 #[derive(Drop)]
-pub struct Found<F> {
+pub struct FoundRequest<F> {
     pub request: Request<F>,
-    /// How many bytes it takes.
+    /// Its length in bytes.
     pub length: usize,
 }

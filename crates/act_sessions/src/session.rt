@@ -1,30 +1,30 @@
-ghost use Rattle.std.specs.Prelude.{Option, ◌≡◌, ◌≢◌, ◌<◌, ◌≤◌, ◌+◌, ◌==◌, ◌||◌, ◌++◌, ◌∷◌, [], ℕ, List, IfOk, IfErr, OnErr, vec_len, vec_capacity};
-ghost use Rattle.act_sessions.specs.Ends.{Ends, EndsOverSome};
-ghost use Rattle.act_sessions.specs.Session.{moment, start, Goes, IsCut, IsDone, IsPart, Moment, Place};
-ghost use Rattle.act_sessions.specs.Told.{AreAsked, OnlyLastOpen, Told, told_by};
-ghost use Rattle.act_sessions.specs.Turns.{EndsRound, GivesUp, Says, TakesTurn};
+ghost use Rattle.std.specs.Prelude.{Option, ◌≡◌, ◌<◌, ◌≤◌, ◌+◌, ◌==◌, ◌||◌, ◌++◌, ◌∷◌, [], ℕ, List, IfOk, IfErr, OnErr, vec_len, vec_capacity};
+ghost use Rattle.act_sessions.specs.Ends.{HasFailed, HasFinished};
+ghost use Rattle.act_sessions.specs.Session.{moment, Goes, IsPart, Moment, Place};
+ghost use Rattle.act_sessions.specs.Exchange.{AreAsked, OnlyLastOpen, Exchange, exchanges_by};
+ghost use Rattle.act_sessions.specs.Turns.{EndsRound, Aborts, Says, TakesTurn};
 
 use crate::answer::Answer;
+use crate::error::SessionError;
 use crate::input::await_request;
 use crate::last::ends_turn;
 use crate::output::respond;
 use crate::protocol::Protocol;
 use crate::request::{Demand, Request};
-use crate::transcript::{Asked, Ending, Part, SessionFault, Transcript};
-use crate::trouble::Trouble;
+use crate::transcript::{Ending, LoggedExchange, Part, SessionFault, Transcript};
 use run_plan::Command;
 use std::alloc::Global;
 use std::io::{Read, Write};
 use wf_value::TryCopy;
 
-/// Makes room to note a command that is to be asked, and a copy of it.
+/// Reserves space to record a command, and copies it.
 fn make_ready(
     alloc: Global,
     transcript: &mut Transcript,
     command: &Command,
-) -> Result<Command, Trouble>
+) -> Result<Command, SessionError>
     ensures copy { IfOk result (λ copy. (copy ≡ command.now) × (vec_len transcript.new.asked < vec_capacity transcript.new.asked)) }
-    ensures memory { IfErr result (λ e. e ≡ Trouble.Memory) }
+    ensures memory { IfErr result (λ e. e ≡ SessionError.Memory) }
     ensures asked { transcript.new.asked.items ≡ transcript.old.asked.items }
     ensures written { transcript.new.written ≡ transcript.old.written }
 {
@@ -32,7 +32,7 @@ fn make_ready(
     Ok(command.copy(alloc)?)
 }
 
-/// Whether a turn after so many is the last.
+/// Whether a turn after `count` others is the last.
 fn is_last(ends: bool, count: u64, most: u64) -> bool
     requires { count < most }
     ensures { result ≡ (ends || (count + 1 == most)) }
@@ -40,14 +40,14 @@ fn is_last(ends: bool, count: u64, most: u64) -> bool
     ends || count + 1 == most
 }
 
-/// Writes a text, and hands on whether it is the last of the session.
+/// Writes a text, and returns `last`.
 fn say<W: Write>(
     writer: &mut W,
     transcript: &mut Transcript,
     text: &[u8],
     last: bool,
-) -> Result<bool, Trouble>
-    ensures written { (asked : List Told) → Says (moment (W.contents writer.old) asked transcript.old)
+) -> Result<bool, SessionError>
+    ensures written { (asked : List Exchange) → Says (moment (W.contents writer.old) asked transcript.old)
         (moment (W.contents writer.new) asked transcript.new) text.now last result }
     ensures asked { transcript.new.asked ≡ transcript.old.asked }
 {
@@ -55,7 +55,7 @@ fn say<W: Write>(
     Ok(last)
 }
 
-/// Asks a command, notes it with its answer, and writes that; true where it is the last of the session.
+/// Submits a command, records it with its answer, and writes the answer. Returns whether it is the last of the session.
 fn take_command<P: Protocol, W: Write, A: Answer>(
     alloc: Global,
     writer: &mut W,
@@ -64,7 +64,7 @@ fn take_command<P: Protocol, W: Write, A: Answer>(
     command: Command,
     closes: bool,
     count: u64,
-) -> Result<bool, Trouble>
+) -> Result<bool, SessionError>
     requires { count < P.rules.most }
     ensures { TakesTurn P.rules count (record { demand = Demand.Command command; closes = closes })
         (moment (W.contents writer.old) (A.asked answerer.old) transcript.old)
@@ -74,14 +74,14 @@ fn take_command<P: Protocol, W: Write, A: Answer>(
     let answer = answerer.ask(command);
     let last = is_last(ends_turn(closes, &answer), count, P::most());
     let text = P::answer_text(alloc, last, &answer);
-    transcript.asked.push_reserved(Asked {
+    transcript.asked.push_reserved(LoggedExchange {
         command: copy,
         answer,
     });
     say(writer, transcript, &text?, last)
 }
 
-/// Answers a request for which nothing is asked; true where it is the last of the session.
+/// Answers a request for which no command is submitted. Returns whether it is the last of the session.
 fn take_fault<P: Protocol, W: Write>(
     alloc: Global,
     writer: &mut W,
@@ -89,9 +89,9 @@ fn take_fault<P: Protocol, W: Write>(
     fault: P::Fault,
     closes: bool,
     count: u64,
-) -> Result<bool, Trouble>
+) -> Result<bool, SessionError>
     requires { count < P.rules.most }
-    ensures { (asked : List Told) → TakesTurn P.rules count (record { demand = Demand.Fault fault; closes = closes })
+    ensures { (asked : List Exchange) → TakesTurn P.rules count (record { demand = Demand.Fault fault; closes = closes })
         (moment (W.contents writer.old) asked transcript.old)
         (moment (W.contents writer.new) asked transcript.new) result }
 {
@@ -100,7 +100,7 @@ fn take_fault<P: Protocol, W: Write>(
     say(writer, transcript, &text, last)
 }
 
-/// Answers one request; true where it is the last of the session.
+/// Answers one request. Returns whether it is the last of the session.
 fn take_turn<P: Protocol, W: Write, A: Answer>(
     alloc: Global,
     writer: &mut W,
@@ -108,7 +108,7 @@ fn take_turn<P: Protocol, W: Write, A: Answer>(
     transcript: &mut Transcript,
     request: Request<P::Fault>,
     count: u64,
-) -> Result<bool, Trouble>
+) -> Result<bool, SessionError>
     requires { count < P.rules.most }
     ensures { TakesTurn P.rules count request
         (moment (W.contents writer.old) (A.asked answerer.old) transcript.old)
@@ -123,26 +123,27 @@ fn take_turn<P: Protocol, W: Write, A: Answer>(
     }
 }
 
-/// Ends a session that can't go on: for want of memory by saying so where the protocol has words for it, and else by a fault.
-fn give_up<P: Protocol, W: Write>(
+/// Ends a session that cannot continue. Running out of memory is reported if the protocol has a response for it; otherwise the session
+/// ends with a fault.
+fn abort<P: Protocol, W: Write>(
     writer: &mut W,
     transcript: &mut Transcript,
-    trouble: Trouble,
+    error: SessionError,
 ) -> Ending
-    ensures { (asked : List Told) → GivesUp P.rules trouble (moment (W.contents writer.old) asked transcript.old)
+    ensures { (asked : List Exchange) → Aborts P.rules error (moment (W.contents writer.old) asked transcript.old)
         (moment (W.contents writer.new) asked transcript.new) result }
 {
-    match (trouble, P::starved()) {
-        (Trouble::Memory, Some(text)) => match respond(writer, transcript, text) {
+    match (error, P::out_of_memory_response()) {
+        (SessionError::Memory, Some(text)) => match respond(writer, transcript, text) {
             Ok(()) => Ending::Done,
             Err(_) => Ending::Broken,
         },
-        (Trouble::Memory, None) => Ending::Memory,
-        (Trouble::Broken, _) => Ending::Broken,
+        (SessionError::Memory, None) => Ending::Memory,
+        (SessionError::Broken, _) => Ending::Broken,
     }
 }
 
-/// Waits for one request, and answers it; true where it is the last of the session. None comes at the end of the input.
+/// Waits for one request and answers it. Returns whether it is the last of the session, or `None` at the end of the input.
 fn take_round<P: Protocol, R: Read, W: Write, A: Answer>(
     alloc: Global,
     reader: &mut R,
@@ -151,7 +152,7 @@ fn take_round<P: Protocol, R: Read, W: Write, A: Answer>(
     buffer: &mut Vec<u8>,
     transcript: &mut Transcript,
     count: u64,
-) -> Result<Option<bool>, Trouble>
+) -> Result<Option<bool>, SessionError>
     requires room { count < P.rules.most }
     requires held { vec_len buffer.old ≤ P.rules.limit }
     ensures { (from : Place) (input : Option (List ℕ)) (begin : Moment)
@@ -169,10 +170,10 @@ fn take_round<P: Protocol, R: Read, W: Write, A: Answer>(
     }
 }
 
-/// Goes on with a session: from the place that so many turns and the bytes in the buffer are, to the end of the input or of the session.
-/// What it asks is noted behind what the transcript has, whose ending stays as it is.
+/// Continues a session, after `count` turns and with the bytes in the buffer, to the end of the input or of the session. What it submits
+/// is appended to the transcript. The transcript's ending does not change.
 ///
-/// Where it waits, the count and the buffer are the place where it goes on once there are more bytes.
+/// If it waits, the count and the buffer are the place to continue from once there are more bytes.
 pub fn run_part<P: Protocol, R: Read, W: Write, A: Answer>(
     alloc: Global,
     reader: &mut R,
@@ -188,9 +189,9 @@ pub fn run_part<P: Protocol, R: Read, W: Write, A: Answer>(
         (moment (W.contents writer.old) (A.asked answerer.old) transcript.old)
         (moment (W.contents writer.new) (A.asked answerer.new) transcript.new)
         (record { turns = count.new; held = buffer.new.items }) result }
-    // What follows for whoever knows nothing of the bytes.
-    ensures told { (told : List Told) × AreAsked (A.asked answerer.old) (A.asked answerer.new) told
-        × (told_by transcript.new ≡ told_by transcript.old ++ told) × OnlyLastOpen told }
+    // What follows for an observer who knows nothing of the bytes.
+    ensures exchanges { (exchanges : List Exchange) × AreAsked (A.asked answerer.old) (A.asked answerer.new) exchanges
+        × (exchanges_by transcript.new ≡ exchanges_by transcript.old ++ exchanges) × OnlyLastOpen exchanges }
     ensures waits { result ≡ Part.Waits → (count.new < P.rules.most) × (vec_len buffer.new ≤ P.rules.limit) }
 {
     let _written = transcript.written;
@@ -202,34 +203,24 @@ pub fn run_part<P: Protocol, R: Read, W: Write, A: Answer>(
                 *count = turns;
                 return Part::Waits;
             }
-            Err(trouble) => return Part::Over(give_up::<P, W>(writer, transcript, trouble)),
+            Err(error) => return Part::Over(abort::<P, W>(writer, transcript, error)),
         }
     }
     unreachable!()
 }
 
-/// Reads requests from a stream of bytes, in whatever pieces they come, asks their commands and writes the answers, until the session ends.
-/// Room to note a command and a copy of it are made before it is asked.
+/// Reads requests from a byte stream, submits their commands and writes the answers until the session ends. Memory to record a command and
+/// its copy is reserved before the command is submitted.
 pub fn run<P: Protocol, R: Read, W: Write, A: Answer>(
     alloc: Global,
     reader: &mut R,
     writer: &mut W,
     answerer: &mut A,
 ) -> Result<Transcript, SessionFault>
-    // It went to its end, and the transcript holds what was asked and counts what was written.
-    ensures ok { IfOk result (λ t. IsDone P.rules (R.remaining reader.old) (R.remaining reader.new)
-        (start (W.contents writer.old) (A.asked answerer.old)) (moment (W.contents writer.new) (A.asked answerer.new) t)) }
-    // Memory was wanting, or a read or a write failed: so does the fault's transcript, and a front was written.
-    ensures err { IfErr result (λ f. IsCut P.rules f.transcript.ending (R.remaining reader.old) (R.remaining reader.new)
-        (start (W.contents writer.old) (A.asked answerer.old)) (moment (W.contents writer.new) (A.asked answerer.new) f.transcript)) }
-    // What follows for whoever knows the reader's bytes alone.
-    ensures ended { IfOk result (λ t. (t.ending ≡ Ending.Done) × Ends P.rules (R.remaining reader.old) t
-        × AreAsked (A.asked answerer.old) (A.asked answerer.new) (told_by t)) }
-    ensures stopped { IfErr result (λ f. (f.transcript.ending ≢ Ending.Done) × Ends P.rules (R.remaining reader.old) f.transcript
-        × AreAsked (A.asked answerer.old) (A.asked answerer.new) (told_by f.transcript)) }
-    // And for whoever knows nothing of them.
-    ensures heard { IfOk result (EndsOverSome P.rules) }
-    ensures heard_before { IfErr result (λ f. EndsOverSome P.rules f.transcript) }
+    ensures ok { IfOk result (HasFinished P.rules (R.remaining reader.old) (R.remaining reader.new) (W.contents writer.old) (W.contents writer.new)
+        (A.asked answerer.old) (A.asked answerer.new)) }
+    ensures err { IfErr result (λ f. HasFailed P.rules (R.remaining reader.old) (R.remaining reader.new) (W.contents writer.old) (W.contents writer.new)
+        (A.asked answerer.old) (A.asked answerer.new) f.transcript) }
 {
     let mut buffer = Vec::new(alloc);
     let mut count = 0;

@@ -1,6 +1,6 @@
 ghost use Rattle.std.specs.Prelude.{◌≡◌, ◌++◌, List};
 ghost use Rattle.act_sessions.specs.Session.{first, moment, IsPart};
-ghost use Rattle.act_sessions.specs.Told.{AreAsked, OnlyLastOpen, Told, told_by};
+ghost use Rattle.act_sessions.specs.Exchange.{AreAsked, OnlyLastOpen, Exchange, exchanges_by};
 
 use crate::answer::Answer;
 use crate::protocol::Protocol;
@@ -11,8 +11,8 @@ use std::io::{Read, Write};
 use std::marker::{Model, PhantomData};
 use std::mem;
 
-/// Where a session stands between two requests: how many it has had, and the bytes that it holds, which are no request yet. No more are held
-/// than one request may have.
+/// The state of a session between two requests: how many it has had, and the bytes it holds, which are not yet a request. It never holds
+/// more than one request may have.
 #[derive(Drop)]
 pub struct Standing<P: Protocol> {
     turns: u64,
@@ -32,7 +32,7 @@ impl<P: Protocol> Model for Standing<P> {
 }
 
 impl<P: Protocol> Standing<P> {
-    /// Before a session. No memory is taken.
+    /// The state before a session. Takes no memory.
     pub fn new(alloc: Global) -> Standing<P>
         ensures { result ≡ first }
     {
@@ -43,8 +43,8 @@ impl<P: Protocol> Standing<P> {
         }
     }
 
-    /// Goes on with the session, to the end of the input or of the session. What it asks is noted behind what the transcript has, whose ending
-    /// stays as it is. Where it waits, it goes on here once there are more bytes; where it is over, there is nothing to go on with.
+    /// Continues the session to the end of the input or of the session. What it submits is appended to the transcript, whose ending does
+    /// not change. If the session waits, it can continue from here once there are more bytes. If it is over, nothing is left to continue.
     pub fn go_on<R: Read, W: Write, A: Answer>(
         &mut self,
         alloc: Global,
@@ -56,9 +56,9 @@ impl<P: Protocol> Standing<P> {
         ensures part { IsPart P.rules self.old (R.remaining reader.old) (R.remaining reader.new)
             (moment (W.contents writer.old) (A.asked answerer.old) transcript.old)
             (moment (W.contents writer.new) (A.asked answerer.new) transcript.new) self.new result }
-        // What follows for whoever knows nothing of the bytes.
-        ensures told { (told : List Told) × AreAsked (A.asked answerer.old) (A.asked answerer.new) told
-            × (told_by transcript.new ≡ told_by transcript.old ++ told) × OnlyLastOpen told }
+        // What follows for an observer who knows nothing of the bytes.
+        ensures exchanges { (exchanges : List Exchange) × AreAsked (A.asked answerer.old) (A.asked answerer.new) exchanges
+            × (exchanges_by transcript.new ≡ exchanges_by transcript.old ++ exchanges) × OnlyLastOpen exchanges }
     {
         let mut count = self.turns;
         let mut buffer = mem::replace(&mut self.held, Vec::new(alloc));

@@ -4,9 +4,9 @@ use run_plan::{Command, Reply};
 use std::alloc::Global;
 use wf_value::{Code, Refusal};
 
-/// A command that was asked, and its answer.
+/// A submitted command and its answer.
 #[derive(Drop)]
-pub struct Asked {
+pub struct LoggedExchange {
     pub command: Command,
     pub answer: Result<Reply, Refusal>,
 }
@@ -14,9 +14,9 @@ pub struct Asked {
 /// How a session ended.
 #[derive(Clone, Copy, Debug, PartialEq, Eq)]
 pub enum Ending {
-    /// As its bytes say, or for want of memory that was told to the other side.
+    /// As its bytes say, or out of memory with a response that reported it.
     Done,
-    /// For want of memory.
+    /// Out of memory.
     Memory,
     /// By a failed read or write.
     Broken,
@@ -25,22 +25,22 @@ pub enum Ending {
 /// How a part of a session ended.
 #[derive(Clone, Copy, Debug, PartialEq, Eq)]
 pub enum Part {
-    /// Its input is at its end, before a request or inside one. With more bytes the session goes on.
+    /// Its input ended before or inside a request. The session continues once there are more bytes.
     Waits,
     /// The session is over.
     Over(Ending),
 }
 
-/// What a session asked, in order, and how many bytes it wrote.
+/// What a session submitted, in order, and how many bytes it wrote.
 #[derive(Drop)]
 pub struct Transcript {
-    pub asked: Vec<Asked>,
-    /// Bytes. It stops at `u64::MAX`.
+    pub asked: Vec<LoggedExchange>,
+    /// In bytes. The count saturates at `u64::MAX`.
     pub written: u64,
     pub ending: Ending,
 }
 
-/// A session that want of memory or a failed reader or writer ended.
+/// A session that ended out of memory or with a failed read or write.
 #[derive(Drop)]
 pub struct SessionFault {
     pub transcript: Transcript,
@@ -59,7 +59,7 @@ impl Transcript {
         }
     }
 
-    /// The transcript of a session that ends so.
+    /// The transcript with this ending.
     pub fn ended(self, ending: Ending) -> Transcript
         ensures { result ≡ record self { ending = ending } }
     {
@@ -68,7 +68,7 @@ impl Transcript {
 }
 
 impl SessionFault {
-    /// 50 for want of memory, and else 61.
+    /// 50 for out of memory, 61 otherwise.
     pub fn refusal(&self) -> Refusal
         ensures memory { self.now.transcript.ending ≡ Ending.Memory → result ≡ Refusal.Numbered Code.NoMemory }
         ensures broken { self.now.transcript.ending ≡ Ending.Broken → result ≡ Refusal.Numbered Code.StreamFailed }

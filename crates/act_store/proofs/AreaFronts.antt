@@ -1,4 +1,4 @@
--- What the first bytes of an area tell of it, and how they grow.
+-- What the first bytes of an area say about it, and how they grow.
 use Rattle.std.proofs.Common.{◌≡◌, ⊎_elim, inl, inr, ℕ, ◌+◌, ◌*◌, ◌≤◌, List, [], ◌∷◌, ◌++◌, length, take, drop, refl, sym, ◌∙◌, ap, subst, arith}
 use Rattle.std.proofs.Common.{append_assoc, append-nil, length-append, take-append-drop}
 use Rattle.std.specs.Prelude.{◌⊎◌}
@@ -17,13 +17,13 @@ no_element : (l : List ℕ) → length l ≤ 0 → l ≡ []
 no_element [] none = refl
 no_element (x ∷ l) none = absurd (omega (arith, none))
 
--- one part of a disk behind another
+-- two adjacent parts of a disk
 two_parts : (start from n : ℕ) (disk : List ℕ) → part start (from + n) disk ≡ part start from disk ++ part (start + from) n disk
 two_parts start from n disk =
     take-add from n (drop start disk)
     ∙ ap (λ (l : List ℕ). part start from disk ++ take n l) (drop-drop from start disk)
 
--- the bytes behind the first ones are filled with those that the disk has there
+-- the bytes after the first ones are filled with those of the disk
 pub filled : (start from n : ℕ) (old read disk : List ℕ) → from + n ≡ length old → length read ≡ n → read ≡ part (start + from) n disk
     → IsFrontOf start (take from old) disk → IsFrontOf start (put_mid from n old read) disk
 filled start from n old read disk all long are front =
@@ -50,7 +50,7 @@ closed_longer : (rest more : List ℕ) → IsClosed rest → IsClosed (rest ++ m
 closed_longer [] more closed = absurd closed
 closed_longer (gate ∷ rest) more closed = closed
 
--- what the first bytes of an area read as, all of it does
+-- what the first bytes of an area read as, the whole area reads as
 longer_reads : (n : ℕ) (area : List ℕ) (head : Head) (bodies : List (List ℕ)) → Reads (take n area) head bodies → Reads area head bodies
 longer_reads n area head bodies reads = record {
   rest = reads.rest ++ drop n area;
@@ -60,7 +60,7 @@ longer_reads n area head bodies reads = record {
   fits = reads.fits;
 }
 
--- and nothing else
+-- and as nothing else
 alike_some : (n : ℕ) (area : List ℕ) → ReadsSomething (take n area) → ReadsAlike (take n area) area
 alike_some n area some head bodies = (
   longer_reads n area head bodies,
@@ -91,7 +91,7 @@ alike start len bytes disk front within enough =
     (alike_some n area (subst ReadsSomething (sym cut) some)))
     enough
 
--- and they stay short: where twice as many are read, those that were read before read as nothing
+-- The bytes stay few: twice as many are read only if the earlier ones read as nothing.
 pub still_short : (old new : List ℕ) (n : ℕ) → length old ≡ n → take n new ≡ old → ReadsNothing old
     → (length new ≤ 65536) ⊎ (length new ≤ 2 * n) → IsShort new
 still_short old new n long front nothing at_most =

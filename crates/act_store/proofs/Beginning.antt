@@ -1,4 +1,4 @@
--- How a store begins: with an empty history, at the table that its disk stands for.
+-- How a store begins: with an empty history, at the table that its disk recovers to.
 use Rattle.std.proofs.Common.{◌≡◌, inl, ℕ, ◌<◌, List, [], ◌∷◌, take, Bool, refl, sym, ap, subst, arith}
 use Rattle.std.specs.Prelude.{Option}
 use Rattle.std.proofs.lemmas.List.{take_all}
@@ -13,17 +13,17 @@ use Rattle.run_table.specs.Sound.{IsSound}
 use Rattle.run_table.specs.Step.{empty}
 use Rattle.run_table.specs.TableState.{TableState}
 use Rattle.act_store.specs.Entries.{table_after}
-use Rattle.act_store.specs.Images.{IsAreaLength, StandsFor}
+use Rattle.act_store.specs.Images.{IsAreaLength, RecoversTo}
 use Rattle.act_store.specs.Layouts.{current_version}
 use Rattle.act_store.specs.StoreState.{Checkpoint, StoreState}
 use Rattle.act_store.specs.Meaning.{MeansTable}
 use Rattle.act_store.specs.Promise.{IsCounted, IsSettled, IsStanding}
-use Rattle.act_store.specs.Waiting.{Waits, waits_of}
+use Rattle.act_store.specs.PendingBatch.{BatchState, batch_state_of}
 use Rattle.act_store.specs.declared.entry.Entry.{Entry}
 use Rattle.act_store.specs.declared.layout.Layout.{Layout}
 use Rattle.act_store.specs.declared.layout.Layout.TheVariants as layouts
 use Rattle.act_store.proofs.Settling.{settled_at, settled_stands}
-use Rattle.act_store.proofs.TextOfTable.{empty_spells, empty_text}
+use Rattle.act_store.proofs.TextOfTable.{empty_encodes, empty_text}
 
 abbrev pub begun : {D : Type 0} → D → ℕ → TableState → ℕ → ℕ → Layout → Option Checkpoint → Bool → List Entry → StoreState D
 begun disk area base used generation layout checkpoint failed history = record {
@@ -41,11 +41,11 @@ begun disk area base used generation layout checkpoint failed history = record {
 
 module _ {D : Type 0} (disk : D) (area : ℕ) (base : TableState) (used generation : ℕ) (layout : Layout) (checkpoint : Option Checkpoint)
     (failed : Bool) (history : List Entry) (none : history ≡ []) where
-  pub counted_begun : IsSound base → (table : TableState) → table ≡ base → (waiting : Waits) → waiting ≡ waits_of [] → IsAreaLength area
+  pub counted_begun : IsSound base → (table : TableState) → table ≡ base → (pending_batch : BatchState) → pending_batch ≡ batch_state_of [] → IsAreaLength area
       → used < area
-      → IsCounted (begun disk area base used generation layout checkpoint failed history) table waiting
-  counted_begun sound table same waiting nothing size fits =
-      subst (λ (h : List Entry). IsCounted (begun disk area base used generation layout checkpoint failed h) table waiting) (sym none) (record {
+      → IsCounted (begun disk area base used generation layout checkpoint failed history) table pending_batch
+  counted_begun sound table same pending_batch nothing size fits =
+      subst (λ (h : List Entry). IsCounted (begun disk area base used generation layout checkpoint failed h) table pending_batch) (sym none) (record {
         sound = sound;
         legal = refl;
         table_is = same;
@@ -54,9 +54,9 @@ module _ {D : Type 0} (disk : D) (area : ℕ) (base : TableState) (used generati
         size = size;
         gate_fits = fits;
         record_fits = λ less. absurd (omega (arith, less));
-        spelled = _;
+        encoded = _;
         in_layout = _;
-        waiting_is = nothing;
+        pending_batch_is = nothing;
       })
 
   pub standing_begun : (images : D → List ℕ → Type 0) (side : Side) (gate : Gate) → IsAreaLength area
@@ -82,13 +82,13 @@ means_first = record {
   layout = layouts.Second;
   layout_is = refl;
   first = empty;
-  text = empty_spells;
+  text = empty_encodes;
   commands = [];
-  batched = record { batches = []; takes = _; spelled = refl; commands_are = refl };
+  batched = record { batches = []; takes = _; encoded = refl; commands_are = refl };
   table_is = refl;
 }
 
--- the bytes that the first area is made of
+-- the bytes of the first area
 pub first_bytes : 0 ∷ behind_gate first_head []
     ≡ 0 ∷ 2 ∷ 0 ∷ 0 ∷ 0 ∷ 0 ∷ 0 ∷ 0 ∷ 0 ∷ 1 ∷ 0 ∷ 0 ∷ 0 ∷ 0 ∷ 0 ∷ 0 ∷ 0 ∷ 12 ∷ 0 ∷ 0 ∷ 0 ∷ 0 ∷ 0 ∷ 0 ∷ 0 ∷ 0 ∷ 0 ∷ 0 ∷ 0 ∷ 0 ∷ 0 ∷ []
 first_bytes = refl
@@ -109,6 +109,6 @@ first_settled area images each = record {
 }
 
 pub first_stands : (area : ℕ) (images : List ℕ → Type 0) → IsAreaLength area
-    → ((c : List ℕ) → images c → StandsWhole area First Closed c first_head []) → (c : List ℕ) → images c → StandsFor empty c
+    → ((c : List ℕ) → images c → StandsWhole area First Closed c first_head []) → (c : List ℕ) → images c → RecoversTo empty c
 first_stands area images size each =
     settled_stands area First Closed 1 30 layouts.Second empty images size (first_settled area images each)

@@ -1,17 +1,17 @@
--- What the begin of a checkpoint and its slices leave.
+-- The effect of beginning a checkpoint and writing its slices.
 use Rattle.std.proofs.Common.{◌≡◌, inl, ⊎_elim, ℕ, ◌+◌, ◌<◌, ◌≤◌, List, [], ◌∷◌, ◌++◌, length, sym, ◌∙◌, ap, subst, arith}
 use Rattle.std.proofs.Common.{Bool, true, false, drop_of_length-le, length-append}
 use Rattle.std.specs.Prelude.{Option, flat_map, map}
 use Rattle.std.proofs.lemmas.List.{take_all, length-map}
 use Rattle.act_disk.specs.Images.{EachSince}
-use Rattle.act_disk.specs.Moments.{weakened}
+use Rattle.act_disk.proofs.Moments.{weakened}
 use Rattle.gated_journal.specs.Layout.{Head}
 use Rattle.gated_journal.specs.Whole.{StandsWhole, WholeEither}
 use Rattle.gated_journal.specs.declared.gate.Gate.{Gate}
 use Rattle.gated_journal.specs.declared.gate.Gate.TheVariants.{Open, Closed}
 use Rattle.gated_journal.specs.declared.side.Side.{Side}
 use Rattle.run_table.specs.Sound.{IsSound}
-use Rattle.run_table.specs.Stored.{StoredRunner, stored_runner}
+use Rattle.stored_tables.specs.Stored.{StoredRunner, stored_runner}
 use Rattle.run_table.specs.TableState.{TableState}
 use Rattle.table_laws.proofs.ReachedTables.{after_is_sound}
 use Rattle.table_text.specs.Commands.{number}
@@ -20,46 +20,46 @@ use Rattle.table_text.specs.Tables.{last_command, lease, runner, run}
 use Rattle.table_text.proofs.LengthLaws.{length_text}
 use Rattle.act_store.specs.Checkpoints.{first_gate, text_length}
 use Rattle.act_store.specs.Entries.{commands_of, table_after}
-use Rattle.act_store.specs.StoreState.{Checkpoint, StoreState, StandsForEither, covered_table, table_of}
+use Rattle.act_store.specs.StoreState.{Checkpoint, StoreState, RecoversToEither, covered_table, table_of}
 use Rattle.act_store.specs.Promise.{IsCounted, IsSettled, IsStanding}
 use Rattle.act_store.specs.StoreSeen.{as_state}
-use Rattle.act_store.specs.Waiting.{Waits, waits_of}
+use Rattle.act_store.specs.PendingBatch.{BatchState, batch_state_of}
 use Rattle.act_store.specs.declared.entry.Entry.{Entry}
 use Rattle.act_store.specs.declared.store.Store.TheInside.{Inside}
 use Rattle.act_store.proofs.RefusalsOfCheckpoints.{MayBegin}
-use Rattle.act_store.proofs.Settling.{settled_stands, stands_for}
+use Rattle.act_store.proofs.Settling.{settled_stands, recovers_to}
 
--- ---- the runners of a table have room in its text
+-- ---- the text of a table has room for the number of its runners
 
-runner_some : (r : StoredRunner) → 1 ≤ length (runner.spelling r)
+runner_some : (r : StoredRunner) → 1 ≤ length (runner.encoding r)
 runner_some r =
     omega (
       arith,
       length_text r.name,
-      length-append (text_bytes r.name) ((pair number (pair last_command lease)).spelling (r.number, (r.last, r.holds))),
+      length-append (text_bytes r.name) ((pair number (pair last_command lease)).encoding (r.number, (r.last, r.holds))),
     )
 
-runners_some : (rs : List StoredRunner) → length rs ≤ length (flat_map runner.spelling rs)
+runners_some : (rs : List StoredRunner) → length rs ≤ length (flat_map runner.encoding rs)
 runners_some [] = omega arith
 runners_some (r ∷ rs) =
-    omega (arith, runner_some r, runners_some rs, length-append (runner.spelling r) (flat_map runner.spelling rs))
+    omega (arith, runner_some r, runners_some rs, length-append (runner.encoding r) (flat_map runner.encoding rs))
 
 runners_within : (t : TableState) → length t.runners ≤ text_length t
 runners_within t =
     let rs = map stored_runner t.runners in
     let last = word_bytes t.last_lease in
-    let runs = word_bytes (length t.runs) ++ flat_map run.spelling t.runs in
-    let behind = word_bytes (length rs) ++ flat_map runner.spelling rs in
+    let runs = word_bytes (length t.runs) ++ flat_map run.encoding t.runs in
+    let behind = word_bytes (length rs) ++ flat_map runner.encoding rs in
     omega (
       arith,
       runners_some rs,
       length-map t.runners stored_runner,
       length-append last (runs ++ behind),
       length-append runs behind,
-      length-append (word_bytes (length rs)) (flat_map runner.spelling rs),
+      length-append (word_bytes (length rs)) (flat_map runner.encoding rs),
     )
 
-module _ {D : Type 0} (s : StoreState D) (table : TableState) (waiting : Waits) (counted : IsCounted s table waiting) where
+module _ {D : Type 0} (s : StoreState D) (table : TableState) (pending_batch : BatchState) (counted : IsCounted s table pending_batch) where
   pub few_runners : MayBegin s → length table.runners ≤ 4294967295
   few_runners may =
       omega (arith, ap (λ (t : TableState). length t.runners) counted.table_is, runners_within (table_of s), may.room, counted.size.most)
@@ -73,19 +73,19 @@ module _ {D : Type 0} (s : StoreState D) (table : TableState) (waiting : Waits) 
   pub table_sound : IsSound table
   table_sound = subst (λ (t : TableState). IsSound t) (sym counted.table_is) (after_is_sound s.base (commands_of s.history) counted.sound)
 
-  -- ---- where all are covered
+  -- ---- where all entries are covered
 
   pub all_table : length s.history ≤ s.covered → covered_table s ≡ table
   all_table all = ap (λ (l : List Entry). table_after s.base l) (take_all s.covered s.history all) ∙ sym counted.table_is
 
-  pub nothing_waits : length s.history ≤ s.covered → waiting ≡ waits_of []
-  nothing_waits all = counted.waiting_is
-      ∙ ap (λ (l : List Entry). waits_of (commands_of l)) (drop_of_length-le s.history all)
+  pub nothing_waits : length s.history ≤ s.covered → pending_batch ≡ batch_state_of []
+  nothing_waits all = counted.pending_batch_is
+      ∙ ap (λ (l : List Entry). batch_state_of (commands_of l)) (drop_of_length-le s.history all)
 
   -- ---- with another checkpoint
 
   pub counted_with : (disk : D) (checkpoint : Option Checkpoint) (failed : Bool)
-      → IsCounted (record s { disk = disk; begun = checkpoint; failed = failed }) table waiting
+      → IsCounted (record s { disk = disk; begun = checkpoint; failed = failed }) table pending_batch
   counted_with disk checkpoint failed = record {
     sound = counted.sound;
     legal = counted.legal;
@@ -95,17 +95,17 @@ module _ {D : Type 0} (s : StoreState D) (table : TableState) (waiting : Waits) 
     size = counted.size;
     gate_fits = counted.gate_fits;
     record_fits = counted.record_fits;
-    spelled = counted.spelled;
+    encoded = counted.encoded;
     in_layout = counted.in_layout;
-    waiting_is = counted.waiting_is;
+    pending_batch_is = counted.pending_batch_is;
   }
 
   pub standing_failed : (images : D → List ℕ → Type 0) (side : Side) (gate : Gate) (disk : D) (checkpoint : Option Checkpoint)
-      → ((c : List ℕ) → images disk c → StandsForEither s c)
+      → ((c : List ℕ) → images disk c → RecoversToEither s c)
       → IsStanding images side gate (record s { disk = disk; begun = checkpoint; failed = true })
   standing_failed images side gate disk checkpoint each = record { each = each; settled = λ impossible. absurd (cc impossible) }
 
-  -- where all images are settled again at the covered entries
+  -- where all images agree again on the covered entries
   pub standing_with : (images : D → List ℕ → Type 0) (side : Side) (gate : Gate) (disk : D) (checkpoint : Option Checkpoint)
       → IsSettled s.area side gate s.generation s.used s.layout (covered_table s) (images disk)
       → IsStanding images side gate (record s { disk = disk; begun = checkpoint })
@@ -116,7 +116,7 @@ module _ {D : Type 0} (s : StoreState D) (table : TableState) (waiting : Waits) 
 
   module _ (images : D → List ℕ → Type 0) (side : Side) (gate : Gate)
       (settled : IsSettled s.area side gate s.generation s.used s.layout (covered_table s) (images s.disk)) where
-    -- the same head and bodies, with the other gate as it is then
+    -- the same head and bodies, with the current state of the other gate
     pub settled_again : (now : Gate) (disk : D)
         → ((c : List ℕ) → images disk c → StandsWhole s.area side now c settled.head settled.bodies)
         → IsSettled s.area side now s.generation s.used s.layout (covered_table s) (images disk)
@@ -130,11 +130,11 @@ module _ {D : Type 0} (s : StoreState D) (table : TableState) (waiting : Waits) 
       means = settled.means;
     }
 
-    whole_stands : (now : Gate) (c : List ℕ) → StandsWhole s.area side now c settled.head settled.bodies → StandsForEither s c
+    whole_stands : (now : Gate) (c : List ℕ) → StandsWhole s.area side now c settled.head settled.bodies → RecoversToEither s c
     whole_stands now c stands =
-        inl (stands_for s.area side now settled.head settled.bodies (covered_table s) c counted.size stands settled.means)
+        inl (recovers_to s.area side now settled.head settled.bodies (covered_table s) c counted.size stands settled.means)
 
-    -- after a slice, beside a closed gate
+    -- after a slice, with the other gate closed
     pub slice_settles : (disk : D) → gate ≡ Closed
         → (((c : List ℕ) → images s.disk c → StandsWhole s.area side Closed c settled.head settled.bodies)
         → (c : List ℕ) → images disk c → StandsWhole s.area side Closed c settled.head settled.bodies)
@@ -143,35 +143,35 @@ module _ {D : Type 0} (s : StoreState D) (table : TableState) (waiting : Waits) 
         settled_again gate disk (λ c now. subst (λ (g : Gate). StandsWhole s.area side g c settled.head settled.bodies) (sym closed)
         (goes_on (λ c now. subst (λ (g : Gate). StandsWhole s.area side g c settled.head settled.bodies) closed (settled.each c now)) c now))
 
-    close_stands : (c : List ℕ) → WholeEither s.area side settled.head settled.bodies c → StandsForEither s c
+    close_stands : (c : List ℕ) → WholeEither s.area side settled.head settled.bodies c → RecoversToEither s c
     close_stands c either = ⊎_elim (whole_stands Open c) (whole_stands Closed c) either
 
--- each image since a call began, as a store of this view says it
+-- each image since a call began, in terms of the store's view
 module _ {D : Type 0} (honest : D → Type 0) (images : D → List ℕ → Type 0) (s : Inside D)
-    (counted : IsCounted (as_state s) s.table s.waiting) (live : s.failed ≡ false)
+    (counted : IsCounted (as_state s) s.table s.pending_batch) (live : s.failed ≡ false)
     (standing : honest s.disk → IsStanding images s.areas.side s.other (as_state s)) (disk : D)
     (moment : D → ℕ) (images_since : D → ℕ → List ℕ → Type 0) where
   pub begin_moments : ((head : Head) (bodies : List (List ℕ)) → honest s.disk
       → ((c : List ℕ) → images s.disk c → StandsWhole s.areas.len s.areas.side s.other c head bodies)
       → EachSince moment images_since s.disk disk (WholeEither s.areas.len s.areas.side head bodies))
-      → (v : StoreState D) → as_state s ≡ v → honest v.disk → EachSince moment images_since v.disk disk (StandsForEither v)
+      → (v : StoreState D) → as_state s ≡ v → honest v.disk → EachSince moment images_since v.disk disk (RecoversToEither v)
   begin_moments closes v is =
-      subst (λ (k : StoreState D). honest k.disk → EachSince moment images_since k.disk disk (StandsForEither k)) is (λ is_honest.
+      subst (λ (k : StoreState D). honest k.disk → EachSince moment images_since k.disk disk (RecoversToEither k)) is (λ is_honest.
       let settled = (standing is_honest).settled live in
       weakened moment images_since s.disk disk (WholeEither s.areas.len s.areas.side settled.head settled.bodies)
-      (StandsForEither (as_state s)) (closes settled.head settled.bodies is_honest settled.each)
-      (close_stands (as_state s) s.table s.waiting counted images s.areas.side s.other settled))
+      (RecoversToEither (as_state s)) (closes settled.head settled.bodies is_honest settled.each)
+      (close_stands (as_state s) s.table s.pending_batch counted images s.areas.side s.other settled))
 
   pub slice_moments : (honest s.disk → s.other ≡ Closed)
       → ((head : Head) (bodies : List (List ℕ)) → honest s.disk
       → ((c : List ℕ) → images s.disk c → StandsWhole s.areas.len s.areas.side Closed c head bodies)
       → EachSince moment images_since s.disk disk (λ c. StandsWhole s.areas.len s.areas.side Closed c head bodies))
-      → (v : StoreState D) → as_state s ≡ v → honest v.disk → EachSince moment images_since v.disk disk (StandsForEither v)
+      → (v : StoreState D) → as_state s ≡ v → honest v.disk → EachSince moment images_since v.disk disk (RecoversToEither v)
   slice_moments closed puts v is =
-      subst (λ (k : StoreState D). honest k.disk → EachSince moment images_since k.disk disk (StandsForEither k)) is (λ is_honest.
+      subst (λ (k : StoreState D). honest k.disk → EachSince moment images_since k.disk disk (RecoversToEither k)) is (λ is_honest.
       let settled = (standing is_honest).settled live in
       weakened moment images_since s.disk disk (λ c. StandsWhole s.areas.len s.areas.side Closed c settled.head settled.bodies)
-      (StandsForEither (as_state s))
+      (RecoversToEither (as_state s))
       (puts settled.head settled.bodies is_honest (λ c now.
       subst (λ (g : Gate). StandsWhole s.areas.len s.areas.side g c settled.head settled.bodies) (closed is_honest) (settled.each c now)))
-      (whole_stands (as_state s) s.table s.waiting counted images s.areas.side s.other settled Closed))
+      (whole_stands (as_state s) s.table s.pending_batch counted images s.areas.side s.other settled Closed))

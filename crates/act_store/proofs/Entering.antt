@@ -1,4 +1,4 @@
--- What an entry more leaves.
+-- The effect of one more entry.
 use Rattle.std.proofs.Common.{◌≡◌, inl, inr, ◌+◌, ◌<◌, ◌≤◌, ◌^◌, Bool, List, [], ◌∷◌, ◌++◌, length, drop, false}
 use Rattle.std.proofs.Common.{sym, ◌∙◌, ap, subst, arith, length-append}
 use Rattle.std.specs.Prelude.{Some, None, if◌then◌else◌, nat_le, nat_lt}
@@ -8,19 +8,19 @@ use Rattle.std.proofs.lemmas.List.{drop-append-le, length-drop, length-map}
 use Rattle.run_plan.specs.declared.command.Command.{Command}
 use Rattle.run_table.specs.Step.{stepped}
 use Rattle.run_table.specs.TableState.{TableState}
-use Rattle.table_text.specs.Commands.{IsSpelled, command_bytes}
+use Rattle.table_text.specs.Commands.{IsEncoded, command_bytes}
 use Rattle.act_store.specs.Entries.{IsLegal, commands_of, table_after}
 use Rattle.act_store.specs.Layouts.{HasCommand, has_command}
 use Rattle.act_store.specs.StoreState.{StoreState, pending_commands, table_of}
 use Rattle.act_store.specs.Plain.{area_full, failed_earlier, history_full, old_layout, record_end, refusal_of_apply, refusal_of_form, refusal_of_room}
 use Rattle.act_store.specs.Promise.{IsCounted}
-use Rattle.act_store.specs.Waiting.{Waits, waits_of, with_command}
+use Rattle.act_store.specs.PendingBatch.{BatchState, batch_state_of, with_command}
 use Rattle.act_store.specs.declared.entry.Entry.{Entry}
 use Rattle.act_store.proofs.Histories.{commands-append, legal_more, table_more}
 use Rattle.act_store.proofs.Meanings.{all_push}
 use Rattle.act_store.proofs.Records.{length_with, waits_more}
 
--- what is known where a command is not refused
+-- what is known of a command that is not refused
 pub record IsAdmitted {D : Type 0} (s : StoreState D) (command : Command) : Type 0 where
   pub live : s.failed ≡ false
   pub fewer : length s.history < 100000
@@ -62,30 +62,30 @@ module _ {D : Type 0} (s : StoreState D) (command : Command) where
             )
       ]
 
--- A command that is not refused can be added to what waits.
-module _ {D : Type 0} (s : StoreState D) (table : TableState) (waiting : Waits) (counted : IsCounted s table waiting) (command : Command)
+-- A command that is not refused can be added to the pending ones.
+module _ {D : Type 0} (s : StoreState D) (table : TableState) (pending_batch : BatchState) (counted : IsCounted s table pending_batch) (command : Command)
     (admitted : IsAdmitted s command) where
-  pub few_wait : waiting.count + 1 < 2 ^ 32
+  pub few_wait : pending_batch.count + 1 < 2 ^ 32
   few_wait =
       omega (
         arith,
-        ap (λ (w : Waits). w.count) counted.waiting_is,
+        ap (λ (w : BatchState). w.count) counted.pending_batch_is,
         length-map (drop s.covered s.history) (λ (e : Entry). e.command),
         length-drop s.covered s.history,
         admitted.fewer,
       )
 
-  pub record_is_short : 4 + length waiting.spelled + length (command_bytes command) < 2 ^ 32
+  pub record_is_short : 4 + length pending_batch.encoded + length (command_bytes command) < 2 ^ 32
   record_is_short =
       omega (
         arith,
-        ap (λ (w : Waits). length w.spelled) counted.waiting_is,
+        ap (λ (w : BatchState). length w.encoded) counted.pending_batch_is,
         length_with (pending_commands s) command,
         admitted.room,
         counted.size.most,
       )
 
-module _ {D : Type 0} (s : StoreState D) (table : TableState) (waiting : Waits) (counted : IsCounted s table waiting)
+module _ {D : Type 0} (s : StoreState D) (table : TableState) (pending_batch : BatchState) (counted : IsCounted s table pending_batch)
     (command : Command) (entry : Entry) (history : List Entry) (asked : entry.command ≡ command)
     (reply : entry.reply ≡ (stepped table command).reply) (is : history ≡ s.history ++ entry ∷ []) where
   pending_more : commands_of (drop s.covered history) ≡ pending_commands s ++ command ∷ []
@@ -102,9 +102,9 @@ module _ {D : Type 0} (s : StoreState D) (table : TableState) (waiting : Waits) 
   told = reply ∙ ap (λ (t : TableState). (stepped t command).reply) counted.table_is
       ∙ ap (λ (c : Command). (stepped (table_of s) c).reply) (sym asked)
 
-  pub counted_entered : (more : Waits) → more ≡ with_command waiting command → IsSpelled command
+  pub counted_entered : (more : BatchState) → more ≡ with_command pending_batch command → IsEncoded command
       → IsAdmitted s command → IsCounted (record s { history = history }) (stepped table command).table more
-  counted_entered more added spelled admitted = record {
+  counted_entered more added encoded admitted = record {
     sound = counted.sound;
     legal = subst (λ (l : List Entry). IsLegal s.base l) (sym is) (legal_more s.base s.history entry counted.legal told);
     table_is =
@@ -117,11 +117,11 @@ module _ {D : Type 0} (s : StoreState D) (table : TableState) (waiting : Waits) 
     gate_fits = counted.gate_fits;
     record_fits =
         λ _. subst (λ (cs : List Command). record_end s cs ≤ s.area) (sym pending_more) admitted.room;
-    spelled = subst (λ (cs : List Command). AllByRecursion IsSpelled cs) (sym pending_more)
-        (all_push IsSpelled (pending_commands s) command counted.spelled spelled);
+    encoded = subst (λ (cs : List Command). AllByRecursion IsEncoded cs) (sym pending_more)
+        (all_push IsEncoded (pending_commands s) command counted.encoded encoded);
     in_layout = subst (λ (cs : List Command). AllByRecursion (HasCommand s.layout) cs) (sym pending_more)
         (all_push (HasCommand s.layout) (pending_commands s) command counted.in_layout admitted.has);
-    waiting_is =
-        added ∙ ap (λ (w : Waits). with_command w command) counted.waiting_is ∙ waits_more (pending_commands s) command
-        ∙ ap waits_of (sym pending_more);
+    pending_batch_is =
+        added ∙ ap (λ (w : BatchState). with_command w command) counted.pending_batch_is ∙ waits_more (pending_commands s) command
+        ∙ ap batch_state_of (sym pending_more);
   }

@@ -1,4 +1,4 @@
--- What a checkpoint that is finished stands for.
+-- The table that a finished checkpoint recovers to.
 use Rattle.std.proofs.Common.{◌≡◌, inl, inr, ⊎_elim, ℕ, ◌+◌, ◌-◌, ◌<◌, ◌≤◌, ◌^◌, List, [], ◌∷◌, ◌++◌, length, take, drop, refl, sym, ◌∙◌, ap, subst, arith}
 use Rattle.std.proofs.Common.{Bool, not, append_assoc, drop_of_length-le, length-append}
 use Rattle.std.specs.Prelude.{IfSome, None, Option, Some, flat_map, nat_lt, option_map}
@@ -7,7 +7,7 @@ use Rattle.std.proofs.lemmas.Bool.{cases_Bool, le-ltb, lt-ltb, ltb-false, ltb-tr
 use Rattle.std.specs.List.{AllByRecursion}
 use Rattle.std.proofs.lemmas.List.{take_all, length-drop, length-map}
 use Rattle.act_disk.specs.Images.{EachSince, Holds}
-use Rattle.act_disk.specs.Moments.{weakened}
+use Rattle.act_disk.proofs.Moments.{weakened}
 use Rattle.gated_journal.specs.Layout.{Fits, Head, head_bytes, record_bytes}
 use Rattle.gated_journal.specs.TwoAreas.{other, start_of, Completes}
 use Rattle.gated_journal.specs.Whole.{StandsWhole, WholeOrTurned}
@@ -16,16 +16,16 @@ use Rattle.gated_journal.specs.declared.gate.Gate.TheVariants.{Open, Closed}
 use Rattle.run_plan.specs.declared.command.Command.{Command}
 use Rattle.run_table.specs.Histories.{after}
 use Rattle.run_table.specs.TableState.{TableState}
-use Rattle.table_text.specs.Commands.{IsSpelled, batch, command_bytes}
+use Rattle.table_text.specs.Commands.{IsEncoded, batch, command_bytes}
 use Rattle.act_store.specs.Checkpoints.{first_gate, gate_behind, refusal_of_finish}
 use Rattle.act_store.specs.Entries.{commands_of, table_after}
 use Rattle.act_store.specs.Layouts.{HasCommand, batch_format, current_version, layout_of}
-use Rattle.act_store.specs.StoreState.{StoreState, StandsForEither, covered_table, table_of}
+use Rattle.act_store.specs.StoreState.{StoreState, RecoversToEither, covered_table, table_of}
 use Rattle.act_store.specs.LastPart.{bodies_of, last_part}
 use Rattle.act_store.specs.Meaning.{MeansTable}
 use Rattle.act_store.specs.Promise.{IsBegun, IsCounted, IsPut, IsSettled, IsSnapshot, IsStanding}
 use Rattle.act_store.specs.StoreSeen.{as_checkpoint, as_state}
-use Rattle.act_store.specs.Waiting.{Waits, waits_of}
+use Rattle.act_store.specs.PendingBatch.{BatchState, batch_state_of}
 use Rattle.act_store.specs.declared.begun.Begun.{Begun}
 use Rattle.act_store.specs.declared.entry.Entry.{Entry}
 use Rattle.act_store.specs.declared.layout.Layout.{Layout}
@@ -37,31 +37,31 @@ use Rattle.act_store.proofs.LastPart.{from_on}
 use Rattle.act_store.proofs.Meanings.{means_more}
 use Rattle.act_store.proofs.Records.{length_batch}
 use Rattle.act_store.proofs.RefusalsOfCheckpoints.{MayFinish, may_finish}
-use Rattle.act_store.proofs.Settling.{settled_at, settled_stands, stands_for}
+use Rattle.act_store.proofs.Settling.{settled_at, settled_stands, recovers_to}
 use Rattle.act_store.proofs.Snapshots.{it_is, length_head}
 
--- ---- the room of the last part
+-- ---- the space for the last part
 
 length_bodies : (commands : List Command) (text : ℕ) → first_gate text + length (record_bytes (bodies_of commands)) ≡ gate_behind text commands
 length_bodies [] text = omega arith
 length_bodies (c ∷ cs) text =
-    let body = batch.spelling (c ∷ cs) in
+    let body = batch.encoding (c ∷ cs) in
     let number = to_be_bytes w32 (length body) in
     let four : length number ≡ 4 = refl in
     omega (arith, four, length-append (number ++ body) [], length-append number body)
 
--- the test of it
-pub fits_is : (len front spelled area : ℕ) (entries : List Entry) → 0 < length entries → 17 ≤ front → len ≡ front
-    → spelled ≡ length (flat_map command_bytes (commands_of entries))
-    → nat_lt (len + 10 + spelled) area ≡ not (nat_lt area (gate_behind (front - 17) (commands_of entries) + 1))
-fits_is len front spelled area [] some head same is = absurd (omega (arith, some))
-fits_is len front spelled area (e ∷ es) some head same is =
+-- the test of that space
+pub fits_is : (len front encoded area : ℕ) (entries : List Entry) → 0 < length entries → 17 ≤ front → len ≡ front
+    → encoded ≡ length (flat_map command_bytes (commands_of entries))
+    → nat_lt (len + 10 + encoded) area ≡ not (nat_lt area (gate_behind (front - 17) (commands_of entries) + 1))
+fits_is len front encoded area [] some head same is = absurd (omega (arith, some))
+fits_is len front encoded area (e ∷ es) some head same is =
     let cs = commands_of (e ∷ es) in
     let end = gate_behind (front - 17) cs + 1 in
-    let place : end ≡ len + 10 + spelled + 1 = omega (arith, head, same, is, length_batch cs) in
+    let place : end ≡ len + 10 + encoded + 1 = omega (arith, head, same, is, length_batch cs) in
     elim (cases_Bool (nat_lt area end)) [
-      | inl full ↦ le-ltb (len + 10 + spelled) area (omega (arith, place, ltb-true area end full)) ∙ sym (ap (λ (x : Bool). not x) full)
-      | inr fits ↦ lt-ltb (len + 10 + spelled) area (omega (arith, place, ltb-false area end fits)) ∙ sym (ap (λ (x : Bool). not x) fits)
+      | inl full ↦ le-ltb (len + 10 + encoded) area (omega (arith, place, ltb-true area end full)) ∙ sym (ap (λ (x : Bool). not x) full)
+      | inr fits ↦ lt-ltb (len + 10 + encoded) area (omega (arith, place, ltb-false area end fits)) ∙ sym (ap (λ (x : Bool). not x) fits)
     ]
 
 short_bodies : (area text : ℕ) (commands : List Command) → area ≤ 1073741824 → gate_behind text commands ≤ area
@@ -69,21 +69,21 @@ short_bodies : (area text : ℕ) (commands : List Command) → area ≤ 10737418
 short_bodies area text [] most room = _
 short_bodies area text (c ∷ cs) most room = (omega (arith, most, room), _)
 
--- ---- what the area means that was made
+-- ---- what the new area recovers to
 
 means_with : (head : Head) (table : TableState) (commands : List Command) → length commands ≤ 4294967295
-    → AllByRecursion IsSpelled commands → layout_of head.version ≡ Some layouts.Second → MeansTable head [] table
+    → AllByRecursion IsEncoded commands → layout_of head.version ≡ Some layouts.Second → MeansTable head [] table
     → MeansTable head (bodies_of commands) (after table commands)
-means_with head table [] few spelled second means = means
-means_with head table (c ∷ cs) few spelled second means =
+means_with head table [] few encoded second means = means
+means_with head table (c ∷ cs) few encoded second means =
     means_more head [] table (c ∷ cs) means
     (subst (λ (l : Layout). (batch_format l).Takes (c ∷ cs)) (one_layout head layouts.Second means.layout second means.layout_is)
-    (omega arith, few, spelled))
+    (omega arith, few, encoded))
 
--- What a finish is given: the disk turns over with these bytes, the last part, behind what was put.
+-- The situation of a finish: the disk switches areas with these bytes, the last part, after what was put.
 pub record Finishes {D : Type 0} (honest : D → Type 0) (images : D → List ℕ → Type 0) (seen : D → List ℕ) (s : Inside D) (at : ℕ)
     (bytes : List ℕ) : Type 0 where
-  pub counted : IsCounted (as_state s) s.table s.waiting
+  pub counted : IsCounted (as_state s) s.table s.pending_batch
   pub standing : honest s.disk → IsStanding images s.areas.side s.other (as_state s)
   pub b : Begun
   pub snapshot : IsSnapshot s.base.value s.history.items s.generation s.areas.len b
@@ -91,18 +91,18 @@ pub record Finishes {D : Type 0} (honest : D → Type 0) (images : D → List �
   pub put : honest s.disk → IsPut s.areas.len s.areas.side s.other (seen s.disk) b
   pub place : at ≡ 1 + length b.front.items
   pub is : bytes ≡ last_part (commands_of (drop b.place s.history.items))
-  pub spelled : AllByRecursion IsSpelled (commands_of (drop b.place s.history.items))
+  pub encoded : AllByRecursion IsEncoded (commands_of (drop b.place s.history.items))
 
--- What is known as a checkpoint is finished, made to that.
+-- What is known as a checkpoint is finished, in that form.
 pub finishing : {D : Type 0} (honest : D → Type 0) (images : D → List ℕ → Type 0) (seen : D → List ℕ) (s : Inside D)
-    → IsCounted (as_state s) s.table s.waiting → (honest s.disk → IsStanding images s.areas.side s.other (as_state s))
+    → IsCounted (as_state s) s.table s.pending_batch → (honest s.disk → IsStanding images s.areas.side s.other (as_state s))
     → IfSome s.begun (IsBegun s.base.value s.history.items s.generation s.areas.len s.areas.side s.other (honest s.disk) s.failed (seen s.disk))
     → (v : StoreState D) → as_state s ≡ v → refusal_of_finish v ≡ None → (b : Begun) → s.begun ≡ Some b
     → (history : List Entry) → history ≡ s.history.items → (len : ℕ) → len ≡ length b.front.items → (bytes last : List ℕ) → bytes ≡ last
     → last ≡ last_part (commands_of (take (length history - b.place) (drop b.place history)))
-    → AllByRecursion IsSpelled (commands_of (take (length history - b.place) (drop b.place history)))
+    → AllByRecursion IsEncoded (commands_of (take (length history - b.place) (drop b.place history)))
     → Finishes honest images seen s (1 + len) bytes
-finishing {D} honest images seen s counted standing begun v view none b some history value len front bytes last same is spelled =
+finishing {D} honest images seen s counted standing begun v view none b some history value len front bytes last same is encoded =
     let may = may_finish (as_state s) (as_checkpoint b) (ap (λ (o : Option Begun). option_map as_checkpoint o) some)
     (subst (λ (k : StoreState D). refusal_of_finish k ≡ None) (sym view) none) in
     let so = it_is s.begun b
@@ -117,7 +117,7 @@ finishing {D} honest images seen s counted standing begun v view none b some his
       put = λ is_honest. so.1 is_honest may.live;
       place = omega (arith, front);
       is = same ∙ subst (λ (h : List Entry). last ≡ last_part (commands_of h)) on is;
-      spelled = subst (λ (h : List Entry). AllByRecursion IsSpelled (commands_of h)) on spelled;
+      encoded = subst (λ (h : List Entry). AllByRecursion IsEncoded (commands_of h)) on encoded;
     }
 
 module _ {D : Type 0} (honest : D → Type 0) (images : D → List ℕ → Type 0) (seen : D → List ℕ) (s : Inside D)
@@ -137,7 +137,7 @@ module _ {D : Type 0} (honest : D → Type 0) (images : D → List ℕ → Type 
   long_front : length f.b.front.items ≡ 17 + length f.snapshot.text
   long_front = ap (λ (l : List ℕ). length l) f.snapshot.front_is ∙ length_head (s.generation + 1) f.snapshot.text
 
-  -- the gate behind the last part has room
+  -- there is space for the gate after the last part
   room : gate_behind (length f.snapshot.text) cs + 1 ≤ s.areas.len
   room =
       let same : length f.b.front.items - 17 ≡ length f.snapshot.text = omega (arith, long_front) in
@@ -158,9 +158,9 @@ module _ {D : Type 0} (honest : D → Type 0) (images : D → List ℕ → Type 
     layout = layouts.Second;
     layout_is = refl;
     first = first;
-    text = f.snapshot.spells;
+    text = f.snapshot.encodes;
     commands = [];
-    batched = record { batches = []; takes = _; spelled = refl; commands_are = refl };
+    batched = record { batches = []; takes = _; encoded = refl; commands_are = refl };
     table_is = refl;
   }
 
@@ -174,7 +174,7 @@ module _ {D : Type 0} (honest : D → Type 0) (images : D → List ℕ → Type 
         f.counted.most,
         length-map (drop f.b.place s.history.items) (λ (e : Entry). e.command),
         length-drop f.b.place s.history.items,
-      )) f.spelled refl means_first)
+      )) f.encoded refl means_first)
 
   module _ (is_honest : honest s.disk) where
     settled : IsSettled s.areas.len s.areas.side s.other s.generation s.used s.layout (covered_table (as_state s)) (images s.disk)
@@ -199,14 +199,14 @@ module _ {D : Type 0} (honest : D → Type 0) (images : D → List ℕ → Type 
         }
 
     either_of : (c : List ℕ) → WholeOrTurned s.areas.len s.areas.side settled.head settled.bodies next others c
-        → StandsForEither (as_state s) c
+        → RecoversToEither (as_state s) c
     either_of c either = ⊎_elim
-        (λ old. inl (stands_for s.areas.len s.areas.side Closed settled.head settled.bodies (covered_table (as_state s)) c
+        (λ old. inl (recovers_to s.areas.len s.areas.side Closed settled.head settled.bodies (covered_table (as_state s)) c
         f.counted.size old settled.means))
-        (λ new. inr (stands_for s.areas.len (other s.areas.side) Open next others (table_of (as_state s)) c f.counted.size new means_all))
+        (λ new. inr (recovers_to s.areas.len (other s.areas.side) Open next others (table_of (as_state s)) c f.counted.size new means_all))
         either
 
-  -- what is promised of the turn
+  -- what the switch of areas guarantees
   abbrev pub Turns : (Head → Head → List (List ℕ) → List (List ℕ) → Type 0) → Type 0
   Turns what =
       (head next : Head) (bodies others : List (List ℕ)) → honest s.disk
@@ -214,20 +214,20 @@ module _ {D : Type 0} (honest : D → Type 0) (images : D → List ℕ → Type 
       → Completes s.areas.len s.areas.side (seen s.disk) at bytes head next others → what head next bodies others
 
   module _ (disk : D) where
-    -- each image since, as a store of this view says it
+    -- each image since the start, in terms of the store's view
     pub finish_moments : (moment : D → ℕ) (images_since : D → ℕ → List ℕ → Type 0)
         → Turns (λ head next bodies others. EachSince moment images_since s.disk disk
         (WholeOrTurned s.areas.len s.areas.side head bodies next others))
-        → (v : StoreState D) → as_state s ≡ v → honest v.disk → EachSince moment images_since v.disk disk (StandsForEither v)
+        → (v : StoreState D) → as_state s ≡ v → honest v.disk → EachSince moment images_since v.disk disk (RecoversToEither v)
     finish_moments moment images_since turns v same =
-        subst (λ (k : StoreState D). honest k.disk → EachSince moment images_since k.disk disk (StandsForEither k)) same (λ is_honest.
+        subst (λ (k : StoreState D). honest k.disk → EachSince moment images_since k.disk disk (RecoversToEither k)) same (λ is_honest.
         weakened moment images_since s.disk disk
         (WholeOrTurned s.areas.len s.areas.side (settled is_honest).head (settled is_honest).bodies next others)
-        (StandsForEither (as_state s))
+        (RecoversToEither (as_state s))
         (turns (settled is_honest).head next (settled is_honest).bodies others is_honest (shut is_honest) (completes is_honest))
         (either_of is_honest))
 
-    -- ---- once it was done
+    -- ---- once it is completed
 
     used_is : at + length bytes - 1 ≡ gate_behind (length f.snapshot.text) cs
     used_is =
@@ -272,7 +272,7 @@ module _ {D : Type 0} (honest : D → Type 0) (images : D → List ℕ → Type 
     }
 
     module _ (covered used : ℕ) (all : covered ≡ length s.history.items) (here : used ≡ at + length bytes - 1) where
-      pub counted_finished : (left : Waits) → left ≡ waits_of [] → IsCounted (done covered used) s.table left
+      pub counted_finished : (left : BatchState) → left ≡ batch_state_of [] → IsCounted (done covered used) s.table left
       counted_finished left nothing =
           let none : drop covered s.history.items ≡ [] = drop_of_length-le s.history.items (omega (arith, all)) in
           record {
@@ -284,9 +284,9 @@ module _ {D : Type 0} (honest : D → Type 0) (images : D → List ℕ → Type 
             size = f.counted.size;
             gate_fits = omega (arith, here, used_is, room);
             record_fits = λ less. absurd (omega (arith, less, all));
-            spelled = subst (λ (l : List Entry). AllByRecursion IsSpelled (commands_of l)) (sym none) _;
+            encoded = subst (λ (l : List Entry). AllByRecursion IsEncoded (commands_of l)) (sym none) _;
             in_layout = subst (λ (l : List Entry). AllByRecursion (HasCommand layouts.Second) (commands_of l)) (sym none) _;
-            waiting_is = nothing ∙ ap (λ (l : List Entry). waits_of (commands_of l)) (sym none);
+            pending_batch_is = nothing ∙ ap (λ (l : List Entry). batch_state_of (commands_of l)) (sym none);
           }
 
       pub standing_finished : IsSettled s.areas.len (other s.areas.side) Open (s.generation + 1) (at + length bytes - 1)

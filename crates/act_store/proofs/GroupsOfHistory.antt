@@ -1,4 +1,4 @@
--- The law of concurrency groups over the history of a store is that of the commands of its entries.
+-- The law of concurrency groups over a store's history is that over the commands of its entries.
 use Rattle.std.proofs.Common.{List}
 use Rattle.run_table.specs.Sound.{IsSound}
 use Rattle.run_table.specs.TableState.{TableState}

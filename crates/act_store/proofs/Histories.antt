@@ -1,4 +1,4 @@
--- A history with one entry more.
+-- A history with one more entry.
 use Rattle.std.proofs.Common.{◌≡◌, ℕ, List, [], ◌∷◌, ◌++◌, take, drop, refl, sym, ◌∙◌, ap, take-append-drop}
 use Rattle.std.proofs.lemmas.List.{map-append}
 use Rattle.run_plan.specs.declared.command.Command.{Command}
@@ -21,14 +21,14 @@ pub table-append : (base : TableState) (one two : List Entry) → table_after ba
 table-append base one two =
     ap (λ (l : List Command). after base l) (commands-append one two) ∙ after_both base (commands_of one) (commands_of two)
 
--- the table of all entries is that of the first ones, and then of the others
+-- the table after all entries is the one after the first n, advanced by the rest
 pub table_split : (base : TableState) (n : ℕ) (history : List Entry)
     → after (table_after base (take n history)) (commands_of (drop n history)) ≡ table_after base history
 table_split base n history =
     sym (table-append base (take n history) (drop n history))
     ∙ ap (λ (l : List Entry). table_after base l) (take-append-drop n history)
 
--- an entry whose reply is the step's
+-- an entry with the reply of its step
 pub legal_more : (base : TableState) (history : List Entry) (entry : Entry) → IsLegal base history
     → entry.reply ≡ (stepped (table_after base history) entry.command).reply → IsLegal base (history ++ entry ∷ [])
 legal_more base history entry legal reply =

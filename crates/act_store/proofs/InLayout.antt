@@ -1,4 +1,4 @@
--- What is spelled in a layout.
+-- What is encoded in a layout.
 use Rattle.std.proofs.Common.{◌≡◌, List, [], ◌∷◌, refl, sym, ◌∙◌, ap}
 use Rattle.std.specs.Prelude.{◌&&◌, Some, true}
 use Rattle.std.specs.List.{AllByRecursion, list_all}
@@ -39,16 +39,16 @@ pub batches_begin_none : (layout : Layout) → NoneBeginsAnother (batch_format l
 batches_begin_none layouts.First = first_batch_begins_none
 batches_begin_none layouts.Second = none_begins batch batch_at batch_reads
 
--- each layout spells a batch in the same bytes
-pub same_spelling : (layout : Layout) (commands : List Command) → (batch_format layout).spelling commands ≡ batch.spelling commands
-same_spelling layouts.First commands = refl
-same_spelling layouts.Second commands = refl
+-- each layout encodes a batch as the same bytes
+pub same_encoding : (layout : Layout) (commands : List Command) → (batch_format layout).encoding commands ≡ batch.encoding commands
+same_encoding layouts.First commands = refl
+same_encoding layouts.Second commands = refl
 
 listed : (commands : List Command) → AllByRecursion (HasCommand layouts.First) commands → list_all is_in_first_layout commands ≡ true
 listed [] all = refl
 listed (c ∷ cs) all = ap (λ b. b && list_all is_in_first_layout cs) all.0 ∙ listed cs all.1
 
--- where it has the commands
+-- provided that it has the commands
 pub takes_batch : (layout : Layout) (commands : List Command) → batch.Takes commands → AllByRecursion (HasCommand layout) commands
     → (batch_format layout).Takes commands
 takes_batch layouts.First commands takes all = (takes, listed commands all)

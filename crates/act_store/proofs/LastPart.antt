@@ -10,50 +10,50 @@ use Rattle.run_plan.specs.declared.command.Command.{Command}
 use Rattle.table_text.specs.Commands.{batch, command_bytes}
 use Rattle.act_store.specs.Entries.{commands_of}
 use Rattle.act_store.specs.LastPart.{last_part}
-use Rattle.act_store.specs.Waiting.{body_of, waits_of}
+use Rattle.act_store.specs.PendingBatch.{body_of, batch_state_of}
 use Rattle.act_store.specs.declared.entry.Entry.{Entry}
 use Rattle.act_store.proofs.Histories.{commands-append}
 use Rattle.act_store.proofs.Records.{batch_body}
 
-abbrev spelled : List Entry → ℕ
-spelled entries = length (flat_map command_bytes (commands_of entries))
+abbrev encoded : List Entry → ℕ
+encoded entries = length (flat_map command_bytes (commands_of entries))
 
-spelled-append : (one two : List Entry) → spelled (one ++ two) ≡ spelled one + spelled two
-spelled-append one two =
+encoded-append : (one two : List Entry) → encoded (one ++ two) ≡ encoded one + encoded two
+encoded-append one two =
     ap (λ (l : List Command). length (flat_map command_bytes l)) (commands-append one two)
     ∙ ap (λ (l : List ℕ). length l) (flat_map-append command_bytes (commands_of one) (commands_of two))
     ∙ length-append (flat_map command_bytes (commands_of one)) (flat_map command_bytes (commands_of two))
 
-spelled-one : (e : Entry) → spelled (e ∷ []) ≡ length (command_bytes e.command)
-spelled-one e = ap (λ (l : List ℕ). length l) (append-nil (command_bytes e.command))
+encoded-one : (e : Entry) → encoded (e ∷ []) ≡ length (command_bytes e.command)
+encoded-one e = ap (λ (l : List ℕ). length l) (append-nil (command_bytes e.command))
 
--- one entry more
-pub spelled_push : (entries : List Entry) (i : ℕ) (e : Entry) → i < length entries → e ≡ get_or entries i e
+-- one more entry
+pub encoded_push : (entries : List Entry) (i : ℕ) (e : Entry) → i < length entries → e ≡ get_or entries i e
     → length (flat_map command_bytes (commands_of (take (i + 1) entries)))
     ≡ length (flat_map command_bytes (commands_of (take i entries))) + length (command_bytes e.command)
-spelled_push entries i e below is =
-    ap (λ (l : List Entry). spelled l) (take_more entries i e below ∙ ap (λ (x : Entry). take i entries ++ x ∷ []) (sym is))
-    ∙ spelled-append (take i entries) (e ∷ []) ∙ ap (λ (n : ℕ). spelled (take i entries) + n) (spelled-one e)
+encoded_push entries i e below is =
+    ap (λ (l : List Entry). encoded l) (take_more entries i e below ∙ ap (λ (x : Entry). take i entries ++ x ∷ []) (sym is))
+    ∙ encoded-append (take i entries) (e ∷ []) ∙ ap (λ (n : ℕ). encoded (take i entries) + n) (encoded-one e)
 
-pub spelled_within : (entries : List Entry) (i : ℕ) (e : Entry) → i < length entries → e ≡ get_or entries i e
+pub encoded_within : (entries : List Entry) (i : ℕ) (e : Entry) → i < length entries → e ≡ get_or entries i e
     → length (flat_map command_bytes (commands_of (take i entries))) + length (command_bytes e.command)
     ≤ length (flat_map command_bytes (commands_of entries))
-spelled_within entries i e below is =
+encoded_within entries i e below is =
     omega (
       arith,
-      spelled_push entries i e below is,
-      ap (λ (l : List Entry). spelled l) (take-append-drop (i + 1) entries),
-      spelled-append (take (i + 1) entries) (drop (i + 1) entries),
+      encoded_push entries i e below is,
+      ap (λ (l : List Entry). encoded l) (take-append-drop (i + 1) entries),
+      encoded-append (take (i + 1) entries) (drop (i + 1) entries),
     )
 
 pub last_is : (commands : List Command) (bytes : List ℕ) → 0 < length commands
-    → bytes ≡ 0xA5 ∷ record_of (body_of (waits_of commands)) → bytes ≡ last_part commands
+    → bytes ≡ 0xA5 ∷ record_of (body_of (batch_state_of commands)) → bytes ≡ last_part commands
 last_is [] bytes some is = absurd (omega (arith, some))
 last_is (c ∷ cs) bytes some is =
     is ∙ ap (λ (b : List ℕ). 0xA5 ∷ (framed b ++ 0 ∷ [])) (batch_body (c ∷ cs))
-    ∙ ap (λ (l : List ℕ). 0xA5 ∷ (l ++ 0 ∷ [])) (sym (append-nil (framed (batch.spelling (c ∷ cs)))))
+    ∙ ap (λ (l : List ℕ). 0xA5 ∷ (l ++ 0 ∷ [])) (sym (append-nil (framed (batch.encoding (c ∷ cs)))))
 
--- the entries from a place on
+-- the entries from a position on
 pub from_on : (place : ℕ) (entries other : List Entry) → other ≡ entries
     → take (length other - place) (drop place other) ≡ drop place entries
 from_on place entries other is =

@@ -21,7 +21,7 @@ mod Reopening
 mod Replaying
 mod Settling
 mod Snapshots
-mod SpelledAlike
-mod Spelling
+mod EncodedAlike
+mod Encoding
 mod TextOfTable
 mod WholeTexts

@@ -1,4 +1,4 @@
--- A gate that is closed, and so is not written.
+-- A gate that is already closed, and so is not written.
 use Rattle.std.proofs.Common.{◌≡◌, ℕ, List, [], ◌∷◌, refl, subst}
 use Rattle.std.specs.Prelude.{false}
 use Rattle.gated_journal.specs.Layout.{IsClosed}
@@ -20,11 +20,11 @@ gate_of_closed Open (g ∷ behind) is closed = absurd (closed is)
 module _ {D : Type 0} (honest : D → Type 0) (images : D → List ℕ → Type 0) (seen : D → List ℕ) (s : Inside D)
     (live : s.failed ≡ false) (standing : honest s.disk → IsStanding images s.areas.side s.other (as_state s))
     (now : honest s.disk → images s.disk (seen s.disk)) (disk : D) where
-  -- of a store that has not failed
+  -- for a store that has not failed
   pub uncalled : (s.other ≡ Closed → disk ≡ s.disk) → (v : StoreState D) → as_state s ≡ v
       → honest v.disk → IsShutBeside v.area (seen v.disk) → disk ≡ v.disk
   uncalled same v is =
       subst (λ (k : StoreState D). honest k.disk → IsShutBeside k.area (seen k.disk) → disk ≡ k.disk) is (λ is_honest shut.
       let stands = ((standing is_honest).settled live).each (seen s.disk) (now is_honest) in
       same (gate_of_closed s.other (area_on s.areas.len (other s.areas.side) (seen s.disk)) stands.stands.other_gate
-      (shut s.areas.side stands.stands.spells.stands)))
+      (shut s.areas.side stands.stands.encodes.stands)))

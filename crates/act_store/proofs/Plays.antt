@@ -1,4 +1,4 @@
--- What steps leave, one after another.
+-- The effect of several steps in a row.
 use Rattle.std.proofs.Common.{◌≡◌, ⊎_elim, ◌↔◌, ℕ, ◌+◌, ◌<◌, ◌≤◌, List, [], ◌∷◌, ◌++◌, length, take, refl, sym, ◌∙◌, ap, subst, arith}
 use Rattle.std.proofs.Common.{append_assoc, drop, get_or, length-append, take-append-drop, Bool, true, false}
 use Rattle.std.specs.Prelude.{Option, Some, None, IfOk, IsSomeAnd, OnErr, Result, Ok, Err, option_map, if◌then◌else◌}
@@ -6,14 +6,14 @@ use Rattle.std.proofs.Math.Nat.{eq-or-lt_of_le}
 use Rattle.std.proofs.lemmas.List.{append-nil, take_all, take-append-le, take_more}
 use Rattle.wf_value.specs.declared.refusal.Refusal.{Refusal}
 use Rattle.act_disk.specs.Images.{EachSince}
-use Rattle.act_disk.specs.Moments.{started, weakened, joined}
+use Rattle.act_disk.proofs.Moments.{started, weakened, joined}
 use Rattle.run_plan.specs.declared.command.Command.{Command}
 use Rattle.run_plan.specs.declared.reply.Reply.{Reply}
 use Rattle.run_table.specs.TableState.{TableState}
 use Rattle.act_store.specs.Checkpoints.{dropped, finished, taken, with_slice}
 use Rattle.act_store.specs.Entries.{table_after}
-use Rattle.act_store.specs.Images.{StandsFor}
-use Rattle.act_store.specs.StoreState.{Checkpoint, StoreState, StandsForEither, StandsForSome}
+use Rattle.act_store.specs.Images.{RecoversTo}
+use Rattle.act_store.specs.StoreState.{Checkpoint, StoreState, RecoversToEither, RecoversToSome}
 use Rattle.act_store.specs.Plain.{broken, committed, entered, entry_of}
 use Rattle.act_store.specs.Steps.{Counts, Covers, Grows, IsRefused, PlayEnds, Plays, PlaysSome, Replies, Survives, Takes, is_area_full, left_by}
 use Rattle.act_store.specs.declared.entry.Entry.{Entry}
@@ -22,7 +22,7 @@ use Rattle.act_store.specs.declared.step.Played.TheVariants as told
 use Rattle.act_store.specs.declared.step.Step.{Step}
 use Rattle.act_store.specs.declared.step.Step.TheVariants as asked
 
--- ---- one step more
+-- ---- one more step
 
 pub plays_more : {D : Type 0} (during : StoreState D → Played → StoreState D → Type 0) (old mid new : StoreState D) (steps : List Step)
     (answers : List Played)
@@ -48,14 +48,14 @@ module _ {D : Type 0} (during : StoreState D → Played → StoreState D → Typ
       (subst (λ (l : List Played). Plays during old (take i steps ++ step ∷ []) l new) (sym all_is)
       (plays_more during old mid new (take i steps) answers step answer plays takes so))
 
-  -- where no more of them are played
+  -- when no further step is played
   pub first_played : {T E : Type 0} (r : Result T E) (new : StoreState D) (i : ℕ) (answers : List Played)
       → Plays during old (take i steps) answers new → OnErr r (PlaysSome during old steps new)
   first_played (Ok x) new i answers plays = tt
   first_played (Err e) new i answers plays =
       record { first = take i steps; others = drop i steps; split = sym (take-append-drop i steps); answers = answers; plays = plays }
 
--- ---- what one step leaves of what there was
+-- ---- what one step preserves
 
 module _ {D : Type 0} where
   same_grows : (old new : StoreState D) → old.covered ≤ length old.history → new ≡ old → Grows old new
@@ -84,7 +84,7 @@ module _ {D : Type 0} where
   covers_grows old new count within covers = ⊎_elim (λ all. same_grows old new within (covers.none (omega (arith, all))))
       (λ less. committed_grows old new new.disk within (covers.some less)) (eq-or-lt_of_le within)
 
-  -- another disk and another checkpoint change nothing of it
+  -- a different disk or checkpoint makes no difference to it
   checkpoint_grows : (old new : StoreState D) (disk : D) (checkpoint : Option Checkpoint) (failed : Bool) → old.covered ≤ length old.history
       → new ≡ record old { disk = disk; begun = checkpoint; failed = failed } → Grows old new
   checkpoint_grows old new disk checkpoint failed within same = subst (λ (k : StoreState D). Grows old k) (sym same)
@@ -156,7 +156,7 @@ module _ {D : Type 0} where
       let first = takes_grows old plays.0 s p plays.1 within in
       grows_on old plays.0 new first (plays_grows during plays.0 new ss ps plays.3 first.within)
 
-  -- ---- what images stand for, as more is entered
+  -- ---- what images recover to, as entries are added
 
   front_same : (old new : StoreState D) → Grows old new → (count : ℕ) → count ≤ length old.history
       → table_after old.base (take count old.history) ≡ table_after new.base (take count new.history)
@@ -169,30 +169,30 @@ module _ {D : Type 0} where
   length_grows old new grows =
       omega (arith, ap (λ (l : List Entry). length l) grows.history, length-append old.history grows.more)
 
-  pub either_grown : (old new : StoreState D) → Grows old new → old.covered ≤ length old.history → (c : List ℕ) → StandsForEither old c
-      → StandsForSome new.base new.history old.covered c
+  pub either_grown : (old new : StoreState D) → Grows old new → old.covered ≤ length old.history → (c : List ℕ) → RecoversToEither old c
+      → RecoversToSome new.base new.history old.covered c
   either_grown old new grows within c either = ⊎_elim
       (λ covered. record {
         count = old.covered;
         from = omega arith;
         within = omega (arith, within, length_grows old new grows);
-        stands = subst (λ (t : TableState). StandsFor t c) (front_same old new grows old.covered within) covered;
+        stands = subst (λ (t : TableState). RecoversTo t c) (front_same old new grows old.covered within) covered;
       })
       (λ all. record {
         count = length old.history;
         from = within;
         within = length_grows old new grows;
-        stands = subst (λ (t : TableState). StandsFor t c)
+        stands = subst (λ (t : TableState). RecoversTo t c)
             (ap (λ (l : List Entry). table_after old.base l) (sym (take_all (length old.history) old.history (omega arith)))
             ∙ front_same old new grows (length old.history) (omega arith)) all;
       }) either
 
   -- the store as it is
-  pub either_now : (s : StoreState D) → s.covered ≤ length s.history → (c : List ℕ) → StandsForEither s c
-      → StandsForSome s.base s.history s.covered c
+  pub either_now : (s : StoreState D) → s.covered ≤ length s.history → (c : List ℕ) → RecoversToEither s c
+      → RecoversToSome s.base s.history s.covered c
   either_now s within c either = either_grown s s (same_grows s s within refl) within c either
 
-  -- ---- whatever came of the steps
+  -- ---- whatever the result of the steps
 
   some_played : (during : StoreState D → Played → StoreState D → Type 0) {V E : Type 0} (items : V → List Played) (result : Result V E)
       (old new : StoreState D)
@@ -219,13 +219,13 @@ module _ {D : Type 0} where
 
     pub moments_of : (old new : StoreState D) (steps : List Step) (answers : List Played) → Plays during old steps answers new
         → old.covered ≤ length old.history → honest old.disk
-        → ((c : List ℕ) → images_since new.disk (moment new.disk) c → StandsForEither new c)
-        → EachSince moment images_since old.disk new.disk (StandsForSome new.base new.history old.covered)
+        → ((c : List ℕ) → images_since new.disk (moment new.disk) c → RecoversToEither new c)
+        → EachSince moment images_since old.disk new.disk (RecoversToSome new.base new.history old.covered)
     moments_of old new [] [] plays within is_honest here =
-        let P : StoreState D → Type 0 = λ k. ((c : List ℕ) → images_since k.disk (moment k.disk) c → StandsForEither k c)
-        → EachSince moment images_since old.disk k.disk (StandsForSome k.base k.history old.covered) in
+        let P : StoreState D → Type 0 = λ k. ((c : List ℕ) → images_since k.disk (moment k.disk) c → RecoversToEither k c)
+        → EachSince moment images_since old.disk k.disk (RecoversToSome k.base k.history old.covered) in
         subst P (sym plays)
-        (λ now. started moment images_since old.disk (StandsForSome old.base old.history old.covered)
+        (λ now. started moment images_since old.disk (RecoversToSome old.base old.history old.covered)
         (λ c left. either_now old within c (now c left))) here
     moments_of old new [] (p ∷ ps) plays within is_honest here = absurd plays
     moments_of old new (s ∷ ss) [] plays within is_honest here = absurd plays
@@ -234,9 +234,9 @@ module _ {D : Type 0} where
         let so = plays.2 in
         let first = takes_grows old mid s p plays.1 within in
         let second = plays_grows during mid new ss ps plays.3 first.within in
-        joined moment images_since old.disk mid.disk new.disk (StandsForSome new.base new.history old.covered)
-        (StandsForSome new.base new.history mid.covered)
-        (weakened moment images_since old.disk mid.disk (StandsForEither old) (StandsForSome new.base new.history old.covered)
+        joined moment images_since old.disk mid.disk new.disk (RecoversToSome new.base new.history old.covered)
+        (RecoversToSome new.base new.history mid.covered)
+        (weakened moment images_since old.disk mid.disk (RecoversToEither old) (RecoversToSome new.base new.history old.covered)
         (so.any_moment is_honest) (either_grown old new (grows_on old mid new first second) within))
         (moments_of mid new ss ps plays.3 first.within (so.stays_honest.1 is_honest) here)
         (λ c some. record {
@@ -246,18 +246,18 @@ module _ {D : Type 0} where
           stands = some.stands;
         })
 
-    -- ---- what a play leaves, whatever came of it
+    -- ---- the effect of a play, whatever its result
 
     pub record PlayLeaves (images : D → List ℕ → Type 0) (old new : StoreState D) : Type 0 where
       pub grows : Grows old new
       pub stays_honest : honest new.disk ↔ honest old.disk
-      pub any_moment : honest old.disk → EachSince moment images_since old.disk new.disk (StandsForSome new.base new.history old.covered)
-      pub stands : honest new.disk → (c : List ℕ) → images new.disk c → StandsForSome new.base new.history new.covered c
+      pub any_moment : honest old.disk → EachSince moment images_since old.disk new.disk (RecoversToSome new.base new.history old.covered)
+      pub stands : honest new.disk → (c : List ℕ) → images new.disk c → RecoversToSome new.base new.history new.covered c
 
     pub play_leaves : (images : D → List ℕ → Type 0) → ((disk : D) → honest disk → (c : List ℕ) → images_since disk (moment disk) c
         → images disk c) → {V : Type 0} (items : V → List Played) (result : Result V Refusal) (old new : StoreState D) (steps : List Step)
         → PlayEnds during items old steps result new → old.covered ≤ length old.history
-        → (honest new.disk → (c : List ℕ) → images new.disk c → StandsForEither new c)
+        → (honest new.disk → (c : List ℕ) → images new.disk c → RecoversToEither new c)
         → PlayLeaves images old new
     play_leaves images only items result old new steps ends within promise =
         let some = some_played during items result old new steps ends.played ends.part in

@@ -1,4 +1,4 @@
--- A disk that is only read by one call and then by another is only read by both.
+-- Two calls in a row that only read a disk are one such call.
 use Rattle.std.specs.Prelude.{ℕ, ◌≤◌, List}
 use Rattle.std.proofs.Common.{arith, inl, inr, ◌∙◌}
 use Rattle.gated_journal.specs.Reading.{OnlyRead}

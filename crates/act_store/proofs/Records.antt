@@ -11,7 +11,7 @@ use Rattle.table_text.specs.Commands.{batch, command_bytes}
 use Rattle.table_text.specs.Format.{word_bytes}
 use Rattle.table_text.proofs.LengthLaws.{length_word}
 use Rattle.act_store.specs.Plain.{batch_length}
-use Rattle.act_store.specs.Waiting.{body_of, spelled_between, waits_of, with_command}
+use Rattle.act_store.specs.PendingBatch.{body_of, encoded_between, batch_state_of, with_command}
 
 pub word_is : (n : ℕ) → word_bytes n ≡ to_be_bytes w32 n
 unfolding word_bytes
@@ -27,37 +27,37 @@ length_record body =
     let four : length number ≡ 4 = refl in
     omega (arith, length-append (number ++ body) (0 ∷ []), length-append number body, four)
 
--- what is written back over the whole of a list
+-- writing back a whole list
 pub written_over : (now was : List ℕ) (n : ℕ) → length now ≡ n → length was ≡ n → take n (now ++ drop (length now) was) ≡ now
 written_over now was n same long =
     ap (λ (l : List ℕ). take n (now ++ l)) (drop_of_length-le was (omega (arith, same, long))) ∙ take_at now [] n same
 
--- a spelling behind the others, in the place of the last byte, and that byte behind it
-pub spelled_behind : (bytes more now : List ℕ) (gate last : ℕ) → length bytes ≡ gate + 1 → 8 ≤ gate
+-- One more encoding is appended in the place of the last byte, and that byte follows it.
+pub encoded_behind : (bytes more now : List ℕ) (gate last : ℕ) → length bytes ≡ gate + 1 → 8 ≤ gate
     → now ≡ take gate (bytes ++ more) ++ (drop (gate + 1) (bytes ++ more) ++ last ∷ [])
-    → spelled_between now ≡ spelled_between bytes ++ more
-spelled_behind bytes more now gate last long eight is =
+    → encoded_between now ≡ encoded_between bytes ++ more
+encoded_behind bytes more now gate last long eight is =
     let front = take gate bytes in
-    let spelled = drop 8 front ++ more in
+    let encoded = drop 8 front ++ more in
     let first : length front ≡ gate = length-take-le gate bytes (omega (arith, long)) in
     let parts : now ≡ front ++ (more ++ last ∷ []) =
     is ∙ ap (λ (l : List ℕ). l ++ (drop (gate + 1) (bytes ++ more) ++ last ∷ [])) (take-append-le gate bytes more (omega (arith, long)))
     ∙ ap (λ (l : List ℕ). front ++ (l ++ last ∷ [])) (drop_at bytes more (gate + 1) long) in
-    let behind : drop 8 now ≡ spelled ++ last ∷ [] =
+    let behind : drop 8 now ≡ encoded ++ last ∷ [] =
     ap (λ (l : List ℕ). drop 8 l) parts ∙ drop-append-le 8 front (more ++ last ∷ []) (omega (arith, first, eight))
     ∙ sym (append_assoc (drop 8 front) more (last ∷ [])) in
     let size : length now ≡ length bytes + length more =
     omega (arith, ap (λ (l : List ℕ). length l) parts, length-append front (more ++ last ∷ []), length-append more (last ∷ []), first, long)
     in
-    let count : length spelled ≡ length now - 9 =
+    let count : length encoded ≡ length now - 9 =
     omega (arith, length-append (drop 8 front) more, length-drop 8 front, first, size, long, eight) in
     let some : gate ≡ 8 + (length bytes - 9) = omega (arith, long, eight) in
     ap (λ (l : List ℕ). take (length now - 9) l) behind
-    ∙ take_at spelled (last ∷ []) (length now - 9) count
+    ∙ take_at encoded (last ∷ []) (length now - 9) count
     ∙ ap (λ (n : ℕ). drop 8 (take n bytes) ++ more) some
     ∙ ap (λ (l : List ℕ). l ++ more) (drop-take 8 (length bytes - 9) bytes)
 
--- the commands that wait, and one more
+-- the pending commands and one more
 pub commands_with : (commands : List Command) (more : Command)
     → flat_map command_bytes (commands ++ more ∷ []) ≡ flat_map command_bytes commands ++ command_bytes more
 commands_with commands more =
@@ -74,13 +74,13 @@ length_with commands more =
       length-append (flat_map command_bytes commands) (command_bytes more),
     )
 
--- the body of the record of commands is the spelling of their batch
-pub batch_body : (commands : List Command) → body_of (waits_of commands) ≡ batch.spelling commands
+-- the body of a record of commands is the encoding of their batch
+pub batch_body : (commands : List Command) → body_of (batch_state_of commands) ≡ batch.encoding commands
 batch_body commands = ap (λ (l : List ℕ). l ++ flat_map command_bytes commands) (sym (word_is (length commands)))
 
--- what waits with one command more
-pub waits_more : (commands : List Command) (more : Command) → with_command (waits_of commands) more ≡ waits_of (commands ++ more ∷ [])
+-- the pending commands with one more
+pub waits_more : (commands : List Command) (more : Command) → with_command (batch_state_of commands) more ≡ batch_state_of (commands ++ more ∷ [])
 waits_more commands more =
-    ap (λ (n : ℕ). record { count = n; spelled = flat_map command_bytes commands ++ command_bytes more })
+    ap (λ (n : ℕ). record { count = n; encoded = flat_map command_bytes commands ++ command_bytes more })
     (sym (length-append commands (more ∷ [])))
-    ∙ ap (λ (l : List ℕ). record { count = length (commands ++ more ∷ []); spelled = l }) (sym (commands_with commands more))
+    ∙ ap (λ (l : List ℕ). record { count = length (commands ++ more ∷ []); encoded = l }) (sym (commands_with commands more))

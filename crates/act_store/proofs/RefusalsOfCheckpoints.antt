@@ -1,4 +1,4 @@
--- What holds where a call of a checkpoint, or a turn over, is not refused.
+-- What holds when a checkpoint call or `turn_over` is not refused.
 use Rattle.std.proofs.Common.{◌≡◌, inl, inr, ℕ, ◌+◌, ◌<◌, ◌≤◌, length, refl, sym, ap, subst, arith}
 use Rattle.std.proofs.Common.{Bool, not, true, false}
 use Rattle.std.specs.Prelude.{Option, Some, None, nat_lt, nat_le, is_some, option_map, if◌then◌else◌, ◌||◌}
@@ -40,7 +40,7 @@ may_begin s none =
       room = ltb-false s.area (first_gate (text_length (table_of s)) + 1) so.3;
     }
 
--- of the fields of a store with this view
+-- in terms of the fields of a store with this view
 pub begins : {D : Type 0} (s : Inside D) (v : StoreState D) → as_state s ≡ v → refusal_of_begin v ≡ None → MayBegin (as_state s)
 begins {D} s v view none = may_begin (as_state s) (subst (λ (k : StoreState D). refusal_of_begin k ≡ None) (sym view) none)
 

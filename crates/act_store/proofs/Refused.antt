@@ -1,4 +1,4 @@
--- A step that is refused: for which cause, and what it leaves.
+-- A refused step: the cause of the refusal, and its effect.
 use Rattle.std.proofs.Common.{◌≡◌, inl, inr, ⊎_elim, ◌+◌, ◌<◌, length, refl, sym, ◌∙◌, ap, subst}
 use Rattle.std.proofs.Common.{Bool, true, false, [], ◌∷◌, ◌++◌}
 use Rattle.std.specs.Prelude.{◌⊎◌, Option, Some, None, IfSome, Result, Err, if◌then◌else◌, nat_le, nat_lt, is_some}
@@ -15,7 +15,7 @@ use Rattle.act_store.specs.Steps.{IsRefused, is_area_full, left_by, refusal_of}
 use Rattle.act_store.specs.declared.step.Step.{Step}
 use Rattle.act_store.specs.declared.step.Step.TheVariants as asked
 
--- ---- what all causes have
+-- ---- a property of all causes
 
 cause_has : (P : Refusal → Type 0) (b : Bool) (x e : Refusal) (o : Option Refusal) → P x → (o ≡ Some e → P e)
     → (if b then Some x else o) ≡ Some e → P e
@@ -69,14 +69,14 @@ module _ {D : Type 0} where
   finish_no_fault : (s : StoreState D) (e : Refusal) → refusal_of s asked.Finish ≡ Some e → IsNoFault e
   finish_no_fault s e is = finish_has IsNoFault (λ clash. cc) (λ clash. cc) (λ clash. cc) s e is
 
-  -- it is the want of room, or another one
+  -- the cause is lack of space in the area, or another one
   room_or_not : (s : StoreState D) (e : Refusal) → refusal_of s asked.Finish ≡ Some e
       → ((e ≡ area_full) × (is_area_full e ≡ true)) ⊎ ((e ≡ area_full → ⊥) × (is_area_full e ≡ false))
   room_or_not s e is =
       finish_has (λ x. ((x ≡ area_full) × (is_area_full x ≡ true)) ⊎ ((x ≡ area_full → ⊥) × (is_area_full x ≡ false)))
       (inr ((λ clash. cc), refl)) (inr ((λ clash. cc), refl)) (inl (refl, refl)) s e is
 
-  -- ---- what is left
+  -- ---- the effect
 
   module _ {T : Type 0} (old new : StoreState D) (r : Result T Refusal) (e : Refusal) (is : r ≡ Err e) where
     refused_so : (step : Step) → IfSome (refusal_of old step) (λ x. r ≡ Err x)
@@ -133,7 +133,7 @@ module _ {D : Type 0} where
         )))
         (λ rest. ⊎_elim (λ fault. inr (inr (none, tt, fault, device (cc (is, fault))))) (λ some. absurd (cc (none, some))) rest) cause)
 
-    -- a commit has no other cause than an earlier fault
+    -- a commit has no cause but an earlier fault
     pub commit_refused : (old.failed ≡ true → (r ≡ Err failed_earlier) × (new ≡ old)) → (old.failed ≡ false → e ≡ device_failed)
         → (old.failed ≡ false → old.covered < length old.history) → (old.failed ≡ false → new ≡ broken old new.disk)
         → IsRefused old asked.Commit e new

@@ -1,4 +1,4 @@
--- What is found of an entry that was acknowledged, after any number of stops and openings.
+-- What is found of an acknowledged entry after any number of crashes and reopenings.
 use Rattle.std.proofs.Common.{◌≡◌, ⊎_elim, ℕ, zero, suc, ◌+◌, ◌-◌, ◌<◌, ◌≤◌, List, [], ◌∷◌, ◌++◌, length, take, drop, sym, ◌∙◌, ap, subst, arith}
 use Rattle.std.proofs.Common.{append_assoc, append-nil, length-append}
 use Rattle.std.proofs.lemmas.List.{drop_at, length-map}
@@ -32,7 +32,7 @@ legal_at base (e ∷ before) behind entry legal =
     cc legal in
     legal_at (stepped base e.command).table before behind entry rest
 
--- ---- what stands at the end of lives
+-- ---- the table at the end of the lives
 
 found_is : (left found : TableState) → FindsAgain left found → found ≡ left
 found_is left found again =
@@ -59,7 +59,7 @@ front_at (e ∷ before) behind entry (suc count) less =
     ∙ ap (λ (n : ℕ). e ∷ before ++ entry ∷ take n behind) (sym same)
 
 module _ (life : Life) (before behind : List Entry) (entry : Entry) (acknowledged : IsAcknowledged life before entry behind) where
-  -- an acknowledged entry is among those that stand
+  -- an acknowledged entry is among the recovered ones
   kept : (count : ℕ) (more : List Command) → life.covered ≤ count
       → commands_of (take count life.history) ++ more
       ≡ commands_of before ++ entry.command ∷ (commands_of (take (count - length before - 1) behind) ++ more)
@@ -97,7 +97,7 @@ module _ (life : Life) (before behind : List Entry) (entry : Entry) (acknowledge
   first_legal [] table leads = leads.legal
   first_legal (next ∷ lives) table leads = leads.0.legal
 
-  -- ---- the laws of the table's steps, of what was found
+  -- ---- the laws of the table's steps, for the recovered table
 
   module _ (lives : List Life) (table : TableState) (leads : LeadTo life lives table) where
     abbrev here : TableState
@@ -116,7 +116,7 @@ module _ (life : Life) (before behind : List Entry) (entry : Entry) (acknowledge
         stands_after life lives table leads ∙ ap (λ (l : List Command). after life.base l) (asked_parts lives table leads)
         ∙ after_both life.base (commands_of before) (entry.command ∷ later)
 
-    -- an admission that is asked again
+    -- an admission that is repeated
     pub delivery_again : (id : ℕ) (event again : Admitted) → entry.command ≡ command.Admit event → entry.reply ≡ reply.Created id
         → again.delivery ≡ event.delivery → step table (command.Admit again) ≡ (table, reply.Created id)
     delivery_again id event again asked created same =

@@ -1,4 +1,4 @@
--- Records carried out one behind the other.
+-- Records carried out one after another.
 use Rattle.std.proofs.Common.{◌≡◌, ℕ, ◌<◌, ◌≤◌, List, [], ◌∷◌, ◌++◌, length, map, refl, sym, ◌∙◌, ap, subst, append_assoc}
 use Rattle.std.specs.Prelude.{Some, None}
 use Rattle.std.specs.List.{AllByRecursion}
@@ -10,33 +10,33 @@ use Rattle.run_plan.specs.declared.command.Command.{Command}
 use Rattle.run_table.specs.Histories.{after}
 use Rattle.run_table.specs.TableState.{TableState}
 use Rattle.table_laws.proofs.LeasesStay.{after_both}
-use Rattle.table_text.specs.Format.{OpensWith as BeginsWith, Spells}
+use Rattle.table_text.specs.Format.{OpensWith as BeginsWith, Encodes}
 use Rattle.act_store.specs.Layouts.{batch_format}
 use Rattle.act_store.specs.Meaning.{SpellCommands}
 use Rattle.act_store.specs.Replayed.{IsCarried, IsReplayed}
 use Rattle.act_store.specs.declared.layout.Layout.{Layout}
 use Rattle.act_store.proofs.InLayout.{batches_begin_none}
-use Rattle.act_store.proofs.Meanings.{spell_more}
+use Rattle.act_store.proofs.Meanings.{encode_more}
 use Rattle.act_store.proofs.WholeTexts.{none_longer, none_whole, whole}
 
 -- ---- one body
 
 pub no_batch : (layout : Layout) (body : List ℕ) → ((x : List Command) (rest : List ℕ) → BeginsWith (batch_format layout) body x rest → ⊥)
-    → (commands : List Command) → Spells (batch_format layout) body commands → ⊥
-no_batch layout body none commands spells = none_whole (batch_format layout) body none commands spells
+    → (commands : List Command) → Encodes (batch_format layout) body commands → ⊥
+no_batch layout body none commands encodes = none_whole (batch_format layout) body none commands encodes
 
 pub whole_batch : (layout : Layout) (body rest : List ℕ) (commands : List Command) → BeginsWith (batch_format layout) body commands rest
-    → length rest ≤ 0 → Spells (batch_format layout) body commands
+    → length rest ≤ 0 → Encodes (batch_format layout) body commands
 whole_batch layout body rest commands begins none = whole (batch_format layout) body rest commands begins none
 
 pub left_over : (layout : Layout) (body rest : List ℕ) (found : List Command) → BeginsWith (batch_format layout) body found rest
-    → 0 < length rest → (commands : List Command) → Spells (batch_format layout) body commands → ⊥
-left_over layout body rest found begins some commands spells =
-    none_longer (batch_format layout) (batches_begin_none layout) body rest found begins some commands spells
+    → 0 < length rest → (commands : List Command) → Encodes (batch_format layout) body commands → ⊥
+left_over layout body rest found begins some commands encodes =
+    none_longer (batch_format layout) (batches_begin_none layout) body rest found begins some commands encodes
 
 pub carried_whole : (layout : Layout) (body : List ℕ) (table last : TableState) (commands : List Command)
-    → Spells (batch_format layout) body commands → last ≡ after table commands → IsCarried layout body table (Some last)
-carried_whole layout body table last commands spells is = (commands, spells, sym is)
+    → Encodes (batch_format layout) body commands → last ≡ after table commands → IsCarried layout body table (Some last)
+carried_whole layout body table last commands encodes is = (commands, encodes, sym is)
 
 -- ---- the records so far
 
@@ -44,7 +44,7 @@ pub record SoFar (layout : Layout) (records rest : List ℕ) (first table : Tabl
   pub parted : List (List ℕ)
   pub commands : List Command
   pub parts : Parts records parted rest
-  pub spelled : SpellCommands layout parted commands
+  pub encoded : SpellCommands layout parted commands
   pub table_is : after first commands ≡ table
 
 pub none_so_far : (layout : Layout) (records : List ℕ) (first : TableState) → SoFar layout records records first first
@@ -52,7 +52,7 @@ none_so_far layout records first = record {
   parted = [];
   commands = [];
   parts = record { split = refl; short = _ };
-  spelled = record { batches = []; takes = _; spelled = refl; commands_are = refl };
+  encoded = record { batches = []; takes = _; encoded = refl; commands_are = refl };
   table_is = refl;
 }
 
@@ -65,17 +65,17 @@ module _ (layout : Layout) (records rest : List ℕ) (first table : TableState) 
         parted = so.parted ++ body ∷ [];
         commands = so.commands ++ more;
         parts = parts_more records so.parted rest body behind so.parts opens;
-        spelled = subst (λ (b : List ℕ). SpellCommands layout (so.parted ++ b ∷ []) (so.commands ++ more)) (sym carried.1.1)
-            (spell_more layout so.parted so.commands more carried.1.0 so.spelled);
+        encoded = subst (λ (b : List ℕ). SpellCommands layout (so.parted ++ b ∷ []) (so.commands ++ more)) (sym carried.1.1)
+            (encode_more layout so.parted so.commands more carried.1.0 so.encoded);
         table_is = after_both first so.commands more ∙ ap (λ (t : TableState). after t more) so.table_is ∙ carried.2;
       }
 
   pub at_end : ((body behind : List ℕ) → OpensWith rest body behind → ⊥) → IsReplayed layout records first (Some table)
   at_end none bodies short is =
       let all = all_parted bodies so.parted rest short (subst (λ (l : List ℕ). Parts l so.parted rest) is so.parts) none in
-      (so.commands, subst (λ (l : List (List ℕ)). SpellCommands layout l so.commands) all so.spelled, so.table_is)
+      (so.commands, subst (λ (l : List (List ℕ)). SpellCommands layout l so.commands) all so.encoded, so.table_is)
 
-  -- records begin with those that were parted
+  -- records begin with the parsed ones
   starts : (parted bodies : List (List ℕ)) (behind : List ℕ) → AreShort parted → AreShort bodies
       → record_bytes parted ++ behind ≡ record_bytes bodies
       → (more : List (List ℕ)) × (parted ++ more ≡ bodies)
@@ -90,17 +90,17 @@ module _ (layout : Layout) (records rest : List ℕ) (first table : TableState) 
 
   among : (batches : List (List Command)) (parted : List (List ℕ)) (body : List ℕ) (more : List (List ℕ))
       → AllByRecursion (batch_format layout).Takes batches
-      → (parted ++ body ∷ []) ++ more ≡ map (batch_format layout).spelling batches
-      → (commands : List Command) × Spells (batch_format layout) body commands
+      → (parted ++ body ∷ []) ++ more ≡ map (batch_format layout).encoding batches
+      → (commands : List Command) × Encodes (batch_format layout) body commands
   among [] [] body more takes same = absurd (cc same)
   among [] (p ∷ parted) body more takes same = absurd (cc same)
   among (b ∷ batches) [] body more takes same = (b, (takes.0, cc same))
   among (b ∷ batches) (p ∷ parted) body more takes same =
-      let tails : (parted ++ body ∷ []) ++ more ≡ map (batch_format layout).spelling batches = cc same in among batches parted body more takes.1 tails
+      let tails : (parted ++ body ∷ []) ++ more ≡ map (batch_format layout).encoding batches = cc same in among batches parted body more takes.1 tails
 
   pub at_broken : (body behind : List ℕ) → OpensWith rest body behind → IsCarried layout body table None → IsReplayed layout records first None
-  at_broken body behind opens none bodies commands short is spelled =
+  at_broken body behind opens none bodies commands short is encoded =
       let parts = parts_more records so.parted rest body behind so.parts opens in
       let found = starts (so.parted ++ body ∷ []) bodies behind parts.short short (sym parts.split ∙ is) in
-      let one = among spelled.batches so.parted body found.0 spelled.takes (found.1 ∙ spelled.spelled) in
+      let one = among encoded.batches so.parted body found.0 encoded.takes (found.1 ∙ encoded.encoded) in
       none one.0 one.1

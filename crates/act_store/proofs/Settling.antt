@@ -1,4 +1,4 @@
--- How the promise of a store is kept, from call to call.
+-- How the promise of a store is kept from call to call.
 use Rattle.std.proofs.Common.{◌≡◌, inl, inr, ⊎_elim, ℕ, ◌+◌, ◌≤◌, List, [], ◌∷◌, ◌++◌, length, take, false}
 use Rattle.std.proofs.Common.{refl, sym, ◌∙◌, ap, subst, arith, length-append}
 use Rattle.std.proofs.lemmas.List.{take_all, take-append-le}
@@ -13,8 +13,8 @@ use Rattle.run_table.specs.Histories.{after}
 use Rattle.run_table.specs.TableState.{TableState}
 use Rattle.table_text.specs.Commands.{batch}
 use Rattle.act_store.specs.Entries.{table_after}
-use Rattle.act_store.specs.Images.{IsAreaLength, StandsAt, StandsFor}
-use Rattle.act_store.specs.StoreState.{StoreState, StandForCovered, StandsForEither, covered_table, pending_commands, table_of}
+use Rattle.act_store.specs.Images.{IsAreaLength, StandsAt, RecoversTo}
+use Rattle.act_store.specs.StoreState.{StoreState, StandForCovered, RecoversToEither, covered_table, pending_commands, table_of}
 use Rattle.act_store.specs.Layouts.{HasCommand, batch_format}
 use Rattle.act_store.specs.Meaning.{MeansTable}
 use Rattle.act_store.specs.Plain.{committed, used_after}
@@ -25,7 +25,7 @@ use Rattle.act_store.proofs.Histories.{table_split}
 use Rattle.act_store.proofs.InLayout.{one_layout, takes_batch}
 use Rattle.act_store.proofs.Meanings.{means_more}
 
--- where the gate behind one record more is
+-- the gate after one more record
 length-opened : (head : Head) (bodies : List (List ℕ)) (body : List ℕ)
     → length (opened head (bodies ++ body ∷ [])) ≡ length (opened head bodies) + (5 + length body)
 length-opened head bodies body =
@@ -39,29 +39,29 @@ length-opened head bodies body =
       four,
     )
 
--- an image that reads so stands for what it means
-pub stands_for : (len : ℕ) (side : Side) (gate : Gate) (head : Head) (bodies : List (List ℕ)) (table : TableState) (c : List ℕ)
-    → IsAreaLength len → StandsWhole len side gate c head bodies → MeansTable head bodies table → StandsFor table c
-stands_for len side gate head bodies table c size stands means = record {
+-- an image that reads so recovers to the table it means
+pub recovers_to : (len : ℕ) (side : Side) (gate : Gate) (head : Head) (bodies : List (List ℕ)) (table : TableState) (c : List ℕ)
+    → IsAreaLength len → StandsWhole len side gate c head bodies → MeansTable head bodies table → RecoversTo table c
+recovers_to len side gate head bodies table c size stands means = record {
   len = len;
   long = stands.whole;
   size = size;
   side = side;
   head = head;
   bodies = bodies;
-  spells = stands.stands.spells;
+  encodes = stands.stands.encodes;
   means = means;
 }
 
 pub settled_stands : (len : ℕ) (side : Side) (gate : Gate) (generation used : ℕ) (layout : Layout) (table : TableState) (images : List ℕ → Type 0)
-    → IsAreaLength len → IsSettled len side gate generation used layout table images → (c : List ℕ) → images c → StandsFor table c
+    → IsAreaLength len → IsSettled len side gate generation used layout table images → (c : List ℕ) → images c → RecoversTo table c
 settled_stands len side gate generation used layout table images size settled c now =
-    stands_for len side gate settled.head settled.bodies table c size (settled.each c now) settled.means
+    recovers_to len side gate settled.head settled.bodies table c size (settled.each c now) settled.means
 
--- and it is the area of that generation
+-- and its area has that generation
 pub settled_at_used : (len : ℕ) (side : Side) (gate : Gate) (generation used : ℕ) (layout : Layout) (table : TableState) (images : List ℕ → Type 0)
     → IsAreaLength len → IsSettled len side gate generation used layout table images → (c : List ℕ) → images c → StandsAt generation used layout table c
-unfolding settled_stands stands_for
+unfolding settled_stands recovers_to
 settled_at_used len side gate generation used layout table images size settled c now = record {
   stands = settled_stands len side gate generation used layout table images size settled c now;
   generation_is = settled.generation_is;
@@ -74,7 +74,7 @@ pub stand_covered : {D : Type 0} (images : D → List ℕ → Type 0) (side : Si
 stand_covered images side gate s size standing live =
     settled_at_used s.area side gate s.generation s.used s.layout (covered_table s) (images s.disk) size (standing.settled live)
 
--- a table that is the same one
+-- an equal table
 pub settled_at : (len : ℕ) (side : Side) (gate : Gate) (generation used : ℕ) (layout : Layout) (one two : TableState) (images : List ℕ → Type 0)
     → one ≡ two → IsSettled len side gate generation used layout one images → IsSettled len side gate generation used layout two images
 settled_at len side gate generation used layout one two images same settled =
@@ -82,9 +82,9 @@ settled_at len side gate generation used layout one two images same settled =
 
 module _ {D : Type 0} (images : D → List ℕ → Type 0) (side : Side) (gate : Gate) (s : StoreState D) (size : IsAreaLength s.area) where
   abbrev body : List ℕ
-  body = batch.spelling (pending_commands s)
+  body = batch.encoding (pending_commands s)
 
-  -- the covered entries, and then those that were pending
+  -- the covered entries and then the pending ones
   all_after : after (covered_table s) (pending_commands s) ≡ table_of s
   all_after = table_split s.base s.covered s.history
 
@@ -93,7 +93,7 @@ module _ {D : Type 0} (images : D → List ℕ → Type 0) (side : Side) (gate :
 
   module _ (settled : IsSettled s.area side gate s.generation s.used s.layout (covered_table s) (images s.disk))
       (takes : batch.Takes (pending_commands s)) (has : AllByRecursion (HasCommand s.layout) (pending_commands s)) where
-    -- the layout of what the images mean is that of the store
+    -- the layout in which the images are read is that of the store
     takes_means : (batch_format settled.means.layout).Takes (pending_commands s)
     takes_means =
         subst (λ (l : Layout). (batch_format l).Takes (pending_commands s))
@@ -106,12 +106,12 @@ module _ {D : Type 0} (images : D → List ℕ → Type 0) (side : Side) (gate :
         (means_more settled.head settled.bodies (covered_table s) (pending_commands s) settled.means takes_means)
 
     -- an image at any moment of an append
-    pub grown : (c : List ℕ) → WholeOrGrew s.area side gate settled.head settled.bodies body c → StandsForEither s c
+    pub grown : (c : List ℕ) → WholeOrGrew s.area side gate settled.head settled.bodies body c → RecoversToEither s c
     grown c either =
-        ⊎_elim (λ same. inl (stands_for s.area side gate settled.head settled.bodies (covered_table s) c size same settled.means))
-        (λ more. inr (stands_for s.area side gate settled.head (settled.bodies ++ body ∷ []) (table_of s) c size more means_all)) either
+        ⊎_elim (λ same. inl (recovers_to s.area side gate settled.head settled.bodies (covered_table s) c size same settled.means))
+        (λ more. inr (recovers_to s.area side gate settled.head (settled.bodies ++ body ∷ []) (table_of s) c size more means_all)) either
 
-    -- and once it was done
+    -- and after the append
     pub resettled : (disk : D) (used : ℕ) → used ≡ used_after s
         → ((c : List ℕ) → images disk c → StandsWhole s.area side gate c settled.head (settled.bodies ++ body ∷ []))
         → IsSettled s.area side gate s.generation used s.layout (table_of s) (images disk)
@@ -136,7 +136,7 @@ module _ {D : Type 0} (images : D → List ℕ → Type 0) (side : Side) (gate :
         settled = λ _. here;
       }
 
-  -- with an entry more
+  -- with one more entry
   pub standing_entered : (history : List Entry) (entry : Entry) → history ≡ s.history ++ entry ∷ [] → s.covered ≤ length s.history
       → s.failed ≡ false → IsStanding images side gate s → IsStanding images side gate (record s { history = history })
   standing_entered history entry is covers live standing =

@@ -1,4 +1,4 @@
--- What is kept of a checkpoint that was begun, from call to call.
+-- What is preserved of a checkpoint in progress, from call to call.
 use Rattle.std.proofs.Common.{◌≡◌, ℕ, ◌+◌, ◌-◌, ◌<◌, ◌≤◌, List, [], ◌∷◌, ◌++◌, length, take, drop, refl, sym, ◌∙◌, ap, subst, arith}
 use Rattle.std.proofs.Common.{Bool, true, false, length-append, take-add, length-take-le}
 use Rattle.std.specs.Prelude.{Option, Some, None, IfSome, is_some}
@@ -16,12 +16,12 @@ use Rattle.act_store.specs.Checkpoints.{first_gate, text_length}
 use Rattle.act_store.specs.Entries.{table_after}
 use Rattle.act_store.specs.Layouts.{current_version}
 use Rattle.act_store.specs.Promise.{IsBegun, IsPut, IsSnapshot}
-use Rattle.act_store.specs.TableText.{SpellsTable}
+use Rattle.act_store.specs.TableText.{EncodesTable}
 use Rattle.act_store.specs.declared.begun.Begun.{Begun}
 use Rattle.act_store.specs.declared.entry.Entry.{Entry}
 use Rattle.act_store.specs.declared.layout.Layout.TheVariants as layouts
 
--- ---- what is said of a value that may be there
+-- ---- statements about an optional value
 
 pub if_some : {X : Type 0} (o : Option X) (P Q : X → Type 0) → ((x : X) → P x → Q x) → IfSome o P → IfSome o Q
 if_some None P Q weaker here = tt
@@ -34,7 +34,7 @@ if_none (Some x) P none = absurd (cc none)
 pub it_is : {X : Type 0} (o : Option X) (x : X) (P : X → Type 0) → o ≡ Some x → IfSome o P → P x
 it_is {X} o x P is here = subst (λ (y : Option X). IfSome y P) is here
 
--- ---- a head with a text is 17 bytes longer than the text
+-- ---- a head is 17 bytes longer than its text
 
 pub length_head : (generation : ℕ) (text : List ℕ)
     → length (head_bytes (record { version = current_version; generation = generation; text = text })) ≡ 17 + length text
@@ -54,24 +54,24 @@ length_head generation text =
 pub snapshot_taken : (base table : TableState) (history : List Entry) (generation area : ℕ) (b : Begun)
     → table ≡ table_after base history → b.place ≡ length history → b.put ≡ 0 → generation < 18446744073709551615
     → first_gate (text_length table) + 1 ≤ area
-    → b.front.items ≡ head_bytes (record { version = current_version; generation = generation + 1; text = whole_table.spelling table })
-    → SpellsTable layouts.Second table (whole_table.spelling table) → IsSnapshot base history generation area b
-snapshot_taken base table history generation area b is place put newer room front spells = record {
-  text = whole_table.spelling table;
-  spells = subst (λ (t : TableState). SpellsTable layouts.Second t (whole_table.spelling table))
-      (is ∙ ap (λ (l : List Entry). table_after base l) (sym (take_all b.place history (omega (arith, place))))) spells;
+    → b.front.items ≡ head_bytes (record { version = current_version; generation = generation + 1; text = whole_table.encoding table })
+    → EncodesTable layouts.Second table (whole_table.encoding table) → IsSnapshot base history generation area b
+snapshot_taken base table history generation area b is place put newer room front encodes = record {
+  text = whole_table.encoding table;
+  encodes = subst (λ (t : TableState). EncodesTable layouts.Second t (whole_table.encoding table))
+      (is ∙ ap (λ (l : List Entry). table_after base l) (sym (take_all b.place history (omega (arith, place))))) encodes;
   front_is = front;
   place = omega (arith, place);
   put = omega (arith, put);
   newer = omega (arith, newer);
-  fits = omega (arith, ap (λ (l : List ℕ). length l) front, length_head (generation + 1) (whole_table.spelling table), room);
+  fits = omega (arith, ap (λ (l : List ℕ). length l) front, length_head (generation + 1) (whole_table.encoding table), room);
 }
 
 empty_of : (l : List ℕ) → length l ≡ 0 → l ≡ []
 empty_of [] none = refl
 empty_of (x ∷ xs) none = absurd (omega (arith, none))
 
--- nothing was put yet
+-- nothing is written yet
 pub held_none : (file : List ℕ) (at : ℕ) (xs : List ℕ) → Holds file at (take 0 xs)
 held_none file at xs =
     let n : length (take 0 xs) ≡ 0 = length-take-le 0 xs (omega arith) in
@@ -92,7 +92,7 @@ pub snapshot_sliced : (base : TableState) (history : List Entry) (generation are
     → IsSnapshot base history generation area b → IsSnapshot base history generation area next
 snapshot_sliced base history generation area b next front place put snapshot = record {
   text = snapshot.text;
-  spells = subst (λ (n : ℕ). SpellsTable layouts.Second (table_after base (take n history)) snapshot.text) (sym place) snapshot.spells;
+  encodes = subst (λ (n : ℕ). EncodesTable layouts.Second (table_after base (take n history)) snapshot.text) (sym place) snapshot.encodes;
   front_is = front ∙ snapshot.front_is;
   place = omega (arith, place, snapshot.place);
   put = omega (arith, put, ap (λ (l : List ℕ). length l) front);
@@ -107,15 +107,15 @@ put_sliced area side gate seen b next front closed held = record {
   held = subst (λ (l : List ℕ). Holds seen (start_of area (other side) + 1) (take next.put l)) (sym front) held;
 }
 
--- ---- beside the other calls
+-- ---- across the other calls
 
--- a history with an entry more
+-- a history with one more entry
 snapshot_entered : (base : TableState) (history more : List Entry) (entry : Entry) (generation area : ℕ) (b : Begun)
     → more ≡ history ++ entry ∷ [] → IsSnapshot base history generation area b → IsSnapshot base more generation area b
 snapshot_entered base history more entry generation area b is snapshot = record {
   text = snapshot.text;
-  spells = subst (λ (l : List Entry). SpellsTable layouts.Second (table_after base l) snapshot.text)
-      (sym (ap (λ (l : List Entry). take b.place l) is ∙ take-append-le b.place history (entry ∷ []) snapshot.place)) snapshot.spells;
+  encodes = subst (λ (l : List Entry). EncodesTable layouts.Second (table_after base l) snapshot.text)
+      (sym (ap (λ (l : List Entry). take b.place l) is ∙ take-append-le b.place history (entry ∷ []) snapshot.place)) snapshot.encodes;
   front_is = snapshot.front_is;
   place = omega (arith, snapshot.place, ap (λ (l : List Entry). length l) is, length-append history (entry ∷ []));
   put = snapshot.put;
@@ -133,13 +133,13 @@ module _ (base : TableState) (history : List Entry) (generation area : ℕ) (sid
       (IsBegun base more generation area side gate honest failed seen)
       (λ b so. (snapshot_entered base history more entry generation area b is so.0, so.1)) here
 
-  -- where the device failed nothing is known of the disk
+  -- after a device failure nothing is known of the disk
   pub begun_broken : (later : Type 0) (file : List ℕ) → IfSome o (IsBegun base history generation area side gate later true file)
   begun_broken later file =
       if_some o (IsBegun base history generation area side gate honest failed seen)
       (IsBegun base history generation area side gate later true file) (λ b so. (so.0, λ honest impossible. absurd (cc impossible))) here
 
-  -- after an append to the area that stands, what was put stands there
+  -- an append to the active area leaves what was put
   pub begun_grown : (later : Type 0) (new : List ℕ) → (later → honest) → (honest → failed ≡ false → length seen ≡ area + area)
       → (honest → (from : ℕ) (put : List ℕ) → area + area ≤ length seen → from + length put ≤ area
       → Holds seen (start_of area (other side) + from) put → Holds new (start_of area (other side) + from) put)

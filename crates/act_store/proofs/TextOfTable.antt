@@ -1,50 +1,50 @@
--- Which texts spell a table, from what is read of them.
+-- Which texts encode a table, from what is read of them.
 use Rattle.std.proofs.Common.{◌≡◌, ℕ, ◌<◌, ◌≤◌, List, [], ◌∷◌, length, refl, arith}
 use Rattle.std.specs.Prelude.{None}
 use Rattle.run_table.specs.Sound.{IsSound}
 use Rattle.run_table.specs.Step.{empty}
-use Rattle.run_table.specs.Stored.{stored_table}
+use Rattle.stored_tables.specs.Stored.{stored_table}
 use Rattle.run_table.specs.TableState.{TableState}
 use Rattle.run_table.proofs.StepKeeps.{empty_is_sound}
 use Rattle.table_text.specs.Format.{OpensWith, StandsAtFront, word_bytes}
 use Rattle.table_text.specs.Tables.{table}
 use Rattle.table_text.specs.WholeTables.{whole_table}
 use Rattle.act_store.specs.Layouts.{table_format}
-use Rattle.act_store.specs.TableText.{SpellsTable}
+use Rattle.act_store.specs.TableText.{EncodesTable}
 use Rattle.act_store.specs.declared.layout.Layout.{Layout}
 use Rattle.act_store.specs.declared.layout.Layout.TheVariants as layouts
 use Rattle.act_store.proofs.InLayout.{tables_begin_none, takes_sound}
 use Rattle.act_store.proofs.WholeTexts.{none_longer, none_whole, one_value, whole}
 
-pub one_text : (layout : Layout) (one two : TableState) (text : List ℕ) → SpellsTable layout one text → SpellsTable layout two text → one ≡ two
-unfolding SpellsTable
+pub one_text : (layout : Layout) (one two : TableState) (text : List ℕ) → EncodesTable layout one text → EncodesTable layout two text → one ≡ two
+unfolding EncodesTable
 one_text layout one two text first second = one_value (table_format layout) (tables_begin_none layout) text one two first second
 
 pub whole_text : (layout : Layout) (text rest : List ℕ) (found : TableState) → OpensWith (table_format layout) text found rest → length rest ≤ 0
-    → SpellsTable layout found text
-unfolding SpellsTable
+    → EncodesTable layout found text
+unfolding EncodesTable
 whole_text layout text rest found opens none = whole (table_format layout) text rest found opens none
 
 pub longer_text : (layout : Layout) (text rest : List ℕ) (found : TableState) → OpensWith (table_format layout) text found rest
-    → 0 < length rest → (other : TableState) → SpellsTable layout other text → ⊥
-unfolding SpellsTable
-longer_text layout text rest found opens some other spells =
-    none_longer (table_format layout) (tables_begin_none layout) text rest found opens some other spells
+    → 0 < length rest → (other : TableState) → EncodesTable layout other text → ⊥
+unfolding EncodesTable
+longer_text layout text rest found opens some other encodes =
+    none_longer (table_format layout) (tables_begin_none layout) text rest found opens some other encodes
 
 pub no_text : (layout : Layout) (text : List ℕ) → StandsAtFront (table_format layout) text None → (other : TableState)
-    → SpellsTable layout other text → ⊥
-unfolding SpellsTable
-no_text layout text none other spells = none_whole (table_format layout) text none other spells
+    → EncodesTable layout other text → ⊥
+unfolding EncodesTable
+no_text layout text none other encodes = none_whole (table_format layout) text none other encodes
 
 -- only a sound table has a text
-pub text_sound : (layout : Layout) (t : TableState) (text : List ℕ) → SpellsTable layout t text → IsSound t
-unfolding SpellsTable
-text_sound layout t text spells = takes_sound layout t spells.0
+pub text_sound : (layout : Layout) (t : TableState) (text : List ℕ) → EncodesTable layout t text → IsSound t
+unfolding EncodesTable
+text_sound layout t text encodes = takes_sound layout t encodes.0
 
--- the spelling of a sound table that has one, in the layout that is written
-pub table_spells : (t : TableState) → IsSound t → table.Takes (stored_table t) → SpellsTable layouts.Second t (whole_table.spelling t)
-unfolding SpellsTable
-table_spells t sound takes = ((sound, takes), refl)
+-- the encoding of a sound table that has one, in the layout that is written
+pub table_encodes : (t : TableState) → IsSound t → table.Takes (stored_table t) → EncodesTable layouts.Second t (whole_table.encoding t)
+unfolding EncodesTable
+table_encodes t sound takes = ((sound, takes), refl)
 
 -- ---- the empty table
 
@@ -55,10 +55,10 @@ empty_text = 0 ∷ 0 ∷ 0 ∷ 0 ∷ 0 ∷ 0 ∷ 0 ∷ 0 ∷ 0 ∷ 0 ∷ 0 ∷ 0
 empty_takes : table.Takes (stored_table empty)
 empty_takes = ((omega arith, refl), ((omega arith, omega arith, tt), ((omega arith, omega arith, tt), refl)))
 
-empty_spelled : empty_text ≡ table.spelling (stored_table empty)
+empty_encoded : empty_text ≡ table.encoding (stored_table empty)
 unfolding word_bytes
-empty_spelled = refl
+empty_encoded = refl
 
-pub empty_spells : SpellsTable layouts.Second empty empty_text
-unfolding SpellsTable
-empty_spells = ((empty_is_sound, empty_takes), empty_spelled)
+pub empty_encodes : EncodesTable layouts.Second empty empty_text
+unfolding EncodesTable
+empty_encodes = ((empty_is_sound, empty_takes), empty_encoded)

@@ -1,5 +1,5 @@
--- A checkpoint of the plain store, which writes the table into the other area while commands go on: when each of its calls is refused,
--- what it answers, and what is kept then. Own: there is no public source.
+-- A checkpoint of the abstract store. It writes the table into the other area while commands go on. This file defines when each of its
+-- calls is refused, what it returns, and its effect.
 use Rattle.std.specs.Prelude.{◌≡◌, ℕ, ◌+◌, ◌-◌, ◌==◌, List, [], ◌∷◌, length, drop, is_some, option_map, nat_le, nat_lt, if◌then◌else◌}
 use Rattle.std.specs.Prelude.{true, Bool, IsSomeAnd, Option, Some, None}
 use Rattle.wf_value.specs.declared.code.Code.TheVariants.{LastCounter}
@@ -16,11 +16,11 @@ use Rattle.act_store.specs.Plain.{area_full, batch_length, checkpoint_turn, fail
 abbrev pub last_counter : Refusal
 last_counter = Numbered LastCounter
 
--- how long the text of a table is, in the second layout, in which a checkpoint writes
+-- the length of a table's text in the second layout, which a checkpoint writes
 abbrev pub text_length : TableState → ℕ
-text_length table = length (whole_table.spelling table)
+text_length table = length (whole_table.encoding table)
 
--- where the first record's gate is, in an area whose text is so long: behind its own gate, a head of 17 bytes, and the text
+-- the offset of the first record's gate in an area with a text of this length, after the area's own gate, a head of 17 bytes and the text
 abbrev pub first_gate : ℕ → ℕ
 first_gate text = 18 + text
 
@@ -48,7 +48,7 @@ begun_at s disk = record s { disk = disk; begun = Some (taken s) }
 
 -- ---- check_slice
 
--- nothing is left to write, or none is begun
+-- nothing is left to write, or no checkpoint is begun
 abbrev pub is_written : Option Checkpoint → Bool
 is_written None = true
 is_written (Some checkpoint) = checkpoint.left == 0
@@ -69,11 +69,12 @@ left_of (Some checkpoint) = checkpoint.left
 
 -- ---- check_finish
 
--- what the entries since a checkpoint was begun ask
+-- the commands of the entries since a checkpoint was begun
 abbrev pub since : {D : Type 0} → StoreState D → Checkpoint → List Command
 since s checkpoint = commands_of (drop checkpoint.place s.history)
 
--- where the gate behind these commands is, in an area whose text is so long; they stand in one record, and without any there is none
+-- The offset of the gate after these commands, in an area with a text of this length. They are in one record; without commands there is
+-- none.
 abbrev pub gate_behind : ℕ → List Command → ℕ
 gate_behind text [] = first_gate text
 gate_behind text (command ∷ commands) = first_gate text + 5 + batch_length (command ∷ commands)
@@ -89,11 +90,11 @@ refusal_of_last s (Some checkpoint) =
 abbrev pub refusal_of_finish : {D : Type 0} → StoreState D → Option Refusal
 refusal_of_finish s = if s.failed then Some failed_earlier else refusal_of_last s s.begun
 
--- a checkpoint for whose last record there is no room
+-- drops the checkpoint, since there is no space for its last record
 abbrev pub dropped : {D : Type 0} → StoreState D → StoreState D
 dropped s = record s { begun = None }
 
--- The other area stands, in the second layout, with the text and one record of the entries since. All entries are covered.
+-- The other area is active, in the second layout, with the text and one record of the entries since. All entries are covered.
 abbrev pub finished : {D : Type 0} → StoreState D → Checkpoint → D → StoreState D
 finished s checkpoint disk = record s {
   disk = disk;
@@ -104,6 +105,6 @@ finished s checkpoint disk = record s {
   begun = None;
 }
 
--- it was the one that was begun
+-- the finished checkpoint is the one that was begun
 abbrev pub IsFinished : {D : Type 0} → StoreState D → StoreState D → Type 0
 IsFinished old new = IsSomeAnd old.begun (λ checkpoint. new ≡ finished old checkpoint new.disk)

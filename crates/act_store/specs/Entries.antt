@@ -1,5 +1,5 @@
--- The history of a store: what was asked, in order, and what each was answered. Own: there is no public source. Refused commands and
--- look-ups are entries like the others, so that nothing is shown that a history does not hold.
+-- The history of a store: the commands in order, each with its reply. Refused commands and look-ups are entries too, so a client sees
+-- nothing that the history does not contain.
 use Rattle.std.specs.Prelude.{◌≡◌, List, map}
 use Rattle.run_plan.specs.declared.command.Command.{Command}
 use Rattle.run_plan.specs.declared.reply.Reply.{Reply}
@@ -17,6 +17,6 @@ replies_of history = map (λ (e : Entry). e.reply) history
 abbrev pub table_after : TableState → List Entry → TableState
 table_after base history = after base (commands_of history)
 
--- Each reply is the one that the step of its command gives, from the table that the entries before it lead to.
+-- Each reply is the one of its command's step, from the table after the earlier entries.
 abbrev pub IsLegal : TableState → List Entry → Type 0
 IsLegal base history = replies_of history ≡ replies base (commands_of history)

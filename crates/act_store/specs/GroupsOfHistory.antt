@@ -2,7 +2,7 @@
 -- a group is in progress and at most one is pending.
 use Rattle.std.specs.Prelude.{◌≡◌, ◌≤◌, List, ◌++◌, length}
 use Rattle.group_name.specs.Group.{Group}
-use Rattle.workflow_runs.specs.Groups.{pending_in, running_in}
+use Rattle.run_states.specs.Groups.{pending_in, running_in}
 use Rattle.run_table.specs.TableState.{TableState}
 use Rattle.table_laws.specs.GroupHistories.{all_moves, asks_for_cancelling}
 use Rattle.table_laws.specs.GroupLaw.{KeepsLaw}
@@ -10,9 +10,9 @@ use Rattle.table_laws.specs.Names.{Names}
 use Rattle.act_store.specs.Entries.{commands_of, table_after}
 use Rattle.act_store.specs.declared.entry.Entry.{Entry}
 
--- After each front of the history, what a stop leaves of it among them, every group has at most one holder of each kind, of all runs and
--- legs of the table; and the moves of every group over that front, behind those that stand for the holders it had at the base, keep the
--- group law, by any names of the holders in the attempts of their runs.
+-- After each prefix of the history, including the one that a crash leaves, every group has at most one holder of each kind among all runs
+-- and legs of the table. The moves of every group over that prefix, after those that represent its holders at the base, keep the group
+-- law. This holds for any names of the holders in the attempts of their runs.
 pub record KeepsGroups (base : TableState) (history : List Entry) : Type 0 where
   pub one_pending : (before behind : List Entry) (g : Group) → history ≡ before ++ behind
       → length (pending_in (table_after base before).runs g) ≤ 1

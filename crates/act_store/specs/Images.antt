@@ -1,41 +1,41 @@
--- The table that an image of a disk stands for. Own: there is no public source.
+-- The table that an image of a disk recovers to.
 use Rattle.std.specs.Prelude.{◌≡◌, ℕ, ◌+◌, ◌≤◌, List, length, None, Some}
 use Rattle.gated_journal.specs.Layout.{Head, opened}
-use Rattle.gated_journal.specs.TwoAreas.{standing, Spells}
+use Rattle.gated_journal.specs.TwoAreas.{standing, Encodes}
 use Rattle.gated_journal.specs.declared.side.Side.{Side}
 use Rattle.run_table.specs.TableState.{TableState}
 use Rattle.act_store.specs.Layouts.{layout_of}
 use Rattle.act_store.specs.Meaning.{MeansTable}
 use Rattle.act_store.specs.declared.layout.Layout.{Layout}
 
--- how long an area may be
+-- the possible lengths of an area
 pub record IsAreaLength (len : ℕ) : Type 0 where
   pub least : 4096 ≤ len
   pub most : len ≤ 1073741824
 
--- The image is two areas long, and the one that stands spells this table.
-pub record StandsFor (table : TableState) (image : List ℕ) : Type 0 where
+-- The image is two areas long, and the active one encodes this table.
+pub record RecoversTo (table : TableState) (image : List ℕ) : Type 0 where
   pub len : ℕ
   pub long : length image ≡ len + len
   pub size : IsAreaLength len
   pub side : Side
   pub head : Head
   pub bodies : List (List ℕ)
-  pub spells : Spells len side image head bodies
+  pub encodes : Encodes len side image head bodies
   pub means : MeansTable head bodies table
 
--- It stands for this table by an area of this generation and this layout, whose first closed gate is at `used`.
+-- It recovers to this table from an area of this generation and this layout, whose first closed gate is at `used`.
 pub record StandsAt (generation used : ℕ) (layout : Layout) (table : TableState) (image : List ℕ) : Type 0 where
-  pub stands : StandsFor table image
+  pub stands : RecoversTo table image
   pub generation_is : generation ≡ stands.head.generation
   pub used_is : used ≡ length (opened stands.head stands.bodies)
   pub layout_is : layout_of stands.head.version ≡ Some layout
 
--- Nothing stands there: it is not as long as two areas, or no area is open.
+-- The image has no active area: its length is not that of two areas, or no area is open.
 abbrev pub HasNoArea : List ℕ → Type 0
 HasNoArea image = (len : ℕ) → length image ≡ len + len → IsAreaLength len → standing len image ≡ None
 
--- The area that stands spells no table.
+-- The active area encodes no table.
 pub record HasNoTable (image : List ℕ) : Type 0 where
   pub some : HasNoArea image → ⊥
-  pub none : (table : TableState) → StandsFor table image → ⊥
+  pub none : (table : TableState) → RecoversTo table image → ⊥

@@ -1,5 +1,5 @@
--- The layouts of an area: the bytes that name them, and what is spelled in each. The second one has the attempts of runs, and is written; the
--- first one is read. Own: there is no public source.
+-- The layouts of an area: the bytes that name them, and what each encodes. The second layout has the attempts of runs and is the one
+-- written; the first one is read and appended to, but never created.
 use Rattle.std.specs.Prelude.{ℕ, ◌==◌, Bool, true, IsTrue, List, Option, Some, None, if◌then◌else◌}
 use Rattle.run_plan.specs.declared.command.Command.{Command}
 use Rattle.run_table.specs.TableState.{TableState}
@@ -22,7 +22,7 @@ layout_of byte = if byte == 1 then Some layouts.First else (if byte == 2 then So
 abbrev pub current_version : ℕ
 current_version = layout_byte layouts.Second
 
--- ---- what is spelled
+-- ---- what is encoded
 
 abbrev pub table_format : Layout → Format TableState
 table_format layouts.First = whole_first_table
@@ -32,7 +32,7 @@ abbrev pub batch_format : Layout → Format (List Command)
 batch_format layouts.First = first_batch
 batch_format layouts.Second = batch
 
--- whether a layout has a command: the first one has none that asks for an attempt
+-- whether a layout has a command: the first one has no command that asks for an attempt
 abbrev pub has_command : Layout → Command → Bool
 has_command layouts.First command = is_in_first_layout command
 has_command layouts.Second command = true

@@ -12,10 +12,10 @@ pub mod Plain
 pub mod Promise
 pub mod Reopened
 pub mod Replayed
-pub mod Spelled
+pub mod Encoded
 pub mod Steps
 pub mod StoreSeen
 pub mod StoreState
 pub mod TableText
-pub mod Told
-pub mod Waiting
+pub mod FaultCauses
+pub mod PendingBatch

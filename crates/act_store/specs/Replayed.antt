@@ -1,21 +1,21 @@
--- What carrying out the commands of bodies gives.
+-- The result of carrying out the commands of record bodies.
 use Rattle.std.specs.Prelude.{◌≡◌, ℕ, ◌<◌, ◌^◌, List, length, Option, Some, None}
 use Rattle.std.specs.List.{AllByRecursion}
 use Rattle.gated_journal.specs.Layout.{record_bytes}
 use Rattle.run_plan.specs.declared.command.Command.{Command}
 use Rattle.run_table.specs.Histories.{after}
 use Rattle.run_table.specs.TableState.{TableState}
-use Rattle.table_text.specs.Format.{Spells}
+use Rattle.table_text.specs.Format.{Encodes}
 use Rattle.act_store.specs.Layouts.{batch_format}
 use Rattle.act_store.specs.Meaning.{SpellCommands}
 use Rattle.act_store.specs.declared.layout.Layout.{Layout}
 
--- In this layout the body spells a batch, which leads from the one table to the other; or it spells none.
+-- In this layout the body encodes a batch that leads from one table to the other, or it encodes none.
 abbrev pub IsCarried : Layout → List ℕ → TableState → Option TableState → Type 0
-IsCarried layout body table (Some next) = (commands : List Command) × Spells (batch_format layout) body commands × (after table commands ≡ next)
-IsCarried layout body table None = (commands : List Command) → Spells (batch_format layout) body commands → ⊥
+IsCarried layout body table (Some next) = (commands : List Command) × Encodes (batch_format layout) body commands × (after table commands ≡ next)
+IsCarried layout body table None = (commands : List Command) → Encodes (batch_format layout) body commands → ⊥
 
--- The same of records with these bodies, whichever they are.
+-- The same for records with these bodies, whichever they are.
 abbrev pub IsReplayed : Layout → List ℕ → TableState → Option TableState → Type 0
 IsReplayed layout records table (Some last) =
     (bodies : List (List ℕ)) → AllByRecursion (λ body. length body < 2 ^ 32) bodies → records ≡ record_bytes bodies

@@ -1,4 +1,4 @@
--- A list of steps of a store, one after another, and what each is answered.
+-- A list of steps of a store, in order, and the answer to each.
 use Rattle.std.specs.Prelude.{◌≡◌, ◌⊎◌, ◌↔◌, ℕ, ◌+◌, ◌<◌, ◌≤◌, List, [], ◌∷◌, ◌++◌, length, true, false, Bool, if◌then◌else◌, Option, Some, None, ⊤}
 use Rattle.std.specs.Prelude.{Result, IfErr, IfOk, IsOk, OnErr}
 use Rattle.wf_value.specs.Gives.{no_memory}
@@ -11,18 +11,18 @@ use Rattle.run_plan.specs.declared.reply.Reply.{Reply}
 use Rattle.run_table.specs.Step.{stepped}
 use Rattle.act_store.specs.Checkpoints.{IsFinished, begun_at, dropped, left_of, sliced, text_length}
 use Rattle.act_store.specs.Checkpoints.{refusal_of_begin, refusal_of_finish, refusal_of_slice}
-use Rattle.act_store.specs.StoreState.{StoreState, StandsForEither, table_of}
+use Rattle.act_store.specs.StoreState.{StoreState, RecoversToEither, table_of}
 use Rattle.act_store.specs.Plain.{broken, committed, entered, refusal_of_apply, refusal_of_commit}
-use Rattle.act_store.specs.Told.{IsCause}
+use Rattle.act_store.specs.FaultCauses.{IsCause}
 use Rattle.act_store.specs.declared.entry.Entry.{Entry}
 use Rattle.act_store.specs.declared.step.Step.{Step}
 use Rattle.act_store.specs.declared.step.Step.TheVariants as asked
 use Rattle.act_store.specs.declared.step.Played.{Played}
 use Rattle.act_store.specs.declared.step.Played.TheVariants as told
 
--- ---- a step that is refused
+-- ---- a refused step
 
--- the cause that there is, memory or not
+-- the cause of a refusal, whether or not memory is available
 abbrev pub refusal_of : {D : Type 0} → StoreState D → Step → Option Refusal
 refusal_of s (asked.Apply command) = refusal_of_apply s command
 refusal_of s asked.Commit = refusal_of_commit s
@@ -34,7 +34,7 @@ abbrev pub is_area_full : Refusal → Bool
 is_area_full (Numbered AreaFull) = true
 is_area_full _ = false
 
--- What a step leaves that is refused so: all as it was, but that a finish for whose record there is no room drops its checkpoint.
+-- The effect of a refused step: none, except that a finish without space for its record drops the checkpoint.
 abbrev pub left_by : {D : Type 0} → StoreState D → Step → Refusal → StoreState D
 left_by s (asked.Apply command) e = s
 left_by s asked.Commit e = s
@@ -56,8 +56,8 @@ MayCallDevice s asked.Begin = ⊤
 MayCallDevice s asked.Slice = ⊤
 MayCallDevice s asked.Finish = ⊤
 
--- It was refused for its cause. Or, where there is none, memory was wanting, and all is as it was; or the device failed, and the store with
--- it.
+-- The step was refused for its cause. Without a cause, either it ran out of memory and nothing changed, or the device failed and the store
+-- with it.
 abbrev pub IsRefused : {D : Type 0} → StoreState D → Step → Refusal → StoreState D → Type 0
 IsRefused old step e new =
     ((refusal_of old step ≡ Some e) × (new ≡ left_by old step e))
@@ -66,14 +66,14 @@ IsRefused old step e new =
 
 -- ---- a step that is taken
 
--- a commit that was done: all entries are covered, and this many there are
+-- a completed commit: all entries are covered, and `count` is their number
 pub record Covers {D : Type 0} (old : StoreState D) (count : ℕ) (new : StoreState D) : Type 0 where
   pub live : old.failed ≡ false
   pub count_is : count ≡ length old.history
   pub none : length old.history ≤ old.covered → new ≡ old
   pub some : old.covered < length old.history → new ≡ committed old new.disk
 
--- a command is applied, for seat 0
+-- a command is applied for seat 0
 abbrev pub Replies : {D : Type 0} → StoreState D → Step → Reply → StoreState D → Type 0
 Replies old (asked.Apply command) reply new = (new ≡ entered old 0 command) × (reply ≡ (stepped (table_of old) command).reply)
 Replies old asked.Commit reply new = ⊥
@@ -81,7 +81,7 @@ Replies old asked.Begin reply new = ⊥
 Replies old asked.Slice reply new = ⊥
 Replies old asked.Finish reply new = ⊥
 
--- how many entries are covered, or how many bytes are left to write
+-- the number of covered entries, or of bytes left to write
 abbrev pub Counts : {D : Type 0} → StoreState D → Step → ℕ → StoreState D → Type 0
 Counts old (asked.Apply command) count new = ⊥
 Counts old asked.Commit count new = Covers old count new
@@ -95,28 +95,28 @@ Takes old step (told.Replied reply) new = (refusal_of old step ≡ None) × Repl
 Takes old step (told.Count count) new = (refusal_of old step ≡ None) × Counts old step count new
 Takes old step (told.Refused e) new = IsRefused old step e new
 
--- 51 is told exactly where the device failed in the step
+-- the answer is 51 exactly if the device failed in the step
 abbrev pub TellsStep : Played → ℕ → ℕ → Type 0
 TellsStep (told.Refused e) old new = IsCause e old new
 TellsStep (told.Replied reply) old new = new ≡ old
 TellsStep (told.Count count) old new = new ≡ old
 
--- What a stop may leave during a step: whenever it comes, the image stands for the entries that were covered when the step began, or for
--- all that there were then.
+-- What a crash may leave during a step: at every moment, the image recovers to the entries covered when the step began, or to all entries
+-- of that time.
 pub record Survives {D : Type 0} (honest : D → Type 0) (moment fault_count : D → ℕ) (images_since : D → ℕ → List ℕ → Type 0) (old : StoreState D)
     (answer : Played) (new : StoreState D) : Type 0 where
-  pub any_moment : honest old.disk → EachSince moment images_since old.disk new.disk (StandsForEither old)
+  pub any_moment : honest old.disk → EachSince moment images_since old.disk new.disk (RecoversToEither old)
   pub stays_honest : honest new.disk ↔ honest old.disk
   pub faults : TellsStep answer (fault_count old.disk) (fault_count new.disk)
 
--- All of them, in order, where `during` holds of each step.
+-- All the steps, in order, with `during` true of each.
 abbrev pub Plays : {D : Type 0} → (StoreState D → Played → StoreState D → Type 0) → StoreState D → List Step → List Played → StoreState D → Type 0
 Plays during old [] [] new = new ≡ old
 Plays during old [] (p ∷ ps) new = ⊥
 Plays during old (s ∷ ss) [] new = ⊥
 Plays {D} during old (s ∷ ss) (p ∷ ps) new = (mid : StoreState D) × Takes old s p mid × during old p mid × Plays during mid ss ps new
 
--- The first of them, however many, and no other.
+-- Some number of the first steps, and no others.
 pub record PlaysSome {D : Type 0} (during : StoreState D → Played → StoreState D → Type 0) (old : StoreState D) (steps : List Step)
     (new : StoreState D) : Type 0 where
   pub first : List Step
@@ -125,8 +125,8 @@ pub record PlaysSome {D : Type 0} (during : StoreState D → Played → StoreSta
   pub answers : List Played
   pub plays : Plays during old first answers new
 
--- How a play of steps, one after another, ends: each of them was answered, or some of the first were, and then memory was wanting for an
--- answer or for a copy of a command. A play of no steps needs none.
+-- How a play of steps ends. Either each step was answered. Or only some first steps were, and then the play ran out of memory for an
+-- answer or for a copy of a command. A play of no steps takes no memory.
 pub record PlayEnds {D V : Type 0} (during : StoreState D → Played → StoreState D → Type 0) (items : V → List Played) (old : StoreState D) (steps : List Step)
     (result : Result V Refusal) (new : StoreState D) : Type 0 where
   pub played : IfOk result (λ answers. Plays during old steps (items answers) new)
@@ -134,7 +134,7 @@ pub record PlayEnds {D V : Type 0} (during : StoreState D → Played → StoreSt
   pub refused : IfErr result (λ e. e ≡ no_memory)
   pub empty : length steps ≡ 0 → IsOk result
 
--- The base stays, entries come behind those that there are, and what is covered stays covered.
+-- The base does not change, entries are appended to the history, and covered entries stay covered.
 pub record Grows {D : Type 0} (old new : StoreState D) : Type 0 where
   pub base : new.base ≡ old.base
   pub more : List Entry

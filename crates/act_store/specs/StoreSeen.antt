@@ -1,10 +1,10 @@
--- What the fields of a store show of it.
+-- What contracts see of a store's fields.
 use Rattle.std.specs.Prelude.{◌-◌, length, option_map}
 use Rattle.act_store.specs.StoreState.{Checkpoint, StoreState}
 use Rattle.act_store.specs.declared.begun.Begun.{Begun}
 use Rattle.act_store.specs.declared.store.Store.TheInside.{Inside}
 
--- the bytes in front of the text are a version, a generation and a length
+-- a version, a generation and a length precede the text
 abbrev pub as_checkpoint : Begun → Checkpoint
 as_checkpoint b = record {
   place = b.place;

@@ -1,4 +1,4 @@
-//! How much of an area is read: no more than tells what stands there, so that an opening costs by what is stored.
+//! How much of an area is read: only as much as determines what it reads as, so that the cost of opening depends on what is stored.
 
 ghost use Rattle.std.specs.Prelude.{◌≡◌, ◌⊎◌, ◌+◌, ◌*◌, ◌^◌, ◌<◌, ◌≤◌, true, false, length, take, vec_len, IfErr, IfOk, OnOk};
 ghost use Rattle.wf_value.specs.Gives.{no_memory};
@@ -8,7 +8,7 @@ ghost use Rattle.gated_journal.specs.Choice.{part};
 ghost use Rattle.gated_journal.specs.Layout.{ReadsNothing};
 ghost use Rattle.gated_journal.specs.Reading.{OnlyRead};
 ghost use Rattle.act_store.specs.AreaFront.{IsFrontOf, IsShort, ReadsAlike, ReadsSomething};
-ghost use Rattle.act_store.specs.Told.{TellsFault};
+ghost use Rattle.act_store.specs.FaultCauses.{TellsFault};
 
 use act_disk::{Disk, DiskFault};
 use gated_journal::{Area, scan};
@@ -18,8 +18,8 @@ use wf_value::Refusal;
 /// How many bytes of an area are read first.
 const FIRST: usize = 65_536;
 
-/// Reads an area from its front on, as far as it takes to tell what all of it reads as: twice as many bytes each time, until they read as
-/// something, or are all. So of what stands there half is needed at least, or no more than 65,536 bytes are read.
+/// Reads the start of an area, as far as needed to determine what all of it reads as. Each time twice as many bytes are read, until they
+/// read as something or are all. So at least half of the bytes read are needed, or at most 65,536 are read.
 pub(crate) fn read_front<D: Disk>(
     alloc: Global,
     disk: &mut D,
@@ -52,7 +52,7 @@ fn is_enough(bytes: &[u8], len: u64) -> bool
     bytes.len() as u64 == len || scan(bytes).is_some()
 }
 
-/// Reads on, behind the first bytes of an area: as many again, or `FIRST` where that is more, as far as the area goes.
+/// Reads on after the first bytes of an area: as many again, or `FIRST` if that is more, up to the end of the area.
 fn read_on<D: Disk>(disk: &mut D, area: Area, bytes: &mut Vec<u8>) -> Result<(), Refusal>
     requires countable { D.fault_count disk.old < u64.MAX }
     requires within { area.start + area.len ≤ D.size disk.old }
@@ -76,7 +76,7 @@ fn read_on<D: Disk>(disk: &mut D, area: Area, bytes: &mut Vec<u8>) -> Result<(),
     Ok(())
 }
 
-/// How many bytes are read next, where so many of an area were.
+/// How many bytes to have after the next read, when `read` bytes of an area have been read.
 fn next_length(read: usize, most: usize) -> usize
     requires { (read < most) × (most < 2 ^ 62) }
     ensures longer { read < result }
@@ -86,7 +86,7 @@ fn next_length(read: usize, most: usize) -> usize
     (2 * read).max(FIRST).min(most)
 }
 
-/// Fills the bytes behind the first `from` with those that an area has there.
+/// Fills the bytes after the first `from` with those of the area.
 fn fill_behind<D: Disk>(
     disk: &mut D,
     area: Area,

@@ -1,10 +1,10 @@
-/// A checkpoint that was begun, and is not finished.
+/// A checkpoint in progress.
 #[derive(Drop)]
 pub struct Begun {
-    /// How many of the first entries lead to the table whose text it writes.
+    /// How many of the first entries lead to the table that it writes.
     pub place: usize,
-    /// What stands behind the gate of the other area once it is written: a head, with that text.
+    /// What follows the gate of the other area once it is written: a head with that table's text.
     pub front: Vec<u8>,
-    /// How many of these bytes were put.
+    /// How many of these bytes were written.
     pub put: usize,
 }

@@ -8,14 +8,15 @@ ghost use Rattle.table_text.specs.WholeTables.{whole_table};
 ghost use Rattle.act_store.specs.Checkpoints.{begun_at, first_gate, refusal_of_begin, text_length};
 ghost use Rattle.act_store.specs.Layouts.{current_version};
 ghost use Rattle.act_store.specs.OtherGate.{IsShutBeside};
-ghost use Rattle.act_store.specs.StoreState.{StandsForEither, table_of};
+ghost use Rattle.act_store.specs.StoreState.{RecoversToEither, table_of};
 ghost use Rattle.act_store.specs.declared.layout.Layout.TheVariants as layouts;
 ghost use Rattle.act_store.specs.Plain.{broken};
-ghost use Rattle.act_store.specs.TableText.{SpellsTable};
-ghost use Rattle.act_store.specs.Told.{TellsFault};
+ghost use Rattle.act_store.specs.TableText.{EncodesTable};
+ghost use Rattle.act_store.specs.FaultCauses.{TellsFault};
 
 use crate::begun::Begun;
 use crate::layout::Layout;
+use crate::lengths::{GATE, HEAD};
 use crate::store::Store;
 use act_disk::Disk;
 use gated_journal::Gate;
@@ -24,20 +25,16 @@ use std::alloc::Global;
 use table_text::{table_length, write_table};
 use wf_value::{Code, Refusal};
 
-/// What an area has beside its text and its records: its gate, its version, its generation and the length of its text, and the gate
-/// behind the text.
-const FRAME: u64 = 19;
-
 impl<D: Disk> Store<D> {
-    /// Begins a checkpoint: takes the text of the present table, and closes the gate of the other area where that is open; else no device
-    /// is called. It answers how many bytes are to be written, 17 and those of the text in the second layout.
+    /// Begins a checkpoint: encodes the current table, and closes the gate of the other area if it is open; otherwise it makes no device
+    /// call. It returns how many bytes are to be written: 17 more than the text in the second layout.
     ///
-    /// It is refused, memory or not, with 52 where the device has failed, else with 56 where a checkpoint is begun, else with 48 where
-    /// the generation is at its last, else with 47 where the text has no room in an area. Else 50 is left, and 51, after which the store
-    /// has failed. At each moment of the call the disk stands for the entries that were covered or for all.
+    /// It is refused, whether or not memory is available, with 52 if the device has failed; else with 56 if a checkpoint is in progress;
+    /// else with 48 if the generation is the last one; else with 47 if the text does not fit an area. The only other failures are 50, and
+    /// 51, after which the store has failed. At each moment of the call the disk recovers to the entries that were covered, or to all.
     pub fn check_begin(&mut self, alloc: Global) -> Result<u64, Refusal>
         ensures any_moment { D.honest self.old.disk
-            → EachSince D.moment D.images_since self.old.disk self.new.disk (StandsForEither self.old) }
+            → EachSince D.moment D.images_since self.old.disk self.new.disk (RecoversToEither self.old) }
         ensures begun { OnOk result (self.new ≡ begun_at self.old self.new.disk) }
         ensures left { IfOk result (λ left. left ≡ 17 + text_length (table_of self.old)) }
         ensures refused { IfSome (refusal_of_begin self.old) (λ refusal. result ≡ Err refusal) }
@@ -45,7 +42,7 @@ impl<D: Disk> Store<D> {
         ensures broken { result ≡ Err device_failed → self.new ≡ broken self.old self.new.disk }
         ensures unchanged { IfErr result (λ e. (e ≡ device_failed → ⊥) → self.new ≡ self.old) }
         ensures faults { TellsFault result (D.fault_count self.old.disk) (D.fault_count self.new.disk) }
-        // Beside a gate that is closed no device is called.
+        // If the other gate is closed, no device call is made.
         ensures uncalled { D.honest self.old.disk → IsShutBeside self.old.area (D.seen self.old.disk) → self.new.disk ≡ self.old.disk }
         ensures calls { D.calls self.new.disk ≤ D.calls self.old.disk + 2 }
         ensures honest { D.honest self.new.disk ↔ D.honest self.old.disk }
@@ -53,7 +50,7 @@ impl<D: Disk> Store<D> {
         if let Some(refusal) = self.refusal_of_begin() {
             return Err(refusal);
         }
-        let front = front_of(alloc, self.generation + 1, &self.table)?;
+        let front = area_header(alloc, self.generation + 1, &self.table)?;
         let areas = self.areas;
         match areas.close_other(&mut self.disk, self.other) {
             Err(fault) => {
@@ -73,7 +70,7 @@ impl<D: Disk> Store<D> {
         }
     }
 
-    /// Why no checkpoint is begun, memory or not.
+    /// Why no checkpoint is begun, whether or not memory is available.
     fn refusal_of_begin(&self) -> Option<Refusal>
         ensures { result ≡ refusal_of_begin self.now }
     {
@@ -92,26 +89,26 @@ impl<D: Disk> Store<D> {
         None
     }
 
-    /// Whether the text of the present table has room in an area.
+    /// Whether the text of the current table fits an area.
     fn text_fits(&self) -> bool
         ensures { result ≡ not (nat_lt self.now.area (first_gate (text_length (table_of self.now)) + 1)) }
     {
-        // No more runners can be spelled; their text would have no room.
+        // More runners cannot be encoded; their text would not fit.
         if self.table.runners().len() > u32::MAX as usize {
             return false;
         }
-        table_length(&self.table) <= self.areas.len - FRAME
+        table_length(&self.table) <= self.areas.len - (HEAD + GATE)
     }
 }
 
 /// The head of an area of a generation, with the text of a table.
-#[tactic(auto, using(crate::proofs::TextOfTable::table_spells))]
-fn front_of(alloc: Global, generation: u64, table: &Table) -> Result<Vec<u8>, Refusal>
+#[tactic(auto, using(crate::proofs::TextOfTable::table_encodes))]
+fn area_header(alloc: Global, generation: u64, table: &Table) -> Result<Vec<u8>, Refusal>
     requires few { length table.now.runners ≤ 4294967295 }
     requires sound { IsSound table.now }
     ensures front { IfOk result (λ bytes. bytes.items
-        ≡ head_bytes (record { version = current_version; generation = generation; text = whole_table.spelling table.now })) }
-    ensures spells { OnOk result (SpellsTable layouts.Second table.now (whole_table.spelling table.now)) }
+        ≡ head_bytes (record { version = current_version; generation = generation; text = whole_table.encoding table.now })) }
+    ensures encodes { OnOk result (EncodesTable layouts.Second table.now (whole_table.encoding table.now)) }
     ensures refused { IfErr result (λ e. e ≡ no_memory) }
 {
     let text = table_length(table);

@@ -3,36 +3,34 @@ ghost use Rattle.wf_value.specs.Gives.{no_memory};
 ghost use Rattle.act_disk.specs.Failed.{device_failed};
 ghost use Rattle.act_disk.specs.Images.{EachSince};
 ghost use Rattle.act_store.specs.Checkpoints.{IsFinished, dropped, has_no_room, refusal_of_finish};
-ghost use Rattle.act_store.specs.Images.{StandsFor};
-ghost use Rattle.act_store.specs.StoreState.{StandsForEither, table_of};
+ghost use Rattle.act_store.specs.Images.{RecoversTo};
+ghost use Rattle.act_store.specs.StoreState.{RecoversToEither, table_of};
 ghost use Rattle.act_store.specs.Plain.{area_full, broken};
 ghost use Rattle.act_store.specs.StoreSeen.{as_checkpoint};
-ghost use Rattle.act_store.specs.Told.{TellsFault};
+ghost use Rattle.act_store.specs.FaultCauses.{TellsFault};
 
 use crate::begun::Begun;
-use crate::last_part::{last_part, spelled_len};
+use crate::last_part::{encoded_len, last_part};
 use crate::layout::Layout;
+use crate::lengths::{COUNT, GATE, LENGTH};
 use crate::store::Store;
 use act_disk::Disk;
-use gated_journal::{Gate, Standing};
+use gated_journal::{AreaPair, Gate};
 use std::alloc::Global;
 use wf_value::{Code, Refusal};
 
-/// What stands round the commands of the last record: its gate, its length in four bytes, their count in four, and the next gate.
-const FRAME: u64 = 10;
-
 impl<D: Disk> Store<D> {
-    /// Finishes a checkpoint: writes one record of the entries since it was begun behind its text, syncs, opens the gate of its area, and
-    /// syncs. The area that stands then has the second layout. It answers how many entries are covered, which are all.
+    /// Finishes a checkpoint: writes one record of the entries since it was begun after its text, syncs, opens the gate of its area, and
+    /// syncs. The area that is then active has the second layout. It returns how many entries are covered, which is all of them.
     ///
-    /// It is refused, memory or not, with 52 where the device has failed, else with 56 where none is begun or bytes are left of it, else
-    /// with 47 where the record has no room; then the checkpoint is dropped, and all else is as it was. Else 50 is left, and 51, after
-    /// which the store has failed. At each moment of the call the disk stands for the entries that were covered or for all, and after
-    /// `Ok` for all.
+    /// It is refused, whether or not memory is available, with 52 if the device has failed; else with 56 if no checkpoint is in progress
+    /// or some of its bytes are not written; else with 47 if the record does not fit. After 47 the checkpoint is dropped, and nothing else
+    /// changes. The only other failures are 50, and 51, after which the store has failed. At each moment of the call the disk recovers to
+    /// the entries that were covered, or to all; after `Ok`, to all.
     pub fn check_finish(&mut self, alloc: Global) -> Result<u64, Refusal>
         ensures any_moment { D.honest self.old.disk
-            → EachSince D.moment D.images_since self.old.disk self.new.disk (StandsForEither self.old) }
-        ensures stands { OnOk result (D.honest self.new.disk → (c : List ℕ) → D.images self.new.disk c → StandsFor (table_of self.old) c) }
+            → EachSince D.moment D.images_since self.old.disk self.new.disk (RecoversToEither self.old) }
+        ensures stands { OnOk result (D.honest self.new.disk → (c : List ℕ) → D.images self.new.disk c → RecoversTo (table_of self.old) c) }
         ensures finished { OnOk result (IsFinished self.old self.new) }
         ensures covered { IfOk result (λ count. count ≡ length self.old.history) }
         ensures grows { self.old.covered ≤ self.new.covered }
@@ -59,13 +57,13 @@ impl<D: Disk> Store<D> {
         let at = 1 + begun.front.len() as u64;
         let last = last_part(alloc, &self.history[begun.place..])?;
         let areas = self.areas;
-        match areas.turn(&mut self.disk, at, last.as_slice()) {
+        match areas.switch(&mut self.disk, at, last.as_slice()) {
             Err(fault) => {
                 self.failed = true;
                 Err(Refusal::from(fault))
             }
             Ok(()) => {
-                self.areas = Standing {
+                self.areas = AreaPair {
                     len: areas.len,
                     side: areas.side.other(),
                 };
@@ -74,14 +72,14 @@ impl<D: Disk> Store<D> {
                 self.generation += 1;
                 self.layout = Layout::Second;
                 self.covered = self.history.len();
-                self.waiting.truncate(0, 0);
+                self.pending_batch.truncate(0, 0);
                 self.begun = None;
                 Ok(self.covered as u64)
             }
         }
     }
 
-    /// Why no checkpoint is finished, memory or not.
+    /// Why no checkpoint is finished, whether or not memory is available.
     fn refusal_of_finish(&self) -> Option<Refusal>
         ensures { result ≡ refusal_of_finish self.now }
     {
@@ -100,7 +98,7 @@ impl<D: Disk> Store<D> {
         None
     }
 
-    /// Whether the record of the entries since a checkpoint was begun has room behind its text.
+    /// Whether the record of the entries since a checkpoint was begun fits after its text.
     fn last_fits(&self, begun: &Begun) -> bool
         requires place { begun.now.place ≤ length self.now.history }
         requires head { 17 ≤ length begun.now.front.items }
@@ -111,6 +109,7 @@ impl<D: Disk> Store<D> {
         if since.is_empty() {
             return true;
         }
-        begun.front.len() as u64 + FRAME + spelled_len(since) < self.areas.len
+        let record = GATE + LENGTH + COUNT + encoded_len(since) + GATE;
+        begun.front.len() as u64 + record < self.areas.len
     }
 }

@@ -6,28 +6,28 @@ ghost use Rattle.gated_journal.specs.TwoAreas.{other, start_of};
 ghost use Rattle.gated_journal.specs.Whole.{StandsWhole};
 ghost use Rattle.gated_journal.specs.declared.gate.Gate.TheVariants.{Closed};
 ghost use Rattle.act_store.specs.Checkpoints.{left_of, refusal_of_slice, sliced};
-ghost use Rattle.act_store.specs.StoreState.{StandsForEither};
+ghost use Rattle.act_store.specs.StoreState.{RecoversToEither};
 ghost use Rattle.act_store.specs.Plain.{broken};
-ghost use Rattle.act_store.specs.Told.{TellsFault};
+ghost use Rattle.act_store.specs.FaultCauses.{TellsFault};
 
 use crate::begun::Begun;
 use crate::store::Store;
 use act_disk::{Disk, DiskFault};
-use gated_journal::Standing;
+use gated_journal::AreaPair;
 use wf_value::{Code, Refusal};
 
-/// How many bytes a slice has at most.
+/// The most bytes of a slice.
 const SLICE: usize = 4_096;
 
 impl<D: Disk> Store<D> {
-    /// Writes a slice of a checkpoint that was begun, up to 4,096 bytes, and answers how many are left. It takes no memory.
+    /// Writes a slice of a checkpoint in progress, up to 4,096 bytes, and returns how many are left. Takes no memory.
     ///
-    /// It is refused with 52 where the device has failed, else with 56 where no checkpoint is begun or nothing is left of it; else with 51
-    /// where the device fails, and the store then has failed. At each moment of the call the disk stands for the entries that were covered
-    /// or for all.
+    /// It is refused with 52 if the device has failed; else with 56 if no checkpoint is in progress or nothing of it is left; else with 51
+    /// if the device fails, after which the store has failed. At each moment of the call the disk recovers to the entries that were
+    /// covered, or to all.
     pub fn check_slice(&mut self) -> Result<u64, Refusal>
         ensures any_moment { D.honest self.old.disk
-            → EachSince D.moment D.images_since self.old.disk self.new.disk (StandsForEither self.old) }
+            → EachSince D.moment D.images_since self.old.disk self.new.disk (RecoversToEither self.old) }
         ensures sliced { OnOk result (self.new ≡ sliced self.old self.new.disk) }
         ensures left { IfOk result (λ left. left ≡ left_of self.new.begun) }
         ensures refused { IfSome (refusal_of_slice self.old) (λ refusal. (result ≡ Err refusal) × (self.new ≡ self.old)) }
@@ -73,8 +73,8 @@ impl<D: Disk> Store<D> {
     }
 }
 
-/// Writes the next slice of a checkpoint behind those that were put.
-fn put_slice<D: Disk>(areas: Standing, disk: &mut D, begun: &mut Begun) -> Result<(), DiskFault>
+/// Writes the next slice of a checkpoint.
+fn put_slice<D: Disk>(areas: AreaPair, disk: &mut D, begun: &mut Begun) -> Result<(), DiskFault>
     requires countable { D.fault_count disk.old < u64.MAX }
     requires addressed { areas.len + areas.len < 2 ^ 64 }
     requires put { begun.old.put ≤ length begun.old.front.items }

@@ -1,8 +1,8 @@
 ghost use Rattle.std.specs.Prelude.{◌≡◌, ◌↔◌, ◌+◌, ◌<◌, ◌≤◌, ℕ, List, length, true, false, Err, IfErr, IfOk, IsOk, OnErr, OnOk};
 ghost use Rattle.act_disk.specs.Failed.{device_failed};
 ghost use Rattle.act_disk.specs.Images.{EachSince, CountsFault};
-ghost use Rattle.act_store.specs.Images.{StandsFor};
-ghost use Rattle.act_store.specs.StoreState.{StandForCovered, StandsForEither, table_of};
+ghost use Rattle.act_store.specs.Images.{RecoversTo};
+ghost use Rattle.act_store.specs.StoreState.{StandForCovered, RecoversToEither, table_of};
 ghost use Rattle.act_store.specs.Plain.{broken, committed, failed_earlier};
 
 use crate::store::Store;
@@ -10,15 +10,15 @@ use act_disk::Disk;
 use wf_value::{Code, Refusal};
 
 impl<D: Disk> Store<D> {
-    /// Covers all entries: writes the record of those that are not covered, syncs, opens its gate, and syncs. It answers how many
-    /// entries are covered. Where all are already, no device is called.
+    /// Makes all entries durable: writes the record of those that are not covered, syncs, opens its gate, and syncs. It returns how many
+    /// entries are covered. If all are covered already, it makes no device call.
     ///
-    /// At each moment of the call the disk stands for the entries that were covered or for all, and after `Ok` for all. 51 is answered
-    /// exactly where the device fails; the store then has failed. It takes no memory, and is never refused for want of room.
+    /// At each moment of the call the disk recovers to the entries that were covered, or to all; after `Ok`, to all. The result is 51
+    /// exactly if the device fails, after which the store has failed. It takes no memory, and never fails for lack of space.
     pub fn commit(&mut self) -> Result<u64, Refusal>
         ensures any_moment { D.honest self.old.disk
-            → EachSince D.moment D.images_since self.old.disk self.new.disk (StandsForEither self.old) }
-        ensures stands { OnOk result (D.honest self.new.disk → (c : List ℕ) → D.images self.new.disk c → StandsFor (table_of self.old) c) }
+            → EachSince D.moment D.images_since self.old.disk self.new.disk (RecoversToEither self.old) }
+        ensures stands { OnOk result (D.honest self.new.disk → (c : List ℕ) → D.images self.new.disk c → RecoversTo (table_of self.old) c) }
         ensures exact { D.honest self.new.disk → StandForCovered D.images self.new }
         ensures covered { IfOk result (λ count. (count ≡ length self.old.history) × (self.new.covered ≡ count)) }
         ensures grows { self.old.covered ≤ self.new.covered }
@@ -36,10 +36,10 @@ impl<D: Disk> Store<D> {
         if self.failed {
             return Err(Refusal::Numbered(Code::FailedEarlier));
         }
-        if self.waiting.is_empty() {
+        if self.pending_batch.is_empty() {
             return Ok(self.covered as u64);
         }
-        let bytes = self.waiting.as_slice();
+        let bytes = self.pending_batch.as_slice();
         let areas = self.areas;
         match areas.grow(&mut self.disk, self.used, bytes) {
             Err(fault) => {
@@ -49,7 +49,7 @@ impl<D: Disk> Store<D> {
             Ok(()) => {
                 self.used += bytes.len() as u64;
                 self.covered = self.history.len();
-                self.waiting.truncate(0, 0);
+                self.pending_batch.truncate(0, 0);
                 Ok(self.covered as u64)
             }
         }

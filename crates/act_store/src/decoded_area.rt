@@ -1,7 +1,7 @@
 ghost use Rattle.std.specs.Prelude.{◌≡◌, ◌<◌, IfErr, IfOk, length};
 ghost use Rattle.wf_value.specs.Gives.{no_memory};
 ghost use Rattle.run_table.specs.TableState.{TableState};
-ghost use Rattle.act_store.specs.Spelled.{IsSpelled, IsTextOf};
+ghost use Rattle.act_store.specs.Encoded.{IsEncoded, IsTextOf};
 
 use crate::layout::Layout;
 use crate::replay::replay;
@@ -10,7 +10,7 @@ use run_table::Table;
 use std::alloc::Global;
 use wf_value::Refusal;
 
-/// What an area spells: the generation of its head, its layout, the offset of its first closed gate, and its table.
+/// What an area encodes: the generation of its head, its layout, the offset of its first closed gate, and its table.
 #[derive(Drop)]
 pub struct DecodedArea {
     pub generation: u64,
@@ -19,9 +19,9 @@ pub struct DecodedArea {
     pub table: Table,
 }
 
-/// What the bytes of an area spell, or `None` where they spell no table.
-pub(crate) fn spelled_in(alloc: Global, area: &[u8]) -> Result<Option<DecodedArea>, Refusal>
-    ensures spelled { IfOk result (λ found. IsSpelled area.now found) }
+/// What the bytes of an area encode, or `None` if they encode no table.
+pub(crate) fn encoded_in(alloc: Global, area: &[u8]) -> Result<Option<DecodedArea>, Refusal>
+    ensures encoded { IfOk result (λ found. IsEncoded area.now found) }
     ensures refused { IfErr result (λ e. e ≡ no_memory) }
 {
     let Some(found) = scan(area) else {
@@ -44,10 +44,10 @@ pub(crate) fn spelled_in(alloc: Global, area: &[u8]) -> Result<Option<DecodedAre
     }
 }
 
-/// The table that a text spells in a layout, or `None` where it spells none. Bytes behind a table make it the text of none.
+/// The table that a text encodes in a layout, or `None` if it encodes none. Bytes after a table make the text invalid.
 #[tactic(auto, using(crate::proofs::TextOfTable::whole_text, crate::proofs::TextOfTable::longer_text, crate::proofs::TextOfTable::no_text))]
 fn table_in(alloc: Global, layout: Layout, text: &[u8]) -> Result<Option<Table>, Refusal>
-    ensures spelled { IfOk result (λ found. IsTextOf layout text.now found) }
+    ensures encoded { IfOk result (λ found. IsTextOf layout text.now found) }
     ensures refused { IfErr result (λ e. e ≡ no_memory) }
 {
     let Some((table, rest)) = layout.read_table(alloc, text)? else {

@@ -1,6 +1,6 @@
 use run_plan::{Command, Reply};
 
-/// An entry of a history: who asked, what was asked, and what it was answered.
+/// An entry of a history: the seat that asked, the command, and the reply.
 #[derive(Drop)]
 pub struct Entry {
     pub seat: u64,

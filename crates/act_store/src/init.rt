@@ -2,39 +2,39 @@ ghost use Rattle.std.specs.Prelude.{◌≡◌, ◌⊎◌, ◌↔◌, ◌<◌, �
 ghost use Rattle.wf_value.specs.Gives.{no_memory};
 ghost use Rattle.act_disk.specs.Failed.{device_failed};
 ghost use Rattle.run_table.specs.Step.{empty};
-ghost use Rattle.act_store.specs.Images.{StandsFor};
+ghost use Rattle.act_store.specs.Images.{RecoversTo};
 ghost use Rattle.act_store.specs.Plain.{disk_not_empty, fresh};
 
 use crate::layout::Layout;
+use crate::pending_batch::PendingBatch;
 use crate::store::Store;
-use crate::waiting::Waiting;
 use act_disk::Disk;
-use gated_journal::{Gate, Side, Standing, make_areas};
+use gated_journal::{AreaPair, Gate, Side, make_areas};
 use run_table::Table;
 use std::alloc::Global;
 use std::snapshot::Snapshot;
 use wf_value::{Code, Refusal};
 
-/// What the first area of a new store holds, behind a closed gate: the second layout, generation 1, the text of the empty table behind its
-/// length, and a closed gate.
+/// The contents of the first area of a new store, with a closed gate: the second layout, generation 1, the length-prefixed text of the
+/// empty table, and a closed gate.
 const FRONT: [u8; 31] = [
     0, 2, 0, 0, 0, 0, 0, 0, 0, 1, 0, 0, 0, 0, 0, 0, 0, 12, 0, 0, 0, 0, 0, 0, 0, 0, 0, 0, 0, 0, 0,
 ];
 
-/// Where the first record's gate is.
+/// The offset of the first record's gate.
 const USED: u64 = 30;
 
 impl<D: Disk> Store<D> {
-    /// Makes a store of two areas on an empty disk, each `area` bytes long. Its history is empty, and it stands for the empty table.
+    /// Creates a store of two areas on an empty disk, each `area` bytes long. Its history is empty, and it recovers to the empty table.
     ///
-    /// A disk that is not empty is refused with 55. Whatever the refusal, the disk is given back.
+    /// A disk that is not empty is refused with 55. Every refusal returns the disk.
     pub fn init(alloc: Global, disk: D, area: u64) -> Result<Store<D>, (D, Refusal)>
         requires countable { D.fault_count disk < u64.MAX }
         requires least { 4096 ≤ area }
         requires most { area ≤ 1073741824 }
         ensures made { IfOk result (λ s. s ≡ fresh s.disk area) }
         ensures size { IfOk result (λ s. D.size s.disk ≡ area + area) }
-        ensures stands { IfOk result (λ s. D.honest s.disk → (c : List ℕ) → D.images s.disk c → StandsFor empty c) }
+        ensures stands { IfOk result (λ s. D.honest s.disk → (c : List ℕ) → D.images s.disk c → RecoversTo empty c) }
         ensures occupied { (D.size disk ≡ 0 → ⊥) → result ≡ Err (disk, disk_not_empty) }
         ensures refused { IfErr result (λ e. D.size disk ≡ 0 → (e.1 ≡ device_failed) × (D.fault_count e.0 ≡ D.fault_count disk + 1)) }
         ensures faults { IfOk result (λ s. D.fault_count s.disk ≡ D.fault_count disk) }
@@ -51,7 +51,7 @@ impl<D: Disk> Store<D> {
                 let table = Table::new(alloc);
                 Ok(Store {
                     disk,
-                    areas: Standing {
+                    areas: AreaPair {
                         len: area,
                         side: Side::First,
                     },
@@ -63,7 +63,7 @@ impl<D: Disk> Store<D> {
                     used: USED,
                     generation: 1,
                     layout: Layout::Second,
-                    waiting: Waiting::new(),
+                    pending_batch: PendingBatch::new(),
                     begun: None,
                     failed: false,
                 })

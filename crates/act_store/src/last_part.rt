@@ -1,20 +1,20 @@
 ghost use Rattle.std.specs.Prelude.{◌≡◌, ◌+◌, ◌*◌, ◌<◌, ◌≤◌, ◌^◌, length, flat_map, IfErr, IfOk, OnOk};
 ghost use Rattle.std.specs.List.{AllByRecursion};
 ghost use Rattle.wf_value.specs.Gives.{no_memory};
-ghost use Rattle.table_text.specs.Commands.{IsSpelled, command_bytes};
+ghost use Rattle.table_text.specs.Commands.{IsEncoded, command_bytes};
 ghost use Rattle.act_store.specs.Entries.{commands_of};
 ghost use Rattle.act_store.specs.LastPart.{last_part};
-ghost use Rattle.act_store.specs.Waiting.{waits_of};
+ghost use Rattle.act_store.specs.PendingBatch.{batch_state_of};
 
 use crate::entry::Entry;
-use crate::waiting::Waiting;
+use crate::pending_batch::PendingBatch;
 use gated_journal::OPEN;
 use std::alloc::Global;
 use table_text::command_length;
 use wf_value::Refusal;
 
-/// How long the spellings of the commands of entries are.
-pub(crate) fn spelled_len(entries: &[Entry]) -> u64
+/// The length of the encoded commands of some entries.
+pub(crate) fn encoded_len(entries: &[Entry]) -> u64
     requires { length entries.now ≤ 100000 }
     ensures length { result ≡ length (flat_map command_bytes (commands_of entries.now)) }
     ensures most { result ≤ 65677 * 100000 }
@@ -26,35 +26,35 @@ pub(crate) fn spelled_len(entries: &[Entry]) -> u64
     total
 }
 
-/// The commands of entries, spelled in a record.
-fn waiting_of(alloc: Global, entries: &[Entry]) -> Result<Waiting, Refusal>
+/// The commands of some entries, encoded in a record.
+fn waiting_of(alloc: Global, entries: &[Entry]) -> Result<PendingBatch, Refusal>
     requires few { length entries.now ≤ 100000 }
     requires fits { 4 + length (flat_map command_bytes (commands_of entries.now)) < 2 ^ 32 }
-    ensures waits { IfOk result (λ waits. waits ≡ waits_of (commands_of entries.now)) }
-    ensures spelled { OnOk result (AllByRecursion IsSpelled (commands_of entries.now)) }
+    ensures waits { IfOk result (λ waits. waits ≡ batch_state_of (commands_of entries.now)) }
+    ensures encoded { OnOk result (AllByRecursion IsEncoded (commands_of entries.now)) }
     ensures refused { IfErr result (λ e. e ≡ no_memory) }
 {
-    let mut waiting = Waiting::new();
+    let mut pending_batch = PendingBatch::new();
     for entry in entries {
-        waiting.add(alloc, &entry.command)?;
+        pending_batch.add(alloc, &entry.command)?;
     }
-    Ok(waiting)
+    Ok(pending_batch)
 }
 
-/// The last part of what a checkpoint writes: one record of entries, where there are some, and the gate behind.
+/// The last part that a checkpoint writes: one record of the entries, if there are any, and the gate after it.
 pub(crate) fn last_part(alloc: Global, entries: &[Entry]) -> Result<Vec<u8>, Refusal>
     requires few { length entries.now ≤ 100000 }
     requires fits { 4 + length (flat_map command_bytes (commands_of entries.now)) < 2 ^ 32 }
     ensures bytes { IfOk result (λ bytes. bytes.items ≡ last_part (commands_of entries.now)) }
-    ensures spelled { OnOk result (AllByRecursion IsSpelled (commands_of entries.now)) }
+    ensures encoded { OnOk result (AllByRecursion IsEncoded (commands_of entries.now)) }
     ensures refused { IfErr result (λ e. e ≡ no_memory) }
 {
     if entries.is_empty() {
         let gate = vec![in alloc; 0; 1]?;
         return Ok(gate);
     }
-    let waiting = waiting_of(alloc, entries)?;
+    let pending_batch = waiting_of(alloc, entries)?;
     let mut bytes = vec![in alloc; OPEN; 1]?;
-    bytes.extend_from_slice(waiting.as_slice())?;
+    bytes.extend_from_slice(pending_batch.as_slice())?;
     Ok(bytes)
 }

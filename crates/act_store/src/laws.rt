@@ -1,4 +1,4 @@
-//! Laws of what images stand for.
+//! Laws about what images recover to.
 
 ghost use Rattle.std.specs.Prelude.{◌≡◌, ◌+◌, ℕ, List, length, drop};
 ghost use Rattle.run_plan.specs.Admitted.{Admitted};
@@ -11,18 +11,18 @@ ghost use Rattle.run_table.specs.TableState.{TableState};
 ghost use Rattle.table_laws.specs.ExactlyOnce.{HasTurn, IsRefused};
 ghost use Rattle.table_laws.specs.Remembered.{AreNoLaterTurns, AreNoOtherAttempts};
 ghost use Rattle.act_store.specs.Entries.{table_after};
-ghost use Rattle.act_store.specs.Images.{StandsFor};
+ghost use Rattle.act_store.specs.Images.{RecoversTo};
 ghost use Rattle.act_store.specs.Reopened.{IsAcknowledged, LeadTo, Life, asked_in};
 ghost use Rattle.act_store.specs.declared.entry.Entry.{Entry};
 
-/// An image stands for one table at most.
-pub fn an_image_stands_for_one_table()
-    ensures { (image : List ℕ) (one two : TableState) → StandsFor one image → StandsFor two image → one ≡ two }
+/// An image recovers to at most one table.
+pub fn an_image_recovers_to_one_table()
+    ensures { (image : List ℕ) (one two : TableState) → RecoversTo one image → RecoversTo two image → one ≡ two }
 {}
 
-/// However often a stop comes and the disk is opened again, or the store turns over, and whatever is asked in between: an event whose
-/// delivery was answered with a run, by an entry that was acknowledged, is answered with the same run again, whatever its body is. The
-/// table stays.
+/// An acknowledged entry answered the delivery of an event with a run. The same delivery, with any body, is answered with the same run,
+/// and the table does not change. This holds after any number of crashes and reopenings or turn-overs, and whatever commands come in
+/// between.
 pub fn a_delivery_makes_one_run()
     ensures { (life : Life) (lives : List Life) (table : TableState) (before behind : List Entry) (entry : Entry) (run : ℕ)
         (event again : Admitted) → LeadTo life lives table → IsAcknowledged life before entry behind
@@ -30,8 +30,8 @@ pub fn a_delivery_makes_one_run()
         → step table (command.Admit again) ≡ (table, reply.Created run) }
 {}
 
-/// In the same way, a runner that asks again what an acknowledged entry carried out gets the reply of that entry again, as long as no
-/// later number of that runner was carried out by what stands behind it. The table stays.
+/// In the same way, a runner that repeats a command that an acknowledged entry carried out gets the reply of that entry, as long as no
+/// later entry carried out a later number of that runner. The table does not change.
 pub fn a_kept_reply_is_given_again()
     ensures { (life : Life) (lives : List Life) (table : TableState) (before behind : List Entry) (entry : Entry) (number : ℕ)
         (runner : List ℕ) → (leads : LeadTo life lives table) → IsAcknowledged life before entry behind
@@ -41,8 +41,8 @@ pub fn a_kept_reply_is_given_again()
         → step table entry.command ≡ (table, entry.reply) }
 {}
 
-/// In the same way, a re-run that an acknowledged entry answered with its attempt is answered with it again, as long as no other attempt of
-/// that run was begun by what stands behind it. The table stays, so no second attempt begins.
+/// In the same way, a re-run that an acknowledged entry answered with its attempt is answered with that attempt again, as long as no later
+/// entry began another attempt of that run. The table does not change, so no second attempt begins.
 pub fn an_attempt_begins_once()
     ensures { (life : Life) (lives : List Life) (table : TableState) (before behind : List Entry) (entry : Entry) (asked : Attempt)
         → (leads : LeadTo life lives table) → IsAcknowledged life before entry behind

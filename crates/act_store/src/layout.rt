@@ -12,17 +12,17 @@ use std::alloc::Global;
 use table_text::{is_in_first_layout, read_batch, read_first_batch, read_first_table, read_table};
 use wf_value::Refusal;
 
-/// The layout of an area, which the byte behind its gate names.
+/// The layout of an area, named by the byte after its gate.
 #[derive(Clone, Copy)]
 pub enum Layout {
-    /// Runs without attempts, and kept leases without places. It is read, records are added to it, and a checkpoint leaves it.
+    /// Runs without attempts, and kept leases without places. It is read and appended to; a checkpoint replaces it.
     First,
-    /// The one in which stores are made and checkpoints write.
+    /// The layout of new stores and of checkpoints.
     Second,
 }
 
 impl Layout {
-    /// The layout that a byte names, where it names one.
+    /// The layout that a byte names, if any.
     pub(crate) fn of_byte(byte: u8) -> Option<Self>
         ensures { result ≡ layout_of byte }
     {
@@ -53,7 +53,7 @@ impl Layout {
         }
     }
 
-    /// The table that is spelled at the front of the bytes, and the bytes behind it, or `None` where no front of them spells one.
+    /// The table encoded at the start of the bytes, and the bytes after it, or `None` if no prefix encodes one.
     pub(crate) fn read_table(
         self,
         alloc: Global,
@@ -68,7 +68,7 @@ impl Layout {
         }
     }
 
-    /// The batch that is spelled at the front of the bytes, and the bytes behind it, or `None` where no front of them spells one.
+    /// The batch encoded at the start of the bytes, and the bytes after it, or `None` if no prefix encodes one.
     pub(crate) fn read_batch(
         self,
         alloc: Global,

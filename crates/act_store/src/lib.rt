@@ -1,5 +1,5 @@
-//! The store: a table and its history in memory, and a disk whose every image stands for the covered entries, whenever the
-//! machine stops.
+//! The store: a table and its history in memory, and a disk. After a crash at any moment, the disk recovers to the covered entries, or to
+//! all.
 #![tactic(auto)]
 
 mod apply;
@@ -15,15 +15,16 @@ mod init;
 mod last_part;
 pub mod laws;
 mod layout;
+mod lengths;
 mod located_area;
 mod open;
+mod pending_batch;
 mod playing;
 mod receipt;
 mod replay;
 mod step;
 mod store;
 mod turn_over;
-mod waiting;
 
 pub use entry::Entry;
 pub use layout::Layout;

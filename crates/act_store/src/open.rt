@@ -1,31 +1,31 @@
 ghost use Rattle.std.specs.Prelude.{◌≡◌, ◌<◌, ◌+◌, ℕ, List, [], IfErr, IfOk, None, false};
 ghost use Rattle.act_disk.specs.Images.{EachSince};
-ghost use Rattle.act_store.specs.Images.{HasNoArea, HasNoTable, StandsAt, StandsFor};
+ghost use Rattle.act_store.specs.Images.{HasNoArea, HasNoTable, StandsAt, RecoversTo};
 ghost use Rattle.act_store.specs.Plain.{RefusesOpening, TellsNoArea, no_area, no_table};
-ghost use Rattle.act_store.specs.Told.{IsCause};
+ghost use Rattle.act_store.specs.FaultCauses.{IsCause};
 
 use crate::located_area::find;
+use crate::pending_batch::PendingBatch;
 use crate::store::Store;
-use crate::waiting::Waiting;
 use act_disk::Disk;
-use gated_journal::Standing;
+use gated_journal::AreaPair;
 use std::alloc::Global;
 use std::snapshot::Snapshot;
 use wf_value::Refusal;
 
 impl<D: Disk> Store<D> {
-    /// Opens what a stop left: syncs, and then reads. The store begins at the table that the disk stands for, with an empty history.
+    /// Opens what a crash left: syncs, and then reads. The store begins at the table that the disk recovers to, with an empty history.
     ///
-    /// It is refused with 53 exactly where no area is open, or the disk is not as long as two areas, memory or not; with 54 only where the
-    /// area that stands spells no table; with 51 exactly where the device fails; and else with 50 alone. Each image that a stop may
-    /// leave meanwhile, also at a refusal, was one before.
+    /// It is refused with 53 exactly if no area is open or the disk is not as long as two areas, whether or not memory is available; with
+    /// 54 only if the active area encodes no table; with 51 exactly if the device fails; and otherwise only with 50. Each image that a
+    /// crash during the call may leave, even at a refusal, was possible before.
     pub fn open(alloc: Global, disk: D) -> Result<Store<D>, (D, Refusal)>
         requires { D.fault_count disk < u64.MAX }
-        ensures base { IfOk result (λ s. D.honest s.disk → StandsFor s.base (D.seen disk)) }
-        ensures stands { IfOk result (λ s. D.honest s.disk → (c : List ℕ) → D.images s.disk c → StandsFor s.base c) }
+        ensures base { IfOk result (λ s. D.honest s.disk → RecoversTo s.base (D.seen disk)) }
+        ensures stands { IfOk result (λ s. D.honest s.disk → (c : List ℕ) → D.images s.disk c → RecoversTo s.base c) }
         ensures begun { IfOk result (λ s. (s.history ≡ []) × (s.covered ≡ 0) × (s.failed ≡ false)) }
         ensures none_begun { IfOk result (λ s. s.begun ≡ None) }
-        // The generation, the layout, and where the next record goes, are those of the area that stands.
+        // The generation, the layout, and the offset of the next record are those of the active area.
         ensures place { IfOk result (λ s. D.honest s.disk → StandsAt s.generation s.used s.layout s.base (D.seen disk)) }
         ensures size { IfOk result (λ s. D.size disk ≡ s.area + s.area) }
         ensures no_area { IfErr result (λ e. e.1 ≡ no_area → D.honest e.0 → HasNoArea (D.seen disk)) }
@@ -46,19 +46,19 @@ impl<D: Disk> Store<D> {
         };
         Ok(Store {
             disk,
-            areas: Standing {
+            areas: AreaPair {
                 len: found.area,
                 side: found.chosen.side,
             },
             other: found.chosen.other,
-            base: Snapshot::of(&found.spelled.table),
-            table: found.spelled.table,
+            base: Snapshot::of(&found.encoded.table),
+            table: found.encoded.table,
             history: Vec::new(alloc),
             covered: 0,
-            used: found.spelled.used,
-            generation: found.spelled.generation,
-            layout: found.spelled.layout,
-            waiting: Waiting::new(),
+            used: found.encoded.used,
+            generation: found.encoded.generation,
+            layout: found.encoded.layout,
+            pending_batch: PendingBatch::new(),
             begun: None,
             failed: false,
         })

@@ -3,7 +3,7 @@ ghost use Rattle.wf_value.specs.Gives.{no_memory};
 ghost use Rattle.act_disk.specs.Images.{EachSince};
 ghost use Rattle.act_store.specs.Entries.{IsLegal};
 ghost use Rattle.act_store.specs.GroupsOfHistory.{KeepsGroups};
-ghost use Rattle.act_store.specs.StoreState.{StandForCovered, StandsForSome};
+ghost use Rattle.act_store.specs.StoreState.{StandForCovered, RecoversToSome};
 ghost use Rattle.act_store.specs.Steps.{Grows, PlayEnds, Survives, Takes};
 ghost use Rattle.act_store.specs.declared.step.Step.TheVariants as asked;
 
@@ -15,14 +15,13 @@ use run_plan::Command;
 use std::alloc::Global;
 use wf_value::{Refusal, TryCopy};
 
-/// Takes steps of a store, one after another, and gives what each is answered. A step that is refused is answered by its refusal, and the
-/// next one follows.
+/// Takes steps of a store in order, and returns the answer to each. A refused step is answered by its refusal, and the next one follows.
 ///
-/// Whatever the steps are, and whatever the device does: a stop at any moment leaves an image that stands for the table after some of
-/// the first entries of the history, with all that were covered when the play began, and one at the end with all that are covered
-/// then, and as long as the device has not failed with no others. The history is one thread's, reply by reply, and in it every concurrency group has at most one run or leg in progress and at
-/// most one pending, and keeps its law. Only memory can be wanting, for the answers or for a copy of a command; the
-/// store then stands after some of the first steps.
+/// This holds for all steps, whatever the device does. A crash at any moment leaves an image that recovers to a prefix of the history that
+/// includes all entries covered when the play began; a crash at the end, to one that includes all entries covered then, and to exactly
+/// these if the device has not failed. The history is sequential: each reply is the one of its step. In it every concurrency group has at
+/// most one run or leg in progress and at most one pending, and keeps its law. The only failure is out of memory, for the answers or for a
+/// copy of a command; the store has then taken some of the first steps.
 pub fn play<D: Disk>(
     alloc: Global,
     store: &mut Store<D>,
@@ -31,9 +30,9 @@ pub fn play<D: Disk>(
     ensures ends { PlayEnds (Survives D.honest D.moment D.fault_count D.images_since) (λ answers. answers.items)
         store.old steps.now result store.new }
     ensures any_moment { D.honest store.old.disk → EachSince D.moment D.images_since store.old.disk store.new.disk
-        (StandsForSome store.new.base store.new.history store.old.covered) }
+        (RecoversToSome store.new.base store.new.history store.old.covered) }
     ensures stands { D.honest store.new.disk → (c : List ℕ) → D.images store.new.disk c
-        → StandsForSome store.new.base store.new.history store.new.covered c }
+        → RecoversToSome store.new.base store.new.history store.new.covered c }
     ensures exact { D.honest store.new.disk → StandForCovered D.images store.new }
     ensures legal { IsLegal store.new.base store.new.history }
     ensures groups { KeepsGroups store.new.base store.new.history }
@@ -47,7 +46,7 @@ pub fn play<D: Disk>(
     answers
 }
 
-/// Takes steps, one after another.
+/// Takes steps in order.
 fn take_all<D: Disk>(
     alloc: Global,
     store: &mut Store<D>,
@@ -64,7 +63,7 @@ fn take_all<D: Disk>(
     Ok(answers)
 }
 
-/// Takes a step. Where a command cannot be copied, none is taken.
+/// Takes a step. If a command cannot be copied, no step is taken.
 fn take_step<D: Disk>(alloc: Global, store: &mut Store<D>, step: &Step) -> Result<Played, Refusal>
     ensures takes { IfOk result (λ answer. Takes store.old step.now answer store.new) }
     ensures survives { IfOk result (λ answer. Survives D.honest D.moment D.fault_count D.images_since store.old answer store.new) }
@@ -83,10 +82,10 @@ fn take_step<D: Disk>(alloc: Global, store: &mut Store<D>, step: &Step) -> Resul
     }
 }
 
-/// Takes a step, and gives what it is answered. A step that is refused is answered by its refusal.
+/// Takes a step, and returns the answer to it. A refused step is answered by its refusal.
 ///
-/// Whatever the step is, and whatever the device does: a stop at any moment leaves an image that stands for the entries that were
-/// covered as the step began, or for all that there were then.
+/// This holds for all steps, whatever the device does: a crash at any moment leaves an image that recovers to the entries covered when the
+/// step began, or to all entries of that time.
 pub fn take<D: Disk>(alloc: Global, store: &mut Store<D>, step: Step) -> Played
     ensures takes { Takes store.old step result store.new }
     ensures survives { Survives D.honest D.moment D.fault_count D.images_since store.old result store.new }
@@ -111,7 +110,6 @@ fn take_apply<D: Disk>(alloc: Global, store: &mut Store<D>, command: Command) ->
     }
 }
 
-/// Covers all entries.
 fn take_commit<D: Disk>(store: &mut Store<D>) -> Played
     ensures takes { Takes store.old asked.Commit result store.new }
     ensures survives { Survives D.honest D.moment D.fault_count D.images_since store.old result store.new }
@@ -122,7 +120,6 @@ fn take_commit<D: Disk>(store: &mut Store<D>) -> Played
     }
 }
 
-/// Begins a checkpoint.
 fn take_begin<D: Disk>(alloc: Global, store: &mut Store<D>) -> Played
     ensures takes { Takes store.old asked.Begin result store.new }
     ensures survives { Survives D.honest D.moment D.fault_count D.images_since store.old result store.new }
@@ -133,7 +130,6 @@ fn take_begin<D: Disk>(alloc: Global, store: &mut Store<D>) -> Played
     }
 }
 
-/// Writes a slice of it.
 fn take_slice<D: Disk>(store: &mut Store<D>) -> Played
     ensures takes { Takes store.old asked.Slice result store.new }
     ensures survives { Survives D.honest D.moment D.fault_count D.images_since store.old result store.new }
@@ -144,7 +140,6 @@ fn take_slice<D: Disk>(store: &mut Store<D>) -> Played
     }
 }
 
-/// Finishes it.
 fn take_finish<D: Disk>(alloc: Global, store: &mut Store<D>) -> Played
     ensures takes { Takes store.old asked.Finish result store.new }
     ensures survives { Survives D.honest D.moment D.fault_count D.images_since store.old result store.new }

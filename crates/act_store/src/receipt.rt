@@ -1,6 +1,6 @@
 use run_plan::Reply;
 
-/// What is told of an entry that was made: its reply, and its place in the history, counted from 1.
+/// What a caller gets for an entry: its reply, and its position in the history, counted from 1.
 #[derive(Drop)]
 pub struct Receipt {
     pub reply: Reply,

@@ -2,7 +2,7 @@ ghost use Rattle.std.specs.Prelude.{◌≡◌, IfErr, IfOk, List, MatchOption};
 ghost use Rattle.wf_value.specs.Gives.{no_memory};
 ghost use Rattle.run_plan.specs.declared.command.Command.{Command};
 ghost use Rattle.run_table.specs.Histories.{after};
-ghost use Rattle.table_text.specs.Format.{Spells};
+ghost use Rattle.table_text.specs.Format.{Encodes};
 ghost use Rattle.act_store.specs.Layouts.{batch_format};
 ghost use Rattle.act_store.specs.Replayed.{IsCarried, IsReplayed};
 
@@ -13,7 +13,7 @@ use run_table::Table;
 use std::alloc::Global;
 use wf_value::Refusal;
 
-/// Carries out the commands of records of a layout, one behind the other. `None` where a body spells no batch.
+/// Carries out the commands of the records in a layout, in order. Returns `None` if a body encodes no batch.
 #[tactic(auto, using(crate::proofs::Replaying::none_so_far, crate::proofs::Replaying::one_more, gated_journal::proofs::Parting::shorter))]
 pub(crate) fn replay(
     alloc: Global,
@@ -36,11 +36,11 @@ pub(crate) fn replay(
     Ok(Some(table))
 }
 
-/// The commands of a body. `None` where it spells no batch.
+/// The commands of a body, or `None` if it encodes no batch.
 #[tactic(auto, using(crate::proofs::Replaying::whole_batch, crate::proofs::Replaying::left_over, crate::proofs::Replaying::no_batch))]
 fn batch_of(alloc: Global, layout: Layout, body: &[u8]) -> Result<Option<Vec<Command>>, Refusal>
-    ensures batch { IfOk result (λ found. MatchOption found ((commands : List Command) → Spells (batch_format layout) body.now commands → ⊥)
-        (λ commands. Spells (batch_format layout) body.now commands.items)) }
+    ensures batch { IfOk result (λ found. MatchOption found ((commands : List Command) → Encodes (batch_format layout) body.now commands → ⊥)
+        (λ commands. Encodes (batch_format layout) body.now commands.items)) }
     ensures refused { IfErr result (λ e. e ≡ no_memory) }
 {
     let Some((commands, rest)) = layout.read_batch(alloc, body)? else {
@@ -52,7 +52,7 @@ fn batch_of(alloc: Global, layout: Layout, body: &[u8]) -> Result<Option<Vec<Com
     Ok(Some(commands))
 }
 
-/// Carries out the commands of a body. `None` where it spells no batch.
+/// Carries out the commands of a body. Returns `None` if it encodes no batch.
 #[tactic(auto, using(crate::proofs::Replaying::carried_whole))]
 fn carry_body(
     alloc: Global,

@@ -4,22 +4,22 @@ use wf_value::Refusal;
 /// A step of a store.
 #[derive(Drop)]
 pub enum Step {
-    /// The command is applied, for seat 0.
+    /// Applies the command for seat 0.
     Apply(Command),
     Commit,
-    /// A checkpoint is begun.
+    /// Begins a checkpoint.
     Begin,
-    /// A slice of it is written.
+    /// Writes a slice of a checkpoint.
     Slice,
-    /// It is finished.
+    /// Finishes a checkpoint.
     Finish,
 }
 
-/// What a step is answered.
+/// The answer to a step.
 #[derive(Drop)]
 pub enum Played {
     Replied(Reply),
-    /// Of a commit and of a finish, how many entries are covered; of a begin and of a slice, how many bytes are left to write.
+    /// For a commit and a finish, how many entries are covered; for a begin and a slice, how many bytes are left to write.
     Count(u64),
     Refused(Refusal),
 }

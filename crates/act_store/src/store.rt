@@ -1,49 +1,46 @@
 ghost use Rattle.std.specs.Prelude.{◌≡◌, ◌≤◌, ◌==◌, ◌-◌, List, ℕ, if◌then◌else◌, length, slice_get, option_copied, None};
 ghost use Rattle.act_store.specs.Entries.{IsLegal};
 ghost use Rattle.act_store.specs.GroupsOfHistory.{KeepsGroups};
-ghost use Rattle.act_store.specs.StoreState.{StandForCovered, StandsForEither, table_of};
+ghost use Rattle.act_store.specs.StoreState.{StandForCovered, RecoversToEither, table_of};
 ghost use Rattle.run_table.specs.Sound.{IsSound};
 ghost use Rattle.run_table.specs.Step.{seen};
 
 use crate::begun::Begun;
 use crate::entry::Entry;
 use crate::layout::Layout;
-use crate::waiting::Waiting;
+use crate::lengths::{GATE, LENGTH};
+use crate::pending_batch::PendingBatch;
 use act_disk::Disk;
-use gated_journal::{Gate, Standing};
+use gated_journal::{AreaPair, Gate};
 use run_plan::Number;
 use run_table::{RunView, Table};
 use std::marker::Model;
 use std::snapshot::Snapshot;
 
-/// What a record has beside its commands and their count: its gate, its length in four bytes, and the next gate.
-const FRAME: u64 = 6;
-
-/// A table with its history in memory, and a disk that stands for it, whenever the machine stops.
+/// A table with its history in memory, and a disk that recovers to it after a crash at any moment.
 ///
-/// The history is that of one thread: each reply is the one that its step gives. Each image that a stop may leave stands for the
-/// covered entries or for all. After a device fault every call that may be refused is refused with 52, and the store is to be opened
-/// again.
+/// The history is sequential: each reply is the one of its step. Each image that a crash may leave recovers to the covered entries, or to
+/// all. After a device fault every call that may be refused is refused with 52, and the store has to be reopened.
 #[derive(Drop)]
 pub struct Store<D: Disk> {
     pub(crate) disk: D,
-    pub(crate) areas: Standing,
-    /// Whether the gate of the other area, which does not stand, is open.
+    pub(crate) areas: AreaPair,
+    /// The state of the other area's gate.
     pub(crate) other: Gate,
-    /// The table at the history's begin, which clauses alone read.
+    /// The table at the start of the history, as ghost data.
     pub(crate) base: Snapshot<Table>,
     pub(crate) table: Table,
     pub(crate) history: Vec<Entry>,
     /// How many of the first entries are covered.
     pub(crate) covered: usize,
-    /// The offset of the gate behind which the next record goes.
+    /// The offset of the gate after which the next record goes.
     pub(crate) used: u64,
     pub(crate) generation: u64,
-    /// The layout of the area that stands.
+    /// The layout of the active area.
     pub(crate) layout: Layout,
     /// The commands of the entries that are not covered.
-    pub(crate) waiting: Waiting,
-    /// The checkpoint that was begun, if one is.
+    pub(crate) pending_batch: PendingBatch,
+    /// The checkpoint in progress, if any.
     pub(crate) begun: Option<Begun>,
     pub(crate) failed: bool,
 }
@@ -59,7 +56,7 @@ impl<D: Disk> Model for Store<D> {
 
     ghost view = { as_state };
 
-    ghost invariant = { λ s. IsCounted {D = D} (as_state s) s.table s.waiting
+    ghost invariant = { λ s. IsCounted {D = D} (as_state s) s.table s.pending_batch
         × (s.failed ≡ false → D.Disk.fault_count s.disk < 2 ^ 64 - 1)
         × (D.Disk.honest s.disk → IsStanding D.Disk.images s.areas.side s.other (as_state s))
         × IfSome s.begun (IsBegun s.base.value s.history.items s.generation s.areas.len s.areas.side s.other
@@ -67,26 +64,26 @@ impl<D: Disk> Model for Store<D> {
 }
 
 impl<D: Disk> Store<D> {
-    /// How many entries the history has.
+    /// The number of entries in the history.
     pub fn entries(&self) -> u64
         ensures { result ≡ length self.now.history }
     {
         self.history.len() as u64
     }
 
-    /// How many of the first entries are covered. The clauses say what every store keeps.
+    /// How many of the first entries are covered. The clauses say what every store guarantees.
     pub fn covered(&self) -> u64
         ensures value { result ≡ self.now.covered }
         ensures within { self.now.covered ≤ length self.now.history }
         ensures legal { IsLegal self.now.base self.now.history }
         ensures groups { KeepsGroups self.now.base self.now.history }
         ensures exact { D.honest self.now.disk → StandForCovered D.images self.now }
-        ensures promise { D.honest self.now.disk → (c : List ℕ) → D.images self.now.disk c → StandsForEither self.now c }
+        ensures promise { D.honest self.now.disk → (c : List ℕ) → D.images self.now.disk c → RecoversToEither self.now c }
     {
         self.covered as u64
     }
 
-    /// The entry at a place of the history, counted from 1.
+    /// The entry at a position of the history, counted from 1.
     pub fn entry(&self, place: u64) -> Option<&Entry>
         ensures { option_copied result ≡ (if place == 0 then None else slice_get self.now.history (place - 1)) }
     {
@@ -96,28 +93,28 @@ impl<D: Disk> Store<D> {
         self.history.get(place as usize - 1)
     }
 
-    /// How long an area of the disk is, in bytes.
+    /// The length of a disk area in bytes.
     pub fn area(&self) -> u64
         ensures { result ≡ self.now.area }
     {
         self.areas.len
     }
 
-    /// The layout of the area that stands.
+    /// The layout of the active area.
     pub fn layout(&self) -> Layout
         ensures { result ≡ self.now.layout }
     {
         self.layout
     }
 
-    /// How many bytes the next record's commands and their count may have, so that it fits the area.
+    /// How many bytes the next record's commands and their count may take to fit the area.
     pub fn room(&self) -> u64
         ensures { result ≡ self.now.area - self.now.used - 6 }
     {
-        (self.areas.len - self.used).saturating_sub(FRAME)
+        (self.areas.len - self.used).saturating_sub(GATE + LENGTH + GATE)
     }
 
-    /// What is seen of the run of an id in the present table, or `None` where there is no such run.
+    /// The view of a run in the current table, or `None` if there is no such run.
     pub fn look(&self, run: Number) -> Option<RunView<'_>>
         ensures seen { result ≡ seen (table_of self.now) run }
         ensures sound { IsSound (table_of self.now) }
@@ -125,14 +122,14 @@ impl<D: Disk> Store<D> {
         self.table.look(run)
     }
 
-    /// The present table.
+    /// The current table.
     pub fn table(&self) -> &Table
         ensures { result.now ≡ table_of self.now }
     {
         &self.table
     }
 
-    /// The disk, also of a store that has failed.
+    /// The disk, also of a failed store.
     pub fn into_disk(self) -> D
         ensures { result ≡ self.disk }
     {

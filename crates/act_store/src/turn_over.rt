@@ -7,10 +7,10 @@ use std::snapshot::Snapshot;
 use wf_value::{Code, Refusal};
 
 impl<D: Disk> Store<D> {
-    /// Begins the history anew: it is empty, and begins at the present table. No device is called, and no memory is taken.
+    /// Restarts the history: it is empty, and begins at the current table. No device call is made, and no memory is taken.
     ///
-    /// It is refused exactly with 52 where the device has failed, else with 56 while a checkpoint is begun or an entry is not covered. Then
-    /// the store is as it was.
+    /// It is refused with 52 exactly if the device has failed, and otherwise with 56 exactly if a checkpoint is in progress or an entry is
+    /// not covered. A refusal changes nothing.
     pub fn turn_over(&mut self) -> Result<(), Refusal>
         ensures turned { OnOk result (self.new ≡ turned_over self.old) }
         ensures refused { IfSome (refusal_of_turning self.old) (λ refusal. result ≡ Err refusal) }
@@ -26,7 +26,7 @@ impl<D: Disk> Store<D> {
         Ok(())
     }
 
-    /// Why the history does not begin anew, memory or not.
+    /// Why the history is not restarted, whether or not memory is available.
     fn refusal_of_turning(&self) -> Option<Refusal>
         ensures { result ≡ refusal_of_turning self.now }
     {

@@ -1,4 +1,4 @@
-//! `acts`: the coordinating half of GitHub Actions as a program.
+//! The program `acts`: the coordinating half of GitHub Actions.
 #![tactic(auto)]
 
 use std::process::ExitCode;

@@ -23,28 +23,29 @@ use std::time::{Clock, Duration};
 use std::{env, io};
 use wf_value::{Code, Refusal};
 
-/// The least length of an area, and the most.
-const LEAST_AREA: u64 = 4_096;
+/// The bounds of an area's length, in bytes.
+const MIN_AREA: u64 = 4_096;
 
-const MOST_AREA: u64 = 1_073_741_824;
+const MAX_AREA: u64 = 1_073_741_824;
 
-/// The last port.
-const MOST_PORT: u64 = 65_535;
+/// The largest port number.
+const MAX_PORT: u64 = 65_535;
 
-const HOOK_PORT: &str = "The port of 127.0.0.1 for events, looks and cancels over HTTP, 1 to 65535";
+const HOOK_PORT_HELP: &str =
+    "The port of 127.0.0.1 for events, looks and cancels over HTTP, 1 to 65535";
 
-const RUNNER_PORT: &str = "The port of 127.0.0.1 for the lines of runners, 1 to 65535";
+const RUNNER_PORT_HELP: &str = "The port of 127.0.0.1 for the lines of runners, 1 to 65535";
 
 /// The most sessions of a port.
-const MOST_SESSIONS: u64 = 32;
+const MAX_SESSIONS: u64 = 32;
 
-/// For how many seconds a client may say nothing at most: a day.
-const MOST_IDLE: u64 = 86_400;
+/// The longest time that a client may stay silent, in seconds: a day.
+const MAX_IDLE: u64 = 86_400;
 
-/// After how many commands a history turns over at the latest.
-const MOST_COMMANDS: u64 = 50_000;
+/// The largest number of commands after which a history turns over.
+const MAX_COMMANDS: u64 = 50_000;
 
-/// How long each area of a new store is to be, in bytes.
+/// The length of each area of a new store, in bytes.
 #[derive(Drop)]
 struct AreaLength {
     bytes: u64,
@@ -54,14 +55,14 @@ struct AreaLength {
 
 impl AreaLength {
     fn of(bytes: u64) -> Option<Self> {
-        if bytes < LEAST_AREA || bytes > MOST_AREA {
+        if bytes < MIN_AREA || bytes > MAX_AREA {
             return None;
         }
         Some(AreaLength { bytes })
     }
 }
 
-/// How many sessions each port of a service takes.
+/// The number of sessions that each port of a service takes at a time.
 #[derive(Drop)]
 struct Sessions {
     count: u64,
@@ -71,7 +72,7 @@ struct Sessions {
 
 impl Sessions {
     fn of(count: u64) -> Option<Self> {
-        if count == 0 || count > MOST_SESSIONS {
+        if count == 0 || count > MAX_SESSIONS {
             return None;
         }
         Some(Sessions { count })
@@ -81,13 +82,14 @@ impl Sessions {
 /// How long a store is served.
 #[derive(Clone, Copy)]
 enum Span {
-    /// So many rounds.
+    /// For this number of rounds.
     Rounds(u64),
     /// Without end.
     Forever(Limits),
 }
 
-/// A store's file, the ports on which it is served, how many sessions each of them holds at a time, and how long it is served.
+/// A store's file, the ports on which it is served, the number of sessions that each of them serves at a time, and how
+/// long it is served.
 #[derive(Drop)]
 struct Serving<'a> {
     file: &'a str,
@@ -97,15 +99,15 @@ struct Serving<'a> {
     span: Span,
 }
 
-/// What the command line asks for.
+/// A request of the command line.
 #[derive(Drop)]
 enum Request<'a> {
     Play,
     Check,
     Lint,
-    /// A new store in this file.
+    /// Make a store in this file.
     Init(&'a str, AreaLength),
-    /// What is shown of a store.
+    /// Show a store.
     Show(View<'a>),
     Serve(Serving<'a>),
     Explain(&'static Explanation),
@@ -115,14 +117,14 @@ enum Request<'a> {
 fn init_command<'a>(alloc: Global) -> Result<Command<'a>, AllocError> {
     let file = Arg::new(alloc, "FILE")
         .required(true)
-        .help("The file to be made; one that is there has to be empty");
+        .help("The file to create; if it exists, it has to be empty");
     let area = Arg::new(alloc, "AREA")
         .required(true)
-        .value_parser(ValueParser::unsigned(LEAST_AREA, MOST_AREA))
-        .help("How long each of the two areas is, 4096 to 1073741824 bytes");
+        .value_parser(ValueParser::unsigned(MIN_AREA, MAX_AREA))
+        .help("The length of each of the two areas, 4096 to 1073741824 bytes");
     Command::new(alloc, "init")
         .about(
-            "Makes an empty store of two areas of AREA bytes in FILE, which is made where it is not there",
+            "Makes an empty store of two areas of AREA bytes in FILE, which is created if it does not exist",
         )
         .arg(file)?
         .arg(area)
@@ -134,11 +136,11 @@ fn port_option<'a>(alloc: Global, name: &'a str, help: &'a str) -> Arg<'a> {
         .long(name)
         .required(true)
         .value_name("PORT")
-        .value_parser(ValueParser::unsigned(1, MOST_PORT))
+        .value_parser(ValueParser::unsigned(1, MAX_PORT))
         .help(help)
 }
 
-/// How many rounds of sessions there are: one, where nothing is said.
+/// The number of rounds of sessions, 1 by default.
 fn rounds_option<'a>(alloc: Global) -> Arg<'a> {
     Arg::new(alloc, "rounds")
         .long("rounds")
@@ -148,58 +150,58 @@ fn rounds_option<'a>(alloc: Global) -> Arg<'a> {
         .value_parser(ValueParser::unsigned(1, u64::MAX))
 }
 
-/// Whether the service goes on without end.
+/// Whether the service runs without end.
 fn forever_option<'a>(alloc: Global) -> Result<Arg<'a>, AllocError> {
     Arg::new(alloc, "forever")
         .long("forever")
-        .help("Goes on without end: each port has COUNT seats, which its clients share")
+        .help("Serves without end: each port has COUNT seats, which its clients share")
         .action(ArgAction::SetTrue)
         .conflicts_with("rounds")
 }
 
-/// For how long a client of a service without end may say nothing.
+/// How long a client of a service without end may stay silent.
 fn idle_option<'a>(alloc: Global) -> Result<Arg<'a>, AllocError> {
     Arg::new(alloc, "idle")
         .long("idle")
         .value_name("SECONDS")
-        .help("With --forever: lets a client go that has said nothing for SECONDS, 1 to 86400")
+        .help("With --forever: disconnects a client that says nothing for SECONDS, 1 to 86400")
         .default_value("300")
-        .value_parser(ValueParser::unsigned(1, MOST_IDLE))
+        .value_parser(ValueParser::unsigned(1, MAX_IDLE))
         .requires_arg("forever")
 }
 
-/// After how many commands the history of a service without end turns over.
+/// The number of commands after which the history of a service without end turns over.
 fn turn_over_option<'a>(alloc: Global) -> Result<Arg<'a>, AllocError> {
     Arg::new(alloc, "turn-over")
         .long("turn-over")
         .value_name("COMMANDS")
         .help(
-            "With --forever: begins a new history after COMMANDS commands, 1 to 50000, or 64 MiB that clients have sent or were answered",
+            "With --forever: begins a new history after COMMANDS commands, 1 to 50000, or 64 MiB that clients have sent or received",
         )
         .default_value("50000")
-        .value_parser(ValueParser::unsigned(1, MOST_COMMANDS))
+        .value_parser(ValueParser::unsigned(1, MAX_COMMANDS))
         .requires_arg("forever")
 }
 
-/// `acts serve FILE --hook-port PORT --runner-port PORT --sessions COUNT`, with `--rounds ROUNDS`, or with `--forever` and what belongs to
-/// it, where that is wanted.
+/// `acts serve FILE --hook-port PORT --runner-port PORT --sessions COUNT`, with `--rounds ROUNDS`, or with `--forever`
+/// and its options.
 fn serve_command<'a>(alloc: Global) -> Result<Command<'a>, AllocError> {
     let file = Arg::new(alloc, "FILE")
         .required(true)
-        .help("The file of the store, which no other server may have");
+        .help("The file of the store, which no other server may use");
     let sessions = Arg::new(alloc, "sessions")
         .long("sessions")
         .required(true)
         .value_name("COUNT")
-        .value_parser(ValueParser::unsigned(1, MOST_SESSIONS))
-        .help("How many sessions each port holds at a time, 1 to 32");
+        .value_parser(ValueParser::unsigned(1, MAX_SESSIONS))
+        .help("The number of sessions that each port serves at a time, 1 to 32");
     Command::new(alloc, "serve")
         .about(
             "Serves the store in FILE on 127.0.0.1: in each round, or at a time, COUNT sessions of HTTP on one port, and as many of runner lines on the other",
         )
         .arg(file)?
-        .arg(port_option(alloc, "hook-port", HOOK_PORT))?
-        .arg(port_option(alloc, "runner-port", RUNNER_PORT))?
+        .arg(port_option(alloc, "hook-port", HOOK_PORT_HELP))?
+        .arg(port_option(alloc, "runner-port", RUNNER_PORT_HELP))?
         .arg(sessions)?
         .arg(rounds_option(alloc))?
         .arg(forever_option(alloc)?)?
@@ -228,14 +230,14 @@ fn lint_command<'a>(alloc: Global) -> Command<'a> {
     )
 }
 
-/// `acts explain NUMBER`, of one of these numbers.
+/// `acts explain NUMBER`, where NUMBER is one of `numbers`.
 fn explain_command<'a>(alloc: Global, numbers: &'a [&'a str]) -> Result<Command<'a>, AllocError> {
     let number = Arg::new(alloc, "NUMBER")
         .required(true)
         .value_parser(numbers)
-        .help("The number of a refusal, as it stands behind the word refused");
+        .help("The number of a refusal, which follows the word refused");
     Command::new(alloc, "explain")
-        .about("Says what the refusal with a number means, and what helps")
+        .about("Says what the refusal with this number means, and what helps")
         .arg(number)
 }
 
@@ -246,14 +248,14 @@ fn with_readers<'a>(alloc: Global, acts: Command<'a>) -> Result<Command<'a>, All
         .subcommand(lint_command(alloc))
 }
 
-/// Adds the subcommands over a store in a file.
+/// Adds the subcommands on a store in a file.
 fn with_stores<'a>(alloc: Global, acts: Command<'a>) -> Result<Command<'a>, AllocError> {
     let acts = acts.subcommand(init_command(alloc)?)?;
     let acts = with_views(alloc, acts)?;
     acts.subcommand(serve_command(alloc)?)
 }
 
-/// Adds the subcommand that explains a refusal of one of these numbers.
+/// Adds the subcommand that explains a refusal with one of these numbers.
 fn with_explain<'a>(
     alloc: Global,
     acts: Command<'a>,
@@ -262,7 +264,7 @@ fn with_explain<'a>(
     acts.subcommand(explain_command(alloc, numbers)?)
 }
 
-/// The program, without its subcommands.
+/// The program without its subcommands.
 fn program<'a>(alloc: Global) -> Command<'a> {
     Command::new(alloc, "acts")
         .about("The coordinating half of GitHub Actions")
@@ -277,7 +279,7 @@ fn command<'a>(alloc: Global, numbers: &'a [&'a str]) -> Result<Command<'a>, All
     with_explain(alloc, acts, numbers)
 }
 
-/// What the words of `acts init` ask for.
+/// The request of `acts init`.
 fn init_of<'a>(matches: &ArgMatches<'a>) -> Option<Request<'a>> {
     let file = matches.get_str("FILE")?;
     let area = matches.get_one::<u64>("AREA")?;
@@ -289,7 +291,7 @@ fn port_of(matches: &ArgMatches<'_>, name: &str) -> Option<u16> {
     u16::try_from(matches.get_one::<u64>(name)?).ok()
 }
 
-/// How long the words of `acts serve` ask for.
+/// How long `acts serve` is to serve.
 fn span_of(matches: &ArgMatches<'_>) -> Option<Span> {
     if !matches.get_flag("forever") {
         return Some(Span::Rounds(matches.get_one::<u64>("rounds")?));
@@ -300,7 +302,7 @@ fn span_of(matches: &ArgMatches<'_>) -> Option<Span> {
     }))
 }
 
-/// What the words of `acts serve` ask for.
+/// The request of `acts serve`.
 fn serve_of<'a>(matches: &ArgMatches<'a>) -> Option<Request<'a>> {
     Some(Request::Serve(Serving {
         file: matches.get_str("FILE")?,
@@ -311,7 +313,7 @@ fn serve_of<'a>(matches: &ArgMatches<'a>) -> Option<Request<'a>> {
     }))
 }
 
-/// What the words of `acts explain` ask for.
+/// The request of `acts explain`.
 fn explain_of<'a>(matches: &ArgMatches<'a>) -> Option<Request<'a>> {
     let explanation = explanation_of(matches.get_str("NUMBER")?)?;
     Some(Request::Explain(explanation))
@@ -325,8 +327,8 @@ fn view_of<'a>(matches: &ArgMatches<'a>, what: Shown) -> Option<Request<'a>> {
     }))
 }
 
-/// What the words of a subcommand with this name ask for, where it shows a store.
-fn view_asked<'a>(name: &str, matches: &ArgMatches<'a>) -> Option<Request<'a>> {
+/// The request of the subcommand with this name, if it shows a store.
+fn view_request<'a>(name: &str, matches: &ArgMatches<'a>) -> Option<Request<'a>> {
     match name {
         "show" => view_of(matches, runs_of(matches)?),
         "runners" => view_of(matches, Shown::Runners),
@@ -335,7 +337,7 @@ fn view_asked<'a>(name: &str, matches: &ArgMatches<'a>) -> Option<Request<'a>> {
     }
 }
 
-/// What the words that `clap` took ask for.
+/// The request of the command line that `clap` accepted.
 fn request_of<'a>(matches: &ArgMatches<'a>) -> Option<Request<'a>> {
     match matches.subcommand() {
         Some(("play", _)) => Some(Request::Play),
@@ -344,12 +346,12 @@ fn request_of<'a>(matches: &ArgMatches<'a>) -> Option<Request<'a>> {
         Some(("init", matches)) => init_of(matches),
         Some(("serve", matches)) => serve_of(matches),
         Some(("explain", matches)) => explain_of(matches),
-        Some((name, matches)) => view_asked(name, matches),
+        Some((name, matches)) => view_request(name, matches),
         None => None,
     }
 }
 
-/// Reads the words of the command line. Its `explain` takes one of these numbers.
+/// Parses the words of the command line. Its `explain` takes one of these numbers.
 fn parse<'a>(
     alloc: Global,
     numbers: &'a [&'a str],
@@ -373,7 +375,7 @@ fn words<R: Env + AllocGlobal>(rt: &R) -> Result<Vec<String>, Refusal> {
     Ok(words.collect(rt.alloc())?)
 }
 
-/// A writer to standard output that gathers what it is given.
+/// A buffered writer to standard output.
 fn output<R: Print + AllocGlobal>(rt: &R) -> Result<BufWriter<Printer<'_, R>>, Refusal> {
     BufWriter::new(rt.alloc(), io::writer(rt)).map_err(|_| Refusal::Numbered(Code::NoMemory))
 }
@@ -389,13 +391,14 @@ fn check<R: Input + Print + AllocGlobal>(rt: &R) -> Result<(), Refusal> {
     run_check(rt.alloc(), &mut rt.reader(), &mut output(rt)?)
 }
 
-/// Lints the workflow on standard input, prints its faults to standard output, and gives the status: 1 where there is one.
+/// Lints the workflow on standard input, and prints its faults to standard output. Returns the exit status: 1 if there
+/// is a fault.
 fn lint<R: Input + Print + AllocGlobal>(rt: &R) -> Result<u8, Refusal> {
     let faulty = run_lint(rt.alloc(), &mut rt.reader(), &mut output(rt)?)?;
     Ok(if faulty { 1 } else { 0 })
 }
 
-/// Makes a store in a file, which is made first where it is not there, and which nobody else serves.
+/// Makes a store in a file, which is created if it does not exist. No other server may use it.
 fn init<R: Print + Files<File = File> + AllocGlobal>(
     rt: &R,
     file: &str,
@@ -405,8 +408,8 @@ fn init<R: Print + Files<File = File> + AllocGlobal>(
     run_init(rt.alloc(), disk, area.bytes, &mut output(rt)?).1
 }
 
-/// The store in a file that nobody else serves.
-fn opened<R: Files<File = File> + AllocGlobal>(
+/// Opens the store in a file. No other server may use it.
+fn open_store<R: Files<File = File> + AllocGlobal>(
     rt: &R,
     file: &str,
 ) -> Result<Store<RealDisk>, Refusal>
@@ -419,7 +422,7 @@ fn opened<R: Files<File = File> + AllocGlobal>(
     }
 }
 
-/// A listener on a port of this machine alone. One that can't be had is 61.
+/// A listener on a port of 127.0.0.1. If the port cannot be bound, the error is 61.
 fn listener<S: Net<Listener = TcpListener, Stream = TcpStream>>(
     system: &S,
     port: u16,
@@ -435,7 +438,7 @@ fn serve<
     S: Threads + Wait + Clock + Sync + Net<Listener = TcpListener, Stream = TcpStream>,
 >(rt: &R, system: &S, serving: &Serving<'_>) -> Result<(), Refusal> {
     let alloc = rt.alloc();
-    let store = opened(rt, serving.file)?;
+    let store = open_store(rt, serving.file)?;
     let hooks = listener(system, serving.hook_port)?;
     let runners = listener(system, serving.runner_port)?;
     let mut out = output(rt)?;
@@ -455,8 +458,8 @@ fn serve<
     }
 }
 
-/// Prints the text of `clap`, and gives its status: 0 for a help text, and 2 for a fault.
-fn tell<R: Print + Eprint>(rt: &R, error: &Error) -> Result<u8, Refusal> {
+/// Prints the text of `clap` and returns the exit status: 0 for a help text, and 2 for a usage error.
+fn print_message<R: Print + Eprint>(rt: &R, error: &Error) -> Result<u8, Refusal> {
     if error.kind() == ErrorKind::OutOfMemory {
         return Err(Refusal::Numbered(Code::NoMemory));
     }
@@ -466,12 +469,12 @@ fn tell<R: Print + Eprint>(rt: &R, error: &Error) -> Result<u8, Refusal> {
     Ok(if error.use_stderr() { 2 } else { 0 })
 }
 
-fn print_line<R: Print>(rt: &R, explanation: &Explanation) -> Result<(), Refusal> {
+fn print_explanation<R: Print>(rt: &R, explanation: &Explanation) -> Result<(), Refusal> {
     rt.println(explanation)
         .map_err(|_| Refusal::Numbered(Code::StreamFailed))
 }
 
-fn obey<
+fn execute<
     R: Input + Print + Eprint + Env + Files<File = File> + AllocGlobal,
     S: Threads + Wait + Clock + Sync + Net<Listener = TcpListener, Stream = TcpStream>,
 >(rt: &R, system: &S) -> Result<u8, Refusal> {
@@ -484,20 +487,20 @@ fn obey<
         Ok(Request::Init(file, area)) => init(rt, file, area)?,
         Ok(Request::Show(view)) => show(rt, &view, &mut output(rt)?)?,
         Ok(Request::Serve(serving)) => serve(rt, system, &serving)?,
-        Ok(Request::Explain(explanation)) => print_line(rt, explanation)?,
-        Err(error) => return tell(rt, &error),
+        Ok(Request::Explain(explanation)) => print_explanation(rt, explanation)?,
+        Err(error) => return print_message(rt, &error),
     }
     Ok(0)
 }
 
-/// Does what the command line asks: its words, streams and files are those of `rt`, its threads and ports those of `system`. The
-/// status is 0, also after a help text; 1 after a refusal, which stands on standard error as `acts: refused N`; and 2 after a fault of
-/// the command line there.
+/// Carries out the command line. Its words, streams and files are those of `rt`; its threads and ports are those of
+/// `system`. The exit status is 0, also after a help text. It is 1 after a refusal, which is printed on standard error
+/// as `acts: refused N`, and 2 after a usage error, which is printed there too.
 pub fn run<
     R: Input + Print + Eprint + Env + Files<File = File> + AllocGlobal,
     S: Threads + Wait + Clock + Sync + Net<Listener = TcpListener, Stream = TcpStream>,
 >(rt: &R, system: &S) -> ExitCode {
-    match obey(rt, system) {
+    match execute(rt, system) {
         Ok(status) => ExitCode::from(status),
         Err(refusal) => {
             let _ = rt.eprintln(format_args!("acts: {refusal}"));

@@ -1,37 +1,37 @@
 use std::alloc::{AllocError, Global};
 use std::fmt;
 
-/// What is said of a refusal.
+/// The explanation of a refusal.
 #[derive(Drop)]
 pub struct Explanation {
     number: &'static str,
-    /// Why something is refused so.
+    /// Why something is refused with this number.
     meaning: &'static str,
-    /// An input that is.
+    /// An input that is refused with it.
     input: &'static str,
-    /// What helps.
+    /// What to do about it.
     remedy: &'static str,
 }
 
-/// What a workflow or its event is refused for.
+/// The refusals of workflows and events.
 static OF_WORKFLOWS: [Explanation; 17] = [
     Explanation {
         number: "10",
         meaning: "a body, or a workflow, is not JSON, or not UTF-8",
         input: "the body [",
-        remedy: "check the text with a JSON tool: comments and a comma behind the last member are not \
+        remedy: "check the text with a JSON tool: comments and a comma after the last member are not \
             allowed, and lists and objects nest 127 deep at most",
     },
     Explanation {
         number: "11",
         meaning: "a member is of the wrong kind, or one that is required is missing",
         input: "the workflow {}, which has no \"jobs\"",
-        remedy: "compare the members with the tables of docs/FORMATS.md; null counts as a kind of its \
-            own, so leave a member out that is not wanted",
+        remedy: "compare the members with the tables of docs/FORMATS.md; null counts as a kind of its own, so leave out a \
+            member that is not wanted",
     },
     Explanation {
         number: "12",
-        meaning: "the id of a job is not of its form",
+        meaning: "the id of a job is not of the required form",
         input: "the workflow {\"jobs\":{\"1a\":{\"runs-on\":\"x\"}}}",
         remedy: "begin the id with a letter or _, use letters, digits, - and _ alone, and 100 bytes at most",
     },
@@ -45,7 +45,7 @@ static OF_WORKFLOWS: [Explanation; 17] = [
         number: "14",
         meaning: "jobs need one another in a circle; the ids of all jobs of such circles follow the number",
         input: "the workflow {\"jobs\":{\"a\":{\"runs-on\":\"x\",\"needs\":\"a\"}}}",
-        remedy: "take a job out of the \"needs\" of one that it waits for",
+        remedy: "remove a job from the \"needs\" of one that it waits for",
     },
     Explanation {
         number: "15",
@@ -55,30 +55,28 @@ static OF_WORKFLOWS: [Explanation; 17] = [
     },
     Explanation {
         number: "16",
-        meaning: "a workflow has a member, or a kind of job, that is left out",
+        meaning: "a workflow has a member, or a kind of job, that is not supported",
         input: "the workflow {\"jobs\":{\"a\":{\"uses\":\"./x.yml\"}}}",
         remedy: "write the job's own steps in place of \"uses\", and labels in place of a runner group",
     },
     Explanation {
         number: "17",
-        meaning: "a text holds an expression that is not read: references joined by || are, functions \
-            and comparisons are not",
+        meaning: "a text holds an expression that is not supported: references joined by || are, functions and comparisons \
+            are not",
         input: "the workflow {\"jobs\":{\"a\":{\"runs-on\":\"${{ secrets.x }}\"}}}",
-        remedy: "use the contexts github, inputs, vars, needs, strategy and matrix, texts in single \
-            quotes, and 32 references at most, or let the sender work out the value",
+        remedy: "use the contexts github, inputs, vars, needs, strategy and matrix, texts in single quotes, and 32 \
+            references at most, or let the sender compute the value",
     },
     Explanation {
         number: "18",
         meaning: "an expression uses a context that has no value in its place",
         input: "the workflow {\"concurrency\":\"${{ matrix.os }}\",\"jobs\":{\"a\":{\"runs-on\":\"x\"}}}",
-        remedy: "use github, inputs and vars alone in the concurrency of the workflow, or move the group \
-            to the job",
+        remedy: "use only github, inputs and vars in the concurrency of the workflow, or move the group to the job",
     },
     Explanation {
         number: "19",
-        meaning: "a matrix holds what it can't: a variable that is no list, an include or exclude that \
-            is no list of objects, or a value that is a list, an object, or a number other than a signed \
-            64-bit whole number",
+        meaning: "a matrix is malformed: a variable that is no list, an include or exclude that is no list of objects, or a \
+            value that is a list, an object, or a number other than a signed 64-bit whole number",
         input: "the workflow {\"jobs\":{\"a\":{\"runs-on\":\"x\",\"strategy\":{\"matrix\":{\"n\":[1.5]}}}}}",
         remedy: "write such a value as a text, as \"1.5\"",
     },
@@ -92,20 +90,19 @@ static OF_WORKFLOWS: [Explanation; 17] = [
         number: "21",
         meaning: "the lengths of the lists of a matrix multiply to over 4,096",
         input: "a job whose matrix has 13 variables of two values each",
-        remedy: "shorten the lists, or part the job in two; exclude does not help, since it comes later",
+        remedy: "shorten the lists, or split the job in two; exclude does not help, since it applies later",
     },
     Explanation {
         number: "22",
         meaning: "a matrix gives no leg, or more than 256",
         input: "the workflow {\"jobs\":{\"a\":{\"runs-on\":\"x\",\"strategy\":{\"matrix\":{}}}}}",
-        remedy: "leave an empty matrix out; else shorten its lists, exclude combinations, or part the \
-            job in two",
+        remedy: "leave an empty matrix out; else shorten its lists, exclude combinations, or split the job in two",
     },
     Explanation {
         number: "23",
         meaning: "a workflow has more than 256 jobs",
         input: "a workflow of 257 jobs",
-        remedy: "part the workflow in two, or let a matrix stand for jobs that are alike",
+        remedy: "split the workflow in two, or use a matrix for jobs that are alike",
     },
     Explanation {
         number: "24",
@@ -119,25 +116,25 @@ static OF_WORKFLOWS: [Explanation; 17] = [
         meaning: "a member of \"strategy\" is none of \"matrix\", \"fail-fast\" and \"max-parallel\", or \
             of the wrong kind or range",
         input: "the workflow {\"jobs\":{\"a\":{\"runs-on\":\"x\",\"strategy\":{\"max-parallel\":0}}}}",
-        remedy: "give \"fail-fast\" true or false, \"max-parallel\" a whole number from 1 to 256, and \
-            \"matrix\" an object; expressions are not read there",
+        remedy: "give \"fail-fast\" true or false, \"max-parallel\" a whole number from 1 to 256, and \"matrix\" an object; \
+            expressions are not supported there",
     },
     Explanation {
         number: "26",
-        meaning: "the \"if\" of a job is a condition that is not read",
+        meaning: "the \"if\" of a job is a condition that is not supported",
         input: "the workflow {\"jobs\":{\"a\":{\"runs-on\":\"x\",\"if\":\"github.ref == 'x'\"}}}",
         remedy: "use success(), failure(), always(), cancelled(), !cancelled(), true or false, or let a \
             step decide",
     },
 ];
 
-/// What the run table refuses a command for.
+/// The refusals of commands by the run table.
 static OF_COMMANDS: [Explanation; 10] = [
     Explanation {
         number: "40",
         meaning: "there is no run with this id",
         input: "the line: look 1, before any admit",
-        remedy: "use an id that an admit was answered, as 1 of: created 1",
+        remedy: "use an id from the answer to an admit, such as 1 in: created 1",
     },
     Explanation {
         number: "41",
@@ -148,13 +145,13 @@ static OF_COMMANDS: [Explanation; 10] = [
     Explanation {
         number: "42",
         meaning: "the runner has a lease already, and holds one at a time",
-        input: "the line: claim r1 2 linux, after claim r1 1 linux was answered by a lease",
+        input: "the line: claim r1 2 linux, after claim r1 1 linux was answered with a lease",
         remedy: "report that leg by done first, or claim under the name of another runner",
     },
     Explanation {
         number: "43",
-        meaning: "a command is out of its runner's turn, or a re-run does not name the attempt that comes next; the runner's last \
-            number follows, 0 where it has none, or the run's attempt",
+        meaning: "a command does not have its runner's next number, or a re-run does not name the next attempt; the \
+            runner's last number follows, 0 if it has none, or the run's attempt",
         input: "the line: claim r1 2 linux, as the first of runner r1",
         remedy: "number the commands of each runner 1, 2, 3 and so on, and repeat a command word for \
             word, with its number, to get its reply again; to re-run a run name one more than its attempt",
@@ -163,7 +160,7 @@ static OF_COMMANDS: [Explanation; 10] = [
         number: "44",
         meaning: "the runner does not hold that lease",
         input: "the line: done r1 1 9 success, where r1 does not run the leg of lease 9",
-        remedy: "report the lease that the runner's claim was answered, and that leg once",
+        remedy: "report the lease from the answer to the runner's claim, and each leg once",
     },
     Explanation {
         number: "45",
@@ -175,21 +172,21 @@ static OF_COMMANDS: [Explanation; 10] = [
         number: "46",
         meaning: "the history has 100,000 entries; refused commands and look-ups are entries too",
         input: "the 100,001st command of a script, or of a round of a service",
-        remedy: "part the script in two; a client of a service opens a new session in the next round, and sends the same \
+        remedy: "split the script in two; a client of a service opens a new session in the next round, and sends the same \
             again; with --forever no history has so many",
     },
     Explanation {
         number: "47",
         meaning: "the record of the command does not fit the area of the store's file",
         input: "look 1 and commit, 283 times each, and then an admit, over areas of 4,096 bytes",
-        remedy: "make a new store with larger areas by acts init; a client opens a new session once the service runs over it, and \
-            sends the same again",
+        remedy: "make a new store with larger areas by acts init; a client opens a new session once the service serves it, \
+            and sends the same again",
     },
     Explanation {
         number: "48",
         meaning: "a counter is at its last value: 100,000 runs, 999,999,999 leases, or 1,000 attempts of a run",
         input: "the admit of a run past 100,000",
-        remedy: "begin again with an empty table; in place of a 1,001st attempt, admit the event anew under another delivery id",
+        remedy: "start again with an empty table; instead of a 1,001st attempt, admit the event again under another delivery id",
     },
     Explanation {
         number: "49",
@@ -199,41 +196,42 @@ static OF_COMMANDS: [Explanation; 10] = [
     },
 ];
 
-/// What memory and a store's file fail with.
+/// The failures of memory and of a store's file.
 static OF_STORES: [Explanation; 8] = [
     Explanation {
         number: "50",
-        meaning: "memory was refused, and what was asked was not done",
+        meaning: "out of memory: what was asked was not done",
         input: "any, on a machine that has no memory left",
-        remedy: "free memory, and ask again: the table is as it was; a client of a service opens a new session, and sends \
+        remedy: "free memory, and try again: the table is as it was; a client of a service opens a new session, and sends \
             the same again: a delivery makes one run, and a runner's last number gets its reply again",
     },
     Explanation {
         number: "51",
         meaning: "a read, a write or a sync of the disk failed in this call",
         input: "acts init FILE 4096, on a file system that is full",
-        remedy: "see what is wrong with the disk; that of a script is in memory, and fails where memory is \
-            refused to it. A client of a service does not know whether its command stands: once the service has been started \
-            again it opens a new session, and sends the same again",
+        remedy: "check the disk; that of a script is in memory, and fails if it runs out of memory. A client of a service \
+            does not know whether its command was carried out: once the service has been restarted, it opens a new session, \
+            and sends the same again",
     },
     Explanation {
         number: "52",
-        meaning: "the disk failed in an earlier call, and nothing is known of what it took",
+        meaning: "the disk failed in an earlier call, so it is not known what it holds",
         input: "any command of a script, after a commit was answered 51",
-        remedy: "free memory, and play the script again: its store is in memory, and ends with it. A service is started again, which \
-            opens its file anew (with --forever it ends by itself); then a client opens a new session, and sends the same again",
+        remedy: "free memory, and play the script again: its store is in memory, and ends with it. Restart a service, so \
+            that it opens its file again (with --forever it ends by itself); then a client opens a new session, and sends \
+            the same again",
     },
     Explanation {
         number: "53",
         meaning: "no area is open on the disk, or its length is not that of two areas",
         input: "acts show FILE, of an empty file",
-        remedy: "see whether it is the right file; a new store is made by acts init in an empty one",
+        remedy: "check that it is the right file; acts init makes a new store in an empty one",
     },
     Explanation {
         number: "54",
-        meaning: "the area that stands spells no table",
+        meaning: "the active area encodes no table",
         input: "acts show FILE, of a store whose file another program has written",
-        remedy: "take a copy of the file from before; nothing is written to it by opening",
+        remedy: "use an earlier copy of the file; opening writes nothing to it",
     },
     Explanation {
         number: "55",
@@ -243,39 +241,39 @@ static OF_STORES: [Explanation; 8] = [
     },
     Explanation {
         number: "56",
-        meaning: "a step of a checkpoint is out of its turn: a begin while one is begun, a slice where nothing is left to \
-            write, or a finish where none is begun or something is left",
+        meaning: "a step of a checkpoint is out of order: a begin when one has begun, a slice when nothing is left to \
+            write, or a finish when none has begun or something is left",
         input: "the line: finish, before any begin",
         remedy: "write begin, then slice until it answers left 0, then finish; a service makes its checkpoints by itself",
     },
     Explanation {
         number: "57",
-        meaning: "the area that stands has the layout of an earlier program, in which no run has an attempt but its first",
-        input: "a re-run, over a file of an earlier program in whose areas a checkpoint has no room",
-        remedy: "make a new store with larger areas by acts init, as after 47; a service brings a file to the present layout \
-            before it is ready, where a checkpoint has room, and checkpoints beside its sessions do so too",
+        meaning: "the active area has the layout of an earlier program, in which a run has only its first attempt",
+        input: "a re-run, over a file of an earlier program that has no room for a checkpoint",
+        remedy: "make a new store with larger areas by acts init, as after 47; a service upgrades a file to the current \
+            layout before it is ready, if a checkpoint fits, and so do the checkpoints beside its sessions",
     },
 ];
 
-/// What streams, files and ports, and what is answered on them, fail with.
+/// The failures of streams, files and ports, and of the answers on them.
 static OF_STREAMS: [Explanation; 2] = [
     Explanation {
         number: "60",
-        meaning: "what the sessions were answered is not what the history holds, or an answer had to be held back for that",
+        meaning: "what the sessions were answered differs from the history, or a reply was withheld because of that",
         input: "none that is known: it would be a fault of the program",
-        remedy: "keep the file as it is, and start the service again, which opens it: a client opens a new session and sends the \
-            same again",
+        remedy: "keep the file as it is, and restart the service, which opens it: a client opens a new session and sends \
+            the same again",
     },
     Explanation {
         number: "61",
         meaning: "an input, an output, a file, a port or a stream failed",
         input: "acts play < script > /dev/full",
-        remedy: "see whether the disk is full, the other end of a pipe or stream has gone, the file is there, or another program \
-            has the port; a part of the answers may have been written",
+        remedy: "check whether the disk is full, the other end of a pipe or stream is closed, the file exists, or another \
+            program uses the port; a part of the answers may have been written",
     },
 ];
 
-/// What a service refuses a request of HTTP for before it is a command.
+/// The refusals of HTTP requests that are no commands.
 static OF_REQUESTS: [Explanation; 5] = [
     Explanation {
         number: "70",
@@ -285,8 +283,8 @@ static OF_REQUESTS: [Explanation; 5] = [
     },
     Explanation {
         number: "71",
-        meaning: "the length of the body is not told: Content-Length is missing for POST /events, comes twice or is no number of 1 \
-            to 9 digits, or there is a Transfer-Encoding",
+        meaning: "the length of the body is not given: Content-Length is missing for POST /events, occurs twice or is no \
+            number of 1 to 9 digits, or there is a Transfer-Encoding",
         input: "POST /events with Content-Length: +1",
         remedy: "send one Content-Length in decimal digits, and the body in one piece; the session has ended, so open a new one",
     },
@@ -298,33 +296,33 @@ static OF_REQUESTS: [Explanation; 5] = [
     },
     Explanation {
         number: "73",
-        meaning: "the path is there, and not for this method; the header Allow names the one that it takes",
+        meaning: "the path exists, but not for this method; the header Allow names the one that it accepts",
         input: "POST /runs/1",
         remedy: "use the method that Allow names, in capitals",
     },
     Explanation {
         number: "74",
-        meaning: "X-GitHub-Delivery or X-GitHub-Event is missing, comes twice, or is not of its form",
+        meaning: "X-GitHub-Delivery or X-GitHub-Event is missing, occurs twice, or is not of the required form",
         input: "POST /events without X-GitHub-Event",
         remedy: "send each once: an id of 1 to 64 letters, digits and -, and a name of 1 to 64 small letters, digits and _; the \
             session has ended, so open a new one",
     },
 ];
 
-/// What the lines and the length of an input are refused for.
+/// The refusals of lines and of inputs that are too long.
 static OF_INPUT: [Explanation; 2] = [
     Explanation {
         number: "75",
         meaning: "a line of a script, or of a runner, is no command; a runner's line has 512 bytes at most",
         input: "the line: look 01",
-        remedy: "part the fields by one space, write numbers without leading zeros, and compare names \
-            with the forms of docs/FORMATS.md; a runner's session goes on, but for a line that is too long",
+        remedy: "separate the fields by one space, write numbers without leading zeros, and compare names with the forms of \
+            docs/FORMATS.md; a runner's session continues, except after a line that is too long",
     },
     Explanation {
         number: "76",
         meaning: "a script, or what acts check or acts lint reads, is longer than 1,048,576 bytes",
         input: "a script of 1,048,577 bytes",
-        remedy: "part the script in two; a workflow is 65,536 bytes at most (24)",
+        remedy: "split the script in two; a workflow is 65,536 bytes at most (24)",
     },
 ];
 
@@ -366,7 +364,7 @@ fn of_input() -> &'static [Explanation] {
     &OF_INPUT
 }
 
-/// The refusals that can be met, in the order of their numbers. docs/FORMATS.md repeats them.
+/// The refusals that a user can meet, in the order of their numbers. docs/FORMATS.md repeats them.
 fn explanations() -> [&'static [Explanation]; 6] {
     [
         of_workflows(),
@@ -403,7 +401,7 @@ fn found_in(explanations: &'static [Explanation], number: &str) -> Option<&'stat
         .find(|explanation| explanation.number == number)
 }
 
-/// What is said of the refusal with this number, or `None` where it is not explained.
+/// The explanation of the refusal with this number, or `None` if there is none.
 pub fn explanation_of(number: &str) -> Option<&'static Explanation> {
     for part in explanations() {
         if let Some(explanation) = found_in(part, number) {

@@ -1,5 +1,5 @@
-//! The command line of the program `acts`: its words, read by `clap`, its standard streams and its status.
-//! What each command does over them stands in `acts_ops`. `acts explain` says what a refusal means.
+//! The command line of the program `acts`: its words, parsed by `clap`, its standard streams and its exit status.
+//! `acts_ops` does the work of each command. `acts explain` says what a refusal means.
 #![tactic(auto)]
 
 mod cli;

@@ -1,7 +1,8 @@
-//! The file of a store, opened for a server or for reading alone. No contract speaks of files.
+//! The file of a store, opened for a server or for reading only. No contract describes files.
 //!
-//! A server takes the exclusive advisory lock of its file (`flock(2)`) before it reads or writes it, and has it until the file is closed,
-//! at the latest at the end of its process. What reads alone takes none, and asks for no leave to write.
+//! A server takes the exclusive advisory lock of its file (`flock(2)`) before it reads or writes it. It holds the lock
+//! until the file is closed, at the latest when its process ends. A command that only reads takes no lock and needs no
+//! write permission.
 
 ghost use Rattle.std.specs.Prelude.{◌≡◌, IfOk};
 ghost use Rattle.act_disk.specs.FileDisk.{faults_of};
@@ -13,11 +14,12 @@ use std::os::fd::AsRawFd;
 use std::path::Path;
 use wf_value::{Code, Refusal};
 
-/// A disk over a file of the system. `Empty` stands for what the file held when it was opened, of which only clauses could
-/// speak: nothing here does.
+/// A disk over a file of the system. `Empty` is the type for the file's contents at opening, which only contracts could
+/// mention; none here does.
 pub(crate) type RealDisk = FileDisk<HostFile<Empty>>;
 
-/// A file that is there, to be read and written by this server alone. 61 where it can't be opened, and where another server has it.
+/// Opens an existing file that only this server may read and write. The error is 61 if the file cannot be opened or
+/// another server has it.
 pub(crate) fn open_for_server<R: Files<File = File>>(
     rt: &R,
     path: &str,
@@ -28,8 +30,8 @@ pub(crate) fn open_for_server<R: Files<File = File>>(
     disk_over(locked(opened))
 }
 
-/// The same of a file that is made first where there is none. Its folder is synced, so that the file stays under its name: 61 where
-/// that fails, too.
+/// Does the same with a file that is created if it does not exist. It syncs the file's folder, so that the name is
+/// durable; if that fails, the error is 61 too.
 pub(crate) fn create_for_server<R: Files<File = File>>(
     rt: &R,
     path: &str,
@@ -46,7 +48,7 @@ pub(crate) fn create_for_server<R: Files<File = File>>(
     Ok(disk)
 }
 
-/// A file that is there, to be read alone. 61 where it can't be opened.
+/// Opens an existing file for reading only. The error is 61 if it cannot be opened.
 pub(crate) fn open_for_reading<R: Files<File = File>>(
     rt: &R,
     path: &str,
@@ -56,7 +58,7 @@ pub(crate) fn open_for_reading<R: Files<File = File>>(
     disk_over(OpenOptions::new().read(true).open(rt, path))
 }
 
-/// The file with its lock, which nobody else has. It does not wait for one.
+/// Locks the file. If another process holds the lock, it fails at once.
 fn locked(opened: io::Result<File>) -> io::Result<File> {
     let file = opened?;
     match file.try_lock() {
@@ -77,13 +79,13 @@ fn disk_over(opened: io::Result<File>) -> Result<RealDisk, Refusal>
     }
 }
 
-/// Asks the kernel to drop its clean pages of a file. After a failed sync these may be other than what
-/// the device has, and a read would give them. It is advice, and whether it was taken is not asked.
+/// Asks the kernel to drop its clean pages of a file. After a failed sync these may differ from what the device has,
+/// and a read would return them. This is advice: whether the kernel follows it is not checked.
 fn drop_clean_pages(file: &File) {
     let _ = libc::posix_fadvise(file.as_raw_fd(), 0, 0, libc::POSIX_FADV_DONTNEED);
 }
 
-/// Makes the names in a file's folder stable.
+/// Makes the names in a file's folder durable.
 fn sync_folder<R: Files<File = File>>(rt: &R, path: &str) -> io::Result<()> {
     let folder = match Path::new(path).parent() {
         Some(folder) if !folder.as_str().is_empty() => folder,

@@ -10,10 +10,10 @@ use std::fs::{File, Files};
 use std::io::Write;
 use wf_value::Refusal;
 
-/// The last number of a run.
-const MOST_RUN: u64 = 999_999_999;
+/// The largest run id that can be requested.
+const MAX_RUN: u64 = 999_999_999;
 
-/// What is shown of the store in a file, and how.
+/// What to show of the store in a file, and in which format.
 #[derive(Drop)]
 pub(crate) struct View<'a> {
     pub(crate) file: &'a str,
@@ -37,7 +37,7 @@ fn file_argument<'a>(alloc: Global) -> Arg<'a> {
 /// `acts show FILE [RUN]`.
 fn show_command<'a>(alloc: Global) -> Result<Command<'a>, AllocError> {
     let run = Arg::new(alloc, "RUN")
-        .value_parser(ValueParser::unsigned(1, MOST_RUN))
+        .value_parser(ValueParser::unsigned(1, MAX_RUN))
         .help("The id of one run, 1 to 999999999; without it all runs are shown");
     Command::new(alloc, "show")
         .about("Prints the view of each run of the store in FILE, or of one run")
@@ -73,7 +73,7 @@ pub(crate) fn with_views<'a>(alloc: Global, acts: Command<'a>) -> Result<Command
     acts.subcommand(queue_command(alloc)?)
 }
 
-/// As lines, or as JSON.
+/// The format: lines, or JSON.
 pub(crate) fn form_of(matches: &ArgMatches<'_>) -> Form {
     if matches.get_flag("json") {
         Form::Json
@@ -83,13 +83,13 @@ pub(crate) fn form_of(matches: &ArgMatches<'_>) -> Form {
 }
 
 fn number_of(run: u64) -> Option<Number> {
-    if run == 0 || run > MOST_RUN {
+    if run == 0 || run > MAX_RUN {
         return None;
     }
     Some(Number::new(run as u32))
 }
 
-/// All runs, or the one whose id stands there.
+/// All runs, or the one whose id is given.
 pub(crate) fn runs_of(matches: &ArgMatches<'_>) -> Option<Shown> {
     match matches.get_one::<u64>("RUN") {
         Some(run) => Some(Shown::Run(number_of(run)?)),
@@ -97,7 +97,7 @@ pub(crate) fn runs_of(matches: &ArgMatches<'_>) -> Option<Shown> {
     }
 }
 
-/// Shows it.
+/// Shows a store.
 pub(crate) fn show<R: Files<File = File> + AllocGlobal, W: Write>(
     rt: &R,
     view: &View<'_>,

@@ -1,4 +1,4 @@
--- A step of a store is answered as a line of a script is.
+-- A step of a store has the answer of a script's line.
 use Rattle.std.proofs.Common.{◌≡◌, ◌⊎◌, inl, inr, ⊎_elim, ℕ, length, refl, sym, ◌∙◌, ap, subst}
 use Rattle.std.proofs.Common.{Bool, true, false, Result, Ok, Err}
 use Rattle.std.proofs.lemmas.Bool.{cases_Bool, ltb-false, ltb-true}
@@ -12,7 +12,7 @@ use Rattle.act_store.specs.Checkpoints.{dropped, finished, left_of}
 use Rattle.act_store.specs.StoreState.{Checkpoint, StoreState}
 use Rattle.act_store.specs.Plain.{committed}
 use Rattle.act_store.specs.Steps.{Counts, Covers, IsRefused, MayCallDevice, MayTakeMemory, Replies, Takes, TellsStep, is_area_full, left_by, refusal_of}
-use Rattle.act_store.specs.Told.{IsCause}
+use Rattle.act_store.specs.FaultCauses.{IsCause}
 use Rattle.act_store.specs.declared.step.Played.{Played}
 use Rattle.act_store.specs.declared.step.Played.TheVariants as told
 use Rattle.act_store.specs.declared.step.Step.{Step}
@@ -26,7 +26,7 @@ module _ {D : Type 0} (old new : StoreState D) (faults more : ℕ) where
   abbrev plain : PlainStore
   plain = without_disk old
 
-  -- the disk is not asked why a step is refused
+  -- whether a step is refused does not depend on the disk
   same_refusal : (step : Step) → refusal_of plain step ≡ refusal_of old step
   same_refusal (asked.Apply command) = refl
   same_refusal asked.Commit = refl
@@ -133,7 +133,7 @@ module _ {D : Type 0} (old new : StoreState D) (faults more : ℕ) where
       let so = counted_plain step count takes.1 in as_defined step None (told.Count count) takes.0 so.0 so.1 unfailed
   answers_as step (told.Refused e) takes told_so = refused_plain step e takes told_so
 
--- ---- a line that asks for no step
+-- ---- a line that is no step
 
 wants_of : (s : PlainStore) (wanted : Result Step Refusal) → IsOfCommand wanted → WantsMemory s wanted
 wants_of s (Err e) of = tt

@@ -1,4 +1,4 @@
--- A step that a store refuses for a cause of its own is not told that the device failed.
+-- A step that a store refuses for a reason of its own does not report a failure of the device.
 use Rattle.std.proofs.Common.{◌≡◌, ℕ, ◌+◌, inl, inr, length, Bool, true, false}
 use Rattle.std.specs.Prelude.{Option, Some, None, is_some, nat_le, nat_lt, if◌then◌else◌}
 use Rattle.wf_value.specs.declared.refusal.Refusal.{Refusal}
@@ -9,11 +9,11 @@ use Rattle.act_store.specs.Layouts.{has_command}
 use Rattle.act_store.specs.Plain.{area_full, checkpoint_turn, failed_earlier, history_full, old_layout, refusal_of_form, refusal_of_room}
 use Rattle.act_store.specs.Steps.{refusal_of}
 use Rattle.act_store.specs.StoreState.{Checkpoint, StoreState}
-use Rattle.act_store.specs.Told.{IsCause}
+use Rattle.act_store.specs.FaultCauses.{IsCause}
 use Rattle.act_store.specs.declared.step.Step.{Step}
 use Rattle.act_store.specs.declared.step.Step.TheVariants as asked
 
--- the device is not told to have failed
+-- the reason is not a failure of the device
 abbrev IsOther : Option Refusal → Type 0
 IsOther cause = cause ≡ Some device_failed → ⊥
 
@@ -66,7 +66,7 @@ module _ {D : Type 0} (s : StoreState D) where
       one_of_two s.failed (Some failed_earlier) _ earlier (one_of_two (is_written s.begun) (Some checkpoint_turn) None turn none)
   cause_is_other asked.Finish = one_of_two s.failed (Some failed_earlier) (refusal_of_last s s.begun) earlier (last_other s.begun)
 
--- ---- what is told of the disk
+-- ---- what is known of the disk
 
 pub none_failed : (e : Refusal) (faults more : ℕ) → (e ≡ device_failed → ⊥) → IsCause e faults more → more ≡ faults
 none_failed e faults more other (inl fault) = absurd (other fault.0)

@@ -25,11 +25,11 @@ use Rattle.acts_ops.specs.Writes.{Writes}
 
 -- ---- legs
 
--- the lines of combinations that are numbered from a number on
+-- the lines of combinations, numbered from a number on
 abbrev pub numbered_lines : List ℕ → ℕ → List Combo → List ℕ
 numbered_lines job number combinations = flat_map (λ p. leg_line job p.0 p.1) (enumerate_from number combinations)
 
--- a leg's line stands before those of the later ones
+-- a leg's line comes before those of the later ones
 pub leg_behind : (job out : List ℕ) (n count : ℕ) (legs : List Combo) (combo : Combo) → n < count → count ≡ length legs
     → ◌≡◌ {A = Result Combo Refusal} (Ok (get_or legs n [])) (Ok combo) → out ++ numbered_lines job n (drop n legs) ≡ leg_lines job legs
     → out ++ (leg_line job n combo ++ numbered_lines job (n + 1) (drop (n + 1) legs)) ≡ leg_lines job legs
@@ -39,12 +39,12 @@ leg_behind job out n count legs combo lt counted given so_far =
     ap (λ x. out ++ x) (sym (ap (numbered_lines job n)
     (drop-cons legs n [] (omega arith) ∙ ap (λ c. c ∷ drop (suc n) legs) is ∙ ap (λ k. combo ∷ drop k legs) step))) ∙ so_far
 
--- the combinations of legs that are made of combinations
+-- making legs of combinations preserves the combinations
 pub combinations_again : (cs : List Combo) → map (λ leg. leg.combo) (legs_of cs) ≡ cs
 combinations_again [] = refl
 combinations_again (c ∷ cs) = ap (λ rest. c ∷ rest) (combinations_again cs)
 
--- the lines of a job whose combinations are there
+-- the lines of a job whose matrix has no faults
 pub lines_of_job : (job : Job) (legs : List Combo) → combinations_where (matrix_of job) ≡ Ok legs
     → leg_lines job.id legs ≡ job_lines (planned_job job)
 lines_of_job job legs is =
@@ -58,7 +58,7 @@ next_job n jobs job lt is =
     let step : suc n ≡ n + 1 = omega arith in
     drop-cons jobs n job lt ∙ ap (λ x. x ∷ drop (suc n) jobs) (sym is) ∙ ap (λ k. job ∷ drop k jobs) step
 
--- a job's lines stand before those of the later ones
+-- a job's lines come before those of the later ones
 pub job_behind : (out : List ℕ) (n : ℕ) (jobs : List Job) (job : Job) → n < length jobs → job ≡ get_or jobs n job
     → out ++ plan_lines (map planned_job (drop n jobs)) ≡ plan_lines (map planned_job jobs)
     → out ++ (job_lines (planned_job job) ++ plan_lines (map planned_job (drop (n + 1) jobs))) ≡ plan_lines (map planned_job jobs)
@@ -69,14 +69,14 @@ neither : {X : Type 0} (xs ys : List X) → xs ++ ys ≡ [] → (xs ≡ []) × (
 neither [] ys h = (refl, h)
 neither (x ∷ xs) ys h = absurd cc
 
--- where jobs have no fault, neither the first has one nor the others
+-- if jobs have no faults, neither the first nor the others have any
 pub none_of_jobs : (jobs rest : List Job) (job : Job) → jobs ≡ job ∷ rest → legs_faults jobs ≡ []
     → (job_faults job ≡ []) × (legs_faults rest ≡ [])
 none_of_jobs jobs rest job is none = neither (job_faults job) (legs_faults rest) (sym (ap legs_faults is) ∙ none)
 
 -- ---- the end
 
--- where the workflow of a text has no fault, its plan decides
+-- if the workflow of a text has no faults, its plan decides
 of_plan : (text : List ℕ) (w : Workflow) → unless_faulty (workflow_faults text) (workflow_of text) ≡ Ok w
     → checked text ≡ unless_faulty (plan_faults w) (plan_lines (workflow_plan w))
 of_plan text w told =
@@ -85,7 +85,7 @@ of_plan text w told =
     ∙ ap (λ (v : Workflow). unless_faulty (plan_faults v) (plan_lines (workflow_plan v)))
     (same_value (workflow_faults text) (workflow_of text) w told)
 
--- the lines of a plan, where the workflow of a text has no fault
+-- the lines of a plan, if the workflow of a text has no faults
 pub plan_checked : {X : Type 0} (text : List ℕ) (w : Workflow) (x v : X)
     → unless_faulty (workflow_faults text) (workflow_of text) ≡ Ok w → unless_faulty (plan_faults w) x ≡ Ok v
     → checked text ≡ Ok (plan_lines (workflow_plan w))
@@ -96,18 +96,18 @@ pub plan_refused : {X : Type 0} (text : List ℕ) (w : Workflow) (x : X) (e : Re
     → unless_faulty (workflow_faults text) (workflow_of text) ≡ Ok w → unless_faulty (plan_faults w) x ≡ Err e → checked text ≡ Err e
 plan_refused text w x e told refused = of_plan text w told ∙ same_refusal (plan_faults w) x (plan_lines (workflow_plan w)) e refused
 
--- a plan without a fault has none of the matrices
+-- a plan without faults has no faults of its matrices
 pub no_legs_fault : {X : Type 0} (w : Workflow) (x v : X) → unless_faulty (plan_faults w) x ≡ Ok v → legs_faults w.jobs ≡ []
 no_legs_fault w x v planned = (neither (legs_faults w.jobs) (needs_faults w.jobs) (no_fault (plan_faults w) x v planned)).0
 
--- the plan was refused, and nothing written
+-- the plan was refused, and nothing was written
 pub refused_plan : {U : Type 0} (text : List ℕ) (r : Result U Refusal) (e : Refusal) → IsErrAnd r (λ f. f ≡ e)
     → (e ≡ no_memory) ⊎ (checked text ≡ Err e) → Written text [] r
 refused_plan text (Ok u) e is why = absurd is
 refused_plan text (Err f) e is (inl memory) = inr (inr (is ∙ memory), inl refl)
 refused_plan text (Err f) e is (inr refused) = inl (refused ∙ ap Err (sym is), refl)
 
--- the lines were written, or a front of them
+-- the lines were written, or a prefix of them
 pub lines_written : {U : Type 0} (text lines : List ℕ) (old new : Option (List ℕ)) (r : Result U Refusal) → checked text ≡ Ok lines
     → Writes old new lines r → (out : List ℕ) × Appends old new out × Written text out r
 lines_written text lines old new (Ok u) told all = (lines, all, told)

@@ -1,4 +1,4 @@
--- What a call is told of an input that it reads.
+-- The results of a call that reads an input.
 use Rattle.std.proofs.Common.{◌≡◌, ◌⊎◌, inl, inr, ℕ, ◌<◌, List, [], length, Option, Some, None, Result, Ok, Err, IfErr, IfSome}
 use Rattle.std.proofs.Common.{refl, sym, ap, subst, arith, length-append}
 use Rattle.std.specs.Io.KnownBytes.{Appends, Consumes}
@@ -20,7 +20,7 @@ pub from_each : {X : Type 0} {P Q : X → Type 0} (o : Option X) → IfSome o P 
 from_each None h f = tt
 from_each (Some x) h f = f x h
 
--- an input that was not read is answered, and nothing written
+-- if an input was not read, nothing is written
 pub nothing_written : (P : List ℕ → List ℕ → Type 0) (input writer : Option (List ℕ)) (e : Refusal) → IfSome input (RefusesInput e)
     → ((text : List ℕ) → RefusesInput e text → P text [])
     → IfSome input (λ text. (out : List ℕ) × Appends writer writer out × P text out)
@@ -33,7 +33,7 @@ unread (Ok u) e input is why = tt
 unread (Err f) e input is why =
     for_any input (λ x. inr (subst (λ g. (g ≡ stream_failed) ⊎ (g ≡ no_memory)) (sym is) why))
 
--- more of it was read than it may have
+-- more of it was read than is allowed
 pub too_long : (before after : Option (List ℕ)) (read : List ℕ) → Consumes before after read → most_bytes < length read
     → IfSome before (RefusesInput (Numbered InputTooLong))
 too_long None after read consumed long = tt

@@ -13,12 +13,12 @@ use Rattle.acts_ops.specs.Lint.{Lints, LintsTo, linted}
 use Rattle.acts_ops.specs.Play.{most_bytes}
 use Rattle.acts_ops.specs.Writes.{FrontWritten, Writes}
 
--- what was found, as it is written
+-- the findings, as they are written
 pub slice_is : (text : List ℕ) (found slice : List Finding) → ◌≡◌ {A = Result (List Finding) Refusal} (Ok (found_in text)) (Ok found)
     → slice ≡ found → slice ≡ found_in text
 slice_is text found slice told is = let same : found_in text ≡ found = cc in is ∙ sym same
 
--- its lines are not all written, or the writer is not flushed
+-- not all of its lines are written, or the writer is not flushed
 pub front_linted : (text lines : List ℕ) (old new : Option (List ℕ)) (r : Result Bool Refusal) (e : Refusal) → IsErrAnd r (λ f. f ≡ e)
     → lines ≡ linted text → (e ≡ stream_failed) ⊎ (e ≡ no_memory) → FrontWritten old new lines
     → (out : List ℕ) × Appends old new out × Lints text out r

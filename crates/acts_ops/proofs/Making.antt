@@ -1,11 +1,11 @@
--- What a making has written.
+-- What the making of a store has written.
 use Rattle.std.proofs.Common.{◌≡◌, ◌∙◌, inl, inr, ℕ, List, take, drop, take-append-drop, Option}
 use Rattle.std.proofs.Common.{Result, Ok, Err, IfErr, OnOk, refl, sym, arith}
 use Rattle.std.specs.Io.KnownBytes.{Appends}
 use Rattle.std.proofs.Math.Nat.{eq-zero-or-pos}
 use Rattle.wf_value.specs.declared.refusal.Refusal.{Refusal}
 use Rattle.act_disk.specs.Failed.{stream_failed}
-use Rattle.act_store.specs.Told.{TellsFault}
+use Rattle.act_store.specs.FaultCauses.{TellsFault}
 use Rattle.acts_ops.specs.Made.{Makes, made_line}
 use Rattle.acts_ops.proofs.Writing.{no_fault}
 
@@ -16,7 +16,7 @@ was_empty size r x e occupied made = elim (eq-zero-or-pos size) [
   | inr some ↦ absurd (let clash : Err e ≡ Ok x = sym (occupied (λ zero. absurd (omega (arith, zero, some)))) ∙ made in cc)
 ]
 
--- what is written once the store is made: all, or a front where the stream failed
+-- what is written once the store is made: all, or a prefix if the stream failed
 pub made_of : {U : Type 0} (size : ℕ) (old new : Option (List ℕ)) (r : Result U Refusal) → size ≡ 0 → OnOk r (Appends old new made_line)
     → ((n : ℕ) × Appends old new (take n made_line)) → IfErr r (λ e. e ≡ stream_failed)
     → (out : List ℕ) × Appends old new out × Makes size out r
@@ -27,7 +27,7 @@ made_of size old new (Err e) zero all front why = (
   inr (inr (zero, why, drop front.0 made_line, take-append-drop front.0 made_line)),
 )
 
--- a making that the device did not fail
+-- the store was made without a failure of the device
 pub made_faults : {U : Type 0} (r : Result U Refusal) (before after : ℕ) → IfErr r (λ e. e ≡ stream_failed) → after ≡ before
     → TellsFault r before after
 made_faults (Ok u) before after why same = same

@@ -1,4 +1,4 @@
--- What a play writes, line by line.
+-- What playing a script writes, line by line.
 use Rattle.std.proofs.Common.{◌≡◌, ◌≢◌, ◌∙◌, ◌⊎◌, inl, inr, ℕ, List, [], ◌∷◌, ◌++◌, length, take, drop, true}
 use Rattle.std.proofs.Common.{cond, filter, Result, Ok, Err, IfErr, ◌≤◌, refl, sym, ap, subst, append_assoc, append-nil}
 use Rattle.std.proofs.Common.{take-append-drop}
@@ -16,11 +16,11 @@ use Rattle.acts_ops.specs.Play.{IsAnswer, Answers, PlaysFrom, Plays, memory_refu
 
 -- ---- all lines
 
--- neither memory nor the disk failed a line that is answered so
+-- a line with this answer was failed by neither memory nor the disk
 abbrev pub IsUnfailed : List ℕ → Type 0
 IsUnfailed a = (a ≢ memory_refused) × (a ≢ device_refused)
 
--- where they failed no line, the answers are those that are defined
+-- if they failed no line, the answers are those defined
 as_defined : (s : PlainStore) (faults end : ℕ) (ls answers : List (List ℕ)) → Answers s faults ls answers end → All IsUnfailed answers
     → answers ≡ answers_from s ls
 as_defined s faults end [] [] h n = refl
@@ -44,7 +44,7 @@ plays : (first : PlainStore) (before : ℕ) (script : List ℕ) (answers : List 
 plays first before script answers end h =
     (answers, h, refl, λ n. ap printed (as_defined first before end (script_lines script) answers h n))
 
--- What has been written so far leads to a play, whatever the answers of the lines that are left.
+-- What has been written so far extends to a whole play, whatever the answers of the remaining lines.
 abbrev pub Leads : PlainStore → ℕ → List ℕ → PlainStore → ℕ → List ℕ → List ℕ → Type 0
 Leads first before script s faults rest out =
     (more : List (List ℕ)) (end : ℕ) → Answers s faults (script_lines rest) more end
@@ -68,7 +68,7 @@ leads_to_end first before script t faults rest out so_far e =
     let all = so_far [] faults (subst (λ ls. Answers t faults (filter has_bytes ls) [] faults) (sym e) refl) in
     subst (λ o. PlaysFrom first before script o faults) (all.2 ∙ append-nil out) (plays first before script all.0 faults all.1)
 
--- what is written is a front of a play
+-- what is written is a prefix of a play
 pub leads_on : (first : PlainStore) (before : ℕ) (script : List ℕ) (t : PlainStore) (faults : ℕ) (rest out : List ℕ)
     → Leads first before script t faults rest out → (more : List ℕ) × PlaysFrom first before script (out ++ more) faults
 leads_on first before script t faults rest out so_far =
@@ -76,7 +76,7 @@ leads_on first before script t faults rest out so_far =
     let all = so_far others faults (defined t faults (script_lines rest)) in
     (printed others, subst (λ o. PlaysFrom first before script o faults) all.2 (plays first before script all.0 faults all.1))
 
--- and so is a front of the next answer
+-- and so it is with a prefix of the next answer
 pub leads_on_within : (first : PlainStore) (before : ℕ) (script : List ℕ) (t : PlainStore) (faults : ℕ) (rest out a : List ℕ) (n : ℕ)
     → Leads first before script t faults rest (out ++ a) → (more : List ℕ) × PlaysFrom first before script ((out ++ take n a) ++ more) faults
 leads_on_within first before script t faults rest out a n so_far =

@@ -1,4 +1,4 @@
--- The definitions worked through on rows, by computation.
+-- Examples of the definitions, by computation.
 use Rattle.std.proofs.Common.{◌≡◌, [], ◌∷◌, ◌++◌, codes, Ok, Err, refl}
 use Rattle.wf_value.specs.RefusalText.{refusal_text}
 use Rattle.wf_value.specs.declared.code.Code.TheVariants.{NoRun}
@@ -17,7 +17,7 @@ use Rattle.acts_ops.specs.PlainStore.{done, start, taken}
 empty_script : output_of [] ≡ []
 empty_script = refl
 
--- one carriage return before a line feed is dropped, and a line that is then empty is skipped
+-- one carriage return before a line feed is dropped, and a line that is empty then is skipped
 cut : script_lines (codes "look 1" ++ (13 ∷ 10 ∷ 13 ∷ 10 ∷ codes "look 2")) ≡ codes "look 1" ∷ codes "look 2" ∷ []
 cut = refl
 
@@ -44,7 +44,7 @@ asked_first = command.Claim (record { runner = codes "r1"; number = 1; labels = 
 asked_second : Command
 asked_second = command.Claim (record { runner = codes "r1"; number = 2; labels = codes "linux" ∷ [] })
 
--- what is told of a command that is entered first
+-- the replies to a first command
 out_of_turn : (done start (asked.Apply asked_second)).1 ≡ told.Replied (reply.Refused (Turn 0))
 unfolding asked_second
 out_of_turn = refl
@@ -63,11 +63,11 @@ none_covered = refl
 one_covered : (taken (done start (asked.Apply (command.Look 1))).0 asked.Commit).1 ≡ told.Count 1
 one_covered = refl
 
--- and no other line is a commit
+-- no other line is a commit
 commit_with_a_space : answer_of start (codes "commit ") ≡ refusal_text not_a_line
 commit_with_a_space = refl
 
--- a slice, and a finish, of no checkpoint
+-- a slice and a finish without a checkpoint
 none_begun : answer_of start (codes "slice") ≡ refusal_text checkpoint_turn
 none_begun = refl
 

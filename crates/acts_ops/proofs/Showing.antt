@@ -1,4 +1,4 @@
--- What a showing has written, run by run.
+-- What a call that shows a table has written, run by run.
 use Rattle.std.proofs.Common.{◌≡◌, ◌⊎◌, ◌∙◌, inl, inr, ℕ, suc, ◌+◌, ◌-◌, ◌<◌, ◌≤◌, List, [], ◌++◌, length, Option, Some, None}
 use Rattle.std.proofs.Common.{Result, Ok, Err, IfErr, refl, sym, ap, subst, append-nil, arith}
 use Rattle.std.specs.Io.KnownBytes.{Appends, Keeps}
@@ -10,30 +10,30 @@ use Rattle.wf_value.specs.Gives.{no_memory}
 use Rattle.wf_value.specs.declared.code.Code.TheVariants.{NoRun}
 use Rattle.wf_value.specs.declared.refusal.Refusal.{Refusal}
 use Rattle.wf_value.specs.declared.refusal.Refusal.TheVariants.{Numbered}
-use Rattle.workflow_runs.specs.RunNumber.{events, run_number}
+use Rattle.run_states.specs.RunNumber.{events, run_number}
 use Rattle.run_table.specs.Step.{seen}
 use Rattle.run_table.specs.TableState.{TableState}
-use Rattle.workflow_runs.specs.RunState.{RunState}
+use Rattle.run_states.specs.RunState.{RunState}
 use Rattle.run_table.specs.ViewText.{Seen}
 use Rattle.act_store.specs.Entries.{table_after}
-use Rattle.act_store.specs.Images.{HasNoArea, StandsFor}
+use Rattle.act_store.specs.Images.{HasNoArea, RecoversTo}
 use Rattle.act_store.specs.StoreState.{StoreState, table_of}
 use Rattle.act_store.specs.declared.entry.Entry.{Entry}
 use Rattle.table_views.specs.RunLines.{run_line}
 use Rattle.table_views.specs.declared.form.Form.{Form}
 use Rattle.act_disk.specs.Failed.{device_failed, stream_failed}
-use Rattle.act_store.specs.Told.{TellsFault}
+use Rattle.act_store.specs.FaultCauses.{TellsFault}
 use Rattle.acts_ops.specs.Show.{Shows, WritesWhat, lines_from, run_lines, shown}
 use Rattle.acts_ops.specs.declared.shown.Shown.{Shown}
 use Rattle.acts_ops.specs.declared.shown.Shown.TheVariants as what
 use Rattle.acts_ops.specs.Writes.{Writes}
 use Rattle.acts_ops.proofs.Writing.{flushed, written_faults}
 
--- the lines of the runs from a place on
+-- the lines of the runs from an index on
 abbrev pub lines_behind : Form → TableState → ℕ → List ℕ
 lines_behind form t place = lines_from form t (place + 1) (length t.runs - place)
 
--- what is seen of a run with an id
+-- the view of a run with an id
 abbrev shown_of : TableState → ℕ → RunState → Seen
 shown_of t id run = record { id = id; number = run_number (events t.runs) (id - 1) run.admitted; run = run }
 
@@ -46,7 +46,7 @@ all_behind form t = ap (λ n. lines_from form t 1 n) (let same : length t.runs -
 pub before_all : (form : Form) (t : TableState) → [] ++ lines_behind form t 0 ≡ run_lines form t
 before_all form t = all_behind form t
 
--- ---- a run that is there
+-- ---- a run that exists
 
 there : (t : TableState) (place : ℕ) (run : Seen) → seen t (place + 1) ≡ Some run → place < length t.runs
 there t place run is =
@@ -57,7 +57,7 @@ there t place run is =
       | inr past ↦ absurd (let clash : None ≡ Some run = sym (ap (seen_by t (place + 1)) past.1) ∙ is in cc)
     ]
 
--- its line stands before those of the later ones
+-- its line comes before those of the later ones
 pub behind_run : (form : Form) (t : TableState) (out : List ℕ) (place id : ℕ) (run : Seen) → Some run ≡ seen t id → id ≡ place + 1
     → out ++ lines_behind form t place ≡ run_lines form t
     → out ++ (run_line form run ++ lines_behind form t (place + 1)) ≡ run_lines form t
@@ -80,12 +80,12 @@ past_last form t out all place past h =
 pub opened_table : {D : Type 0} (s : StoreState D) → s.history ≡ [] → s.base ≡ table_of s
 opened_table s begun = ap (λ (h : List Entry). table_after s.base h) (sym begun)
 
--- where a table stands, an area is open
-pub stands_somewhere : (t : TableState) (image : List ℕ) → StandsFor t image → HasNoArea image → ⊥
+-- if an image recovers to a table, an area is open
+pub stands_somewhere : (t : TableState) (image : List ℕ) → RecoversTo t image → HasNoArea image → ⊥
 stands_somewhere t image stands none =
-    let clash : None ≡ Some stands.side = sym (none stands.len stands.long stands.size) ∙ stands.spells.stands in cc
+    let clash : None ≡ Some stands.side = sym (none stands.len stands.long stands.size) ∙ stands.encodes.stands in cc
 
--- ---- what is written of what is shown
+-- ---- what is written of the lines
 
 given : (x y : List ℕ) → x ≡ y → ◌≡◌ {A = Result (List ℕ) Refusal} (Ok x) (Ok y)
 given x y is = ap Ok is
@@ -103,7 +103,7 @@ with_error e = Err e
 abbrev pub well : {V : Type 0} → V → Result V Refusal
 well v = Ok v
 
--- a call that was refused passes that on
+-- a call that was refused returns that error
 pub passed_what : {U : Type 0} (V : Type 0) (old new : Option (List ℕ)) (lines : Result (List ℕ) Refusal) (r : Result U Refusal) (e : Refusal)
     → IsErrAnd r (λ f. f ≡ e) → WritesWhat old new lines (with_error {V = V} e) → WritesWhat old new lines r
 passed_what V old new (Ok all) (Ok u) e is writes = absurd is
@@ -112,15 +112,15 @@ passed_what V old new (Ok all) (Err f) e is writes =
 passed_what V old new (Err why) (Ok u) e is writes = absurd is
 passed_what V old new (Err why) (Err f) e is writes = (writes.0, is ∙ writes.1)
 
--- what is written whole is flushed
+-- what is fully written is flushed
 pub flushed_what : {U V : Type 0} (old mid new : Option (List ℕ)) (lines : Result (List ℕ) Refusal) (u : V) (r : Result U Refusal)
     → WritesWhat old mid lines (well u) → Keeps mid new → IfErr r (λ e. e ≡ stream_failed) → WritesWhat old new lines r
 flushed_what old mid new (Ok all) u r writes kept why = flushed old mid new all r writes kept why
 flushed_what old mid new (Err e) u r writes kept why = absurd writes.1
 
--- what a showing wrote of a table, all or a front
+-- what was written of a table, all or a prefix
 pub shows_told : {U : Type 0} (lines : TableState → Result (List ℕ) Refusal) (image : List ℕ) (t : TableState) (old new : Option (List ℕ))
-    (r : Result U Refusal) → StandsFor t image → WritesWhat old new (lines t) r → (out : List ℕ) × Appends old new out × Shows lines image out r
+    (r : Result U Refusal) → RecoversTo t image → WritesWhat old new (lines t) r → (out : List ℕ) × Appends old new out × Shows lines image out r
 shows_told {U} lines image t old new r stands writes = by (lines t) r refl writes
   where
     by : (defined : Result (List ℕ) Refusal) (ended : Result U Refusal) → lines t ≡ defined → WritesWhat old new defined ended
@@ -131,7 +131,7 @@ shows_told {U} lines image t old new r stands writes = by (lines t) r refl write
     by (Err why) (Ok u) is none = absurd none.1
     by (Err why) (Err e) is none = ([], none.0, inr (inl (refl, (t, stands, is ∙ refused _ _ (sym none.1)))))
 
--- what is not there is no fault of the device
+-- a missing run is no failure of the device
 not_there : (o : Option (List ℕ)) (e : Refusal) → ok_or o (Numbered NoRun) ≡ Err e → e ≡ device_failed → ⊥
 not_there None e is device = let clash : Numbered NoRun ≡ device_failed = same_Err _ _ is ∙ device in cc
 not_there (Some text) e is device = cc
@@ -142,7 +142,7 @@ no_device form (what.Run id) t e is device = not_there (option_map (run_line for
 no_device form what.Runners t e is device = cc
 no_device form what.Queue t e is device = cc
 
--- a run that is not there, and nothing written
+-- a missing run, with nothing written
 pub missing : {U : Type 0} (old : Option (List ℕ)) (found : Option Seen) (form : Form) (r : Result U Refusal) → None ≡ found
     → IsErrAnd r (λ f. f ≡ Numbered NoRun) → WritesWhat old old (ok_or (option_map (run_line form) found) (Numbered NoRun)) r
 missing old None form r is refused_so = (Appends-nil old, refused_so)

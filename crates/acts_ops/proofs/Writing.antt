@@ -7,14 +7,14 @@ use Rattle.std.proofs.KnownBytes.{Appends-nil, Appends-kept, Appends-trans}
 use Rattle.wf_value.specs.Gives.{no_memory}
 use Rattle.wf_value.specs.declared.refusal.Refusal.{Refusal}
 use Rattle.act_disk.specs.Failed.{device_failed, stream_failed}
-use Rattle.act_store.specs.Told.{TellsFault}
+use Rattle.act_store.specs.FaultCauses.{TellsFault}
 use Rattle.acts_ops.specs.Writes.{FrontWritten, Writes}
 
--- one part more has been written whole
+-- one more part has been fully written
 pub past_part : (out part more all : List ℕ) → out ++ (part ++ more) ≡ all → (out ++ part) ++ more ≡ all
 past_part out part more all h = append_assoc out part more ∙ h
 
--- a front of one part more
+-- a prefix of one more part
 within_part : (out front back part more all : List ℕ) → out ++ (part ++ more) ≡ all → front ++ back ≡ part
     → (out ++ front) ++ (back ++ more) ≡ all
 within_part out front back part more all h joined =
@@ -25,7 +25,7 @@ within_part out front back part more all h joined =
 pub none_written : (old : Option (List ℕ)) (lines : List ℕ) → FrontWritten old old lines
 none_written old lines = ([], lines, Appends-nil old, refl)
 
--- behind what has been written, a front of the next part
+-- after what has been written, a prefix of the next part
 pub more_written : (old mid new : Option (List ℕ)) (out part more all : List ℕ) → Appends old mid out → out ++ (part ++ more) ≡ all
     → FrontWritten mid new part → FrontWritten old new all
 more_written old mid new out part more all so_far h front = (
@@ -55,7 +55,7 @@ pub flushed : {U : Type 0} (old mid new : Option (List ℕ)) (lines : List ℕ) 
 flushed old mid new lines (Ok u) all kept why = Appends-kept old mid new lines all kept
 flushed old mid new lines (Err e) all kept why = (inl why, (lines, [], Appends-kept old mid new lines all kept, append-nil lines))
 
--- a failed stream and want of memory are no fault of the device
+-- a failed stream and out of memory are no failures of the device
 pub no_fault : (e : Refusal) → (e ≡ stream_failed) ⊎ (e ≡ no_memory) → e ≡ device_failed → ⊥
 no_fault e (inl stream) device = let clash : stream_failed ≡ device_failed = sym stream ∙ device in cc
 no_fault e (inr memory) device = let clash : no_memory ≡ device_failed = sym memory ∙ device in cc
@@ -65,7 +65,7 @@ pub written_faults : {U : Type 0} (old new : Option (List ℕ)) (lines : List �
 written_faults old new lines (Ok u) before after writes same = same
 written_faults old new lines (Err e) before after writes same = inr (no_fault e writes.0, same)
 
--- want of memory alone refuses what nothing else does
+-- memory alone refuses what has no other reason to be refused
 pub memory_alone : {X : Type 0} (e : Refusal) (x : X) → (e ≡ no_memory) ⊎ (◌≡◌ {A = Result X Refusal} (Ok x) (Err e))
     → (e ≡ stream_failed) ⊎ (e ≡ no_memory)
 memory_alone e x (inl memory) = inr memory

@@ -1,4 +1,4 @@
--- The answers of a script: one for each line that is not empty, each from the plain store that the lines before it left.
+-- The answers of a script: one for each line that is not empty, given by the plain store that the lines before it left.
 use Rattle.std.specs.Prelude.{ℕ, List, [], ◌∷◌, ◌++◌, length, Bool, not, nat_eq, codes, filter, flat_map, Result, Ok, Err, if◌then◌else◌}
 use Rattle.std.specs.Fmt.{decimal}
 use Rattle.std.specs.Str.{bytes_eq}
@@ -17,12 +17,13 @@ use Rattle.acts_ops.specs.PlainStore.{PlainStore, start, taken}
 abbrev pub has_bytes : List ℕ → Bool
 has_bytes line = not (nat_eq (length line) 0)
 
--- the lines of a script that are not empty: a line ends at a line feed, before which one carriage return is dropped; the last may
--- lack its line feed, and keeps its carriage return then
+-- The lines of a script that are not empty. A line ends at a line feed, and one carriage return before it is dropped.
+-- The last line may lack its line feed, and then keeps its carriage return.
 abbrev pub script_lines : List ℕ → List (List ℕ)
 script_lines script = filter has_bytes (lines script)
 
--- The step that a line asks for: `commit`, `begin`, `slice` and `finish` alone are these, and a line of a command applies it.
+-- The step of a line: exactly `commit`, `begin`, `slice` and `finish` are these steps, and the line of a command
+-- applies it.
 abbrev pub step_of : List ℕ → Result Step Refusal
 step_of line =
     if bytes_eq line (codes "commit") then Ok asked.Commit
@@ -30,7 +31,7 @@ step_of line =
     else (if bytes_eq line (codes "slice") then Ok asked.Slice
     else (if bytes_eq line (codes "finish") then Ok asked.Finish else onward (λ command. asked.Apply command) (command_of line))))
 
--- how the answer of a step is printed: its count goes by the step
+-- how the answer of a step is printed: the word before its count depends on the step
 abbrev pub counted_as : Step → List ℕ
 counted_as (asked.Apply command) = []
 counted_as asked.Commit = codes "committed "
@@ -43,7 +44,7 @@ played_text word (told.Replied reply) = reply_text reply
 played_text word (told.Count count) = word ++ decimal count
 played_text word (told.Refused e) = refusal_text e
 
--- The store after a line, and the answer to it. A line that asks for no step is refused, and leaves the store.
+-- The store after a line, and the answer to it. A line that is no step is refused and leaves the store unchanged.
 abbrev pub carried_out : PlainStore → Result Step Refusal → PlainStore × List ℕ
 carried_out s (Ok step) = ((taken s step).0, played_text (counted_as step) (taken s step).1)
 carried_out s (Err e) = (s, refusal_text e)
@@ -54,7 +55,7 @@ after_line s line = (carried_out s (step_of line)).0
 abbrev pub answer_of : PlainStore → List ℕ → List ℕ
 answer_of s line = (carried_out s (step_of line)).1
 
--- the answers of lines, one after the other from a store
+-- the answers of lines, one after another from a store
 abbrev pub answers_from : PlainStore → List (List ℕ) → List (List ℕ)
 answers_from s [] = []
 answers_from s (line ∷ lines) = answer_of s line ∷ answers_from (after_line s line) lines
@@ -63,7 +64,7 @@ answers_from s (line ∷ lines) = answer_of s line ∷ answers_from (after_line 
 abbrev pub printed : List (List ℕ) → List ℕ
 printed answers = flat_map (λ answer. answer ++ 10 ∷ []) answers
 
--- what a script prints
+-- the output of a script
 abbrev pub output_from : PlainStore → List ℕ → List ℕ
 output_from s script = printed (answers_from s (script_lines script))
 

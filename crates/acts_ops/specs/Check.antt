@@ -1,4 +1,5 @@
--- What `acts check` prints (own): a line for each leg of each job of a workflow, or the first thing that is wrong with the workflow.
+-- The output of `acts check`: a line for each leg of each job of a workflow, or the workflow's first fault. The format
+-- is defined by this project.
 use Rattle.std.specs.Prelude.{◌≡◌, ◌⊎◌, ℕ, ◌≤◌, ◌<◌, List, [], ◌∷◌, ◌++◌, length, map, flat_map, codes, Result, Ok, Err}
 use Rattle.std.specs.Fmt.{decimal}
 use Rattle.std.specs.List.{enumerate_from}
@@ -34,25 +35,26 @@ job_lines job = leg_lines job.id (map (λ leg. leg.combo) job.legs)
 abbrev pub plan_lines : List PlannedJob → List ℕ
 plan_lines jobs = flat_map job_lines jobs
 
--- what is wrong with a workflow and its plan, and the lines where nothing is
+-- the first fault of a workflow and its plan, or the lines if there is none
 abbrev pub checked : List ℕ → Result (List ℕ) Refusal
 checked text = unless_faulty (workflow_faults text ++ plan_faults (workflow_of text)) (plan_lines (workflow_plan (workflow_of text)))
 
--- nothing, or a front of the lines
+-- nothing, or a prefix of the lines
 abbrev pub IsFront : List ℕ → List ℕ → Type 0
 IsFront text out = (out ≡ []) ⊎ ((rest : List ℕ) × (checked text ≡ Ok (out ++ rest)))
 
--- what a call that fails on a text has written: nothing, where the text is refused; and after a failed stream or want of memory a front
+-- what a failed call on a text has written: nothing if the text is refused, and a prefix after a failed stream or out
+-- of memory
 abbrev pub Fails : List ℕ → List ℕ → Refusal → Type 0
 Fails text out e = ((checked text ≡ Err e) × (out ≡ [])) ⊎ (((e ≡ stream_failed) ⊎ (e ≡ no_memory)) × IsFront text out)
 
--- what is written of a text that is checked: all lines, where nothing fails
+-- what is written for a text: all lines, unless the call fails
 abbrev pub Written : {U : Type 0} → List ℕ → List ℕ → Result U Refusal → Type 0
 Written text out (Ok u) = checked text ≡ Ok out
 Written text out (Err e) = Fails text out e
 
--- How a call on a text ends, and what it has written by then: a text that is too long is refused with nothing written; a text that can't
--- be read to its end has nothing written, after a failed stream or want of memory.
+-- How a call on a text ends, and what it has written by then. If a text is too long, or cannot be read to its end
+-- because the stream fails or memory runs out, nothing is written.
 abbrev pub ChecksTo : {U : Type 0} → List ℕ → List ℕ → Result U Refusal → Type 0
 ChecksTo text out (Ok u) = (length text ≤ most_bytes) × (checked text ≡ Ok out)
 ChecksTo text out (Err e) =

@@ -1,4 +1,4 @@
--- What reading an input whole gives, and why it may be refused (own).
+-- The result of reading a whole input, and why it may be refused.
 use Rattle.std.specs.Prelude.{◌≡◌, ◌⊎◌, ℕ, ◌≤◌, ◌<◌, List, length, Option}
 use Rattle.std.specs.Io.KnownBytes.{Consumes}
 use Rattle.wf_value.specs.Gives.{no_memory}
@@ -8,14 +8,14 @@ use Rattle.wf_value.specs.declared.refusal.Refusal.TheVariants.{Numbered}
 use Rattle.act_disk.specs.Failed.{stream_failed}
 use Rattle.acts_ops.specs.Play.{most_bytes}
 
--- all of it, where it is not too long
+-- all of it, if it is not too long
 abbrev pub IsReadAs : List ℕ → List ℕ → Type 0
 IsReadAs bytes input = (bytes ≡ input) × (length input ≤ most_bytes)
 
--- it is too long, or the stream failed, or memory was wanting
+-- it is too long, or the stream failed, or memory ran out
 abbrev pub RefusesInput : Refusal → List ℕ → Type 0
 RefusesInput e input = ((e ≡ Numbered InputTooLong) × (most_bytes < length input)) ⊎ ((e ≡ stream_failed) ⊎ (e ≡ no_memory))
 
--- so many bytes of a reader are read at most
+-- at most `most` bytes of a reader are read
 abbrev pub ReadsAtMost : ℕ → Option (List ℕ) → Option (List ℕ) → Type 0
 ReadsAtMost most old new = (read : List ℕ) × Consumes old new read × (length read ≤ most)

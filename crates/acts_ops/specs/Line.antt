@@ -1,4 +1,5 @@
--- The command of a line of a script (own): its word, and the fields that follow. Every other line is refused 75.
+-- The command of a line of a script: its word and the fields that follow. Any other line is refused with 75. The format
+-- is defined by this project.
 use Rattle.std.specs.Prelude.{ℕ, List, codes, ok_or, Result, Err, if◌then◌else◌}
 use Rattle.std.specs.Option.{option_map_or}
 use Rattle.std.specs.Str.{bytes_eq}

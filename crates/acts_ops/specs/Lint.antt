@@ -1,4 +1,4 @@
--- What `acts lint` prints (own): a line for each fault of a workflow.
+-- The output of `acts lint`: a line for each fault of a workflow. The format is defined by this project.
 use Rattle.std.specs.Prelude.{◌≡◌, ◌⊎◌, ℕ, ◌≤◌, ◌<◌, List, [], ◌∷◌, ◌++◌, length, Bool, true, false, Result, Ok, Err}
 use Rattle.wf_value.specs.Gives.{no_memory}
 use Rattle.wf_value.specs.declared.code.Code.TheVariants.{InputTooLong}
@@ -21,12 +21,12 @@ is_any (f ∷ fs) = true
 abbrev pub IsFront : List ℕ → List ℕ → Type 0
 IsFront text out = (rest : List ℕ) × (out ++ rest ≡ linted text)
 
--- what is written of a text: all lines, or after a failed stream or want of memory a front of them
+-- what is written for a text: all lines, or a prefix of them after a failed stream or out of memory
 abbrev pub Lints : List ℕ → List ℕ → Result Bool Refusal → Type 0
 Lints text out (Ok faulty) = (out ≡ linted text) × (faulty ≡ is_any (found_in text))
 Lints text out (Err e) = ((e ≡ stream_failed) ⊎ (e ≡ no_memory)) × IsFront text out
 
--- How a call on a text ends, and what it has written by then: a text that is too long is refused with nothing written.
+-- How a call on a text ends, and what it has written by then. If a text is too long, nothing is written.
 abbrev pub LintsTo : List ℕ → List ℕ → Result Bool Refusal → Type 0
 LintsTo text out (Ok faulty) = (length text ≤ most_bytes) × Lints text out (Ok faulty)
 LintsTo text out (Err e) = ((e ≡ Numbered InputTooLong) × (most_bytes < length text) × (out ≡ [])) ⊎ Lints text out (Err e)

@@ -1,5 +1,5 @@
--- The plain store that a script is played over: what a store keeps, without its disk; and what a step of it is answered, with memory and a
--- device that answer. Own: there is no public source.
+-- The plain store that a script is played over: a store without its disk. It gives the answer to each step if neither
+-- memory nor the device fails. This is defined by this project.
 use Rattle.std.specs.Prelude.{ℕ, ◌+◌, length, nat_lt, Option, Some, None, if◌then◌else◌}
 use Rattle.wf_value.specs.declared.refusal.Refusal.{Refusal}
 use Rattle.run_table.specs.Step.{stepped}
@@ -29,15 +29,15 @@ without_disk s = record {
   failed = s.failed;
 }
 
--- how long each of the two areas of a script's store is
+-- the length of each of the two areas of a script's store
 abbrev pub area_of_play : ℕ
 area_of_play = 8388608
 
--- A script begins with an empty history, over the empty table.
+-- A script begins with an empty history over the empty table.
 abbrev pub start : PlainStore
 start = fresh tt area_of_play
 
--- all entries are covered; where they are already, nothing changes
+-- all entries are covered; if they are covered already, nothing changes
 abbrev pub all_covered : PlainStore → PlainStore
 all_covered s = if nat_lt s.covered (length s.history) then committed s tt else s
 
@@ -46,8 +46,8 @@ abbrev pub all_checked : PlainStore → Option Checkpoint → PlainStore
 all_checked s None = s
 all_checked s (Some checkpoint) = finished s checkpoint tt
 
--- What a step that is not refused leaves, and its answer. A command is entered, and answered with the reply of the table's step, from the
--- table that all entries so far lead to.
+-- The store after a step that is not refused, and its answer. A command is entered and gets the reply of the table's
+-- step, on the table after all entries so far.
 abbrev pub done : PlainStore → Step → PlainStore × Played
 done s (asked.Apply command) = (entered s 0 command, told.Replied (stepped (table_of s) command).reply)
 done s asked.Commit = (all_covered s, told.Count (length s.history))

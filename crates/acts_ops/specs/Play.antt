@@ -1,5 +1,5 @@
--- What a play of a script may write, with want of memory and failing streams, and how many calls of the disk have failed before it and by
--- its end.
+-- What playing a script may write when memory runs out or streams fail, and how many disk calls have failed before it
+-- and by its end.
 use Rattle.std.specs.Prelude.{◌≡◌, ◌≢◌, ◌⊎◌, ℕ, ◌+◌, ◌≤◌, ◌<◌, List, [], ◌∷◌, ◌++◌, length, Result, Ok, Err, None, ⊤}
 use Rattle.std.specs.List.{All}
 use Rattle.wf_value.specs.Gives.{no_memory}
@@ -27,7 +27,7 @@ memory_refused = refusal_text no_memory
 abbrev pub device_refused : List ℕ
 device_refused = refusal_text device_failed
 
--- the line of a command, or of nothing
+-- the line is a command, or no step at all
 abbrev pub IsOfCommand : Result Step Refusal → Type 0
 IsOfCommand (Err e) = ⊤
 IsOfCommand (Ok (asked.Apply command)) = ⊤
@@ -36,7 +36,7 @@ IsOfCommand (Ok asked.Begin) = ⊥
 IsOfCommand (Ok asked.Slice) = ⊥
 IsOfCommand (Ok asked.Finish) = ⊥
 
--- Memory may be wanting for a line: for what a command is read into, and for a checkpoint that is not refused.
+-- A line may run out of memory: for the command that is read from it, or for a checkpoint that is not refused.
 abbrev pub WantsMemory : PlainStore → Result Step Refusal → Type 0
 WantsMemory s (Err e) = ⊤
 WantsMemory s (Ok (asked.Apply command)) = ⊤
@@ -45,20 +45,20 @@ WantsMemory s (Ok asked.Begin) = refusal_of s asked.Begin ≡ None
 WantsMemory s (Ok asked.Slice) = ⊥
 WantsMemory s (Ok asked.Finish) = refusal_of s asked.Finish ≡ None
 
--- The disk may fail a step that is not refused, where there is something for it to do.
+-- The disk may fail in a step that is not refused, if the step may call it.
 abbrev pub CallsDisk : PlainStore → Result Step Refusal → Type 0
 CallsDisk s (Err e) = ⊥
 CallsDisk s (Ok step) = (refusal_of s step ≡ None) × MayCallDevice s step
 
--- memory was refused, and the store is as it was; no call of the disk failed
+-- memory ran out, the store is unchanged, and no disk call failed
 abbrev pub IsWithoutMemory : PlainStore → ℕ → Result Step Refusal → List ℕ → PlainStore → ℕ → Type 0
 IsWithoutMemory s faults wanted a after more = WantsMemory s wanted × (a ≡ memory_refused) × (after ≡ s) × (more ≡ faults)
 
--- a call of the disk failed, and the store with it: from then on each step is answered 52
+-- a disk call failed, and the store with it: each later step is answered 52
 abbrev pub IsBreak : PlainStore → ℕ → Result Step Refusal → List ℕ → PlainStore → ℕ → Type 0
 IsBreak s faults wanted a after more = CallsDisk s wanted × (a ≡ device_refused) × (after ≡ broken s tt) × (more ≡ faults + 1)
 
--- A line is answered as it is defined, and no call of the disk failed, or memory or the disk failed it.
+-- A line is answered as defined and no disk call failed; or it failed because of memory or the disk.
 abbrev pub IsAnswerOf : PlainStore → ℕ → Result Step Refusal → List ℕ → PlainStore → ℕ → Type 0
 IsAnswerOf s faults wanted a after more =
     ((a ≡ (carried_out s wanted).1) × (after ≡ (carried_out s wanted).0) × (more ≡ faults))
@@ -75,7 +75,7 @@ Answers s faults (line ∷ lines) [] end = ⊥
 Answers s faults (line ∷ lines) (a ∷ others) end =
     (after : PlainStore) × (more : ℕ) × IsAnswer s faults line a after more × Answers after more lines others end
 
--- what a script may have written: where neither memory nor the disk failed a line it is what the script prints
+-- what a script may have written; if neither memory nor the disk failed a line, it is the output of the script
 abbrev pub PlaysFrom : PlainStore → ℕ → List ℕ → List ℕ → ℕ → Type 0
 PlaysFrom s faults script out end =
     (answers : List (List ℕ)) × Answers s faults (script_lines script) answers end × (out ≡ printed answers)
@@ -84,16 +84,17 @@ PlaysFrom s faults script out end =
 abbrev pub Plays : ℕ → List ℕ → List ℕ → ℕ → Type 0
 Plays faults script out end = PlaysFrom start faults script out end
 
--- all of what a script may write, or a front of it
+-- all of what a script may write, or a prefix of it
 abbrev pub PlaysTo : ℕ → List ℕ → List ℕ → ℕ → Type 0
 PlaysTo faults script out end = (length script ≤ most_bytes) × (rest : List ℕ) × Plays faults script (out ++ rest) end
 
--- nothing was written, and no call of the disk failed
+-- nothing was written, and no disk call failed
 abbrev pub IsUnplayed : ℕ → List ℕ → ℕ → Type 0
 IsUnplayed faults out end = (out ≡ []) × (end ≡ faults)
 
--- How a call on a script ends, and what it has written by then: where the disk can't be made, and for a script that is too long, nothing is
--- written; after a failed stream and after want of memory outside a line a front has been written.
+-- How a call on a script ends, and what it has written by then. If the disk fails while the store is made, or the
+-- script is too long, nothing is written. After a failed stream, or out of memory outside a line, a prefix has been
+-- written.
 abbrev pub Ends : {U : Type 0} → ℕ → List ℕ → List ℕ → ℕ → Result U Refusal → Type 0
 Ends faults script out end (Ok u) = (length script ≤ most_bytes) × Plays faults script out end
 Ends faults script out end (Err e) =

@@ -1,4 +1,5 @@
--- What `acts show`, `acts runners` and `acts queue` print (own), of the table that a disk stands for.
+-- The output of `acts show`, `acts runners` and `acts queue`, for the table that a disk recovers to. The format is
+-- defined by this project.
 use Rattle.std.specs.Prelude.{◌≡◌, ◌⊎◌, ℕ, List, [], ◌++◌, length, flat_map, ok_or, option_map, Result, Ok, Err}
 use Rattle.std.specs.List.{range_with_len}
 use Rattle.std.specs.Option.{option_map_or}
@@ -15,7 +16,7 @@ use Rattle.table_views.specs.QueueLines.{queue_lines}
 use Rattle.table_views.specs.RunLines.{run_line}
 use Rattle.table_views.specs.RunnerLines.{runner_lines}
 use Rattle.table_views.specs.declared.form.Form.{Form}
-use Rattle.act_store.specs.Images.{HasNoArea, HasNoTable, StandsFor}
+use Rattle.act_store.specs.Images.{HasNoArea, HasNoTable, RecoversTo}
 use Rattle.act_store.specs.Plain.{RefusesOpening, no_area, no_table}
 use Rattle.acts_ops.specs.Writes.{Writes}
 use Rattle.acts_ops.specs.declared.shown.Shown.{Shown}
@@ -26,7 +27,7 @@ use Rattle.acts_ops.specs.declared.shown.Shown.TheVariants as what
 abbrev pub line_of : Form → TableState → ℕ → List ℕ
 line_of form t id = option_map_or (run_line form) (seen t id) []
 
--- the lines of so many runs from an id on
+-- the lines of `count` runs from an id on
 abbrev pub lines_from : Form → TableState → ℕ → ℕ → List ℕ
 lines_from form t id count = flat_map (line_of form t) (range_with_len id count)
 
@@ -36,7 +37,7 @@ run_lines form t = lines_from form t 1 (length t.runs)
 
 -- ---- what is shown
 
--- the line of a run that is there
+-- the line of a run, if it exists
 abbrev pub one_run : Form → TableState → ℕ → Result (List ℕ) Refusal
 one_run form t id = ok_or (option_map (run_line form) (seen t id)) (Numbered NoRun)
 
@@ -46,29 +47,28 @@ shown form (what.Run id) t = one_run form t id
 shown form what.Runners t = Ok (runner_lines form t)
 shown form what.Queue t = Ok (queue_lines form t)
 
--- ---- how a showing ends
+-- ---- how a call ends
 
--- all lines are written, or a front of them; and nothing where there are none to write
+-- all lines are written, or a prefix of them; nothing if there are none to write
 abbrev pub WritesWhat : {U : Type 0} → Option (List ℕ) → Option (List ℕ) → Result (List ℕ) Refusal → Result U Refusal → Type 0
 WritesWhat old new (Ok lines) result = Writes old new lines result
 WritesWhat old new (Err e) result = Appends old new [] × IsErrAnd result (λ f. f ≡ e)
 
--- Nothing was shown. A disk is refused so on which no area is open, or whose area spells no table; else the device failed, or memory was
--- refused.
+-- Nothing was shown. The disk has no open area, or its area encodes no table, or the device failed, or memory ran out.
 abbrev pub IsRefusedWith : List ℕ → Refusal → Type 0
 IsRefusedWith image e = RefusesOpening e × (e ≡ no_area → HasNoArea image) × (e ≡ no_table → HasNoTable image)
 
--- nothing was shown, since the table that an image stands for has no such run
+-- nothing was shown, since the table that an image recovers to has no such run
 abbrev pub IsMissing : (TableState → Result (List ℕ) Refusal) → List ℕ → Refusal → Type 0
-IsMissing lines image e = (t : TableState) × StandsFor t image × (lines t ≡ Err e)
+IsMissing lines image e = (t : TableState) × RecoversTo t image × (lines t ≡ Err e)
 
--- a front of what is shown of the table that an image stands for
+-- a prefix of what is shown of the table that an image recovers to
 abbrev pub IsFrontOf : (TableState → Result (List ℕ) Refusal) → List ℕ → List ℕ → Type 0
-IsFrontOf lines image out = (t : TableState) × StandsFor t image × (rest : List ℕ) × (lines t ≡ Ok (out ++ rest))
+IsFrontOf lines image out = (t : TableState) × RecoversTo t image × (rest : List ℕ) × (lines t ≡ Ok (out ++ rest))
 
--- how a showing of such lines ends, and what it has written by then
+-- how a call that shows such lines ends, and what it has written by then
 abbrev pub Shows : {U : Type 0} → (TableState → Result (List ℕ) Refusal) → List ℕ → List ℕ → Result U Refusal → Type 0
-Shows lines image out (Ok u) = (t : TableState) × StandsFor t image × (lines t ≡ Ok out)
+Shows lines image out (Ok u) = (t : TableState) × RecoversTo t image × (lines t ≡ Ok out)
 Shows lines image out (Err e) =
     ((out ≡ []) × IsRefusedWith image e)
     ⊎ (((out ≡ []) × IsMissing lines image e) ⊎ (((e ≡ stream_failed) ⊎ (e ≡ no_memory)) × IsFrontOf lines image out))

@@ -10,15 +10,15 @@ use act_store::{Played, Step, Store, take};
 use std::alloc::Global;
 use wf_value::Refusal;
 
-/// The answer to a line: that of its step, and what a count in it is printed behind.
+/// The answer to a line: the answer of its step, and the word that precedes a count in it.
 #[derive(Drop)]
 pub struct Answer {
     pub word: &'static str,
     pub played: Played,
 }
 
-/// The step that a line asks for: `commit`, `begin`, `slice`, `finish`, or the apply of its command. Only the line of a command is
-/// refused, and takes memory.
+/// The step of a line: `commit`, `begin`, `slice`, `finish`, or else the apply of its command. Only in the last case can
+/// it be refused or take memory.
 fn step_of(alloc: Global, line: &[u8]) -> Result<Step, Refusal>
     ensures step { Gives (λ s. s) result (step_of line.now) }
     ensures refused { IfErr result (λ e. IsOfCommand (step_of line.now)) }
@@ -36,7 +36,7 @@ fn step_of(alloc: Global, line: &[u8]) -> Result<Step, Refusal>
     }
 }
 
-/// What the count in the answer to a step is printed behind.
+/// The word that precedes the count in the answer to a step.
 fn counted_as(step: &Step) -> &'static str
     ensures { result.now ≡ counted_as step.now }
 {
@@ -49,8 +49,8 @@ fn counted_as(step: &Step) -> &'static str
     }
 }
 
-/// The answer to a line, which is a step of the store. A line that is refused leaves the store. It is answered 51 only where a call of the
-/// disk failed in its step.
+/// Carries out a line as a step of the store and returns the answer. A refused line leaves the store unchanged. The
+/// answer is 51 only if a disk call failed in its step.
 pub fn answer_to<D: Disk>(alloc: Global, store: &mut Store<D>, line: &[u8]) -> Answer
     ensures { IsAnswer (without_disk store.old) (D.fault_count store.old.disk) line.now (played_text result.word.now result.played)
         (without_disk store.new) (D.fault_count store.new.disk) }
@@ -79,7 +79,7 @@ fn answer_text(alloc: Global, answer: &Answer) -> Result<String, Refusal>
     }
 }
 
-/// The printed answer to a line, and a line feed.
+/// The printed answer to a line, with a line feed.
 pub fn answer_line(alloc: Global, answer: &Answer) -> Result<String, Refusal>
     ensures { Gives (λ text. string_bytes text) result (Ok (played_text answer.now.word.now answer.now.played ++ 10 ∷ [])) }
 {

@@ -41,7 +41,7 @@ fn write_leg<W: Write>(
     write_whole(writer, line.as_bytes())
 }
 
-/// Writes the lines of a job's legs, of which one combination at a time stands in memory.
+/// Writes the lines of a job's legs. It keeps one combination at a time in memory.
 fn write_legs<W: Write>(
     alloc: Global,
     job: &str,
@@ -57,7 +57,7 @@ fn write_legs<W: Write>(
     Ok(())
 }
 
-/// Writes the lines of a job whose matrix has no fault.
+/// Writes the lines of a job whose matrix has no faults.
 fn write_job<W: Write>(alloc: Global, job: &Job, writer: &mut W) -> Result<(), Refusal>
     requires { job_faults job.now ≡ [] }
     ensures { Writes (W.contents writer.old) (W.contents writer.new) (job_lines (planned_job job.now)) result }
@@ -66,7 +66,7 @@ fn write_job<W: Write>(alloc: Global, job: &Job, writer: &mut W) -> Result<(), R
     write_legs(alloc, job.id.as_str(), &legs, writer)
 }
 
-/// Writes the lines of jobs whose matrices have no fault.
+/// Writes the lines of jobs whose matrices have no faults.
 fn write_jobs<W: Write>(alloc: Global, jobs: &[Job], writer: &mut W) -> Result<(), Refusal>
     requires { legs_faults jobs.now ≡ [] }
     ensures { Writes (W.contents writer.old) (W.contents writer.new) (plan_lines (map planned_job jobs.now)) result }
@@ -77,7 +77,7 @@ fn write_jobs<W: Write>(alloc: Global, jobs: &[Job], writer: &mut W) -> Result<(
     Ok(())
 }
 
-/// The workflow that a text spells, where nothing is wrong with it and its plan.
+/// The workflow that a text encodes, if it and its plan have no faults.
 fn checked_workflow(alloc: Global, text: &[u8]) -> Result<Workflow, Refusal>
     ensures lines { Gives (λ w. plan_lines (workflow_plan w)) result (checked text.now) }
     ensures legs { IfOk result (λ w. legs_faults w.jobs ≡ []) }
@@ -87,7 +87,7 @@ fn checked_workflow(alloc: Global, text: &[u8]) -> Result<Workflow, Refusal>
     Ok(workflow)
 }
 
-/// Writes the lines of the workflow that a text spells, or nothing where it is refused.
+/// Writes the lines of the workflow that a text encodes, or nothing if it is refused.
 fn write_checked<W: Write>(alloc: Global, text: &[u8], writer: &mut W) -> Result<(), Refusal>
     ensures { (out : List ℕ) × Appends (W.contents writer.old) (W.contents writer.new) out × Written text.now out result }
 {
@@ -96,11 +96,11 @@ fn write_checked<W: Write>(alloc: Global, text: &[u8], writer: &mut W) -> Result
     flush(writer)
 }
 
-/// Checks a workflow, whose text is read without an envelope: writes a line `JOB LEG COMBO` for each leg
-/// of each job, in order, with the combination as compact JSON. A text over 1,048,576 bytes is refused 76,
-/// and no more than 1,048,577 bytes are read; one over 65,536 is refused 24, and else a workflow is
-/// refused with its first fault: 10 to 23, 25 or 26. After a refusal nothing has been written. A
-/// failed read or write is 61, and want of memory 50.
+/// Checks a workflow, whose text is read without an envelope. It writes a line `JOB LEG COMBO` for each leg of each
+/// job, in order, with the combination as compact JSON. A text over 1,048,576 bytes is refused with 76, and at most
+/// 1,048,577 bytes are read. A text over 65,536 bytes is refused with 24, and any other workflow with its first fault:
+/// 10 to 23, 25 or 26. Nothing has been written if the workflow is refused. A failed read or write is 61, and out of
+/// memory is 50.
 pub fn run_check<R: Read, W: Write>(
     alloc: Global,
     reader: &mut R,

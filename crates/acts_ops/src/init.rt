@@ -1,12 +1,12 @@
-//! What `acts init` does: it makes a store on an empty disk.
+//! `acts init`: makes a store on an empty disk.
 
 ghost use Rattle.std.specs.Prelude.{◌≡◌, ◌↔◌, ◌+◌, ◌<◌, ◌≤◌, ℕ, List, take, Err, IfErr, OnOk};
 ghost use Rattle.std.specs.Io.KnownBytes.{Appends};
 ghost use Rattle.act_disk.specs.Failed.{stream_failed};
 ghost use Rattle.run_table.specs.Step.{empty};
-ghost use Rattle.act_store.specs.Images.{StandsFor};
+ghost use Rattle.act_store.specs.Images.{RecoversTo};
 ghost use Rattle.act_store.specs.Plain.{disk_not_empty};
-ghost use Rattle.act_store.specs.Told.{TellsFault};
+ghost use Rattle.act_store.specs.FaultCauses.{TellsFault};
 ghost use Rattle.acts_ops.specs.Made.{Makes, made_line};
 
 use act_disk::Disk;
@@ -26,9 +26,9 @@ fn write_made<W: Write>(writer: &mut W) -> Result<(), Refusal>
     flush(writer)
 }
 
-/// Makes a store of two areas on an empty disk, each `area` bytes long, and writes `made` and a line feed. The
-/// disk is given back as it is then, with how the call ended. A disk that is not empty is refused 55, with nothing
-/// written, and stays as it is. Where the device fails that is 51, and a failed write is 61: the store is made.
+/// Makes a store with two areas of `area` bytes each on an empty disk, and writes `made` and a line feed. It returns
+/// the disk with the result. A disk that is not empty is refused with 55; nothing is written and the disk is unchanged.
+/// A failure of the device is 51. A failed write is 61; the store is made all the same.
 pub fn run_init<D: Disk, W: Write>(
     alloc: Global,
     disk: D,
@@ -41,10 +41,11 @@ pub fn run_init<D: Disk, W: Write>(
     ensures written { (out : List ℕ) × Appends (W.contents writer.old) (W.contents writer.new) out × Makes (D.size disk) out result.1 }
     ensures occupied { (D.size disk ≡ 0 → ⊥) → result ≡ (disk, Err disk_not_empty) }
     ensures size { OnOk result.1 (D.size result.0 ≡ area + area) }
-    // 51 is told exactly where a call of the disk failed; where none did, the store stands, written or not.
+    // The error is 51 exactly if a disk call failed. If none failed on an empty disk, the disk recovers to the
+    // empty table, whether or not the output was written.
     ensures faults { TellsFault result.1 (D.fault_count disk) (D.fault_count result.0) }
     ensures stands { D.size disk ≡ 0 → D.fault_count result.0 ≡ D.fault_count disk
-        → D.honest result.0 → (c : List ℕ) → D.images result.0 c → StandsFor empty c }
+        → D.honest result.0 → (c : List ℕ) → D.images result.0 c → RecoversTo empty c }
     ensures honest { D.honest result.0 ↔ D.honest disk }
 {
     match Store::init(alloc, disk, area) {

@@ -10,12 +10,12 @@ use std::io::Read;
 use wf_value::{Code, Refusal};
 
 /// The longest input that is read, in bytes.
-pub const MOST_BYTES: usize = 1_048_576;
+pub const MAX_BYTES: usize = 1_048_576;
 
-/// How many bytes are read at a time.
+/// The most bytes that one read takes.
 const CHUNK: usize = 8192;
 
-/// All bytes that a reader gives, up to a number of them. A failed read is 61, and want of memory 50.
+/// All bytes of a reader, up to `most`. A failed read is 61, and out of memory is 50.
 fn read_at_most<R: Read>(alloc: Global, reader: &mut R, most: usize) -> Result<Vec<u8>, Refusal>
     ensures limit { ReadsAtMost most (R.remaining reader.old) (R.remaining reader.new) }
     ensures bytes { IfOk result (λ v. Consumes (R.remaining reader.old) (R.remaining reader.new) v.items) }
@@ -36,16 +36,16 @@ fn read_at_most<R: Read>(alloc: Global, reader: &mut R, most: usize) -> Result<V
     Ok(bytes)
 }
 
-/// A whole input. One over 1,048,576 bytes is refused 76, and no more than 1,048,577 bytes are read. A failed read is 61,
-/// and want of memory 50.
+/// A whole input. An input over 1,048,576 bytes is refused with 76, and at most 1,048,577 bytes are read. A failed read
+/// is 61, and out of memory is 50.
 pub fn read_input<R: Read>(alloc: Global, reader: &mut R) -> Result<Vec<u8>, Refusal>
     ensures read { ReadsAtMost 1048577 (R.remaining reader.old) (R.remaining reader.new) }
     ensures whole { IfOk result (λ v. IfSome (R.remaining reader.old) (IsReadAs v.items)) }
     ensures refused { IfErr result (λ e. IfSome (R.remaining reader.old) (RefusesInput e)) }
     ensures no_fault { IfErr result (λ e. e ≢ device_failed) }
 {
-    let input = read_at_most(alloc, reader, MOST_BYTES + 1)?;
-    if input.len() > MOST_BYTES {
+    let input = read_at_most(alloc, reader, MAX_BYTES + 1)?;
+    if input.len() > MAX_BYTES {
         return Err(Refusal::Numbered(Code::InputTooLong));
     }
     Ok(input)

@@ -1,7 +1,7 @@
-//! What the commands of the program `acts` do, over the reader, the disk and the writer that they are given.
-//! `run_script` plays a script, and writes one answer for each line that is not empty. `run_check` reads a
-//! workflow, and writes a line for each leg, and `run_lint` one for each fault. `run_init` makes a store on a
-//! disk, and `run_show` writes what an operator asks of one: its runs, its runners or its queue.
+//! The commands of the program `acts`, over a given reader, disk and writer. `run_script` plays a script and writes one
+//! answer for each line that is not empty. `run_check` reads a workflow and writes a line for each leg, and `run_lint`
+//! writes one for each fault. `run_init` makes a store on a disk. `run_show` writes what an operator asks to see of a
+//! store: its runs, its runners or its queue.
 #![tactic(auto)]
 
 mod answer;
@@ -17,7 +17,7 @@ mod shown;
 
 pub use check::run_check;
 pub use init::run_init;
-pub use input::MOST_BYTES;
+pub use input::MAX_BYTES;
 pub use lint::run_lint;
 pub use play::run_script;
 pub use show::run_show;

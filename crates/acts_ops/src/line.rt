@@ -36,10 +36,10 @@ fn command_by(alloc: Global, word: &[u8], fields: &[u8]) -> Result<Command, Refu
     }
 }
 
-/// The command of a line: `admit DELIVERY EVENT BODY`, `claim RUNNER NUMBER LABELS`,
-/// `done RUNNER NUMBER LEASE RESULT`, `beat RUNNER LEASE`, `cancel RUN`, `lost RUNNER`, `look RUN`, `fetch RUN` or
-/// `rerun RUN ATTEMPT`, parted by one space. BODY is all that follows the third space. Every other line is refused 75, and a body with a
-/// fault with the first one's number: 10 to 26. Want of memory is 50.
+/// The command of a line: `admit DELIVERY EVENT BODY`, `claim RUNNER NUMBER LABELS`, `done RUNNER NUMBER LEASE RESULT`,
+/// `beat RUNNER LEASE`, `cancel RUN`, `lost RUNNER`, `look RUN`, `fetch RUN` or `rerun RUN ATTEMPT`, separated by
+/// single spaces. BODY is everything after the third space. Any other line is refused with 75, and a body with a fault
+/// with the number of the first one: 10 to 26. Out of memory is 50.
 pub fn command_of(alloc: Global, line: &[u8]) -> Result<Command, Refusal>
     ensures { Gives (λ c. c) result (command_of line.now) }
 {

@@ -3,8 +3,8 @@ ghost use Rattle.std.specs.Str.Lines.{lines};
 
 use command_lines::{place_of_line_feed, strip_carriage_return};
 
-/// The first line of a text and all that follows it, or `None` at the end of the text. A line ends at a
-/// line feed, before which one carriage return is dropped; the last may lack its line feed.
+/// The first line of a text and everything after it, or `None` at the end of the text. A line ends at a line feed, and
+/// one carriage return before it is dropped. The last line may lack its line feed.
 pub fn first_line(text: &[u8]) -> Option<(&[u8], &[u8])>
     ensures lines { MatchOption result (lines text.now ≡ [])
         (λ p. lines text.now ≡ p.0.now ∷ lines p.1.now) }

@@ -39,7 +39,7 @@ fn is_any(found: &[Finding]) -> bool
     }
 }
 
-/// Writes a line for each fault of the workflow that a text spells, and tells whether there is one.
+/// Writes a line for each fault of the workflow that a text encodes. Returns whether there is one.
 fn write_linted<W: Write>(alloc: Global, text: &[u8], writer: &mut W) -> Result<bool, Refusal>
     ensures { (out : List ℕ) × Appends (W.contents writer.old) (W.contents writer.new) out × Lints text.now out result }
 {
@@ -49,9 +49,9 @@ fn write_linted<W: Write>(alloc: Global, text: &[u8], writer: &mut W) -> Result<
     Ok(is_any(found.as_slice()))
 }
 
-/// Lints a workflow, whose text is read without an envelope: writes a line `NUMBER PATH: MEANING` for each fault, in the order of the
-/// checks, and tells whether there is one. A text over 1,048,576 bytes is refused 76, with nothing written, and no more than 1,048,577
-/// bytes are read. A failed read or write is 61, and want of memory 50.
+/// Lints a workflow, whose text is read without an envelope. It writes a line `NUMBER PATH: MEANING` for each fault, in
+/// the order of the checks, and returns whether there is one. A text over 1,048,576 bytes is refused with 76; nothing
+/// is written, and at most 1,048,577 bytes are read. A failed read or write is 61, and out of memory is 50.
 pub fn run_lint<R: Read, W: Write>(
     alloc: Global,
     reader: &mut R,

@@ -16,7 +16,7 @@ use std::alloc::Global;
 use std::io::{Read, Write};
 use wf_value::Refusal;
 
-/// How long each of the two areas of a script's store is, in bytes.
+/// The length of each of the two areas of a script's store, in bytes.
 const AREA: u64 = 8_388_608;
 
 fn play_line<D: Disk, W: Write>(
@@ -61,7 +61,7 @@ fn play<D: Disk, W: Write>(
     Ok(())
 }
 
-/// Reads a script, and plays it over a store that is empty.
+/// Reads a script and plays it over an empty store.
 fn play_input<D: Disk, R: Read, W: Write>(
     alloc: Global,
     store: &mut Store<D>,
@@ -82,14 +82,15 @@ fn play_input<D: Disk, R: Read, W: Write>(
     }
 }
 
-/// Plays a script over a store that is made on an empty disk: reads it, and writes one answer and a line feed
-/// for each line that is not empty. The disk is given back as it is then, with how the call ended. A script over
-/// 1,048,576 bytes is refused 76 with nothing written, and no more than 1,048,577 bytes are read. A failed read or
-/// write is 61. Where memory is refused for a line's command, or for a checkpoint, the line is answered
-/// `refused 50` and the store is as it was. Where the disk fails, which one in memory does where memory is refused
-/// to it, a commit or a step of a checkpoint is answered 51, after which each step is answered 52; as the store is
-/// made, that ends the call with 51, before anything is read. No line is answered 51 but the one in whose step a call
-/// of the disk failed. Memory that is refused elsewhere ends it with 50.
+/// Plays a script over a new store on an empty disk: reads it, and writes one answer and a line feed for each line that
+/// is not empty. It returns the disk with the result.
+///
+/// A script over 1,048,576 bytes is refused with 76; nothing is written, and at most 1,048,577 bytes are read. A failed
+/// read or write is 61. If memory for a line's command or for a checkpoint runs out, the answer is `refused 50` and the
+/// store is unchanged. If the disk fails, as a disk in memory does when it runs out of memory, the answer to a commit
+/// or a step of a checkpoint is 51, and each later step is answered 52. A line is answered 51 only if a disk call
+/// failed in its step. A failure while the store is made ends the call with 51 before anything is read. Out of memory
+/// elsewhere ends it with 50.
 pub fn run_script<D: Disk, R: Read, W: Write>(
     alloc: Global,
     disk: D,
@@ -102,7 +103,7 @@ pub fn run_script<D: Disk, R: Read, W: Write>(
     ensures written { IfSome (R.remaining reader.old) (λ script. (out : List ℕ)
         × Appends (W.contents writer.old) (W.contents writer.new) out
         × Ends (D.fault_count disk) script out (D.fault_count result.0) result.1) }
-    // The call ends with 51 only where a call of the disk failed.
+    // The call ends with 51 only if a disk call failed.
     ensures faults { IfErr result.1 (λ e. e ≡ device_failed → D.fault_count result.0 ≡ D.fault_count disk + 1) }
 {
     match Store::init(alloc, disk, AREA) {

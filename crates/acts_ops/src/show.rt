@@ -1,4 +1,4 @@
-//! What `acts show`, `acts runners` and `acts queue` do: lines of the table that a disk stands for.
+//! `acts show`, `acts runners` and `acts queue`: print the table that a disk recovers to.
 
 ghost use Rattle.std.specs.Prelude.{◌<◌, ℕ, List, IsErrAnd};
 ghost use Rattle.std.specs.Io.KnownBytes.{Appends};
@@ -6,7 +6,7 @@ ghost use Rattle.act_disk.specs.Images.{EachSince};
 ghost use Rattle.act_store.specs.Images.{HasNoArea};
 ghost use Rattle.act_store.specs.StoreState.{table_of};
 ghost use Rattle.act_store.specs.Plain.{TellsNoArea};
-ghost use Rattle.act_store.specs.Told.{TellsFault};
+ghost use Rattle.act_store.specs.FaultCauses.{TellsFault};
 ghost use Rattle.table_views.specs.QueueLines.{queue_lines};
 ghost use Rattle.table_views.specs.RunLines.{run_line};
 ghost use Rattle.table_views.specs.RunnerLines.{runner_lines};
@@ -23,7 +23,7 @@ use std::alloc::Global;
 use std::io::Write;
 use table_views::{Form, queue_text, run_line, runners_text};
 use wf_value::{Code, Refusal};
-use workflow_runs::runs::MOST_RUNS;
+use workflow_runs::runs::MAX_RUNS;
 
 fn write_view<W: Write>(
     alloc: Global,
@@ -46,7 +46,7 @@ fn write_views<D: Disk, W: Write>(
 ) -> Result<(), Refusal>
     ensures { Writes (W.contents writer.old) (W.contents writer.new) (run_lines form (table_of store.now)) result }
 {
-    for place in 0..MOST_RUNS {
+    for place in 0..MAX_RUNS {
         let Some(view) = store.look(Number::new(place + 1)) else {
             return Ok(());
         };
@@ -55,7 +55,7 @@ fn write_views<D: Disk, W: Write>(
     Ok(())
 }
 
-/// Writes the line of one run. One that is not there is refused 40.
+/// Writes the line of one run. An unknown run is refused with 40.
 fn write_run<D: Disk, W: Write>(
     alloc: Global,
     form: Form,
@@ -126,10 +126,10 @@ fn show_store<D: Disk, W: Write>(
     flush(writer)
 }
 
-/// Shows what a disk stands for: opens it, and writes a line for each run, for one of them, for each runner, or for all that is in the
-/// queue. The disk is given back as it is then, with how the call ended. A disk on which no area is
-/// open is refused 53, one whose area spells no table 54, and one without the run that is asked for 40, with nothing written. Where the
-/// device fails that is 51, a failed write is 61, and want of memory 50.
+/// Opens a disk and shows its table: a line for each run, for one run, for each runner, or for each entry of the queue.
+/// It returns the disk with the result. A disk without an open area is refused with 53, one whose area encodes no table
+/// with 54, and one without the requested run with 40; nothing is written. A failure of the device is 51, a failed
+/// write is 61, and out of memory is 50.
 pub fn run_show<D: Disk, W: Write>(
     alloc: Global,
     disk: D,
@@ -140,7 +140,7 @@ pub fn run_show<D: Disk, W: Write>(
     requires { D.fault_count disk < u64.MAX }
     ensures written { D.honest result.0 → (out : List ℕ) × Appends (W.contents writer.old) (W.contents writer.new) out
         × Shows (shown form what) (D.seen disk) out result.1 }
-    // 51 is told exactly where a call of the disk failed, and 53 or 51 where no area stands, memory or not.
+    // The error is 51 exactly if a disk call failed. Without an open area it is 53 or 51, even when out of memory.
     ensures faults { TellsFault result.1 (D.fault_count disk) (D.fault_count result.0) }
     ensures nothing_stands { D.honest result.0 → HasNoArea (D.seen disk) → IsErrAnd result.1 TellsNoArea }
     ensures any_moment { D.honest result.0 → EachSince D.moment D.images_since disk result.0 (D.images disk) }

@@ -1,6 +1,6 @@
 use run_plan::Number;
 
-/// What is shown of a store.
+/// What to show of a store.
 #[derive(Clone, Copy)]
 pub enum Shown {
     /// The view of each run, in the order of their ids.
@@ -8,6 +8,6 @@ pub enum Shown {
     /// The view of the run with an id.
     Run(Number),
     Runners,
-    /// The legs that are ready, and the concurrency groups.
+    /// The ready legs and the concurrency groups.
     Queue,
 }

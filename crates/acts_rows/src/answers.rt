@@ -1,15 +1,15 @@
-//! What the product answers a row.
+//! The product's answers to a row.
 
-use crate::brought_up::push_brought_up;
 use crate::kind::Kind;
-use crate::sessions::{Setting, written_at_each_cut};
+use crate::sessions::{Setting, output_at_each_cut};
+use crate::upgraded::push_upgraded;
 use crate::views::push_views;
 use act_disk::MemoryDisk;
 use acts_ops::{run_check, run_lint, run_script};
 use std::alloc::{AllocError, Global};
 use wf_value::Refusal;
 
-/// Ends the answers of a call by its refusal, where it was refused.
+/// Appends the refusal of a call to its answers, if it was refused.
 pub fn push_refusal(
     alloc: Global,
     answers: &mut Vec<u8>,
@@ -47,7 +47,7 @@ fn push_all_checked(
     Ok(())
 }
 
-/// The faults of a workflow, or `fine` where it has none.
+/// Appends the faults of a workflow, or `fine` if it has none.
 fn push_linted(alloc: Global, answers: &mut Vec<u8>, workflow: &[u8]) -> Result<(), AllocError> {
     let mut reader = workflow;
     match run_lint(alloc, &mut reader, answers) {
@@ -70,20 +70,20 @@ fn push_all_linted(
     Ok(())
 }
 
-/// What the session of a row writes, wherever its input is cut.
+/// Appends what the session of a row writes, wherever its input is split.
 fn push_session(
     alloc: Global,
     answers: &mut Vec<u8>,
     setting: Setting<'_>,
     row: &Row<'_>,
 ) -> Result<(), AllocError> {
-    match written_at_each_cut(alloc, setting, row.given, row.wanted) {
-        Ok(written) => answers.extend_from_slice(&written),
+    match output_at_each_cut(alloc, setting, row.given, row.wanted) {
+        Ok(output) => answers.extend_from_slice(&output),
         Err(refusal) => push_refusal(alloc, answers, Err(refusal)),
     }
 }
 
-/// The bytes of a row, those that have to answer it, and those of a session before it, of which most have none.
+/// The input of a row, the wanted answers, and the input of a session before it, which most rows lack.
 #[derive(Clone, Copy)]
 pub struct Row<'a> {
     pub given: &'a [u8],
@@ -91,7 +91,7 @@ pub struct Row<'a> {
     pub before: &'a [u8],
 }
 
-/// What a row is answered.
+/// The answers to a row.
 pub fn answers_to(alloc: Global, kind: Kind, row: &Row<'_>) -> Result<Vec<u8>, AllocError> {
     let mut answers = Vec::new(alloc);
     let before = row.before;
@@ -101,7 +101,7 @@ pub fn answers_to(alloc: Global, kind: Kind, row: &Row<'_>) -> Result<Vec<u8>, A
         Kind::Workflows => push_all_checked(alloc, &mut answers, row.given)?,
         Kind::Lints => push_all_linted(alloc, &mut answers, row.given)?,
         Kind::Views => push_views(alloc, &mut answers, row.given)?,
-        Kind::BroughtUp => push_brought_up(alloc, &mut answers, row)?,
+        Kind::Upgraded => push_upgraded(alloc, &mut answers, row)?,
         Kind::Session(protocol) => {
             push_session(alloc, &mut answers, Setting { protocol, before }, row)?;
         }

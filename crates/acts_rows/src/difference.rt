@@ -1,6 +1,7 @@
-//! Where answers are not those that are wanted.
+//! The first difference between the answers and the wanted ones.
 
-/// The first line in which two texts differ: its number from 1 on, and what each has there, with its line feed where it has one.
+/// The first line in which two texts differ: its number, from 1, and the line of each text with its line feed, if it
+/// has one.
 #[derive(Clone, Copy)]
 pub struct Difference<'a> {
     pub line: usize,
@@ -8,15 +9,15 @@ pub struct Difference<'a> {
     pub wanted: &'a [u8],
 }
 
-/// The first line of a text, with its line feed, and what follows it.
+/// The first line of a text, with its line feed, and the rest.
 fn first_line(text: &[u8]) -> (&[u8], &[u8]) {
     match text.iter().position(|byte| *byte == b'\n') {
-        Some(place) if place < text.len() => text.split_at(place + 1),
+        Some(index) if index < text.len() => text.split_at(index + 1),
         _ => (text, &[]),
     }
 }
 
-/// Where the first text differs from the second, if it does.
+/// The first difference between two texts, if they differ.
 pub fn first_difference<'a>(found: &'a [u8], wanted: &'a [u8]) -> Option<Difference<'a>> {
     let (mut found, mut wanted) = (found, wanted);
     for line in 1..=usize::MAX {

@@ -1,9 +1,9 @@
-//! What stands in a folder.
+//! The entries of a folder.
 
 use std::fs::Files;
 use std::{fs, io};
 
-/// The names of what stands in a folder, in the order of their bytes.
+/// The names of the entries of a folder, in byte order.
 pub fn names_in<R>(rt: &R, folder: &str) -> io::Result<Vec<String>>
 where
     R: Files + AllocGlobal + Clone + Drop,

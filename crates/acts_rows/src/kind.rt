@@ -1,4 +1,4 @@
-//! The kinds of rows, by the last part of a file's name.
+//! The kinds of rows, by the suffix of a file's name.
 
 use crate::sessions::Protocol;
 
@@ -7,37 +7,37 @@ use crate::sessions::Protocol;
 pub enum Kind {
     /// A script.
     Script,
-    /// A workflow that is checked.
+    /// A workflow to check.
     Workflow,
-    /// Workflows that are checked, each in a line.
+    /// Workflows to check, one per line.
     Workflows,
-    /// Workflows that are linted, each in a line.
+    /// Workflows to lint, one per line.
     Lints,
     /// What is shown of the store that a script leaves.
     Views,
-    /// What is shown of a file of the first layout, before and behind a session of runners and a checkpoint.
-    BroughtUp,
+    /// What is shown of a file of the first layout, before and after a session of runners and a checkpoint.
+    Upgraded,
     /// A session.
     Session(Protocol),
 }
 
-/// Each kind, with how the names of its files end, and how those of its answers do.
-const ENDINGS: &[(Kind, &str, &str)] = &[
+/// Each kind, with the suffix of its files and that of its answers.
+const SUFFIXES: &[(Kind, &str, &str)] = &[
     (Kind::Script, ".script", ".answers"),
     (Kind::Workflow, ".workflow", ".lines"),
     (Kind::Workflows, ".workflows", ".lines"),
     (Kind::Lints, ".lints", ".faults"),
     (Kind::Views, ".store", ".views"),
-    (Kind::BroughtUp, ".first", ".views"),
+    (Kind::Upgraded, ".first", ".views"),
     (Kind::Session(Protocol::Http), ".http", ".reply"),
     (Kind::Session(Protocol::Lines), ".runner", ".replies"),
 ];
 
 impl Kind {
-    /// The name of the row that a file plays, its kind, and how the name of its answers ends. No other file plays one.
+    /// The name of the row that a file plays, its kind, and the suffix of its answers; `None` if the file plays no row.
     pub fn of(file: &str) -> Option<(&str, Kind, &'static str)> {
-        for (kind, ending, answers) in ENDINGS {
-            if let Some(name) = file.strip_suffix(*ending) {
+        for (kind, suffix, answers) in SUFFIXES {
+            if let Some(name) = file.strip_suffix(*suffix) {
                 return Some((name, *kind, answers));
             }
         }

@@ -1,26 +1,30 @@
-//! Plays the rows of the folder that it runs in: pairs of files, in a folder for each topic. It prints the name of each row, and `same`
-//! or the first line that is not as it is wanted. The last part of a file's name says what the file is:
+//! Plays the rows of the current folder: pairs of files, in a folder for each topic. For each row it prints its name,
+//! and `same` or the first line that differs from the wanted answers. The suffix of a file's name says what the file
+//! is:
 //!
-//! - `NAME.script`, the bytes of a script, has to be answered by those of `NAME.answers`.
-//! - `NAME.workflow`, the bytes of a workflow that is checked, by those of `NAME.lines`: the lines of its legs, or its refusal.
-//! - `NAME.workflows`, a workflow in each line, by the same of each in turn.
-//! - `NAME.lints`, a workflow in each line, by those of `NAME.faults`: the lines of its faults, or `fine` where it has none.
-//! - `NAME.store`, a script, by those of `NAME.views`: what is shown of the store that it leaves, runs, runners and queue, each as lines and as JSON.
-//! - `NAME.first`, the bytes of a file that a program before re-runs wrote, by those of `NAME.views`: what is shown of it, what is answered to
-//!   the runner lines of `NAME.before` over it, and what is shown again behind them and a checkpoint.
-//! - `NAME.http` and `NAME.runner`, the bytes that come into a session of HTTP and of runner lines, by those of `NAME.reply` and `NAME.replies`,
-//!   wherever the input is cut in two. The session is over a store in memory, and `NAME.before` is what came into one of HTTP before it.
+//! - `NAME.script`, a script. `NAME.answers` has the wanted answers.
+//! - `NAME.workflow`, a workflow to check. `NAME.lines` has the lines of its legs, or its refusal.
+//! - `NAME.workflows`, a workflow per line. `NAME.lines` has the same for each in turn.
+//! - `NAME.lints`, a workflow per line. `NAME.faults` has the lines of its faults, or `fine` if it has none.
+//! - `NAME.store`, a script. `NAME.views` has what is shown of the store that it leaves: runs, runners and queue, each
+//!   as lines and as JSON.
+//! - `NAME.first`, a file that a program before re-runs wrote. `NAME.views` has what is shown of it, the answers to the
+//!   runner lines of `NAME.before` over it, and what is shown again after these and a checkpoint.
+//! - `NAME.http` and `NAME.runner`, the input of a session of HTTP and of runner lines. `NAME.reply` and `NAME.replies`
+//!   have the wanted output, wherever the input is split in two. The session is over a store in memory, and
+//!   `NAME.before` is the input of a session of HTTP before it.
 //!
-//! A row is named by its topic and its name, as `groups/jobs_have_groups`. A call that is refused ends its answers by a line with the refusal.
+//! A row is named by its topic and its name, such as `groups/jobs_have_groups`. If a call is refused, the last line of
+//! its answers is the refusal.
 #![tactic(auto)]
 
 mod answers;
-mod brought_up;
 mod difference;
 mod folder;
 mod kind;
 mod row;
 mod sessions;
+mod upgraded;
 mod views;
 
 use folder::names_in;

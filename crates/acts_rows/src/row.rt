@@ -1,4 +1,4 @@
-//! Plays one row, and says how it came out.
+//! Plays one row and prints the result.
 
 use crate::answers::{Row, answers_to};
 use crate::difference::{Difference, first_difference};
@@ -7,7 +7,7 @@ use std::fs::Files;
 use std::io::ErrorKind;
 use std::{fs, io};
 
-/// A part of a line that is not as wanted, on a line of its own.
+/// Prints a part of a line that differs, on a line of its own.
 fn print_part<R: Print>(rt: &R, what: &str, part: &[u8]) -> io::Result<()> {
     rt.print(what)?;
     rt.write_all(part)?;
@@ -25,7 +25,7 @@ fn print_difference<R: Print>(rt: &R, row: &str, difference: &Difference<'_>) ->
     print_part(rt, "  wanted: ", difference.wanted)
 }
 
-/// The bytes of a file, and none where there is no such file.
+/// The bytes of a file, or none if there is no such file.
 fn bytes_or_none<R: Files + AllocGlobal>(rt: &R, path: String) -> io::Result<Vec<u8>> {
     match fs::read(rt, path) {
         Err(e) if e.kind() == ErrorKind::NotFound => Ok(Vec::new(rt.alloc())),
@@ -33,17 +33,17 @@ fn bytes_or_none<R: Files + AllocGlobal>(rt: &R, path: String) -> io::Result<Vec
     }
 }
 
-/// Plays the row of a file, where it plays one.
+/// Plays the row of a file, if it plays one.
 pub fn play_file<R>(rt: &R, topic: &str, file: &str) -> io::Result<()>
 where
     R: Files + Print + AllocGlobal,
 {
-    let Some((name, kind, ending)) = Kind::of(file) else {
+    let Some((name, kind, suffix)) = Kind::of(file) else {
         return Ok(());
     };
     let row = format!(in rt.alloc(); "{topic}/{name}")?;
     let given = fs::read(rt, format!(in rt.alloc(); "{topic}/{file}")?)?;
-    let wanted = fs::read(rt, format!(in rt.alloc(); "{row}{ending}")?)?;
+    let wanted = fs::read(rt, format!(in rt.alloc(); "{row}{suffix}")?)?;
     let before = bytes_or_none(rt, format!(in rt.alloc(); "{row}.before")?)?;
     let found = answers_to(
         rt.alloc(),

@@ -1,4 +1,4 @@
-//! What sessions write, each over a store that nobody else asks.
+//! The output of sessions, each over a store that no other session uses.
 
 use act_desk::Alone;
 use act_disk::MemoryDisk;
@@ -7,7 +7,7 @@ use std::alloc::Global;
 use std::io::Read;
 use wf_value::Refusal;
 
-/// How a session speaks.
+/// The protocol of a session.
 #[derive(Clone, Copy)]
 pub enum Protocol {
     /// HTTP, with a sender of events.
@@ -16,10 +16,10 @@ pub enum Protocol {
     Lines,
 }
 
-/// How long each of the two areas of a session's store is, in bytes.
+/// The length of each of the two areas of a session's store, in bytes.
 const AREA: u64 = 65_536;
 
-/// An empty store in memory, which nobody else asks.
+/// An empty store in memory, which no other session uses.
 fn alone(alloc: Global) -> Result<Alone<MemoryDisk>, Refusal> {
     match Store::init(alloc, MemoryDisk::new(alloc), AREA) {
         Ok(store) => Ok(Alone::new(alloc, store)),
@@ -27,8 +27,8 @@ fn alone(alloc: Global) -> Result<Alone<MemoryDisk>, Refusal> {
     }
 }
 
-/// The bytes that a session writes. What it asks is answered by the store.
-pub fn written<R: Read>(
+/// The bytes that a session writes. The store answers what it asks.
+pub fn output_of<R: Read>(
     alloc: Global,
     protocol: Protocol,
     reader: &mut R,
@@ -45,39 +45,39 @@ pub fn written<R: Read>(
     }
 }
 
-/// What a row's session is over: its protocol, and the bytes of a session of HTTP that was held before it.
+/// The setting of a row's session: its protocol, and the input of a session of HTTP before it.
 #[derive(Clone, Copy)]
 pub struct Setting<'a> {
     pub protocol: Protocol,
     pub before: &'a [u8],
 }
 
-/// The same of a session whose input comes in two pieces, over a store of which one before it was held.
-fn written_in_two(
+/// The bytes that a session writes whose input comes in two pieces, after the session before it over the same store.
+fn output_in_two_pieces(
     alloc: Global,
     setting: Setting<'_>,
     pieces: (&[u8], &[u8]),
 ) -> Result<Vec<u8>, Refusal> {
     let mut answerer = alone(alloc)?;
     let mut before = setting.before;
-    let _written = written(alloc, Protocol::Http, &mut before, &mut answerer)?;
+    let _written = output_of(alloc, Protocol::Http, &mut before, &mut answerer)?;
     let mut reader = pieces.0.chain(pieces.1);
-    written(alloc, setting.protocol, &mut reader, &mut answerer)
+    output_of(alloc, setting.protocol, &mut reader, &mut answerer)
 }
 
-/// What a session writes whose input is cut in two at the first place at which it does not write what is wanted, or what it writes wherever
-/// the input is cut.
-pub fn written_at_each_cut(
+/// The output of a session with its input split in two, at the first split that does not give the wanted output, or
+/// else that of the whole input.
+pub fn output_at_each_cut(
     alloc: Global,
     setting: Setting<'_>,
     input: &[u8],
     wanted: &[u8],
 ) -> Result<Vec<u8>, Refusal> {
     for cut in 0..input.len() {
-        let found = written_in_two(alloc, setting, input.split_at(cut))?;
+        let found = output_in_two_pieces(alloc, setting, input.split_at(cut))?;
         if found.as_slice() != wanted {
             return Ok(found);
         }
     }
-    written_in_two(alloc, setting, (input, &[]))
+    output_in_two_pieces(alloc, setting, (input, &[]))
 }

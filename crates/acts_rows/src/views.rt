@@ -1,11 +1,11 @@
-//! What an operator is shown of the store that a script leaves.
+//! What an operator sees of the store that a script leaves.
 
 use crate::answers::push_refusal;
 use act_disk::{Disk, MemoryDisk};
 use acts_ops::{Form, Shown, run_script, run_show};
 use std::alloc::{AllocError, Global};
 
-/// A disk in memory has no faults to count, so each view of it is shown.
+/// Appends a view of a disk. A disk in memory has counted no faults, so each view is shown.
 fn push_view(
     alloc: Global,
     answers: &mut Vec<u8>,
@@ -21,7 +21,7 @@ fn push_view(
     Ok(disk)
 }
 
-/// The runs, the runners and the queue of a disk, as lines and as JSON.
+/// Appends the runs, the runners and the queue of a disk, as lines and as JSON.
 pub fn push_shown(
     alloc: Global,
     answers: &mut Vec<u8>,
@@ -35,7 +35,7 @@ pub fn push_shown(
     push_view(alloc, answers, disk, Shown::Queue, Form::Json)
 }
 
-/// The same of the disk that a script leaves. What it has not committed is not shown.
+/// Does the same for the disk that a script leaves. What the script has not committed is not shown.
 pub fn push_views(alloc: Global, answers: &mut Vec<u8>, script: &[u8]) -> Result<(), AllocError> {
     let mut reader = script;
     let mut replies = Vec::new(alloc);

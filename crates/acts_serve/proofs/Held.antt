@@ -1,4 +1,4 @@
--- The rounds of a service, one after the other.
+-- The rounds of a service, one after another.
 use Rattle.std.proofs.Common.{◌≡◌, ◌∙◌, ◌||◌, ◌+◌, ◌++◌, ◌∷◌, [], ℕ, List, Bool, true, false, Option, ◌-◌, ap, arith, length, length-append, refl, subst, sym}
 use Rattle.std.specs.Prelude.{IfOk, Result, Ok, Err}
 use Rattle.std.specs.Io.KnownBytes.{Appends}
@@ -28,7 +28,7 @@ module _ (hooks runners : TcpListener) (sessions : ℕ) where
   first_round old mid new broken history ready settled round = record {
     before = [];
     count = refl;
-    told = first_line old mid new history ready settled;
+    announced = first_line old mid new history ready settled;
     good = one_good broken history round;
   }
 
@@ -40,7 +40,7 @@ module _ (hooks runners : TcpListener) (sessions : ℕ) where
       record {
         before = histories;
         count = ap (λ n. n + 1) (length-append so_far.before (last ∷ []) ∙ so_far.count);
-        told = next_line old mid new histories history so_far.told settled;
+        announced = next_line old mid new histories history so_far.announced settled;
         good = all_good was now histories history so_far.good round;
       }
 
@@ -50,11 +50,11 @@ module _ (hooks runners : TcpListener) (sessions : ℕ) where
   all_served rounds count broken old new history turned all is = record {
     before = turned.before;
     count = omega (arith, turned.count, all);
-    told = turned.told;
+    announced = turned.announced;
     good = turned.good is;
   }
 
-  -- what a service hands on that ends well
+  -- what a service returns on success
   pub ends_served : {S E : Type 0} (history_of : S → List Entry) (last : S) (r : Result S E) (rounds count : ℕ) (broken : Bool)
       (old new : Option (List ℕ)) → IfOk r (λ store. (broken ≡ false) × (store ≡ last)) → count ≡ rounds - 1 + 1
       → HaveTurned hooks runners sessions count broken old new (history_of last)
@@ -66,10 +66,10 @@ module _ (hooks runners : TcpListener) (sessions : ℕ) where
 
   pub served_once : (old new : Option (List ℕ)) (history : List Entry) → HasServed hooks runners sessions 1 old new history
       → IsRound hooks runners sessions false history × Appends old new (service_lines (history ∷ []))
-  served_once old new history served = alone served.before served.count served.told served.good
+  served_once old new history served = alone served.before served.count served.announced served.good
     where
       alone : (before : List (List Entry)) → length before ≡ 0 → Appends old new (service_lines (before ++ history ∷ []))
           → AreGood hooks runners sessions (before ++ history ∷ [])
           → IsRound hooks runners sessions false history × Appends old new (service_lines (history ∷ []))
-      alone [] count told good = (All-head (IsRound hooks runners sessions false) history [] good, told)
-      alone (other ∷ before) count told good = absurd (omega (arith, count))
+      alone [] count announced good = (All-head (IsRound hooks runners sessions false) history [] good, announced)
+      alone (other ∷ before) count announced good = absurd (omega (arith, count))

@@ -1,4 +1,4 @@
--- The lines of a service, one after the other.
+-- The lines of a service, one after another.
 use Rattle.std.proofs.Common.{◌≡◌, ℕ, List, [], ◌∷◌, ◌++◌, Option, sym, ap, subst, append-nil}
 use Rattle.std.specs.Io.KnownBytes.{Appends}
 use Rattle.std.proofs.KnownBytes.{Appends-trans}
@@ -6,7 +6,7 @@ use Rattle.std.proofs.lemmas.List.{flat_map_more}
 use Rattle.act_store.specs.declared.entry.Entry.{Entry}
 use Rattle.acts_serve.specs.Telling.{line_of_history, ready_line, service_lines}
 
--- that both ports take clients, and the line of the first history
+-- `ready`, then the line of the first history
 pub first_line : (old mid new : Option (List ℕ)) (history : List Entry) → Appends old mid ready_line → Appends mid new (line_of_history history)
     → Appends old new (service_lines (history ∷ []))
 first_line old mid new history ready settled =

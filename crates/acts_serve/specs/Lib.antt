@@ -1,4 +1,4 @@
--- What a service tells of itself, and what its sessions are.
+-- What a service reports on its output, and its sessions.
 pub mod Rounds
 pub mod Telling
-pub mod Visits
+pub mod Connections

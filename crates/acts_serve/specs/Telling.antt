@@ -1,14 +1,14 @@
--- What a service tells of itself on its output (own).
+-- What a service reports on its output. The format is defined by this project.
 use Rattle.std.specs.Prelude.{ℕ, List, ◌++◌, length, codes}
 use Rattle.std.specs.Fmt.{decimal}
 use Rattle.std.specs.List.{flat_map}
 use Rattle.act_store.specs.declared.entry.Entry.{Entry}
 
--- both ports take clients
+-- both ports accept clients
 abbrev pub ready_line : List ℕ
 ready_line = codes "ready\n"
 
--- a history of so many entries has settled
+-- a history with this number of entries is reconciled
 abbrev pub settled_line : ℕ → List ℕ
 settled_line entries = (codes "settled " ++ decimal entries) ++ codes "\n"
 

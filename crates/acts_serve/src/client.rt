@@ -1,4 +1,4 @@
-//! A client that is connected to a port. Its stream never waits.
+//! A client connected to a port. Its stream is non-blocking.
 
 use act_sessions::{Protocol, Standing};
 use std::alloc::Global;
@@ -7,30 +7,30 @@ use std::io::{ErrorKind, Read};
 use std::net::{Shutdown, TcpStream};
 use std::time::{Clock, Duration, Instant};
 
-/// How long a client whose session is over may say nothing before its stream is closed, in milliseconds.
+/// How long a client whose session is over may stay silent before its stream is closed, in milliseconds.
 const LEAVING: u64 = 250;
 
-/// How many bytes of a client whose session is over are read at a time, at most.
+/// The most bytes that one read takes from a client whose session is over.
 const CHUNK: usize = 16_384;
 
-/// How many reads throw away what a client sends once its session is over, at most.
+/// The most reads that discard what a client sends after its session.
 const READS: usize = 128;
 
-/// A client that is connected, and where its session stands.
+/// A connected client, and the state of its session.
 #[derive(Drop)]
 pub(crate) struct Client<P: Protocol> {
     pub(crate) stream: TcpStream,
     pub(crate) standing: Standing<P>,
-    /// Its place among the clients of its port.
+    /// Its slot among the clients of its port.
     pub(crate) place: usize,
     /// When something was last read from it.
     heard: Instant,
-    /// How often it was read from since its session was over. None: its session goes on.
+    /// The number of reads since its session ended; `None` while the session is in progress.
     discarded: Option<usize>,
 }
 
 impl<P: Protocol> Client<P> {
-    /// A client that has just connected. What is written to it goes out at once.
+    /// A client that has just connected. It disables Nagle's algorithm, so that what is written is sent at once.
     pub(crate) fn new(
         clock: &impl Clock,
         alloc: Global,
@@ -48,7 +48,7 @@ impl<P: Protocol> Client<P> {
         })
     }
 
-    /// Whether it has said nothing for so long; behind the end of its session, for a quarter of a second.
+    /// Whether it has been silent for `idle`, or for a quarter of a second after its session.
     pub(crate) fn is_idle(&self, now: Instant, idle: Duration) -> bool {
         let limit = if self.is_leaving() {
             Duration::from_millis(LEAVING)
@@ -63,21 +63,22 @@ impl<P: Protocol> Client<P> {
         self.discarded.is_some()
     }
 
-    /// Something was read from it.
+    /// Records that something was read from it.
     pub(crate) fn was_heard(&mut self, clock: &impl Clock) {
         if let Ok(now) = Instant::now(clock) {
             self.heard = now;
         }
     }
 
-    /// Ends what is written to it: its session is over. Whether it may still send.
+    /// Shuts down writing to it, since its session is over. Returns whether it may still send.
     pub(crate) fn leave(&mut self, clock: &impl Clock) -> bool {
         self.discarded = Some(0);
         self.stream.shutdown(Shutdown::Write).is_ok() && self.discard(clock)
     }
 
-    /// Throws away what it sends behind the end of its session, 128 reads of it at most: the system resets a stream that is closed while bytes
-    /// of the client are unread, and the client may then not read its last answers. Whether it may send more.
+    /// Discards what it sends after its session, in at most 128 reads. The system resets a stream that is closed while
+    /// bytes of the client are unread, and the client may then be unable to read its last answers. Returns whether it
+    /// may send more.
     pub(crate) fn discard(&mut self, clock: &impl Clock) -> bool {
         let mut chunk = [0; CHUNK];
         let done = self.discarded.unwrap_or(0);
@@ -94,7 +95,7 @@ impl<P: Protocol> Client<P> {
     }
 }
 
-/// Whether nothing is there so far.
+/// Whether the error says only that nothing can be read yet.
 fn would_block(e: &io::Error) -> bool {
     matches!(e.kind(), ErrorKind::WouldBlock | ErrorKind::Interrupted)
 }

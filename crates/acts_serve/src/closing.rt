@@ -1,5 +1,5 @@
-//! How a session's stream is closed: in stages, since the system resets a stream that is closed while bytes of the client are unread or on
-//! their way, and the client may then not read its last answers. RFC 9112, section 9.6.
+//! Closes a session's stream in stages. The system resets a stream that is closed while bytes of the client are unread
+//! or in transit, and the client may then be unable to read its last answers. RFC 9112, section 9.6.
 ghost use Rattle.std.specs.Prelude.{◌≤◌, ℕ, List, length};
 ghost use Rattle.std.specs.Io.KnownBytes.{Consumes};
 
@@ -9,16 +9,16 @@ use std::io::Read;
 use std::net::{Shutdown, TcpStream};
 use std::time::Duration;
 
-/// How many bytes are read at a time, at most.
+/// The most bytes that one read takes.
 const CHUNK: usize = 16_384;
 
-/// How many reads a close makes, at most.
+/// The most reads that a close makes.
 const READS: usize = 128;
 
-/// How long each of these waits, at most, in milliseconds.
+/// How long each read waits at most, in milliseconds.
 const WAIT: u64 = 250;
 
-/// Reads on, and throws away what comes, until the input ends or a read fails, 128 times at most.
+/// Reads and discards input until it ends or a read fails, at most 128 times.
 fn discard<R: Read>(reader: &mut R)
     ensures { (thrown : List ℕ) × Consumes (R.remaining reader.old) (R.remaining reader.new) thrown × (length thrown ≤ 2_097_152) }
 {
@@ -31,14 +31,14 @@ fn discard<R: Read>(reader: &mut R)
     }
 }
 
-/// Ends what is written to a stream, and bounds how long a read of it waits.
+/// Shuts down writing to a stream, and limits how long a read of it waits.
 fn end_writing(stream: &TcpStream) -> io::Result<()> {
     stream.shutdown(Shutdown::Write)?;
     stream.set_read_timeout(Some(Duration::from_millis(WAIT)))
 }
 
-/// Closes a stream: the client is told that nothing more comes, and what it still sends is thrown away until it closes too, says nothing
-/// for a quarter of a second, or was read 128 times. So a close takes 32 seconds and 2 MiB at most.
+/// Closes a stream. The client sees the end of the output, and what it still sends is discarded until it closes too,
+/// stays silent for a quarter of a second, or was read 128 times. So a close takes at most 32 seconds and 2 MiB.
 pub fn close(stream: TcpStream) {
     if end_writing(&stream).is_ok() {
         discard(&mut &stream);

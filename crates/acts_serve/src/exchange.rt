@@ -1,4 +1,4 @@
-//! How a seat reads from a client and writes to it, for one part of the client's session.
+//! How a seat reads from a client and writes to it during one part of the client's session.
 
 use crate::port::Port;
 use crate::service::Service;
@@ -13,24 +13,24 @@ use std::{io, thread};
 /// Why a part has no more input.
 #[derive(Clone, Copy, Debug, PartialEq, Eq)]
 pub(crate) enum Pause {
-    /// The client sends no more.
+    /// The client has closed its side.
     Closed,
-    /// The client has sent nothing more so far.
+    /// The client has sent nothing more yet.
     Silent,
-    /// The seat is wanted for others, or the history turns over.
+    /// The seat is needed for other clients, or the history turns over.
     Yields,
 }
 
-/// Who says whether a seat goes on reading from its client.
+/// Decides whether a seat goes on reading from its client.
 pub(crate) trait Turns {
-    /// Whether the seat is to leave its client, behind so many answers.
+    /// Whether the seat must leave its client after this many answers.
     fn must_yield(&self, answers: u64) -> bool;
 
-    /// So many bytes were read, or were to be written.
+    /// Counts bytes that were read, or were to be written.
     fn moves(&self, count: usize);
 }
 
-/// The seats of a port leave their clients where others wait, or the history turns over.
+/// Makes the seats of a port leave their clients when others wait or the history turns over.
 #[derive(Drop)]
 pub(crate) struct SeatTurns<'a, P: Protocol, R: Wait + Clock> {
     pub(crate) service: &'a Service<'a, R>,
@@ -47,14 +47,14 @@ impl<P: Protocol, R: Wait + Clock> Turns for SeatTurns<'_, P, R> {
     }
 }
 
-/// Reads from a client. The input ends where nothing more is there, or the seat is to leave it.
+/// Reads from a client. The input ends when there is nothing more to read yet, or when the seat must leave the client.
 #[derive(Drop)]
 pub(crate) struct ClientReader<'s, 't, 'a, T: Turns> {
     stream: &'s TcpStream,
     turns: &'t T,
-    /// How many answers were written in this part.
+    /// The number of answers written in this part.
     answers: &'a AtomicU64,
-    /// Something was read.
+    /// Whether something was read.
     pub(crate) heard: bool,
     pub(crate) pause: Pause,
 }
@@ -97,7 +97,7 @@ impl<T: Turns> Read for ClientReader<'_, '_, '_, T> {
     }
 }
 
-/// Writes to a client, and waits so long for it in all, at most, where it does not read.
+/// Writes to a client. If the client does not read, it waits, for at most `patience` in total.
 #[derive(Drop)]
 pub(crate) struct ClientWriter<'c, 's, 't, 'a, C: Clock, T: Turns> {
     clock: &'c C,
@@ -124,7 +124,8 @@ impl<'c, 's, 't, 'a, C: Clock, T: Turns> ClientWriter<'c, 's, 't, 'a, C, T> {
         }
     }
 
-    /// Waits for a millisecond, while there is patience left. Where no clock can be read there is none.
+    /// Waits for a millisecond if there is patience left, and returns whether it did. Patience ends if the clock cannot
+    /// be read.
     fn waits(&mut self) -> bool {
         if self.patience.is_zero() {
             return false;
@@ -158,12 +159,12 @@ impl<C: Clock, T: Turns> Write for ClientWriter<'_, '_, '_, '_, C, T> {
                 Err(_) => break,
             }
         }
-        // The answer is kept all the same.
+        // These bytes count too, since the answer is kept.
         self.turns.moves(bytes.len());
         Err(io::Error::from(ErrorKind::BrokenPipe))
     }
 
-    /// An answer is written: a session sends each on.
+    /// Counts an answer. A session flushes after each.
     fn flush(&mut self) -> io::Result<()> {
         self.answers.fetch_add(1, Ordering::SeqCst);
         Ok(())

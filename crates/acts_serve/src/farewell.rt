@@ -1,35 +1,36 @@
-//! What clients are told where the device has failed: whoever has asked something meanwhile is answered, and all streams are closed.
+//! Ends the clients' sessions after a device failure: every request that has arrived is answered, and all streams are
+//! closed.
 
 use crate::client::Client;
 use crate::exchange::Turns;
-use crate::port::{MOST_CLIENTS, Port};
+use crate::port::{MAX_CLIENTS, Port};
 use crate::seat::{Then, hold_part};
 use crate::watch::accept_all;
-use act_sessions::{Answer, Asked, Protocol, Transcript};
+use act_sessions::{Answer, LoggedExchange, Protocol, Transcript};
 use run_plan::{Command, Reply};
 use std::alloc::Global;
 use std::sync::Wait;
 use std::time::{Clock, Duration};
 use wf_value::{Code, Refusal};
 
-/// How often those are accepted that wait in the system's queue: it holds fewer than a port has places, so the second time finds those for which
-/// there was none at first.
+/// How many times waiting connections are accepted. The system's queue holds fewer than a port has slots, so the second
+/// round accepts those for which there was no slot in the first.
 const ROUNDS: u64 = 2;
 
-/// Refuses each command, with 52, and notes it. Nothing is asked of a store.
+/// Refuses each command with 52 and records it. It asks no store.
 #[derive(Drop)]
 struct Refusing {
-    asked: Vec<Asked>,
+    asked: Vec<LoggedExchange>,
 }
 
 impl Answer for Refusing {
-    ghost use Rattle.act_sessions.specs.Told.{told_in};
+    ghost use Rattle.act_sessions.specs.Exchange.{exchanges_in};
 
-    ghost asked = { λ refusing. told_in refusing.asked.items };
+    ghost asked = { λ refusing. exchanges_in refusing.asked.items };
 
     fn ask(&mut self, command: Command) -> Result<Reply, Refusal> {
         self.asked.reserve(1)?;
-        self.asked.push_reserved(Asked {
+        self.asked.push_reserved(LoggedExchange {
             command,
             answer: Err(Refusal::Numbered(Code::FailedEarlier)),
         });
@@ -37,7 +38,7 @@ impl Answer for Refusing {
     }
 }
 
-/// Nobody else wants a seat.
+/// No other client needs the seat.
 struct Alone;
 
 impl Turns for Alone {
@@ -69,9 +70,9 @@ fn part_with<P: Protocol, C: Clock>(clock: &C, alloc: Global, client: &mut Clien
     }
 }
 
-/// Parts with the clients of a port, and leaves their places free.
+/// Ends the sessions of a port's clients and frees their slots.
 fn part_with_those_here<P: Protocol, R: Wait + Clock>(rt: &R, alloc: Global, port: &Port<'_, P>) {
-    for place in 0..MOST_CLIENTS {
+    for place in 0..MAX_CLIENTS {
         if let Some(mut client) = port.take_any(rt, place) {
             if !client.is_leaving() {
                 part_with(rt, alloc, &mut client);
@@ -81,14 +82,15 @@ fn part_with_those_here<P: Protocol, R: Wait + Clock>(rt: &R, alloc: Global, por
     }
 }
 
-/// Parts with all who have connected to a port by now, also with those that wait in the system's queue. No other thread serves the port any more.
+/// Ends the sessions of all clients that have connected to a port, including those in the system's queue. No other
+/// thread may serve the port by then.
 pub(crate) fn part_with_all<P: Protocol, R: Wait + Clock>(
     rt: &R,
     alloc: Global,
     port: &Port<'_, P>,
 ) {
     for _ in 0..ROUNDS {
-        // Where the listener can't go on, nobody more comes.
+        // If the listener fails, no more clients come.
         let _ = accept_all(rt, alloc, port);
         part_with_those_here(rt, alloc, port);
     }

@@ -1,4 +1,4 @@
-//! A service that goes on: seats that the clients of a port share, and a history that turns over by itself.
+//! A service without end: the clients of a port share its seats, and the history turns over by itself.
 
 ghost use Rattle.std.specs.Prelude.{◌≡◌, ◌<◌, ◌≤◌, []};
 
@@ -21,10 +21,10 @@ use std::time::Clock;
 use std::{io, thread};
 use wf_value::{Code, Refusal};
 
-/// How many events are taken at a time, at most.
+/// The most events that are taken at once.
 const EVENTS: usize = 256;
 
-/// What a failed call of the system is refused with: 50 where it has no memory, else 61.
+/// The refusal for a failed system call: 50 if it ran out of memory, else 61.
 fn refusal_of(e: &io::Error) -> Refusal {
     match e.kind() {
         ErrorKind::OutOfMemory => Refusal::Numbered(Code::NoMemory),
@@ -32,7 +32,7 @@ fn refusal_of(e: &io::Error) -> Refusal {
     }
 }
 
-/// Serves while one thread watches the ports. It ends by a refusal.
+/// Serves while one thread watches the ports. It returns only with a refusal.
 fn serve_watched<D: Disk + Drop + Send, R: Threads + Wait + Clock + Sync, O: Write>(
     service: &Service<'_, R>,
     alloc: Global,
@@ -68,17 +68,17 @@ fn serve_watched<D: Disk + Drop + Send, R: Threads + Wait + Clock + Sync, O: Wri
     )
 }
 
-/// Serves a store that has no entries yet on two ports, and goes on doing so: so many seats on each, which the clients of the port share, those of
-/// HTTP on the one and those of runner lines on the other. A store that stands in the first layout is brought up to the second, and then it
-/// writes `ready`, before the first client.
+/// Serves a store without entries on two ports, without end. Each port has `sessions` seats, which its clients share:
+/// clients of HTTP on one port, and clients of runner lines on the other. A store in the first layout is first upgraded
+/// to the second. Then it writes `ready`, before the first client.
 ///
-/// After so many commands, or 64 MiB that clients have sent or were answered, the history turns over: each seat leaves its client between two requests, what
-/// each seat was answered is compared with the history, `settled COUNT` is written, and the next history begins at the table that stands,
-/// in which the clients' sessions go on.
+/// After `limits.commands` commands, or 64 MiB that clients have sent or received, the history turns over: each seat
+/// leaves its client between two requests, the answers of each seat are compared with the history, `settled COUNT` is
+/// written, and the next history begins at the current table. The clients' sessions continue in it.
 ///
-/// It ends by a refusal: with 50 where memory or threads are wanting before the first client, with 52 where the device has failed, with 60
-/// where what was answered is not what the history holds, and with 61 where nothing can be written here, or a port can't go on. A stream
-/// that fails ends one session, and so does want of memory later on.
+/// It ends with a refusal: 50 if memory or threads run out before the first client, 52 if the device has failed, 60 if
+/// the answers are not those of the history, and 61 if the output cannot be written or a port fails. A stream that
+/// fails ends one session, and so does running out of memory later on.
 pub fn serve_forever<D: Disk + Drop + Send, R: Threads + Wait + Clock + Sync + Net, O: Write>(
     rt: &R,
     alloc: Global,

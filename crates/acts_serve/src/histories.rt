@@ -1,4 +1,4 @@
-//! One history after the other, over the same clients.
+//! Serves one history after another, over the same clients.
 
 ghost use Rattle.std.specs.Prelude.{◌≡◌, ◌<◌, ◌≤◌, [], IfOk};
 
@@ -17,10 +17,11 @@ use std::thread::Threads;
 use std::time::{Clock, Duration};
 use wf_value::{Code, Refusal};
 
-/// How long the service rests where memory or threads are wanting, in milliseconds.
+/// How long the service pauses when memory or threads run out, in milliseconds.
 const REST: u64 = 100;
 
-/// Memory or threads are wanting for a history: the first one is refused with 50, and before a later one the service rests.
+/// Handles a history for which memory or threads ran out: the first one is refused with 50, and before a later one the
+/// service pauses.
 fn rest<R: Clock>(rt: &R, is_first: bool) -> Result<(), Refusal> {
     if is_first {
         return Err(Refusal::Numbered(Code::NoMemory));
@@ -36,8 +37,8 @@ fn none_begun(transcripts: &[Transcript]) -> bool {
         .all(|transcript| transcript.ending == Ending::Memory)
 }
 
-/// Brings a checkpoint to its end for which memory was wanting, or rests where it still is. Where the area has no room for it there is none any
-/// more.
+/// Finishes a checkpoint that had run out of memory, or pauses if memory is still short. If the area has no room for
+/// the checkpoint, it is dropped.
 fn finish_checkpoint<D: Disk, R: Clock>(
     rt: &R,
     alloc: Global,
@@ -50,7 +51,7 @@ fn finish_checkpoint<D: Disk, R: Clock>(
     }
 }
 
-/// A store whose history begins anew, once no checkpoint is begun any more.
+/// The store with a new history. A checkpoint that was begun is finished first.
 fn turned_over<D: Disk + Drop, R: Wait + Clock>(
     rt: &R,
     alloc: Global,
@@ -71,7 +72,7 @@ fn turned_over<D: Disk + Drop, R: Wait + Clock>(
     unreachable!()
 }
 
-/// Tells of a history whose seats have ended, and begins the next one.
+/// Reports a history whose seats have ended, and begins the next one.
 fn next_history<D: Disk + Drop, R: Wait + Clock, O: Write>(
     service: &Service<'_, R>,
     alloc: Global,
@@ -96,7 +97,8 @@ fn next_history<D: Disk + Drop, R: Wait + Clock, O: Write>(
     turned_over(service.rt, alloc, store)
 }
 
-/// Serves one history: until it is to turn over, and each seat has left its client. It gives the store with the next one.
+/// Serves one history until it must turn over and each seat has left its client. Returns the store with the next
+/// history.
 fn hold_history<D: Disk + Drop + Send, R: Threads + Wait + Clock + Sync, O: Write>(
     service: &Service<'_, R>,
     alloc: Global,
@@ -125,7 +127,7 @@ fn hold_history<D: Disk + Drop + Send, R: Threads + Wait + Clock + Sync, O: Writ
     }
 }
 
-/// Serves one history after the other, until the service can't go on: it answers why.
+/// Serves one history after another until the service cannot continue, and returns why.
 pub(crate) fn hold_histories<D: Disk + Drop + Send, R: Threads + Wait + Clock + Sync, O: Write>(
     service: &Service<'_, R>,
     alloc: Global,

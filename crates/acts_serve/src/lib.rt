@@ -1,9 +1,10 @@
-//! Serves a store on two ports: sessions of HTTP on the one, sessions of runner lines on the other, in rounds of so many sessions each, or
-//! without end, with seats that any number of clients share.
+//! Serves a store on two ports, with sessions of HTTP on one and sessions of runner lines on the other: in rounds of a
+//! fixed number of sessions, or without end, with seats that any number of clients share.
 #![tactic(auto)]
 
 mod client;
 mod closing;
+mod connection;
 mod exchange;
 mod farewell;
 mod forever;
@@ -14,7 +15,6 @@ mod serve;
 mod service;
 mod telling;
 mod upgrade;
-mod visit;
 mod watch;
 
 pub use forever::serve_forever;

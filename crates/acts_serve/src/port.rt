@@ -1,4 +1,4 @@
-//! The clients of a port: those that have said something, and wait for a seat, and those that are waited for.
+//! The clients of a port: those that have sent something and wait for a seat, and the silent ones.
 
 use crate::client::Client;
 use act_sessions::Protocol;
@@ -12,19 +12,21 @@ use std::os::fd::{AsRawFd, RawFd};
 use std::sync::{Condvar, Mutex, Wait};
 use std::time::{Clock, Duration, Instant};
 
-/// How many clients a port has, at most. Others wait until one of them leaves.
-pub(crate) const MOST_CLIENTS: usize = 1024;
+/// The most clients that a port has. Others wait until one of them leaves.
+pub(crate) const MAX_CLIENTS: usize = 1024;
 
-/// How many ports there are. The tokens of their listeners come first, and then those of their clients, the ports by turns.
+/// The number of ports. The tokens of their listeners come first, then those of their clients, alternately for each
+/// port.
 const PORTS: usize = 2;
 
-/// How many answers a seat gives a client, at least, before it takes one of those that wait.
+/// The number of answers after which a seat leaves its client if another client waits.
 const SLICE: u64 = 16;
 
-/// How often a port may be found without a seat before its history turns over: for ten seconds, since a thread may begin late on a busy machine.
+/// How many times a port may be found without a seat before its history turns over. This is ten seconds, since a thread
+/// may start late on a busy machine.
 const UNSEATED: u64 = 40;
 
-/// Whom a token stands for: a client, by its port and its place there.
+/// The client of a token: the number of its port, and its slot there.
 pub(crate) fn client_of(token: Token) -> Option<(usize, usize)> {
     let Token(number) = token;
     let client = number.checked_sub(PORTS)?;
@@ -33,46 +35,46 @@ pub(crate) fn client_of(token: Token) -> Option<(usize, usize)> {
 
 #[derive(Drop)]
 struct Clients<P: Protocol> {
-    /// They have said something, and wait for a seat.
+    /// Clients that have sent something and wait for a seat.
     ready: VecDeque<Client<P>>,
-    /// Nothing more is there of them so far: each in its place.
+    /// Clients that have sent nothing more yet, each in its slot.
     silent: Vec<Option<Client<P>>>,
-    /// The places that no client has.
+    /// The free slots.
     free: Vec<usize>,
-    /// No client is given a seat until the next history begins.
+    /// Whether seats get no more clients until the next history begins.
     closed: bool,
-    /// How many seats have begun in this history.
+    /// The number of seats that have begun in this history.
     seats: u64,
-    /// How often none had.
+    /// How many times no seat had begun.
     unseated: u64,
 }
 
-/// A port, with its clients.
+/// A port with its clients.
 #[derive(Drop)]
 pub(crate) struct Port<'a, P: Protocol> {
     clients: Mutex<Clients<P>>,
-    /// A client has said something, or the history turns over.
+    /// A client waits for a seat, or the history turns over.
     changed: Condvar,
     pub(crate) listener: &'a TcpListener,
     registry: &'a Registry,
-    /// Which of the ports it is, counted from 0.
+    /// The number of the port, from 0.
     number: usize,
 }
 
 impl<'a, P: Protocol> Port<'a, P> {
-    /// A port without clients, that gives no seats yet.
+    /// A port without clients. It gives no seats yet.
     pub(crate) fn new(
         alloc: Global,
         listener: &'a TcpListener,
         registry: &'a Registry,
         number: usize,
     ) -> Result<Port<'a, P>, AllocError> {
-        let ready = VecDeque::with_capacity(alloc, MOST_CLIENTS)?;
+        let ready = VecDeque::with_capacity(alloc, MAX_CLIENTS)?;
         let mut silent = Vec::new(alloc);
         let mut free = Vec::new(alloc);
-        for place in 0..MOST_CLIENTS {
+        for place in 0..MAX_CLIENTS {
             silent.push(None)?;
-            free.push(MOST_CLIENTS - 1 - place)?;
+            free.push(MAX_CLIENTS - 1 - place)?;
         }
         Ok(Port {
             clients: Mutex::new(Clients {
@@ -90,7 +92,7 @@ impl<'a, P: Protocol> Port<'a, P> {
         })
     }
 
-    /// Has the watch report who connects.
+    /// Registers the listener, so that connections are reported.
     pub(crate) fn watch_listener(&self) -> io::Result<()> {
         self.listener.set_nonblocking(true)?;
         let fd = self.listener.as_raw_fd();
@@ -107,7 +109,7 @@ impl<'a, P: Protocol> Port<'a, P> {
         )
     }
 
-    /// A history begins.
+    /// Begins a history.
     pub(crate) fn open(&self, rt: &impl Wait) {
         let mut clients = self.clients.lock(rt);
         clients.closed = false;
@@ -115,19 +117,19 @@ impl<'a, P: Protocol> Port<'a, P> {
         clients.unseated = 0;
     }
 
-    /// The history turns over: each seat leaves its client at the next boundary, and none gets another one.
+    /// Ends a history: each seat leaves its client at the next boundary and gets no other.
     pub(crate) fn close(&self, rt: &impl Wait) {
         self.clients.lock(rt).closed = true;
         self.changed.notify_all();
     }
 
-    /// Whether a seat is to leave its client, behind so many answers in a row.
+    /// Whether a seat must leave its client after this many answers in a row.
     pub(crate) fn must_yield(&self, rt: &impl Wait, answers: u64) -> bool {
         let clients = self.clients.lock(rt);
         clients.closed || (answers >= SLICE && !clients.ready.is_empty())
     }
 
-    /// A seat begins.
+    /// Counts a seat that begins.
     pub(crate) fn take_seat(&self, rt: &impl Wait) {
         let mut clients = self.clients.lock(rt);
         clients.seats = clients.seats.saturating_add(1);
@@ -138,7 +140,7 @@ impl<'a, P: Protocol> Port<'a, P> {
         self.clients.lock(rt).seats > 0
     }
 
-    /// Whether no seat has begun in this history for as often as this was asked: no thread could be started for one.
+    /// Whether no seat has begun in this history although this was asked 40 times: no thread could be started for one.
     pub(crate) fn lacks_seats(&self, rt: &impl Wait) -> bool {
         let mut guard = self.clients.lock(rt);
         let clients = &mut *guard;
@@ -149,7 +151,7 @@ impl<'a, P: Protocol> Port<'a, P> {
         clients.unseated >= UNSEATED
     }
 
-    /// The next client that has said something. None where the history turns over.
+    /// The next client that has sent something, or `None` if the history turns over. It waits for one.
     pub(crate) fn next(&self, rt: &impl Wait) -> Option<Client<P>> {
         let mut clients = self.clients.lock(rt);
         for _ in rt.forever() {
@@ -164,13 +166,13 @@ impl<'a, P: Protocol> Port<'a, P> {
         None
     }
 
-    /// A place for one more client.
+    /// A free slot for one more client.
     pub(crate) fn free_place(&self, rt: &impl Wait) -> Option<usize> {
         let mut clients = self.clients.lock(rt);
         clients.free.pop()
     }
 
-    /// A client has connected, for which there is this place.
+    /// Adds a client that has connected, in this slot.
     pub(crate) fn add<R: Wait + Clock>(
         &self,
         rt: &R,
@@ -185,12 +187,13 @@ impl<'a, P: Protocol> Port<'a, P> {
         self.watch(rt, client, true);
     }
 
-    /// A client is waited for. What it has said meanwhile is reported at once.
+    /// Waits for a client to send something. What it has sent already is reported at once.
     pub(crate) fn wait_for(&self, rt: &impl Wait, client: Client<P>) {
         self.watch(rt, client, false);
     }
 
-    /// Puts a client into its place, and has the watch report what it says. One that can't be watched is let go.
+    /// Puts a client into its slot and registers it, so that its input is reported. If that fails, the client is
+    /// closed.
     fn watch(&self, rt: &impl Wait, client: Client<P>, is_new: bool) {
         let place = client.place;
         let fd = client.stream.as_raw_fd();
@@ -200,7 +203,7 @@ impl<'a, P: Protocol> Port<'a, P> {
             return;
         };
         *free = Some(client);
-        // Under the lock, so that no seat closes the stream meanwhile: its descriptor would then be another client's.
+        // The lock is held here so that no seat closes the stream: another client could then get its descriptor.
         let watched = self.report(fd, self.token(place), is_new);
         drop(guard);
         if watched.is_err() {
@@ -219,7 +222,7 @@ impl<'a, P: Protocol> Port<'a, P> {
         }
     }
 
-    /// A client that may have said more waits for a seat again, behind the others.
+    /// Queues a client that may have sent more for a seat, after the others.
     pub(crate) fn queue(&self, rt: &impl Wait, client: Client<P>) {
         let mut guard = self.clients.lock(rt);
         let clients = &mut *guard;
@@ -228,28 +231,29 @@ impl<'a, P: Protocol> Port<'a, P> {
         self.changed.notify_one();
     }
 
-    /// The client in this place has said something. Where a seat has it, or another thread has let it go, nothing is to be done.
+    /// Queues the client in this slot, which has sent something. Nothing happens if a seat has it or another thread has
+    /// closed it.
     pub(crate) fn has_spoken(&self, rt: &impl Wait, place: usize) {
         if let Some(client) = self.taken(rt, place) {
             self.queue(rt, client);
         }
     }
 
-    /// Takes the client out of this place, if one lies there.
+    /// Takes the client out of this slot, if there is one.
     fn taken(&self, rt: &impl Wait, place: usize) -> Option<Client<P>> {
         let mut guard = self.clients.lock(rt);
         let clients = &mut *guard;
         clients.silent.get_mut(place)?.take()
     }
 
-    /// Lets the client in this place go, if one lies there.
+    /// Closes the client in this slot, if there is one.
     fn let_go(&self, rt: &impl Wait, place: usize) {
         if let Some(client) = self.taken(rt, place) {
             self.close_client(rt, client);
         }
     }
 
-    /// Takes a client, whether it has said something or not: of those in these places, and then of those that wait for a seat.
+    /// Takes a client, whether or not it has sent something: the one in this slot, or else one that waits for a seat.
     pub(crate) fn take_any(&self, rt: &impl Wait, place: usize) -> Option<Client<P>> {
         match self.taken(rt, place) {
             Some(client) => Some(client),
@@ -260,26 +264,26 @@ impl<'a, P: Protocol> Port<'a, P> {
         }
     }
 
-    /// Closes a client's stream.
+    /// Closes a client's stream and frees its slot.
     pub(crate) fn close_client(&self, rt: &impl Wait, client: Client<P>) {
         let place = client.place;
         drop(client);
         self.vacate(rt, place);
     }
 
-    /// A place is free again.
+    /// Frees a slot.
     pub(crate) fn vacate(&self, rt: &impl Wait, place: usize) {
         let mut guard = self.clients.lock(rt);
         let clients = &mut *guard;
         let _ = clients.free.push(place);
     }
 
-    /// Lets those go that have said nothing for too long.
+    /// Closes the clients that have been silent for too long.
     pub(crate) fn sweep<R: Wait + Clock>(&self, rt: &R, idle: Duration) {
         let Ok(now) = Instant::now(rt) else {
             return;
         };
-        for place in 0..MOST_CLIENTS {
+        for place in 0..MAX_CLIENTS {
             if let Some(client) = self.taken_if_idle(rt, place, now, idle) {
                 self.close_client(rt, client);
             }

@@ -1,7 +1,7 @@
-//! A seat: it serves the clients of its port by turns, a part of a session at a time.
+//! A seat: it serves the clients of its port alternately, one part of a session at a time.
 
 ghost use Rattle.std.specs.Prelude.{◌≡◌, ◌<◌, ◌≤◌, ◌++◌, List, ⊤, length, IfOk};
-ghost use Rattle.act_sessions.specs.Told.{AreAsked, OnlyLastOpen, Told, told_by};
+ghost use Rattle.act_sessions.specs.Exchange.{AreAsked, OnlyLastOpen, Exchange, exchanges_by};
 
 use crate::client::Client;
 use crate::exchange::{ClientReader, ClientWriter, Pause, SeatTurns, Turns};
@@ -17,23 +17,24 @@ use std::sync::Wait;
 use std::sync::atomic::AtomicU64;
 use std::time::{Clock, Duration};
 
-/// How long a part waits for a client that does not read its answers, in milliseconds, at most: so long it holds its seat.
+/// How long a part waits at most for a client that does not read its answers, in milliseconds. The client keeps the
+/// seat meanwhile.
 const PATIENCE: u64 = 1_000;
 
-/// What becomes of a client behind a part of its session.
+/// What happens to a client after a part of its session.
 #[derive(Clone, Copy, Debug, PartialEq, Eq)]
 pub(crate) enum Then {
-    /// It is waited for.
+    /// The seat leaves it until it sends something.
     Waits,
-    /// It may have said more.
+    /// It may have sent more, so it waits for a seat again.
     Queues,
-    /// Its session is over, and it is told so.
+    /// Its session is over, and writing to it is shut down.
     Leaves,
-    /// Its stream has ended, or failed.
+    /// Its stream has ended or failed.
     Closes,
 }
 
-/// What becomes of a client whose part ended so, and was given no more input for this.
+/// What happens to a client after a part that ended this way, where the input paused for this reason.
 fn then_of(end: Part, pause: Pause) -> Then {
     match (end, pause) {
         (Part::Waits, Pause::Silent) => Then::Waits,
@@ -44,16 +45,16 @@ fn then_of(end: Part, pause: Pause) -> Then {
     }
 }
 
-/// How a part went.
+/// The result of a part.
 #[derive(Clone, Copy)]
 pub(crate) struct Held {
-    /// Something was read.
+    /// Whether something was read.
     pub(crate) heard: bool,
     pub(crate) then: Then,
 }
 
-/// Holds a part of a session over a stream: from where the session stands until nothing more is there, or the seat is to leave the client, or
-/// the session is over.
+/// Serves a part of a session over a stream: from the current state of the session until there is nothing more to read,
+/// the seat must leave the client, or the session is over.
 pub(crate) fn hold_part<P: Protocol, T: Turns, C: Clock, A: Answer>(
     clock: &C,
     alloc: Global,
@@ -64,8 +65,8 @@ pub(crate) fn hold_part<P: Protocol, T: Turns, C: Clock, A: Answer>(
     answerer: &mut A,
     transcript: &mut Transcript,
 ) -> Held
-    ensures { (told : List Told) × AreAsked (A.asked answerer.old) (A.asked answerer.new) told
-        × (told_by transcript.new ≡ told_by transcript.old ++ told) × OnlyLastOpen told }
+    ensures { (exchanges : List Exchange) × AreAsked (A.asked answerer.old) (A.asked answerer.new) exchanges
+        × (exchanges_by transcript.new ≡ exchanges_by transcript.old ++ exchanges) × OnlyLastOpen exchanges }
 {
     let answers = AtomicU64::new(0);
     let mut reader = ClientReader::new(stream, turns, &answers);
@@ -85,7 +86,7 @@ struct Seat<'a, P: Protocol, R: Wait + Clock> {
 }
 
 impl<P: Protocol, R: Wait + Clock> Seat<'_, P, R> {
-    /// Gives the client back to its port, or closes its stream.
+    /// Returns the client to its port, or closes its stream.
     fn give_back(&self, client: Client<P>, then: Then) {
         let mut client = client;
         let rt = self.service.rt;
@@ -100,7 +101,7 @@ impl<P: Protocol, R: Wait + Clock> Seat<'_, P, R> {
         }
     }
 
-    /// A client whose session is over is waited for while it may send more.
+    /// Keeps a client whose session is over while it may send more, else closes it.
     fn see_off(&self, client: Client<P>, stays: bool) {
         if stays {
             self.port.wait_for(self.service.rt, client);
@@ -152,7 +153,7 @@ impl<P: Protocol, R: Wait + Clock> Parts for Seat<'_, P, R> {
     }
 }
 
-/// The whole time of a seat, at either port, in one history.
+/// The whole work of a seat, at either port, in one history.
 #[derive(Drop)]
 pub(crate) enum SeatWork<'a, R: Wait + Clock> {
     Hooks(&'a Service<'a, R>),
@@ -160,7 +161,7 @@ pub(crate) enum SeatWork<'a, R: Wait + Clock> {
 }
 
 impl<R: Wait + Clock> Work for SeatWork<'_, R> {
-    // No clause knows what a socket's bytes are.
+    // No contract describes the bytes of a socket.
     ghost ends = { λ seat transcript. ⊤ };
 
     fn work<A: Answer>(self, alloc: Global, answer: &mut A) -> Result<Transcript, SessionFault> {
@@ -181,7 +182,7 @@ impl<R: Wait + Clock> Work for SeatWork<'_, R> {
     }
 }
 
-/// The seats of a history, as many at each port, the ports by turns.
+/// The seats of a history, equally many at each port, alternately.
 pub(crate) fn seats<'a, R: Wait + Clock>(
     alloc: Global,
     service: &'a Service<'a, R>,

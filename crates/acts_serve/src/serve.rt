@@ -3,11 +3,11 @@ ghost use Rattle.std.specs.Io.KnownBytes.{Appends};
 ghost use Rattle.act_store.specs.declared.entry.Entry.{Entry};
 ghost use Rattle.acts_serve.specs.Rounds.{AreHeld, HasServed, IsRound};
 ghost use Rattle.acts_serve.specs.Telling.{line_of_history, service_lines};
-ghost use Rattle.acts_serve.specs.Visits.{AreByTurns};
+ghost use Rattle.acts_serve.specs.Connections.{AreByTurns};
 
+use crate::connection::Connection;
 use crate::telling::{tell_ready, tell_settled};
 use crate::upgrade::brought_up;
-use crate::visit::Visit;
 use act_desk::{Fault, Free, Settled, serve_all};
 use act_disk::Disk;
 use act_sessions::{Ending, Transcript};
@@ -20,54 +20,54 @@ use std::thread::Threads;
 use std::time::Clock;
 use wf_value::{Code, Refusal};
 
-/// The sessions of a service, as many on each port, the ports by turns.
-fn visits<'a>(
+/// The sessions of a round, equally many on each port, alternately.
+fn connections<'a>(
     alloc: Global,
     hooks: &'a TcpListener,
     runners: &'a TcpListener,
     sessions: u64,
-) -> Result<Vec<Visit<'a>>, Refusal>
+) -> Result<Vec<Connection<'a>>, Refusal>
     requires { (0 < sessions) × (sessions ≤ 32) }
     ensures count { IfOk result (λ v. length v.items ≡ sessions + sessions) }
     ensures by_turns { IfOk result (λ v. AreByTurns hooks.now runners.now v.items) }
 {
-    let mut visits = Vec::new(alloc);
+    let mut connections = Vec::new(alloc);
     for _ in 0..sessions {
-        visits.push(Visit::Hook(hooks))?;
-        visits.push(Visit::Runner(runners))?;
+        connections.push(Connection::Hook(hooks))?;
+        connections.push(Connection::Runner(runners))?;
     }
-    Ok(visits)
+    Ok(connections)
 }
 
 /// A round whose sessions have ended.
 #[derive(Drop)]
 struct Round<D: Disk> {
     store: Store<D>,
-    /// A stream failed in it, or could not be accepted.
+    /// Whether a stream failed in it, or could not be accepted.
     broken: bool,
-    /// No session wrote anything, for want of memory or of a thread.
+    /// Whether no session wrote anything, because memory or threads ran out.
     unserved: bool,
 }
 
-/// Whether no session wrote anything, for want of memory or of a thread.
+/// Whether no session wrote anything, because memory or threads ran out.
 fn are_unserved(transcripts: &[Transcript]) -> bool {
     transcripts.iter().all(|transcript| transcript.ending == Ending::Memory
         && transcript.written == 0)
 }
 
-/// Holds sessions over a store that has no entries yet, each in a thread of its own and at the same time. It says whether a stream failed in
-/// one of them, or could not be accepted.
-fn serve_visits<'a, D: Disk + Drop + Send, R: Threads + Wait + Clock + Sync>(
+/// Serves sessions over a store without entries, concurrently, each in its own thread. Also returns whether a stream
+/// failed in one of them, or could not be accepted.
+fn serve_connections<'a, D: Disk + Drop + Send, R: Threads + Wait + Clock + Sync>(
     rt: &R,
     alloc: Global,
     store: Store<D>,
-    visits: Vec<Visit<'a>>,
+    connections: Vec<Connection<'a>>,
 ) -> Result<(Settled<D>, bool), Refusal>
     requires fresh { store.history ≡ [] }
-    requires visits { (0 < length visits.items) × (length visits.items ≤ 64) }
-    ensures { IfOk result (λ held. AreHeld visits.entry.items held.1 held.0.store.history) }
+    requires connections { (0 < length connections.items) × (length connections.items ≤ 64) }
+    ensures { IfOk result (λ held. AreHeld connections.entry.items held.1 held.0.store.history) }
 {
-    match serve_all(rt, alloc, store, visits, &Free) {
+    match serve_all(rt, alloc, store, connections, &Free) {
         Ok(settled) => Ok((settled, false)),
         Err(Fault::Broken(settled)) => Ok((settled, true)),
         Err(Fault::Unsettled(_)) => Err(Refusal::Numbered(Code::Unsettled)),
@@ -75,20 +75,20 @@ fn serve_visits<'a, D: Disk + Drop + Send, R: Threads + Wait + Clock + Sync>(
     }
 }
 
-/// Holds sessions as above, and tells how many entries they made.
+/// Serves sessions as above, and reports how many entries they made.
 fn serve_round<'a, D: Disk + Drop + Send, R: Threads + Wait + Clock + Sync, O: Write>(
     rt: &R,
     alloc: Global,
     store: Store<D>,
-    visits: Vec<Visit<'a>>,
+    connections: Vec<Connection<'a>>,
     out: &mut O,
 ) -> Result<Round<D>, Refusal>
     requires fresh { store.history ≡ [] }
-    requires visits { (0 < length visits.items) × (length visits.items ≤ 64) }
-    ensures told { IfOk result (λ round. Appends (O.contents out.old) (O.contents out.new) (line_of_history round.store.history)) }
-    ensures held { IfOk result (λ round. AreHeld visits.entry.items round.broken round.store.history) }
+    requires connections { (0 < length connections.items) × (length connections.items ≤ 64) }
+    ensures announced { IfOk result (λ round. Appends (O.contents out.old) (O.contents out.new) (line_of_history round.store.history)) }
+    ensures held { IfOk result (λ round. AreHeld connections.entry.items round.broken round.store.history) }
 {
-    let (settled, broken) = serve_visits(rt, alloc, store, visits)?;
+    let (settled, broken) = serve_connections(rt, alloc, store, connections)?;
     tell_settled(settled.store.entries(), out)?;
     let unserved = are_unserved(settled.transcripts.as_slice());
     Ok(Round {
@@ -98,7 +98,7 @@ fn serve_round<'a, D: Disk + Drop + Send, R: Threads + Wait + Clock + Sync, O: W
     })
 }
 
-/// A settled store whose history begins anew.
+/// A reconciled store with a new history.
 fn turned_over<D: Disk + Drop>(store: Store<D>) -> Result<Store<D>, Refusal>
     ensures { IfOk result (λ anew. anew.history ≡ []) }
 {
@@ -107,7 +107,7 @@ fn turned_over<D: Disk + Drop>(store: Store<D>) -> Result<Store<D>, Refusal>
     Ok(store)
 }
 
-/// Holds a round over the table that the one before left. Behind one in which no session could be started there is none.
+/// Serves a round over the table that the last one left, unless no session of the last one could be started.
 fn serve_next<D: Disk + Drop + Send, R: Threads + Wait + Clock + Sync, O: Write>(
     rt: &R,
     alloc: Global,
@@ -118,19 +118,19 @@ fn serve_next<D: Disk + Drop + Send, R: Threads + Wait + Clock + Sync, O: Write>
     out: &mut O,
 ) -> Result<Round<D>, Refusal>
     requires { (0 < sessions) × (sessions ≤ 32) }
-    ensures told { IfOk result (λ round. Appends (O.contents out.old) (O.contents out.new) (line_of_history round.store.history)) }
+    ensures announced { IfOk result (λ round. Appends (O.contents out.old) (O.contents out.new) (line_of_history round.store.history)) }
     ensures ended { IfOk result (λ round. IsRound hooks.now runners.now sessions round.broken round.store.history) }
 {
     if last.unserved {
         return Err(Refusal::Numbered(Code::NoMemory));
     }
-    let next = visits(alloc, hooks, runners, sessions)?;
+    let next = connections(alloc, hooks, runners, sessions)?;
     let anew = turned_over(last.store)?;
     serve_round(rt, alloc, anew, next, out)
 }
 
-/// How a service of so many rounds ends behind the last one: where no session of that could be started, which one round alone may be, with
-/// 50, and where a stream failed in one of them, with 61.
+/// The result of a service after its last round. The error is 50 if there were several rounds and no session of the last
+/// one could be started, and 61 if a stream failed in any round.
 fn ended<D: Disk + Drop>(last: Round<D>, broken: bool, rounds: u64) -> Result<Store<D>, Refusal>
     ensures ok { IfOk result (λ store. (broken ≡ false) × (store ≡ last.store)) }
     ensures err { IfErr result (λ e. ((e ≡ Refusal.Numbered Code.NoMemory) × (last.unserved ≡ true) × (1 < rounds))
@@ -145,13 +145,13 @@ fn ended<D: Disk + Drop>(last: Round<D>, broken: bool, rounds: u64) -> Result<St
     Ok(last.store)
 }
 
-/// Serves a store that has no entries yet: holds so many sessions on each of two ports, each in a thread of its own and at the same time,
-/// those of HTTP on the one and those of runner lines on the other. It writes `ready` before the first, and once all have ended
-/// `settled COUNT`, COUNT the number of the history's entries, and hands that on.
+/// Serves a store without entries: `sessions` sessions on each of two ports, concurrently, each in its own thread, with
+/// HTTP on one port and runner lines on the other. It writes `ready` before the first session and `settled COUNT` once
+/// all have ended, where COUNT is the number of the history's entries, which it also returns.
 ///
-/// What each session was answered is compared with the history: where they differ that is 60, and no line `settled` is written. Where a
-/// stream failed or could not be accepted it is 61, behind that line, and so it is where nothing can be written here. Want of memory
-/// before the first session is 50; later on it ends a session.
+/// The answers of each session are compared with the history: if they differ, the error is 60 and no line `settled` is
+/// written. If a stream failed or could not be accepted, the error is 61, after that line. It is 61 too if the output
+/// cannot be written. Out of memory before the first session is 50; later on it ends a session.
 pub fn serve_on<D: Disk + Drop + Send, R: Threads + Wait + Clock + Sync, O: Write>(
     rt: &R,
     alloc: Global,
@@ -163,7 +163,7 @@ pub fn serve_on<D: Disk + Drop + Send, R: Threads + Wait + Clock + Sync, O: Writ
 ) -> Result<u64, Refusal>
     requires fresh { store.history ≡ [] }
     requires sessions { (0 < sessions) × (sessions ≤ 32) }
-    // Where it ends well no stream failed: each session spoke as its port does, and the history is what they asked.
+    // On success no stream failed: each session followed its port's protocol, and the history is what they asked.
     ensures served { IfOk result (λ count. (history : List Entry) × (count ≡ length history)
         × IsRound hooks.now runners.now sessions false history
         × Appends (O.contents out.old) (O.contents out.new) (service_lines (history ∷ []))) }
@@ -172,13 +172,15 @@ pub fn serve_on<D: Disk + Drop + Send, R: Threads + Wait + Clock + Sync, O: Writ
     Ok(store.entries())
 }
 
-/// Serves a store as `serve_on` does, in so many rounds, one at least: once all sessions of a round have ended, and `settled COUNT` is
-/// written for it, the history begins anew at the table that they left, and the next round holds as many sessions on the same ports.
+/// Serves a store as `serve_on` does, in `rounds` rounds, but at least one. Once all sessions of a round have ended and
+/// `settled COUNT` is written for it, a new history begins at the table that they left, and the next round serves as
+/// many sessions on the same ports.
 ///
-/// A store that stands in the first layout is brought up to the second before. `ready` is written once. A stream that fails ends no round
-/// but the last, behind which the service is refused with 61. Of several rounds one in which no session could be started ends the service
-/// with 50. Else what refuses a round ends the service, and so does the store where its history cannot begin anew: with 52 where the
-/// device has failed, and with 56 where memory was wanting to end a checkpoint.
+/// A store in the first layout is first upgraded to the second. `ready` is written once. A failed stream ends no round
+/// early; after the last round the service is refused with 61. If there are several rounds, one in which no session
+/// could be started ends the service with 50. Any other refusal of a round ends the service. So does a store that
+/// cannot begin a new history: with 52 if the device has failed, and with 56 if memory ran out for the end of a
+/// checkpoint.
 pub fn serve_rounds<D: Disk + Drop + Send, R: Threads + Wait + Clock + Sync, O: Write>(
     rt: &R,
     alloc: Global,
@@ -191,10 +193,10 @@ pub fn serve_rounds<D: Disk + Drop + Send, R: Threads + Wait + Clock + Sync, O: 
 ) -> Result<Store<D>, Refusal>
     requires fresh { store.history ≡ [] }
     requires sessions { (0 < sessions) × (sessions ≤ 32) }
-    // Where it ends well no stream failed in any round, and the store has the history of the last one.
+    // On success no stream failed in any round, and the store has the history of the last one.
     ensures served { IfOk result (λ store. HasServed hooks.now runners.now sessions rounds (O.contents out.old) (O.contents out.new) store.history) }
 {
-    let first = visits(alloc, hooks, runners, sessions)?;
+    let first = connections(alloc, hooks, runners, sessions)?;
     let store = brought_up(alloc, store)?;
     tell_ready(out)?;
     let mut round = serve_round(rt, alloc, store, first, out)?;

@@ -1,4 +1,4 @@
-//! A service that goes on: what its seats share, and when its history turns over.
+//! A service without end: what its seats share, and when its history turns over.
 
 use crate::port::Port;
 use act_desk::Gate;
@@ -8,15 +8,17 @@ use std::sync::atomic::{AtomicBool, AtomicU64, Ordering};
 use std::time::{Clock, Duration};
 use webhook_sessions::Hooks;
 
-/// How many bytes clients send and are answered before a history turns over: 64 MiB. The history and its transcripts keep them.
-const MOST_BYTES: u64 = 67_108_864;
+/// The number of bytes that clients send and receive before a history turns over: 64 MiB. The history and its
+/// transcripts keep them.
+const MAX_BYTES: u64 = 67_108_864;
 
-/// When a history turns over, and when a client is let go.
+/// When a history turns over, and when a client is closed.
 #[derive(Clone, Copy)]
 pub struct Limits {
-    /// After how many commands a history turns over; after 64 MiB that clients have sent or were answered it does too.
+    /// The number of commands after which a history turns over. It also turns over after 64 MiB that clients have sent
+    /// or received.
     pub commands: u64,
-    /// For how long a client may say nothing.
+    /// How long a client may stay silent.
     pub idle: Duration,
 }
 
@@ -27,17 +29,17 @@ pub(crate) struct Service<'a, R: Wait + Clock> {
     pub(crate) hooks: &'a Port<'a, Hooks>,
     pub(crate) runners: &'a Port<'a, RunnerLines>,
     pub(crate) limits: Limits,
-    /// How many commands were asked in this history.
+    /// The number of commands asked in this history.
     commands: AtomicU64,
-    /// How many bytes were read, or were to be written, in this history.
+    /// The number of bytes that were read, or were to be written, in this history.
     bytes: AtomicU64,
-    /// Each port has had a seat.
+    /// Whether each port has had a seat.
     seated: AtomicBool,
-    /// A port has no seat in this history: no thread could be started for one.
+    /// Whether a port has no seat in this history: no thread could be started for one.
     unseated: AtomicBool,
-    /// A port can't go on.
+    /// Whether a port has failed.
     broken: AtomicBool,
-    /// The service has ended.
+    /// Whether the service has ended.
     ended: AtomicBool,
 }
 
@@ -62,7 +64,7 @@ impl<'a, R: Wait + Clock> Service<'a, R> {
         }
     }
 
-    /// A history begins. Where a port can't go on it turns over at once.
+    /// Begins a history. It turns over at once if a port has failed.
     pub(crate) fn open(&self) {
         self.commands.store(0, Ordering::SeqCst);
         self.bytes.store(0, Ordering::SeqCst);
@@ -74,21 +76,22 @@ impl<'a, R: Wait + Clock> Service<'a, R> {
         }
     }
 
-    /// The history is to turn over: each seat ends at the next boundary of its client's session.
+    /// Makes the history turn over: each seat ends at the next boundary of its client's session.
     pub(crate) fn close(&self) {
         self.hooks.close(self.rt);
         self.runners.close(self.rt);
     }
 
-    /// So many bytes were read, or were to be written.
+    /// Counts bytes that were read, or were to be written.
     pub(crate) fn moves(&self, count: u64) {
         let before = self.bytes.fetch_add(count, Ordering::SeqCst);
-        if before.saturating_add(count) >= MOST_BYTES {
+        if before.saturating_add(count) >= MAX_BYTES {
             self.close();
         }
     }
 
-    /// Whether clients are accepted: once each port has had a seat. So none is where there is no thread for one.
+    /// Whether clients are accepted: only once each port has had a seat. So no client is accepted if no thread could be
+    /// started for one.
     pub(crate) fn takes_clients(&self) -> bool {
         let seated = self.seated.load(Ordering::SeqCst);
         if !seated && self.hooks.has_seats(self.rt) && self.runners.has_seats(self.rt) {
@@ -98,7 +101,7 @@ impl<'a, R: Wait + Clock> Service<'a, R> {
         seated
     }
 
-    /// A port has no seat: the history turns over, since there may be a thread for one in the next.
+    /// Records that a port has no seat. The history turns over, since the next one may get a thread.
     pub(crate) fn lacks_seats(&self) {
         self.unseated.store(true, Ordering::SeqCst);
         self.close();
@@ -108,7 +111,7 @@ impl<'a, R: Wait + Clock> Service<'a, R> {
         self.unseated.load(Ordering::SeqCst)
     }
 
-    /// A port can't go on: the service ends with this history.
+    /// Records that a port has failed. The service ends with this history.
     pub(crate) fn breaks(&self) {
         self.broken.store(true, Ordering::SeqCst);
         self.close();
@@ -118,7 +121,7 @@ impl<'a, R: Wait + Clock> Service<'a, R> {
         self.broken.load(Ordering::SeqCst)
     }
 
-    /// Nobody is watched for any more.
+    /// Ends the watching of the ports.
     pub(crate) fn end(&self) {
         self.ended.store(true, Ordering::SeqCst);
     }

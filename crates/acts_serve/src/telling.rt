@@ -1,4 +1,4 @@
-//! What a service tells of itself on its output.
+//! What a service reports on its output.
 
 ghost use Rattle.std.specs.Prelude.{◌≡◌, OnOk, IfErr};
 ghost use Rattle.std.specs.Io.KnownBytes.{Appends};
@@ -9,26 +9,26 @@ use itoa::Buffer;
 use std::io::Write;
 use wf_value::{Code, Refusal};
 
-/// Writes a text to where the service tells how it is, and sends it on. A failure is 61.
+/// Writes a text to the service's output and flushes it. A failure is 61.
 fn tell<O: Write>(out: &mut O, text: &[u8]) -> Result<(), Refusal>
-    ensures told { OnOk result (Appends (O.contents out.old) (O.contents out.new) text.now) }
+    ensures announced { OnOk result (Appends (O.contents out.old) (O.contents out.new) text.now) }
     ensures err { IfErr result (λ e. e ≡ Refusal.Numbered Code.StreamFailed) }
 {
     write_whole(out, text)?;
     flush(out)
 }
 
-/// Tells that both ports take clients.
+/// Reports that both ports accept clients.
 pub(crate) fn tell_ready<O: Write>(out: &mut O) -> Result<(), Refusal>
-    ensures told { OnOk result (Appends (O.contents out.old) (O.contents out.new) ready_line) }
+    ensures announced { OnOk result (Appends (O.contents out.old) (O.contents out.new) ready_line) }
     ensures err { IfErr result (λ e. e ≡ Refusal.Numbered Code.StreamFailed) }
 {
     tell(out, b"ready\n")
 }
 
-/// Tells how many entries a settled history has. It takes no memory.
+/// Reports the number of entries of a reconciled history. It takes no memory.
 pub(crate) fn tell_settled<O: Write>(entries: u64, out: &mut O) -> Result<(), Refusal>
-    ensures told { OnOk result (Appends (O.contents out.old) (O.contents out.new) (settled_line entries)) }
+    ensures announced { OnOk result (Appends (O.contents out.old) (O.contents out.new) (settled_line entries)) }
     ensures err { IfErr result (λ e. e ≡ Refusal.Numbered Code.StreamFailed) }
 {
     let mut digits = Buffer::new();

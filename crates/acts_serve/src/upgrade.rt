@@ -1,4 +1,4 @@
-//! A store that an earlier program wrote is brought up to the present layout before it is served.
+//! Upgrades a store that an earlier program wrote to the current layout before it is served.
 
 ghost use Rattle.std.specs.Prelude.{◌≡◌, [], IfOk, OnOk};
 ghost use Rattle.act_store.specs.declared.layout.Layout.TheVariants as layouts;
@@ -8,7 +8,7 @@ use act_store::{Layout, Store};
 use std::alloc::Global;
 use wf_value::{Code, Refusal};
 
-/// Makes a checkpoint from its begin to its end, which leaves the second layout. What refuses a call of it ends it.
+/// Makes a whole checkpoint, which leaves the store in the second layout. The first refusal ends it.
 fn make_checkpoint<D: Disk>(alloc: Global, store: &mut Store<D>) -> Result<(), Refusal>
     ensures history { (store.new.history ≡ store.old.history) × (store.new.base ≡ store.old.base) }
     ensures layout { OnOk result (store.new.layout ≡ layouts.Second) }
@@ -21,9 +21,9 @@ fn make_checkpoint<D: Disk>(alloc: Global, store: &mut Store<D>) -> Result<(), R
     Ok(())
 }
 
-/// Makes one checkpoint of a store that stands in the first layout, so that it stands in the second. Where a checkpoint has no room in an
-/// area, which is 47, or no generation is left for one, which is 48, the store stays in the first layout, in which it takes every
-/// command but that for an attempt. What else refuses the checkpoint is handed on.
+/// Upgrades a store in the first layout to the second, by one checkpoint. If a checkpoint has no room in an area (47)
+/// or no generation is left for one (48), the store stays in the first layout. There it accepts every command except
+/// the one that asks for an attempt. Any other refusal of the checkpoint is returned.
 pub(crate) fn brought_up<D: Disk + Drop>(
     alloc: Global,
     store: Store<D>,

@@ -1,4 +1,4 @@
-//! One thread watches the ports: who connects, who says something, and who has said nothing for too long.
+//! The thread that watches the ports: for connections, for input, and for clients that have been silent for too long.
 
 use crate::port::{Port, client_of};
 use crate::service::Service;
@@ -12,25 +12,27 @@ use std::net::{TcpListener, TcpStream};
 use std::sync::Wait;
 use std::time::{Clock, Duration, Instant};
 
-/// How long it waits for something to come, at most, and how often it looks for those that say nothing, in milliseconds.
+/// How long it waits at most for an event, and how often it checks for silent clients, in milliseconds.
 const WAIT: u64 = 250;
 
-/// How long it waits before each port has had a seat, in milliseconds.
+/// How long it waits until each port has had a seat, in milliseconds.
 const SHORT_WAIT: u64 = 10;
 
-/// The errors of the system's `accept` that stay: the listener is none any more.
+/// The permanent errors of the system's `accept`: the listener cannot be used.
 const EBADF: i32 = 9;
 
 const EINVAL: i32 = 22;
 
 const ENOTSOCK: i32 = 88;
 
-/// Whether a listener can't go on. Else it is tried again: a client has gone, or the system has no more descriptors or memory for now.
+/// Whether a listener cannot be used any more. After any other error it is tried again: a client has gone, or the
+/// system is out of descriptors or memory for the moment.
 fn is_over(e: &io::Error) -> bool {
     matches!(e.raw_os_error(), Some(EBADF | EINVAL | ENOTSOCK))
 }
 
-/// A stream that has come to a listener. None: nobody waits there, or the system has no room for one more now.
+/// A stream that has come to a listener, or `None` if no connection waits or the system has no room for one more at the
+/// moment.
 fn accepted(listener: &TcpListener) -> io::Result<Option<TcpStream>> {
     match listener.accept() {
         Ok((stream, _)) => Ok(Some(stream)),
@@ -39,7 +41,7 @@ fn accepted(listener: &TcpListener) -> io::Result<Option<TcpStream>> {
     }
 }
 
-/// Accepts who has come to a port, while it has places. Others wait in the system's queue.
+/// Accepts the connections that have come to a port while it has free slots. Others wait in the system's queue.
 pub(crate) fn accept_all<P: Protocol, R: Wait + Clock>(
     rt: &R,
     alloc: Global,
@@ -61,7 +63,8 @@ pub(crate) fn accept_all<P: Protocol, R: Wait + Clock>(
     Ok(())
 }
 
-/// A client has said something, or somebody has come, who is accepted in any case.
+/// Queues the client that has sent something. An event of a listener needs nothing, since connections are accepted in
+/// any case.
 fn hear<R: Wait + Clock>(service: &Service<'_, R>, event: &Event) {
     match client_of(event.token()) {
         Some((0, place)) => service.hooks.has_spoken(service.rt, place),
@@ -70,7 +73,7 @@ fn hear<R: Wait + Clock>(service: &Service<'_, R>, event: &Event) {
     }
 }
 
-/// Waits for what comes, and takes it.
+/// Waits for events and handles them.
 fn look<R: Wait + Clock>(
     service: &Service<'_, R>,
     alloc: Global,
@@ -96,7 +99,7 @@ fn look<R: Wait + Clock>(
     accept_all(service.rt, alloc, service.runners)
 }
 
-/// Lets those go that say nothing, and looks whether each port has a seat.
+/// Closes silent clients, and checks whether each port has a seat.
 fn sweep<R: Wait + Clock>(service: &Service<'_, R>) {
     let rt = service.rt;
     service.hooks.sweep(rt, service.limits.idle);
@@ -106,7 +109,7 @@ fn sweep<R: Wait + Clock>(service: &Service<'_, R>) {
     }
 }
 
-/// Whether it is time to sweep again. Where no clock can be read it is.
+/// Whether it is time to sweep again. It is if the clock cannot be read.
 fn is_due(clock: &impl Clock, swept: Option<Instant>) -> bool {
     match swept.map(|swept| swept.elapsed(clock)) {
         Some(Ok(time)) => time >= Duration::from_millis(WAIT),
@@ -114,7 +117,7 @@ fn is_due(clock: &impl Clock, swept: Option<Instant>) -> bool {
     }
 }
 
-/// Watches the ports until the service ends. Where one of them can't go on, so does the service not.
+/// Watches the ports until the service ends. If one of them fails, the service ends too.
 pub(crate) fn watch<R: Wait + Clock>(
     service: &Service<'_, R>,
     alloc: Global,

@@ -4,8 +4,8 @@ ghost use Rattle.std.specs.Io.KnownBytes.{Consumes, IsAtEnd, Keeps};
 use std::io::{ErrorKind, Read};
 use wf_value::{Code, Refusal};
 
-/// One read, tried again where a signal interrupts it. It gives no byte only at the end of the input, or where there is no room. A failed
-/// read is 61.
+/// Reads once, and retries after an interruption by a signal. It returns 0 only at the end of the input or for an empty buffer. A failed
+/// read is refusal 61.
 pub fn read_some<R: Read>(reader: &mut R, buffer: &mut [u8]) -> Result<usize, Refusal>
     ensures bound { IfOk result (λ n. n ≤ length buffer.new) }
     ensures bytes { IfOk result (λ n. Consumes (R.remaining reader.old) (R.remaining reader.new) (take n buffer.new)) }

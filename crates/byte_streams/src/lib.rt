@@ -1,4 +1,4 @@
-//! Reads and writes of streams of bytes, each tried again where a signal interrupts it. One that fails is refused 61.
+//! Reads and writes of byte streams. Each call is retried after an interruption by a signal. A failed call is refusal 61.
 #![tactic(auto)]
 
 mod input;

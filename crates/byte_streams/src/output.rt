@@ -4,7 +4,7 @@ ghost use Rattle.std.specs.Io.KnownBytes.{Appends, Keeps};
 use std::io::{ErrorKind, Write};
 use wf_value::{Code, Refusal};
 
-/// One write, tried again where a signal interrupts it. A failed write is 61.
+/// Writes once, and retries after an interruption by a signal. A failed write is refusal 61.
 fn write_some<W: Write>(writer: &mut W, bytes: &[u8]) -> Result<usize, Refusal>
     ensures bound { IfOk result (λ n. n ≤ length bytes.now) }
     ensures bytes { IfOk result (λ n. Appends (W.contents writer.old) (W.contents writer.new) (take n bytes.now)) }
@@ -21,7 +21,7 @@ fn write_some<W: Write>(writer: &mut W, bytes: &[u8]) -> Result<usize, Refusal>
     Err(Refusal::Numbered(Code::StreamFailed))
 }
 
-/// Writes the bytes, from the front, until a write fails or takes none. Answers how many were written.
+/// Writes the bytes in order until a write fails or accepts no byte. Returns how many were written.
 pub fn write_front<W: Write>(writer: &mut W, bytes: &[u8]) -> usize
     ensures bound { result ≤ length bytes.now }
     ensures front { Appends (W.contents writer.old) (W.contents writer.new) (take result bytes.now) }
@@ -36,7 +36,7 @@ pub fn write_front<W: Write>(writer: &mut W, bytes: &[u8]) -> usize
     written
 }
 
-/// Writes all the bytes. After a failed write, which is 61, some of them have been written from the front.
+/// Writes all the bytes. A failed write is refusal 61; a prefix of the bytes has then been written.
 pub fn write_whole<W: Write>(writer: &mut W, bytes: &[u8]) -> Result<(), Refusal>
     ensures all { OnOk result (Appends (W.contents writer.old) (W.contents writer.new) bytes.now) }
     ensures front { (n : ℕ) × Appends (W.contents writer.old) (W.contents writer.new) (take n bytes.now) }
@@ -49,7 +49,7 @@ pub fn write_whole<W: Write>(writer: &mut W, bytes: &[u8]) -> Result<(), Refusal
     }
 }
 
-/// Sends on what the writer holds back. A failure is 61.
+/// Flushes the writer. A failure is refusal 61.
 pub fn flush<W: Write>(writer: &mut W) -> Result<(), Refusal>
     ensures kept { Keeps (W.contents writer.old) (W.contents writer.new) }
     ensures err { IfErr result (λ e. e ≡ Refusal.Numbered Code.StreamFailed) }

@@ -1,5 +1,5 @@
--- Commands from the fields that follow their word in a line (own), in the order and the forms of docs/FORMATS.md. Other fields are refused 75,
--- and a body that can't be admitted with its first fault.
+-- Commands from the fields that follow the command word of a line, in the order and the forms of docs/FORMATS.md. Other fields are
+-- refused with 75, and a body with faults is refused with its first fault. This is defined by this project.
 use Rattle.std.specs.Prelude.{ℕ, List, codes, Option, Some, None, option_map, option_and_then, Result, Ok, Err, if◌then◌else◌}
 use Rattle.std.specs.Option.{option_map_or}
 use Rattle.std.specs.Str.{bytes_eq}
@@ -16,7 +16,7 @@ use Rattle.run_plan.specs.declared.command.Command.{Command}
 use Rattle.run_plan.specs.declared.command.Command.TheVariants as command
 use Rattle.command_lines.specs.Fields.{at_space, three_fields}
 
--- what follows from a value, or the refusal
+-- maps the value of a result
 abbrev pub onward : {X Y : Type 0} → (X → Y) → Result X Refusal → Result Y Refusal
 onward f (Ok x) = Ok (f x)
 onward f (Err e) = Err e
@@ -24,7 +24,7 @@ onward f (Err e) = Err e
 abbrev pub not_a_line : Refusal
 not_a_line = Numbered code.Line
 
--- `admit DELIVERY EVENT BODY`: the body is all that follows the third space, and may be empty
+-- `admit DELIVERY EVENT BODY`: the body is everything after the third space, and may be empty
 abbrev pub prepared : Admitted → Result Command Refusal
 prepared event = onward (λ p. command.Admit p) (unless_faulty (faults_of event.body) event)
 

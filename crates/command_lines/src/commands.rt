@@ -12,7 +12,7 @@ use run_plan::{
 use std::alloc::Global;
 use wf_value::{Code, Outcome, Refusal};
 
-/// What a part of a line spells, or 75 where it spells nothing.
+/// The value of a parsed part of a line, or 75 if the part does not parse.
 pub fn spelled<T: Drop>(part: Option<T>) -> Result<T, Refusal>
     ensures something { IfOk result (λ value. part ≡ Some value) }
     ensures nothing { IfErr result (λ e. (part ≡ None) × (e ≡ not_a_line)) }
@@ -20,21 +20,22 @@ pub fn spelled<T: Drop>(part: Option<T>) -> Result<T, Refusal>
     part.ok_or(Refusal::Numbered(Code::Line))
 }
 
-/// The small text that a field is.
+/// Parses a field as a small text; 75 if it is not of the form.
 fn small_text<F: Form>(alloc: Global, field: &[u8]) -> Result<SmallText<F>, Refusal>
     ensures { Gives (λ t. t) result (ok_or (short_text_of F.allows field.now) not_a_line) }
 {
     spelled(SmallText::of(alloc, field)?)
 }
 
-/// The labels that a field is.
+/// Parses a field as labels; 75 if it is not a list of labels.
 fn labels(alloc: Global, field: &[u8]) -> Result<Labels, Refusal>
     ensures { Gives (λ l. l) result (ok_or (label_list_of field.now) not_a_line) }
 {
     spelled(Labels::of(alloc, field)?)
 }
 
-/// `DELIVERY EVENT BODY`: the body is all that follows the second space. One with a fault is refused with the first one's number: 10 to 26.
+/// Parses `DELIVERY EVENT BODY`. The body is everything after the second space. A body with a fault is refused with its first
+/// fault, 10 to 26.
 pub fn admit_of(alloc: Global, fields: &[u8]) -> Result<Command, Refusal>
     ensures { Gives (λ c. c) result (admit_of fields.now) }
 {
@@ -57,7 +58,7 @@ fn prepared(
     Ok(Command::Admit(prepare(alloc, event, delivery, body)?))
 }
 
-/// `RUNNER NUMBER LABELS`.
+/// Parses `RUNNER NUMBER LABELS`.
 pub fn claim_of(alloc: Global, fields: &[u8]) -> Result<Command, Refusal>
     ensures { Gives (λ c. c) result (ok_or (claim_of fields.now) not_a_line) }
 {
@@ -86,7 +87,7 @@ fn outcome_of(text: &[u8]) -> Option<Outcome>
     }
 }
 
-/// `RUNNER NUMBER LEASE RESULT`.
+/// Parses `RUNNER NUMBER LEASE RESULT`.
 pub fn done_of(alloc: Global, fields: &[u8]) -> Result<Command, Refusal>
     ensures { Gives (λ c. c) result (ok_or (done_of fields.now) not_a_line) }
 {
@@ -104,7 +105,7 @@ pub fn done_of(alloc: Global, fields: &[u8]) -> Result<Command, Refusal>
     }))
 }
 
-/// `RUNNER LEASE`.
+/// Parses `RUNNER LEASE`.
 pub fn beat_of(alloc: Global, fields: &[u8]) -> Result<Command, Refusal>
     ensures { Gives (λ c. c) result (ok_or (beat_of fields.now) not_a_line) }
 {
@@ -114,35 +115,35 @@ pub fn beat_of(alloc: Global, fields: &[u8]) -> Result<Command, Refusal>
     Ok(Command::Beat(Beat { runner, lease }))
 }
 
-/// `RUN`.
+/// Parses `RUN`.
 pub fn cancel_of(field: &[u8]) -> Result<Command, Refusal>
     ensures { result ≡ ok_or (cancel_of field.now) not_a_line }
 {
     Ok(Command::Cancel(spelled(Number::of(field))?))
 }
 
-/// `RUNNER`.
+/// Parses `RUNNER`.
 pub fn lost_of(alloc: Global, field: &[u8]) -> Result<Command, Refusal>
     ensures { Gives (λ c. c) result (ok_or (lost_of field.now) not_a_line) }
 {
     Ok(Command::Lost(small_text(alloc, field)?))
 }
 
-/// `RUN`.
+/// Parses `RUN`.
 pub fn look_of(field: &[u8]) -> Result<Command, Refusal>
     ensures { result ≡ ok_or (look_of field.now) not_a_line }
 {
     Ok(Command::Look(spelled(Number::of(field))?))
 }
 
-/// `RUN`.
+/// Parses `RUN`.
 pub fn fetch_of(field: &[u8]) -> Result<Command, Refusal>
     ensures { result ≡ ok_or (fetch_of field.now) not_a_line }
 {
     Ok(Command::Fetch(spelled(Number::of(field))?))
 }
 
-/// `RUN ATTEMPT`.
+/// Parses `RUN ATTEMPT`.
 pub fn rerun_of(fields: &[u8]) -> Result<Command, Refusal>
     ensures { result ≡ ok_or (rerun_of fields.now) not_a_line }
 {

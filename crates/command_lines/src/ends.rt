@@ -1,7 +1,7 @@
 ghost use Rattle.std.specs.Prelude.{◌≡◌, ◌==◌, position};
 ghost use Rattle.std.specs.Str.Lines.{strip_carriage_return};
 
-/// A line without one carriage return at its end.
+/// The line without a single carriage return at its end.
 pub fn strip_carriage_return(line: &[u8]) -> &[u8]
     ensures { result.now ≡ strip_carriage_return line.now }
 {
@@ -11,7 +11,7 @@ pub fn strip_carriage_return(line: &[u8]) -> &[u8]
     }
 }
 
-/// Where the first line feed of a text stands.
+/// The index of the first line feed of a text.
 pub fn place_of_line_feed(text: &[u8]) -> Option<usize>
     ensures { result ≡ position (λ b. b == 10) text.now }
 {

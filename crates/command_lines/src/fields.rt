@@ -8,7 +8,7 @@ fn place_of_space(text: &[u8]) -> Option<usize>
     text.iter().position(|b| *b == b' ')
 }
 
-/// What stands before the first space of a text, and all that follows it.
+/// Splits a text at its first space, which is in neither part.
 pub fn at_space(text: &[u8]) -> Option<(&[u8], &[u8])>
     ensures { option_map (λ p. (p.0.now, p.1.now)) result ≡ at_space text.now }
 {
@@ -18,7 +18,7 @@ pub fn at_space(text: &[u8]) -> Option<(&[u8], &[u8])>
     }
 }
 
-/// Two fields, and all that follows the space after them.
+/// Splits a text at its first two spaces. The third field is everything after the second one.
 pub fn three_fields(text: &[u8]) -> Option<(&[u8], &[u8], &[u8])>
     ensures { option_map (λ f. (f.0.now, f.1.now, f.2.now)) result ≡ three_fields text.now }
 {

@@ -1,5 +1,5 @@
-//! What the lines of scripts and of runners have in common: their fields, parted by one space, the commands that the fields of a line
-//! ask for, and where a line ends.
+//! What the lines of scripts and of runners have in common: fields separated by single spaces, the commands of these fields, and
+//! line ends.
 #![tactic(auto)]
 
 mod commands;

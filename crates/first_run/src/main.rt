@@ -1,5 +1,5 @@
-//! The first run of a new machine: plays the script on standard input, as `acts play` does, without the command line's library,
-//! whose trial takes as long as half of the rest.
+//! The first run on a new machine. It plays the script on standard input, as `acts play` does, without the command
+//! line's library, which would add half to the time of a trial run.
 #![tactic(auto)]
 
 use act_disk::MemoryDisk;

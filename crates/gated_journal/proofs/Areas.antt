@@ -1,4 +1,4 @@
--- What an append makes of what an area of a disk reads as.
+-- The effect of an append on what an area of a disk reads as.
 use Rattle.std.proofs.Common.{inl, inr, ⊎_elim, ℕ, ◌+◌, ◌≤◌, List, [], ◌∷◌, ◌++◌, length, sym, subst, arith}
 use Rattle.act_disk.specs.Images.{Holds, From}
 use Rattle.gated_journal.specs.Appends.{record_of, Appends, IsWhole}

@@ -1,4 +1,4 @@
--- Which area stands, from the gates and the generations.
+-- Which area is active, from the gates and the generations.
 use Rattle.std.proofs.Common.{◌≡◌, ℕ, ◌<◌, ◌^◌, List, [], ◌∷◌, ◌++◌, length, take, drop, refl, ◌∙◌, ap, arith}
 use Rattle.std.proofs.Common.{append_assoc, Some, None, if◌then◌else◌}
 use Rattle.std.proofs.lemmas.Bool.{ne_eqb, lt-ltb, le-ltb}
@@ -12,7 +12,7 @@ use Rattle.gated_journal.specs.declared.side.Side.{Side}
 use Rattle.gated_journal.specs.declared.side.Side.TheVariants.{First, Second}
 use Rattle.gated_journal.proofs.OneReading.{apart}
 
--- the generation of an area that reads so
+-- the generation of an area that reads as this head and these bodies
 opened_generation : (head : Head) (bodies : List (List ℕ)) (rest : List ℕ) → head.generation < 2 ^ 64
     → open_generation (opened head bodies ++ rest) ≡ Some head.generation
 opened_generation head bodies rest fits =
@@ -36,13 +36,13 @@ closed_none (gate ∷ behind) closed =
     ap (λ b. if b then Some (from_be_bytes w64 (take 8 (drop 1 behind))) else None) (ne_eqb gate 0xA5 closed)
 
 module _ (len : ℕ) where
-  -- the only one with an open gate
+  -- the only area with an open gate
   pub alone : (side : Side) (disk : List ℕ) (n : ℕ) → open_generation (area_on len side disk) ≡ Some n
       → open_generation (area_on len (other side) disk) ≡ None → standing len disk ≡ Some side
   alone First disk n one none = ap (λ f. newer f (open_generation (area_on len Second disk))) one ∙ ap (λ f. newer (Some n) f) none
   alone Second disk n one none = ap (λ f. newer f (open_generation (area_on len Second disk))) none ∙ ap (λ f. newer None f) one
 
-  -- the generations tell which one stands
+  -- the generations alone decide which area is active
   pub same_standing : (side : Side) (old new : List ℕ)
       → open_generation (area_on len side new) ≡ open_generation (area_on len side old)
       → open_generation (area_on len (other side) new) ≡ open_generation (area_on len (other side) old)
@@ -52,7 +52,7 @@ module _ (len : ℕ) where
   same_standing Second old new one two =
       ap (λ f. newer f (open_generation (area_on len Second new))) two ∙ ap (λ f. newer (open_generation (area_on len First old)) f) one
 
-  -- the greater one
+  -- the area with the greater generation
   pub greater : (side : Side) (disk : List ℕ) (m n : ℕ) → open_generation (area_on len side disk) ≡ Some m
       → open_generation (area_on len (other side) disk) ≡ Some n → m < n → standing len disk ≡ Some (other side)
   greater First disk m n one two less =

@@ -1,4 +1,4 @@
--- What an area reads as doesn't depend on what stands behind its first closed gate.
+-- The bytes after the first closed gate do not affect what an area reads as.
 use Rattle.std.proofs.Common.{◌≡◌, ℕ, ◌+◌, List, [], ◌∷◌, ◌++◌, length, take, drop, sym, ◌∙◌, ap, append_assoc}
 use Rattle.std.proofs.Common.{length-append, take-append-drop}
 use Rattle.std.proofs.lemmas.List.{take_at}

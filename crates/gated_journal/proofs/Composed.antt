@@ -1,12 +1,12 @@
--- Each image of an append comes from one image before it.
+-- Each image of an append comes from one earlier image.
 use Rattle.std.proofs.Common.{inl, inr, ℕ, ◌+◌, min, List, length, ◌∙◌, subst, arith}
 use Rattle.std.specs.Prelude.{Result, Ok, Err, OnOk}
 use Rattle.act_disk.specs.Images.{Torn, IsWritten, From, Only, EachSince}
-use Rattle.act_disk.specs.Kept.{front_kept, rest_kept, range_kept}
-use Rattle.act_disk.specs.Moments.{weakened, joined}
+use Rattle.act_disk.proofs.Kept.{front_kept, rest_kept, range_kept}
+use Rattle.act_disk.proofs.Moments.{weakened, joined}
 use Rattle.gated_journal.specs.Appends.{Appends, IsWhole}
 
--- the gate's write, over an image in which the record was written
+-- the write of the gate, on an image that already has the record
 pub composed : (gate : ℕ) (bytes old mid new : List ℕ) → IsWritten (gate + 1) bytes old mid → Torn gate 1 mid new
     → IsWhole gate bytes old new
 composed gate bytes old mid new written torn =
@@ -25,7 +25,7 @@ composed gate bytes old mid new written torn =
       held = range_kept gate 1 mid new torn (gate + 1) n (omega (arith, written.len)) (inr (omega arith)) ∙ written.held;
     }
 
--- what is said of a result's Ok, said weaker
+-- weakens a statement about `Ok`
 pub on_ok : {T E : Type 0} (r : Result T E) {P Q : Type 0} → OnOk r P → (P → Q) → OnOk r Q
 on_ok (Ok x) p weaker = weaker p
 on_ok (Err e) p weaker = _
@@ -40,14 +40,14 @@ three_ok (Err e) p q t weaker = _
 
 module _ {D : Type 0} (moment : D → ℕ) (images_since : D → ℕ → List ℕ → Type 0)
     (images : D → List ℕ → Type 0) (gate : ℕ) (bytes : List ℕ) where
-  -- after the record's write and its sync
+  -- after the write of the record and its sync
   pub written_behind : (old new : D) → EachSince moment images_since old new (From (Torn (gate + 1) (length bytes)) (images old))
       → EachSince moment images_since old new (From (Appends gate bytes) (images old))
   written_behind old new first =
       weakened moment images_since old new (From (Torn (gate + 1) (length bytes)) (images old)) (From (Appends gate bytes) (images old))
       first (λ c p. (p.0, p.1, inl p.2))
 
-  -- and after the gate's
+  -- after the write of the gate and its sync
   pub opened_behind : (old mid new : D) (seen_old seen_mid : List ℕ)
       → EachSince moment images_since old mid (From (Torn (gate + 1) (length bytes)) (images old))
       → EachSince moment images_since mid new (From (Torn gate 1) (images mid))

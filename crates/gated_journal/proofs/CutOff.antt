@@ -1,4 +1,4 @@
--- An area that is cut off reads as nothing, and one that reads as nothing is cut off.
+-- An area reads as nothing exactly if it is cut off.
 use Rattle.std.proofs.Common.{◌≡◌, ⊎_elim, ℕ, ◌+◌, ◌<◌, List, ◌∷◌, ◌++◌, length, take, drop, refl, sym, ◌∙◌, ap, subst}
 use Rattle.std.proofs.Common.{arith, append_assoc, length-append}
 use Rattle.std.specs.Int.{from_be_bytes, to_be_bytes, w64}
@@ -6,7 +6,7 @@ use Rattle.std.proofs.lemmas.List.{drop-drop, length-drop, take_at, drop_at}
 use Rattle.std.proofs.lemmas.Nat.{from_be_bytes-to_be_bytes_8}
 use Rattle.gated_journal.specs.Layout.{Head, head_bytes, framed, record_bytes, ReadsNothing}
 use Rattle.gated_journal.specs.Scanned.{Frames, OpensWith, HasHead, HasFront}
-use Rattle.gated_journal.specs.CutOff.{EndsInBody, EndsInHead, HasNoRecord, HasNoHead, EndsInRecords, IsCutOff, SpellsNothing}
+use Rattle.gated_journal.specs.CutOff.{EndsInBody, EndsInHead, HasNoRecord, HasNoHead, EndsInRecords, IsCutOff, EncodesNothing}
 use Rattle.gated_journal.proofs.OneReading.{apart}
 use Rattle.gated_journal.proofs.Parting.{rest_closed}
 use Rattle.gated_journal.proofs.Scanning.{framed_number, length-frame}
@@ -25,7 +25,7 @@ head_cut bytes behind past behind_is past_is few =
       ap (λ (l : List ℕ). from_be_bytes w64 (take 8 l)) same,
     )
 
--- behind an open gate
+-- a cut-off head after an open gate
 pub no_head : (area behind : List ℕ) → behind ≡ drop 1 area → EndsInHead behind → HasNoHead area
 no_head area behind is cut other split =
     subst EndsInHead (is ∙ ap (λ (l : List ℕ). drop 1 l) split) cut
@@ -34,7 +34,7 @@ pub no_record : (bytes behind : List ℕ) → behind ≡ drop 1 bytes → EndsIn
 no_record bytes behind is cut other split =
     subst EndsInBody (is ∙ ap (λ (l : List ℕ). drop 1 l) split) cut
 
--- a head, and behind it records that end so
+-- a head, followed by records that are cut off
 pub cut_off : (area : List ℕ) (head : Head) (behind : List ℕ) → HasFront area head behind → EndsInRecords behind → IsCutOff area
 cut_off area head behind front ends = record {
   head = head;
@@ -48,14 +48,14 @@ cut_off area head behind front ends = record {
   no_gate = ends.no_gate;
 }
 
--- no open record stands where the bytes end in one
+-- no open record begins where the bytes end inside one
 none_opens : (rest : List ℕ) → HasNoRecord rest → (body past : List ℕ) → OpensWith rest body past → ⊥
 none_opens rest none body past opens =
     let frame : Frames (framed body ++ past) body past = record { split = refl; short = opens.short } in
     let cut : EndsInBody (framed body ++ past) = none (framed body ++ past) opens.split in
     omega (arith, cut, framed_number (framed body ++ past) body past frame, length-frame (framed body ++ past) body past frame)
 
--- and no head where they end in one
+-- no head begins where the bytes end inside one
 no_head_there : (behind : List ℕ) (head : Head) (rest : List ℕ) → HasHead behind head rest → EndsInHead behind → ⊥
 no_head_there behind head rest has cut =
     let g = to_be_bytes w64 head.generation in
@@ -79,7 +79,7 @@ no_head_there behind head rest has cut =
       n_is,
     )
 
--- so an area that is cut off reads as nothing
+-- hence an area that is cut off reads as nothing
 nothing_headless : (area : List ℕ) → HasNoHead area → ReadsNothing area
 nothing_headless area none =
     nothing_without_front area (λ head rest front. no_head_there front.behind head rest front.headed (none front.behind front.split))
@@ -97,5 +97,5 @@ nothing_cut area cut =
     cut.no_gate (rest_closed left cut.rest end cut.bodies bodies (record { split = refl; short = cut.fits.each })
     (none_opens cut.rest cut.no_record) parts closed))
 
-pub nothing_read : (area : List ℕ) → SpellsNothing area → ReadsNothing area
+pub nothing_read : (area : List ℕ) → EncodesNothing area → ReadsNothing area
 nothing_read area = ⊎_elim (nothing_headless area) (nothing_cut area)

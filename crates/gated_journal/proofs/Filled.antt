@@ -1,22 +1,22 @@
--- What stands behind an area's gate once all of it is put.
+-- What follows an area's gate once all of it is written.
 use Rattle.std.proofs.Common.{◌≡◌, inl, ℕ, ◌+◌, ◌≤◌, List, [], ◌∷◌, ◌++◌, length, take, drop, sym, ◌∙◌, ap, subst, arith, append_assoc}
 use Rattle.std.proofs.Common.{take-append-drop, take-add, drop-drop, length-append}
 use Rattle.act_disk.specs.Images.{Holds, IsWritten}
-use Rattle.act_disk.specs.Kept.{range_kept}
+use Rattle.act_disk.proofs.Kept.{range_kept}
 use Rattle.gated_journal.specs.Layout.{Head, head_bytes, record_bytes, Fits, WouldRead}
 use Rattle.gated_journal.specs.TwoAreas.{start_of, other, area_on, behind_gate, Completes}
 use Rattle.gated_journal.specs.declared.side.Side.{Side}
 use Rattle.gated_journal.proofs.Frames.{part_held, length-part}
 use Rattle.gated_journal.proofs.TwoAreas.{within}
 
--- two texts, one behind the other
+-- two adjacent texts are one text
 holds_both : (file : List ℕ) (at : ℕ) (x y : List ℕ) → Holds file at x → Holds file (at + length x) y → Holds file at (x ++ y)
 holds_both file at x y first second =
     ap (λ (n : ℕ). take n (drop at file)) (length-append x y) ∙ take-add (length x) (length y) (drop at file)
     ∙ ap (λ (l : List ℕ). l ++ take (length y) (drop (length x) (drop at file))) first
     ∙ ap (λ (l : List ℕ). x ++ l) (ap (λ (l : List ℕ). take (length y) l) (drop-drop (length x) at file) ∙ second)
 
--- one more behind those that stand there
+-- one more text, written after those already there
 pub holds_more : (start at : ℕ) (front bytes old new : List ℕ) → at ≡ 1 + length front → start + at ≤ length old
     → Holds old (start + 1) front → IsWritten (start + at) bytes old new → Holds new (start + 1) (front ++ bytes)
 holds_more start at front bytes old new place long held written =

@@ -1,8 +1,8 @@
--- A write of a disk, seen from one of its areas.
+-- A write of a disk, as seen from one of its areas.
 use Rattle.std.proofs.Common.{◌≡◌, ◌⊎◌, inl, inr, ℕ, ◌+◌, ◌-◌, ◌≤◌, min, List, length, take, drop, sym, ◌∙◌, ap, subst, arith}
 use Rattle.std.proofs.lemmas.List.{take-take, drop-take, drop-drop, length-take, length-drop}
 use Rattle.act_disk.specs.Images.{Torn, Holds}
-use Rattle.act_disk.specs.Kept.{rest_kept, range_kept}
+use Rattle.act_disk.proofs.Kept.{rest_kept, range_kept}
 use Rattle.gated_journal.specs.Appends.{Appends, IsWhole}
 use Rattle.gated_journal.specs.Choice.{part}
 
@@ -18,11 +18,11 @@ module _ (start len : ℕ) where
       ∙ ap (λ (l : List ℕ). take (len - from) l) (drop-drop from start disk)
 
   module _ (d c : List ℕ) (within : start + len ≤ length d) where
-    -- a write beside the area
+    -- a write outside the area
     pub part_kept : (at n : ℕ) → Torn at n d c → (start + len ≤ at) ⊎ (at + n ≤ start) → part start len c ≡ part start len d
     part_kept at n torn beside = range_kept at n d c torn start len within beside
 
-    -- a write in the area
+    -- a write inside the area
     pub part_torn : (at n : ℕ) → at + n ≤ len → Torn (start + at) n d c → Torn at n (part start len d) (part start len c)
     part_torn at n inside torn =
         let long_d = length-part d within in

@@ -1,4 +1,4 @@
--- Which area stands, told by the front of each.
+-- Which area is active, from the first bytes of each.
 use Rattle.std.proofs.Common.{◌≡◌, inl, inr, ℕ, suc, ◌+◌, ◌-◌, ◌<◌, ◌≤◌, List, [], ◌∷◌, length, take, drop, sym, ◌∙◌, ap, subst, arith}
 use Rattle.std.proofs.Common.{Option, Some, None, if◌then◌else◌, eqb}
 use Rattle.std.proofs.lemmas.Bool.{cases_eq, eq-eqb, ne_eqb}
@@ -13,7 +13,7 @@ use Rattle.gated_journal.specs.declared.side.Side.TheVariants.{First, Second}
 use Rattle.gated_journal.proofs.Frames.{length-part}
 use Rattle.gated_journal.proofs.TwoAreas.{within}
 
--- the generation stands within the first ten bytes
+-- the generation lies within the first ten bytes
 front_generation : (n : ℕ) (area : List ℕ) → 10 ≤ n → open_generation (take n area) ≡ open_generation area
 front_generation n [] long = ap (λ (l : List ℕ). open_generation l) (take_all n [] (omega arith))
 front_generation n (gate ∷ behind) long =
@@ -29,7 +29,7 @@ pub same_generation : (start len : ℕ) (disk : List ℕ) → 10 ≤ len
 same_generation start len disk long =
     front_generation 10 (drop start disk) (omega arith) ∙ sym (front_generation len (drop start disk) long)
 
--- an area has a generation where its gate is open
+-- an area has a generation exactly if its gate is open
 gate_told : (area : List ℕ) → 0 < length area → IsGate (gate_of (open_generation area)) area
 gate_told [] some = absurd (omega (arith, some))
 gate_told (gate ∷ behind) some =

@@ -1,14 +1,14 @@
--- What a write of an area's own gate makes of what it reads as.
+-- The effect of a write of an area's own gate on what it reads as.
 use Rattle.std.proofs.Common.{◌≡◌, inl, inr, ℕ, ◌+◌, ◌<◌, ◌≤◌, List, [], ◌∷◌, length, take, drop, sym, ◌∙◌, ap, subst, arith}
 use Rattle.std.proofs.lemmas.Bool.{cases_eq}
 use Rattle.act_disk.specs.Images.{Torn, Holds, From, EachSince}
-use Rattle.act_disk.specs.Moments.{weakened}
+use Rattle.act_disk.proofs.Moments.{weakened}
 use Rattle.gated_journal.specs.Choice.{part}
 use Rattle.gated_journal.specs.Layout.{Head, IsClosed, Reads, WouldRead}
 use Rattle.gated_journal.specs.OnDisk.{ReadsAt, WouldReadAt, ShutAt, OpenOrShut}
 use Rattle.gated_journal.proofs.Frames.{length-part, part_torn, part_held}
 
--- a write of the gate leaves what stands behind it
+-- a write of the gate leaves the bytes after it
 pub gate_torn : (a b : List ℕ) → 0 < length a → Torn 0 1 a b → (gate : ℕ) × (b ≡ gate ∷ drop 1 a)
 gate_torn a [] some torn = absurd (omega (arith, some, torn.no_shorter))
 gate_torn a (gate ∷ b) some torn = (gate, ap (λ (l : List ℕ). gate ∷ l) torn.after)

@@ -1,11 +1,11 @@
--- What an append makes of what an area reads as.
+-- The effect of an append on what an area reads as.
 use Rattle.std.proofs.Common.{◌≡◌, ◌⊎◌, inl, inr, ℕ, ◌+◌, ◌<◌, ◌≤◌, ◌^◌, List, [], ◌∷◌, ◌++◌, length, get_or, take, drop, refl, sym, ◌∙◌}
 use Rattle.std.proofs.Common.{ap, arith, append_assoc, length-append, take-append-drop}
 use Rattle.std.specs.List.{AllByRecursion}
 use Rattle.std.proofs.lemmas.List.{take_at, drop_more, append-nil}
 use Rattle.std.proofs.lemmas.Bool.{cases_eq}
 use Rattle.act_disk.specs.Images.{Torn, Holds}
-use Rattle.act_disk.specs.Kept.{front_kept}
+use Rattle.act_disk.proofs.Kept.{front_kept}
 use Rattle.gated_journal.specs.Appends.{record_of, IsWhole, Appends}
 use Rattle.gated_journal.specs.Layout.{Head, head_bytes, framed, record_bytes, opened, IsClosed, Reads}
 use Rattle.gated_journal.proofs.ClosedGate.{same_reading}
@@ -29,7 +29,7 @@ pub all_short-push : (bodies : List (List ℕ)) (body : List ℕ) → AllByRecur
 all_short-push [] body all short = (short, _)
 all_short-push (b ∷ bodies) body all short = (all.0, all_short-push bodies body all.1 short)
 
--- there is a byte for the first closed gate
+-- the first closed gate lies within the area
 gate_within : (front rest : List ℕ) → IsClosed rest → length front + 1 ≤ length (front ++ rest)
 gate_within front [] closed = absurd closed
 gate_within front (gate ∷ rest) closed = omega (arith, length-append front (gate ∷ rest))
@@ -41,7 +41,7 @@ module _ (head : Head) (bodies : List (List ℕ)) (d c : List ℕ) (reads : Read
   used_within : used + 1 ≤ length d
   used_within = omega (arith, ap (λ (l : List ℕ). length l) reads.split, gate_within (opened head bodies) reads.rest reads.closed)
 
-  -- a write behind the first closed gate
+  -- a write after the first closed gate
   pub behind_reads : (at n : ℕ) → used + 1 ≤ at → Torn at n d c → Reads c head bodies
   behind_reads at n past torn = same_reading d c head bodies reads (front_kept at n d c torn (used + 1) used_within past)
 
@@ -71,7 +71,7 @@ module _ (head : Head) (bodies : List (List ℕ)) (d c : List ℕ) (reads : Read
         sym (take-append-drop used c) ∙ ap (λ (l : List ℕ). l ++ drop used c) front
         ∙ ap (λ (l : List ℕ). opened head bodies ++ l) (gated ∙ ap (λ (l : List ℕ). gate_of ∷ l) tail)
 
-    -- with its gate open the record is there
+    -- once the gate is open, the record is present
     pub one_more : gate_of ≡ 0xA5 → Reads c head (bodies ++ body ∷ [])
     one_more is = record {
       rest = 0 ∷ past;

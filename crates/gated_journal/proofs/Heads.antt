@@ -1,4 +1,4 @@
--- What the head of an area is read as is what stands there.
+-- The head that is read from an area is the one encoded there.
 use Rattle.std.proofs.Common.{◌≡◌, ℕ, suc, ◌+◌, ◌<◌, ◌≤◌, ◌^◌, List, [], ◌∷◌, ◌++◌, length, take, drop, refl, sym, ◌∙◌, ap, subst}
 use Rattle.std.proofs.Common.{arith, length-append, take-append-drop}
 use Rattle.std.specs.Prelude.{slice_index_or}
@@ -10,7 +10,7 @@ use Rattle.gated_journal.specs.Scanned.{HasNumber, HasText, HasHead, HasFront}
 use Rattle.gated_journal.proofs.OneReading.{same_head, apart}
 use Rattle.wf_value.proofs.Bytes.{AreBytes, AreBytes-take}
 
--- eight bytes spell the number that they are read as
+-- eight bytes encode the number that is read from them
 pub has_number : (bytes : List ℕ) (n : ℕ) (rest : List ℕ) → AreBytes bytes → 8 ≤ length bytes → n < 2 ^ 64
     → n ≡ from_be_bytes w64 (take 8 bytes) → rest ≡ drop 8 bytes → HasNumber bytes n rest
 has_number bytes n rest are long fits is rest_is = record {
@@ -26,7 +26,7 @@ no_number bytes n rest few has =
     let eight : length (to_be_bytes w64 n) ≡ 8 = refl in
     omega (arith, few, eight, ap (λ (l : List ℕ). length l) has.split, length-append (to_be_bytes w64 n) rest)
 
--- the number of bytes that the number says, and what stands behind them
+-- as many bytes as the number says, and the rest
 pub has_text : (bytes : List ℕ) (n : ℕ) (behind text rest : List ℕ) → HasNumber bytes n behind → n ≤ length behind
     → text ≡ take n behind → rest ≡ drop n behind → HasText bytes text rest
 has_text bytes n behind text rest has within text_is rest_is =
@@ -46,7 +46,7 @@ text_number bytes text rest has = record { split = has.split; fits = has.fits }
 pub no_text : (bytes text rest : List ℕ) → length bytes < 8 → HasText bytes text rest → ⊥
 no_text bytes text rest few has = no_number bytes (length text) (text ++ rest) few (text_number bytes text rest has)
 
--- and the number at the front is read as it
+-- the number at the start is the one read
 number_read : (bytes : List ℕ) (n : ℕ) (rest : List ℕ) → HasNumber bytes n rest
     → (from_be_bytes w64 (take 8 bytes) ≡ n) × (drop 8 bytes ≡ rest)
 number_read bytes n rest has = (
@@ -65,7 +65,7 @@ pub cut_long : (bytes : List ℕ) (n : ℕ) → n ≡ from_be_bytes w64 (take 8 
     → length bytes < 8 + from_be_bytes w64 (take 8 bytes)
 cut_long bytes n is few long = omega (arith, is, few, long, length-drop 8 bytes)
 
--- a version, a number and a text are a head
+-- a version, a number and a text form a head
 pub has_head : (version : ℕ) (behind : List ℕ) (n : ℕ) (past text rest : List ℕ) → HasNumber behind n past → HasText past text rest
     → HasHead (version ∷ behind) (record { version = version; generation = n; text = text }) rest
 has_head version behind n past text rest number has = record {
@@ -86,7 +86,7 @@ has_head_there (version ∷ tail) behind n past text rest are one is long fits n
     subst (λ (l : List ℕ). HasHead (version ∷ l) (record { version = version; generation = n; text = text }) rest) is
     (has_head version behind n past text rest (has_number behind n past bytes_behind long fits number past_is) has)
 
--- behind an open gate
+-- the same after an open gate
 pub no_front : (area behind : List ℕ) → behind ≡ drop 1 area → ((head : Head) (rest : List ℕ) → HasHead behind head rest → ⊥)
     → (head : Head) (rest : List ℕ) → HasFront area head rest → ⊥
 no_front area behind is none head rest front =

@@ -1,8 +1,8 @@
--- Two areas made on an empty disk.
+-- Two areas, created on an empty disk.
 use Rattle.std.proofs.Common.{◌≡◌, inl, inr, ℕ, ◌+◌, ◌-◌, ◌<◌, ◌≤◌, List, [], ◌∷◌, length, take, drop, sym, ◌∙◌, ap, subst, arith}
 use Rattle.std.proofs.lemmas.List.{drop-take, drop-drop}
 use Rattle.act_disk.specs.Images.{Holds, IsWritten, Only}
-use Rattle.act_disk.specs.Kept.{range_kept}
+use Rattle.act_disk.proofs.Kept.{range_kept}
 use Rattle.gated_journal.specs.Choice.{part}
 use Rattle.gated_journal.specs.Layout.{Head, IsClosed, Fits}
 use Rattle.gated_journal.specs.OnDisk.{WouldReadAt}
@@ -15,13 +15,13 @@ use Rattle.gated_journal.proofs.Frames.{length-part, part_held}
 use Rattle.gated_journal.proofs.Gates.{gate_opened}
 use Rattle.gated_journal.proofs.TwoAreas.{shut_beside}
 
--- Two areas without an open gate: the first begins with these bytes.
+-- Two areas without an open gate; the first begins with these bytes.
 pub record AreLaid (len : ℕ) (front disk : List ℕ) : Type 0 where
   pub whole : length disk ≡ len + len
   pub front_is : Holds disk 0 front
   pub other_gate : Holds disk len (0 ∷ [])
 
--- what stands behind the first byte
+-- what follows the first byte
 holds_behind : (file : List ℕ) (at first : ℕ) (rest : List ℕ) → Holds file at (first ∷ rest) → Holds file (at + 1) rest
 holds_behind file at first rest held =
     let n = length rest in

@@ -1,7 +1,7 @@
--- The calls that make the other area: how each image since a call's start reads.
+-- The calls that write the other area: how each image since the start of a call reads.
 use Rattle.std.proofs.Common.{◌≡◌, inl, inr, ℕ, ◌+◌, ◌<◌, ◌≤◌, List, [], ◌∷◌, length, refl, sym, subst}
 use Rattle.act_disk.specs.Images.{Torn, Holds, IsWritten, From, Only, EachSince}
-use Rattle.act_disk.specs.Moments.{started, weakened, joined}
+use Rattle.act_disk.proofs.Moments.{started, weakened, joined}
 use Rattle.gated_journal.specs.Layout.{Head}
 use Rattle.gated_journal.specs.TwoAreas.{start_of, other, Completes}
 use Rattle.gated_journal.specs.Whole.{StandsWhole, WholeEither, WholeOrTurned}
@@ -16,7 +16,7 @@ module _ (len : ℕ) (side : Side) (head : Head) (bodies : List (List ℕ)) {D :
   abbrev beyond : ℕ
   beyond = start_of len (other side)
 
-  -- each image of the disk reads so, with the other gate like this
+  -- each image of the disk reads this way, with the other gate in this state
   abbrev Each : Gate → D → Type 0
   Each gate disk = (c : List ℕ) → images disk c → StandsWhole len side gate c head bodies
 
@@ -51,7 +51,7 @@ module _ (len : ℕ) (side : Side) (head : Head) (bodies : List (List ℕ)) {D :
       (λ c from. put_whole len side head bodies from.0 c at n (each from.0 from.1) behind inside
       (subst (λ (k : ℕ). Torn (k + at) n from.0 c) begins from.2))
 
-  -- the last put and its sync, and then the gate and its sync
+  -- the last put and its sync, then the gate and its sync
   module _ (next : Head) (others : List (List ℕ)) (start at : ℕ) (begins : start ≡ beyond) (behind : 0 < at) where
     pub turn_begins : (new : D) (n : ℕ) → at + n ≤ len
         → EachSince moment images_since old new (From (Torn (start + at) n) (images old)) → Each Closed old
@@ -80,7 +80,7 @@ module _ (len : ℕ) (side : Side) (head : Head) (bodies : List (List ℕ)) {D :
           joined moment images_since old mid new (WholeOrTurned len side head bodies next others) (From (Torn start 1) (images mid))
           (turn_begins mid (length bytes) inside first each) second
           (λ c from. open_whole len side head bodies seen_mid c next others between
-          (completed len side seen_old seen_mid at bytes head next others before.stands.spells.long inside completes put) completes.newer
+          (completed len side seen_old seen_mid at bytes head next others before.stands.encodes.long inside completes put) completes.newer
           (subst (λ (k : ℕ). Torn k 1 seen_mid c) begins (subst (λ (d : List ℕ). Torn start 1 d c) ((only from.0).0 from.1) from.2)))
 
       pub turn_done : (seen_new : List ℕ) (images_new : List ℕ → Type 0) → IsWritten start (0xA5 ∷ []) seen_mid seen_new
@@ -89,5 +89,5 @@ module _ (len : ℕ) (side : Side) (head : Head) (bodies : List (List ℕ)) {D :
           let gate = subst (λ (k : ℕ). IsWritten k (0xA5 ∷ []) seen_mid seen_new) begins opened_there in
           subst (λ (l : List ℕ). StandsWhole len (other side) Open l next others) (sym ((only c).0 now))
           (opened_whole len side head bodies seen_mid seen_new next others between
-          (completed len side seen_old seen_mid at bytes head next others before.stands.spells.long inside completes put) completes.newer
+          (completed len side seen_old seen_mid at bytes head next others before.stands.encodes.long inside completes put) completes.newer
           gate.torn gate.held)

@@ -1,4 +1,4 @@
--- An area has one reading.
+-- An area reads as at most one head and list of bodies.
 use Rattle.std.proofs.Common.{◌≡◌, ℕ, ◌<◌, ◌^◌, List, [], ◌∷◌, ◌++◌, length, refl, sym, ◌∙◌, ap, subst, append_assoc}
 use Rattle.std.specs.List.{AllByRecursion}
 use Rattle.std.specs.Int.{to_be_bytes, from_be_bytes, w32, w64}
@@ -22,7 +22,7 @@ same_number_8 m n x y fits_m fits_n same =
       parts.1,
     )
 
--- one body at the front behind its length
+-- one length-prefixed body at the start
 pub same_frames : (a b x y : List ℕ) → length a < 2 ^ 32 → length b < 2 ^ 32 → framed a ++ x ≡ framed b ++ y → (a ≡ b) × (x ≡ y)
 same_frames a b x y fits_a fits_b same =
     let apart : to_be_bytes w32 (length a) ++ (a ++ x) ≡ to_be_bytes w32 (length b) ++ (b ++ y) =
@@ -46,7 +46,7 @@ same_bodies (a ∷ one) (b ∷ two) r s fits_one fits_two cr cs same =
     let others = same_bodies one two r s fits_one.1 fits_two.1 cr cs frames.1 in
     ap (λ (l : List ℕ). l ∷ one) frames.0 ∙ ap (λ (l : List (List ℕ)). b ∷ l) others
 
--- a head and what stands behind it, its number and its text apart
+-- a head and the bytes after it, with its number and its text apart
 pub apart : (head : Head) (rest : List ℕ)
     → head_bytes head ++ rest ≡ head.version ∷ to_be_bytes w64 head.generation ++ (to_be_bytes w64 (length head.text) ++
     (head.text ++ rest))

@@ -1,4 +1,4 @@
--- Open records at the front of bytes, and what stands behind them.
+-- Open records at the start of some bytes, and the bytes after them.
 use Rattle.std.proofs.Common.{◌≡◌, ℕ, ◌<◌, ◌^◌, List, [], ◌∷◌, ◌++◌, length, refl, sym, ◌∙◌, ap, subst, arith, append_assoc}
 use Rattle.std.proofs.Common.{length-append, Some, None}
 use Rattle.std.specs.List.{AllByRecursion, slice_get}
@@ -7,7 +7,7 @@ use Rattle.gated_journal.specs.Scanned.{OpensWith, Parts}
 use Rattle.gated_journal.proofs.Grown.{record_bytes-push, all_short-push}
 use Rattle.gated_journal.proofs.OneReading.{same_frames}
 
--- one record more
+-- one more record
 pub parts_more : (bytes : List ℕ) (bodies : List (List ℕ)) (rest body past : List ℕ) → Parts bytes bodies rest → OpensWith rest body past
     → Parts bytes (bodies ++ body ∷ []) past
 parts_more bytes bodies rest body past parts opens = record {
@@ -21,7 +21,7 @@ pub shorter : (rest body past : List ℕ) → OpensWith rest body past → lengt
 shorter rest body past opens =
     omega (arith, ap (λ (l : List ℕ). length l) opens.split, length-append (framed body) past)
 
--- where no open record stands behind the first ones, and all of them end at a closed gate, that gate stands there
+-- if no open record follows the first ones, and the whole list ends at a closed gate, the first ones end at that gate too
 same_rest : (one two : List (List ℕ)) (r s : List ℕ) → AllByRecursion (λ b. length b < 2 ^ 32) one
     → AllByRecursion (λ b. length b < 2 ^ 32) two
     → IsClosed r → ((body past : List ℕ) → OpensWith s body past → ⊥) → record_bytes one ++ r ≡ record_bytes two ++ s → IsClosed s
@@ -52,7 +52,7 @@ pub none_first : (rest : List ℕ) → IsClosed rest → None ≡ slice_get rest
 none_first [] closed is = closed
 none_first (x ∷ rest) closed is = absurd (cc is)
 
--- where no open record stands behind the parted ones, these are all
+-- if no open record follows the parsed ones, they are all the records
 pub all_parted : (bodies parted : List (List ℕ)) (rest : List ℕ) → AllByRecursion (λ b. length b < 2 ^ 32) bodies
     → Parts (record_bytes bodies) parted rest → ((body past : List ℕ) → OpensWith rest body past → ⊥) → parted ≡ bodies
 all_parted [] [] rest short parts last = refl

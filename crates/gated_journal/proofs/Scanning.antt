@@ -1,4 +1,4 @@
--- What a scan finds is what stands there.
+-- A scan finds exactly the records that are encoded.
 use Rattle.std.proofs.Common.{◌≡◌, ℕ, ◌+◌, ◌<◌, ◌≤◌, ◌^◌, List, ◌++◌, length, take, drop, refl, sym, ◌∙◌, ap}
 use Rattle.std.proofs.Common.{arith, append_assoc, length-append, take-append-drop}
 use Rattle.std.specs.Int.{from_be_bytes, to_be_bytes, w32}
@@ -8,7 +8,7 @@ use Rattle.wf_value.proofs.Bytes.{AreBytes, spell_number}
 use Rattle.gated_journal.specs.Layout.{framed}
 use Rattle.gated_journal.specs.Scanned.{Frames}
 
--- the number of bytes that the number says, and what stands behind them
+-- as many bytes as the number says, and the rest
 pub frames : (bytes : List ℕ) (n : ℕ) (behind body rest : List ℕ) → AreBytes bytes → 4 ≤ length bytes → n < 2 ^ 32
     → n ≡ from_be_bytes w32 (take 4 bytes) → behind ≡ drop 4 bytes
     → n ≤ length behind → body ≡ take n behind → rest ≡ drop n behind → Frames bytes body rest
@@ -16,17 +16,17 @@ frames bytes n behind body rest are long fits is behind_is within body_is rest_i
     let many : length body ≡ n = omega (arith, ap (λ (l : List ℕ). length l) body_is, length-take n behind, within) in
     let parted : behind ≡ body ++ rest = sym (take-append-drop n behind) ∙ ap (λ (l : List ℕ). l ++ drop n behind) (sym body_is)
     ∙ ap (λ (l : List ℕ). body ++ l) (sym rest_is) in
-    let spelled : bytes ≡ to_be_bytes w32 n ++ drop 4 bytes = spell_number bytes are long
+    let encoded : bytes ≡ to_be_bytes w32 n ++ drop 4 bytes = spell_number bytes are long
     ∙ ap (λ (k : ℕ). to_be_bytes w32 k ++ drop 4 bytes) (sym is) in
     record {
-      split = spelled
+      split = encoded
           ∙ ap (λ (l : List ℕ). to_be_bytes w32 n ++ l) (sym behind_is ∙ parted)
           ∙ sym (append_assoc (to_be_bytes w32 n) body rest)
           ∙ ap (λ (k : ℕ). (to_be_bytes w32 k ++ body) ++ rest) (sym many);
       short = omega (arith, many, fits);
     }
 
--- the number at the front of a frame is the body's length
+-- the number at the start of a frame is the length of the body
 pub framed_number : (bytes body rest : List ℕ) → Frames bytes body rest → from_be_bytes w32 (take 4 bytes) ≡ length body
 framed_number bytes body rest f =
     let parted : bytes ≡ to_be_bytes w32 (length body) ++ (body ++ rest) = f.split

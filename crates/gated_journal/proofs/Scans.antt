@@ -1,10 +1,10 @@
--- What a scan of an area gives is what stands there.
+-- A scan returns exactly what the area encodes.
 use Rattle.std.proofs.Common.{◌≡◌, ℕ, List, ◌∷◌, ◌++◌, refl, sym, ◌∙◌, ap, subst, append_assoc}
 use Rattle.gated_journal.specs.Layout.{Head, head_bytes, record_bytes, IsClosed, Reads, ReadsNothing}
 use Rattle.gated_journal.specs.Scanned.{Parts, HasHead, HasFront}
 use Rattle.gated_journal.proofs.Heads.{one_head}
 
--- an area that reads so begins with that head
+-- an area that reads as this head and these bodies begins with that head
 front_of_reading : (area : List ℕ) (head : Head) (bodies : List (List ℕ)) (reads : Reads area head bodies)
     → HasFront area head (record_bytes bodies ++ reads.rest)
 front_of_reading area head bodies reads = record {
@@ -17,7 +17,7 @@ pub nothing_without_front : (area : List ℕ) → ((head : Head) (rest : List �
 nothing_without_front area none head bodies reads =
     none head (record_bytes bodies ++ reads.rest) (front_of_reading area head bodies reads)
 
--- one front at most
+-- an area has at most one header
 one_front : (area : List ℕ) (one two : Head) (x y : List ℕ) → HasFront area one x → HasFront area two y → (one ≡ two) × (x ≡ y)
 one_front area one two x y first second =
     let same : first.behind ≡ second.behind = cc (sym first.split ∙ second.split) in

@@ -1,10 +1,10 @@
--- A write of a disk of two areas, seen from both.
+-- A write on a disk of two areas, as seen from both.
 use Rattle.std.proofs.Common.{◌≡◌, ◌⊎◌, inl, inr, ⊎_elim, ℕ, ◌+◌, ◌<◌, ◌≤◌, ◌^◌, List}
 use Rattle.std.proofs.Common.{[], ◌∷◌, ◌++◌, length, take, drop, refl, sym, ◌∙◌, ap, subst, arith}
 use Rattle.std.proofs.Common.{min}
 use Rattle.std.proofs.lemmas.Bool.{cases_eq}
 use Rattle.act_disk.specs.Images.{Torn, Holds}
-use Rattle.act_disk.specs.Kept.{front_kept}
+use Rattle.act_disk.proofs.Kept.{front_kept}
 use Rattle.gated_journal.specs.Appends.{record_of, Appends}
 use Rattle.gated_journal.specs.Choice.{open_generation}
 use Rattle.gated_journal.specs.Layout.{Head, opened, IsClosed, Reads, WouldRead}
@@ -18,7 +18,7 @@ use Rattle.gated_journal.proofs.Frames.{length-part, part_kept, part_torn, part_
 use Rattle.gated_journal.proofs.Gates.{gate_torn, would_read}
 use Rattle.gated_journal.proofs.Grown.{appends_reads}
 
--- a gate that was open or closed stays so where its byte does
+-- a gate keeps its state if its byte does not change
 gate_same : (gate : Gate) (a b : List ℕ) → take 1 b ≡ take 1 a → IsGate gate a → IsGate gate b
 gate_same Open [] b same is = absurd is
 gate_same Closed [] b same is = absurd is
@@ -40,18 +40,18 @@ read_open : (area : List ℕ) (head : Head) (bodies : List (List ℕ)) → Reads
 read_open area head bodies reads = subst (λ (l : List ℕ). IsGate Open l) (sym reads.split) refl
 
 module _ (len : ℕ) where
-  -- both lie within the disk
+  -- both areas lie within the disk
   pub within : (side : Side) (disk : List ℕ) → len + len ≤ length disk → start_of len side + len ≤ length disk
   within First disk long = omega (arith, long)
   within Second disk long = long
 
-  -- one lies beside the other
+  -- the areas do not overlap
   apart_after : (side : Side) (at n : ℕ) → at + n ≤ len
       → (start_of len side + len ≤ start_of len (other side) + at) ⊎ ((start_of len (other side) + at) + n ≤ start_of len side)
   apart_after First at n inside = inl (omega arith)
   apart_after Second at n inside = inr (omega (arith, inside))
 
-  -- two ranges, one in each
+  -- two ranges, one in each area
   pub apart_between : (side : Side) (from m at n : ℕ) → from + m ≤ len → at + n ≤ len
       → ((start_of len side + at) + n ≤ start_of len (other side) + from) ⊎ ((start_of len
       (other side) + from) + m ≤ start_of len side + at)
@@ -83,11 +83,11 @@ open_is [] is = absurd is
 open_is (x ∷ a) is = ap (λ (g : ℕ). g ∷ a) is
 
 module _ (len : ℕ) (side : Side) (head : Head) (bodies : List (List ℕ)) (d c : List ℕ) where
-  -- with the other one's gate closed
+  -- with the gate of the other area closed
   pub shut_beside : len + len ≤ length c → Reads (area_on len side c) head bodies → IsClosed (area_on len (other side) c)
       → Stands len side Closed c head bodies
   shut_beside long reads closed = record {
-    spells = record {
+    encodes = record {
       long = long;
       stands = alone len side c head.generation (generation_read (area_on len side c) head bodies reads)
           (closed_none (area_on len (other side) c) closed);
@@ -96,13 +96,13 @@ module _ (len : ℕ) (side : Side) (head : Head) (bodies : List (List ℕ)) (d c
     other_gate = closed;
   }
 
-  -- with the other one as it was
+  -- with the other area unchanged
   same_beside : (gate : Gate) (more : List (List ℕ)) → Stands len side gate d head bodies → length d ≤ length c
       → area_on len (other side) c ≡ area_on len (other side) d
       → Reads (area_on len side c) head more → Stands len side gate c head more
   same_beside gate more stands longer same reads =
-      let before = stands.spells in record {
-        spells = record {
+      let before = stands.encodes in record {
+        encodes = record {
           long = omega (arith, before.long, longer);
           stands = same_standing len side d c
               (generation_read (area_on len side c) head more reads ∙ sym (generation_read (area_on len side d) head bodies before.reads))
@@ -112,20 +112,20 @@ module _ (len : ℕ) (side : Side) (head : Head) (bodies : List (List ℕ)) (d c
         other_gate = subst (λ (l : List ℕ). IsGate gate l) (sym same) stands.other_gate;
       }
 
-  -- what was written in the one that stands leaves the other one
+  -- a write in the active area leaves the other one unchanged
   pub append_grew : (gate : Gate) (at n : ℕ) (more : List (List ℕ)) → Stands len side gate d head bodies → at + n ≤ len
       → Torn (start_of len side + at) n d c → Reads (area_on len side c) head more → Stands len side gate c head more
   append_grew gate at n more stands inside torn reads =
       same_beside gate more stands torn.no_shorter
-      (kept len (other side) d c stands.spells.long at n inside
+      (kept len (other side) d c stands.encodes.long at n inside
       (subst (λ (s : Side). Torn (start_of len s + at) n d c) (sym (other_twice side)) torn)) reads
 
-  -- an append to the one that stands
+  -- an append to the active area
   pub append_keeps : (gate : Gate) (at : ℕ) (bytes body : List ℕ) → Stands len side gate d head bodies → at ≡ length (opened head bodies)
       → bytes ≡ record_of body → length body < 2 ^ 32 → at + (length bytes + 1) ≤ len → Appends (start_of len side + at) bytes d c
       → Stands len side gate c head bodies ⊎ Stands len side gate c head (bodies ++ body ∷ [])
   append_keeps gate at bytes body stands place is short inside appends =
-      let lies = within len side d stands.spells.long in
+      let lies = within len side d stands.encodes.long in
       let torn = appends_torn len (start_of len side + at) bytes d c appends (omega (arith, lies, inside)) in
       let inner : Appends at bytes (area_on len side d) (area_on len side c) =
       part_appends (start_of len side) len d c lies at bytes inside appends in
@@ -134,25 +134,25 @@ module _ (len : ℕ) (side : Side) (head : Head) (bodies : List (List ℕ)) (d c
       (subst (λ (k : ℕ). Appends k bytes (area_on len side d) (area_on len side c)) place inner) in
       ⊎_elim (λ reads. inl (append_grew gate at (length bytes + 1) bodies stands inside torn reads))
       (λ reads. inr (append_grew gate at (length bytes + 1) (bodies ++ body ∷ []) stands inside torn reads))
-      (appends_reads head bodies (area_on len side d) (area_on len side c) stands.spells.reads body short behind)
+      (appends_reads head bodies (area_on len side d) (area_on len side c) stands.encodes.reads body short behind)
 
-  -- a put into the other one, behind its closed gate
+  -- a put into the other area, after its closed gate
   pub put_keeps : (at n : ℕ) → Stands len side Closed d head bodies → 0 < at → at + n ≤ len
       → Torn (start_of len (other side) + at) n d c → Stands len side Closed c head bodies
   put_keeps at n stands behind inside torn =
-      let long = stands.spells.long in
+      let long = stands.encodes.long in
       let a = area_on len (other side) d in
       let b = area_on len (other side) c in
       let inner = torn_inside len (other side) d c long at n inside torn in
       let front = front_kept at n a b inner 1 (omega (arith, not_empty Closed a stands.other_gate)) (omega (arith, behind)) in
       shut_beside (omega (arith, long, torn.no_shorter))
-      (subst (λ (l : List ℕ). Reads l head bodies) (sym (kept len side d c long at n inside torn)) stands.spells.reads)
+      (subst (λ (l : List ℕ). Reads l head bodies) (sym (kept len side d c long at n inside torn)) stands.encodes.reads)
       (gate_same Closed a b front stands.other_gate)
 
-  -- a write of the other one's gate
+  -- a write of the other area's gate
   module _ (gate : Gate) (stands : Stands len side gate d head bodies) (torn : Torn (start_of len (other side)) 1 d c) where
     long_before : len + len ≤ length d
-    long_before = stands.spells.long
+    long_before = stands.encodes.long
 
     some : 0 < length (area_on len (other side) d)
     some = not_empty gate (area_on len (other side) d) stands.other_gate
@@ -164,7 +164,7 @@ module _ (len : ℕ) (side : Side) (head : Head) (bodies : List (List ℕ)) (d c
     placed = let same : start_of len (other side) ≡ start_of len (other side) + 0 = omega arith in subst (λ (k : ℕ). Torn k 1 d c) same torn
 
     pub side_reads : Reads (area_on len side c) head bodies
-    side_reads = subst (λ (l : List ℕ). Reads l head bodies) (sym (kept len side d c long_before 0 1 one placed)) stands.spells.reads
+    side_reads = subst (λ (l : List ℕ). Reads l head bodies) (sym (kept len side d c long_before 0 1 one placed)) stands.encodes.reads
 
     pub still_long : len + len ≤ length c
     still_long = omega (arith, long_before, torn.no_shorter)
@@ -173,7 +173,7 @@ module _ (len : ℕ) (side : Side) (head : Head) (bodies : List (List ℕ)) (d c
     gated = gate_torn (area_on len (other side) d) (area_on len (other side) c) some
         (torn_inside len (other side) d c long_before 0 1 one placed)
 
-    -- the gate's byte
+    -- the byte of the gate
     pub gate_is : (byte : ℕ) → Holds c (start_of len (other side)) (byte ∷ []) → gated.0 ≡ byte
     gate_is byte holds =
         let place : start_of len (other side) ≡ start_of len (other side) + 0 = omega arith in
@@ -182,7 +182,7 @@ module _ (len : ℕ) (side : Side) (head : Head) (bodies : List (List ℕ)) (d c
         one (ap (λ (k : ℕ). take 1 (drop k c)) (sym place) ∙ holds) in
         let first : gated.0 ∷ [] ≡ byte ∷ [] = sym (ap (λ (l : List ℕ). take 1 l) gated.1) ∙ inner in cc first
 
-  -- a close of the other one's gate, which was open
+  -- closing the other area's open gate
   pub close_keeps : Stands len side Open d head bodies → Torn (start_of len (other side)) 1 d c
       → Stands len side Open c head bodies ⊎ Stands len side Closed c head bodies
   close_keeps stands torn =
@@ -195,7 +195,7 @@ module _ (len : ℕ) (side : Side) (head : Head) (bodies : List (List ℕ)) (d c
         | inr isnt ↦ inr (shut_beside (still_long Open stands torn) (side_reads Open stands torn) (subst IsClosed (sym found.1) isnt))
       ]
 
-  -- and once it was done
+  -- the same once it is completed
   pub close_kept : Stands len side Open d head bodies → Torn (start_of len (other side)) 1 d c
       → Holds c (start_of len (other side)) (0 ∷ [])
       → Stands len side Closed c head bodies
@@ -204,7 +204,7 @@ module _ (len : ℕ) (side : Side) (head : Head) (bodies : List (List ℕ)) (d c
       shut_beside (still_long Open stands torn) (side_reads Open stands torn)
       (subst IsClosed (sym found.1) (λ is. omega (arith, gate_is Open stands torn 0 holds, is)))
 
-  -- the other one's gate opened before what would read as newer
+  -- opening the other area's gate, where that area would read as newer
   module _ (next : Head) (others : List (List ℕ)) (stands : Stands len side Closed d head bodies)
       (would : WouldRead (area_on len (other side) d) next others) (newer : head.generation < next.generation)
       (torn : Torn (start_of len (other side)) 1 d c) where
@@ -216,7 +216,7 @@ module _ (len : ℕ) (side : Side) (head : Head) (bodies : List (List ℕ)) (d c
         let reads : Reads b next others = subst (λ (l : List ℕ). Reads l next others)
         (sym (found ∙ ap (λ (x : ℕ). x ∷ drop 1 a) is)) (would_read a next others would) in
         let here = side_reads Closed stands torn in record {
-          spells = record {
+          encodes = record {
             long = still_long Closed stands torn;
             stands = greater len side c head.generation next.generation (generation_read (area_on len side c) head bodies here)
                 (generation_read b next others reads) newer;

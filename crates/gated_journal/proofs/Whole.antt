@@ -1,9 +1,9 @@
--- A disk of two areas and no more, through each write of one of them.
+-- A disk of exactly two areas, through each write of one of them.
 use Rattle.std.proofs.Common.{◌≡◌, inl, inr, ⊎_elim, ℕ, ◌+◌, ◌<◌, ◌≤◌, ◌^◌}
 use Rattle.std.proofs.Common.{List, [], ◌∷◌, ◌++◌, length, refl, sym, ◌∙◌, subst, arith}
 use Rattle.act_disk.specs.Images.{Torn, Holds, From, Only, EachSince}
-use Rattle.act_disk.specs.Kept.{range_kept}
-use Rattle.act_disk.specs.Moments.{weakened}
+use Rattle.act_disk.proofs.Kept.{range_kept}
+use Rattle.act_disk.proofs.Moments.{weakened}
 use Rattle.gated_journal.specs.Appends.{record_of, Appends, IsWhole}
 use Rattle.gated_journal.specs.Layout.{Head, opened, WouldRead}
 use Rattle.gated_journal.specs.OnDisk.{ReadsAt}
@@ -19,13 +19,13 @@ use Rattle.gated_journal.proofs.TwoAreas.{put_keeps, close_keeps, close_kept, op
 torn_long : (at n : ℕ) (d c : List ℕ) → Torn at n d c → at + n ≤ length d → length c ≡ length d
 torn_long at n d c torn below = omega (arith, torn.no_shorter, torn.no_longer, below)
 
--- ---- the area that stands grows
+-- ---- the active area grows
 
 appends_long : (gate : ℕ) (bytes d c : List ℕ) → Appends gate bytes d c → gate + (length bytes + 1) ≤ length d → length c ≡ length d
 appends_long gate bytes d c (inl torn) below = omega (arith, torn.no_shorter, torn.no_longer, below)
 appends_long gate bytes d c (inr whole) below = omega (arith, whole.torn.no_shorter, whole.torn.no_longer, below)
 
--- what was put into the other area stands there after an append
+-- what was put into the other area is still there after an append
 pub whole_beside : (len : ℕ) (side : Side) (start at from : ℕ) (bytes put old new : List ℕ) → start ≡ start_of len side
     → len + len ≤ length old
     → from + length put ≤ len → at + (length bytes + 1) ≤ len → IsWhole (start + at) bytes old new
@@ -41,9 +41,9 @@ module _ (len : ℕ) (side : Side) (head : Head) (bodies : List (List ℕ)) (gat
     (begins : start ≡ start_of len side) (place : at ≡ length (opened head bodies)) (is : bytes ≡ record_of body)
     (short : length body < 2 ^ 32) (inside : at + (length bytes + 1) ≤ len) where
   below_end : (d : List ℕ) → StandsWhole len side gate d head bodies → (start + at) + (length bytes + 1) ≤ length d
-  below_end d stands = omega (arith, begins, inside, within len side d stands.stands.spells.long)
+  below_end d stands = omega (arith, begins, inside, within len side d stands.stands.encodes.long)
 
-  -- an append, whatever became of it
+  -- an append, whether complete or not
   whole_keeps : (d c : List ℕ) → StandsWhole len side gate d head bodies → Appends (start + at) bytes d c
       → WholeOrGrew len side gate head bodies body c
   whole_keeps d c stands appends =
@@ -60,18 +60,18 @@ module _ (len : ℕ) (side : Side) (head : Head) (bodies : List (List ℕ)) (gat
       weakened moment images_since old new (From (Appends (start + at) bytes) (images old)) (WholeOrGrew len side gate head bodies body)
       since (λ c from. whole_keeps from.0 c (each from.0 from.1) from.2)
 
-  -- and once it was done
+  -- the same once it is completed
   grew : (old new : List ℕ) → Stands len side gate old head bodies → IsWhole (start + at) bytes old new
       → Holds new (start + at) (0xA5 ∷ []) → Stands len side gate new head (bodies ++ body ∷ [])
   grew old new stands whole holds =
-      let lies = within len side old stands.spells.long in
+      let lies = within len side old stands.encodes.long in
       let here : IsWhole (start_of len side + at) bytes old new = subst (λ (k : ℕ). IsWhole (k + at) bytes old new) begins whole in
       let there : Holds new (start_of len side + at) (0xA5 ∷ []) = subst (λ (k : ℕ). Holds new (k + at) (0xA5 ∷ [])) begins holds in
       let reads : ReadsAt (start_of len side) len new head (bodies ++ body ∷ []) =
       has_grown (start_of len side) len at bytes (λ c. c ≡ old) head bodies body inside
       (record {
         each = λ c same. subst (λ (l : List ℕ). ReadsAt (start_of len side) len l head bodies) (sym same)
-            (record { within = lies; reads = stands.spells.reads });
+            (record { within = lies; reads = stands.encodes.reads });
         gate = sym place;
         framed = is;
         short = short;
@@ -88,7 +88,7 @@ module _ (len : ℕ) (side : Side) (head : Head) (bodies : List (List ℕ)) (gat
         whole = appends_long (start + at) bytes old new (inr whole) (below_end old stands) ∙ stands.whole;
       })
 
--- ---- the other area is made
+-- ---- the other area is written
 
 module _ (len : ℕ) (side : Side) (head : Head) (bodies : List (List ℕ)) (d c : List ℕ) where
   -- a part of it
@@ -97,14 +97,14 @@ module _ (len : ℕ) (side : Side) (head : Head) (bodies : List (List ℕ)) (d c
   put_whole at n stands behind inside torn = record {
     stands = put_keeps len side head bodies d c at n stands.stands behind inside torn;
     whole = torn_long (start_of len (other side) + at) n d c torn
-        (omega (arith, within len (other side) d stands.stands.spells.long, inside)) ∙ stands.whole;
+        (omega (arith, within len (other side) d stands.stands.encodes.long, inside)) ∙ stands.whole;
   }
 
   -- its gate
   gate_long : (gate : Gate) → StandsWhole len side gate d head bodies → Torn (start_of len (other side)) 1 d c → length c ≡ len + len
   gate_long gate stands torn =
       torn_long (start_of len (other side)) 1 d c torn
-      (omega (arith, within len (other side) d stands.stands.spells.long, one len side head bodies d c gate stands.stands torn))
+      (omega (arith, within len (other side) d stands.stands.encodes.long, one len side head bodies d c gate stands.stands torn))
       ∙ stands.whole
 
   pub close_whole : StandsWhole len side Open d head bodies → Torn (start_of len (other side)) 1 d c

@@ -1,26 +1,26 @@
--- What an append makes of an image: a record written behind the present gate, a sync, and the gate.
+-- The effect of an append on an image: a record is written after the current gate, then a sync, then the gate.
 use Rattle.std.specs.Prelude.{◌≡◌, ◌⊎◌, ℕ, ◌+◌, ◌-◌, ◌<◌, ◌^◌, List, [], ◌∷◌, ◌++◌, length, take, drop}
 use Rattle.act_disk.specs.Images.{Torn, Holds}
 use Rattle.gated_journal.specs.Layout.{framed}
 
--- what is written behind the gate: the body behind its length, and a closed gate
+-- what is written after the gate: the length-prefixed body and a closed gate
 abbrev pub record_of : List ℕ → List ℕ
 record_of body = framed body ++ 0 ∷ []
 
--- The record is there. Its gate may be any byte.
+-- The record is present. Its gate may be any byte.
 pub record IsWhole (gate : ℕ) (bytes old new : List ℕ) : Type 0 where
   pub torn : Torn gate (length bytes + 1) old new
   pub held : Holds new (gate + 1) bytes
 
--- the gate as it was and anything in the place of the record, or the whole record
+-- either the old gate and any bytes in the record's place, or the whole record
 abbrev pub Appends : ℕ → List ℕ → List ℕ → List ℕ → Type 0
 Appends gate bytes old new = Torn (gate + 1) (length bytes) old new ⊎ IsWhole gate bytes old new
 
--- what stands between the first four bytes and the last one
+-- the bytes between the first four and the last one
 abbrev pub body_in : List ℕ → List ℕ
 body_in bytes = take (length bytes - 5) (drop 4 bytes)
 
--- the bytes are a record of what stands there
+-- the bytes encode a record of the body inside them
 pub record IsRecord (bytes : List ℕ) : Type 0 where
   pub is : bytes ≡ record_of (body_in bytes)
   pub short : length (body_in bytes) < 2 ^ 32

@@ -1,19 +1,19 @@
--- Which of a disk's two areas stands.
+-- Which of a disk's two areas is active.
 use Rattle.std.specs.Prelude.{ℕ, List, [], ◌∷◌, take, drop, ◌==◌, nat_lt, if◌then◌else◌, Option, Some, None}
 use Rattle.std.specs.Int.{from_be_bytes, w64}
 use Rattle.gated_journal.specs.declared.side.Side.{Side}
 use Rattle.gated_journal.specs.declared.side.Side.TheVariants.{First, Second}
 
--- so many bytes of a disk from there on
+-- `len` bytes of a disk from `start` on
 abbrev pub part : ℕ → ℕ → List ℕ → List ℕ
 part start len disk = take len (drop start disk)
 
--- the generation of an area whose gate is open; it stands behind the gate and the version
+-- the generation of an area whose gate is open; it follows the gate and the version
 abbrev pub open_generation : List ℕ → Option ℕ
 open_generation [] = None
 open_generation (gate ∷ behind) = if gate == 0xA5 then Some (from_be_bytes w64 (take 8 (drop 1 behind))) else None
 
--- the one whose gate is open; of two, the one of the greater generation, and of equal ones the first
+-- The area whose gate is open. Of two, the one with the greater generation; of equal ones, the first.
 abbrev pub newer : Option ℕ → Option ℕ → Option Side
 newer None None = None
 newer (Some first) None = Some First

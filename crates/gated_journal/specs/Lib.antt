@@ -6,6 +6,6 @@ pub mod OnDisk
 pub mod Reading
 pub mod Scanned
 pub mod ScannedHead
-pub mod Spelled
+pub mod Encoded
 pub mod TwoAreas
 pub mod Whole

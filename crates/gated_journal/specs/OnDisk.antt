@@ -4,12 +4,12 @@ use Rattle.gated_journal.specs.Layout.{Head, opened, IsClosed, Reads, WouldRead}
 use Rattle.gated_journal.specs.Choice.{part}
 use Rattle.gated_journal.specs.Appends.{record_of}
 
--- the area that begins at `start` and is `len` long lies within the disk, and reads so
+-- the area of length `len` at `start` lies within the disk and reads as this head and these bodies
 pub record ReadsAt (start len : ℕ) (disk : List ℕ) (head : Head) (bodies : List (List ℕ)) : Type 0 where
   pub within : start + len ≤ length disk
   pub reads : Reads (part start len disk) head bodies
 
--- it lies within the disk, and would read so, were its gate open
+-- it lies within the disk and would read so if its gate were open
 pub record WouldReadAt (start len : ℕ) (disk : List ℕ) (head : Head) (bodies : List (List ℕ)) : Type 0 where
   pub within : start + len ≤ length disk
   pub would : WouldRead (part start len disk) head bodies
@@ -19,11 +19,11 @@ pub record ShutAt (start len : ℕ) (disk : List ℕ) (head : Head) (bodies : Li
   pub would : WouldReadAt start len disk head bodies
   pub closed : IsClosed (part start len disk)
 
--- it reads so, or it would and its gate is closed
+-- it reads so, or would read so and its gate is closed
 abbrev pub OpenOrShut : ℕ → ℕ → Head → List (List ℕ) → List ℕ → Type 0
 OpenOrShut start len head bodies disk = ReadsAt start len disk head bodies ⊎ ShutAt start len disk head bodies
 
--- it reads so, or with this body too
+-- it reads so, or with this body appended
 abbrev pub MayHaveGrown : ℕ → ℕ → Head → List (List ℕ) → List ℕ → List ℕ → Type 0
 MayHaveGrown start len head bodies body disk = ReadsAt start len disk head bodies ⊎ ReadsAt start len disk head (bodies ++ body ∷ [])
 

@@ -1,4 +1,4 @@
--- A disk of two areas, one behind the other, and how it reads: as the one that stands does.
+-- A disk of two adjacent areas. It reads as its active area does.
 use Rattle.std.specs.Prelude.{◌≡◌, ℕ, ◌+◌, ◌≤◌, ◌<◌, List, [], ◌∷◌, ◌++◌, length, Option, Some}
 use Rattle.act_disk.specs.Images.{Holds}
 use Rattle.gated_journal.specs.Choice.{part, chosen}
@@ -21,33 +21,33 @@ other Second = First
 abbrev pub area_on : ℕ → Side → List ℕ → List ℕ
 area_on len side disk = part (start_of len side) len disk
 
--- the one that stands
+-- the side of the active area
 abbrev pub standing : ℕ → List ℕ → Option Side
 standing len disk = chosen (area_on len First disk) (area_on len Second disk)
 
--- how the gate of an area is
+-- the state of an area's gate
 abbrev pub IsGate : Gate → List ℕ → Type 0
 IsGate Open [] = ⊥
 IsGate Open (gate ∷ behind) = gate ≡ 0xA5
 IsGate Closed area = IsClosed area
 
--- The disk has two areas that are `len` long. This one stands, and reads so.
-pub record Spells (len : ℕ) (side : Side) (disk : List ℕ) (head : Head) (bodies : List (List ℕ)) : Type 0 where
+-- The disk has two areas of length `len`. The area of this side is active and reads as this head and these bodies.
+pub record Encodes (len : ℕ) (side : Side) (disk : List ℕ) (head : Head) (bodies : List (List ℕ)) : Type 0 where
   pub long : len + len ≤ length disk
   pub stands : standing len disk ≡ Some side
   pub reads : Reads (area_on len side disk) head bodies
 
--- It spells so, and the gate of the other area is so.
+-- The same, and the gate of the other area is in this state.
 pub record Stands (len : ℕ) (side : Side) (gate : Gate) (disk : List ℕ) (head : Head) (bodies : List (List ℕ)) : Type 0 where
-  pub spells : Spells len side disk head bodies
+  pub encodes : Encodes len side disk head bodies
   pub other_gate : IsGate gate (area_on len (other side) disk)
 
--- what stands behind the gate of an area that reads so; the last byte is the gate behind its records, closed
+-- what follows the gate of an area that reads so; the last byte is the closed gate after its records
 abbrev pub behind_gate : Head → List (List ℕ) → List ℕ
 behind_gate head bodies = head_bytes head ++ record_bytes bodies ++ 0 ∷ []
 
--- Written at that place of the other area, these bytes make it whole: in front of them stands the rest of what it is to hold, and its
--- generation is greater than that of the one that stands.
+-- Once these bytes are written at that offset of the other area, that area is complete: the rest of its contents precedes them, and its
+-- generation is greater than that of the active area.
 pub record Completes (len : ℕ) (side : Side) (seen : List ℕ) (at : ℕ) (bytes : List ℕ) (head next : Head)
     (others : List (List ℕ)) : Type 0 where
   pub front : List ℕ

@@ -1,4 +1,4 @@
--- A disk that has two areas and no byte more.
+-- A disk of exactly two areas.
 use Rattle.std.specs.Prelude.{◌≡◌, ◌⊎◌, ℕ, ◌+◌, List, [], ◌∷◌, ◌++◌, length, Option, Some, None}
 use Rattle.gated_journal.specs.Choice.{newer}
 use Rattle.gated_journal.specs.Layout.{Head}
@@ -9,37 +9,37 @@ use Rattle.gated_journal.specs.declared.gate.Gate.TheVariants.{Open, Closed}
 use Rattle.gated_journal.specs.declared.side.Side.{Side}
 use Rattle.gated_journal.specs.declared.side.Side.TheVariants.{First, Second}
 
--- It stands so, and ends where its second area does.
+-- It encodes this state, and ends where its second area ends.
 pub record StandsWhole (len : ℕ) (side : Side) (gate : Gate) (disk : List ℕ) (head : Head) (bodies : List (List ℕ)) : Type 0 where
   pub stands : Stands len side gate disk head bodies
   pub whole : length disk ≡ len + len
 
--- at each moment of an append: with the bodies before it, or with these and the new one
+-- at each moment of an append: with the old bodies, or with the new one appended
 abbrev pub WholeOrGrew : ℕ → Side → Gate → Head → List (List ℕ) → List ℕ → List ℕ → Type 0
 WholeOrGrew len side gate head bodies body disk =
     StandsWhole len side gate disk head bodies ⊎ StandsWhole len side gate disk head (bodies ++ body ∷ [])
 
--- while the gate of the other area is closed
+-- at each moment of closing the other area's gate
 abbrev pub WholeEither : ℕ → Side → Head → List (List ℕ) → List ℕ → Type 0
 WholeEither len side head bodies disk = StandsWhole len side Open disk head bodies ⊎ StandsWhole len side Closed disk head bodies
 
--- and while it is opened: what the one area holds, or what the other does
+-- at each moment of opening it: the disk reads as the one area does, or as the other
 abbrev pub WholeOrTurned : ℕ → Side → Head → List (List ℕ) → Head → List (List ℕ) → List ℕ → Type 0
 WholeOrTurned len side head bodies next others disk =
     StandsWhole len side Closed disk head bodies ⊎ StandsWhole len (other side) Open disk next others
 
--- The one that stands was found, with the gate of the other one, or that none stands.
+-- The active side was found, with the state of the other gate, or that no area is active.
 abbrev pub IsChosen : ℕ → Option Chosen → List ℕ → Type 0
 IsChosen len None disk = standing len disk ≡ None
 IsChosen len (Some chosen) disk =
     (standing len disk ≡ Some chosen.side) × IsGate chosen.other (area_on len (other chosen.side) disk)
 
--- the gate of an area with this generation where it is open
+-- the gate of an area whose `open_generation` is this
 abbrev pub gate_of : Option ℕ → Gate
 gate_of (Some generation) = Open
 gate_of None = Closed
 
--- of the areas with these generations where their gates are open
+-- the `open_generation` of the other area, given those of both
 abbrev pub beside : Option ℕ → Option ℕ → Side → Option ℕ
 beside first second First = second
 beside first second Second = first

@@ -4,7 +4,7 @@ ghost use Rattle.gated_journal.specs.Appends.{Appends, IsWhole};
 
 use act_disk::{Disk, DiskFault, write_synced};
 
-/// Writes a record behind a closed gate and syncs, then opens the gate and syncs.
+/// Writes a record after a closed gate and syncs, then opens the gate and syncs.
 pub(crate) fn append_behind<D: Disk>(disk: &mut D, gate: u64, bytes: &[u8]) -> Result<(), DiskFault>
     requires countable { D.fault_count disk.old < u64.MAX }
     requires fits { gate + 1 < 2 ^ 64 }
@@ -22,5 +22,5 @@ pub(crate) fn append_behind<D: Disk>(disk: &mut D, gate: u64, bytes: &[u8]) -> R
     write_synced(disk, gate, &[OPEN])
 }
 
-/// The byte of an open gate. Any other one is closed.
+/// The byte of an open gate. Any other byte is a closed gate.
 pub const OPEN: u8 = 0xA5;

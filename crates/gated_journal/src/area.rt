@@ -16,16 +16,16 @@ pub struct Area {
 }
 
 impl Area {
-    /// Writes a record behind the area's first closed gate, which is at `at`, and opens that gate.
+    /// Writes a record after the area's first closed gate, which is at `at`, and opens that gate.
     ///
-    /// The record's bytes are its body behind its length, and a closed gate. Whatever moment the machine
-    /// stops at, the area reads as before, or with the new body behind the others; after `Ok` it has it.
+    /// The bytes are a length-prefixed body and a closed gate. After a crash at any moment, the area reads as before, or with the new body
+    /// appended. After `Ok` it reads with the new body.
     pub fn append<D: Disk>(&self, disk: &mut D, at: u64, bytes: &[u8]) -> Result<(), DiskFault>
         requires countable { D.fault_count disk.old < u64.MAX }
         requires addressed { self.now.start + self.now.len < 2 ^ 64 }
         requires fits { at + (length bytes.now + 1) ≤ self.now.len }
-        // Each image since is one of those before, with any bytes in the record's place and its gate as it
-        // was, or with the whole record.
+        // Each image since the start is an earlier one, either with the gate unchanged and any bytes in the record's place, or with the
+        // whole record.
         ensures any_moment { D.honest disk.old → EachSince D.moment D.images_since disk.old disk.new
             (From (Appends (self.now.start + at) bytes.now) (D.images disk.old)) }
         ensures stable { OnOk result (D.honest disk.old → Only (D.seen disk.new) (D.images disk.new)) }
@@ -43,7 +43,7 @@ impl Area {
         append_behind(disk, self.start + at, bytes)
     }
 
-    /// Writes a part of what the area is to hold behind its gate. Nothing is synced.
+    /// Writes a part of the area's contents after its gate, without a sync.
     pub fn put<D: Disk>(&self, disk: &mut D, at: u64, bytes: &[u8]) -> Result<(), DiskFault>
         requires countable { D.fault_count disk.old < u64.MAX }
         requires addressed { self.now.start + self.now.len < 2 ^ 64 }
@@ -61,10 +61,10 @@ impl Area {
         disk.write_at(self.start + at, bytes)
     }
 
-    /// Opens the area's own gate, and syncs.
+    /// Opens the area's own gate and syncs.
     ///
-    /// Whatever moment the machine stops at, the area is as it was but for its gate. One that would read
-    /// as a head and bodies, were its gate open, reads so after `Ok`.
+    /// After a crash at any moment, the area is unchanged except for its gate. An area that would read as a head and bodies if its gate
+    /// were open reads so after `Ok`.
     pub fn open_gate<D: Disk>(&self, disk: &mut D) -> Result<(), DiskFault>
         requires countable { D.fault_count disk.old < u64.MAX }
         ensures any_moment { D.honest disk.old → EachSince D.moment D.images_since disk.old disk.new
@@ -85,8 +85,8 @@ impl Area {
         write_synced(disk, self.start, &[OPEN])
     }
 
-    /// Closes the area's own gate, and syncs. A gate that is closed already is not written again, since a
-    /// stop inside of that write might leave it open: then no call is made.
+    /// Closes the area's own gate and syncs. For a gate that is already closed it makes no call, since a crash inside such a write might
+    /// leave the gate open.
     pub fn close_gate<D: Disk>(&self, disk: &mut D, gate: Gate) -> Result<(), DiskFault>
         requires countable { D.fault_count disk.old < u64.MAX }
         ensures same { gate ≡ Gate.Closed → (disk.new ≡ disk.old) × IsOk result }

@@ -10,17 +10,17 @@ use crate::gate::Gate;
 use crate::side::Side;
 use act_disk::{Disk, DiskFault};
 
-/// The area of a disk that stands, and how the gate of the other one is.
+/// The active area of a disk, and the state of the other area's gate.
 #[derive(Clone, Copy)]
 pub struct Chosen {
     pub side: Side,
     pub other: Gate,
 }
 
-/// How many bytes tell the generation of an area: its gate, its version, and the generation in eight.
+/// The length of the header that holds an area's generation: the gate, the version, and eight bytes of generation.
 const FRONT: usize = 10;
 
-/// The generation, where the gate is open.
+/// The generation, if the gate is open.
 fn generation_of(front: &[u8; 10]) -> Option<u64>
     ensures { result ≡ open_generation front.now }
 {
@@ -32,7 +32,7 @@ fn generation_of(front: &[u8; 10]) -> Option<u64>
     ]))
 }
 
-/// Which of two areas stands, from the generation of each whose gate is open.
+/// Which of two areas is active, from the generation of each that has an open gate.
 fn chosen_of(first: Option<u64>, second: Option<u64>) -> Option<Chosen>
     ensures { StandsBetween first second result }
 {
@@ -44,7 +44,7 @@ fn chosen_of(first: Option<u64>, second: Option<u64>) -> Option<Chosen>
     Some(Chosen { side, other })
 }
 
-/// The gate of an area that has this generation where it is open.
+/// The gate of an area that has this generation if it is open.
 fn gate_of(generation: Option<u64>) -> Gate
     ensures { result ≡ gate_of generation }
 {
@@ -54,9 +54,9 @@ fn gate_of(generation: Option<u64>) -> Gate
     }
 }
 
-/// Syncs, and finds which of the two areas of a disk stands, each `len` long, and how the gate of the other one is.
+/// Syncs, and finds which of the two areas of a disk is active and the state of the other area's gate. Each area is `len` long.
 ///
-/// What was found is what a stop leaves from then on. A stop meanwhile leaves nothing that it might not have left before.
+/// From then on a crash leaves what was found. A crash during the call leaves nothing that it might not have left before.
 pub fn choose<D: Disk>(disk: &mut D, len: u64) -> Result<Option<Chosen>, DiskFault>
     requires countable { D.fault_count disk.old < u64.MAX }
     requires within { len + len ≤ D.size disk.old }

@@ -1,9 +1,9 @@
-/// How the gate of an area stands.
+/// The state of an area's gate.
 #[derive(Clone, Copy)]
 pub enum Gate {
     Open,
     Closed,
 }
 
-/// The byte that is written to close a gate.
+/// The byte that closes a gate.
 pub(crate) const CLOSED: u8 = 0;

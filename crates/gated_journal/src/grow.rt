@@ -6,13 +6,13 @@ ghost use Rattle.gated_journal.specs.TwoAreas.{start_of, other};
 ghost use Rattle.gated_journal.specs.Whole.{StandsWhole, WholeOrGrew};
 
 use crate::append::append_behind;
+use crate::area_pair::AreaPair;
 use crate::gate::Gate;
-use crate::standing::Standing;
 use act_disk::{Disk, DiskFault};
 
-impl Standing {
-    /// Appends to the area that stands on a disk of two areas, whose first closed gate is at `at`. The bytes are
-    /// a record: its body behind its length, and a closed gate. The disk stays as long as it is.
+impl AreaPair {
+    /// Appends to the active area of a disk of two areas. Its first closed gate is at `at`. The bytes are a record: a length-prefixed body
+    /// and a closed gate. The length of the disk does not change.
     pub fn grow<D: Disk>(&self, disk: &mut D, at: u64, bytes: &[u8]) -> Result<(), DiskFault>
         requires countable { D.fault_count disk.old < u64.MAX }
         requires addressed { self.now.len + self.now.len < 2 ^ 64 }
@@ -25,7 +25,7 @@ impl Standing {
             → ((c : List ℕ) → D.images disk.old c → StandsWhole self.now.len self.now.side gate c head bodies)
             → at ≡ length (opened head bodies) → bytes.now ≡ record_of body → length body < 2 ^ 32
             → (c : List ℕ) → D.images disk.new c → StandsWhole self.now.len self.now.side gate c head (bodies ++ body ∷ [])) }
-        // What was put into the other area stands there.
+        // What was put into the other area is still there.
         ensures beside { OnOk result ((from : ℕ) (put : List ℕ) → D.honest disk.old
             → self.now.len + self.now.len ≤ length (D.seen disk.old) → from + length put ≤ self.now.len
             → Holds (D.seen disk.old) (start_of self.now.len (other self.now.side) + from) put

@@ -5,7 +5,7 @@ ghost use Rattle.gated_journal.specs.CutOff.{EndsInHead};
 ghost use Rattle.gated_journal.specs.Scanned.{HasText, HasHead};
 ghost use Rattle.gated_journal.specs.ScannedHead.{head_of};
 
-/// What an area begins with behind its gate.
+/// What follows an area's gate.
 #[derive(Clone, Copy)]
 pub struct AreaHead<'a> {
     pub version: u8,
@@ -13,7 +13,7 @@ pub struct AreaHead<'a> {
     pub text: &'a [u8],
 }
 
-/// The number of eight bytes at the front, and what stands behind it.
+/// The eight-byte number at the start, and the bytes after it.
 fn long_number_at(bytes: &[u8]) -> Option<(u64, &[u8])>
     ensures long { IfSome result (λ found. 8 ≤ length bytes.now) }
     ensures number { IfSome result (λ found. found.0 ≡ from_be_bytes w64 (take 8 bytes.now)) }
@@ -27,7 +27,7 @@ fn long_number_at(bytes: &[u8]) -> Option<(u64, &[u8])>
     Some((number, rest))
 }
 
-/// The text at the front behind its length, and what stands behind it.
+/// The length-prefixed text at the start, and the bytes after it.
 #[tactic(auto, using(crate::proofs::Heads::no_text, crate::proofs::Heads::no_text_long, crate::proofs::Heads::cut_long))]
 fn text_at(bytes: &[u8]) -> Option<(&[u8], &[u8])>
     ensures some { IfSome result (λ found. HasText bytes.now found.0.now found.1.now) }
@@ -42,7 +42,7 @@ fn text_at(bytes: &[u8]) -> Option<(&[u8], &[u8])>
     Some(behind.split_at(count))
 }
 
-/// The head at the front, and what stands behind it.
+/// The head at the start, and the bytes after it.
 pub(crate) fn head_at(bytes: &[u8]) -> Option<(AreaHead<'_>, &[u8])>
     ensures some { IfSome result (λ found. HasHead bytes.now (head_of found.0) found.1.now) }
     ensures none { IsNone result → (head : Head) (rest : List ℕ) → HasHead bytes.now head rest → ⊥ }

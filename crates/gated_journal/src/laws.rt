@@ -1,42 +1,41 @@
-//! Laws over areas.
+//! Laws about areas.
 
 ghost use Rattle.std.specs.Prelude.{◌≡◌, ◌⊎◌, ◌+◌, ◌<◌, ◌≤◌, ◌^◌, ℕ, List, [], ◌∷◌, ◌++◌, length, take};
 ghost use Rattle.act_disk.specs.Images.{Torn};
 ghost use Rattle.gated_journal.specs.Appends.{record_of, Appends};
-ghost use Rattle.gated_journal.specs.CutOff.{SpellsNothing};
+ghost use Rattle.gated_journal.specs.CutOff.{EncodesNothing};
 ghost use Rattle.gated_journal.specs.Layout.{Head, IsClosed, Reads, ReadsNothing, WouldRead, opened};
 ghost use Rattle.gated_journal.specs.TwoAreas.{start_of, other, area_on, Stands};
 ghost use Rattle.gated_journal.specs.declared.gate.Gate.{Gate};
 ghost use Rattle.gated_journal.specs.declared.gate.Gate.TheVariants.{Open, Closed};
 ghost use Rattle.gated_journal.specs.declared.side.Side.{Side};
 
-/// An area reads as one head and one list of bodies at most.
+/// An area reads as at most one head and one list of bodies.
 pub fn an_area_has_one_reading()
     ensures { (area : List ℕ) (head other : Head) (bodies others : List (List ℕ))
         → Reads area head bodies → Reads area other others → (head ≡ other) × (bodies ≡ others) }
 {}
 
-/// An area reads as nothing where it has no head behind an open gate, or ends in its records. A scan that gives
-/// nothing found one of the two.
+/// An area reads as nothing if it has no head after an open gate, or if it ends inside its records. A scan that returns `None` found one
+/// of the two.
 pub fn an_area_that_is_cut_off_reads_as_nothing()
-    ensures { (area : List ℕ) → SpellsNothing area → ReadsNothing area }
+    ensures { (area : List ℕ) → EncodesNothing area → ReadsNothing area }
 {}
 
-/// What an area reads as does not depend on the bytes behind its first closed gate.
+/// The bytes after an area's first closed gate do not affect what it reads as.
 pub fn nothing_counts_behind_a_closed_gate()
     ensures { (area other : List ℕ) (head : Head) (bodies : List (List ℕ)) → Reads area head bodies
         → take (length (opened head bodies) + 1) other ≡ take (length (opened head bodies) + 1) area → Reads other head bodies }
 {}
 
-/// An area that reads so stands where the gate of the other one is closed.
+/// An area that reads as a head and bodies is active if the gate of the other one is closed.
 pub fn the_only_open_area_stands()
     ensures { (len : ℕ) (side : Side) (disk : List ℕ) (head : Head) (bodies : List (List ℕ))
         → len + len ≤ length disk → Reads (area_on len side disk) head bodies → IsClosed (area_on len (other side) disk)
         → Stands len side Closed disk head bodies }
 {}
 
-/// An append to the area that stands, whatever became of it, leaves it standing with the bodies before it,
-/// or with these and the new one.
+/// An append to the active area, complete or not, keeps it active, with the old bodies or with the new one appended.
 pub fn an_append_changes_no_choice()
     ensures { (len : ℕ) (side : Side) (gate : Gate) (old new : List ℕ) (head : Head) (bodies : List (List ℕ)) (body : List ℕ)
         → Stands len side gate old head bodies → length body < 2 ^ 32
@@ -45,22 +44,21 @@ pub fn an_append_changes_no_choice()
         → Stands len side gate new head bodies ⊎ Stands len side gate new head (bodies ++ body ∷ []) }
 {}
 
-/// A put into the other area, behind its closed gate, changes nothing of how the disk reads.
+/// A put into the other area, after its closed gate, does not change what the disk reads as.
 pub fn a_put_changes_no_choice()
     ensures { (len at count : ℕ) (side : Side) (old new : List ℕ) (head : Head) (bodies : List (List ℕ))
         → Stands len side Closed old head bodies → 0 < at → at + count ≤ len
         → Torn (start_of len (other side) + at) count old new → Stands len side Closed new head bodies }
 {}
 
-/// Closing the open gate of the other area changes nothing of how the disk reads, also where it is torn.
+/// Closing the other area's open gate, even with a torn write, does not change what the disk reads as.
 pub fn a_close_changes_no_choice()
     ensures { (len : ℕ) (side : Side) (old new : List ℕ) (head : Head) (bodies : List (List ℕ))
         → Stands len side Open old head bodies → Torn (start_of len (other side)) 1 old new
         → Stands len side Open new head bodies ⊎ Stands len side Closed new head bodies }
 {}
 
-/// Opening the gate of another area that is complete, with a greater generation: the disk reads as before, or
-/// as that one does.
+/// Opening the gate of a complete other area with a greater generation: the disk reads as before, or as that area does.
 pub fn an_opened_gate_turns_over()
     ensures { (len : ℕ) (side : Side) (old new : List ℕ) (head next : Head) (bodies others : List (List ℕ))
         → Stands len side Closed old head bodies → WouldRead (area_on len (other side) old) next others

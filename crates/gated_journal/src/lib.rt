@@ -1,8 +1,9 @@
-//! The journal of a disk: records behind gates, which stand whole or not at all, whenever the machine stops.
+//! The journal of a disk: records with gates. After a crash at any moment, each record is either whole or absent.
 #![tactic(auto)]
 
 mod append;
 mod area;
+mod area_pair;
 mod chosen;
 mod gate;
 mod grow;
@@ -15,10 +16,10 @@ pub mod record_laws;
 mod records;
 mod scanned;
 mod side;
-mod standing;
 
 pub use append::OPEN;
 pub use area::Area;
+pub use area_pair::AreaPair;
 pub use chosen::{Chosen, choose};
 pub use gate::Gate;
 pub use head::AreaHead;
@@ -27,4 +28,3 @@ pub use record::Record;
 pub use records::record_at;
 pub use scanned::{ScannedArea, scan};
 pub use side::Side;
-pub use standing::Standing;

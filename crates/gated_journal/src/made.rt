@@ -10,8 +10,8 @@ use crate::append::OPEN;
 use crate::gate::CLOSED;
 use act_disk::{Disk, DiskFault, write_synced};
 
-/// Makes two areas on an empty disk, each `len` long. The bytes are what the first one is to hold, behind a closed
-/// gate, which is opened once they are stable. The second one's gate is closed.
+/// Creates two areas of length `len` on an empty disk. The bytes are the contents of the first one, with a closed gate, which is opened
+/// once they are durable. The gate of the second area is closed.
 pub fn make_areas<D: Disk>(disk: &mut D, len: u64, front: &[u8]) -> Result<(), DiskFault>
     requires countable { D.fault_count disk.old < u64.MAX }
     requires addressed { len + len < 2 ^ 64 }

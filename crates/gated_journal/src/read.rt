@@ -2,14 +2,14 @@ ghost use Rattle.std.specs.Prelude.{◌≡◌, ◌+◌, ◌<◌, ◌≤◌, leng
 ghost use Rattle.act_disk.specs.Images.{SameImages, Only, CountsFault};
 ghost use Rattle.gated_journal.specs.Choice.{part};
 ghost use Rattle.gated_journal.specs.Reading.{OnlyRead};
-ghost use Rattle.gated_journal.specs.Spelled.{EachSpells};
+ghost use Rattle.gated_journal.specs.Encoded.{EachEncodes};
 
 use crate::area::Area;
 use crate::scanned::{ScannedArea, scan};
 use act_disk::{Disk, DiskFault};
 
 impl Area {
-    /// Fills the buffer with the area's bytes. What a stop may leave stays the same.
+    /// Fills the buffer with the area's bytes. The images that a crash may leave do not change.
     pub fn read<D: Disk>(&self, disk: &mut D, bytes: &mut [u8]) -> Result<(), DiskFault>
         requires countable { D.fault_count disk.old < u64.MAX }
         requires whole { length bytes.old ≡ self.now.len }
@@ -26,7 +26,7 @@ impl Area {
 
     /// Syncs, and then fills the buffer with the area's bytes.
     ///
-    /// What was read is what a stop leaves from then on. A stop meanwhile leaves nothing that it might not have left before.
+    /// From then on a crash leaves what was read. A crash during the call leaves nothing that it might not have left before.
     pub fn read_synced<D: Disk>(&self, disk: &mut D, bytes: &mut [u8]) -> Result<(), DiskFault>
         requires countable { D.fault_count disk.old < u64.MAX }
         requires whole { length bytes.old ≡ self.now.len }
@@ -42,7 +42,7 @@ impl Area {
         disk.read(self.start, bytes)
     }
 
-    /// Syncs, reads the area into the buffer, and scans it: what a stop left is what it spells.
+    /// Syncs, reads the area into the buffer and scans it. The result is what the images after a crash encode.
     pub fn load<'b, D: Disk>(
         &self,
         disk: &mut D,
@@ -51,8 +51,8 @@ impl Area {
         requires countable { D.fault_count disk.old < u64.MAX }
         requires whole { length bytes.old ≡ self.now.len }
         requires within { self.now.start + self.now.len ≤ D.size disk.old }
-        ensures spells { IfOk result (λ found. D.honest disk.new
-            → EachSpells self.now.start self.now.len (D.images disk.new) found) }
+        ensures encodes { IfOk result (λ found. D.honest disk.new
+            → EachEncodes self.now.start self.now.len (D.images disk.new) found) }
         ensures stable { OnOk result (D.honest disk.new → Only (D.seen disk.old) (D.images disk.new)) }
         ensures only_read { OnlyRead D.honest D.seen D.size D.moment D.images D.images_since disk.old disk.new }
         ensures calls { D.calls disk.new ≤ D.calls disk.old + 2 }

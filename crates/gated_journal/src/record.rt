@@ -4,10 +4,10 @@ ghost use Rattle.gated_journal.specs.Appends.{record_of, body_in};
 use crate::gate::CLOSED;
 use std::marker::Model;
 
-/// How many bytes a record has beside its body: its length in four, and a closed gate.
+/// The bytes of a record beside its body: four bytes of length and a closed gate.
 const FRAME: usize = 5;
 
-/// A record as an append writes it: a body behind its length, and a closed gate. A contract sees the body.
+/// A record as an append writes it: a length-prefixed body and a closed gate. Contracts see the body.
 #[derive(Drop)]
 pub struct Record {
     bytes: Vec<u8>,
@@ -25,8 +25,7 @@ impl Model for Record {
 }
 
 impl Record {
-    /// The record with the body that stands between the first four bytes and the last one, which may be any.
-    /// No memory is taken.
+    /// The record whose body lies between the first four bytes and the last one; these five may have any value. Takes no memory.
     pub fn of(bytes: Vec<u8>) -> Record
         requires long { 5 ≤ vec_len bytes }
         requires short { vec_len bytes < 2 ^ 32 + 5 }
@@ -37,7 +36,7 @@ impl Record {
         Record { bytes }
     }
 
-    /// The bytes that are written.
+    /// The encoded bytes.
     pub fn as_slice(&self) -> &[u8]
         ensures bytes { result.now ≡ record_of self.now }
         ensures short { length self.now < 2 ^ 32 }
@@ -45,7 +44,7 @@ impl Record {
         self.bytes.as_slice()
     }
 
-    /// The bytes back, with the room that they have.
+    /// Returns the buffer, with its capacity.
     pub fn into_bytes(self) -> Vec<u8>
         ensures { result.items ≡ record_of self }
     {
@@ -54,8 +53,7 @@ impl Record {
     }
 }
 
-/// Writes the length of what stands between the first four bytes and the last one into the four, and a closed
-/// gate into the last.
+/// Writes the length of the body into the first four bytes, and a closed gate into the last one.
 fn frame(bytes: &mut [u8])
     requires long { 5 ≤ length bytes.old }
     requires short { length bytes.old < 2 ^ 32 + 5 }

@@ -10,13 +10,13 @@ pub fn none_is_parted_at_first()
     ensures { (bytes : List ℕ) → Parts bytes [] bytes }
 {}
 
-/// Taking the record at the front of what is left adds its body behind those that were taken.
+/// Taking the next record appends its body to those taken.
 pub fn next_record_is_parted()
     ensures { (bytes : List ℕ) (bodies : List (List ℕ)) (rest body past : List ℕ) → Parts bytes bodies rest → OpensWith rest body past
         → Parts bytes (bodies ++ body ∷ []) past }
 {}
 
-/// Where no record is at the front of what is left, all have been taken.
+/// Once no record is left at the start, all have been taken.
 pub fn all_are_parted_at_last()
     ensures { (bodies parted : List (List ℕ)) (rest : List ℕ) → AllByRecursion (λ body. length body < 2 ^ 32) bodies
         → Parts (record_bytes bodies) parted rest → ((body past : List ℕ) → OpensWith rest body past → ⊥) → parted ≡ bodies }

@@ -6,7 +6,7 @@ ghost use Rattle.gated_journal.specs.Layout.{IsClosed};
 
 use crate::append::OPEN;
 
-/// The number at the front, and what stands behind it.
+/// The four-byte number at the start, and the bytes after it.
 fn number_at(bytes: &[u8]) -> Option<(u32, &[u8])>
     ensures long { IfSome result (λ found. 4 ≤ length bytes.now) }
     ensures number { IfSome result (λ found. found.0 ≡ from_be_bytes w32 (take 4 bytes.now)) }
@@ -18,7 +18,7 @@ fn number_at(bytes: &[u8]) -> Option<(u32, &[u8])>
     Some((number, rest))
 }
 
-/// The body at the front behind its length, and what stands behind it.
+/// The length-prefixed body at the start, and the bytes after it.
 #[tactic(auto, using(crate::proofs::Scanning::no_frame_short, crate::proofs::Scanning::no_frame_long, crate::proofs::Scanning::cut_long))]
 fn frame_at(bytes: &[u8]) -> Option<(&[u8], &[u8])>
     ensures some { IfSome result (λ found. Frames bytes.now found.0.now found.1.now) }
@@ -33,7 +33,7 @@ fn frame_at(bytes: &[u8]) -> Option<(&[u8], &[u8])>
     Some(rest.split_at(count))
 }
 
-/// The body of the open record at the front, and what stands behind it.
+/// The body of the open record at the start, and the bytes after it.
 pub fn record_at(bytes: &[u8]) -> Option<(&[u8], &[u8])>
     ensures some { IfSome result (λ found. OpensWith bytes.now found.0.now found.1.now) }
     ensures none { IsNone result → (body rest : List ℕ) → OpensWith bytes.now body rest → ⊥ }
@@ -45,7 +45,7 @@ pub fn record_at(bytes: &[u8]) -> Option<(&[u8], &[u8])>
     }
 }
 
-/// What stands behind the open records, where that is a closed gate.
+/// The bytes after the open records, if they begin with a closed gate.
 #[tactic(auto, using(crate::proofs::Parting::parts_more, crate::proofs::Parting::shorter, crate::proofs::Parting::rest_closed))]
 pub(crate) fn behind_records(bytes: &[u8]) -> Option<&[u8]>
     ensures some { IfSome result (λ rest. IsClosed rest.now × (bodies : List (List ℕ)) × Parts bytes.now bodies rest.now) }

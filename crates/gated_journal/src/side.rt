@@ -10,7 +10,7 @@ pub enum Side {
 }
 
 impl Side {
-    /// The other one.
+    /// The other side.
     pub fn other(self) -> Side
         ensures { result ≡ other self }
     {
@@ -20,7 +20,7 @@ impl Side {
         }
     }
 
-    /// Where it begins on a disk whose areas are `len` bytes long.
+    /// Where the side begins on a disk whose areas are `len` bytes long.
     pub fn start(self, len: u64) -> u64
         ensures place { result ≡ start_of len self }
         ensures within { result ≤ len }
@@ -31,8 +31,7 @@ impl Side {
         }
     }
 
-    /// The one that stands, of areas with these generations where their gates are open: the newer one, and
-    /// of two with the same generation the first.
+    /// The active side, from the generations of the areas with open gates: the newer one, and the first of two equal ones.
     pub fn newer(first: Option<u64>, second: Option<u64>) -> Option<Side>
         ensures { result ≡ newer first second }
     {

@@ -1,4 +1,4 @@
--- What the entering of a group adds to a book, and what it leaves.
+-- What entering a group adds to a book, and what it keeps.
 use Rattle.std.proofs.Common.{◌≡◌, ℕ, zero, suc, ◌<◌, List, [], ◌∷◌, ◌++◌, length, Bool, true, false, if◌then◌else◌, None, Some, option_map, slice_get, sym, ap, arith}
 use Rattle.std.specs.Map.{lookup}
 use Rattle.group_name.specs.Group.{Group}
@@ -21,13 +21,13 @@ module _ {H : Type 0} (entries : List (Group × Slot H)) (g : Group) where
   pub next_number : group_at with_it (length entries) ≡ Some g
   next_number = next_key entries g empty_slot []
 
--- a number that a group has is below the count
+-- the number of a group is less than the number of groups
 pub number_within : {H : Type 0} (entries : List (Group × Slot H)) (n : ℕ) (g : Group) → group_at entries n ≡ Some g → n < length entries
 number_within [] n g at = cc
 number_within (e ∷ es) zero g at = omega arith
 number_within (e ∷ es) (suc n) g at = omega (arith, number_within es n g at)
 
--- ---- what stays
+-- ---- what is kept
 
 module _ {X Y : Type 0} (of : X → Y) (more : List X) where
   still_seen : (xs : List X) (n : ℕ) (y : Y) → option_map of (slice_get xs n) ≡ Some y → option_map of (slice_get (xs ++ more) n) ≡ Some y
@@ -36,7 +36,7 @@ module _ {X Y : Type 0} (of : X → Y) (more : List X) where
   still_seen (x ∷ xs) (suc n) y at = still_seen xs n y at
 
 module _ {H : Type 0} (entries : List (Group × Slot H)) (k : Group) where
-  -- the numbers and the slots of all groups stay when one is entered
+  -- entering a group keeps the numbers and the slots of all groups
   pub number_stays : (n : ℕ) (g : Group) → group_at entries n ≡ Some g → group_at (entered k entries) n ≡ Some g
   number_stays n g at = by (has_group k entries)
     where
@@ -51,7 +51,7 @@ module _ {H : Type 0} (entries : List (Group × Slot H)) (k : Group) where
       by true = at
       by false = still_seen (λ e. e.1) ((k, empty_slot) ∷ []) entries n slot at
 
-  -- and whoever is listed is listed still
+  -- it also keeps the listed holders
   pub listed_after_enter : (g : Group) (h : H) → ListsIn entries g h → ListsIn (entered k entries) g h
   listed_after_enter g h before = record {
     number = before.number;

@@ -1,4 +1,4 @@
--- Who is listed in a group: its own slot says so, and a slot that is put changes it for one group alone.
+-- The holders that are listed in a group are those of its slot, and putting a slot affects only one group.
 use Rattle.std.proofs.Common.{◌≡◌, ◌↔◌, ℕ, List, Bool, true, false, nat_eq, if◌then◌else◌, Some, refl, sym, ap, subst, ◌∙◌}
 use Rattle.std.specs.Cmp.{nat_eq_equiv}
 use Rattle.std.proofs.lemmas.Bool.{eqb-true}
@@ -8,7 +8,7 @@ use Rattle.group_book.specs.Slots.{Lists}
 use Rattle.group_book.specs.declared.slot.Slot.{Slot}
 
 module _ {H : Type 0} where
-  -- whoever is listed in a group is listed in the slot of the group's number
+  -- the slot with the group's number lists every holder that is listed in the group
   pub listed_there : (entries : List (Group × Slot H)) → HasEachOnce entries → (n : ℕ) (g : Group) (slot : Slot H) (h : H)
       → group_at entries n ≡ Some g → slot_at entries n ≡ Some slot → ListsIn entries g h → Lists slot h
   listed_there entries once n g slot h of_group here in_group =
@@ -18,10 +18,10 @@ module _ {H : Type 0} where
       one : (a b : Slot H) → Some a ≡ Some b → a ≡ b
       one a b is = cc
 
--- ---- a slot that is put at a number
+-- ---- putting a slot at a number
 
 module _ {H : Type 0} (old new : List (Group × Slot H)) (number : ℕ) (slot : Slot H) (puts : Puts number slot old new) where
-  -- no group gets a second number
+  -- each group still has one number
   pub once_after_put : HasEachOnce old → HasEachOnce new
   once_after_put once m n g at also = once m n g (sym (puts.groups m) ∙ at) (sym (puts.groups n) ∙ also)
 
@@ -31,14 +31,14 @@ module _ {H : Type 0} (old new : List (Group × Slot H)) (number : ℕ) (slot : 
   put_elsewhere : (n : ℕ) → nat_eq n number ≡ false → slot_at new n ≡ slot_at old n
   put_elsewhere n not = puts.slots n ∙ ap (λ b. if b then Some slot else slot_at old n) not
 
-  -- the slot says who is listed in the group of the number
+  -- the holders listed in the group with the number are those that the slot lists
   pub listed_by_the_slot : HasEachOnce old → (g : Group) (h : H) → group_at old number ≡ Some g → ListsIn new g h ↔ Lists slot h
   listed_by_the_slot once g h of_group = (
     listed_there new (once_after_put once) number g slot h (puts.groups number ∙ of_group) put_there,
     λ lists. record { number = number; slot = slot; of_group = puts.groups number ∙ of_group; there = put_there; listed = lists },
   )
 
-  -- whoever was listed is listed still, if the slot has those of its own group
+  -- a listed holder stays listed, if the slot lists it or is that of another group
   pub still_listed : (g : Group) (h : H) → ListsIn old g h → (group_at old number ≡ Some g → Lists slot h) → ListsIn new g h
   still_listed g h before has = by (nat_eq before.number number) refl
     where
@@ -54,7 +54,7 @@ module _ {H : Type 0} (old new : List (Group × Slot H)) (number : ℕ) (slot : 
         listed = before.listed;
       }
 
-  -- who is listed in another group is neither fewer nor more
+  -- the holders of other groups stay the same
   other_number : (n : ℕ) (g : Group) → (group_at old number ≡ Some g → ⊥) → group_at old n ≡ Some g → nat_eq n number ≡ false
   other_number n g not at = by (nat_eq n number) refl
     where

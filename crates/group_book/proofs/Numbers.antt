@@ -1,4 +1,4 @@
--- The numbers of a book's groups: where a group is found, what its entering adds, and what a slot that is put changes.
+-- The numbers of a book's groups: finding a group, entering one and putting a slot.
 use Rattle.std.proofs.Common.{◌≡◌, ℕ, zero, suc, ◌<◌, List, [], ◌∷◌, ◌++◌, length, Bool, true, false, cond, nat_eq, if◌then◌else◌, Option, None, Some, option_map, slice_get, append_assoc, refl, sym, ap, subst, ◌∙◌, ◌||◌, true≢false, arith, rules}
 use Rattle.std.proofs.Math.Dec.{eqb-suc-suc, eqb-suc-zero, eqb-zero-suc}
 use Rattle.std.specs.List.{AllByRecursion, IsDistinct, list_any}
@@ -23,7 +23,7 @@ abbrev pub value_at : {X : Type 0} → List (Group × X) → ℕ → Option X
 value_at es n = option_map (λ e. e.1) (slice_get es n)
 
 module _ {X : Type 0} where
-  -- ---- each group once
+  -- ---- each group occurs once
 
   each_key : (P : Group → Type 0) (es : List (Group × X)) (n : ℕ) (g : Group) → AllByRecursion P (keys_of es) → key_at es n ≡ Some g → P g
   each_key P [] n g all at = cc
@@ -57,7 +57,7 @@ module _ {X : Type 0} where
       one : Some number ≡ Some n → number ≡ n
       one h = cc
 
-  -- ---- a group that is there, and one that is not
+  -- ---- a group that is present, and one that is absent
 
   none_behind : (e : Group × X) (es : List (Group × X)) (g : Group) → lookup (group_eq g) (e ∷ es) ≡ None → lookup (group_eq g) es ≡ None
   none_behind e es g none = rest (group_eq g e.0) none
@@ -123,7 +123,7 @@ module _ {X : Type 0} where
       let new = not_before m.entries g x rest (subst (λ es. IsDistinct group_eq (keys_of es)) (sym is) distinct) in
       ap (λ es. es ++ rest) (insert_entry-new group_eq m g x new) ∙ append_assoc m.entries ((g, x) ∷ []) rest ∙ is
 
-  -- ---- a write at a number
+  -- ---- writing at a number
 
   pub key_stays : (es : List (Group × X)) (i : ℕ) (w : X) (n : ℕ) → key_at (set_value_at es i w) n ≡ key_at es n
   key_stays [] i w n = refl

@@ -14,8 +14,9 @@ use std::alloc::Global;
 use std::marker::Model;
 use wf_value::{Refusal, TryCopy};
 
-/// The groups that were entered, each with a number that never changes and a slot for those who may hold it. A contract sees the groups
-/// with their slots in the order of their numbers, and for how many groups there is memory.
+/// The concurrency groups that have been entered. Each has a number, which never changes, and a slot for its possible holders. In
+/// contracts it is the list of the groups with their slots, in the order of their numbers, and the number of groups for which
+/// memory is reserved.
 #[derive(Drop)]
 pub struct Book<H: Copy> {
     slots: IndexMap<GroupKey, Slot<H>>,
@@ -44,7 +45,7 @@ impl<H: Copy> Book<H> {
         }
     }
 
-    /// How many groups there are. They are numbered from 0.
+    /// The number of groups. They are numbered from 0.
     pub fn len(&self) -> usize
         ensures len { result ≡ length self.now.entries }
         ensures once { HasEachOnce self.now.entries }
@@ -52,7 +53,7 @@ impl<H: Copy> Book<H> {
         self.slots.len()
     }
 
-    /// Takes the memory for so many more groups. What the book says stays.
+    /// Reserves memory for `more` additional groups. The groups and slots stay the same.
     pub fn reserve(&mut self, more: usize) -> Result<(), Refusal>
         ensures same { self.new.entries ≡ self.old.entries }
         ensures ok { OnOk result (length self.new.entries + more ≤ self.new.room) }
@@ -64,7 +65,7 @@ impl<H: Copy> Book<H> {
         Ok(())
     }
 
-    /// The number of a group that is in the book.
+    /// The number of a group, if it is in the book.
     pub fn find(&self, group: &GroupKey) -> Option<usize>
         ensures number { (n : ℕ) → (result ≡ Some n) ↔ (group_at self.now.entries n ≡ Some group.now) }
         ensures none { result ≡ None → lookup (group_eq group.now) self.now.entries ≡ None }
@@ -78,7 +79,7 @@ impl<H: Copy> Book<H> {
         }
     }
 
-    /// The number of a group, which is entered if it is not in the book. On an `Err`, which is 50, it is not entered.
+    /// The number of a group, which is entered if it is not in the book. On `Err`, which is 50 (out of memory), it is not entered.
     pub fn enter(&mut self, group: GroupKey) -> Result<usize, Refusal>
         ensures number { IfOk result (λ n. group_at self.new.entries n ≡ Some group) }
         ensures entered { OnOk result (self.new.entries ≡ entered group self.old.entries) }
@@ -87,7 +88,7 @@ impl<H: Copy> Book<H> {
         ensures err { IfErr result (λ e. e ≡ no_memory) }
         ensures unchanged { OnErr result (self.new.entries ≡ self.old.entries) }
 
-        // Where room was reserved, and for a group that is in the book, no memory is needed.
+        // It takes no memory if room is reserved or the group is in the book.
         ensures answers { length self.old.entries < self.old.room → IsOk result }
         ensures known { (n : ℕ) → group_at self.old.entries n ≡ Some group → result ≡ Ok n }
     {
@@ -99,7 +100,7 @@ impl<H: Copy> Book<H> {
         Ok(number)
     }
 
-    /// The slot of a number: whoever is listed in its group is listed there.
+    /// The slot with this number. It lists every holder that the book lists in the group.
     pub fn slot(&self, number: usize) -> Slot<H>
         requires { number < length self.now.entries }
         ensures slot { slot_at self.now.entries number ≡ Some result }
@@ -108,7 +109,7 @@ impl<H: Copy> Book<H> {
         self.slots[number]
     }
 
-    /// Gives a number this slot. All others keep theirs, and the groups their numbers.
+    /// Replaces the slot with this number. All other slots, and the numbers of the groups, stay the same.
     pub fn put(&mut self, number: usize, slot: Slot<H>)
         requires { number < length self.old.entries }
         ensures puts { Puts number slot self.old.entries self.new.entries }
@@ -118,7 +119,7 @@ impl<H: Copy> Book<H> {
         self.slots[number] = slot;
     }
 
-    /// A copy: the same groups with the same numbers and slots.
+    /// A copy with the same groups, numbers and slots.
     pub fn copy(&self, alloc: Global) -> Result<Self, Refusal>
         ensures { Gives (λ b. b.entries) result (Ok self.now.entries) }
     {

@@ -1,5 +1,5 @@
-//! The holders of concurrency groups by the names of the groups. A group has a number, and a slot for those who may hold it. A book says no
-//! less than is so: whoever may hold a group is listed, and who is listed in vain goes when somebody looks.
+//! The possible holders of concurrency groups, by the names of the groups. A group has a number, and a slot for its possible
+//! holders. Entries may be stale, never missing: every possible holder is listed, and a stale one is removed when it is checked.
 #![tactic(auto)]
 
 mod book;

@@ -3,8 +3,8 @@ ghost use Rattle.group_book.specs.Slots.{HasPlace, HasRoom, Lists, empty_slot};
 
 use wf_value::Same;
 
-/// Who may hold a group. A settled group has one running and one pending holder, and a newcomer is the third; where there may be more, the
-/// slot is crowded.
+/// The possible holders of a group. When no rule applies any more, a group has at most one running and one pending holder; the
+/// third place is for a newcomer. A slot is crowded if there may be more holders.
 #[derive(Clone, Copy)]
 pub struct Slot<H> {
     first: Option<H>,
@@ -14,7 +14,7 @@ pub struct Slot<H> {
 }
 
 impl<H: Copy> Slot<H> {
-    /// A slot that lists nobody. Whoever has looked at all that may hold a group begins with it.
+    /// A slot without holders. A complete scan of the possible holders starts with it.
     pub fn empty() -> Self
         ensures { result ≡ empty_slot }
     {
@@ -26,21 +26,21 @@ impl<H: Copy> Slot<H> {
         }
     }
 
-    /// The three places. Where the slot is crowded, others may hold the group too.
+    /// The three places. If the slot is crowded, there may be further holders.
     pub fn places(&self) -> [Option<H>; 3]
         ensures { result ≡ self.now.first ∷ self.now.second ∷ self.now.third ∷ [] }
     {
         [self.first, self.second, self.third]
     }
 
-    /// Whether there may be holders that are in none of the places.
+    /// Whether there may be holders outside the three places.
     pub fn is_crowded(&self) -> bool
         ensures { result ≡ self.now.is_crowded }
     {
         self.is_crowded
     }
 
-    /// The slot without those in its places whom the test finds to be there in vain. A crowded slot stays crowded.
+    /// Removes the holders that the test rejects. A crowded slot stays crowded.
     pub fn kept<F: Fn(H) -> bool>(self, keeps: F) -> Self
         requires { F.IsAlwaysCallable keeps }
         ensures kept { (h : H) → HasPlace self h → HasPlace result h ⊎ F.post keeps h false }
@@ -58,7 +58,7 @@ impl<H: Copy> Slot<H> {
 }
 
 impl<H: Copy + Same> Slot<H> {
-    /// Lists one more: in an empty place, and where there is none, by making the slot crowded.
+    /// Adds a holder to an empty place or, if there is none, makes the slot crowded.
     pub fn with(self, holder: H) -> Self
         ensures listed { Lists result holder }
         ensures keeps { (other : H) → Lists self other → Lists result other }
@@ -79,7 +79,7 @@ impl<H: Copy + Same> Slot<H> {
         is_in(&self.first, holder) || is_in(&self.second, holder) || is_in(&self.third, holder)
     }
 
-    /// Lists one who is in no place.
+    /// Adds a holder that is in none of the places.
     fn with_newcomer(self, holder: H) -> Self
         ensures listed { Lists result holder }
         ensures keeps { (other : H) → Lists self other → Lists result other }
@@ -106,7 +106,7 @@ fn is_in<H: Same>(place: &Option<H>, holder: &H) -> bool
     }
 }
 
-/// The holder in a place, if the test keeps it.
+/// The holder in a place, if the test accepts it.
 fn kept_in<H: Copy, F: Fn(H) -> bool>(place: Option<H>, keeps: &F) -> Option<H>
     requires { F.IsAlwaysCallable keeps.now }
     ensures kept { (h : H) → place ≡ Some h → (result ≡ Some h) ⊎ F.post keeps.now h false }

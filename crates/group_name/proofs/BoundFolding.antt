@@ -1,4 +1,4 @@
--- A bound name without its case gives the group of its text by any results.
+-- A case-folded bound name gives the group of its text for any results.
 use Rattle.std.proofs.Common.{◌≡◌, ℕ, ◌<◌, ◌≤◌, List, [], ◌∷◌, ◌++◌, length, None, Some, arith, codes, encode_utf8_all, IsUtf8}
 use Rattle.std.proofs.Common.{refl, sym, ap, ap₂, subst, ◌∙◌}
 use Rattle.std.specs.Prelude.{◌≢◌, ◌↔◌, IsSome, Option, map}
@@ -19,7 +19,7 @@ use Rattle.group_name.specs.BoundGroup.{AreTexts, BoundName, folded_piece, folde
 use Rattle.group_name.specs.Group.{Group, folded_name, group_of}
 use Rattle.group_name.proofs.Folding.{same_bytes}
 
--- ---- folding, text after text
+-- ---- folding concatenated texts
 
 folded-nil : folded_text [] ≡ []
 folded-nil = ap (λ cs. encode_utf8_all (default_case_fold cs)) chars-nil ∙ ap encode_utf8_all default_case_fold-nil
@@ -30,7 +30,7 @@ folded-append xs ys utf8 =
     ∙ (ap encode_utf8_all (default_case_fold-append (chars xs) (chars ys))
     ∙ encodes-append (default_case_fold (chars xs)) (default_case_fold (chars ys)))
 
--- the words of results have no case
+-- the words of results are case-folded
 folded-word : (r : JobResult) → folded_text (result_word r) ≡ result_word r
 unfolding caseless chars encode
 folded-word result.Success = refl
@@ -45,7 +45,7 @@ word-utf8 result.Failure = (codes "failure", (refl, refl))
 word-utf8 result.Cancelled = (codes "cancelled", (refl, refl))
 word-utf8 result.Skipped = (codes "skipped", (refl, refl))
 
--- no character folds to none: what it folds to is that of its table, and itself where that is empty
+-- no character folds to the empty list: it folds to its table entry, or to itself if that is empty
 first-of-fold : {full : List ℕ} (c : ℕ) (table more : List ℕ) → (length table < 1 → full ≡ c ∷ []) → (1 ≤ length table → full ≡ table)
     → full ++ more ≢ []
 first-of-fold c [] more none some = λ e. let no : c ∷ more ≡ [] = ap (λ f. f ++ more) (sym (none (omega arith))) ∙ e in cc
@@ -70,7 +70,7 @@ chosen-folded : (o : Option JobResult) (text : List ℕ)
 chosen-folded None text = refl
 chosen-folded (Some r) text = sym (folded-word r)
 
--- the text of pieces that are texts is one
+-- the text of pieces with UTF-8 texts is UTF-8
 pub text-utf8 : (results : Results) (pieces : List BoundPiece) → AreTexts pieces → IsUtf8 (bound_text results pieces)
 text-utf8 results [] texts = IsUtf8-nil
 text-utf8 results (p ∷ ps) (text, texts) =
@@ -85,7 +85,7 @@ text-folded results (p ∷ ps) (text, texts) =
 
 -- ---- groups
 
--- the characters of a text without its case
+-- the characters of a case-folded text
 spelled-fold : (text : List ℕ) → IsUtf8 (folded_text text) → folded_name text ≡ chars (folded_text text)
 spelled-fold text utf8 = chars_from_encodes (folded_name text) (folded_text text) utf8 refl
 
@@ -98,7 +98,7 @@ folded-some : (b : ℕ) (bs : List ℕ) → IsUtf8 (b ∷ bs) → IsUtf8 (folded
 folded-some b bs utf8 folded =
     λ e. fold-some (chars (b ∷ bs)) (chars-some b bs utf8) (spelled-fold (b ∷ bs) folded ∙ (ap chars e ∙ chars-nil))
 
--- a text means the same group without its case
+-- folding a text keeps its group
 folded-group : (repository text : List ℕ) → IsUtf8 text → IsUtf8 (folded_text text)
     → group_of_folded repository (folded_text text) ≡ group_of repository text
 folded-group repository [] utf8 folded = ap (group_of_folded repository) folded-nil
@@ -106,7 +106,7 @@ folded-group repository (b ∷ bs) utf8 folded =
     group-of-some repository (folded_text (b ∷ bs)) (folded-some b bs utf8 folded)
     ∙ ap (λ cs. Some (record { repository = repository; folded = cs })) (sym (spelled-fold (b ∷ bs) folded))
 
--- what is kept of a name means the group of its text, by any results
+-- the stored form of a name gives the group of its text, for any results
 pub group-when-bound : (repository kept : List ℕ) (pieces kept_pieces : List BoundPiece) → repository ≡ kept
     → map folded_piece pieces ≡ kept_pieces → AreTexts pieces → AreTexts kept_pieces → (results : Results)
     → group_of_folded kept (bound_text results kept_pieces) ≡ group_of repository (bound_text results pieces)
@@ -116,7 +116,7 @@ group-when-bound repository kept pieces kept_pieces same are texts kept_texts re
     ∙ folded-group repository (bound_text results pieces) (text-utf8 results pieces texts)
     (subst IsUtf8 folded (text-utf8 results kept_pieces kept_texts))
 
--- texts of one group are the same
+-- equal groups have equal texts
 texts-of-group : (repository other_repository text other : List ℕ) → IsUtf8 text → IsUtf8 other → IsSome (group_of_folded repository text)
     → group_of_folded repository text ≡ group_of_folded other_repository other → text ≡ other
 texts-of-group repository other_repository [] other utf8 other_utf8 some same = cc
@@ -124,7 +124,7 @@ texts-of-group repository other_repository (b ∷ bs) [] utf8 other_utf8 some sa
 texts-of-group repository other_repository (b ∷ bs) (c ∷ cs) utf8 other_utf8 some same =
     same_bytes (b ∷ bs) (c ∷ cs) utf8 other_utf8 (ap (λ g. option_map_or (λ (h : Group). h.folded) g []) same)
 
--- two names of one repository mean one group where they have the same text
+-- in the same repository, two names stand for the same group if and only if they have the same text
 pub same-at : {name other : BoundName} {repository other_repository : List ℕ} {pieces other_pieces : List BoundPiece}
     (results other_results : Results)
     → record { repository = repository; pieces = pieces } ≡ name → record { repository = other_repository; pieces = other_pieces } ≡ other
@@ -143,7 +143,7 @@ same-at {name} {other} {repository} {other_repository} {pieces} {other_pieces} r
 
 -- ---- the steps of folding
 
--- a text of the characters without case is that text
+-- the encoding of a text's case-folded characters is that text
 folded-kept : (name text : List ℕ) → folded_name name ≡ chars text → IsUtf8 text → folded_text name ≡ text
 folded-kept name text spells utf8 = ap encode_utf8_all spells ∙ encodes-chars text utf8
 

@@ -1,4 +1,4 @@
--- A bound name that asks for no result has its own text by any results.
+-- A bound name that depends on no result has the same text for any results.
 use Rattle.std.specs.Prelude.{◌≡◌, ℕ, List, [], ◌∷◌, ◌++◌, true, nat_eq, length, Option, Some, None, IfSome, refl}
 use Rattle.std.specs.List.{list_all}
 use Rattle.std.specs.Option.{option_map_or}
@@ -27,7 +27,7 @@ if-named : (o : Option Group) (at : Results → Option Group) → ((results : Re
 if-named None at is = tt
 if-named (Some g) at is = is
 
--- such a name names what its own text names
+-- such a name stands for the group of its own text
 pub always-named : (name : BoundName) (repository copied text : List ℕ) (pieces : List BoundPiece) (o : Option Group)
     → record { repository = repository; pieces = pieces } ≡ name → list_all asks_no_result pieces ≡ true → copied ≡ repository
     → text ≡ own_text pieces → o ≡ group_of_folded copied text

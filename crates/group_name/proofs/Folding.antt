@@ -1,4 +1,4 @@
--- The characters that a folded text spells, and what two groups have in common.
+-- The characters of a folded text, and when two groups are equal.
 use Rattle.std.proofs.Common.{◌≡◌, ℕ, List, [], ◌∷◌, Some, chars, encode_utf8_all, IsUtf8, refl, sym, ap, ap₂, subst, ◌∙◌}
 use Rattle.std.specs.Prelude.{◌≢◌, ◌&&◌, IsTrue, String, string_bytes}
 use Rattle.std.specs.Cmp.{first_so, second_so}
@@ -7,33 +7,33 @@ use Rattle.std.proofs.lemmas.Str.{IsUtf8-string_bytes, chars_from_encodes, encod
 use Rattle.group_name.specs.Group.{Group, folded_name, group_of}
 use Rattle.group_name.specs.Order.{group_eq, name_bytes, repository_bytes}
 
--- the bytes of a text that a `String` is
+-- the bytes of a `String` are UTF-8
 pub text_of_string : {Z : Type 0} (folding : String Z) (text : List ℕ) → text ≡ string_bytes folding → IsUtf8 text
 text_of_string folding text same = subst IsUtf8 (sym same) (IsUtf8-string_bytes folding)
 
--- a text that encodes a folding spells it
+-- the encoding of a folding decodes to it
 pub spelled : {Z : Type 0} (folding : String Z) (name text : List ℕ) → text ≡ string_bytes folding
     → string_bytes folding ≡ encode_utf8_all (folded_name name) → folded_name name ≡ chars text
 spelled folding name text same encodes =
     chars_from_encodes (folded_name name) text (text_of_string folding text same) (sym encodes ∙ sym same)
 
--- the group of a name that is not empty
+-- the group of a non-empty name
 pub group_of_name : (repository name : List ℕ) → name ≢ []
     → group_of repository name ≡ Some (record { repository = repository; folded = folded_name name })
 group_of_name repository [] filled = absurd (filled refl)
 group_of_name repository (b ∷ bs) filled = refl
 
--- it is kept as the repository and a text of the name without its case
+-- its stored form: the repository and the text of the case-folded name
 pub kept_group : (repository name kept text : List ℕ) → name ≢ [] → repository ≡ kept → folded_name name ≡ chars text
     → group_of repository name ≡ Some (record { repository = kept; folded = chars text })
 kept_group repository name kept text filled same folds = group_of_name repository name filled
     ∙ ap₂ (λ r f. Some (record { repository = r; folded = f })) same folds
 
--- texts that spell the same characters are the same
+-- texts with the same characters have the same bytes
 pub same_bytes : (one other : List ℕ) → IsUtf8 one → IsUtf8 other → chars one ≡ chars other → one ≡ other
 same_bytes one other utf8 other_utf8 same = sym (encodes-chars one utf8) ∙ ap encode_utf8_all same ∙ encodes-chars other other_utf8
 
--- two groups are one where they are kept as the same repository and the same text
+-- two groups are the same if and only if they are stored as the same repository and the same text
 pub same_groups : {one other : Group} {repository text other_repository other_text : List ℕ}
     → record { repository = repository; folded = chars text } ≡ one
     → record { repository = other_repository; folded = chars other_text } ≡ other
@@ -48,17 +48,17 @@ same_groups {one} {other} {repository} {text} {other_repository} {other_text} is
   ),
 )
 
--- the text of the name that a group is kept with
+-- the text that is stored for a group's name
 pub kept_name : {g : Group} {repository text : List ℕ} → record { repository = repository; folded = chars text } ≡ g → IsUtf8 text
     → text ≡ name_bytes g
 kept_name {g} {repository} {text} is utf8 = sym (encodes-chars text utf8) ∙ ap (λ (h : Group). name_bytes h) is
 
--- and the characters that it spells
+-- the characters of that text
 pub spelled_name : {g : Group} {repository text : List ℕ} → record { repository = repository; folded = chars text } ≡ g → IsUtf8 text
     → chars (name_bytes g) ≡ g.folded
 spelled_name {g} {repository} {text} is utf8 = ap chars (sym (kept_name is utf8)) ∙ ap (λ (h : Group). h.folded) is
 
--- groups that are kept are equal where they are the same
+-- stored groups are equal as map keys if and only if they are the same
 pub one_group : (g h : Group) → chars (name_bytes g) ≡ g.folded → chars (name_bytes h) ≡ h.folded
     → (IsTrue (group_eq g h) → g ≡ h) × (g ≡ h → IsTrue (group_eq g h))
 one_group g h own other_own = (

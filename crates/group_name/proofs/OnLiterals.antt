@@ -1,9 +1,9 @@
--- What a row unfolds to compute the group of a name that is written out.
+-- What an example unfolds to compute the group of a literal name.
 use Rattle.std.specs.Prelude.{⊤}
 use Rattle.std.specs.Str.{chars}
 use Rattle.caseless.proofs.Computing.{caseless}
 
--- `unfolding group_name_on_literals` lets `refl` compute the group of a name
+-- with `unfolding group_name_on_literals`, `refl` computes the group of a name
 unfoldable pub group_name_on_literals : ⊤
 unfolding chars caseless
 group_name_on_literals = tt

@@ -1,4 +1,4 @@
--- The test of two groups says whether they are one.
+-- The test for equal groups decides whether they are the same.
 use Rattle.std.proofs.Common.{◌≡◌, true, refl, ap₂}
 use Rattle.std.specs.Str.{bytes_eq}
 use Rattle.std.proofs.lemmas.Bool.{and_from, and_parts}

@@ -1,4 +1,5 @@
--- The order of groups, by the bytes of the repository and then by those of the name without its case, and what a hash of a group is fed.
+-- The order of groups: by the bytes of the repository, then by those of the case-folded name. The hash of a group is fed the same
+-- bytes.
 use Rattle.std.specs.Prelude.{ℕ, List, ◌++◌, Bool, encode_utf8_all}
 use Rattle.std.specs.Cmp.Lexicographic.{slice_cmp}
 use Rattle.std.specs.Hash as fed

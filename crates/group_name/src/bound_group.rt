@@ -11,9 +11,8 @@ use std::marker::Model;
 use wf_expr::{BoundPiece, BoundTemplate, NeedResults};
 use wf_value::{Chars, Refusal, Same, TryCopy};
 
-/// The name of a concurrency group in a repository, without its case, where it was bound before the
-/// results of needs were known: by these it names a group, or none. A contract sees the repository's
-/// bytes and the name's pieces.
+/// The case-folded name of a concurrency group in a repository, bound before the results of needs are known. Given the results, it
+/// names a group, or none. In contracts it is the repository's bytes and the name's pieces.
 #[derive(Drop)]
 pub struct BoundGroup {
     repository: Chars,
@@ -32,7 +31,7 @@ impl Model for BoundGroup {
     ghost invariant = { λ g. AreTexts g.name };
 }
 
-/// A piece without the case of its text.
+/// A piece with case-folded text.
 fn folded_piece(alloc: Global, piece: &BoundPiece) -> Result<BoundPiece, Refusal>
     ensures gives { Gives (λ p. p) result (Ok (folded_piece piece.now)) }
     ensures utf8 { IfOk result (λ p. IsUtf8 p.otherwise × IsUtf8 piece.now.otherwise) }
@@ -60,7 +59,7 @@ fn ask_no_result(pieces: &[BoundPiece]) -> bool
     pieces.iter().all(|piece| piece.needs.len() == 0)
 }
 
-/// The pieces' own texts, one after another.
+/// The concatenated texts of the pieces, without any results.
 fn own_text(alloc: Global, pieces: &[BoundPiece]) -> Result<Chars, Refusal>
     ensures gives { Gives (λ t. t) result (Ok (own_text pieces.now)) }
     ensures utf8 { IfOk result IsUtf8 }
@@ -73,8 +72,8 @@ fn own_text(alloc: Global, pieces: &[BoundPiece]) -> Result<Chars, Refusal>
 }
 
 impl BoundGroup {
-    /// The group that a bound name means in a repository, whatever the results will be. Its `Err` is 50
-    /// alone. GitHub Docs, "Control the concurrency of workflows and jobs".
+    /// The group that a bound name stands for in a repository, for any results. Its only `Err` is 50 (out of memory). GitHub Docs,
+    /// "Control the concurrency of workflows and jobs".
     pub fn of(alloc: Global, repository: &str, name: &BoundTemplate) -> Result<Self, Refusal>
         ensures gives { Gives (λ g. g) result (Ok (bound_group repository.now name.now)) }
         ensures group { IfOk result (λ g. (results : Results)
@@ -87,8 +86,8 @@ impl BoundGroup {
         })
     }
 
-    /// The group of a name that asks for no result, which it names whatever the results will be. Its `Err`
-    /// is 50 alone.
+    /// The group of a name that depends on no result, which is the same for any results; `None` if the name depends on a result or
+    /// is empty. Its only `Err` is 50 (out of memory).
     pub fn fixed(&self, alloc: Global) -> Result<Option<GroupKey>, Refusal>
         ensures gives { Gives (λ k. k) result (Ok (fixed_group self.now)) }
         ensures always { IfOk result (λ k. IfSome k (λ g. (results : Results) → group_at results self.now ≡ Some g)) }
@@ -101,15 +100,15 @@ impl BoundGroup {
         Ok(GroupKey::of_folded(repository, text))
     }
 
-    /// Whether there is a group by the results: whether the name is not empty. It takes no memory.
+    /// Whether the name stands for a group, given the results, that is, whether it is not empty. It takes no memory.
     pub fn has_group<R: NeedResults>(&self, results: &R) -> bool
         ensures { IsTrue result ↔ IsSome (group_at (R.result_of results.now) self.now) }
     {
         self.name.has_text(results)
     }
 
-    /// Whether there is a group by the results, and it is that of another name by its own. It takes no
-    /// memory.
+    /// Whether the name stands for a group, given the results, and the other name stands for the same group, given its own results.
+    /// It takes no memory.
     pub fn same<R: NeedResults, S: NeedResults>(
         &self,
         results: &R,

@@ -9,9 +9,8 @@ use std::alloc::Global;
 use std::marker::Model;
 use wf_value::{Chars, Refusal, Same, TryCopy};
 
-/// A concurrency group: a repository and a name without its case. A contract sees the bytes of the
-/// repository, and the characters of the name after default case folding (The Unicode Standard, section
-/// 3.13), as `caseless` has it.
+/// A concurrency group: a repository and a case-folded name. In contracts it is the bytes of the repository, and the characters of
+/// the name after default case folding (The Unicode Standard, section 3.13), which the crate `caseless` implements.
 #[derive(Drop)]
 pub struct GroupKey {
     repository: Chars,
@@ -33,8 +32,8 @@ impl Model for GroupKey {
 }
 
 impl GroupKey {
-    /// The group of a name in a repository: none where the name is empty, memory or not. GitHub Docs,
-    /// "Control the concurrency of workflows and jobs". Its `Err` is 50 alone.
+    /// The group of a name in a repository. An empty name gives `None`, which takes no memory. Its only `Err` is 50 (out of
+    /// memory). GitHub Docs, "Control the concurrency of workflows and jobs".
     pub fn of(alloc: Global, repository: &str, name: &str) -> Result<Option<Self>, Refusal>
         ensures gives { Gives (λ k. k) result (Ok (group_of repository.now name.now)) }
         ensures answers { name.now ≡ [] → result ≡ Ok None }
@@ -48,7 +47,7 @@ impl GroupKey {
         }))
     }
 
-    /// The group of a text without its case, and none of the empty text.
+    /// The group of a case-folded text; `None` for the empty text.
     pub(crate) fn of_folded(repository: Chars, folded: Chars) -> Option<Self>
         requires { IsUtf8 folded }
         ensures { result ≡ group_of_folded repository folded }
@@ -67,7 +66,7 @@ impl GroupKey {
         self.repository.as_str()
     }
 
-    /// The text of the name without its case.
+    /// The text of the case-folded name.
     pub fn name(&self) -> &str
         ensures bytes { result.now ≡ name_bytes self.now }
         ensures characters { chars (name_bytes self.now) ≡ self.now.folded }
@@ -76,7 +75,7 @@ impl GroupKey {
     }
 }
 
-/// A name without its case.
+/// The case-folded name.
 pub(crate) fn folded(alloc: Global, name: &str) -> Result<Chars, Refusal>
     ensures gives { Gives chars result (Ok (folded_name name.now)) }
     ensures utf8 { IfOk result IsUtf8 }
@@ -86,7 +85,7 @@ pub(crate) fn folded(alloc: Global, name: &str) -> Result<Chars, Refusal>
 }
 
 impl Same for GroupKey {
-    /// Whether both are one group.
+    /// Whether both are the same group.
     #[tactic(auto, using(crate::proofs::Folding::same_groups))]
     fn same(&self, other: &Self) -> bool {
         self.repository.same(&other.repository) && self.folded.same(&other.folded)

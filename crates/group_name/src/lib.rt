@@ -1,4 +1,4 @@
-//! Which names mean one concurrency group. GitHub Docs, "Control the concurrency of workflows and jobs".
+//! Concurrency groups and their names. GitHub Docs, "Control the concurrency of workflows and jobs".
 #![tactic(auto)]
 
 mod bound_group;

@@ -1,4 +1,4 @@
-//! The order and the hash of groups, for maps from them. GitHub Docs, "Control the concurrency of workflows and jobs".
+//! The order and the hash of groups as map keys. GitHub Docs, "Control the concurrency of workflows and jobs".
 ghost use Rattle.std.specs.Prelude.{Some};
 ghost use Rattle.std.specs.Cmp.Rules.{comparing, hashing};
 ghost use Rattle.std.proofs.Common.{rules};

@@ -1,4 +1,4 @@
--- What the entering of a list adds, and what it leaves.
+-- What entering a list adds, and what it keeps.
 use Rattle.std.proofs.Common.{◌≡◌, ℕ, zero, suc, ◌∷◌, ◌++◌, ◌||◌, [], length, refl, List, Bool, true, false, if◌then◌else◌, Some, is_some, slice_get, sym, ap, subst, ◌∙◌, append_assoc}
 use Rattle.std.specs.List.{IsDistinct, list_any}
 use Rattle.std.specs.Option.{option_map_or}
@@ -25,7 +25,7 @@ list_stays lists labels other n at = by (list_any (labels_eq labels) lists)
     by true = at
     by false = still_seen (labels ∷ []) lists n other at
 
--- a list that comes later is not among those before it
+-- an appended list is found at its index
 own_place : (lists rest : List (List (List ℕ))) (labels : List (List ℕ)) → slice_get (lists ++ labels ∷ rest) (length lists) ≡ Some labels
 own_place [] rest labels = refl
 own_place (l ∷ ls) rest labels = own_place ls rest labels
@@ -43,7 +43,7 @@ one_more_copied old labels rest whole distinct is =
     let apart : list_any (labels_eq labels) old ≡ false = absent old rest labels (subst (IsDistinct labels_eq) (sym is) distinct) in
     ap (λ b. (if b then old else old ++ labels ∷ []) ++ rest) apart ∙ append_assoc old (labels ∷ []) rest ∙ is
 
--- ---- runs of a new list, of which none asks
+-- ---- a new list without runs
 
 pub offers_appended : (asking : List AskingState) (new : AskingState) → new.runs ≡ [] → (n r : ℕ) → offers_at (asking ++ new ∷ []) n r ≡ offers_at asking n r
 offers_appended asking new none n r = appended (λ a. may_offer_in a r) new asking n (ap (λ runs. option_map_or (is_marked new.marks) (place_of runs r) false) none)
@@ -51,7 +51,7 @@ offers_appended asking new none n r = appended (λ a. may_offer_in a r) new aski
 pub asked_appended : (asking : List AskingState) (new : AskingState) → new.runs ≡ [] → (n r : ℕ) → asks_at (asking ++ new ∷ []) n r ≡ asks_at asking n r
 asked_appended asking new none n r = appended (λ a. asks_in a r) new asking n (ap (λ runs. is_some (place_of runs r)) none)
 
--- ---- one entering behind another
+-- ---- two entries in sequence
 
 pub enters_twice : (old between new : KnownState) → OnlyEnters old between → OnlyEnters between new → OnlyEnters old new
 enters_twice old between new first second = record {

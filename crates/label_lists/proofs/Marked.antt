@@ -1,4 +1,4 @@
--- The marks of the lists that some run may offer a leg for.
+-- The marks of the lists for which some run may have a ready leg.
 use Rattle.std.proofs.Common.{◌≡◌, ℕ, ◌+◌, ◌≤◌, ◌<◌, ◌++◌, ◌∷◌, [], List, length, Bool, true, false, if◌then◌else◌, Option, None, Some, IfSome, true≢false, inl, inr, refl, sym, ◌∙◌, arith}
 use Rattle.std.proofs.lemmas.Bool.{cases_lt}
 use Rattle.std.proofs.lemmas.Grind.{common_steps}
@@ -8,7 +8,7 @@ use Rattle.label_lists.specs.Asking.{AskingState}
 use Rattle.label_lists.specs.Known.{AreMarked, IsBefore, offers_at}
 use Rattle.label_lists.proofs.Entering.{offers_appended}
 
--- a write that makes no run offer a leg leaves all marks right
+-- the marks stay correct if no further run may have a ready leg
 pub still_marked : (old new : List AskingState) (offering : List ℕ) → length new ≡ length old → AreMarked old offering
     → ((n r : ℕ) → offers_at new n r ≡ true → offers_at old n r ≡ true) → AreMarked new offering
 still_marked old new offering many marks before = record {
@@ -21,7 +21,7 @@ pub was_before : (b : Bool) (new old : Bool) → new ≡ (if b then false else o
 was_before true new old is offers = absurd (let bad : true ≡ false = sym offers ∙ is in cc)
 was_before false new old is offers = sym is ∙ offers
 
--- nor does a new list for which no run asks
+-- they stay correct after a new list without runs is added
 pub marked_appended : (asking : List AskingState) (new : AskingState) (offering next : List ℕ) → AreMarked asking offering → new.runs ≡ []
     → SameMarks offering next → Covers next (length asking + 1) → AreMarked (asking ++ new ∷ []) next
 marked_appended asking new offering next marks none same covers = record {
@@ -30,7 +30,7 @@ marked_appended asking new offering next marks none same covers = record {
   none_behind = (λ n past. same n ∙ marks.none_behind n (grind (arith, common_steps)));
 }
 
--- ---- the next list that is marked
+-- ---- the next marked list
 
 module _ (asking : List AskingState) (offering : List ℕ) (marks : AreMarked asking offering) (number : ℕ) where
   pub next_some : (found : Option ℕ) → IsFirstFrom (is_marked offering) number found → IfSome found (λ n. (number ≤ n) × (n < length asking))

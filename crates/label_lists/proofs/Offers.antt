@@ -1,4 +1,4 @@
--- Which runs may have a ready leg, by marks at the places of runs.
+-- The runs that may have a ready leg, from the marks at their indices.
 use Rattle.std.proofs.Common.{◌≡◌, ℕ, ◌+◌, ◌<◌, ◌≤◌, ◌++◌, ◌∷◌, [], List, length, Bool, true, false, nat_eq, if◌then◌else◌, Option, None, Some, get_or, refl, sym, ap, subst, ◌∙◌, arith, inl, inr}
 use Rattle.std.specs.Option.{option_map_or}
 use Rattle.std.proofs.lemmas.Bool.{cases_eq, cases_lt, true≢false}
@@ -11,14 +11,14 @@ use Rattle.run_marks.specs.Marked.{Covers, SameMarks, is_marked}
 use Rattle.label_lists.specs.Asking.{AskingState, Begins, IsOrdered, PutsRun, may_offer_in, place_of}
 use Rattle.label_lists.proofs.Places.{Rises, StandsAt, no_less, place_found, place_there, rises_pushed}
 
--- by the place of a run, where it has one
+-- the mark at the index of a run, if it has one
 abbrev pub offer_at : List ℕ → Option ℕ → Bool
 offer_at marks place = option_map_or (is_marked marks) place false
 
 abbrev pub state_of : List ℕ → List ℕ → AskingState
 state_of runs marks = record { runs = runs; marks = marks }
 
--- ---- a mark that is put
+-- ---- setting a mark
 
 module _ (to : Bool) (runs old new : List ℕ) (run place : ℕ) (there : place_of runs run ≡ Some place) (puts : Puts to place old new) where
   pub puts_run : PutsRun to run (state_of runs old) (state_of runs new)
@@ -43,7 +43,7 @@ module _ (to : Bool) (runs old new : List ℕ) (run place : ℕ) (there : place_
             | inr other ↦ grind (arith, nat_tests)
           ]
 
--- ---- the first one from a place on
+-- ---- the first one from an index on
 
 module _ (runs marks : List ℕ) (run from : ℕ) (begins : Begins runs run from) where
   passed : (r i : ℕ) → run ≤ r → place_of runs r ≡ Some i → from ≤ i

@@ -1,4 +1,4 @@
--- The places of runs that rise.
+-- The indices of increasing runs.
 use Rattle.std.proofs.Common.{◌≡◌, ◌≢◌, ℕ, ◌+◌, ◌<◌, ◌≤◌, ◌||◌, List, [], ◌∷◌, ◌++◌, length, Bool, true, false, cond, nat_eq, nat_lt, is_some, not, None, Some, Ok, Err, get_or, refl, sym, ap, ◌∙◌, arith, inl, inr}
 use Rattle.std.specs.List.{position_or_len}
 use Rattle.std.specs.List.Sorted.{IsBinarySearchResult}
@@ -21,7 +21,7 @@ no_less runs rises i j le within = elim (cases_lt i j) [
   | inr from ↦ let same : i ≡ j = omega (arith, le, from) in omega (arith, ap (λ k. get_or runs k 0) same)
 ]
 
--- ---- the place of one run
+-- ---- the index of one run
 
 pub place_found : (runs : List ℕ) (i run : ℕ) → Rises runs → i < length runs → get_or runs i 0 ≡ run → place_of runs run ≡ Some i
 place_found runs i run rises within at =
@@ -47,7 +47,7 @@ place_there runs run i is =
     let test = three.1 in
     record { within = three.0; at = grind (arith, nat_tests) }
 
--- ---- what a search says
+-- ---- the result of a search
 
 module _ (runs : List ℕ) (rises : Rises runs) (run i : ℕ) where
   pub found : IsBinarySearchResult (λ y. nat_cmp y run) runs (Ok i) → place_of runs run ≡ Some i
@@ -88,7 +88,7 @@ rises_pushed runs run rises begins i j less within = elim (cases_lt j (length ru
       grind (arith, common_steps)
 ]
 
--- whether a run has a place
+-- whether a run has an index
 asks_by_len : (runs : List ℕ) (r : ℕ) → is_some (place_of runs r) ≡ nat_lt (position_or_len (nat_eq r) runs) (length runs)
 asks_by_len runs r = by (nat_lt (position_or_len (nat_eq r) runs) (length runs))
   where

@@ -1,4 +1,4 @@
--- Equality of lists of labels, for a map, is sameness.
+-- Lists of labels are equal as map keys if and only if they are the same.
 use Rattle.std.proofs.Common.{◌≡◌, ◌↔◌, ℕ, zero, suc, Some, slice_get, List, [], ◌∷◌, Bool, true, false, IsTrue, ◌&&◌, true≢false, refl, sym, ap, subst, ◌∙◌}
 use Rattle.std.specs.List.{AllByRecursion, IsDistinct}
 use Rattle.std.proofs.lemmas.Map.Keys.{IsDistinct-head, IsDistinct-tail}
@@ -21,7 +21,7 @@ own (x ∷ xs) = ap (λ b. b && labels_eq xs xs) ((bytes_decides x x).1 refl) �
 pub one_list : (xs ys : List (List ℕ)) → IsTrue (labels_eq xs ys) ↔ (xs ≡ ys)
 one_list xs ys = (same xs ys, λ is. subst (λ zs. labels_eq xs zs ≡ true) is (own xs))
 
--- a test that is true exactly where the lists are the same is equality
+-- a test that holds if and only if the lists are the same is equality
 pub told : (b : Bool) (xs ys : List (List ℕ)) → (IsTrue b ↔ (xs ≡ ys)) → b ≡ labels_eq xs ys
 told true xs ys is = sym ((one_list xs ys).1 (is.0 refl))
 told false xs ys is = by (labels_eq xs ys) refl
@@ -30,7 +30,7 @@ told false xs ys is = by (labels_eq xs ys) refl
     by true e = absurd (true≢false (sym (is.1 (same xs ys e))))
     by false e = sym e
 
--- ---- each list once
+-- ---- each list occurs once
 
 pub each_passes : (P : List (List ℕ) → Type 0) (lists : List (List (List ℕ))) (n : ℕ) (labels : List (List ℕ)) → AllByRecursion P lists → slice_get lists n ≡ Some labels → P labels
 each_passes P [] n labels all at = cc

@@ -1,4 +1,4 @@
--- What one list's runs that are put in place of others, or behind all, change.
+-- The effect of replacing the runs of a list, or of appending those of a new one.
 use Rattle.std.proofs.Common.{◌≡◌, ℕ, zero, suc, ◌<◌, ◌&&◌, ◌||◌, List, [], ◌∷◌, ◌++◌, length, Bool, true, false, nat_eq, if◌then◌else◌, Some, Result, Ok, Err, IfOk, OnErr, set, slice_get, refl, sym, ap, ◌∙◌, arith}
 use Rattle.std.proofs.Math.Dec.{eqb-suc-suc, eqb-suc-zero, eqb-zero-suc}
 use Rattle.std.specs.Cmp.{nat_eq_equiv}
@@ -26,13 +26,13 @@ module _ (f : AskingState → Bool) where
   appended new (x ∷ xs) zero lacks = refl
   appended new (x ∷ xs) (suc n) lacks = appended new xs n lacks
 
-  -- a list of which it is true has a number
+  -- a number for which the test holds is that of a list
   pub within_if : (asking : List AskingState) (k : ℕ) → tested_at asking k ≡ true → k < length asking
   within_if [] k is = cc
   within_if (x ∷ xs) zero is = omega arith
   within_if (x ∷ xs) (suc k) is = let less = within_if xs k is in omega (arith, less)
 
--- ---- in place of the runs of a number
+-- ---- replacing the runs of a number
 
 module _ (asking : List AskingState) (k : ℕ) (old new : AskingState) (within : k < length asking) (there : slice_get asking k ≡ Some old) where
   here : (f : AskingState → Bool) (n : ℕ) → nat_eq n k ≡ true → tested_at f asking n ≡ f old
@@ -70,7 +70,7 @@ module _ (asking : List AskingState) (k : ℕ) (old new : AskingState) (within :
   pub asked_now : (r : ℕ) → asks_at (set asking k new) k r ≡ asks_in new r
   asked_now r = written (λ a. asks_in a r) new asking k k within ∙ ap (λ b. if b then asks_in new r else asks_at asking k r) (nat_eq_equiv.refl k)
 
-  -- a run that is given a place, where it gets one
+  -- adding a run keeps the others
   module _ {E : Type 0} (run : ℕ) (result : Result Bool E) (entered : IfOk result (λ has. (r : ℕ) → asks_in new r ≡ has && nat_eq r run || asks_in old r)) where
     pub entered_still : OnErr result (SameAsking old new) → (r : ℕ) → asks_in old r ≡ true → asks_in new r ≡ true
     entered_still unchanged r asks = by result entered unchanged

@@ -1,6 +1,6 @@
--- The runs that ask for one list of labels, in rising order, with marks by their places in that order: a run that may have a ready leg that
--- asks for the list is marked (own).
-use Rattle.std.specs.Prelude.{◌≡◌, ◌<◌, ◌≤◌, ℕ, List, length, Bool, false, nat_eq, is_some, Option, slice_index, if◌then◌else◌}
+-- The runs that have legs with one list of labels, in increasing order, with a mark for each by its index. A run that may have a
+-- ready leg with these labels is marked. This is defined by this project.
+use Rattle.std.specs.Prelude.{◌≡◌, ◌<◌, ◌≤◌, ℕ, List, length, Bool, true, false, nat_eq, is_some, Option, slice_index, if◌then◌else◌}
 use Rattle.std.specs.List.{position}
 use Rattle.std.specs.Option.{option_map_or}
 use Rattle.run_marks.specs.Marked.{Covers, is_marked}
@@ -9,39 +9,46 @@ pub record AskingState : Type 0 where
   pub runs : List ℕ
   pub marks : List ℕ
 
--- the place of a run
+-- the index of a run
 abbrev pub place_of : List ℕ → ℕ → Option ℕ
 place_of runs run = position (nat_eq run) runs
 
--- whether the run asks
+-- whether the run is in the list
 abbrev pub asks_in : AskingState → ℕ → Bool
 asks_in asking run = is_some (place_of asking.runs run)
 
--- whether the run may have a ready leg that asks
+-- whether the run may have a ready leg with these labels
 abbrev pub may_offer_in : AskingState → ℕ → Bool
 may_offer_in asking run = option_map_or (is_marked asking.marks) (place_of asking.runs run) false
 
--- the runs rise, each can be marked, and nothing else is
+-- a later run has legs with the list, and this run has none, given a test for the runs that have
+pub record IsPassed (asks : ℕ → Bool) (run : ℕ) : Type 0 where
+  pub not_yet : asks run ≡ false
+  pub later : ℕ
+  pub behind : run < later
+  pub already : asks later ≡ true
+
+-- the runs increase, each can be marked, and no other index is marked
 pub record IsOrdered (runs marks : List ℕ) : Type 0 where
   pub rises : (i j : ℕ) → i < j → j < length runs → slice_index runs i < slice_index runs j
   pub covers : Covers marks (length runs)
   pub none_behind : (i : ℕ) → length runs ≤ i → is_marked marks i ≡ false
 
--- at a place the runs begin that are no less than this one
+-- from is the index of the first run that is not less than the given one
 pub record Begins (runs : List ℕ) (run from : ℕ) : Type 0 where
   pub before : (k : ℕ) → k < from → k < length runs → slice_index runs k < run
   pub behind : (k : ℕ) → from ≤ k → k < length runs → run ≤ slice_index runs k
 
--- ---- what changes
+-- ---- changes
 
--- the same runs ask
+-- both have the same runs
 abbrev pub SameAsking : AskingState → AskingState → Type 0
 SameAsking old new = (run : ℕ) → asks_in new run ≡ asks_in old run
 
--- the same runs may have such a leg
+-- the same runs may have a ready leg
 abbrev pub SameOffers : AskingState → AskingState → Type 0
 SameOffers old new = (run : ℕ) → may_offer_in new run ≡ may_offer_in old run
 
--- one run may have such a leg, or has none; all others are as they were
+-- the mark of one run has the given value; all others are unchanged
 abbrev pub PutsRun : Bool → ℕ → AskingState → AskingState → Type 0
 PutsRun to run old new = (r : ℕ) → may_offer_in new r ≡ (if nat_eq r run then to else may_offer_in old r)

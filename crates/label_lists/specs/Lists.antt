@@ -1,11 +1,11 @@
--- Lists of labels that legs ask for, by number, and which runs may have a ready leg that asks for each. Number 0 stands for lists that are
--- not known (own).
-use Rattle.std.specs.Prelude.{◌≡◌, ◌&&◌, ◌+◌, ℕ, zero, suc, List, Bool, true, nat_eq, Option, None, Some, slice_get, if◌then◌else◌}
+-- Lists of the labels of legs, by number, and the runs that may have a ready leg for each. Number 0 is for legs whose labels have
+-- no known list. This is defined by this project.
+use Rattle.std.specs.Prelude.{◌≡◌, ◌<◌, ◌&&◌, ◌+◌, ℕ, zero, suc, List, Bool, true, nat_eq, Option, None, Some, slice_get, if◌then◌else◌}
 use Rattle.run_marks.specs.Marked.{Covers, is_marked}
 use Rattle.label_lists.specs.Asking.{AskingState}
 use Rattle.label_lists.specs.Known.{asks_at, offers_at}
 
--- the lists from number 1 on, with the runs that ask for each, and the marks of number 0 by run
+-- the lists from number 1 on, with the runs of each, and the marks of number 0 by run
 pub record ListsState : Type 0 where
   pub lists : List (List (List ℕ))
   pub asking : List AskingState
@@ -21,7 +21,16 @@ abbrev pub HasPlace : ListsState → ℕ → ℕ → Type 0
 HasPlace l zero run = Covers l.unknown (run + 1)
 HasPlace l (suc k) run = asks_at l.asking k run ≡ true
 
--- whether the run may have a ready leg of the number
+-- the labels have a number, under which a later run can be marked already and this run cannot
+pub record IsPassedUnder (l : ListsState) (labels : List (List ℕ)) (run : ℕ) : Type 0 where
+  pub number : ℕ
+  pub has_number : labels_of l number ≡ Some labels
+  pub not_yet : HasPlace l number run → ⊥
+  pub later : ℕ
+  pub behind : run < later
+  pub already : HasPlace l number later
+
+-- whether the run may have a ready leg for the number
 abbrev pub may_offer : ListsState → ℕ → ℕ → Bool
 may_offer l zero run = is_marked l.unknown run
 may_offer l (suc k) run = offers_at l.asking k run
@@ -30,15 +39,15 @@ may_offer l (suc k) run = offers_at l.asking k run
 abbrev pub IsOnceEach : ListsState → Type 0
 IsOnceEach l = (m n : ℕ) (labels : List (List ℕ)) → labels_of l m ≡ Some labels → labels_of l n ≡ Some labels → m ≡ n
 
--- ---- what changes
+-- ---- changes
 
--- all numbers keep their labels, all runs their places, and the same ones may offer a leg
+-- all numbers keep their labels and their runs, and the same runs may have ready legs
 pub record OnlyGrows (old new : ListsState) : Type 0 where
   pub labels : (number : ℕ) (labels : List (List ℕ)) → labels_of old number ≡ Some labels → labels_of new number ≡ Some labels
   pub places : (number run : ℕ) → HasPlace old number run → HasPlace new number run
   pub offers : (number run : ℕ) → may_offer new number run ≡ may_offer old number run
 
--- one run may offer a leg of one number, or offers none; all else is as it was
+-- the mark of one run for one number has the given value; everything else is unchanged
 pub record PutsOffer (to : Bool) (number run : ℕ) (old new : ListsState) : Type 0 where
   pub labels : (n : ℕ) → labels_of new n ≡ labels_of old n
   pub places : (n r : ℕ) → HasPlace old n r → HasPlace new n r

@@ -1,20 +1,20 @@
-//! The runs that ask for one list of labels.
+//! The runs that have legs with a given list of labels.
 
-ghost use Rattle.std.specs.Prelude.{◌≡◌, ◌||◌, ◌&&◌, ℕ, [], true, false, nat_eq, IfErr, IfOk, OnErr};
+ghost use Rattle.std.specs.Prelude.{◌≡◌, ◌↔◌, ◌||◌, ◌&&◌, ℕ, [], true, false, nat_eq, IfErr, IfOk, OnErr};
 ghost use Rattle.wf_value.specs.Gives.{Gives, no_memory};
 ghost use Rattle.run_marks.specs.First.{IsFirstFrom};
-ghost use Rattle.label_lists.specs.Asking.{Begins, PutsRun, SameAsking, SameOffers, asks_in, may_offer_in, place_of};
+ghost use Rattle.label_lists.specs.Asking.{Begins, IsPassed, PutsRun, SameAsking, SameOffers, asks_in, may_offer_in, place_of};
 
-use run_marks::Marks;
+use run_marks::RunBitmap;
 use std::alloc::Global;
 use std::marker::Model;
 use wf_value::Refusal;
 
-/// Runs in rising order, with marks by their places in that order. A contract sees both.
+/// Runs in increasing order, with a mark for each by its index. In contracts it is the record of both.
 #[derive(Drop)]
 pub(crate) struct AskingRuns {
     runs: Vec<usize>,
-    marks: Marks,
+    marks: RunBitmap,
 }
 
 impl Model for AskingRuns {
@@ -28,17 +28,17 @@ impl Model for AskingRuns {
 }
 
 impl AskingRuns {
-    /// No run asks.
+    /// An empty list of runs.
     pub fn new(alloc: Global) -> Self
         ensures { result.runs ≡ [] }
     {
         AskingRuns {
             runs: Vec::new(alloc),
-            marks: Marks::new(alloc),
+            marks: RunBitmap::new(alloc),
         }
     }
 
-    /// The place of a run.
+    /// The index of a run, if it is in the list.
     fn place(&self, run: usize) -> Option<usize>
         ensures { result ≡ place_of self.now.runs run }
     {
@@ -48,7 +48,7 @@ impl AskingRuns {
         }
     }
 
-    /// The place at which the runs begin that are no less than this one.
+    /// The index of the first run that is not less than this one.
     fn first_place(&self, run: usize) -> usize
         ensures { Begins self.now.runs run result }
     {
@@ -58,17 +58,18 @@ impl AskingRuns {
         }
     }
 
-    /// Gives a run a place, and answers whether it has one: none is made behind a later run.
+    /// Adds a run and returns whether it is in the list. A new run is added only if it is greater than all others.
     pub fn enter(&mut self, run: usize) -> Result<bool, Refusal>
         ensures offers { SameOffers self.old self.new }
         ensures entered { IfOk result (λ has. (r : ℕ) → asks_in self.new r ≡ (has && nat_eq r run || asks_in self.old r)) }
+        ensures refused { IfOk result (λ has. (has ≡ false) ↔ IsPassed (asks_in self.old) run) }
         ensures err { IfErr result (λ e. e ≡ no_memory) }
         ensures unchanged { OnErr result (SameAsking self.old self.new) }
     {
         match self.runs.binary_search(&run) {
             Ok(_) => Ok(true),
             Err(place) if place == self.runs.len() => {
-                self.marks.cover(place + 1)?;
+                self.marks.reserve_up_to(place + 1)?;
                 self.runs.push(run)?;
                 Ok(true)
             }
@@ -76,7 +77,7 @@ impl AskingRuns {
         }
     }
 
-    /// Notes that the run may have a ready leg that asks.
+    /// Marks that the run may have a ready leg with these labels.
     pub fn mark(&mut self, run: usize)
         requires { asks_in self.old run ≡ true }
         ensures puts { PutsRun true run self.old self.new }
@@ -87,7 +88,7 @@ impl AskingRuns {
         }
     }
 
-    /// Notes that the run has no such leg.
+    /// Removes the mark of a run that has no such leg.
     pub fn unmark(&mut self, run: usize)
         ensures puts { PutsRun false run self.old self.new }
         ensures asks { SameAsking self.old self.new }
@@ -97,7 +98,7 @@ impl AskingRuns {
         }
     }
 
-    /// The first run at or after one that may have a ready leg that asks.
+    /// The first run, from `run` on, that may have a ready leg with these labels.
     pub fn first_from(&self, run: usize) -> Option<usize>
         ensures { IsFirstFrom (may_offer_in self.now) run result }
     {

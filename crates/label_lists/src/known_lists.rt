@@ -1,26 +1,27 @@
-//! Lists of labels by number, each with the runs that ask for it.
+//! Lists of labels by number, each with the runs that have legs with these labels.
 
-ghost use Rattle.std.specs.Prelude.{◌≡◌, ◌≤◌, ◌<◌, ◌^◌, ℕ, [], true, false, length, None, Some, IfErr, IfNone, IfOk, IfSome, Ok, slice_get};
+ghost use Rattle.std.specs.Prelude.{◌≡◌, ◌↔◌, ◌≤◌, ◌<◌, ◌^◌, ℕ, [], true, false, length, None, Some, IfErr, IfNone, IfOk, IfSome, Ok, slice_get};
 ghost use Rattle.wf_value.specs.Gives.{Gives, no_memory};
 ghost use Rattle.run_marks.specs.First.{IsFirstFrom};
-ghost use Rattle.label_lists.specs.Known.{HasEachOnce, IsBefore, OnlyEnters, PutsAt, SameAsked, asks_at, offers_at};
+ghost use Rattle.label_lists.specs.Asking.{IsPassed};
+ghost use Rattle.label_lists.specs.Known.{HasEachOnce, IsBefore, IsPassedFor, OnlyEnters, PutsAt, SameAsked, asks_at, offers_at};
 
 use crate::asking_runs::AskingRuns;
 use crate::label_list::LabelList;
 use indexmap::IndexSet;
-use run_marks::Marks;
+use run_marks::RunBitmap;
 use std::alloc::Global;
 use std::marker::Model;
 use wf_value::{Chars, Refusal, Sequence, TryCopy};
 
-/// Lists of labels with numbers that never change. A contract sees the lists in the order of their numbers, from 0, and of each the runs
-/// that ask for it.
+/// Lists of labels with numbers that never change. In contracts it is the lists in the order of their numbers, from 0, and for each
+/// the runs that have legs with these labels.
 #[derive(Drop)]
 pub(crate) struct KnownLists {
     lists: IndexSet<LabelList>,
     asking: Vec<AskingRuns>,
-    /// The lists that some run may offer a leg for.
-    offering: Marks,
+    /// The lists for which some run may have a ready leg.
+    offering: RunBitmap,
 }
 
 impl Model for KnownLists {
@@ -44,11 +45,11 @@ impl KnownLists {
         KnownLists {
             lists: IndexSet::new(alloc),
             asking: Vec::new(alloc),
-            offering: Marks::new(alloc),
+            offering: RunBitmap::new(alloc),
         }
     }
 
-    /// How many lists there are. They are numbered from 0.
+    /// The number of lists. They are numbered from 0.
     pub fn len(&self) -> usize
         ensures len { result ≡ length self.now.lists }
         ensures small { result < 2 ^ 63 }
@@ -58,7 +59,7 @@ impl KnownLists {
         self.lists.len()
     }
 
-    /// The labels of a number.
+    /// The labels of the list with this number, if any.
     pub fn labels(&self, number: usize) -> Option<&[Chars]>
         ensures some { IfSome result (λ labels. slice_get self.now.lists number ≡ Some labels.now) }
         ensures none { IfNone result (slice_get self.now.lists number ≡ None) }
@@ -69,7 +70,7 @@ impl KnownLists {
         }
     }
 
-    /// Notes that a run may have a ready leg that asks for the list of a number.
+    /// Marks that a run may have a ready leg with the list of this number.
     pub fn mark(&mut self, number: usize, run: usize)
         requires { asks_at self.old.asking number run ≡ true }
         ensures puts { PutsAt true number run self.old.asking self.new.asking }
@@ -80,7 +81,7 @@ impl KnownLists {
         self.offering.mark(number);
     }
 
-    /// The first run at or after one that may have a ready leg that asks for the list of a number.
+    /// The first run, from `run` on, that may have a ready leg with the list of this number.
     pub fn first_from(&self, number: usize, run: usize) -> Option<usize>
         ensures { IsFirstFrom (offers_at self.now.asking number) run result }
     {
@@ -88,7 +89,7 @@ impl KnownLists {
         asking.first_from(run)
     }
 
-    /// Notes that the run has no such leg.
+    /// Removes the mark of a run that has no such leg.
     pub fn unmark(&mut self, number: usize, run: usize)
         requires { number < length self.old.asking }
         ensures puts { PutsAt false number run self.old.asking self.new.asking }
@@ -111,7 +112,7 @@ impl KnownLists {
         self.asking[number].unmark(run);
     }
 
-    /// The first list at or after a number that some run may offer a leg for.
+    /// The first list, from `number` on, for which some run may have a ready leg.
     pub fn next_offering(&self, number: usize) -> Option<usize>
         ensures some { IfSome result (λ n. (number ≤ n) × (n < length self.now.lists)) }
         ensures passed { (n r : ℕ) → number ≤ n → IsBefore n result → offers_at self.now.asking n r ≡ false }
@@ -119,7 +120,8 @@ impl KnownLists {
         self.offering.first_from(number)
     }
 
-    /// Gives a list a number, if it has none, and a run a place there. It answers the number, or none where a later run asks already.
+    /// Enters a list, unless it has a number, and adds a run to it. It returns the number, or `None` if the list already has a
+    /// later run but not this one.
     pub fn enter(
         &mut self,
         alloc: Global,
@@ -129,6 +131,7 @@ impl KnownLists {
         ensures enters { OnlyEnters self.old self.new }
         ensures number { IfOk result (λ found. IfSome found (λ n. slice_get self.new.lists n ≡ Some labels)) }
         ensures asks { IfOk result (λ found. IfSome found (λ n. asks_at self.new.asking n run ≡ true)) }
+        ensures none { IfOk result (λ found. (found ≡ None) ↔ IsPassedFor self.old labels run) }
         ensures err { IfErr result (λ e. e ≡ no_memory) }
     {
         let number = self.number_of(alloc, labels)?;
@@ -139,11 +142,12 @@ impl KnownLists {
         Ok(Some(number))
     }
 
-    /// Gives a run a place at a number, and answers whether it has one.
+    /// Adds a run to the list of a number and returns whether it is there.
     fn enter_run(&mut self, number: usize, run: usize) -> Result<bool, Refusal>
         requires { number < length self.old.asking }
         ensures enters { OnlyEnters self.old self.new }
         ensures asks { IfOk result (λ has. has ≡ true → asks_at self.new.asking number run ≡ true) }
+        ensures refused { IfOk result (λ has. (has ≡ false) ↔ IsPassed (asks_at self.old.asking number) run) }
         ensures lists { self.new.lists ≡ self.old.lists }
         ensures err { IfErr result (λ e. e ≡ no_memory) }
     {
@@ -155,9 +159,12 @@ impl KnownLists {
         ensures enters { OnlyEnters self.old self.new }
         ensures number { IfOk result (λ n. slice_get self.new.lists n ≡ Some labels) }
         ensures within { IfOk result (λ n. n < length self.new.asking) }
+        ensures keeps { IfOk result (λ n. (k : ℕ) → slice_get self.old.lists k ≡ Some labels → n ≡ k) }
+        ensures had { IfOk result (λ n. n < length self.old.asking → slice_get self.old.lists n ≡ Some labels) }
+        ensures asks { SameAsked self.old.asking self.new.asking }
         ensures err { IfErr result (λ e. e ≡ no_memory) }
     {
-        self.offering.cover(self.asking.len() + 1)?;
+        self.offering.reserve_up_to(self.asking.len() + 1)?;
         self.asking.reserve(1)?;
         let (number, is_new) = self.lists.insert_full(LabelList::new(labels))?;
         if !is_new {
@@ -178,7 +185,7 @@ impl KnownLists {
     }
 }
 
-/// A copy of the lists, in their order.
+/// Copies the lists, in order.
 fn copy_of(alloc: Global, lists: &IndexSet<LabelList>) -> Result<IndexSet<LabelList>, Refusal>
     ensures { Gives (λ s. s.keys) result (Ok lists.now.keys) }
 {
@@ -189,7 +196,7 @@ fn copy_of(alloc: Global, lists: &IndexSet<LabelList>) -> Result<IndexSet<LabelL
     Ok(copy)
 }
 
-/// A copy of the runs of each list.
+/// Copies the runs of each list.
 fn copies_of(alloc: Global, asking: &[AskingRuns]) -> Result<Vec<AskingRuns>, Refusal>
     ensures { Gives (λ v. v.items) result (Ok asking.now) }
 {

@@ -13,7 +13,7 @@ use std::hash::{Hash, Hasher};
 use std::marker::Model;
 use wf_value::{Chars, Refusal, Same, Sequence, TryCopy};
 
-/// The texts of labels. A contract sees the list of them.
+/// The texts of labels. In contracts it is the list of them.
 #[derive(Drop)]
 pub(crate) struct LabelList {
     labels: Sequence<Chars>,
@@ -73,7 +73,7 @@ impl Hash for LabelList {
     }
 }
 
-/// The length, and then each label.
+/// Hashes the length, then each label.
 fn hash_labels<H: Hasher>(labels: &[Chars], state: &mut H)
     ensures { state.new ≡ fold H.write state.old (hashed labels.now) }
 {

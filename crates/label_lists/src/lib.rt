@@ -1,5 +1,5 @@
-//! Lists of labels by number, and for each the runs that may have a ready leg that asks for it. What is said is no less than is so: a run
-//! that has such a leg is marked, and one that is marked in vain is unmarked when that is seen.
+//! Lists of labels by number, and for each the runs that may have a ready leg with these labels. Marks may be stale, never missing:
+//! every run with such a leg is marked, and a stale mark is removed when it is noticed.
 #![tactic(auto)]
 
 mod asking_runs;

@@ -1,23 +1,24 @@
-//! Lists of labels by number, and the runs that may have a ready leg of each number.
+//! Lists of labels by number, and the runs that may have a ready leg for each number.
 
-ghost use Rattle.std.specs.Prelude.{◌≡◌, ◌≤◌, ◌<◌, ◌^◌, ◌⊎◌, ℕ, true, false, length, None, Some, IfErr, IfNone, IfOk, IfSome, Ok, OnOk};
+ghost use Rattle.std.specs.Prelude.{◌≡◌, ◌↔◌, ◌≤◌, ◌<◌, ◌^◌, ◌⊎◌, ℕ, true, false, length, None, Some, IfErr, IfNone, IfOk, IfSome, Ok, OnOk};
 ghost use Rattle.wf_value.specs.Gives.{Gives, no_memory};
 ghost use Rattle.run_marks.specs.First.{IsFirstFrom};
 ghost use Rattle.label_lists.specs.Known.{IsBefore};
-ghost use Rattle.label_lists.specs.Lists.{HasPlace, IsOnceEach, OnlyGrows, PutsOffer, labels_of, may_offer};
+ghost use Rattle.label_lists.specs.Lists.{HasPlace, IsOnceEach, IsPassedUnder, OnlyGrows, PutsOffer, labels_of, may_offer};
 
 use crate::known_lists::KnownLists;
-use run_marks::Marks;
+use run_marks::RunBitmap;
 use std::alloc::Global;
 use std::marker::Model;
 use wf_value::{Chars, Refusal, Sequence};
 
-/// Lists of labels with numbers from 1 on, and for each the runs that may have a ready leg that asks for it. Number 0 is that of legs whose
-/// labels are not known. A contract sees the labels of each number, which runs may offer a leg of it, and which can be marked.
+/// Lists of labels, numbered from 1, and for each the runs that may have a ready leg with these labels. Number 0 is for legs whose
+/// labels have no known list. In contracts it is the labels of each number, the runs that may have a ready leg for it, and the runs
+/// that can be marked.
 #[derive(Drop)]
 pub struct LabelLists {
     known: KnownLists,
-    unknown: Marks,
+    unknown: RunBitmap,
 }
 
 impl Model for LabelLists {
@@ -29,29 +30,30 @@ impl Model for LabelLists {
 }
 
 impl LabelLists {
-    /// No lists, and room for no run.
+    /// No lists, and no reserved memory for marks.
     pub fn new(alloc: Global) -> Self
         ensures labels { (number : ℕ) → labels_of result number ≡ None }
         ensures offers { (number run : ℕ) → may_offer result number run ≡ false }
     {
         LabelLists {
             known: KnownLists::new(alloc),
-            unknown: Marks::new(alloc),
+            unknown: RunBitmap::new(alloc),
         }
     }
 
-    /// Makes room under number 0 for all runs below the bound.
-    pub fn cover(&mut self, bound: usize) -> Result<(), Refusal>
+    /// Reserves memory for the marks of number 0, for all runs below the bound.
+    pub fn reserve_up_to(&mut self, bound: usize) -> Result<(), Refusal>
         ensures grows { OnlyGrows self.old self.new }
         ensures places { OnOk result ((run : ℕ) → run < bound → HasPlace self.new 0 run) }
         ensures err { IfErr result (λ e. e ≡ no_memory) }
     {
-        self.unknown.cover(bound)?;
+        self.unknown.reserve_up_to(bound)?;
         Ok(())
     }
 
-    /// The number under which a run is marked for a leg that asks for these labels: that of the list, which is given one if it has none, or 0
-    /// where a later run asks for the list already. On an `Err`, which is 50, it may have a number.
+    /// The number under which a run is marked for a leg with these labels. It is that of the list, which is entered if it has none,
+    /// or 0 if the list already has a later run but not this one. On `Err`, which is 50 (out of memory), the list may have been
+    /// entered.
     pub fn enter(
         &mut self,
         alloc: Global,
@@ -62,6 +64,7 @@ impl LabelLists {
         ensures grows { OnlyGrows self.old self.new }
         ensures number { IfOk result (λ n. (n ≡ 0) ⊎ (labels_of self.new n ≡ Some labels)) }
         ensures place { IfOk result (λ n. HasPlace self.new n run) }
+        ensures zero { IfOk result (λ n. (n ≡ 0) ↔ IsPassedUnder self.old labels run) }
         ensures err { IfErr result (λ e. e ≡ no_memory) }
     {
         let found = self.known.enter(alloc, labels, run)?;
@@ -72,7 +75,7 @@ impl LabelLists {
         }
     }
 
-    /// Notes that a run may have a ready leg of a number.
+    /// Marks that a run may have a ready leg for a number.
     pub fn mark(&mut self, number: usize, run: usize)
         requires { HasPlace self.old number run }
         ensures { PutsOffer true number run self.old self.new }
@@ -84,7 +87,7 @@ impl LabelLists {
         }
     }
 
-    /// Notes that a run has no ready leg of a number.
+    /// Removes the mark of a run that has no ready leg for a number.
     pub fn unmark(&mut self, number: usize, run: usize)
         requires { HasPlace self.old number run }
         ensures { PutsOffer false number run self.old self.new }
@@ -96,7 +99,7 @@ impl LabelLists {
         }
     }
 
-    /// The first run at or after one that may have a ready leg of a number.
+    /// The first run, from `run` on, that may have a ready leg for a number.
     pub fn first_from(&self, number: usize, run: usize) -> Option<usize>
         ensures { IsFirstFrom (may_offer self.now number) run result }
     {
@@ -107,7 +110,7 @@ impl LabelLists {
         }
     }
 
-    /// The first number behind one of which some run may have a ready leg.
+    /// The first number greater than `number` for which some run may have a ready leg.
     pub fn next_after(&self, number: usize) -> Option<usize>
         requires { number < 2 ^ 63 }
         ensures some { IfSome result (λ n. (number < n) × (n < 2 ^ 63)) }
@@ -132,7 +135,7 @@ impl LabelLists {
         }
     }
 
-    /// A copy: the same lists with the same numbers, and the same runs under each.
+    /// A copy with the same lists, numbers and runs.
     pub fn copy(&self, alloc: Global) -> Result<Self, Refusal>
         ensures { Gives (λ l. l) result (Ok self.now) }
     {

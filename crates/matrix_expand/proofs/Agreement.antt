@@ -1,4 +1,4 @@
--- What a pattern says of the original of a number is what its object says of the original.
+-- A pattern and its object agree on every original.
 use Rattle.std.proofs.Common.{◌≡◌, ℕ, zero, suc, Bool, true, false, ◌&&◌, ◌||◌, not, cond, List, [], ◌∷◌, map, Option, Some, None, refl}
 use Rattle.std.proofs.Common.{sym, ap, ◌∙◌, arith}
 use Rattle.std.specs.Prelude.{is_some, is_none}
@@ -94,7 +94,7 @@ filter-map f p q h (x ∷ xs) =
       | false ↦ filter-map f p q h xs
     ]
 
--- the kept originals are those of the kept numbers
+-- the kept originals are those with the kept numbers
 kept_where : (m : MatrixLists) (n : ℕ) → original_count m.variables ≡ n
     → kept m ≡ map (original_at (axes_where n m.variables)) (kept_numbers (map (pattern_of (axes_where n m.variables)) m.exclude) n)
 kept_where m zero e = ap (filter (λ original. not (list_any (λ object. removes object original) m.exclude))) (none m.variables e)
@@ -119,7 +119,7 @@ kept_where m (suc n) e =
 pub kept_is : (m : MatrixLists) → kept m ≡ map (original_at (numbered_axes m.variables)) (kept_of m)
 kept_is m = kept_where m (original_count m.variables) refl
 
--- the new combinations are those of the objects that agree with no kept number
+-- the new combinations are the objects that agree with no kept number
 new_where : (m : MatrixLists) (n : ℕ) → (numbers : List ℕ) → (n ≡ 0 → numbers ≡ []) → (objects : List Combination)
     → filter (λ object. not (list_any (λ original. agrees m original object) (map (original_at (axes_where n m.variables)) numbers)))
     objects ≡ new_objects (map (pattern_of (axes_where n m.variables)) objects) numbers

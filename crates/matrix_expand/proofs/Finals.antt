@@ -1,4 +1,4 @@
--- The final combinations: what is found in them, and that the code's are these.
+-- The final combinations: looking up names in them, and that the code computes them.
 use Rattle.std.proofs.Common.{◌≡◌, ℕ, ◌+◌, Bool, true, false, ◌||◌, cond, List, [], ◌∷◌, ◌++◌, map, length, get_or, Option, Some, None}
 use Rattle.std.proofs.Common.{refl, sym, ap, ◌∙◌, subst, length-append}
 use Rattle.std.specs.Prelude.{T, is_some}
@@ -29,7 +29,7 @@ use Rattle.matrix_expand.proofs.Rising.{same_from_find, rise_from}
 use Rattle.wf_value.proofs.Rising.{Equal-from_is_eq, name_cmp}
 use Rattle.wf_value.proofs.OptionOr.{or_none}
 
--- names with nothing beside them
+-- names without values
 abbrev marks : List (List ℕ) → List (List ℕ × Unit {0})
 marks ns = map (λ n. (n, tt)) ns
 
@@ -53,7 +53,7 @@ is_some-cond : {X : Type 0} (b : Bool) (x : X) (o : Option X) → is_some (cond 
 is_some-cond true x o = refl
 is_some-cond false x o = refl
 
--- the names in order are the names
+-- sorting keeps the set of names
 found_in_order : (name : List ℕ) (ns : List (List ℕ))
     → is_some (find name_cmp name (marks (in_order ns))) ≡ list_any (λ n. is_eq (name_cmp name n)) ns
 found_in_order name [] = refl
@@ -67,7 +67,7 @@ true_from : (b : Bool) → T b → b ≡ true
 true_from true h = refl
 true_from false h = absurd h
 
--- the names that have a value, each with it
+-- the names that have a value, with that value
 module _ (value : List ℕ → Option Scalar) where
   abbrev valued : List (List ℕ) → Combination
   valued ns = filter_map (λ name. option_map (λ v. (name, v)) (value name)) ns
@@ -96,7 +96,7 @@ module _ (value : List ℕ → Option Scalar) where
   none_either true = refl
   none_either false = refl
 
-  -- a name on: it is the name asked for, or not
+  -- the next name either is the one looked up or is not
   found_here : (name n : List ℕ) (rest : Combination) (seen : Bool) (o : Option Scalar) → value name ≡ o → is_eq (name_cmp name n) ≡ true
       → value_at rest name ≡ cond seen (value name) None → value_at (cons_option (option_map (λ v. (n, v)) o) rest) name ≡ value name
   found_here name n rest seen None e same r = r ∙ ap (λ o. cond seen o None) e ∙ none_either seen ∙ sym e
@@ -120,7 +120,7 @@ module _ (value : List ℕ → Option Scalar) where
         | false ↦ λ other. found_past name n (valued ns) (value n) other ∙ rest
       ] refl
 
--- nothing is found at a name that no pair has
+-- a lookup of a name that no pair has finds nothing
 not_named : (c : Combination) (name : List ℕ) → list_any (λ n. is_eq (name_cmp name n)) (map (λ p. p.0) c) ≡ false → value_at c name ≡ None
 not_named [] name h = refl
 not_named (p ∷ ps) name h =
@@ -156,7 +156,7 @@ chosen_by : {X : Type 0} (b : Bool) (x y : X) → (b ≡ false → y ≡ x) → 
 chosen_by true x y h = refl
 chosen_by false x y h = h refl
 
--- what is found in a final combination
+-- looking up a name in a final combination
 pub value_at-final : (m : MatrixLists) (original : Combination) (name : List ℕ)
     → value_at (final_combination m original) name ≡ final_value m original name
 value_at-final m original name =
@@ -169,7 +169,7 @@ pub names_rise-final : (m : MatrixLists) (original : Combination) → names_rise
 names_rise-final m original = names_rise-valued (final_value m original) (all_names m original)
     (true_from _ (in_order_sorted (names_of (original ∷ m.include))))
 
--- the objects with a flag are those that pass the test
+-- the flagged objects are those that pass the test
 added_is : (test : Combination → Bool) (name : List ℕ) (front : List Bool) (cs : List Combination) (behind : List Bool)
     → added_value (front ++ map test cs ++ behind) (length front) cs name ≡ last_value (filter test cs) name
 added_is test name front [] behind = refl
@@ -192,7 +192,7 @@ added_is test name front (c ∷ cs) behind =
       | false ↦ or_none (last_value (filter test cs) name)
     ]
 
--- two maps in turn are one, where that gives of each value what they give
+-- two maps in sequence are one map
 pub mapped_twice : {A B C : Type 0} (f : A → B) (g : B → C) (h : A → C) → ((x : A) → g (f x) ≡ h x) → (xs : List A)
     → map g (map f xs) ≡ map h xs
 mapped_twice f g h e [] = refl

@@ -1,4 +1,4 @@
--- The first pair of each name, of pairs whose names ascend: the names rise, and the same is found.
+-- The first pair of each name, for pairs whose names ascend: the names strictly increase, and lookups give the same results.
 use Rattle.std.proofs.Common.{◌≡◌, ℕ, ◌+◌, ◌<◌, Bool, true, false, ◌&&◌, not, cond, List, [], ◌∷◌, ◌++◌, map, length, get_or, drop, Option}
 use Rattle.std.proofs.Common.{Some, None, refl, sym, ap, ◌∙◌, subst}
 use Rattle.std.specs.Cmp.Lexicographic.{texts_ties}
@@ -21,7 +21,7 @@ use Rattle.matrix_expand.proofs.Rising.{same_test, below_all-less, rise_from}
 use Rattle.wf_value.proofs.Rising.{Equal-from_is_eq, name_cmp}
 
 module _ (flags : List Bool) where
-  -- an entry on
+  -- one more entry
   pub firsts_more : (last : Option (List ℕ)) (e : EntryValue) (es : List EntryValue)
       → firsts_after last (flagged flags (e ∷ es)) ≡ cond (get_or flags e.0 false && not (is_last last e.1.0))
       (e.1 ∷ firsts_after (Some e.1.0) (flagged flags es)) (firsts_after last (flagged flags es))
@@ -69,7 +69,7 @@ module _ (flags : List Bool) where
         | false ↦ rest
       ]
 
--- a name that is at most another and not the same is below it
+-- a name that is not greater than another and differs from it is less
 below_from : (x y : List ℕ) → not (is_gt (name_cmp x y)) ≡ true → bytes_eq x y ≡ false → name_cmp x y ≡ Less
 below_from x y h n = go (name_cmp x y) refl h
   where
@@ -78,7 +78,7 @@ below_from x y h n = go (name_cmp x y) refl h
     go Equal e k = absurd (true≢false (sym (ap is_eq e) ∙ sym (texts_ties x y) ∙ n))
     go Greater e k = absurd (true≢false (sym k))
 
--- the first pairs after a name that is least: that name is below all of them, and they rise
+-- the first pairs after a least name: their names are greater than it, and they strictly increase
 pub firsts_rise : (last : List ℕ) (ps : Combination) → is_least last ps ≡ true → names_ascend ps ≡ true
     → (below_all name_cmp last (firsts_after (Some last) ps) ≡ true) × (names_rise (firsts_after (Some last) ps) ≡ true)
 firsts_rise last [] h k = (refl, refl)
@@ -114,7 +114,7 @@ differs_from_last (Some last) other name t n =
     let same : last ≡ other = exact_bytes last other (Equal-from_is_eq _ (sym (texts_ties last other) ∙ t)) in
     subst (λ m. is_eq (name_cmp name m) ≡ false) same (same_test name last ∙ sym (texts_ties last name) ∙ n)
 
--- what is found among the first pairs at a name that is not the last
+-- a lookup of a name other than the last one, among the first pairs
 value_at_other : (last : Option (List ℕ)) (name : List ℕ) (ps : Combination) → is_last last name ≡ false
     → value_at (firsts_after last ps) name ≡ value_at ps name
 value_at_other last name [] n = refl
@@ -135,7 +135,7 @@ value_at_other last name (p ∷ ps) n =
 pub value_at-firsts : (name : List ℕ) (ps : Combination) → value_at (firsts_after None ps) name ≡ value_at ps name
 value_at-firsts name ps = value_at_other None name ps refl
 
--- the front of names that rise
+-- a prefix of increasing names
 pub names_rise_front : {X : Type 0} (xs ys : List (List ℕ × X)) (p : List ℕ × X) → names_rise (xs ++ p ∷ ys) ≡ true
     → names_rise (xs ++ p ∷ []) ≡ true
 names_rise_front [] ys p h = refl
@@ -144,7 +144,7 @@ names_rise_front (x ∷ y ∷ xs) ys p h =
     let parts = and_parts (is_lt (name_cmp x.0 y.0)) (names_rise (y ∷ xs ++ p ∷ ys)) h in
     and_from _ _ parts.0 (names_rise_front (y ∷ xs) ys p parts.1)
 
--- a change of the values keeps the names
+-- mapping the values keeps the names
 pub names_rise-map : {X Y : Type 0} (f : X → Y) (ps : List (List ℕ × X))
     → names_rise (map (λ (p : List ℕ × X). (p.0, f p.1)) ps) ≡ names_rise ps
 names_rise-map f [] = refl

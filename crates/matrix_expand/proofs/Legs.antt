@@ -41,7 +41,7 @@ length-combinations m =
     ∙ ap (λ n. n + length (added_of m)) (length-map (kept m) (final_combination m) ∙ ap length (kept_is m)
     ∙ length-map (kept_of m) (original_at (numbered_axes m.variables)))
 
--- where so many are counted, the call gives this
+-- if the counted combinations are 1 to 256, the call gives them
 pub legs_counted : (m : MatrixLists) (kept added : ℕ) → kept ≡ length (kept_of m) → added ≡ length (added_of m)
     → (0 < kept + added) × (kept + added ≤ 256) → legs_or_refusal (combinations m) ≡ Ok (combinations m)
 legs_counted m kept added p q h =
@@ -66,7 +66,7 @@ same_Err x y e = cc
 not_Err : {X : Type 0} (x : X) (y : Refusal) → ◌≡◌ {A = Result X Refusal} (Ok x) (Err y) → ⊥
 not_Err x y e = cc
 
--- where the kept originals were refused
+-- if there are too many kept originals, the call refuses
 pub legs_refused : (m : MatrixLists) (numbers : List ℕ) (e : Refusal) → numbers ≡ kept_of m → kept_or_refusal numbers ≡ Err e
     → legs_or_refusal (combinations m) ≡ Err e
 legs_refused m numbers e is h = elim (cases_lt 256 (length numbers)) [
@@ -79,7 +79,7 @@ legs_refused m numbers e is h = elim (cases_lt 256 (length numbers)) [
   | inr few ↦ absurd (not_Err _ _ (sym (ap (λ b. cond b (Err (Numbered LegCount)) (Ok numbers)) (le-ltb 256 (length numbers) few)) ∙ h))
 ]
 
--- numbered variables keep their names
+-- numbering keeps the names of the variables
 pub names_rise-axes : (vs : List NamedValues) → names_rise vs ≡ true → names_rise (axes_of vs) ≡ true
 names_rise-axes [] h = refl
 names_rise-axes (v ∷ []) h = refl
@@ -109,7 +109,7 @@ finals_are m entries rise sorts =
     (λ e. ap (λ n. kept_from (map (pattern_of (numbered_axes m.variables)) m.exclude) 0 n) e)
     ∙ ap (map (final_combination m)) (sym (kept_is m))
 
--- the new combinations, as the code has found them
+-- the new combinations are those that the code finds
 pub added_are : (m : MatrixLists) (axes : List AxisValue) (objects : List Combination) (patterns includes : List PatternValue)
     (kept : List ℕ) (added : List Combination) → axes ≡ numbered_axes m.variables → objects ≡ m.include → ◌≡◌
     {A = Result (List PatternValue) Refusal} (Ok (map (pattern_of axes) objects)) (Ok patterns) → includes ≡ patterns → kept ≡ kept_of m →
@@ -120,7 +120,7 @@ added_are m axes objects patterns includes kept added a b c d e f =
     ∙ ap (λ ps. new_objects ps (kept_of m)) (d ∙ sym (same_Ok _ _ c) ∙ ap (map (pattern_of axes)) b
     ∙ ap (λ xs. map (pattern_of xs) m.include) a)
 
--- each combination, as the code makes it when it is asked for
+-- the combinations are those that the code makes on demand
 pub all_are : (m : MatrixLists) (axes : List AxisValue) (includes : List PatternValue) (entries : List EntryValue) (kept : List ℕ)
     (added : List Combination) → axes ≡ numbered_axes m.variables → includes ≡ map (pattern_of axes) m.include → kept ≡ kept_of m
     → added ≡ added_of m → names_rise axes ≡ true → SortsEntries 0 m.include entries

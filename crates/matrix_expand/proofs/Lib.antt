@@ -5,4 +5,5 @@ pub mod Legs
 pub mod Merging
 pub mod Originals
 pub mod Rising
+mod Rows
 pub mod Steps

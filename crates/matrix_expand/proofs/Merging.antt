@@ -1,4 +1,4 @@
--- What is found in merged entries, and that they ascend.
+-- Lookups in merged entries, and their order.
 use Rattle.std.proofs.Common.{◌≡◌, ℕ, suc, ◌+◌, ◌<◌, ◌≤◌, Bool, true, false, ◌&&◌, not, cond, List, [], ◌∷◌, ◌++◌, length, get_or, take}
 use Rattle.std.proofs.Common.{drop, Option, Some, None, Result, Ok, Err, IfOk, refl, sym, ap, ◌∙◌, subst, inl, inr, ◌⊎◌, arith}
 use Rattle.std.specs.Cmp.Lexicographic.{nat_list_cmp_total}
@@ -28,13 +28,13 @@ pub merged-nil : (es : List EntryValue) → merged es [] ≡ es
 merged-nil [] = refl
 merged-nil (e ∷ es) = ap (λ fs. e ∷ fs) (merged-nil es)
 
--- where one side is used up, the rest of both follows
+-- when one side is exhausted, the rest of the other follows
 pub merged_end : (left right : List EntryValue) (i j : ℕ) → (length left ≤ i) ⊎ (length right ≤ j)
     → merged (drop i left) (drop j right) ≡ drop i left ++ drop j right
 merged_end left right i j (inl l) = rw (drop_all i left l) refl
 merged_end left right i j (inr l) = rw (drop_all j right l) (merged-nil (drop i left) ∙ sym (append-nil (drop i left)))
 
--- what is merged when the rest of both sides has been added
+-- the merged entries after the rest of both sides is appended
 pub joined_end : (left right made one two after_left after_right : List EntryValue) (i j : ℕ) → (length left ≤ i) ⊎ (length right ≤ j)
     → made ++ merged (drop i left) (drop j right) ≡ merged left right → after_left ≡ drop i left → after_right ≡ drop j right
     → ◌≡◌ {A = Result (List EntryValue) Refusal} (Ok (made ++ after_left)) (Ok one)
@@ -48,7 +48,7 @@ pub option_or_assoc : {X : Type 0} (a b c : Option X) → option_or a (option_or
 option_or_assoc None b c = refl
 option_or_assoc (Some x) b c = refl
 
--- whether an entry counts at a name
+-- whether an entry is flagged and has this name
 abbrev pub counts : List Bool → List ℕ → EntryValue → Bool
 counts flags name e = get_or flags e.0 false && is_eq (name_cmp name e.1.0)
 
@@ -62,7 +62,7 @@ value_at-flagged flags name e es =
       | false ↦ refl
     ]
 
--- nothing is found at a name that comes before all names
+-- a lookup of a name less than all others finds nothing
 pub value_at_before : (flags : List Bool) (name : List ℕ) (es : List EntryValue)
     → list_all (λ p. is_lt (name_cmp name p.0)) (pairs_of es) ≡ true → value_at (flagged flags es) name ≡ None
 value_at_before flags name [] h = refl
@@ -73,7 +73,7 @@ value_at_before flags name (e ∷ es) h =
     ∙ ap (λ b. cond b (Some e.1.1) (value_at (flagged flags es) name)) (and_right (get_or flags e.0 false) false refl)
     ∙ value_at_before flags name es parts.1
 
--- orders of three names
+-- transitivity for three names
 pub less_least : (x y z : List ℕ) → name_cmp x y ≡ Less → is_gt (name_cmp y z) ≡ false → name_cmp x z ≡ Less
 less_least x y z p q = go (name_cmp y z) refl q
   where
@@ -82,7 +82,7 @@ less_least x y z p q = go (name_cmp y z) refl q
     go Equal e h = subst (λ n. name_cmp x n ≡ Less) (exact_bytes y z e) p
     go Greater e h = absurd (true≢false h)
 
--- a name below the least is below all
+-- a name less than the least is less than all
 pub before_least : (x y : List ℕ) (ps : Combination) → name_cmp x y ≡ Less → is_least y ps ≡ true
     → list_all (λ p. is_lt (name_cmp x p.0)) ps ≡ true
 before_least x y [] p h = refl
@@ -96,7 +96,7 @@ is_least-at_most x y (q ∷ qs) p h =
     let parts = and_parts (not (is_gt (name_cmp y q.0))) (is_least y qs) h in
     and_from _ _ (not_from_false _ (upto nat_list_cmp_total x y q.0 p (not-true _ parts.0))) (is_least-at_most x y qs p parts.1)
 
--- the other way round
+-- the converse
 not_before : (x y : List ℕ) → is_lt (name_cmp x y) ≡ false → is_gt (name_cmp y x) ≡ false
 not_before x y h = ap is_gt (nat_list_cmp_total.antisymm y x) ∙ go (name_cmp x y) h
   where
@@ -108,7 +108,7 @@ not_before x y h = ap is_gt (nat_list_cmp_total.antisymm y x) ∙ go (name_cmp x
 not_after : (x y : List ℕ) → is_lt (name_cmp x y) ≡ true → is_gt (name_cmp x y) ≡ false
 not_after x y h = ap is_gt (Less-from_is_lt _ h)
 
--- a name that is least on both sides is least
+-- a name that is least on both sides is least in the merge
 least_placed : (name : List ℕ) (e : EntryValue) (rest : List EntryValue → List EntryValue) → not (is_gt (name_cmp name e.1.0)) ≡ true
     → ((fs : List EntryValue) → is_least name (pairs_of fs) ≡ true → is_least name (pairs_of (rest fs)) ≡ true) → (fs : List EntryValue)
     → is_least name (pairs_of fs) ≡ true → is_least name (pairs_of (placed e rest fs)) ≡ true
@@ -127,7 +127,7 @@ least_merged name (e ∷ es) right h g =
     let parts = and_parts (not (is_gt (name_cmp name e.1.0))) (is_least name (pairs_of es)) h in
     least_placed name e (merged es) parts.0 (λ fs k. least_merged name es fs parts.1 k) right g
 
--- what is merged ascends
+-- merged entries ascend
 ascend_placed : (e : EntryValue) (es : List EntryValue) → is_least e.1.0 (pairs_of es) ≡ true
     → ((fs : List EntryValue) → names_ascend (pairs_of fs) ≡ true → names_ascend (pairs_of (merged es fs)) ≡ true) → (fs : List EntryValue)
     → names_ascend (pairs_of fs) ≡ true → names_ascend (pairs_of (placed e (merged es) fs)) ≡ true
@@ -155,7 +155,7 @@ names_ascend-merged (e ∷ es) right h g =
     let parts = and_parts (is_least e.1.0 (pairs_of es)) (names_ascend (pairs_of es)) h in
     ascend_placed e es parts.0 (λ fs k. names_ascend-merged es fs parts.1 k) right g
 
--- what is found in what is merged: the right side's, else the left side's
+-- a lookup in merged entries gives the right side's value, else the left side's
 module _ (flags : List Bool) (name : List ℕ) where
   value_at-placed : (e : EntryValue) (es : List EntryValue)
       → ((fs : List EntryValue) → names_ascend (pairs_of fs) ≡ true
@@ -213,7 +213,7 @@ least_from_below name (p ∷ ps) h =
     let parts = and_parts (is_lt (name_cmp name p.0)) (below_all name_cmp name ps) h in
     and_from _ _ (not_from_false _ (not_after name p.0 parts.0)) (least_from_below name ps parts.1)
 
--- names that rise ascend
+-- strictly increasing names ascend
 pub names_ascend-rise : (c : Combination) → names_rise c ≡ true → names_ascend c ≡ true
 names_ascend-rise [] h = refl
 names_ascend-rise (p ∷ ps) h = and_from _ _ (least_from_below p.0 ps (below_all_first p ps h)) (names_ascend-rise ps (rise_rest p ps h))
@@ -257,7 +257,7 @@ added_value-append flags name place (c ∷ cs) ds =
     ∙ sym (option_or_assoc (added_value flags (place + suc (length cs)) ds name) (added_value flags (place + 1) cs name)
     (cond (get_or flags place false) (value_at c name) None))
 
--- the objects of both halves
+-- the objects of two halves
 pub SortsEntries-merged : (first n : ℕ) (objects : List Combination) (left right : List EntryValue) → n ≤ length objects
     → SortsEntries first (take n objects) left → SortsEntries (first + n) (drop n objects) right
     → SortsEntries first objects (merged left right)
@@ -273,7 +273,7 @@ SortsEntries-merged first n objects left right h l r = record {
       ∙ ap (λ cs. added_value flags first cs name) (take-append-drop n objects);
 }
 
--- what holds of the value that a call gives
+-- a property of the defined value holds for the value of an Ok
 pub ok_gives : {X Y : Type 0} (view : X → Y) (r : Result X Refusal) (y : Y) (P : Y → Type 0) → Gives view r (Ok y) → P y
     → IfOk r (λ x. P (view x))
 ok_gives view (Ok x) y P g h = subst P (same_Ok _ _ g) h

@@ -1,4 +1,4 @@
--- The originals by their numbers are the choices in order.
+-- The originals in the order of their numbers are the choices in order.
 use Rattle.std.proofs.Common.{◌≡◌, ℕ, zero, suc, ◌+◌, ◌*◌, ◌/◌, ◌%◌, ◌<◌, List, [], ◌∷◌, ◌++◌, map, length, get_or, refl, sym, ap, ◌∙◌, ◌⊎◌}
 use Rattle.std.proofs.Common.{inl, inr, arith, length-append}
 use Rattle.std.specs.List.{flat_map, range_with_len}
@@ -22,7 +22,7 @@ range-append a (suc n) m =
     let f : a + 1 + n ≡ a + suc n = omega arith in
     ap (range_with_len a) e ∙ ap (λ ns. a ∷ ns) (range-append (a + 1) n m ∙ ap (λ b. range_with_len (a + 1) n ++ range_with_len b m) f)
 
--- functions that agree along two ranges
+-- functions that agree on two ranges
 map_ranges : {X : Type 0} (f g : ℕ → X) (a b n : ℕ) → ((r : ℕ) → r < n → f (a + r) ≡ g (b + r))
     → map f (range_with_len a n) ≡ map g (range_with_len b n)
 map_ranges f g a b zero h = refl
@@ -42,7 +42,7 @@ positive_right a (suc b) h = omega arith
 regroup : (k l c r : ℕ) → k * (l * c) + r ≡ (k * l) * c + r
 regroup k l c r = omega arith
 
--- all the choices further, the same one comes again
+-- the choices repeat with a period equal to their number
 periodic : (vs : List NamedValues) (k r : ℕ) → 0 < choice_count vs
     → original_at (axes_of vs) (k * choice_count vs + r) ≡ original_at (axes_of vs) r
 periodic [] k r h = refl
@@ -57,7 +57,7 @@ periodic (v ∷ vs) k r h =
     ∙ ap (λ i. (v.0, get_or v.1 i Null) ∷ original_at (axes_of vs) ((k * l) * c + r)) place
     ∙ ap (λ o. (v.0, chosen (v.1, c) r) ∷ o) (periodic vs (k * l) r some)
 
--- the originals that begin with a value of a place
+-- the originals that begin with the value at an index
 with_value : (v : NamedValues) (vs : List NamedValues) (j : ℕ) → j < length v.1 → 0 < choice_count vs
     → choices vs ≡ map (original_at (axes_of vs)) (range_with_len 0 (choice_count vs))
     → map (λ c. (v.0, get_or v.1 j Null) ∷ c) (choices vs) ≡ map (original_at (axes_of (v ∷ vs)))
@@ -74,7 +74,7 @@ with_value v vs j l some all =
     ∙ ap (λ o. (v.0, get_or v.1 j Null) ∷ o) (sym (periodic vs j r some))
     ∙ ap (λ i. (v.0, get_or v.1 i Null) ∷ original_at (axes_of vs) (j * c + r)) (sym place))
 
--- the value of the place behind a front
+-- the element after a prefix
 get_or-behind : (front rest : List Scalar) (x : Scalar) → get_or (front ++ x ∷ rest) (length front) Null ≡ x
 get_or-behind [] rest x = refl
 get_or-behind (y ∷ front) rest x = get_or-behind front rest x

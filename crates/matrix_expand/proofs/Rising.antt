@@ -1,4 +1,4 @@
--- Lists of pairs whose names rise: what is found in them, and that they are told apart by it.
+-- Lists of pairs with increasing names: lookups in them, and equality by lookups.
 use Rattle.std.proofs.Common.{◌≡◌, ℕ, zero, suc, ◌+◌, ◌<◌, ◌≤◌, true, false, cond, List, [], ◌∷◌, length, get_or, Some, None, refl, sym, ap}
 use Rattle.std.proofs.Common.{◌∙◌, subst, inl, inr, add-one, arith}
 use Rattle.std.specs.Prelude.{T}
@@ -19,7 +19,7 @@ use Rattle.std.proofs.lemmas.Map.Lookups.{exact_bytes}
 use Rattle.wf_value.specs.Names.{names_rise}
 use Rattle.wf_value.proofs.Rising.{Less-from_is_lt, after_less, name_cmp}
 
--- a test of two names, turned round
+-- the equality test of two names is symmetric
 pub same_test : (x y : List ℕ) → is_eq (name_cmp x y) ≡ is_eq (name_cmp y x)
 same_test x y = (eq_by_cmp_equiv nat_list_cmp_total).symm x y
 
@@ -44,7 +44,7 @@ module _ {X : Type 0} where
       let parts = and_parts (is_lt (name_cmp y e.0)) (below_all name_cmp y es) h in
       and_from _ _ (ap is_lt (nat_list_cmp_total.trans x y e.0 p (Less-from_is_lt _ parts.0))) (below_all-less x y es p parts.1)
 
-  -- the first name is below all others
+  -- the first name is less than all others
   pub below_all_first : (e : List ℕ × X) (es : List (List ℕ × X)) → names_rise (e ∷ es) ≡ true → below_all name_cmp e.0 es ≡ true
   below_all_first e [] h = refl
   below_all_first e (f ∷ es) h =
@@ -59,34 +59,34 @@ module _ {X : Type 0} where
   is_sorted-rise [] h = refl
   is_sorted-rise (e ∷ es) h = and_from _ _ (below_all_first e es h) (is_sorted-rise es (rise_rest e es h))
 
-  -- and back
+  -- the converse
   pub rise_from : (e : List ℕ × X) (es : List (List ℕ × X)) → below_all name_cmp e.0 es ≡ true → names_rise es ≡ true
       → names_rise (e ∷ es) ≡ true
   rise_from e [] b h = refl
   rise_from e (f ∷ es) b h = and_from _ _ (and_parts (is_lt (name_cmp e.0 f.0)) (below_all name_cmp e.0 es) b).0 h
 
-  -- lists that rise are equal where the same is found in them
+  -- lists with increasing names are equal if all lookups in them are
   pub same_from_find : (es fs : List (List ℕ × X)) → names_rise es ≡ true → names_rise fs ≡ true
       → ((name : List ℕ) → find name_cmp name es ≡ find name_cmp name fs) → es ≡ fs
   same_from_find es fs h g same =
       same_entries name_cmp nat_list_cmp_total exact_bytes es fs (subst T (sym (is_sorted-rise es h)) tt)
       (subst T (sym (is_sorted-rise fs g)) tt) same
 
-  -- what is found at a name below all others
+  -- a lookup of a name less than all others finds nothing
   pub find_below : (name : List ℕ) (es : List (List ℕ × X)) → below_all name_cmp name es ≡ true → find name_cmp name es ≡ None
   find_below name [] h = refl
   find_below name (e ∷ es) h =
       let parts = and_parts (is_lt (name_cmp name e.0)) (below_all name_cmp name es) h in
       ap (λ o. cond (is_eq o) (Some e.1) (find name_cmp name es)) (Less-from_is_lt _ parts.0) ∙ find_below name es parts.1
 
-  -- a name below all others is below each
+  -- a name less than all others is less than each
   pub below_at : (x : List ℕ) (es : List (List ℕ × X)) (i : ℕ) (d : List ℕ × X) → below_all name_cmp x es ≡ true → i < length es
       → name_cmp x (get_or es i d).0 ≡ Less
   below_at x [] i d h l = absurd (omega arith)
   below_at x (e ∷ es) zero d h l = Less-from_is_lt _ (and_parts (is_lt (name_cmp x e.0)) (below_all name_cmp x es) h).0
   below_at x (e ∷ es) (suc i) d h l = below_at x es i d (and_parts (is_lt (name_cmp x e.0)) (below_all name_cmp x es) h).1 (omega arith)
 
-  -- what is found at the name of a place
+  -- a lookup of the name at an index
   pub find_at : (es : List (List ℕ × X)) (i : ℕ) (name : List ℕ) → names_rise es ≡ true → i < length es
       → ((d : List ℕ × X) → name_cmp (get_or es i d).0 name ≡ Equal) → option_map (λ e. e.1) (slice_get es i) ≡ find name_cmp name es
   find_at [] i name h l is = absurd (omega arith)
@@ -99,7 +99,7 @@ module _ {X : Type 0} where
       find_at es i name (rise_rest e es h) (omega arith) (λ d. is d)
       ∙ ap (λ b. cond b (Some e.1) (find name_cmp name es)) (sym (not_equal_after e.0 name below))
 
-  -- nothing is found at a name that no place has
+  -- a lookup of a name that occurs nowhere finds nothing
   pub find_absent : (es : List (List ℕ × X)) (name : List ℕ)
       → ((k : ℕ) (d : List ℕ × X) → k < length es → is_eq (name_cmp (get_or es k d).0 name) ≡ false) → find name_cmp name es ≡ None
   find_absent [] name h = refl
@@ -107,24 +107,24 @@ module _ {X : Type 0} where
       ap (λ b. cond b (Some e.1) (find name_cmp name es)) (sym (same_test e.0 name) ∙ h 0 e (omega arith))
       ∙ find_absent es name (λ k d l. h (suc k) d (omega arith))
 
-  -- each name is below the next
+  -- each name is less than the next
   pub rise_at : (es : List (List ℕ × X)) (k : ℕ) (d : List ℕ × X) → names_rise es ≡ true → suc k < length es
       → name_cmp (get_or es k d).0 (get_or es (suc k) d).0 ≡ Less
   rise_at [] k d h l = absurd (omega arith)
   rise_at (e ∷ es) zero d h l = below_at e.0 es 0 d (below_all_first e es h) (omega arith)
   rise_at (e ∷ es) (suc k) d h l = rise_at es k d (rise_rest e es h) (omega arith)
 
-  -- names do not fall
+  -- the names are non-decreasing
   pub searchable : (es : List (List ℕ × X)) (name : List ℕ) → names_rise es ≡ true
       → IsNonDecreasingBy (λ e. ordering_index (name_cmp e.0 name)) es
   searchable es name h = searchable_from_sorted nat_list_cmp_total (λ (e : List ℕ × X). e.0) es name
       (λ k d _ l. rw add-one (ap is_lt (after_less (get_or es k d).0 (get_or es (suc k) d).0 (rise_at es k d h (omega arith)))))
 
-  -- the names of the places below low come before a name
+  -- the names at indices below low come before the name
   abbrev pub IsBelow : List (List ℕ × X) → List ℕ → ℕ → Type 0
   IsBelow es name low = (k : ℕ) (d : List ℕ × X) → k < low → ordering_index (name_cmp (get_or es k d).0 name) ≡ 0
 
-  -- the names of the places from high on come after it
+  -- the names at indices from high on come after it
   abbrev pub IsAbove : List (List ℕ × X) → List ℕ → ℕ → Type 0
   IsAbove es name high = (k : ℕ) (d : List ℕ × X) → high ≤ k → k < length es → 2 ≤ ordering_index (name_cmp (get_or es k d).0 name)
 

@@ -1,4 +1,4 @@
--- Steps of the loops over variables, members and numbers.
+-- One iteration of the loops over variables, members and numbers.
 use Rattle.std.proofs.Common.{◌≡◌, ℕ, zero, suc, ◌+◌, ◌-◌, ◌*◌, ◌/◌, ◌<◌, ◌≤◌, min, true, not, cond, List, [], ◌∷◌, ◌++◌}
 use Rattle.std.proofs.Common.{length, get_or, drop, Some, None, refl, sym, ap, ◌∙◌, inl, inr, arith}
 use Rattle.std.specs.List.{list_any, slice_get}
@@ -22,13 +22,13 @@ factors s (suc a) (suc b) e h = (
   (omega arith, ap (λ n. n / suc a) (e ∙ mul_comm (suc a) (suc b) ∙ omega arith) ∙ div-mul-add (suc b) (suc a) 0 (omega arith)),
 )
 
--- the number of choices that are left, a variable on
+-- the remaining number of choices, after one more variable
 pub choices_more : (vs : List NamedValues) (i s : ℕ) (v : NamedValues) → i < length vs → v ≡ get_or vs i v → s ≡ choice_count (drop i vs)
     → 0 < s → (0 < length v.1) × ((0 < choice_count (drop (i + 1) vs)) × (s / length v.1 ≡ choice_count (drop (i + 1) vs)))
 choices_more vs i s v l is e h =
     factors s (length v.1) _ (e ∙ at_drop_more choice_count vs i v l ∙ ap (λ w. length w.1 * choice_count (drop (i + 1) vs)) (sym is)) h
 
--- a product of numbers that are cut at most
+-- a product of capped numbers
 pub min_mul : (most a b : ℕ) → min most (min most a * b) ≡ min most (a * b)
 min_mul most a zero = omega arith
 min_mul most a (suc b) = elim (cases_lt a most) [
@@ -74,14 +74,14 @@ module _ (axes : List AxisValue) (items : Combination) (i : ℕ) (item : List �
     pub others_more : has_other axes (drop i items) ≡ has_other axes (drop (i + 1) items)
     others_more = others_at ∙ rw its_choice refl
 
-  -- the name is no variable
+  -- the name is not a variable
   pub wanted_skips : None ≡ choice_of axes item.0 → wanted_of axes (drop i items) ≡ wanted_of axes (drop (i + 1) items)
   wanted_skips none = wanted_at ∙ rw (← none) refl
 
   pub others_found : None ≡ choice_of axes item.0 → has_other axes (drop i items) ≡ true
   others_found none = others_at ∙ rw (← none) refl
 
--- the numbers that are left, one on
+-- the remaining numbers, after one more
 pub kept_more : (excludes : List PatternValue) (number count : ℕ) → number < count
     → kept_from excludes number (count - number) ≡ cond (not (list_any (pattern_removes number) excludes))
     (number ∷ kept_from excludes (number + 1) (count - (number + 1))) (kept_from excludes (number + 1) (count - (number + 1)))
@@ -89,7 +89,7 @@ kept_more excludes number count l =
     let e : count - number ≡ suc (count - (number + 1)) = omega arith in
     ap (kept_from excludes number) e
 
--- one more of what is made, and one less of what is left
+-- one more item done, and one fewer remaining
 pub pushed : {X : Type 0} (old now before rest total : List X) (x : X) → now ≡ old ++ x ∷ [] → before ≡ x ∷ rest → old ++ before ≡ total
     → now ++ rest ≡ total
 pushed old now before rest total x p q r = ap (λ xs. xs ++ rest) p ∙ append_assoc old (x ∷ []) rest ∙ ap (λ ys. old ++ ys) (sym q) ∙ r

@@ -15,11 +15,11 @@ use Rattle.wf_value.specs.declared.refusal.Refusal.TheVariants.{Numbered}
 use Rattle.wf_value.specs.declared.scalar.Scalar.{Scalar}
 use Rattle.wf_value.specs.ScalarValue.{same_scalar}
 
--- a value for each of some names
+-- a value for each of several names
 abbrev pub Combination : Type 0
 Combination = List (List ℕ × Scalar)
 
--- the value at a name, where there is one
+-- the value of a name, if any
 abbrev pub value_at : Combination → List ℕ → Option Scalar
 value_at c name = find (slice_cmp nat_cmp) name c
 
@@ -27,21 +27,21 @@ abbrev pub is_value : Option Scalar → Scalar → Bool
 is_value None value = false
 is_value (Some v) value = same_scalar v value
 
--- whether a combination has a pair of a name and a value
+-- whether a combination has this pair of a name and a value
 abbrev pub has_pair : Combination → List ℕ × Scalar → Bool
 has_pair c pair = is_value (value_at c pair.0) pair.1
 
--- one choice of a value for each variable, the first variable changing slowest
+-- the choices of one value per variable; the first variable changes slowest
 abbrev pub choices : List NamedValues → List Combination
 choices [] = [] ∷ []
 choices (v ∷ vs) = flat_map (λ value. map (λ c. (v.0, value) ∷ c) (choices vs)) v.1
 
--- how many choices there are: the lengths of the lists multiplied
+-- the number of choices: the product of the lengths of the lists
 abbrev pub choice_count : List NamedValues → ℕ
 choice_count [] = 1
 choice_count (v ∷ vs) = length v.1 * choice_count vs
 
--- every choice, and none without variables
+-- all choices, but none without variables
 abbrev pub originals : List NamedValues → List Combination
 originals [] = []
 originals (v ∷ vs) = choices (v ∷ vs)
@@ -57,38 +57,38 @@ kept m = filter (λ original. not (list_any (λ object. removes object original)
 abbrev pub is_variable : MatrixLists → List ℕ → Bool
 is_variable m name = list_any (λ v. bytes_eq name v.0) m.variables
 
--- an include object agrees with an original when each of its members that is a variable has the original's value
+-- an include object agrees with an original if the original has the same value for each of the object's members that is a variable
 abbrev pub agrees : MatrixLists → Combination → Combination → Bool
 agrees m original object = list_all (λ pair. not (is_variable m pair.0) || has_pair original pair) object
 
--- the value that the last of some objects with a name gives
+-- the value of a name in the last object that has it
 abbrev pub last_value : List Combination → List ℕ → Option Scalar
 last_value [] name = None
 last_value (c ∷ cs) name = option_or (last_value cs name) (value_at c name)
 
--- a name's value beside an original: the original's, else that of the last include object that agrees with it
+-- the value of a name in a final combination: the original's, else that of the last include object that agrees with the original
 abbrev pub final_value : MatrixLists → Combination → List ℕ → Option Scalar
 final_value m original name = option_or (value_at original name) (last_value (filter (agrees m original) m.include) name)
 
--- the names of some combinations
+-- the names of several combinations
 abbrev pub names_of : List Combination → List (List ℕ)
 names_of cs = flat_map (λ c. map (λ pair. pair.0) c) cs
 
--- a name among names in the order of their bytes, each of them once
+-- inserts a name into sorted names, unless it is there
 abbrev pub with_name : List ℕ → List (List ℕ) → List (List ℕ)
 with_name name [] = name ∷ []
 with_name name (n ∷ ns) = by_order (slice_cmp nat_cmp name n) (name ∷ n ∷ ns) (n ∷ ns) (n ∷ with_name name ns)
 
--- names in the order of their bytes, each of them once
+-- sorts names in byte order, without repetitions
 abbrev pub in_order : List (List ℕ) → List (List ℕ)
 in_order [] = []
 in_order (n ∷ ns) = with_name n (in_order ns)
 
--- the names of an original and of the include objects, in order
+-- the names of an original and of the include objects, sorted
 abbrev pub all_names : MatrixLists → Combination → List (List ℕ)
 all_names m original = in_order (names_of (original ∷ m.include))
 
--- an original with what the include objects add to it: each name that has a value, with it
+-- an original extended by the include objects: each name that has a value, with that value
 abbrev pub final_combination : MatrixLists → Combination → Combination
 final_combination m original = filter_map (λ name. option_map (λ value. (name, value)) (final_value m original name)) (all_names m original)
 
@@ -96,20 +96,20 @@ final_combination m original = filter_map (λ name. option_map (λ value. (name,
 abbrev pub new_combinations : MatrixLists → List Combination
 new_combinations m = filter (λ object. not (list_any (λ original. agrees m original object) (kept m))) m.include
 
--- what the documentation gives: the final ones in order, then the new ones
+-- the combinations of the documentation: the final ones in order, then the new ones
 abbrev pub combinations : MatrixLists → List Combination
 combinations m = map (final_combination m) (kept m) ++ new_combinations m
 
--- the combinations, where they are from 1 to 256
+-- the combinations, if there are 1 to 256
 abbrev pub legs_or_refusal : List Combination → Result (List Combination) Refusal
 legs_or_refusal [] = Err (Numbered LegCount)
 legs_or_refusal (c ∷ cs) = cond (nat_lt 256 (length (c ∷ cs))) (Err (Numbered LegCount)) (Ok (c ∷ cs))
 
--- the combinations, where the choices are at most 4,096
+-- the combinations, if there are at most 4,096 choices
 abbrev pub within_choices : Bool → MatrixLists → Result (List Combination) Refusal
 within_choices true m = Err (Numbered MatrixTooLarge)
 within_choices false m = legs_or_refusal (combinations m)
 
--- The combinations. Refused are a matrix of more than 4,096 choices, and else one of no combination or of more than 256.
+-- the combinations, or 21 for more than 4,096 choices, else 22 for no combination or more than 256
 abbrev pub combinations_or_refusal : MatrixLists → Result (List Combination) Refusal
 combinations_or_refusal m = within_choices (nat_lt 4096 (choice_count m.variables)) m

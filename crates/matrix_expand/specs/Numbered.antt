@@ -1,4 +1,4 @@
--- The originals by their numbers, as the code goes over them.
+-- The originals by number, as the code enumerates them.
 use Rattle.std.specs.Prelude.{ℕ, zero, suc, ◌/◌, ◌%◌, ◌&&◌, not, nat_lt, is_none, Bool, List, [], ◌∷◌, map, length, Option, cond, Result}
 use Rattle.std.specs.Prelude.{Ok, Err}
 use Rattle.std.specs.List.{slice_index_or, filter, filter_map, list_any, list_all, range_with_len}
@@ -16,20 +16,20 @@ use Rattle.wf_value.specs.declared.scalar.Scalar.TheVariants.{Null}
 use Rattle.matrix_expand.specs.Combinations.{Combination, choice_count}
 use Rattle.matrix_expand.specs.Values.{ChoiceValue, AxisValue, WantedValue, PatternValue}
 
--- the value that the original of a number has
+-- the value in the original with this number
 abbrev pub chosen : ChoiceValue → ℕ → Scalar
 chosen c number = slice_index_or c.0 (number / c.1 % length c.0) Null
 
--- the variables, with the number of choices of those after each
+-- the variables, each with the number of choices of the later variables
 abbrev pub axes_of : List NamedValues → List AxisValue
 axes_of [] = []
 axes_of (v ∷ vs) = (v.0, (v.1, choice_count vs)) ∷ axes_of vs
 
--- the original of a number
+-- the original with this number
 abbrev pub original_at : List AxisValue → ℕ → Combination
 original_at axes number = map (λ a. (a.0, chosen a.1 number)) axes
 
--- the choice of a name, where it is a variable
+-- the choice of a name, if it is a variable
 abbrev pub choice_of : List AxisValue → List ℕ → Option ChoiceValue
 choice_of axes name = find (slice_cmp nat_cmp) name axes
 
@@ -58,7 +58,7 @@ kept_from excludes first count = filter (λ number. not (list_any (pattern_remov
 abbrev pub kept_numbers : List PatternValue → ℕ → List ℕ
 kept_numbers excludes count = kept_from excludes 0 count
 
--- at most 256 of them
+-- the numbers, if there are at most 256
 abbrev pub kept_or_refusal : List ℕ → Result (List ℕ) Refusal
 kept_or_refusal numbers = cond (nat_lt 256 (length numbers)) (Err (Numbered LegCount)) (Ok numbers)
 
@@ -67,12 +67,12 @@ abbrev pub new_objects : List PatternValue → List ℕ → List Combination
 new_objects [] kept = []
 new_objects (p ∷ ps) kept = cond (list_any (λ number. pattern_agrees number p) kept) (new_objects ps kept) (p.0 ∷ new_objects ps kept)
 
--- how many originals there are
+-- the number of originals
 abbrev pub original_count : List NamedValues → ℕ
 original_count [] = 0
 original_count (v ∷ vs) = choice_count (v ∷ vs)
 
--- the variables, where there are originals
+-- the numbered variables; none without originals
 abbrev pub axes_where : ℕ → List NamedValues → List AxisValue
 axes_where zero variables = []
 axes_where (suc n) variables = axes_of variables
@@ -80,10 +80,10 @@ axes_where (suc n) variables = axes_of variables
 abbrev pub numbered_axes : List NamedValues → List AxisValue
 numbered_axes variables = axes_where (original_count variables) variables
 
--- the numbers of the kept originals of a matrix
+-- the numbers of a matrix's kept originals
 abbrev pub kept_of : MatrixLists → List ℕ
 kept_of m = kept_numbers (map (pattern_of (numbered_axes m.variables)) m.exclude) (original_count m.variables)
 
--- its new combinations
+-- the new combinations of a matrix
 abbrev pub added_of : MatrixLists → List Combination
 added_of m = new_objects (map (pattern_of (numbered_axes m.variables)) m.include) (kept_of m)

@@ -1,10 +1,10 @@
--- What contracts see of the values that the expansion works with.
+-- How contracts see the values that the expansion works with.
 use Rattle.std.specs.Prelude.{ℕ, Bool, List}
 use Rattle.std.specs.Coded.{Coded, coded_ℕ, coded_bool, coded_list, coded×}
 use Rattle.wf_value.specs.declared.scalar.Scalar.{Scalar}
 use Rattle.wf_value.specs.ScalarCode.{coded_scalar, coded_pairs}
 
--- the values of a variable, and after how many originals the next of them is chosen
+-- the values of a variable, and the number of consecutive originals that share each value
 abbrev pub ChoiceValue : Type 0
 ChoiceValue = List Scalar × ℕ
 
@@ -18,21 +18,21 @@ AxisValue = List ℕ × ChoiceValue
 abbrev pub coded_axis : Coded AxisValue
 coded_axis = coded× (coded_list coded_ℕ) coded_choice
 
--- a choice, and the value that is asked of it
+-- a choice, and the value that is required of it
 abbrev pub WantedValue : Type 0
 WantedValue = ChoiceValue × Scalar
 
 abbrev pub coded_wanted : Coded WantedValue
 coded_wanted = coded× coded_choice coded_scalar
 
--- an object, what it asks of an original, and whether it has a member that is no variable
+-- an object, the values that it requires of an original, and whether it has a member that is not a variable
 abbrev pub PatternValue : Type 0
 PatternValue = List (List ℕ × Scalar) × (List WantedValue × Bool)
 
 abbrev pub coded_pattern : Coded PatternValue
 coded_pattern = coded× coded_pairs (coded× (coded_list coded_wanted) coded_bool)
 
--- a pair, and the place of the object that has it
+-- a pair, and the index of its object
 abbrev pub EntryValue : Type 0
 EntryValue = ℕ × (List ℕ × Scalar)
 

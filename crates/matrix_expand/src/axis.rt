@@ -12,7 +12,7 @@ use std::cmp::Ordering;
 use std::marker::Model;
 use wf_value::{Chars, Refusal, Scalar, Variable};
 
-/// The values of a variable, and after how many originals the next of them is chosen.
+/// The values of a variable, and the number of consecutive originals that share each value.
 #[derive(Drop)]
 pub struct Choice<'a> {
     values: &'a [Scalar],
@@ -50,7 +50,7 @@ impl<'a> Choice<'a> {
         }
     }
 
-    /// The value that the original of a number has.
+    /// The value in the original with this number.
     pub fn value(&self, number: usize) -> &'a Scalar
         ensures { result.now ≡ chosen self.now number }
     {
@@ -59,7 +59,7 @@ impl<'a> Choice<'a> {
     }
 }
 
-/// A variable, as the originals are numbered.
+/// A variable and its choice, for numbering the originals.
 #[derive(Drop)]
 pub struct Axis<'a> {
     name: &'a Chars,
@@ -96,7 +96,7 @@ impl<'a> Axis<'a> {
     }
 }
 
-/// The variables, as the `count` originals are numbered: the first variable changes slowest.
+/// Numbers the `count` originals. The first variable changes slowest.
 pub fn axes<'a>(
     alloc: Global,
     variables: &'a [Variable],
@@ -116,7 +116,7 @@ pub fn axes<'a>(
     Ok(axes)
 }
 
-/// The place of the variable of a name.
+/// The index of the variable with this name.
 pub fn place_of(axes: &[Axis], name: &Chars) -> Option<usize>
     requires { IsTrue (names_rise axes.now) }
     ensures found { IfSome result (λ i. i < length axes.now) }
@@ -135,7 +135,7 @@ pub fn place_of(axes: &[Axis], name: &Chars) -> Option<usize>
     None
 }
 
-/// How the name of a variable compares with a name, by their bytes.
+/// Compares the name of a variable with a name, by bytes.
 fn name_order(axis: &Axis, name: &Chars) -> Ordering
     ensures { result ≡ slice_cmp nat_cmp axis.now.0 name.now }
 {

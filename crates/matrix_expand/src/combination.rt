@@ -11,7 +11,8 @@ use crate::pattern::Pattern;
 use std::alloc::Global;
 use wf_value::{Chars, Combo, Refusal, Same};
 
-/// For each include object whether it agrees with the original of this number, and last a flag that is set, for the original itself.
+/// For each include object, whether it agrees with the original with this number. The last flag is set and stands for the original
+/// itself.
 fn flags(alloc: Global, patterns: &[Pattern], number: usize) -> Result<Vec<bool>, Refusal>
     ensures { Gives (λ v. v.items) result (Ok (flags_of patterns.now number)) }
 {
@@ -23,7 +24,7 @@ fn flags(alloc: Global, patterns: &[Pattern], number: usize) -> Result<Vec<bool>
     Ok(flags)
 }
 
-/// The pairs of the original of a number.
+/// The pairs of the original with this number.
 fn original_entries<'a>(
     alloc: Global,
     axes: &[Axis<'a>],
@@ -39,7 +40,7 @@ fn original_entries<'a>(
     Ok(entries)
 }
 
-/// Whether the flag at a place is set.
+/// Whether the flag at an index is set; false past the end.
 fn has_flag(flags: &[bool], place: usize) -> bool
     ensures { result ≡ slice_index_or flags.now place false }
 {
@@ -50,7 +51,7 @@ fn has_flag(flags: &[bool], place: usize) -> bool
     }
 }
 
-/// Whether the name that was added last is this one.
+/// Whether the last added name is this one.
 fn is_named(last: Option<&Chars>, name: &Chars) -> bool
     ensures { result ≡ is_last (option_copied last.entry) name.now }
 {
@@ -60,7 +61,7 @@ fn is_named(last: Option<&Chars>, name: &Chars) -> bool
     }
 }
 
-/// For each name its first pair among those of the flagged objects. The entries stand in the order of their names.
+/// The first pair of each name among the flagged objects. The entries are in the order of their names.
 fn firsts<'a>(alloc: Global, entries: &[Entry<'a>], flags: &[bool]) -> Result<Combo, Refusal>
     requires { IsTrue (names_ascend (pairs_of entries.now)) }
     ensures { Gives (λ c. c) result (Ok (firsts_after None (flagged flags.now entries.now))) }
@@ -76,7 +77,7 @@ fn firsts<'a>(alloc: Global, entries: &[Entry<'a>], flags: &[bool]) -> Result<Co
     Ok(combo)
 }
 
-/// The final combination of the original of a number.
+/// The final combination of the original with this number.
 pub fn final_combination(
     alloc: Global,
     axes: &[Axis],

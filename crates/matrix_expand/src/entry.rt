@@ -7,7 +7,7 @@ use std::alloc::Global;
 use std::marker::Model;
 use wf_value::{Chars, Combo, Refusal, Scalar};
 
-/// A pair of an object, and the place of the object.
+/// A pair of an object, and the index of the object.
 #[derive(Drop)]
 pub struct Entry<'a> {
     object: usize,
@@ -64,7 +64,7 @@ impl<'a> Entry<'a> {
         self.value
     }
 
-    /// Whether the name comes before the other's, by their bytes.
+    /// Whether the name comes before the other's, by bytes.
     fn comes_before(&self, other: &Entry) -> bool
         ensures { result ≡ comes_before self.now other.now }
     {
@@ -85,7 +85,7 @@ fn entries_of<'a>(alloc: Global, place: usize, object: &'a Combo) -> Result<Vec<
     Ok(entries)
 }
 
-/// Entries that ascend by their names, merged. Of two with one name the right one comes first.
+/// Merges entries that are sorted by name. Of two entries with the same name, the one from `right` comes first.
 pub fn merge<'a>(
     alloc: Global,
     left: &[Entry<'a>],
@@ -110,7 +110,7 @@ pub fn merge<'a>(
     Ok(entries)
 }
 
-/// Adds all entries at the end.
+/// Appends all entries.
 fn push_all<'a>(entries: &mut Vec<Entry<'a>>, more: &[Entry<'a>]) -> Result<(), Refusal>
     ensures { Gives (λ _. entries.new.items) result (Ok (entries.old.items ++ more.now)) }
 {
@@ -120,8 +120,8 @@ fn push_all<'a>(entries: &mut Vec<Entry<'a>>, more: &[Entry<'a>]) -> Result<(), 
     Ok(())
 }
 
-/// The pairs of some objects, of which the first has the place `first`, in the order of their names.
-/// The objects are halved, so that each pair is moved once for each doubling of their number.
+/// The pairs of several objects, in the order of their names; the first object has the index `first`. This is a merge sort: each
+/// pair moves once per doubling of the number of objects.
 pub fn entries<'a>(
     alloc: Global,
     first: usize,

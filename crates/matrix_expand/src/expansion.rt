@@ -8,13 +8,13 @@ ghost use Rattle.matrix_expand.specs.Numbered.{original_count, numbered_axes, pa
 use crate::axis::{Axis, axes};
 use crate::combination::final_combination;
 use crate::entry::{Entry, entries};
-use crate::original::{MOST_CHOICES, MOST_LEGS, capped_choices, kept_originals};
+use crate::original::{MAX_CHOICES, MAX_LEGS, capped_choices, kept_originals};
 use crate::pattern::{Pattern, patterns};
 use std::alloc::Global;
 use std::marker::Model;
 use wf_value::{Code, Combo, Matrix, Refusal, TryCopy, Variable};
 
-/// The combinations of a matrix, each of which is made when it is asked for.
+/// The combinations of a matrix, each made on demand.
 #[derive(Drop)]
 pub struct Expansion<'a> {
     axes: Vec<Axis<'a>>,
@@ -43,14 +43,14 @@ impl<'a> Model for Expansion<'a> {
 }
 
 impl<'a> Expansion<'a> {
-    /// The combinations of a matrix, in order. Refused 21 where the lengths of its variables' lists
-    /// multiply to over 4,096, else 22 where there is no combination or more than 256.
+    /// The combinations of a matrix, in order. The `Err` is 21 if the product of the lengths of its variables' lists is over 4,096,
+    /// else 22 if there is no combination or more than 256.
     /// GitHub Docs, "Running variations of jobs in a workflow".
     pub fn of(alloc: Global, matrix: &'a Matrix) -> Result<Self, Refusal>
         ensures { Gives (λ e. e) result (combinations_or_refusal matrix.entry.now) }
     {
         let choices = capped_choices(matrix.variables());
-        if choices > MOST_CHOICES {
+        if choices > MAX_CHOICES {
             return Err(Refusal::Numbered(Code::MatrixTooLarge));
         }
         legs(alloc, matrix, choices)
@@ -62,7 +62,7 @@ impl<'a> Expansion<'a> {
         self.kept.len() + self.added.len()
     }
 
-    /// The combination of a leg, by the leg's number.
+    /// The combination of a leg, by the leg's index.
     pub fn combination(&self, alloc: Global, leg: usize) -> Result<Combo, Refusal>
         requires { leg < length self.now }
         ensures { Gives (λ c. c) result (Ok (slice_index_or self.now leg [])) }
@@ -81,7 +81,7 @@ impl<'a> Expansion<'a> {
     }
 }
 
-/// All combinations of a matrix, in order, refused as by `Expansion::of`.
+/// All combinations of a matrix, in order. The errors are those of `Expansion::of`.
 pub fn expand(alloc: Global, matrix: &Matrix) -> Result<Vec<Combo>, Refusal>
     ensures { Gives (λ v. v.items) result (combinations_or_refusal matrix.now) }
 {
@@ -89,7 +89,7 @@ pub fn expand(alloc: Global, matrix: &Matrix) -> Result<Vec<Combo>, Refusal>
     all_of(alloc, &expansion)
 }
 
-/// Each combination, in order.
+/// All combinations, in order.
 fn all_of(alloc: Global, expansion: &Expansion) -> Result<Vec<Combo>, Refusal>
     ensures { Gives (λ v. v.items) result (Ok expansion.now) }
 {
@@ -100,7 +100,7 @@ fn all_of(alloc: Global, expansion: &Expansion) -> Result<Vec<Combo>, Refusal>
     Ok(combos)
 }
 
-/// The combinations of a matrix of so many choices.
+/// The combinations of a matrix with this number of choices.
 fn legs<'a>(alloc: Global, matrix: &'a Matrix, choices: usize) -> Result<Expansion<'a>, Refusal>
     requires { choices ≡ choice_count matrix.now.variables }
     ensures { Gives (λ e. e) result (legs_or_refusal (combinations matrix.entry.now)) }
@@ -128,7 +128,7 @@ fn kept_numbers<'a>(
     kept_originals(alloc, originals, excludes.as_slice())
 }
 
-/// The combinations of the kept originals and, after them, the new ones.
+/// The combinations of the kept originals, followed by the new ones.
 fn kept_and_added<'a>(
     alloc: Global,
     matrix: &'a Matrix,
@@ -155,7 +155,7 @@ fn kept_and_added<'a>(
     })
 }
 
-/// How many originals there are: without variables none, and else as many as choices.
+/// The number of originals: as many as choices, but none without variables.
 fn count_originals(variables: &[Variable], choices: usize) -> usize
     requires { choices ≡ choice_count variables.now }
     ensures { result ≡ original_count variables.now }
@@ -163,7 +163,7 @@ fn count_originals(variables: &[Variable], choices: usize) -> usize
     if variables.is_empty() { 0 } else { choices }
 }
 
-/// The variables, as the originals are numbered. Without originals they are not numbered.
+/// The numbered variables. Without originals there are none.
 fn number_variables<'a>(
     alloc: Global,
     variables: &'a [Variable],
@@ -181,14 +181,14 @@ fn number_variables<'a>(
     }
 }
 
-/// Whether so many kept originals and new combinations are from 1 to 256 combinations.
+/// Whether the total is from 1 to 256.
 fn is_leg_count(kept: usize, added: usize) -> bool
     ensures { IsTrue result ↔ ((0 < kept + added) × (kept + added ≤ 256)) }
 {
-    (kept > 0 || added > 0) && kept <= MOST_LEGS && added <= MOST_LEGS - kept
+    (kept > 0 || added > 0) && kept <= MAX_LEGS && added <= MAX_LEGS - kept
 }
 
-/// Whether an include object agrees with some of the originals.
+/// Whether an include object agrees with at least one of the originals.
 fn agrees_with_some(include: &Pattern, kept: &[usize]) -> bool
     ensures { result ≡ list_any (λ number. pattern_agrees number include.now) kept.now }
 {

@@ -8,31 +8,31 @@ use crate::pattern::Pattern;
 use std::alloc::Global;
 use wf_value::{Code, Refusal, Variable};
 
-/// The greatest number of choices of a value for each variable.
-pub const MOST_CHOICES: usize = 4096;
+/// The maximum number of choices of one value per variable.
+pub const MAX_CHOICES: usize = 4096;
 
-/// The greatest number of combinations.
-pub const MOST_LEGS: usize = 256;
+/// The maximum number of combinations.
+pub const MAX_LEGS: usize = 256;
 
-/// How many choices of a value for each variable there are, and 4,097 where there are more.
+/// The number of choices of one value per variable, or 4,097 if there are more.
 pub fn capped_choices(variables: &[Variable]) -> usize
     ensures { result ≡ min 4097 (choice_count variables.now) }
 {
     let mut count = 1;
     for variable in variables {
-        count = (count * variable.values().len().min(MOST_CHOICES + 1)).min(MOST_CHOICES + 1);
+        count = (count * variable.values().len().min(MAX_CHOICES + 1)).min(MAX_CHOICES + 1);
     }
     count
 }
 
-/// Whether an exclude object removes the original of a number.
+/// Whether an exclude object removes the original with this number.
 fn is_removed(excludes: &[Pattern], number: usize) -> bool
     ensures { result ≡ list_any (pattern_removes number) excludes.now }
 {
     excludes.iter().any(|exclude| exclude.removes(number))
 }
 
-/// The numbers of the originals that no exclude object removes. Refused 22 where they are more than 256.
+/// The numbers of the originals that no exclude object removes. The `Err` is 22 if there are more than 256.
 pub fn kept_originals(
     alloc: Global,
     count: usize,
@@ -43,7 +43,7 @@ pub fn kept_originals(
     let mut kept = Vec::new(alloc);
     for number in 0..count {
         if !is_removed(excludes, number) {
-            if kept.len() == MOST_LEGS {
+            if kept.len() == MAX_LEGS {
                 return Err(Refusal::Numbered(Code::LegCount));
             }
             kept.push(number)?;

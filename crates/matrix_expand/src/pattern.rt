@@ -9,14 +9,14 @@ use std::alloc::Global;
 use std::marker::Model;
 use wf_value::{Combo, Refusal, Same, Scalar};
 
-/// A value that is asked of an original.
+/// A value that an object requires of an original.
 #[derive(Drop)]
-struct Wanted<'a> {
+struct WantedChoice<'a> {
     choice: Choice<'a>,
     value: &'a Scalar,
 }
 
-impl<'a> Model for Wanted<'a> {
+impl<'a> Model for WantedChoice<'a> {
     ghost use Rattle.matrix_expand.specs.Values.{WantedValue, coded_wanted};
 
     ghost Value = { WantedValue };
@@ -26,14 +26,14 @@ impl<'a> Model for Wanted<'a> {
     ghost view = { λ w. (w.choice, w.value.now) };
 }
 
-impl<'a> Wanted<'a> {
+impl<'a> WantedChoice<'a> {
     fn new(choice: Choice<'a>, value: &'a Scalar) -> Self
         ensures { result ≡ (choice.entry, value.entry.now) }
     {
-        Wanted { choice, value }
+        WantedChoice { choice, value }
     }
 
-    /// Whether the original of a number has the value.
+    /// Whether the original with this number has the value.
     fn holds(&self, number: usize) -> bool
         ensures { result ≡ wanted_holds number self.now }
     {
@@ -41,17 +41,17 @@ impl<'a> Wanted<'a> {
     }
 }
 
-fn all_hold(wanted: &[Wanted], number: usize) -> bool
+fn all_hold(wanted: &[WantedChoice], number: usize) -> bool
     ensures { result ≡ list_all (wanted_holds number) wanted.now }
 {
     wanted.iter().all(|w| w.holds(number))
 }
 
-/// An include or exclude object, as it is compared with originals.
+/// An include or exclude object, prepared for comparison with originals.
 #[derive(Drop)]
 pub struct Pattern<'a> {
     object: &'a Combo,
-    wanted: Vec<Wanted<'a>>,
+    wanted: Vec<WantedChoice<'a>>,
     has_other: bool,
 }
 
@@ -74,7 +74,7 @@ impl<'a> Pattern<'a> {
         let mut has_other = false;
         for (name, value) in object.as_slice() {
             match place_of(axes, name) {
-                Some(place) => wanted.push(Wanted::new(axes[place].choice().again(), value))?,
+                Some(place) => wanted.push(WantedChoice::new(axes[place].choice().again(), value))?,
                 None => has_other = true,
             }
         }
@@ -91,14 +91,14 @@ impl<'a> Pattern<'a> {
         self.object
     }
 
-    /// Whether the original of a number has the object's value of each variable that the object names.
+    /// Whether the original with this number has the object's value for each variable that the object names.
     pub fn agrees(&self, number: usize) -> bool
         ensures { result ≡ pattern_agrees number self.now }
     {
         all_hold(self.wanted.as_slice(), number)
     }
 
-    /// Whether the original of a number has all pairs of the object.
+    /// Whether the original with this number has all pairs of the object.
     pub fn removes(&self, number: usize) -> bool
         ensures { result ≡ pattern_removes number self.now }
     {
@@ -106,7 +106,7 @@ impl<'a> Pattern<'a> {
     }
 }
 
-/// Some objects, as they are compared with originals.
+/// Prepares objects for comparison with originals.
 pub fn patterns<'a>(
     alloc: Global,
     axes: &[Axis<'a>],

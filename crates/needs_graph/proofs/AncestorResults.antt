@@ -1,4 +1,4 @@
--- Whether a test holds of the result of one of a job's ancestors.
+-- Whether a test holds for the result of one of a job's ancestors.
 use Rattle.std.proofs.Common.{◌≡◌, ℕ, zero, suc, ◌+◌, ◌<◌, List, [], ◌∷◌, Bool, true, false, None, Option, cond, not, ◌||◌, ◌&&◌, length}
 use Rattle.std.proofs.Common.{get_or, map, refl, ap, ◌∙◌, arith}
 use Rattle.std.specs.List.{Contains, list_all, list_any, filter, range_with_len}
@@ -12,14 +12,14 @@ use Rattle.needs_graph.proofs.Members.{Has, Contains-from_Has}
 use Rattle.needs_graph.proofs.Walks.{is_ancestor-from_walk}
 use Rattle.needs_graph.proofs.PlaceLists.{Has-filter_range_from}
 
--- all pass where none fails
+-- all pass if and only if none fails
 pub list_all-not : {X : Type 0} (p : X → Bool) (xs : List X) → list_all p xs ≡ not (list_any (λ x. not (p x)) xs)
 list_all-not p [] = refl
 list_all-not p (x ∷ xs) =
     elim (p x) as (λ b. (b && list_all p xs) ≡ not (not b || list_any (λ x. not (p x)) xs))
     [ true ↦ list_all-not p xs | false ↦ refl ]
 
--- of places below n that a first test takes, none passes a second
+-- if no index below n passes both tests, none that the first selects passes the second
 none_passes : (takes passes : ℕ → Bool) (a n : ℕ) → ((k : ℕ) → k < a + n → (takes k && passes k) ≡ false)
     → list_any passes (filter takes (range_with_len a n)) ≡ false
 none_passes takes passes a zero each = refl
@@ -56,7 +56,7 @@ module _ (needs : List (List ℕ)) (results : List (Option JobResult)) (job : �
       ∙ one_passes (λ other. test (get_or results other None)) (ancestors_of needs job) other
       (Has-filter_range_from (is_ancestor needs job) (length needs) other below parts.0) parts.1
 
-  -- a job that is needed directly is an ancestor
+  -- a direct need is an ancestor
   pub holds_of_need : IsClosed needs → list_any (λ need. test (get_or results need None)) (needs_at needs job) ≡ true
       → list_any test (ancestor_results needs results job) ≡ true
   holds_of_need within h =

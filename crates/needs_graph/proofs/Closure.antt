@@ -1,16 +1,16 @@
--- Ways over more and more jobs come to every job that a walk comes to, and to no other.
+-- The closure over paths through more and more jobs contains exactly the ends of walks.
 use Rattle.std.proofs.Common.{◌≡◌, ◌⊎◌, ℕ, zero, suc, ◌<◌, ◌≤◌, List, [], ◌∷◌, Bool, true, false, cond, ◌&&◌, ◌||◌, length, get_or, sym}
 use Rattle.std.proofs.Common.{refl, ap, ◌∙◌, ⊎_elim, arith}
 use Rattle.std.proofs.lemmas.Bool.{and_parts, or_cases, or_left, or_right, and_from, cases_lt}
 use Rattle.std.proofs.lemmas.List.{get_or-map, length-map}
-use Rattle.needs_graph.specs.Marks.{is_marked, either, through, passed, closed}
+use Rattle.needs_graph.specs.JobBitmap.{is_marked, either, through, passed, closed}
 
 pub length-either : (xs ys : List Bool) → length (either xs ys) ≡ length xs
 length-either [] ys = refl
 length-either (x ∷ xs) [] = refl
 length-either (x ∷ xs) (y ∷ ys) = ap suc (length-either xs ys)
 
--- a set has what one of the two has
+-- a union contains what one of the two sets contains
 either_at : (xs ys : List Bool) (i : ℕ) → length ys ≡ length xs → is_marked (either xs ys) i ≡ (is_marked xs i || is_marked ys i)
 either_at [] [] i e = refl
 either_at [] (y ∷ ys) i e = absurd (omega arith)
@@ -33,12 +33,12 @@ through_at k others marks i e =
     elim (is_marked marks k) as (λ v. is_marked (cond v (either marks others) marks) i ≡ (is_marked marks i || (v && is_marked others i)))
     [ true ↦ either_at marks others i e | false ↦ or_false (is_marked marks i) ]
 
--- ---- rows of one width
+-- ---- rows of equal width
 
 abbrev pub row_at : List (List Bool) → ℕ → List Bool
 row_at rows j = get_or rows j []
 
--- whether the job at the first place reaches the one at the second
+-- whether the job j reaches the job i
 abbrev pub bit : List (List Bool) → ℕ → ℕ → Bool
 bit rows j i = is_marked (row_at rows j) i
 
@@ -68,7 +68,7 @@ bit-closed n k rows wide k_below j i below =
     ap (λ row. is_marked row i) (row_at-passed k now j j_in)
     ∙ through_at k (row_at now k) (row_at now j) i (IsWide-closed n k rows wide k k_in ∙ sym (IsWide-closed n k rows wide j j_in))
 
--- ---- the closure keeps to any relation that joins end to end
+-- ---- the closure is contained in any transitive relation that contains the rows
 
 pub sound : (n : ℕ) (rows : List (List Bool)) → IsWide n rows → (R : ℕ → ℕ → Type 0) → ((j i : ℕ) → bit rows j i ≡ true → R j i)
     → ((j m i : ℕ) → R j m → R m i → R j i) → (k : ℕ) → k ≤ length rows → (j i : ℕ) → j < length rows → bit (closed k rows) j i ≡ true
@@ -82,7 +82,7 @@ sound n rows wide R base join (suc k) k_in j i below h =
     (λ e. let parts = and_parts _ _ e in join j k i (before j k below parts.0) (before k i k_below parts.1))
     (or_cases _ _ (sym (bit-closed n k rows wide k_below j i below) ∙ h))
 
--- ---- and takes in what one more step leads to
+-- ---- the closure contains the end of one more step
 
 bit_kept : (n : ℕ) (rows : List (List Bool)) → IsWide n rows → (k : ℕ) → k ≤ length rows → (j i : ℕ) → j < length rows → bit rows j i ≡ true
     → bit (closed k rows) j i ≡ true

@@ -1,4 +1,4 @@
--- No job needs what is no job.
+-- Jobs need only existing jobs.
 use Rattle.std.proofs.Common.{◌≡◌, ℕ, ◌≤◌, List, [], ◌∷◌, Bool, false, cond, eqb, length, refl, ap, ◌∙◌, arith}
 use Rattle.std.specs.List.{filter, list_any, range_with_len}
 use Rattle.std.proofs.lemmas.Bool.{false_from_ne_true}

@@ -1,4 +1,4 @@
--- From rows of marks to the graph of the jobs, or to the refusal.
+-- From rows of flags to the graph of the jobs, or to the refusal.
 use Rattle.std.proofs.Common.{◌≡◌, ◌↔◌, ℕ, zero, suc, ◌+◌, ◌<◌, List, [], ◌∷◌, Bool, true, false, cond, Result, Ok, Err, IsTrue, length}
 use Rattle.std.proofs.Common.{get_or, map, sym, refl, subst, ap, ◌∙◌, ⊎_elim, arith, add-zero, zero-add}
 use Rattle.std.specs.List.{list_all, filter, enumerate_from}
@@ -10,7 +10,7 @@ use Rattle.wf_value.specs.declared.refusal.Refusal.{Refusal}
 use Rattle.wf_value.specs.declared.refusal.Refusal.TheVariants.{Cycle}
 use Rattle.wf_value.proofs.PassedOn.{same_Ok}
 use Rattle.needs_graph.specs.Ancestors.{HasWalk, is_ancestor, IsClosed, IsGraph}
-use Rattle.needs_graph.specs.Marks.{is_marked, marked, places, closed}
+use Rattle.needs_graph.specs.JobBitmap.{is_marked, marked, places, closed}
 use Rattle.needs_graph.specs.Needs.{is_listed, is_job, needs_of, own_ancestors, unless_cycle, unknown_need, graph_of}
 use Rattle.needs_graph.specs.Rows.{needs_row, needs_rows, needs_rows_of, own_ids, dependents_by, IsSets}
 use Rattle.needs_graph.specs.JobNeeds.{JobNeeds}
@@ -19,7 +19,7 @@ use Rattle.needs_graph.proofs.Reach.{needs_by, IsSquare, needs_by-IsClosed, is_a
 use Rattle.needs_graph.proofs.RowSteps.{blank}
 use Rattle.needs_graph.proofs.Walks.{walk_from_is_ancestor, is_ancestor-from_walk}
 
--- ---- the rows say the needs
+-- ---- the rows represent the needs
 
 places_from-map : {X : Type 0} (test : X → Bool) (xs : List X) (a : ℕ)
     → map (λ e. e.0) (filter (λ e. test e.1) (enumerate_from a xs)) ≡ map (λ e. e.0) (filter (λ e. e.1) (enumerate_from a (map test xs)))
@@ -72,7 +72,7 @@ kept_alike f true false x xs ys same h = absurd (true≢false same)
 kept_alike f false true x xs ys same h = absurd (false≢true same)
 kept_alike f false false x xs ys same h = h
 
--- tests of the place that agree at each place pick the same elements
+-- tests that agree at each index select the same elements
 picked_alike : {X Y : Type 0} (f : ℕ × X → Y) (xs : List X) (a : ℕ) (t u : ℕ → Bool) → ((k : ℕ) → k < length xs → t (a + k) ≡ u (a + k))
     → map f (filter (λ e. t e.0) (enumerate_from a xs)) ≡ map f (filter (λ e. u e.0) (enumerate_from a xs))
 picked_alike f [] a t u agree = refl
@@ -130,7 +130,7 @@ made_if : (known : Bool) (rows made : List (List Bool)) (graph : Result (List (L
 made_if true rows made graph h = (cc, refl)
 made_if false rows made graph h = absurd (cc)
 
--- what the rows of the jobs say
+-- the rows of the jobs and their graph
 record Made (jobs : List JobNeeds) (rows : List (List Bool)) : Type 0 where
   pub same : needs_rows jobs ≡ rows
   pub graph : graph_of jobs ≡ unless_cycle (own_ancestors jobs) (needs_of jobs)
@@ -148,14 +148,14 @@ own_ids-made : (jobs : List JobNeeds) (rows : List (List Bool)) → needs_rows_o
     → own_ids jobs (closed (length rows) rows) ≡ own_ancestors jobs
 own_ids-made jobs rows h = ap (λ r. own_ids jobs (closed (length r) r)) (sym (made jobs rows h).same) ∙ own_ids-closed jobs
 
--- 14: with the ids of the jobs that reach themselves
+-- 14, with the ids of the jobs that reach themselves
 pub graph_cyclic : (jobs : List JobNeeds) (rows : List (List Bool)) (ids : List (List ℕ)) → needs_rows_of jobs ≡ Ok rows
     → own_ids jobs (closed (length rows) rows) ≡ ids → (ids ≡ [] → ⊥) → graph_of jobs ≡ Err (Cycle ids)
 graph_cyclic jobs rows [] h own some = absurd (some refl)
 graph_cyclic jobs rows (id ∷ ids) h own some =
     (made jobs rows h).graph ∙ ap (λ l. unless_cycle l (needs_of jobs)) (sym (own_ids-made jobs rows h) ∙ own)
 
--- the graph, where no job reaches itself
+-- the graph, if no job reaches itself
 pub graph_made : (jobs : List JobNeeds) (rows : List (List Bool)) → needs_rows_of jobs ≡ Ok rows
     → own_ids jobs (closed (length rows) rows) ≡ [] → graph_of jobs ≡ Ok (map marked rows)
 graph_made jobs rows h none =
@@ -188,7 +188,7 @@ graph_is_graph jobs rows sets dependents h none are listed =
           ∙ dependents-by rows job);
     }
 
--- ---- the steps of building, as the calls tell them
+-- ---- the steps of building, from the results of the calls
 
 abbrev gave : {X : Type 0} → X → Result X Refusal
 gave x = Ok x

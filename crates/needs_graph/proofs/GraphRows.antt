@@ -1,4 +1,4 @@
--- The definitions of graphs and ancestors at small workflows.
+-- Examples of graphs and ancestors for small workflows, computed from the definitions.
 use Rattle.std.proofs.Common.{◌≡◌, ℕ, List, [], ◌∷◌, Ok, Err, codes, refl}
 use Rattle.wf_value.specs.declared.refusal.Refusal.TheVariants.{Cycle}
 use Rattle.needs_graph.specs.Ancestors.{ancestors_of, dependents_of}
@@ -23,7 +23,7 @@ job id needs = record { id = id; needs = needs }
 no_jobs : graph_of [] ≡ Ok []
 no_jobs = refl
 
--- a needs b, and there is no b
+-- a needs b, which does not exist
 no_such_job : graph_of (job a (b ∷ []) ∷ []) ≡ Err unknown_need
 no_such_job = refl
 
@@ -37,11 +37,11 @@ each_other = refl
 itself : graph_of (job a [] ∷ job b (b ∷ []) ∷ []) ≡ Err (Cycle (b ∷ []))
 itself = refl
 
--- c needs a cycle, and is not on one
+-- c needs a cycle but is not on one
 beside_a_cycle : graph_of (job a (b ∷ []) ∷ job b (a ∷ []) ∷ job c (a ∷ []) ∷ []) ≡ Err (Cycle (a ∷ b ∷ []))
 beside_a_cycle = refl
 
--- names that repeat count once
+-- repeated names count once
 repeats : graph_of (job a [] ∷ job b (a ∷ a ∷ []) ∷ []) ≡ Ok ([] ∷ (0 ∷ []) ∷ [])
 repeats = refl
 

@@ -1,4 +1,4 @@
--- What is known of an ancestor.
+-- Properties of an ancestor.
 use Rattle.std.proofs.Common.{◌≡◌, ◌≢◌, ◌↔◌, ℕ, ◌<◌, List, true, length, sym, ap, ◌∙◌}
 use Rattle.std.proofs.lemmas.Bool.{true≢false}
 use Rattle.needs_graph.specs.Ancestors.{HasWalk, is_ancestor, IsGraph}

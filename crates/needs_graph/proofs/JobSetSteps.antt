@@ -1,4 +1,4 @@
--- One more job in a set of bits.
+-- Adding a job to a bitmap.
 use Rattle.std.proofs.Common.{◌≡◌, ◌≢◌, ℕ, ◌+◌, ◌*◌, ◌/◌, ◌%◌, ◌^◌, ◌<◌, List, Bool, true, false, nat_eq, length}
 use Rattle.std.proofs.Common.{get_or, set, take, sym, ap, ◌∙◌, ⊎_elim, arith}
 use Rattle.std.specs.Int.{bit_at, w64}
@@ -7,7 +7,7 @@ use Rattle.std.proofs.lemmas.Bool.{cases_eq, cases_lt}
 use Rattle.std.proofs.lemmas.List.{get_or-set_same, get_or-set_other, get_or-take, get_or_past, length-take-le}
 use Rattle.std.proofs.lemmas.Nat.Bits.{bit_at_set_same, bit_at_set_other}
 use Rattle.needs_graph.specs.JobSets.{is_in}
-use Rattle.needs_graph.specs.Marks.{is_marked}
+use Rattle.needs_graph.specs.JobBitmap.{is_marked}
 
 -- a word with one more bit
 abbrev pub with_bit : ℕ → ℕ → ℕ
@@ -49,7 +49,7 @@ set_past marks i job below apart =
     ∙ sym (get_or_past (take i marks) job false (omega (arith, length-take-le i marks (omega arith)))))
     (cases_lt job i)
 
--- words that have the jobs marked so far have the next too once it is in them
+-- adding the next marked job to words with the jobs so far
 pub next_is_in : (marks : List Bool) (words next : List ℕ) (i : ℕ) → i < length marks → get_or marks i false ≡ true
     → ((job : ℕ) → is_in words job ≡ is_marked (take i marks) job) → is_in next i ≡ true
     → ((other : ℕ) → other ≢ i → is_in next other ≡ is_in words other) → (job : ℕ) → is_in next job ≡ is_marked (take (i + 1) marks) job

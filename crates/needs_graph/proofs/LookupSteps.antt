@@ -1,4 +1,4 @@
--- One more job among those that are looked up.
+-- Adding a job to the index.
 use Rattle.std.proofs.Common.{◌≡◌, ◌≢◌, ℕ, ◌+◌, ◌<◌, List, Option, None, Some, true, false, cond, length, get_or, take, sym, ap, refl, ◌∙◌}
 use Rattle.std.proofs.Common.{⊎_elim, arith}
 use Rattle.std.specs.Str.{bytes_eq}
@@ -8,7 +8,7 @@ use Rattle.std.proofs.lemmas.Slice.Eq.{bytes_eq-Decides}
 use Rattle.needs_graph.specs.Lookup.{Finds}
 use Rattle.needs_graph.specs.JobNeeds.{JobNeeds}
 
--- the job at a place, among the first ones
+-- the job at an index of a prefix
 at_place : (jobs : List JobNeeds) (n place : ℕ) (d e : JobNeeds) → place < n → place < length jobs
     → get_or (take n jobs) place d ≡ get_or jobs place e
 at_place jobs n place d e before within = get_or-take n jobs place d before ∙ get_or_default jobs place d e within
@@ -47,7 +47,7 @@ found_nowhere jobs i job id below is_job other none =
     none k d (omega arith) (ap (λ j. j.id) at ∙ same))
     (cases_eq k i)
 
--- what the first jobs gave is kept, but at the id of the job that comes next
+-- the results for the jobs so far stay, except for the id of the next job
 pub finds_more : (jobs : List JobNeeds) (i : ℕ) (job : JobNeeds) (id : List ℕ) (before : Option ℕ) → i < length jobs
     → job ≡ get_or jobs i job → Finds (take i jobs) id before → Finds (take (i + 1) jobs) id (cond (bytes_eq job.id id) (Some i) before)
 finds_more jobs i job id before below is_job held =

@@ -1,16 +1,16 @@
--- The steps of the loops over marks.
+-- One iteration of the loops over marks.
 use Rattle.std.proofs.Common.{◌≡◌, ℕ, zero, suc, ◌+◌, ◌<◌, ◌≤◌, min, List, [], ◌∷◌, ◌++◌, Bool, true, false, cond, ◌||◌, length, set, take}
 use Rattle.std.proofs.Common.{map, refl, sym, ap, ◌∙◌, zero-add, arith}
 use Rattle.std.specs.List.{filter, enumerate_from}
 use Rattle.std.proofs.lemmas.Bool.{true≢false}
-use Rattle.needs_graph.specs.Marks.{is_marked, either, marked, through}
+use Rattle.needs_graph.specs.JobBitmap.{is_marked, either, marked, through}
 use Rattle.needs_graph.proofs.Closure.{or_false}
 
 pub either_none : (xs : List Bool) → either xs [] ≡ xs
 either_none [] = refl
 either_none (x ∷ xs) = refl
 
--- one more of the others
+-- one more mark of the second set
 either_more : (xs ys : List Bool) (i : ℕ) → i < length xs → i < length ys
     → set (either xs (take i ys)) i (is_marked (either xs (take i ys)) i || is_marked ys i) ≡ either xs (take (suc i) ys)
 either_more [] ys i in_xs in_ys = absurd (omega arith)
@@ -51,7 +51,7 @@ marked_more marks i below =
     ap (λ n. marked (take n marks)) next
     ∙ (marked_from_more marks 0 i below ∙ ap (λ n. marked (take i marks) ++ cond (is_marked marks i) (n ∷ []) []) (zero-add i))
 
--- the marks before a step are those so far
+-- the marks after one more iteration
 pub added_more : (old others marks : List Bool) (i : ℕ) → marks ≡ either old (take i others) → i < length old → i < length others
     → set marks i (is_marked marks i || is_marked others i) ≡ either old (take (i + 1) others)
 added_more old others marks i so_far in_old in_others =
@@ -59,7 +59,7 @@ added_more old others marks i so_far in_old in_others =
     ap (λ m. set m i (is_marked m i || is_marked others i)) so_far
     ∙ (either_more old others i in_old in_others ∙ ap (λ n. either old (take n others)) next)
 
--- marks behind the last true one add nothing
+-- unset marks after the last set one add nothing
 pub either_trimmed : (xs ys : List Bool) (n : ℕ) → ((k : ℕ) → n ≤ k → is_marked ys k ≡ false) → either xs (take n ys) ≡ either xs ys
 either_trimmed [] ys n rest = refl
 either_trimmed (x ∷ xs) [] n rest = ap (λ l. either (x ∷ xs) l) (take_none n)
@@ -69,7 +69,7 @@ either_trimmed (x ∷ xs) (y ∷ ys) zero rest =
 either_trimmed (x ∷ xs) (y ∷ ys) (suc n) rest =
     ap (λ l. (x || y) ∷ l) (either_trimmed xs ys n (λ k enough. rest (suc k) (omega arith)))
 
--- two sets that add the same lead to the same
+-- sets that add the same marks have the same effect on all rows
 pub through_same : (job : ℕ) (others trimmed : List Bool) (rows : List (List Bool))
     → ((marks : List Bool) → either marks trimmed ≡ either marks others) → map (through job trimmed) rows ≡ map (through job others) rows
 through_same job others trimmed [] same = refl

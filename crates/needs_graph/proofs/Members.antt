@@ -1,4 +1,4 @@
--- Membership in a list of numbers, as a test and as a fact.
+-- Membership in a list of numbers, as a test and as a proposition.
 use Rattle.std.proofs.Common.{◌≡◌, ◌⊎◌, ℕ, List, [], ◌∷◌, ◌++◌, true, eqb, sym, refl, subst, ◌∙◌, inl, inr, ⊎_elim}
 use Rattle.std.specs.List.{Contains, list_any, flat_map}
 use Rattle.std.proofs.lemmas.Bool.{or_cases, or_left, or_right, eqb-true, eq-eqb, false≢true}
@@ -26,7 +26,7 @@ Has-append xs ys x (inr h) = list_any-append (eqb x) xs ys ∙ or_right _ _ h
 pub Has-append_cases : (xs ys : List ℕ) (x : ℕ) → Has (xs ++ ys) x → Has xs x ⊎ Has ys x
 Has-append_cases xs ys x h = or_cases _ _ (sym (list_any-append (eqb x) xs ys) ∙ h)
 
--- what is in one of the lists is in the lists end to end
+-- an element of one of the lists is in their concatenation
 pub Has-flat_map : (f : ℕ → List ℕ) (xs : List ℕ) (x y : ℕ) → Has xs x → Has (f x) y → Has (flat_map f xs) y
 Has-flat_map f [] x y h g = absurd (false≢true h)
 Has-flat_map f (z ∷ zs) x y h g =
@@ -34,7 +34,7 @@ Has-flat_map f (z ∷ zs) x y h g =
     (⊎_elim (λ e. inl (let P : ℕ → Type 0 = λ n. Has (f n) y in subst P (eqb-true x z e) g)) (λ r. inr (Has-flat_map f zs x y r g))
     (or_cases _ _ h))
 
--- and the other way round
+-- the converse
 pub Has-flat_map_from : (f : ℕ → List ℕ) (xs : List ℕ) (y : ℕ) → Has (flat_map f xs) y → (x : ℕ) × Has xs x × Has (f x) y
 Has-flat_map_from f [] y h = absurd (false≢true h)
 Has-flat_map_from f (z ∷ zs) y h =

@@ -6,14 +6,14 @@ use Rattle.std.proofs.lemmas.Bool.{cond-true, cond-false}
 use Rattle.std.proofs.lemmas.List.{get_or_read, map-append, append-nil, take_all}
 use Rattle.std.proofs.lemmas.List.Elements.{filter_more}
 use Rattle.std.proofs.lemmas.List.FromFn.{length-enumerate_from, get_or-enumerate_from}
-use Rattle.needs_graph.specs.Marks.{is_marked}
+use Rattle.needs_graph.specs.JobBitmap.{is_marked}
 use Rattle.needs_graph.specs.Rows.{own_ids}
 use Rattle.needs_graph.specs.JobNeeds.{JobNeeds}
 
 abbrev reaches_itself : List (List Bool) → ℕ × JobNeeds → Bool
 reaches_itself rows e = is_marked (get_or rows e.0 []) e.0
 
--- those of the first jobs
+-- the ids among the first jobs
 abbrev pub own_ids_first : List JobNeeds → List (List Bool) → ℕ → List (List ℕ)
 own_ids_first jobs rows i =
     map (λ e. e.1.id) (filter (λ e. is_marked (get_or rows e.0 []) e.0) (take i (enumerate_from 0 jobs)))

@@ -1,4 +1,4 @@
--- The places of the elements that pass a test.
+-- The indices of the elements that pass a test.
 use Rattle.std.proofs.Common.{◌≡◌, ℕ, zero, suc, ◌+◌, ◌<◌, List, [], ◌∷◌, Bool, true, false, cond, eqb, length, get_or, map, sym, refl, ap}
 use Rattle.std.proofs.Common.{◌∙◌, ⊎_elim, arith, add-zero, zero-add}
 use Rattle.std.proofs.lemmas.Bool.{true≢false, false≢true, or_cases, or_left, or_right, eqb-true, eq-eqb, cond_both}
@@ -6,7 +6,7 @@ use Rattle.std.proofs.lemmas.List.Folds.{list_any_at}
 use Rattle.std.proofs.lemmas.List.FromFn.{length-range_with_len, get_or-range_with_len}
 use Rattle.std.proofs.lemmas.List.{get_or_default}
 use Rattle.std.specs.List.{range_with_len, enumerate_from, filter}
-use Rattle.needs_graph.specs.Marks.{places, is_marked, marked}
+use Rattle.needs_graph.specs.JobBitmap.{places, is_marked, marked}
 use Rattle.needs_graph.proofs.Members.{Has}
 
 kept : {X : Type 0} (b c : Bool) (a : ℕ) (x : X) (es : List (ℕ × X)) (ns : List ℕ) → b ≡ c → map (λ e. e.0) es ≡ ns
@@ -16,7 +16,7 @@ kept true false a x es ns same h = absurd (true≢false same)
 kept false true a x es ns same h = absurd (false≢true same)
 kept false false a x es ns same h = h
 
--- the places are a filter of all places, by any test that agrees
+-- the indices are all indices filtered by any test that agrees
 places_from : {X : Type 0} (test : X → Bool) (xs : List X) (a : ℕ) (t : ℕ → Bool)
     → ((k : ℕ) (d : X) → k < length xs → test (get_or xs k d) ≡ t (a + k))
     → map (λ e. e.0) (filter (λ e. test e.1) (enumerate_from a xs)) ≡ filter t (range_with_len a (length xs))
@@ -60,7 +60,7 @@ Has-range a zero i h = absurd (false≢true h)
 Has-range a (suc n) i h =
     ⊎_elim (λ same. let e = eqb-true i a same in omega arith) (λ later. let r = Has-range (a + 1) n i later in omega arith) (or_cases _ _ h)
 
--- what a filter of all places has
+-- the elements of filtered indices
 pub Has-filter_range : (t : ℕ → Bool) (n i : ℕ) → Has (filter t (range_with_len 0 n)) i → (i < n) × (t i ≡ true)
 Has-filter_range t n i h =
     let parts = Has-filter t (range_with_len 0 n) i h in

@@ -1,4 +1,4 @@
--- Rows of marks closed over all jobs are the ancestors of each job.
+-- Rows of flags closed over all jobs are the ancestors of each job.
 use Rattle.std.proofs.Common.{◌≡◌, ℕ, ◌<◌, List, [], ◌∷◌, Bool, true, false, eqb, length, get_or, map, ◌≤◌, sym, refl, subst, ap, ◌∙◌}
 use Rattle.std.proofs.Common.{⊎_elim, arith}
 use Rattle.std.specs.List.{Contains, range_with_len, filter, list_any}
@@ -7,18 +7,18 @@ use Rattle.std.proofs.lemmas.Bool.Decides.{same_from_decides}
 use Rattle.std.proofs.lemmas.List.{get_or-map, get_or_default, get_or_past, length-map}
 use Rattle.needs_graph.specs.Ancestors.{needs_at, IsWalk, HasWalk, is_ancestor, dependents_of, IsClosed}
 use Rattle.needs_graph.specs.JobSets.{is_in}
-use Rattle.needs_graph.specs.Marks.{is_marked, marked, places, closed}
+use Rattle.needs_graph.specs.JobBitmap.{is_marked, marked, places, closed}
 use Rattle.needs_graph.specs.Rows.{IsSets}
 use Rattle.needs_graph.proofs.Members.{Has, Contains-from_Has, Has-from_Contains}
 use Rattle.needs_graph.proofs.PlaceLists.{marked_by, places_by, Has-filter_range, Has-filter_range_from}
 use Rattle.needs_graph.proofs.Walks.{joined, no_walk_past, walk_from_is_ancestor, is_ancestor-from_walk}
 use Rattle.needs_graph.proofs.Closure.{row_at, bit, IsWide, length-closed, sound, complete_step, complete_start}
 
--- the needs that rows of marks say
+-- the needs that rows of flags represent
 abbrev pub needs_by : List (List Bool) → List (List ℕ)
 needs_by rows = map marked rows
 
--- the rows are as wide as they are many
+-- the rows are as wide as there are rows
 abbrev pub IsSquare : List (List Bool) → Type 0
 IsSquare rows = IsWide (length rows) rows
 
@@ -105,7 +105,7 @@ pub closed_from_walk : (rows : List (List Bool)) → IsSquare rows → (j i : �
     → bit (closed (length rows) rows) j i ≡ true
 closed_from_walk rows square j i w = closed_from_steps rows square w.0 j i w.1
 
--- the test of an ancestor is what the closed rows say
+-- the test for an ancestor agrees with the closed rows
 pub is_ancestor-is_closed : (rows : List (List Bool)) → IsSquare rows → (j i : ℕ) → j < length rows
     → bit (closed (length rows) rows) j i ≡ is_ancestor (needs_by rows) j i
 is_ancestor-is_closed rows square j i below =
@@ -119,7 +119,7 @@ pub past_is_none : (needs : List (List ℕ)) → IsClosed needs → (job other :
 past_is_none needs closed job other past =
     false_from_ne_true _ (λ h. no_walk_past needs job other past (walk_from_is_ancestor needs job other h))
 
--- the set at a job's place has its ancestors and no others
+-- the set at a job's index contains exactly its ancestors
 pub sets_reach : (sets : List (List ℕ)) (marks : List (List Bool)) → IsSquare marks → IsSets sets (closed (length marks) marks)
     → (job other : ℕ) → is_in (get_or sets job []) other ≡ is_ancestor (needs_by marks) job other
 sets_reach sets marks square are job other =
@@ -132,7 +132,7 @@ sets_reach sets marks square are job other =
     ∙ sym (past_is_none (needs_by marks) (needs_by-IsClosed marks square) job other (omega (arith, length-map marks marked)))))
     (cases_lt job (length marks))
 
--- ---- the rows that have a job
+-- ---- the rows that contain a job
 
 is_marked-is_in_list : (marks : List Bool) (i : ℕ) → is_marked marks i ≡ list_any (eqb i) (marked marks)
 is_marked-is_in_list marks i =

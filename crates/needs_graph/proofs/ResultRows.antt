@@ -1,4 +1,4 @@
--- The definitions of results, conclusions and conditions at rows of their tables.
+-- Examples of results, conclusions and conditions, computed from the definitions.
 use Rattle.std.proofs.Common.{Some, ◌≡◌, [], ◌∷◌, Bool, true, false, refl}
 use Rattle.wf_value.specs.declared.condition.Condition.TheVariants as condition
 use Rattle.wf_value.specs.declared.outcome.Outcome.{Outcome}
@@ -8,7 +8,7 @@ use Rattle.needs_graph.specs.Results.{gathered, conclusion_of}
 use Rattle.needs_graph.specs.Conditions.{condition_value}
 use Rattle.needs_graph.specs.declared.ended.LegEnd.{LegEnd}
 
--- a leg, and whether a failure of it is passed over
+-- a leg, and whether its failure is ignored
 abbrev leg : Outcome → Bool → LegEnd
 leg o passed_over = record { outcome = o; continue_on_error = passed_over }
 

@@ -28,7 +28,7 @@ bytes_same a b e = (bytes_eq-Decides a b).1 e
 bytes_apart : (a b : List ℕ) → a ≢ b → bytes_eq a b ≡ false
 bytes_apart a b ne = false_from_ne_true _ (λ e. ne ((bytes_eq-Decides a b).0 e))
 
--- the id at a place is a job's: that job is marked, and no other
+-- a known id marks its job and no other
 pub row_more : (jobs : List JobNeeds) → IsTrue (ids_rise jobs) → (ids : List (List ℕ)) (i place : ℕ) (id : List ℕ) → i < length ids
     → id ≡ get_or ids i id → place < length jobs → HoldsAt (λ job. job.id ≡ id) jobs place
     → set (needs_row jobs (take i ids)) place true ≡ needs_row jobs (take (i + 1) ids)

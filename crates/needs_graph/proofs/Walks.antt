@@ -11,7 +11,7 @@ use Rattle.std.proofs.lemmas.Map.Steps.{length-le_from_distinct_below}
 use Rattle.needs_graph.specs.Ancestors.{needs_at, IsWalk, HasWalk, walk_ends, is_ancestor, IsClosed}
 use Rattle.needs_graph.proofs.Members.{Has, Contains-from_Has, Has-from_Contains, Has-flat_map, Has-flat_map_from}
 
--- ---- walks end to end
+-- ---- joined walks
 
 pub walk-append : (needs : List (List ℕ)) (from mid to : ℕ) (xs ys : List ℕ) → IsWalk needs from xs mid → IsWalk needs mid ys to
     → IsWalk needs from (xs ++ mid ∷ ys) to
@@ -37,7 +37,7 @@ ends_from_walk needs (next ∷ between) from to w =
     Has-flat_map (walk_ends needs (length between)) (needs_at needs from) next to (Has-from_Contains (needs_at needs from) next w.0)
     (ends_from_walk needs between next to w.1)
 
--- ---- a walk that comes to no job twice
+-- ---- a walk that visits no job twice
 
 abbrev pub Apart : List ℕ → Type 0
 Apart = IsDistinct eqb
@@ -49,7 +49,7 @@ alone : (x : ℕ) → Apart (x ∷ [])
 unfolding IsDistinct
 alone x = (tt, tt)
 
--- one step to a job that a short walk comes to, and on from there
+-- one step to a job on a short walk, and on from there
 cut : (needs : List (List ℕ)) (from next at to : ℕ) (between : List ℕ) → Contains (needs_at needs from) next → IsWalk needs at between to
     → Apart (between ++ to ∷ []) → Has (between ++ to ∷ []) next → ShortWalk needs from to
 cut needs from next at to [] step w apart h =
@@ -72,7 +72,7 @@ short_from_walk needs (next ∷ between) from to w =
     (λ e. (next ∷ s.0, (w.0, s.1), IsDistinct-cons eqb next _ (none_from_false (eqb next) _ e) s.2))
     (cases_Bool (list_any (eqb next) (s.0 ++ to ∷ [])))
 
--- ---- the jobs that a walk comes to
+-- ---- the jobs that a walk visits
 
 walk_stays_within : (needs : List (List ℕ)) → IsClosed needs → (between : List ℕ) (from to q : ℕ) → IsWalk needs from between to
     → Has (between ++ to ∷ []) q → q < length needs
@@ -88,7 +88,7 @@ pub walk_end_below : (needs : List (List ℕ)) → IsClosed needs → (between :
 walk_end_below needs closed [] from to w = closed from to w
 walk_end_below needs closed (b ∷ bs) from to w = walk_end_below needs closed bs b to w.1
 
--- no walk leads from a place past the jobs
+-- no walk starts at an index past the jobs
 pub no_walk_past : (needs : List (List ℕ)) (from to : ℕ) → length needs ≤ from → HasWalk needs from to → ⊥
 no_walk_past needs from to past w =
     let none : needs_at needs from ≡ [] = get_or_past needs from [] past in
@@ -100,7 +100,7 @@ no_walk_past needs from to past w =
     ]
     w.1
 
--- ---- the test of an ancestor, and walks
+-- ---- the test for an ancestor, and walks
 
 pub walk_from_is_ancestor : (needs : List (List ℕ)) (from to : ℕ) → is_ancestor needs from to ≡ true → HasWalk needs from to
 walk_from_is_ancestor needs from to h =

@@ -1,4 +1,4 @@
--- Sets of jobs as bits: 64 jobs to a word, the first job in the lowest bit of the first word.
+-- Sets of jobs as bitmaps: 64 jobs per word, with the first job in the lowest bit of the first word.
 use Rattle.std.specs.Prelude.{ℕ, ◌/◌, ◌%◌, List, Bool, nat_eq, slice_index}
 use Rattle.std.specs.Int.{bit_at}
 

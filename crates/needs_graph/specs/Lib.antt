@@ -3,7 +3,7 @@ pub mod Conditions
 pub mod JobNeeds
 pub mod JobSets
 pub mod Lookup
-pub mod Marks
+pub mod JobBitmap
 pub mod Needs
 pub mod Results
 pub mod Rows

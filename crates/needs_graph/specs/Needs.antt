@@ -1,5 +1,5 @@
--- What a workflow's jobs need, and when that makes no graph.
--- GitHub Docs, "Workflow syntax for GitHub Actions": `jobs.<job_id>.needs`.
+-- The needs of a workflow's jobs, and when they form no graph. GitHub Docs, "Workflow syntax for GitHub Actions":
+-- `jobs.<job_id>.needs`.
 use Rattle.std.specs.Prelude.{ℕ, List, [], ◌∷◌, Bool, Result, Ok, Err, filter, map, if◌then◌else◌}
 use Rattle.std.specs.List.{list_any, list_all, enumerate_from}
 use Rattle.std.specs.Str.{bytes_eq}
@@ -9,20 +9,20 @@ use Rattle.wf_value.specs.declared.refusal.Refusal.{Refusal}
 use Rattle.wf_value.specs.declared.refusal.Refusal.TheVariants.{Numbered, Cycle}
 use Rattle.needs_graph.specs.JobNeeds.{JobNeeds}
 use Rattle.needs_graph.specs.Ancestors.{is_ancestor}
-use Rattle.needs_graph.specs.Marks.{places}
+use Rattle.needs_graph.specs.JobBitmap.{places}
 
--- whether each id is below the next, by bytes
+-- whether the ids strictly increase in byte order
 abbrev pub ids_rise : List JobNeeds → Bool
 ids_rise jobs = rises_by (λ job. job.id) jobs
 
 abbrev pub is_listed : List (List ℕ) → List ℕ → Bool
 is_listed ids id = list_any (bytes_eq id) ids
 
--- whether an id is a job's
+-- whether a job has this id
 abbrev pub is_job : List JobNeeds → List ℕ → Bool
 is_job jobs id = list_any (λ job. bytes_eq id job.id) jobs
 
--- for each job the places of the jobs whose ids it lists
+-- for each job, the indices of the jobs whose ids it lists
 abbrev pub needs_of : List JobNeeds → List (List ℕ)
 needs_of jobs = map (λ job. places (λ other. is_listed job.needs other.id) jobs) jobs
 
@@ -38,7 +38,7 @@ abbrev pub unless_cycle : List (List ℕ) → List (List ℕ) → Result (List (
 unless_cycle [] needs = Ok needs
 unless_cycle (id ∷ ids) needs = Err (Cycle (id ∷ ids))
 
--- the graph of the jobs' needs, or why there is none: 13 comes before 14
+-- the graph of the jobs' needs, or its refusal; 13 comes before 14
 abbrev pub graph_of : List JobNeeds → Result (List (List ℕ)) Refusal
 graph_of jobs =
     if list_all (λ job. list_all (is_job jobs) job.needs) jobs

@@ -1,6 +1,5 @@
 -- The result of a job from its legs, and the conclusion of a run from its jobs.
--- GitHub Docs, "Workflow syntax for GitHub Actions": `jobs.<job_id>.continue-on-error`;
--- "Contexts": `needs.<job_id>.result`.
+-- GitHub Docs, "Workflow syntax for GitHub Actions": `jobs.<job_id>.continue-on-error`; "Contexts": `needs.<job_id>.result`.
 use Rattle.std.specs.Prelude.{List, Bool, true, false, ◌&&◌, not, if◌then◌else◌}
 use Rattle.std.specs.List.{list_any}
 use Rattle.wf_value.specs.declared.outcome.Outcome.{Outcome}
@@ -17,7 +16,7 @@ abbrev pub is_cancelled : Outcome → Bool
 is_cancelled outcome.Cancelled = true
 is_cancelled _ = false
 
--- a leg that failed, unless its failure is to be passed over
+-- the leg failed and its failure is not ignored
 abbrev pub fails_job : LegEnd → Bool
 fails_job leg = is_failure leg.outcome && not leg.continue_on_error
 
@@ -38,7 +37,7 @@ abbrev pub job_cancelled : JobResult → Bool
 job_cancelled job.Cancelled = true
 job_cancelled _ = false
 
--- success, and a skipped job counts as one, where no job failed or was cancelled
+-- success if no job failed or was cancelled; a skipped job counts as a success
 abbrev pub conclusion_of : List JobResult → Outcome
 conclusion_of results =
     if list_any job_failed results

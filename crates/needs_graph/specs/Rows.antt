@@ -1,13 +1,13 @@
--- The needs of each job as marks.
+-- The needs of each job as a row of flags.
 use Rattle.std.specs.Prelude.{◌≡◌, ℕ, List, [], Bool, length, Result, Ok, Err, filter, map, if◌then◌else◌}
 use Rattle.std.specs.List.{list_all, enumerate_from, range_with_len, slice_index_or}
 use Rattle.wf_value.specs.declared.refusal.Refusal.{Refusal}
 use Rattle.needs_graph.specs.JobSets.{is_in}
 use Rattle.needs_graph.specs.JobNeeds.{JobNeeds}
-use Rattle.needs_graph.specs.Marks.{is_marked, places}
+use Rattle.needs_graph.specs.JobBitmap.{is_marked, places}
 use Rattle.needs_graph.specs.Needs.{is_listed, is_job, unknown_need}
 
--- which jobs are listed
+-- for each job, whether it is listed
 abbrev pub needs_row : List JobNeeds → List (List ℕ) → List Bool
 needs_row jobs ids = map (λ other. is_listed ids other.id) jobs
 
@@ -26,11 +26,11 @@ needs_rows_of jobs =
 abbrev pub own_ids : List JobNeeds → List (List Bool) → List (List ℕ)
 own_ids jobs rows = map (λ e. e.1.id) (filter (λ e. is_marked (slice_index_or rows e.0 []) e.0) (enumerate_from 0 jobs))
 
--- for each job the jobs whose rows have it, in order
+-- for each job, the jobs whose rows contain it, in order
 abbrev pub dependents_by : List (List Bool) → List (List ℕ)
 dependents_by rows = map (λ job. places (λ row. is_marked row job) rows) (range_with_len 0 (length rows))
 
--- as many sets as rows, each with the jobs of its row
+-- one set per row, with the same jobs
 pub record IsSets (sets : List (List ℕ)) (rows : List (List Bool)) : Type 0 where
   pub count : length sets ≡ length rows
   pub same : (job other : ℕ) → is_in (slice_index_or sets job []) other ≡ is_marked (slice_index_or rows job []) other

@@ -1,21 +1,20 @@
 ghost use Rattle.std.specs.Prelude.{◌≡◌, List, None, Option, map};
 ghost use Rattle.std.specs.List.{list_all, list_any, slice_index_or};
 ghost use Rattle.wf_value.specs.declared.outcome.JobResult.{JobResult};
-ghost use Rattle.needs_graph.specs.Conditions.{asked_value, condition_value, has_failed, has_succeeded};
+ghost use Rattle.needs_graph.specs.Conditions.{ancestor_test_value, condition_value, has_failed, has_succeeded};
 
 use crate::ended::HasResult;
 use wf_value::{Condition, JobResult};
 
-/// Whether a job's condition holds, from the results of all its ancestors and whether the run is
-/// stopping. `true` as a condition is that of success. GitHub Docs, "Evaluate expressions in
-/// workflows and actions", Status check functions.
+/// Whether a job's condition holds, given the results of all its ancestors and whether the run is stopping. The condition `true` is
+/// the same as `success()`. GitHub Docs, "Evaluate expressions in workflows and actions", Status check functions.
 pub fn decide(condition: Condition, results: &[Option<JobResult>], stopping: bool) -> bool
     ensures { result ≡ condition_value condition results.now stopping }
 {
-    match asked_by(condition, stopping) {
-        Asked::Nothing(value) => value,
-        Asked::AllSucceeded => all_succeeded(results),
-        Asked::AnyFailed => any_failed(results),
+    match ancestor_test_of(condition, stopping) {
+        AncestorTest::Nothing(value) => value,
+        AncestorTest::AllSucceeded => all_succeeded(results),
+        AncestorTest::AnyFailed => any_failed(results),
     }
 }
 
@@ -31,26 +30,26 @@ fn any_failed(results: &[Option<JobResult>]) -> bool
     results.iter().any(|r| has_failed(*r))
 }
 
-/// What a condition asks of the results of a job's ancestors.
+/// What a condition depends on among the results of a job's ancestors.
 #[derive(Clone, Copy)]
-pub(crate) enum Asked {
-    /// Nothing: it holds, or does not, whatever they are.
+pub(crate) enum AncestorTest {
+    /// Nothing: the condition has this value for any results.
     Nothing(bool),
     AllSucceeded,
     AnyFailed,
 }
 
-/// What is left to be asked once it is known whether the run is stopping.
-pub(crate) fn asked_by(condition: Condition, stopping: bool) -> Asked
-    ensures { (results : List (Option JobResult)) → asked_value result results ≡ condition_value condition results stopping }
+/// What remains to be checked once it is known whether the run is stopping.
+pub(crate) fn ancestor_test_of(condition: Condition, stopping: bool) -> AncestorTest
+    ensures { (results : List (Option JobResult)) → ancestor_test_value result results ≡ condition_value condition results stopping }
 {
     match condition {
-        Condition::Success if !stopping => Asked::AllSucceeded,
-        Condition::Failure if !stopping => Asked::AnyFailed,
-        Condition::Success | Condition::Failure | Condition::Never => Asked::Nothing(false),
-        Condition::Always => Asked::Nothing(true),
-        Condition::Cancelled => Asked::Nothing(stopping),
-        Condition::NotCancelled => Asked::Nothing(!stopping),
+        Condition::Success if !stopping => AncestorTest::AllSucceeded,
+        Condition::Failure if !stopping => AncestorTest::AnyFailed,
+        Condition::Success | Condition::Failure | Condition::Never => AncestorTest::Nothing(false),
+        Condition::Always => AncestorTest::Nothing(true),
+        Condition::Cancelled => AncestorTest::Nothing(stopping),
+        Condition::NotCancelled => AncestorTest::Nothing(!stopping),
     }
 }
 
@@ -66,7 +65,7 @@ pub(crate) fn has_failed(job: Option<JobResult>) -> bool
     job == Some(JobResult::Failure)
 }
 
-/// The result of the job at a place, if there is such a job and it has one.
+/// The result of the job at an index, if there is such a job and it has one.
 pub(crate) fn result_at<J: HasResult>(jobs: &[J], place: usize) -> Option<JobResult>
     ensures { result ≡ slice_index_or (map J.job_result jobs.now) place None }
 {

@@ -1,4 +1,4 @@
-//! What a run keeps of its jobs and legs, as far as others ask how they ended.
+//! Traits for the jobs and legs of a run, which tell how they ended.
 
 ghost use Rattle.std.specs.Prelude.{◌≡◌, Option};
 ghost use Rattle.wf_value.specs.declared.outcome.JobResult.{JobResult};
@@ -9,8 +9,8 @@ use wf_value::{JobResult, Outcome};
 #[derive(Clone, Copy)]
 pub struct LegEnd {
     pub outcome: Outcome,
-    /// Whether a failure of the leg is to be passed over. GitHub Docs, "Workflow syntax for GitHub
-    /// Actions", `jobs.<job_id>.continue-on-error`.
+    /// Whether a failure of the leg is ignored. GitHub Docs, "Workflow syntax for GitHub Actions",
+    /// `jobs.<job_id>.continue-on-error`.
     pub continue_on_error: bool,
 }
 
@@ -36,7 +36,7 @@ pub trait HasEnd {
 
     ghost leg_end: { Self → Option LegEnd };
 
-    /// How the leg ended, once it has.
+    /// How the leg ended, or `None` if it has not ended.
     fn leg_end(&self) -> Option<LegEnd>
         ensures { result ≡ leg_end self.now };
 }
@@ -45,7 +45,7 @@ pub trait HasEnd {
 pub trait HasResult {
     ghost job_result: { Self → Option JobResult };
 
-    /// The job's result, once it has one.
+    /// The job's result, or `None` if it has none yet.
     fn job_result(&self) -> Option<JobResult>
         ensures { result ≡ job_result self.now };
 }

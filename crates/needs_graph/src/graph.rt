@@ -6,19 +6,18 @@ ghost use Rattle.needs_graph.specs.Conditions.{ancestor_results, condition_value
 ghost use Rattle.needs_graph.specs.Needs.{ids_rise, needs_of, graph_of};
 ghost use Rattle.needs_graph.specs.Rows.{own_ids};
 
-use crate::conditions::{Asked, asked_by, has_failed, has_succeeded, result_at};
+use crate::conditions::{AncestorTest, ancestor_test_of, has_failed, has_succeeded, result_at};
 use crate::ended::HasResult;
 use crate::job_needs::JobNeeds;
 use crate::job_set::{JobSet, set_has};
-use crate::marks::Marks;
+use crate::marks::JobBitmap;
 use crate::rows::{all_dependents, all_places, all_sets, closed_rows, needs_rows};
 use std::alloc::Global;
 use std::marker::Model;
 use wf_value::{Chars, Condition, Refusal, Sequence, TryCopy};
 
-/// Which jobs each job of a workflow needs, directly and through others. Jobs are named by their
-/// places in the order of their ids, from 0, and no job is its own ancestor. A contract sees for
-/// each job the places of the jobs that it needs directly, in order.
+/// Which jobs each job of a workflow needs, directly and transitively. Jobs are identified by their indices in the order of their
+/// ids, from 0. The graph is acyclic. In contracts it is, for each job, the ordered list of the jobs that it needs directly.
 #[derive(Drop)]
 pub struct Graph {
     needs: Sequence<Sequence<usize>>,
@@ -38,14 +37,13 @@ impl Model for Graph {
 }
 
 impl Graph {
-    /// The graph of the jobs' needs, from the jobs in the order of their ids' bytes. Refused 13
-    /// where a job lists an id that is no job's, else 14 where a job is its own ancestor, with the
-    /// ids of all jobs that are, in order; 50 where memory was refused.
+    /// Builds the graph of the jobs' needs. The jobs are in byte order of their ids. The `Err` is 13 if a job lists an unknown id,
+    /// else 14 if a job is its own ancestor, with the ids of all such jobs, in order; 50 when out of memory.
     pub fn build(alloc: Global, jobs: &[JobNeeds<'_>]) -> Result<Graph, Refusal>
         requires { IsTrue (ids_rise jobs.now) }
         ensures graph { Gives (λ g. g) result (graph_of jobs.now) }
 
-        // An ancestor is a job at the end of a walk along needs.
+        // An ancestor is the end of a walk along needs.
         ensures walks { (job other : ℕ) → IsTrue (is_ancestor (needs_of jobs.now) job other)
             ↔ HasWalk (needs_of jobs.now) job other }
     {
@@ -70,7 +68,7 @@ impl Graph {
         self.needs.len()
     }
 
-    /// The places of the jobs that a job needs directly, in order.
+    /// The jobs that a job needs directly, in order.
     pub fn needs(&self, job: usize) -> &[usize]
         requires { job < length self.now }
         ensures { result.now ≡ needs_at self.now job }
@@ -78,7 +76,7 @@ impl Graph {
         self.needs.as_slice()[job].as_slice()
     }
 
-    /// The places of the jobs that need a job directly, in order.
+    /// The jobs that need a job directly, in order.
     pub fn dependents(&self, job: usize) -> &[usize]
         requires { job < length self.now }
         ensures { result.now ≡ dependents_of self.now job }
@@ -86,7 +84,7 @@ impl Graph {
         self.dependents.as_slice()[job].as_slice()
     }
 
-    /// The first of the jobs that need a job directly.
+    /// The first of the jobs that need a job directly, if any.
     pub fn first_dependent(&self, job: usize) -> Option<usize>
         ensures { result ≡ slice_get (dependents_of self.now job) 0 }
     {
@@ -96,8 +94,7 @@ impl Graph {
         }
     }
 
-    /// Whether the other job is an ancestor of the job: at the end of a walk of one or more needs
-    /// from it.
+    /// Whether `other` is an ancestor of the job, that is, the end of a walk of one or more needs from it.
     pub fn has_ancestor(&self, job: usize, other: usize) -> bool
         ensures value { result ≡ is_ancestor self.now job other }
         ensures walks { IsTrue result ↔ HasWalk self.now job other }
@@ -107,9 +104,8 @@ impl Graph {
         set_has(self.ancestors.as_slice(), job, other)
     }
 
-    /// Whether the condition of a job holds, from the results that the jobs of the workflow have so
-    /// far, in order, and whether the run is stopping. It looks at all ancestors of the job: one
-    /// without a result has neither succeeded nor failed.
+    /// Whether the condition of a job holds, given the results of the workflow's jobs so far, in order, and whether the run is
+    /// stopping. It considers all ancestors of the job; one without a result has neither succeeded nor failed.
     pub fn decide<J: HasResult>(
         &self,
         job: usize,
@@ -119,10 +115,10 @@ impl Graph {
     ) -> bool
         ensures { result ≡ condition_value condition (ancestor_results self.now (map J.job_result jobs.now) job) stopping }
     {
-        match asked_by(condition, stopping) {
-            Asked::Nothing(value) => value,
-            Asked::AllSucceeded => self.all_ancestors_succeeded(job, jobs),
-            Asked::AnyFailed => self.any_ancestor_failed(job, jobs),
+        match ancestor_test_of(condition, stopping) {
+            AncestorTest::Nothing(value) => value,
+            AncestorTest::AllSucceeded => self.all_ancestors_succeeded(job, jobs),
+            AncestorTest::AnyFailed => self.any_ancestor_failed(job, jobs),
         }
     }
 
@@ -151,7 +147,7 @@ impl Graph {
         false
     }
 
-    /// Whether a job that the job needs directly has not succeeded: then not all of its ancestors have.
+    /// Whether a direct need of the job has not succeeded. If so, not all of its ancestors have.
     fn need_lacks_success<J: HasResult>(&self, job: usize, jobs: &[J]) -> bool
         ensures { IsTrue result → list_all has_succeeded (ancestor_results self.now (map J.job_result jobs.now) job) ≡ false }
     {
@@ -161,7 +157,7 @@ impl Graph {
         }
     }
 
-    /// Whether the other job is an ancestor of the job, and has not succeeded.
+    /// Whether `other` is an ancestor of the job and has not succeeded.
     fn ancestor_lacks_success<J: HasResult>(&self, job: usize, other: usize, jobs: &[J]) -> bool
         ensures { result ≡ (is_ancestor self.now job other
             && not (has_succeeded (slice_index_or (map J.job_result jobs.now) other None))) }
@@ -169,7 +165,7 @@ impl Graph {
         self.has_ancestor(job, other) && !has_succeeded(result_at(jobs, other))
     }
 
-    /// Whether the other job is an ancestor of the job, and has failed.
+    /// Whether `other` is an ancestor of the job and has failed.
     fn ancestor_failed<J: HasResult>(&self, job: usize, other: usize, jobs: &[J]) -> bool
         ensures { result ≡ (is_ancestor self.now job other
             && has_failed (slice_index_or (map J.job_result jobs.now) other None)) }
@@ -188,7 +184,7 @@ impl TryCopy for Graph {
     }
 }
 
-/// Whether one of the jobs at these places has not succeeded.
+/// Whether one of the jobs at these indices has not succeeded.
 fn any_lacks_success<J: HasResult>(places: &[usize], jobs: &[J]) -> bool
     ensures { result ≡ list_any (λ place. not (has_succeeded (slice_index_or (map J.job_result jobs.now) place None))) places.now }
 {
@@ -198,7 +194,11 @@ fn any_lacks_success<J: HasResult>(places: &[usize], jobs: &[J]) -> bool
 }
 
 /// The ids of the jobs that reach themselves, in order.
-fn own_ids(alloc: Global, jobs: &[JobNeeds<'_>], reached: &[Marks]) -> Result<Vec<Chars>, Refusal>
+fn own_ids(
+    alloc: Global,
+    jobs: &[JobNeeds<'_>],
+    reached: &[JobBitmap],
+) -> Result<Vec<Chars>, Refusal>
     requires { length jobs.now ≡ length reached.now }
     ensures { Gives (λ v. v.items) result (Ok (own_ids jobs.now reached.now)) }
 {

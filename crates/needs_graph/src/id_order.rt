@@ -11,7 +11,7 @@ fn is_below(job: &JobNeeds<'_>, next: &JobNeeds<'_>) -> bool
     job.id().as_str() < next.id().as_str()
 }
 
-/// Whether each job's id is below the next one's, by bytes.
+/// Whether the ids of the jobs strictly increase in byte order.
 pub fn ids_rise(jobs: &[JobNeeds<'_>]) -> bool
     ensures { result ≡ ids_rise jobs.now }
 {

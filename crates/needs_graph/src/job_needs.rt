@@ -3,8 +3,8 @@ ghost use Rattle.std.specs.Prelude.{◌≡◌};
 use std::marker::Model;
 use wf_value::Chars;
 
-/// A job's id and the ids that it lists in `needs`, in which one may repeat, borrowed from what
-/// lists them. GitHub Docs, "Workflow syntax for GitHub Actions", `jobs.<job_id>.needs`.
+/// A job's id and the ids that it lists in `needs`, with repetitions, both borrowed. GitHub Docs, "Workflow syntax for GitHub
+/// Actions", `jobs.<job_id>.needs`.
 #[derive(Drop)]
 pub struct JobNeeds<'a> {
     id: &'a Chars,

@@ -1,13 +1,13 @@
 ghost use Rattle.std.specs.Prelude.{◌≡◌, ◌≢◌, ◌/◌, ◌<◌, IfOk, List, [], length, true, ℕ};
 ghost use Rattle.std.specs.List.{slice_index_or};
 ghost use Rattle.needs_graph.specs.JobSets.{is_in};
-ghost use Rattle.needs_graph.specs.Marks.{is_marked};
+ghost use Rattle.needs_graph.specs.JobBitmap.{is_marked};
 
 use std::alloc::{AllocError, Global};
 use std::marker::Model;
 use wf_value::{Refusal, TryCopy};
 
-/// A set of jobs, one bit for each. A contract sees its words.
+/// A set of jobs as a bitmap. In contracts it is the list of its words.
 #[derive(Drop)]
 pub(crate) struct JobSet {
     words: Vec<u64>,
@@ -47,7 +47,7 @@ impl TryCopy for JobSet {
     }
 }
 
-/// Whether the set at a place has the job, if there is such a set.
+/// Whether the set at an index contains the job; false if there is no such set.
 pub(crate) fn set_has(sets: &[JobSet], place: usize, job: usize) -> bool
     ensures { result ≡ is_in (slice_index_or sets.now place []) job }
 {

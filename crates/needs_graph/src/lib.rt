@@ -1,5 +1,4 @@
-//! Which jobs a job needs, directly and through others, when a job is to run, and what it and its
-//! run end as.
+//! Which jobs a job needs, directly and transitively, when a job runs, and the results of jobs and runs.
 #![tactic(auto)]
 
 mod conditions;

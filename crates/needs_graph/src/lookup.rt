@@ -10,7 +10,7 @@ use std::collections::HashMap;
 use std::marker::Model;
 use wf_value::{Chars, Refusal, Same};
 
-/// Jobs that are looked up by their ids, many times over. A contract sees the jobs.
+/// An index of jobs by their ids. In contracts it is the list of the jobs.
 #[derive(Drop)]
 pub(crate) struct Lookup<'a> {
     jobs: &'a [JobNeeds<'a>],
@@ -47,8 +47,7 @@ impl<'a> Lookup<'a> {
         self.jobs.len()
     }
 
-    /// The place of the job of that id, tried first at the place that is likely: ids are mostly
-    /// listed in their order.
+    /// The index of the job with this id. It first tries the likely index, since ids are mostly listed in order.
     pub(crate) fn place_from(&self, id: &Chars, likely: usize) -> Option<usize>
         ensures { Finds self.now id.now result }
     {

@@ -1,44 +1,44 @@
 ghost use Rattle.std.specs.Prelude.{◌≡◌, ◌<◌, ◌≤◌, ℕ, Ok, IfOk, List, Bool, true, false, length, replicate, slice_set};
 ghost use Rattle.wf_value.specs.Gives.{Gives};
 ghost use Rattle.needs_graph.specs.JobSets.{is_in};
-ghost use Rattle.needs_graph.specs.Marks.{is_marked, marked, either, through};
+ghost use Rattle.needs_graph.specs.JobBitmap.{is_marked, marked, either, through};
 
 use crate::job_set::JobSet;
 use std::alloc::{AllocError, Global};
 use std::marker::Model;
 use wf_value::{Refusal, Sequence};
 
-/// How many marks the processor adds at once.
+/// The number of marks that the processor combines at once.
 const STEP: usize = 32;
 
-/// A set of jobs: for each job, in order, whether it is in the set.
+/// A set of jobs: one flag for each job, in order.
 #[derive(Drop)]
-pub(crate) struct Marks {
+pub(crate) struct JobBitmap {
     marks: Vec<bool>,
 }
 
-impl Model for Marks {
+impl Model for JobBitmap {
     ghost Value = { List Bool };
 
     ghost view = { λ m. m.marks.items };
 }
 
-impl Marks {
-    /// The empty set of so many jobs.
+impl JobBitmap {
+    /// The empty set over this number of jobs.
     pub(crate) fn none(alloc: Global, jobs: usize) -> Result<Self, Refusal>
         ensures { Gives (λ m. m) result (Ok (replicate jobs false)) }
     {
-        Ok(Marks {
+        Ok(JobBitmap {
             marks: vec![in alloc; false; jobs]?,
         })
     }
 
-    /// The set without the marks behind its last job, so that adding it to another takes less time.
+    /// The set without the unset marks after its last job. Adding it to another set takes less time.
     pub(crate) fn trimmed(&self, alloc: Global) -> Result<Self, AllocError>
         ensures { IfOk result (λ t. (marks : List Bool) → either marks t ≡ either marks self.now) }
     {
         let end = end_of(self.marks.as_slice());
-        Ok(Marks {
+        Ok(JobBitmap {
             marks: Vec::from_slice(alloc, &self.marks.as_slice()[..end])?,
         })
     }
@@ -57,14 +57,14 @@ impl Marks {
     }
 
     /// Adds the jobs of the other set.
-    pub(crate) fn add_all(&mut self, others: &Marks)
+    pub(crate) fn add_all(&mut self, others: &JobBitmap)
         ensures { self.new ≡ either self.old others.now }
     {
         add_marks(self.marks.as_mut_slice(), others.marks.as_slice());
     }
 
-    /// Where the job is in the set, adds the others: the jobs that it reaches.
-    pub(crate) fn lead_through(&mut self, job: usize, others: &Marks)
+    /// If the set contains the job, adds the jobs that the job reaches.
+    pub(crate) fn lead_through(&mut self, job: usize, others: &JobBitmap)
         ensures { self.new ≡ through job others.now self.old }
     {
         if self.contains(job) {
@@ -72,7 +72,7 @@ impl Marks {
         }
     }
 
-    /// The set as bits.
+    /// The set as a bitmap.
     pub(crate) fn set(&self, alloc: Global) -> Result<JobSet, AllocError>
         ensures { IfOk result (λ s. (job : ℕ) → is_in s job ≡ is_marked self.now job) }
     {
@@ -87,7 +87,7 @@ impl Marks {
     }
 }
 
-/// Where the set may be cut: behind its last mark, at a whole number of steps, or at the end.
+/// The length to which the marks can be cut: a multiple of `STEP` after the last set mark, or the whole length.
 fn end_of(marks: &[bool]) -> usize
     ensures within { result ≤ length marks.now }
     ensures rest { (job : ℕ) → result ≤ job → is_marked marks.now job ≡ false }

@@ -21,8 +21,8 @@ fn any_leg_was_cancelled<L: HasEnd>(legs: &[L]) -> bool
         .any(|end| end.was_cancelled())
 }
 
-/// The result of a job from the ends of its legs, as far as they have ended: a failure where a leg
-/// failed without continue-on-error, else cancelled where a leg was, else a success.
+/// The result of a job from its legs that have ended: a failure if a leg failed without continue-on-error, else cancelled if a leg
+/// was cancelled, else a success.
 pub fn gather<L: HasEnd>(legs: &[L]) -> JobResult
     ensures { result ≡ gathered (filter_map L.leg_end legs.now) }
 {
@@ -51,8 +51,8 @@ fn any_job_was_cancelled<J: HasResult>(jobs: &[J]) -> bool
         .any(|r| r == JobResult::Cancelled)
 }
 
-/// The conclusion of a run from the results of its jobs, as far as they have one: a failure where
-/// a job failed, else cancelled where one was, else a success. A skipped job counts as a success.
+/// The conclusion of a run from its jobs that have a result: a failure if a job failed, else cancelled if a job was cancelled, else
+/// a success. A skipped job counts as a success.
 pub fn conclude<J: HasResult>(jobs: &[J]) -> Outcome
     ensures { result ≡ conclusion_of (filter_map J.job_result jobs.now) }
 {

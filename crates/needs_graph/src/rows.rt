@@ -1,22 +1,22 @@
 ghost use Rattle.std.specs.Prelude.{◌≡◌, IfOk, IsTrue, Ok, map, length};
 ghost use Rattle.wf_value.specs.Gives.{Gives};
-ghost use Rattle.needs_graph.specs.Marks.{is_marked, marked, places, through, closed};
+ghost use Rattle.needs_graph.specs.JobBitmap.{is_marked, marked, places, through, closed};
 ghost use Rattle.needs_graph.specs.Needs.{ids_rise};
 ghost use Rattle.needs_graph.specs.Rows.{needs_row_of, needs_rows_of, dependents_by, IsSets};
 
 use crate::job_needs::JobNeeds;
 use crate::job_set::JobSet;
 use crate::lookup::Lookup;
-use crate::marks::Marks;
+use crate::marks::JobBitmap;
 use std::alloc::{AllocError, Global};
 use wf_value::{Chars, Code, Refusal, Sequence};
 
-/// The jobs of those ids, or 13 where one is no job's.
-fn needs_row(alloc: Global, jobs: &Lookup<'_>, ids: &[Chars]) -> Result<Marks, Refusal>
+/// The jobs with these ids, or 13 if one of the ids is unknown.
+fn needs_row(alloc: Global, jobs: &Lookup<'_>, ids: &[Chars]) -> Result<JobBitmap, Refusal>
     requires { IsTrue (ids_rise jobs.now) }
     ensures { Gives (λ m. m) result (needs_row_of jobs.now ids.now) }
 {
-    let mut row = Marks::none(alloc, jobs.job_count())?;
+    let mut row = JobBitmap::none(alloc, jobs.job_count())?;
     let mut next = 0;
     for id in ids {
         match jobs.place_from(id, next) {
@@ -30,8 +30,8 @@ fn needs_row(alloc: Global, jobs: &Lookup<'_>, ids: &[Chars]) -> Result<Marks, R
     Ok(row)
 }
 
-/// For each job the jobs that it lists.
-pub(crate) fn needs_rows(alloc: Global, jobs: &[JobNeeds<'_>]) -> Result<Vec<Marks>, Refusal>
+/// For each job, the jobs that it lists.
+pub(crate) fn needs_rows(alloc: Global, jobs: &[JobNeeds<'_>]) -> Result<Vec<JobBitmap>, Refusal>
     requires { IsTrue (ids_rise jobs.now) }
     ensures { Gives (λ v. v.items) result (needs_rows_of jobs.now) }
 {
@@ -43,7 +43,7 @@ pub(crate) fn needs_rows(alloc: Global, jobs: &[JobNeeds<'_>]) -> Result<Vec<Mar
     Ok(rows)
 }
 
-fn lead_all_through(rows: &mut [Marks], job: usize, others: &Marks)
+fn lead_all_through(rows: &mut [JobBitmap], job: usize, others: &JobBitmap)
     ensures { rows.new ≡ map (through job others.now) rows.old }
 {
     for row in rows.iter_mut() {
@@ -51,8 +51,8 @@ fn lead_all_through(rows: &mut [Marks], job: usize, others: &Marks)
     }
 }
 
-/// For each job the jobs that it reaches by any number of needs, from the jobs that it lists.
-pub(crate) fn closed_rows(alloc: Global, rows: Vec<Marks>) -> Result<Vec<Marks>, AllocError>
+/// For each job, the jobs that it reaches by any number of needs, computed from the jobs that it lists.
+pub(crate) fn closed_rows(alloc: Global, rows: Vec<JobBitmap>) -> Result<Vec<JobBitmap>, AllocError>
     ensures { IfOk result (λ v. v.items ≡ closed (length rows.items) rows.items) }
 {
     let mut reached = rows;
@@ -66,7 +66,7 @@ pub(crate) fn closed_rows(alloc: Global, rows: Vec<Marks>) -> Result<Vec<Marks>,
 /// The jobs of each row, in order.
 pub(crate) fn all_places(
     alloc: Global,
-    rows: &[Marks],
+    rows: &[JobBitmap],
 ) -> Result<Sequence<Sequence<usize>>, Refusal>
     ensures { Gives (λ p. p) result (Ok (map marked rows.now)) }
 {
@@ -78,7 +78,7 @@ pub(crate) fn all_places(
 }
 
 /// The jobs that need the job directly, in order.
-fn dependents_on(alloc: Global, rows: &[Marks], job: usize) -> Result<Vec<usize>, AllocError>
+fn dependents_on(alloc: Global, rows: &[JobBitmap], job: usize) -> Result<Vec<usize>, AllocError>
     ensures { IfOk result (λ v. v.items ≡ places (λ row. is_marked row job) rows.now) }
 {
     rows.iter()
@@ -88,10 +88,10 @@ fn dependents_on(alloc: Global, rows: &[Marks], job: usize) -> Result<Vec<usize>
         .collect(alloc)
 }
 
-/// For each job the jobs that need it directly, in order.
+/// For each job, the jobs that need it directly, in order.
 pub(crate) fn all_dependents(
     alloc: Global,
-    rows: &[Marks],
+    rows: &[JobBitmap],
 ) -> Result<Sequence<Sequence<usize>>, Refusal>
     ensures { Gives (λ d. d) result (Ok (dependents_by rows.now)) }
 {
@@ -102,8 +102,8 @@ pub(crate) fn all_dependents(
     Ok(Sequence::new(dependents))
 }
 
-/// The jobs of each row, as a set.
-pub(crate) fn all_sets(alloc: Global, rows: &[Marks]) -> Result<Sequence<JobSet>, AllocError>
+/// The jobs of each row, as a bitmap.
+pub(crate) fn all_sets(alloc: Global, rows: &[JobBitmap]) -> Result<Sequence<JobSet>, AllocError>
     ensures { IfOk result (λ sets. IsSets sets rows.now) }
 {
     let mut sets = Vec::new(alloc);

@@ -38,7 +38,7 @@ pub word_passed : (words : List ℕ) (v k from : ℕ) → from ≡ v * 64 + k �
 word_passed words v k from is none i low high =
     in_word words v i (omega (arith, is, low)) (omega (arith, high)) ∙ none (i - v * 64) (omega (arith, is, low))
 
--- the first from a later place on is the first from here on, where none stands between
+-- the first from a later index is the first from an earlier one, if none lies between
 pub first_later : (has : ℕ → Bool) (k m : ℕ) (result : Option ℕ) → k ≤ m → ((i : ℕ) → k ≤ i → i < m → has i ≡ false)
     → IsFirstFrom has m result → IsFirstFrom has k result
 first_later has k m None le between none =
@@ -55,7 +55,7 @@ first_later has k m (Some r) le between first = (
   ],
 )
 
--- ---- a change at one place
+-- ---- a change of one bit
 
 not_same_bit : (i k : ℕ) → i ≢ k → i / 64 ≡ k / 64 → i % 64 ≢ k % 64
 not_same_bit i k other same bit = other (omega (arith, same, bit))

@@ -1,4 +1,4 @@
--- Which words of a row are not 0, as a row of their own.
+-- The upper level: which words of a row are not 0.
 use Rattle.std.specs.Prelude.{◌≡◌, ◌≢◌, ℕ, ◌+◌, ◌*◌, ◌/◌, ◌%◌, ◌<◌, ◌≤◌, List, Bool, true, false, not, nat_eq, slice_index}
 use Rattle.std.specs.Prelude.{refl}
 use Rattle.std.proofs.Common.{arith, ap, sym, ◌∙◌, inl, inr}
@@ -14,12 +14,12 @@ top word = not (nat_eq word 0)
 pub top_of_some : (word : ℕ) → word ≢ 0 → top word ≡ true
 top_of_some word some = let no : nat_eq word 0 ≡ false = grind (arith, nat_tests) in ap not no
 
--- the tops stay right where both rows grow
+-- extending both rows keeps the upper level correct
 pub tops_grown : (words tops next next_tops : List ℕ) → IsTopOf words tops → SameWords words next → SameWords tops next_tops
     → (u : ℕ) → row_has next_tops u ≡ top (slice_index next u)
 tops_grown words tops next next_tops of same same_tops u = same_rows tops next_tops same_tops u ∙ of.marks u ∙ sym (ap top (same u))
 
--- no bit is set before the next word that is not 0
+-- no bit is set before the next non-zero word
 pub passed_by_tops : (words tops : List ℕ) (v top_at : ℕ) → IsTopOf words tops
     → ((u : ℕ) → v ≤ u → u < top_at → row_has tops u ≡ false) → (i : ℕ) → v * 64 ≤ i → i < top_at * 64 → row_has words i ≡ false
 passed_by_tops words tops v top_at of none i from to =

@@ -1,4 +1,4 @@
--- The bits of a word, and of what is left of it from a place on.
+-- The bits of a word, and of the part of it from an index on.
 use Rattle.std.specs.Prelude.{◌≡◌, ℕ, ◌-◌, ◌*◌, ◌%◌, ◌^◌, ◌<◌, ◌≤◌, min, true, false, nat_eq, Some, None}
 use Rattle.std.specs.Int.{bit_at, trailing_zeros, w64}
 use Rattle.std.specs.Int.Bits.{bit_and}
@@ -18,7 +18,7 @@ has_not_if word i e = ap (λ b. nat_eq b 1) e
 pub same_if : (word other i : ℕ) → bit_at word i ≡ bit_at other i → word_has word i ≡ word_has other i
 same_if word other i e = ap (λ b. nat_eq b 1) e
 
--- no bit past the 64 of a word is set
+-- no bit from 64 on is set
 pub none_above : (word i : ℕ) → word < 2 ^ 64 → 64 ≤ i → word_has word i ≡ false
 none_above word i small le = has_not_if word i (bit_at_above word 64 i small le)
 
@@ -26,7 +26,7 @@ none_above word i small le = has_not_if word i (bit_at_above word 64 i small le)
 pub none_of_zero : (i : ℕ) → word_has 0 i ≡ false
 none_of_zero i = has_not_if 0 i (bit_at-zero i)
 
--- the bits from a place on
+-- the bits from an index on
 abbrev rest : ℕ → ℕ → ℕ
 rest word k = bit_and word (18446744073709551615 * 2 ^ k % 18446744073709551616)
 

@@ -1,4 +1,4 @@
--- The first number at or after another that passes a test.
+-- The first number that is at least k and passes a test.
 use Rattle.std.specs.Prelude.{◌≡◌, ℕ, ◌≤◌, ◌<◌, Bool, true, false, Option, Some, None}
 
 abbrev pub IsFirstFrom : (ℕ → Bool) → ℕ → Option ℕ → Type 0

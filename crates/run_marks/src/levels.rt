@@ -1,4 +1,5 @@
-//! A row of words under a row that says of each word whether a bit of it is set, so that words without one are passed 64 at a time.
+//! A bitmap of two levels: the upper level has one bit for each word of the lower level, so that a search skips 64 empty words at a
+//! time.
 
 ghost use Rattle.std.specs.Prelude.{◌*◌};
 ghost use Rattle.run_marks.specs.Bits.{IsTopOf, row_has};
@@ -7,7 +8,7 @@ ghost use Rattle.run_marks.specs.First.{IsFirstFrom};
 use crate::row::first_in_row;
 use crate::word::{first_bit, lowest_bit};
 
-/// The first bit of the words that is set, at or after a place.
+/// The first set bit of the words at or after an index.
 pub(crate) fn first_marked(words: &[u64], tops: &[u64], from: usize) -> Option<usize>
     requires { IsTopOf words.now tops.now }
     ensures { IsFirstFrom (row_has words.now) from result }
@@ -22,7 +23,7 @@ pub(crate) fn first_marked(words: &[u64], tops: &[u64], from: usize) -> Option<u
     }
 }
 
-/// The first bit that is set, in the words from one on.
+/// The first set bit in the words from `v` on.
 fn first_by_tops(words: &[u64], tops: &[u64], v: usize) -> Option<usize>
     requires { IsTopOf words.now tops.now }
     ensures { IsFirstFrom (row_has words.now) (v * 64) result }

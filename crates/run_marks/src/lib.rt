@@ -1,5 +1,5 @@
-//! A set of run numbers as a bitmap of two levels. Memory is taken once, for all numbers below a bound; from then on a number is marked and
-//! unmarked without memory, and the first marked one from some number on is found by reading a few words.
+//! A set of run numbers as a bitmap of two levels. Memory is reserved once, for all numbers below a bound. After that, marking and
+//! unmarking a number takes no memory, and finding the first marked number from a given one reads only a few words.
 #![tactic(auto)]
 
 mod levels;
@@ -7,4 +7,4 @@ mod marks;
 mod row;
 mod word;
 
-pub use marks::Marks;
+pub use marks::RunBitmap;

@@ -8,16 +8,17 @@ use crate::row::{clear_bit, grow, set_bit};
 use std::alloc::{AllocError, Global};
 use std::marker::Model;
 
-/// A set of numbers. A contract sees which are in it (`is_marked`), and below which bound there is room (`Covers`).
+/// A set of numbers. In contracts, `is_marked` says which numbers it contains, and `Covers` says below which bound memory is
+/// reserved.
 #[derive(Drop)]
-pub struct Marks {
-    /// A bit for each number, set where it is in the set.
+pub struct RunBitmap {
+    /// One bit per number, set if the set contains it.
     words: Vec<u64>,
-    /// A bit for each word, set where the word is not 0.
+    /// One bit per word, set if the word is not 0.
     tops: Vec<u64>,
 }
 
-impl Model for Marks {
+impl Model for RunBitmap {
     ghost use Rattle.std.specs.Prelude.{ℕ, List};
     ghost use Rattle.run_marks.specs.Bits.{IsTopOf};
 
@@ -28,29 +29,29 @@ impl Model for Marks {
     ghost invariant = { λ m. IsTopOf m.words.items m.tops.items };
 }
 
-impl Marks {
-    /// A set without numbers, with room for none.
+impl RunBitmap {
+    /// An empty set, without reserved memory.
     pub fn new(alloc: Global) -> Self
         ensures { (i : ℕ) → is_marked result i ≡ false }
     {
-        Marks {
+        RunBitmap {
             words: Vec::new(alloc),
             tops: Vec::new(alloc),
         }
     }
 
-    /// The same set, with the same room.
+    /// The same set, with the same reserved memory.
     pub fn copy(&self) -> Result<Self, AllocError>
         ensures { IfOk result (λ m. m ≡ self.now) }
     {
-        Ok(Marks {
+        Ok(RunBitmap {
             words: self.words.clone()?,
             tops: self.tops.clone()?,
         })
     }
 
-    /// Makes room for all numbers below the bound: the one call besides a copy that takes memory. The set stays.
-    pub fn cover(&mut self, bound: usize) -> Result<(), AllocError>
+    /// Reserves memory for all numbers below the bound. Only this call and a copy take memory. The set stays the same.
+    pub fn reserve_up_to(&mut self, bound: usize) -> Result<(), AllocError>
         ensures marks { SameMarks self.old self.new }
         ensures covers { OnOk result (Covers self.new bound) }
         ensures keeps { length self.old ≤ length self.new }
@@ -80,7 +81,7 @@ impl Marks {
         }
     }
 
-    /// The first number of the set at or after one.
+    /// The first number of the set that is at least `from`.
     pub fn first_from(&self, from: usize) -> Option<usize>
         ensures { IsFirstFrom (is_marked self.now) from result }
     {

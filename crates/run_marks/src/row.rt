@@ -1,4 +1,4 @@
-//! A row of words, whose bits are counted through all of them: bit `k` is bit `k % 64` of word `k / 64`.
+//! A row of words as a bitmap: bit `k` is bit `k % 64` of word `k / 64`.
 
 ghost use Rattle.std.specs.Prelude.{◌≡◌, ◌≢◌, ◌*◌, ◌/◌, ◌≤◌, ◌<◌, true, false, length, max, nat_eq, slice_index, OnOk};
 ghost use Rattle.run_marks.specs.Bits.{AreFew, Puts, SameWords, SameWordsBut, row_has};
@@ -7,7 +7,7 @@ ghost use Rattle.run_marks.specs.First.{IsFirstFrom};
 use crate::word::{first_bit, with_bit, without_bit};
 use std::alloc::AllocError;
 
-/// Makes the row at least so long. No bit of what is added is set.
+/// Extends the row to at least this length. No added bit is set.
 pub(crate) fn grow(words: &mut Vec<u64>, len: usize) -> Result<(), AllocError>
     ensures same { SameWords words.old.items words.new.items }
     ensures keeps { length words.old.items ≤ length words.new.items }
@@ -30,7 +30,7 @@ pub(crate) fn set_bit(words: &mut [u64], k: usize)
     words[v] = with_bit(words[v], k % 64);
 }
 
-/// Answers whether no bit of the word is set any more.
+/// Clears a bit and returns whether its word is 0 afterwards.
 pub(crate) fn clear_bit(words: &mut [u64], k: usize) -> bool
     requires { k / 64 < length words.old }
     ensures puts { Puts false k words.old words.new }
@@ -44,7 +44,7 @@ pub(crate) fn clear_bit(words: &mut [u64], k: usize) -> bool
     word == 0
 }
 
-/// The first bit that is set, at or after a place.
+/// The first set bit at or after an index.
 pub(crate) fn first_in_row(words: &[u64], from: usize) -> Option<usize>
     requires { AreFew words.now }
     ensures { IsFirstFrom (row_has words.now) from result }
@@ -59,7 +59,7 @@ pub(crate) fn first_in_row(words: &[u64], from: usize) -> Option<usize>
     }
 }
 
-/// The first bit that is set, in the words from one on.
+/// The first set bit in the words from `start` on.
 fn first_in_words(words: &[u64], start: usize) -> Option<usize>
     requires { AreFew words.now }
     ensures { IsFirstFrom (row_has words.now) (start * 64) result }

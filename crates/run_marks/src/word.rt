@@ -1,4 +1,4 @@
-//! A word of 64 bits.
+//! A 64-bit word.
 
 ghost use Rattle.std.specs.Prelude.{◌≡◌, ◌≢◌, ℕ, ◌<◌, true, false, Some, IfSome};
 ghost use Rattle.run_marks.specs.Bits.{word_has};
@@ -21,7 +21,7 @@ pub(crate) fn without_bit(word: u64, k: usize) -> u64
     word & !(1 << k)
 }
 
-/// The place of the first bit that is set, at or after a place.
+/// The index of the first set bit at or after an index.
 pub(crate) fn first_bit(word: u64, from: usize) -> Option<usize>
     requires { from < 64 }
     ensures first { IsFirstFrom (word_has word) from result }
@@ -35,7 +35,7 @@ pub(crate) fn first_bit(word: u64, from: usize) -> Option<usize>
     }
 }
 
-/// The place of the first bit that is set, in a word that has one.
+/// The index of the lowest set bit of a non-zero word.
 pub(crate) fn lowest_bit(word: u64) -> usize
     requires { word ≢ 0 }
     ensures first { IsFirstFrom (word_has word) 0 (Some result) }

@@ -1,4 +1,4 @@
--- Texts whose bytes are all of a kind below 128 are UTF-8.
+-- Texts of ASCII bytes are UTF-8.
 use Rattle.std.specs.Prelude.{◌≡◌, ℕ, zero, suc, ◌<◌, List, [], ◌∷◌, Bool, true, slice_index}
 use Rattle.std.specs.List.{list_all}
 use Rattle.std.specs.Str.{IsUtf8}
@@ -13,6 +13,6 @@ ascii_at kind small [] h i = omega arith
 ascii_at kind small (b ∷ bs) h zero = small b (and_parts (kind b) (list_all kind bs) h).0
 ascii_at kind small (b ∷ bs) h (suc i) = ascii_at kind small bs (and_parts (kind b) (list_all kind bs) h).1 i
 
--- a short text of a kind below 128
+-- a short text of a kind of ASCII bytes is UTF-8
 pub utf8_of_short : (kind : ℕ → Bool) → ((b : ℕ) → kind b ≡ true → b < 128) → (bs : List ℕ) → is_short kind bs ≡ true → IsUtf8 bs
 utf8_of_short kind small bs h = IsUtf8-from_ascii bs (ascii_at kind small bs (and_parts (is_of_short_length bs) (list_all kind bs) h).1)

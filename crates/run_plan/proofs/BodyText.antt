@@ -1,4 +1,4 @@
--- A body in which nothing is wrong is a text.
+-- A body without faults is UTF-8.
 use Rattle.std.specs.Prelude.{◌≡◌, ℕ, List, [], ◌++◌, length, nat_le, Bool, true, false, Option, None, if◌then◌else◌, refl}
 use Rattle.std.specs.Str.{is_utf8, IsUtf8}
 use Rattle.std.proofs.lemmas.Str.{IsUtf8-from_is_utf8}

@@ -31,7 +31,7 @@ members_of_pairs (p ∷ ps) =
 text_of_opened : (ps : List Pair) → print (opened ps ++ end_object ∷ []) ≡ combo_text ps
 text_of_opened ps = ap (λ ts. print (begin_object ∷ ts)) (sym (members_of_pairs ps)) ∙ print-outline (object (pairs_json ps))
 
--- what is written behind nothing is the combination's text
+-- what is written from the start is the combination's text
 pub text_of_written : (ps : List Pair) (before text : List ℕ) (tokens : List Token) → before ≡ [] → tokens ≡ opened ps ++ end_object ∷ []
     → text ≡ before ++ print tokens → text ≡ combo_text ps
 text_of_written ps before text tokens none written printed = printed ∙ ap₂ (λ b ts. b ++ print ts) none written ∙ text_of_opened ps

@@ -1,4 +1,4 @@
--- A body in which nothing is wrong has at most 256 jobs.
+-- A body without faults has at most 256 jobs.
 use Rattle.std.specs.Prelude.{◌≡◌, ℕ, ◌≤◌, List, [], ◌∷◌, ◌++◌, map, length, Bool, true, false, nat_le, Option, Some, None, unwrap_or}
 use Rattle.std.specs.Prelude.{codes, is_some, if◌then◌else◌, refl}
 use Rattle.std.proofs.Common.{arith, ap, sym, ◌∙◌, inl, inr}
@@ -11,7 +11,7 @@ use Rattle.wf_value.specs.declared.code.Code.TheVariants.{NotJson, TooLong, TooM
 use Rattle.wf_value.specs.declared.refusal.Refusal.{Refusal}
 use Rattle.wf_reader.specs.Body.{json_of}
 use Rattle.wf_reader.specs.Event.{contexts_faults, event_faults, event_faults_in, event_of, filled_text_faults, inside_envelope}
-use Rattle.wf_expr.specs.declared.place.Place.TheVariants as place
+use Rattle.wf_expr.specs.declared.place.ContextSite.TheVariants as place
 use Rattle.wf_reader.specs.Concurrency.{concurrency_faults}
 use Rattle.wf_reader.specs.Faults.{fault, in_turn, optional, required, text_faults}
 use Rattle.wf_reader.specs.Job.{job_of}
@@ -19,7 +19,7 @@ use Rattle.wf_reader.specs.Json.{member_at, members_of}
 use Rattle.wf_reader.specs.Workflow.{inside_workflow, jobs_faults, workflow_faults_in}
 use Rattle.run_plan.specs.PlanOf.{faults_of, plan_of, planned_job, plan_faults}
 
--- where nothing stands in either part
+-- both parts of an empty list are empty
 no_front : {X : Type 0} (xs ys : List X) → xs ++ ys ≡ [] → xs ≡ []
 no_front [] ys h = refl
 no_front (x ∷ xs) ys h = absurd (cc)
@@ -28,14 +28,14 @@ no_back : {X : Type 0} (xs ys : List X) → xs ++ ys ≡ [] → ys ≡ []
 no_back [] ys h = h
 no_back (x ∷ xs) ys h = absurd (cc)
 
--- the last of some checks in turn
+-- the later ones of several checks
 third : (a b c : List Refusal) → in_turn (a ∷ b ∷ c ∷ []) ≡ [] → c ≡ []
 third a b c h = no_front c [] (no_back b (c ++ []) (no_back a (b ++ (c ++ [])) h))
 
 fourth : (a b c d : List Refusal) → in_turn (a ∷ b ∷ c ∷ d ∷ []) ≡ [] → d ≡ []
 fourth a b c d h = third b c d (no_back a (in_turn (b ∷ c ∷ d ∷ [])) h)
 
--- a check that was passed, of a member that is required
+-- a required member that passes its check
 there : (missing : Code) (check : Data → List Refusal) (o : Option Data) → required missing check o ≡ [] → check (unwrap_or o null) ≡ []
 there missing check None h = absurd (cc)
 there missing check (Some d) h = h

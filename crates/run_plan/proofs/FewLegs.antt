@@ -1,4 +1,4 @@
--- A job has 256 legs at most in the plan of any body.
+-- In the plan of any body, a job has at most 256 legs.
 use Rattle.std.specs.Prelude.{◌≡◌, ℕ, zero, suc, ◌≤◌, List, [], ◌∷◌, map, length, Bool, true, false, nat_lt, Option, Some, None, Err, Ok}
 use Rattle.std.specs.Prelude.{slice_get}
 use Rattle.std.specs.Result.{result_unwrap_or}

@@ -1,4 +1,4 @@
--- What a text of one to nine digits writes.
+-- The value of a text of one to nine digits.
 use Rattle.std.specs.Prelude.{◌≡◌, ℕ, ◌<◌, ◌≤◌, ◌+◌, ◌-◌, ◌*◌, ◌^◌, ◌&&◌, ◌==◌, List, [], ◌∷◌, length, take, true, not, nat_le, slice_index}
 use Rattle.std.specs.List.{list_all}
 use Rattle.std.specs.Char.{is_ascii_digit, digit_value}
@@ -11,6 +11,7 @@ use Rattle.std.specs.Int.{IsInRange}
 use Rattle.std.proofs.lemmas.Int.Digits.{digits_value-lt, digits_value_more}
 use Rattle.std.proofs.lemmas.Str.Parse.{digit_at, digits_value-take-le}
 use Rattle.std.proofs.lemmas.Str.{digit_value_digit}
+use Rattle.run_plan.specs.Decimal.{is_decimal}
 use Rattle.run_plan.specs.SmallText.{is_number}
 
 digit_small : (b : ℕ) → is_ascii_digit b ≡ true → digit_value b < 10
@@ -27,17 +28,16 @@ pub record NineDigits (bs : List ℕ) : Type 0 where
   pub some : 1 ≤ length bs
   pub few : length bs ≤ 9
 
-pub nine_digits : (bs : List ℕ) → is_number bs ≡ true → NineDigits bs
+pub nine_digits : (bs : List ℕ) → is_decimal bs ≡ true → NineDigits bs
 nine_digits bs h =
-    let outer = and_parts (nat_le 1 (length bs) && nat_le (length bs) 9 && list_all is_ascii_digit bs) (not (slice_index bs 0 == 48)) h in
-    let inner = and_parts (nat_le 1 (length bs) && nat_le (length bs) 9) (list_all is_ascii_digit bs) outer.0 in
-    let lengths = and_parts (nat_le 1 (length bs)) (nat_le (length bs) 9) inner.0 in
+    let parts = and_parts (nat_le 1 (length bs) && nat_le (length bs) 9) (list_all is_ascii_digit bs) h in
+    let lengths = and_parts (nat_le 1 (length bs)) (nat_le (length bs) 9) parts.0 in
     let few : length bs ≤ 9 = grind (arith, common_steps) in
     let some : 1 ≤ length bs = grind (arith, common_steps) in
-    record { all = inner.1; some = some; few = few }
+    record { all = parts.1; some = some; few = few }
 
-pub number_most : (bs : List ℕ) → is_number bs ≡ true → digits_value 10 bs ≤ 999999999
-number_most bs h =
+pub decimal_most : (bs : List ℕ) → is_decimal bs ≡ true → digits_value 10 bs ≤ 999999999
+decimal_most bs h =
     let nine = nine_digits bs h in
     let below : digits_value 10 bs < 10 ^ length bs = digits_value-lt 10 bs (digits_of_test bs nine.all) in
     let ten : 0 < 10 = omega arith in
@@ -46,9 +46,9 @@ number_most bs h =
 
 pub number_least : (bs : List ℕ) → is_number bs ≡ true → 1 ≤ digits_value 10 bs
 number_least bs h =
-    let nine = nine_digits bs h in
-    let no_zero =
-    (and_parts (nat_le 1 (length bs) && nat_le (length bs) 9 && list_all is_ascii_digit bs) (not (slice_index bs 0 == 48)) h).1 in
+    let both = and_parts (is_decimal bs) (not (slice_index bs 0 == 48)) h in
+    let nine = nine_digits bs both.0 in
+    let no_zero = both.1 in
     let all = digits_of_test bs nine.all in
     let within : 0 < length bs = omega (arith, nine.some) in
     let range : IsInRange 48 57 (get_or bs 0 0) = digit_at bs 0 all within in
@@ -60,14 +60,14 @@ number_least bs h =
     let below : digits_value 10 (take (0 + 1) bs) ≤ digits_value 10 bs = digits_value-take-le 10 bs (0 + 1) one in
     omega arith
 
--- what one digit more adds to the number of the digits so far
+-- one more digit changes the value of the digits so far like this
 pub record OneDigitMore (bs : List ℕ) (i : ℕ) : Type 0 where
   pub digit : 48 ≤ get_or bs i 0
   pub last : get_or bs i 0 ≤ 57
   pub value : digits_value 10 (take (i + 1) bs) ≡ digits_value 10 (take i bs) * 10 + (get_or bs i 0 - 48)
   pub most : digits_value 10 (take (i + 1) bs) ≤ 999999999
 
-pub one_digit_more : (bs : List ℕ) (i : ℕ) → is_number bs ≡ true → i < length bs → OneDigitMore bs i
+pub one_digit_more : (bs : List ℕ) (i : ℕ) → is_decimal bs ≡ true → i < length bs → OneDigitMore bs i
 one_digit_more bs i h lt =
     let all = digits_of_test bs (nine_digits bs h).all in
     let range : IsInRange 48 57 (get_or bs i 0) = digit_at bs i all lt in
@@ -75,4 +75,4 @@ one_digit_more bs i h lt =
     let weight : digit_value (get_or bs i 0) + 48 ≡ get_or bs i 0 = digit_value_digit (get_or bs i 0) range in
     let one : 1 ≤ 10 = omega arith in
     let below : digits_value 10 (take (i + 1) bs) ≤ digits_value 10 bs = digits_value-take-le 10 bs (i + 1) one in
-    record { digit = range.0; last = range.1; value = omega arith; most = omega (arith, number_most bs h) }
+    record { digit = range.0; last = range.1; value = omega arith; most = omega (arith, decimal_most bs h) }

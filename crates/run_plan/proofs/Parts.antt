@@ -6,7 +6,7 @@ use Rattle.std.proofs.lemmas.Bool.{and_parts, le-leb}
 use Rattle.std.proofs.lemmas.List.Splits.{length-slice_split}
 use Rattle.run_plan.specs.SmallText.{are_labels, is_short, is_label_byte, most_labels, split_at_commas}
 
--- a text has a part, so as few parts as labels may be are labels where each is one
+-- a text has at least one part, so it is a list of labels if it has at most 16 parts and each is a label
 pub of_few : (text : List ℕ) → nat_le (length (split_at_commas text)) most_labels ≡ true
     → list_all (is_short is_label_byte) (split_at_commas text) ≡ are_labels (split_at_commas text)
 of_few text few =

@@ -1,4 +1,4 @@
--- The definitions on values from the first script.
+-- Examples of small texts, replies and plans, computed from the definitions.
 use Rattle.std.specs.Prelude.{◌≡◌, ℕ, pos, List, [], ◌∷◌, map, Some, None, true, false, refl, codes}
 use Rattle.std.specs.Fmt.{digits}
 use Rattle.std.specs.Str.{is_utf8, chars}
@@ -147,17 +147,17 @@ too_many = map (λ name. (name ∷ [], Null ∷ Truth true ∷ [])) (codes "abcd
 too_many_choices : plan_faults (of_jobs (plain_job (codes "a") ∷ job_of_matrix (codes "b") too_many ∷ [])) ≡ Numbered MatrixTooLarge ∷ []
 too_many_choices = refl
 
--- job by job: no leg of `a` comes before the choices of `b`, and what they need comes after
+-- matrices in order: `a` has no leg, then `b` has too many choices; the needs come last
 no_leg_first : plan_faults (of_jobs (job_of_matrix (codes "a") [] ∷ job_of_matrix (codes "b") too_many ∷ []))
     ≡ Numbered LegCount ∷ Numbered MatrixTooLarge ∷ Cycle (codes "a" ∷ []) ∷ []
 no_leg_first = refl
 
--- `b` needs what is no job, and `a` itself
+-- `b` needs an unknown job, and `a` needs itself
 no_such_job : plan_faults (of_jobs (job_needing (codes "a") (codes "a" ∷ []) ∷ job_needing (codes "b") (codes "c" ∷ []) ∷ []))
     ≡ Numbered UnknownNeed ∷ []
 no_such_job = refl
 
--- in the order of the ids, and not of what each lists; `c` needs a cycle and is on none
+-- in the order of the ids, not in that of the lists; `c` needs a cycle but is not on one
 cycle : plan_faults (of_jobs (job_needing (codes "a") (codes "b" ∷ []) ∷ job_needing (codes "b") (codes "b" ∷ codes "a" ∷ [])
     ∷ job_needing (codes "c") (codes "b" ∷ []) ∷ [])) ≡ Cycle (codes "a" ∷ codes "b" ∷ []) ∷ []
 cycle = refl

@@ -1,4 +1,4 @@
--- The tests of two commands decide whether they are equal.
+-- The tests for repeated commands decide equality.
 use Rattle.std.specs.Prelude.{◌≡◌, ℕ, List, refl}
 use Rattle.std.specs.Bool.{Decides}
 use Rattle.std.specs.Cmp.Lexicographic.{pointwise}

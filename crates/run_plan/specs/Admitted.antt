@@ -1,4 +1,4 @@
--- What is kept of an admitted event: its delivery, its name and the bytes of its body.
+-- What is stored of an admitted event: its delivery, its name and the bytes of its body.
 use Rattle.std.specs.Prelude.{ℕ, List, refl}
 use Rattle.std.specs.Coded.{Coded, code_by, coded_ℕ, coded_list, coded×}
 

@@ -1,5 +1,5 @@
--- When a numbered command of a runner is its last one again, byte for byte and with its labels in order,
--- and the reply that it then gets again (own).
+-- When a numbered command repeats the runner's last one, byte for byte and with its labels in the same order, and the reply that it
+-- then gets. This is defined by this project.
 use Rattle.std.specs.Prelude.{◌&&◌, Bool, true, false, nat_eq}
 use Rattle.std.specs.Cmp.Lexicographic.{pointwise}
 use Rattle.std.specs.Str.{bytes_eq}
@@ -35,5 +35,5 @@ is_last_report done (last.Done earlier) = same_reports earlier done
 
 abbrev pub kept_reply : LastCommand → Reply
 kept_reply (last.Claim claim claimed.Nothing) = reply.Nothing
-kept_reply (last.Claim claim (claimed.Lease kept)) = reply.Lease kept.told
+kept_reply (last.Claim claim (claimed.Lease kept)) = reply.Lease kept.lease_reply
 kept_reply (last.Done done) = reply.Ok

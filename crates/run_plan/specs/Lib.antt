@@ -1,4 +1,5 @@
 pub mod Admitted
+pub mod Decimal
 pub mod LastCommand
 pub mod Origins
 pub mod PlanOf

@@ -1,4 +1,4 @@
--- What is kept of an event beside the plan of its workflow's jobs.
+-- What is stored of an event in addition to the plan of its jobs.
 use Rattle.std.specs.Prelude.{◌≡◌}
 use Rattle.wf_reader.specs.declared.event.Event.{Event}
 use Rattle.run_plan.specs.declared.prepared.Origin.{Origin}

@@ -1,7 +1,7 @@
--- The plan of a workflow: for each job, in order, what its legs ask of a runner, how they go on when one fails, and the legs
--- themselves, each with its combination, and which jobs each one needs. GitHub Docs, "Running variations of jobs in a workflow" and
--- "Workflow syntax for GitHub Actions", jobs.<job_id>.runs-on, jobs.<job_id>.needs, jobs.<job_id>.if,
--- jobs.<job_id>.continue-on-error, jobs.<job_id>.concurrency, jobs.<job_id>.strategy.
+-- The plan of a workflow. Each job has, in order, the labels that its legs require, how the legs go on when one fails, and the legs
+-- with their combinations. The graph says which jobs each job needs.
+-- GitHub Docs, "Running variations of jobs in a workflow" and "Workflow syntax for GitHub Actions", jobs.<job_id>.runs-on,
+-- jobs.<job_id>.needs, jobs.<job_id>.if, jobs.<job_id>.continue-on-error, jobs.<job_id>.concurrency, jobs.<job_id>.strategy.
 use Rattle.std.specs.Prelude.{ℕ, List, [], ◌∷◌, ◌++◌, map, flat_map, true, Option, Result, Ok}
 use Rattle.std.specs.Option.{option_and_then, option_map_or}
 use Rattle.std.specs.Result.{result_unwrap_or}
@@ -20,18 +20,18 @@ use Rattle.run_plan.specs.declared.planned.PlannedLeg.{PlannedLeg}
 abbrev pub matrix_of : Job → Option MatrixLists
 matrix_of job = option_and_then (λ s. s.matrix) job.strategy
 
--- those of the matrix; a job without one has one leg, with the empty combination
+-- the combinations of the matrix; a job without a matrix has one leg, with the empty combination
 abbrev pub combinations_where : Option MatrixLists → Result (List Combination) Refusal
 combinations_where matrix = option_map_or combinations_or_refusal matrix (Ok ([] ∷ []))
 
--- numbered from 0
+-- the legs have indices from 0
 abbrev pub legs_of : List Combination → List PlannedLeg
 legs_of combinations = map (λ c. record { combo = c }) combinations
 
 abbrev pub legs_of_job : Job → List PlannedLeg
 legs_of_job job = legs_of (result_unwrap_or (combinations_where (matrix_of job)) [])
 
--- fail-fast is on where the strategy is missing
+-- fail-fast is on if the strategy is missing
 abbrev pub planned_job : Job → PlannedJob
 planned_job job = record {
   id = job.id;
@@ -56,39 +56,39 @@ needs_of_job job = record { id = job.id; needs = job.needs }
 abbrev pub needs_of_planned : PlannedJob → JobNeeds
 needs_of_planned job = record { id = job.id; needs = job.needs }
 
--- what each job of a plan lists
+-- the needs that each job of a plan lists
 abbrev pub needs_listed : List PlannedJob → List JobNeeds
 needs_listed plan = map needs_of_planned plan
 
--- for each job of a plan the places of the jobs that it needs
+-- for each job of a plan, the indices of the jobs that it needs
 abbrev pub plan_graph : List PlannedJob → List (List ℕ)
 plan_graph plan = needs_of (needs_listed plan)
 
--- ---- what is wrong
+-- ---- faults
 
--- a matrix of too many choices (21), or else of no leg or too many (22)
+-- a matrix with too many choices (21), else with no leg or too many (22)
 abbrev pub job_faults : Job → List Refusal
 job_faults job = outcome_faults (combinations_where (matrix_of job))
 
 abbrev pub legs_faults : List Job → List Refusal
 legs_faults jobs = flat_map job_faults jobs
 
--- an id that is no job's (13), or else a cycle (14)
+-- an unknown job (13), else a cycle (14)
 abbrev pub needs_faults : List Job → List Refusal
 needs_faults jobs = outcome_faults (graph_of (map needs_of_job jobs))
 
--- the legs of all jobs come before their needs
+-- the faults of all matrices come before those of the needs
 abbrev pub jobs_faults : List Job → List Refusal
 jobs_faults jobs = legs_faults jobs ++ needs_faults jobs
 
--- what is wrong with the plan of a workflow
+-- the faults of a workflow's plan
 abbrev pub plan_faults : Workflow → List Refusal
 plan_faults workflow = jobs_faults workflow.jobs
 
--- what is wrong with the event that a body spells, and then with the plan of its workflow
+-- the faults of a body as an event, then those of its workflow's plan
 abbrev pub faults_of : List ℕ → List Refusal
 faults_of body = event_faults body ++ plan_faults (event_of body).workflow
 
--- the plan of the workflow that a body spells
+-- the plan of a body's workflow
 abbrev pub plan_of : List ℕ → List PlannedJob
 plan_of body = workflow_plan (event_of body).workflow

@@ -12,7 +12,7 @@ use Rattle.run_plan.specs.declared.reply.Lease.{Lease as Leased}
 use Rattle.run_plan.specs.declared.reply.Reply.{Reply}
 use Rattle.run_plan.specs.declared.reply.Reply.TheVariants as reply
 
--- a scalar as a JSON value: RFC 8259, section 3
+-- a scalar as a JSON value; RFC 8259, section 3
 abbrev pub scalar_json : Scalar → Data
 scalar_json Null = null
 scalar_json (Truth b) = boolean b
@@ -23,11 +23,11 @@ abbrev pub pairs_json : List (List ℕ × Scalar) → Members
 pairs_json [] = no_members
 pairs_json (p ∷ ps) = member p.0 (scalar_json p.1) (pairs_json ps)
 
--- a combination as compact JSON, an object of RFC 8259, section 4, its members in the order of the names' bytes
+-- a combination as compact JSON: an object (RFC 8259, section 4) with its members in byte order of their names
 abbrev pub combo_text : List (List ℕ × Scalar) → List ℕ
 combo_text combo = compact_text (object (pairs_json combo))
 
--- `lease`, the lease, the run, the job's id, the leg's number and the combination
+-- `lease`, the lease, the run, the job's id, the leg's index and the combination
 abbrev pub lease_line : ℕ → ℕ → List ℕ → ℕ → List ℕ → List ℕ
 lease_line lease run job leg combo =
     codes "lease " ++ decimal lease ++ codes " " ++ decimal run ++ codes " " ++ job ++ codes " " ++ decimal leg ++ codes " " ++ combo
@@ -35,11 +35,11 @@ lease_line lease run job leg combo =
 abbrev pub lease_text : Leased → List ℕ
 lease_text l = lease_line l.lease l.run l.job l.leg (combo_text l.combo)
 
--- `body`, how many bytes there are, a line feed, and the bytes
+-- `body`, the number of bytes, a line feed, and the bytes
 abbrev pub body_lines : List ℕ → List ℕ
 body_lines body = codes "body " ++ decimal (length body) ++ 10 ∷ body
 
--- `again`, the run and the attempt that it is at
+-- `again`, the run and its current attempt
 abbrev pub again_line : ℕ → ℕ → List ℕ
 again_line run attempt = codes "again " ++ decimal run ++ codes " " ++ decimal attempt
 

@@ -1,21 +1,22 @@
--- The forms of the small texts: ids, names, labels and numbers.
+-- The forms of small texts: ids, names, labels and numbers.
 use Rattle.std.specs.Prelude.{ℕ, ◌==◌, ◌&&◌, ◌||◌, List, length, Bool, not, nat_le, slice_index, Option, Some, None, if◌then◌else◌}
 use Rattle.std.specs.List.{list_all, slice_split}
 use Rattle.std.specs.Char.{is_ascii_digit, is_ascii_lowercase, is_ascii_alphanumeric, is_ascii_graphic}
 use Rattle.std.specs.Str.Parse.{digits_value}
+use Rattle.run_plan.specs.Decimal.{is_decimal}
 
--- how many bytes a small text has at most
+-- the maximum length of a small text, in bytes
 abbrev pub most_text_bytes : ℕ
 most_text_bytes = 64
 
--- how many labels a runner has at most
+-- the maximum number of labels of a runner
 abbrev pub most_labels : ℕ
 most_labels = 16
 
 abbrev pub is_of_short_length : List ℕ → Bool
 is_of_short_length text = nat_le 1 (length text) && nat_le (length text) most_text_bytes
 
--- 1 to 64 bytes, each of a kind
+-- 1 to 64 bytes of a kind
 abbrev pub is_short : (ℕ → Bool) → List ℕ → Bool
 is_short kind text = is_of_short_length text && list_all kind text
 
@@ -23,7 +24,7 @@ is_short kind text = is_of_short_length text && list_all kind text
 abbrev pub is_delivery_byte : ℕ → Bool
 is_delivery_byte b = is_ascii_alphanumeric b || (b == 45)
 
--- a small letter, a digit or `_`
+-- a lower-case letter, a digit or `_`
 abbrev pub is_event_byte : ℕ → Bool
 is_event_byte b = is_ascii_lowercase b || is_ascii_digit b || (b == 95)
 
@@ -31,15 +32,15 @@ is_event_byte b = is_ascii_lowercase b || is_ascii_digit b || (b == 95)
 abbrev pub is_runner_byte : ℕ → Bool
 is_runner_byte b = is_ascii_alphanumeric b || (b == 95) || (b == 45) || (b == 46)
 
--- a printed byte that is no space and no comma
+-- a printable byte except space and comma
 abbrev pub is_label_byte : ℕ → Bool
 is_label_byte b = is_ascii_graphic b && not (b == 44)
 
--- the value, where a test holds
+-- the value if the test holds
 abbrev pub found_if : {X : Type 0} → Bool → X → Option X
 found_if test x = if test then Some x else None
 
--- the text, where it is 1 to 64 bytes of a kind
+-- the text, if it is 1 to 64 bytes of a kind
 abbrev pub short_text_of : (ℕ → Bool) → List ℕ → Option (List ℕ)
 short_text_of kind text = found_if (is_short kind text) text
 
@@ -59,13 +60,13 @@ are_labels labels = nat_le 1 (length labels) && nat_le (length labels) most_labe
 abbrev pub split_at_commas : List ℕ → List (List ℕ)
 split_at_commas = slice_split (λ b. b == 44)
 
--- labels, joined by commas
+-- comma-separated labels
 abbrev pub label_list_of : List ℕ → Option (List (List ℕ))
 label_list_of text = found_if (are_labels (split_at_commas text)) (split_at_commas text)
 
--- whether the text is one to nine decimal digits, the first not 0
+-- whether the text is one to nine decimal digits, the first of them not 0
 abbrev pub is_number : List ℕ → Bool
-is_number text = nat_le 1 (length text) && nat_le (length text) 9 && list_all is_ascii_digit text && not (slice_index text 0 == 48)
+is_number text = is_decimal text && not (slice_index text 0 == 48)
 
 -- decimal, 1 to 999999999, no leading zero
 abbrev pub number_of : List ℕ → Option ℕ

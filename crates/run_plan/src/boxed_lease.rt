@@ -6,7 +6,7 @@ use std::alloc::{AllocError, Global};
 use std::marker::Model;
 use wf_value::{Refusal, Same, TryCopy};
 
-/// A lease in a box of its own, so that a reply takes no more room than a text: most replies have no lease. A contract sees the lease.
+/// A boxed lease. Most replies have no lease, so boxing keeps a reply as small as a text. In contracts it is the lease.
 #[derive(Drop)]
 pub struct BoxedLease {
     inside: Box<Lease>,

@@ -8,7 +8,7 @@ use std::alloc::Global;
 use wf_reader::{Job, Workflow};
 use wf_value::Refusal;
 
-/// Whether a workflow has a plan, without making one: refused as by `plan`.
+/// Checks whether a workflow has a plan, without making one. It refuses the same workflows as `plan`.
 pub fn check_plan(alloc: Global, workflow: &Workflow) -> Result<(), Refusal>
     ensures { Gives (λ u. u) result (unless_faulty (plan_faults workflow.now) tt) }
 {

@@ -8,14 +8,14 @@ use json::Writer;
 use std::alloc::{AllocError, Global};
 use wf_value::{Chars, Combo, Refusal, Scalar};
 
-/// A combination as compact JSON, its members in the order of the names' bytes. RFC 8259.
+/// A combination as compact JSON, with its members in byte order of their names. RFC 8259.
 pub fn text_of_combo(alloc: Global, combo: &Combo) -> Result<Chars, Refusal>
     ensures { Gives (λ t. t) result (Ok (combo_text combo.now)) }
 {
     Ok(Chars::new(printed(alloc, combo)?))
 }
 
-/// The text, which the writer keeps as UTF-8.
+/// The text as a `String`; the writer produces UTF-8.
 fn printed(alloc: Global, combo: &Combo) -> Result<String, AllocError>
     ensures { IfOk result (λ s. string_bytes s ≡ combo_text combo.now) }
 {
@@ -29,7 +29,7 @@ fn printed(alloc: Global, combo: &Combo) -> Result<String, AllocError>
     Ok(String::from_utf8(writer.into_inner()).unwrap())
 }
 
-/// Writes a value behind what the writer has.
+/// Appends a value to what is written so far.
 fn write_scalar(writer: &mut Writer, scalar: &Scalar) -> Result<(), AllocError>
     ensures tokens { OnOk result (writer.new.tokens
         ≡ writer.old.tokens ++ json_tokens (outline (scalar_json scalar.now))) }

@@ -5,40 +5,40 @@ use crate::small_text::RunnerName;
 use std::alloc::Global;
 use wf_value::{Outcome, Refusal, Same, TryCopy};
 
-/// A runner asks for a leg to run.
+/// A runner's request for a leg to run.
 #[derive(Drop)]
 pub struct Claim {
     pub runner: RunnerName,
-    /// One above the runner's last number, or the last again.
+    /// The runner's last number plus one, or the last number again.
     pub number: Number,
     pub labels: Labels,
 }
 
-/// A runner reports how the leg of a lease ended.
+/// A runner's report on how the leg of a lease ended.
 #[derive(Drop)]
 pub struct Done {
     pub runner: RunnerName,
-    /// One above the runner's last number, or the last again.
+    /// The runner's last number plus one, or the last number again.
     pub number: Number,
     pub lease: Number,
     pub result: Outcome,
 }
 
-/// A runner asks whether it is to go on with the leg of a lease.
+/// A runner's heartbeat, which asks whether to go on with the leg of a lease.
 #[derive(Drop)]
 pub struct Beat {
     pub runner: RunnerName,
     pub lease: Number,
 }
 
-/// An attempt of a run: 1 when it is admitted, and one higher with each re-run.
+/// An attempt of a run: 1 on admission, and one higher for each re-run.
 #[derive(Clone, Copy)]
 pub struct Attempt {
     pub run: Number,
     pub attempt: Number,
 }
 
-/// What the service is asked.
+/// A command to the service.
 #[derive(Drop)]
 pub enum Command {
     /// Admits a run.
@@ -46,15 +46,15 @@ pub enum Command {
     Claim(Claim),
     Done(Done),
     Beat(Beat),
-    /// Cancels the run of this id.
+    /// Cancels the run with this id.
     Cancel(Number),
-    /// A runner is lost, with the leg that it has.
+    /// Reports that a runner is lost, together with its leg.
     Lost(RunnerName),
-    /// Looks at the run of this id.
+    /// Views the run with this id.
     Look(Number),
-    /// Asks for the admitted body of the run of this id.
+    /// Fetches the admitted body of the run with this id.
     Fetch(Number),
-    /// Begins this attempt of a run that has completed, or asks for it again.
+    /// Starts this attempt of a completed run, or repeats that command.
     Rerun(Attempt),
 }
 

@@ -3,7 +3,7 @@ ghost use Rattle.std.proofs.Common.{arith};
 ghost use Rattle.std.proofs.lemmas.Grind.{common_steps};
 ghost use Rattle.run_plan.specs.SmallText.{is_delivery_byte, is_event_byte, is_label_byte, is_runner_byte};
 
-/// The form of a short text: the bytes that it may have.
+/// The form of a short text: the set of bytes that it may contain.
 pub trait Form {
     ghost allows: { ℕ → Bool };
 
@@ -27,7 +27,7 @@ impl Form for DeliveryForm {
     ghost is_ascii = { λ b h. Prim.grind (arith, common_steps) };
 }
 
-/// Small letters, digits and `_`.
+/// Lower-case letters, digits and `_`.
 #[derive(Drop)]
 pub struct EventForm;
 
@@ -55,7 +55,7 @@ impl Form for RunnerForm {
     ghost is_ascii = { λ b h. Prim.grind (arith, common_steps) };
 }
 
-/// Printed ASCII bytes without the space and the comma.
+/// Printable ASCII bytes except space and comma.
 #[derive(Drop)]
 pub struct LabelForm;
 

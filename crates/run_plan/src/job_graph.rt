@@ -9,8 +9,8 @@ use std::alloc::Global;
 use wf_reader::Job;
 use wf_value::Refusal;
 
-/// The graph of what the jobs of a workflow need: refused 13 where one needs what is no job, else 14
-/// where one is its own ancestor. GitHub Docs, "Workflow syntax for GitHub Actions", `jobs.<job_id>.needs`.
+/// The graph of the needs of a workflow's jobs. The `Err` is 13 if a job needs an unknown job, else 14 if a job is its own
+/// ancestor. GitHub Docs, "Workflow syntax for GitHub Actions", `jobs.<job_id>.needs`.
 pub fn graph_of(alloc: Global, jobs: &[Job]) -> Result<Graph, Refusal>
     requires { IsTrue (ids_rise jobs.now) }
     ensures { Gives (λ g. g) result (graph_of (map needs_of_job jobs.now)) }

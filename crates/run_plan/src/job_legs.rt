@@ -9,10 +9,10 @@ use std::marker::Model;
 use wf_reader::Job;
 use wf_value::{Combo, Matrix, Refusal};
 
-/// The combinations of a job's legs, each of which is made when it is asked for.
+/// The combinations of a job's legs, each made on demand.
 #[derive(Drop)]
 pub struct JobLegs<'a> {
-    /// The combinations of the matrix. A job without one has one leg, with the empty combination.
+    /// The combinations of the matrix. A job without a matrix has one leg, with the empty combination.
     expansion: Option<Expansion<'a>>,
 }
 
@@ -26,7 +26,7 @@ impl<'a> Model for JobLegs<'a> {
     ghost view = { λ l. option_map_or (λ e. e) l.expansion ([] ∷ []) };
 }
 
-/// The matrix of a job, where it has one.
+/// The matrix of a job, if any.
 fn matrix_of(job: &Job) -> Option<&Matrix>
     ensures { option_map (λ m. m.now) result ≡ matrix_of job.now }
 {
@@ -37,8 +37,8 @@ fn matrix_of(job: &Job) -> Option<&Matrix>
 }
 
 impl<'a> JobLegs<'a> {
-    /// The legs of a job. Its matrix is refused 21 where the lengths of its lists multiply to over 4,096, else
-    /// 22 where it gives no leg or more than 256.
+    /// The legs of a job. The `Err` is 21 if the product of the lengths of the matrix's lists is over 4,096, else 22 if the matrix
+    /// has no leg or more than 256.
     pub fn of(alloc: Global, job: &'a Job) -> Result<Self, Refusal>
         ensures { Gives (λ l. l) result (combinations_where (matrix_of job.entry.now)) }
     {
@@ -59,7 +59,7 @@ impl<'a> JobLegs<'a> {
         }
     }
 
-    /// The combination of a leg, by the leg's number.
+    /// The combination of a leg, by the leg's index.
     pub fn combination(&self, alloc: Global, leg: usize) -> Result<Combo, Refusal>
         requires { leg < length self.now }
         ensures { Gives (λ c. c) result (Ok (slice_index_or self.now leg [])) }

@@ -8,8 +8,8 @@ use std::alloc::Global;
 use std::marker::Model;
 use wf_value::{Refusal, Same, Sequence, TryCopy};
 
-/// How many labels a runner has at most.
-pub const MOST_LABELS: usize = 16;
+/// The maximum number of labels of a runner.
+pub const MAX_LABELS: usize = 16;
 
 /// The labels of a runner: 1 to 16.
 /// GitHub Docs, "Using self-hosted runners in a workflow".
@@ -30,7 +30,7 @@ impl Model for Labels {
 }
 
 impl Labels {
-    /// The labels of a list, which is moved and not copied.
+    /// Moves a `Vec` of 1 to 16 labels into it, without copying it.
     pub fn new(labels: Vec<Label>) -> Self
         requires { IsTrue (are_labels labels.items) }
         ensures { result ≡ labels.items }
@@ -40,7 +40,7 @@ impl Labels {
         }
     }
 
-    /// The labels that the bytes are, joined by commas, or `None` where they are none, memory or not.
+    /// Parses comma-separated labels. Bytes of any other form give `None`, which takes no memory.
     pub fn of(alloc: Global, text: &[u8]) -> Result<Option<Self>, Refusal>
         ensures gives { Gives (λ l. l) result (Ok (label_list_of text.now)) }
         ensures answers { are_labels (split_at_commas text.now) ≡ false → result ≡ Ok None }
@@ -85,7 +85,7 @@ fn is_comma(byte: &u8) -> bool
 fn are_few(text: &[u8]) -> bool
     ensures { result ≡ nat_le (length (split_at_commas text.now)) most_labels }
 {
-    text.split(is_comma).count() <= MOST_LABELS
+    text.split(is_comma).count() <= MAX_LABELS
 }
 
 fn each_is_label(text: &[u8]) -> bool

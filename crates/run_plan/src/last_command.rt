@@ -10,34 +10,34 @@ use crate::reply::{Lease, Reply};
 use std::alloc::Global;
 use wf_value::{Refusal, Same, TryCopy};
 
-/// A lease that is kept as the reply to a claim, with what it does not tell: the attempt of its run, and the place of its job, from 0. So it
-/// can be given again once the run is at a later attempt, in which no leg has it.
+/// A lease that is kept as the reply to a claim, with two values that its reply omits: the attempt of its run, and the index of its
+/// job, from 0. With them the reply can be repeated when the run is at a later attempt, in which no leg has the lease.
 #[derive(Drop)]
 pub struct KeptLease {
-    pub told: Lease,
+    pub lease_reply: Lease,
     pub attempt: Number,
     pub job: usize,
 }
 
-/// The reply to a claim that was in its turn.
+/// The reply to a claim that was in order.
 #[derive(Drop)]
 pub enum ClaimReply {
     Nothing,
     Lease(KeptLease),
 }
 
-/// The last numbered command of a runner, and the reply to it, which a repetition gets again.
+/// The last numbered command of a runner, and the reply to it. A repetition gets the same reply.
 #[derive(Drop)]
 pub enum LastCommand {
     Claim(Claim, ClaimReply),
-    /// A report, whose reply is `ok`.
+    /// A report. Its reply is `ok`.
     Done(Done),
 }
 
 impl TryCopy for KeptLease {
     fn copy(&self, alloc: Global) -> Result<Self, Refusal> {
         Ok(KeptLease {
-            told: self.told.copy(alloc)?,
+            lease_reply: self.lease_reply.copy(alloc)?,
             attempt: self.attempt,
             job: self.job,
         })
@@ -65,7 +65,7 @@ impl TryCopy for LastCommand {
 }
 
 impl LastCommand {
-    /// A copy of the reply that is kept. Only a lease takes memory.
+    /// A copy of the kept reply. Only a lease takes memory.
     pub fn reply(&self, alloc: Global) -> Result<Reply, Refusal>
         ensures gives { Gives (λ r. r) result (Ok (kept_reply self.now)) }
         ensures answers { carries_text (kept_reply self.now) ≡ false → result ≡ Ok (kept_reply self.now) }
@@ -73,8 +73,8 @@ impl LastCommand {
         match self {
             LastCommand::Claim(_, ClaimReply::Nothing) => Ok(Reply::Nothing),
             LastCommand::Claim(_, ClaimReply::Lease(kept)) => {
-                let told = kept.told.copy(alloc)?;
-                Ok(Reply::Lease(BoxedLease::new(alloc, told)?))
+                let lease_reply = kept.lease_reply.copy(alloc)?;
+                Ok(Reply::Lease(BoxedLease::new(alloc, lease_reply)?))
             }
             LastCommand::Done(_) => Ok(Reply::Ok),
         }

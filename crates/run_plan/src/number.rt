@@ -1,9 +1,7 @@
-ghost use Rattle.std.specs.Prelude.{◌≡◌, ◌≤◌, IsTrue};
-ghost use Rattle.std.specs.List.{list_all};
-ghost use Rattle.std.specs.Char.{is_ascii_digit};
-ghost use Rattle.std.specs.Str.Parse.{digits_value};
-ghost use Rattle.run_plan.specs.SmallText.{is_number, number_of};
+ghost use Rattle.std.specs.Prelude.{◌≡◌, ◌≤◌};
+ghost use Rattle.run_plan.specs.SmallText.{number_of};
 
+use crate::decimal::decimal_of;
 use std::marker::Model;
 
 /// A number of a command: 1 to 999,999,999.
@@ -41,38 +39,15 @@ impl Number {
         self.value
     }
 
-    /// The number that the bytes write in decimal, without a leading zero.
+    /// Parses a decimal number without a leading zero.
+    #[tactic(auto, using(crate::proofs::Numbers::number_least))]
     pub fn of(text: &[u8]) -> Option<Self>
         ensures { result ≡ number_of text.now }
     {
-        if !is_number(text) {
+        let value = decimal_of(text)?;
+        if text[0] == b'0' {
             return None;
         }
-        Some(Number::new(value_of(text)))
+        Some(Number::new(value))
     }
-}
-
-fn is_number(text: &[u8]) -> bool
-    ensures { result ≡ is_number text.now }
-{
-    1 <= text.len() && text.len() <= 9 && are_digits(text) && text[0] != b'0'
-}
-
-fn are_digits(text: &[u8]) -> bool
-    ensures { result ≡ list_all is_ascii_digit text.now }
-{
-    text.iter().all(|b| b.is_ascii_digit())
-}
-
-fn value_of(digits: &[u8]) -> u32
-    requires { IsTrue (is_number digits.now) }
-    ensures value { result ≡ digits_value 10 digits.now }
-    ensures least { 1 ≤ result }
-    ensures most { result ≤ 999999999 }
-{
-    let mut value = 0;
-    for b in digits {
-        value = value * 10 + u32::from(*b - b'0');
-    }
-    value
 }

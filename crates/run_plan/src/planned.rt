@@ -8,36 +8,36 @@ use wf_expr::Template;
 use wf_reader::{Concurrency, Flag};
 use wf_value::{Chars, Combo, Condition, Sequence};
 
-/// A leg of a job as it is planned: one combination of its matrix.
+/// A leg of a planned job: one combination of its matrix.
 #[derive(Drop)]
 pub struct PlannedLeg {
     pub combo: Combo,
 }
 
-/// A job as it is planned.
+/// A job of a plan.
 #[derive(Drop)]
 pub struct PlannedJob {
     pub id: Chars,
-    /// What each of its legs asks of a runner, once the templates have their values.
+    /// The labels that each leg requires of a runner, once the templates are evaluated.
     pub labels: Sequence<Template>,
-    /// The ids of the jobs that it needs, as it lists them.
+    /// The ids of the needed jobs, as listed.
     pub needs: Sequence<Chars>,
-    /// When it is to run, from how its ancestors ended.
+    /// When the job runs, as a function of how its ancestors ended.
     pub condition: Condition,
-    /// Whether a leg that fails is passed over in the result of the job.
+    /// Whether the job's result ignores failing legs.
     pub continue_on_error: Flag,
-    /// The group of each leg, where the job asks for one.
+    /// The concurrency group of each leg, if any.
     pub concurrency: Option<Concurrency>,
-    /// Whether a leg that fails ends the others: true where the workflow does not say.
+    /// Whether a failing leg cancels the others. True if the workflow does not say.
     pub fail_fast: bool,
-    /// The most legs that run at a time, 1 to 256, where there is a limit.
+    /// The maximum number of legs that run at the same time, 1 to 256, if limited.
     pub max_parallel: Option<u16>,
-    /// Numbered from 0: 1 to 256 of them.
+    /// 1 to 256 legs, with indices from 0.
     pub legs: Sequence<PlannedLeg>,
 }
 
-/// The plan of a workflow: its jobs in the order of the bytes of their ids, and the graph of what they
-/// need. A contract sees the jobs, of which the graph is a function.
+/// The plan of a workflow: its jobs in byte order of their ids, and the graph of their needs. In contracts it is the list of the
+/// jobs, since the graph is a function of them.
 #[derive(Drop)]
 pub struct Plan {
     jobs: Sequence<PlannedJob>,
@@ -58,7 +58,7 @@ impl Model for Plan {
 }
 
 impl Plan {
-    /// The plan of jobs, with the graph of what they need.
+    /// Makes a plan of jobs and the graph of their needs.
     pub(crate) fn new(jobs: Sequence<PlannedJob>, graph: Graph) -> Self
         requires { graph_of (needs_listed jobs) ≡ Ok graph }
         ensures { result ≡ jobs }
@@ -72,7 +72,7 @@ impl Plan {
         self.jobs.as_slice()
     }
 
-    /// Which jobs each job needs, directly and through others. Its jobs are those of the plan, by place.
+    /// Which jobs each job needs, directly and transitively, by the indices of the jobs in the plan.
     pub fn graph(&self) -> &Graph
         ensures needs { result.now ≡ plan_graph self.now }
         ensures whole { graph_of (needs_listed self.now) ≡ Ok result.now }

@@ -12,11 +12,10 @@ use std::alloc::Global;
 use wf_reader::{Job, Jobs, Strategy, Workflow};
 use wf_value::{Combo, Matrix, Refusal, Sequence};
 
-/// The plan of a workflow, whose texts it takes over. Job by job, a matrix is refused 21 where the
-/// lengths of its lists multiply to over 4,096, else 22 where it gives no leg or more than 256. Then 13 is
-/// refused where a job needs what is no job, else 14 where one is its own ancestor, with the ids of all
-/// that are. Want of memory is 50. GitHub Docs, "Running variations of jobs in a workflow" and "Workflow
-/// syntax for GitHub Actions", `jobs.<job_id>.needs`.
+/// Makes the plan of a workflow, whose texts it takes over. The `Err` is, for the first job with a wrong matrix, 21 if the product
+/// of the lengths of the matrix's lists is over 4,096, else 22 if it has no leg or more than 256; then 13 if a job needs an unknown
+/// job, else 14 if a job is its own ancestor, with the ids of all such jobs. Out of memory is 50.
+/// GitHub Docs, "Running variations of jobs in a workflow" and "Workflow syntax for GitHub Actions", `jobs.<job_id>.needs`.
 pub fn plan(alloc: Global, workflow: Workflow) -> Result<Plan, Refusal>
     ensures { Gives (λ p. p) result (unless_faulty (plan_faults workflow) (workflow_plan workflow)) }
 {
@@ -24,17 +23,17 @@ pub fn plan(alloc: Global, workflow: Workflow) -> Result<Plan, Refusal>
     plan_jobs(alloc, jobs)
 }
 
-/// The plan of jobs, or the first of its faults.
+/// The plan of jobs, or their first fault.
 pub fn plan_jobs(alloc: Global, jobs: Jobs) -> Result<Plan, Refusal>
     ensures { Gives (λ p. p) result (unless_faulty (jobs_faults jobs) (map planned_job jobs)) }
 {
-    // The legs of all jobs are judged before what they need.
+    // The faults of all matrices come before those of the needs.
     let graph = graph_of(alloc, jobs.as_slice());
     let planned = planned_jobs(alloc, jobs)?;
     Ok(Plan::new(planned, graph?))
 }
 
-/// Each job as it is planned, up to the first fault of a matrix.
+/// The planned jobs, or the first fault of a matrix.
 fn planned_jobs(alloc: Global, jobs: Jobs) -> Result<Sequence<PlannedJob>, Refusal>
     ensures { Gives (λ p. p) result (unless_faulty (legs_faults jobs) (map planned_job jobs)) }
 {
@@ -76,7 +75,7 @@ fn planned_job(alloc: Global, job: Job) -> Result<PlannedJob, Refusal>
     })
 }
 
-/// The strategy of a job that has none: no matrix, fail-fast, and no limit.
+/// The strategy of a job; the default has no matrix, fail-fast on, and no limit.
 fn strategy_or_default(strategy: Option<Strategy>) -> Strategy
     ensures matrix { result.matrix ≡ option_and_then (λ s. s.matrix) strategy }
     ensures fail_fast { result.fail_fast ≡ option_map_or (λ s. s.fail_fast) strategy true }
@@ -92,7 +91,7 @@ fn strategy_or_default(strategy: Option<Strategy>) -> Strategy
     }
 }
 
-/// The combinations of a job's legs: those of its matrix, or the empty one alone.
+/// The combinations of a job's legs: those of its matrix, or only the empty one.
 fn combinations(alloc: Global, matrix: Option<Matrix>) -> Result<Vec<Combo>, Refusal>
     ensures { Gives (λ v. v.items) result (combinations_where matrix) }
 {
@@ -106,7 +105,7 @@ fn combinations(alloc: Global, matrix: Option<Matrix>) -> Result<Vec<Combo>, Ref
     }
 }
 
-/// A leg for each combination, in order.
+/// One leg for each combination, in order.
 fn legs_of(alloc: Global, combos: Vec<Combo>) -> Result<Sequence<PlannedLeg>, Refusal>
     ensures { Gives (λ s. s) result (Ok (legs_of combos.items)) }
 {

@@ -3,6 +3,7 @@ ghost use Rattle.std.specs.Str.{is_utf8};
 ghost use Rattle.wf_value.specs.declared.code.Code.TheVariants.{NotJson, TooLong};
 ghost use Rattle.wf_value.specs.declared.refusal.Refusal.TheVariants.{Numbered};
 ghost use Rattle.wf_value.specs.Gives.{Gives};
+ghost use Rattle.wf_reader.specs.Body.{most_body};
 ghost use Rattle.wf_reader.specs.Event.{event_of};
 ghost use Rattle.wf_reader.specs.Faults.{unless_faulty};
 ghost use Rattle.run_plan.specs.Origins.{IsOrigin};
@@ -18,7 +19,7 @@ use std::sync::Arc;
 use wf_reader::{Concurrency, Contexts, Event, Jobs, Workflow, read_event};
 use wf_value::{Chars, Refusal, Same};
 
-/// What an event says beside the jobs of its workflow.
+/// The contents of an event except the jobs of its workflow.
 #[derive(Drop)]
 struct Origin {
     repo: Chars,
@@ -28,7 +29,7 @@ struct Origin {
     concurrency: Option<Concurrency>,
 }
 
-/// An admitted event, and beside its bytes what they spell.
+/// An admitted event: its bytes and their parsed contents.
 #[derive(Drop)]
 struct Admission {
     delivery: DeliveryId,
@@ -38,9 +39,8 @@ struct Admission {
     plan: Plan,
 }
 
-/// An event that is ready to be admitted. It never changes, and stands in memory once, however often it
-/// is shared. A contract sees the delivery, the event's name and the bytes, since the rest follows from
-/// them.
+/// An event that is ready for admission. It is immutable, and all shares refer to one copy in memory. In contracts it is the
+/// delivery, the event's name and the bytes, since everything else follows from them.
 #[derive(Drop)]
 pub struct Prepared {
     admission: Arc<Admission>,
@@ -79,7 +79,7 @@ impl Prepared {
         &self.admission.event
     }
 
-    /// The admitted bytes, in which nothing is wrong.
+    /// The admitted bytes, which have no faults.
     pub fn body(&self) -> &[u8]
         ensures bytes { result.now ≡ self.now.body }
         ensures faultless { faults_of self.now.body ≡ [] }
@@ -87,7 +87,7 @@ impl Prepared {
         self.admission.body.as_slice()
     }
 
-    /// The admitted bytes as the text that they are.
+    /// The admitted bytes as text.
     #[tactic(auto, using(crate::proofs::BodyText::body_is_text))]
     pub fn body_text(&self) -> &str
         ensures { result.now ≡ self.now.body }
@@ -109,21 +109,21 @@ impl Prepared {
         &self.admission.origin.path
     }
 
-    /// The contexts `github`, `inputs` and `vars` that the sender handed in.
+    /// The contexts `github`, `inputs` and `vars` that the sender supplied.
     pub fn contexts(&self) -> &Contexts
         ensures { result.now ≡ (event_of self.now.body).contexts }
     {
         &self.admission.origin.contexts
     }
 
-    /// The `name` of the workflow, and the empty text where it is missing.
+    /// The `name` of the workflow, or the empty text if it is missing.
     pub fn workflow_name(&self) -> &Chars
         ensures { result.now ≡ (event_of self.now.body).workflow.name }
     {
         &self.admission.origin.workflow_name
     }
 
-    /// The `concurrency` of the workflow, where it has one.
+    /// The `concurrency` of the workflow, if any.
     pub fn concurrency(&self) -> Option<&Concurrency>
         ensures { option_copied result ≡ (event_of self.now.body).workflow.concurrency }
     {
@@ -137,7 +137,7 @@ impl Prepared {
         &self.admission.plan
     }
 
-    /// One share more of the event. It takes no memory: 50 comes only where the event has 2^63 - 1 shares.
+    /// Another share of the event. It takes no memory; the only `Err` is 50, if the event already has 2^63 - 1 shares.
     pub fn share(&self) -> Result<Self, Refusal>
         ensures { Gives (λ p. p) result (Ok self.now) }
     {
@@ -155,7 +155,7 @@ impl Same for Prepared {
     }
 }
 
-/// The jobs of an event's workflow, and what else it says.
+/// Splits an event into the jobs of its workflow and the rest.
 fn origin_and_jobs(event: Event) -> (Origin, Jobs)
     ensures origin { IsOrigin result.0 event }
     ensures jobs { result.1 ≡ event.workflow.jobs }
@@ -181,12 +181,12 @@ fn origin_and_jobs(event: Event) -> (Origin, Jobs)
     (origin, jobs)
 }
 
-/// What a body says: where it is from, and the plan of its workflow. Or the first of its faults.
+/// The origin of a body and the plan of its workflow, or the first fault.
 fn origin_and_plan(alloc: Global, body: &[u8]) -> Result<(Origin, Plan), Refusal>
     ensures gives { Gives (λ p. p.1) result (unless_faulty (faults_of body.now) (plan_of body.now)) }
     ensures origin { IfOk result (λ p. IsOrigin p.0 (event_of body.now)) }
-    ensures too_long { 65536 < length body.now → result ≡ Err (Numbered TooLong) }
-    ensures no_text { length body.now ≤ 65536 → is_utf8 body.now ≡ false → result ≡ Err (Numbered NotJson) }
+    ensures too_long { most_body < length body.now → result ≡ Err (Numbered TooLong) }
+    ensures no_text { length body.now ≤ most_body → is_utf8 body.now ≡ false → result ≡ Err (Numbered NotJson) }
 {
     let read = read_event(alloc, body)?;
     let (origin, jobs) = origin_and_jobs(read);
@@ -194,8 +194,8 @@ fn origin_and_plan(alloc: Global, body: &[u8]) -> Result<(Origin, Plan), Refusal
     Ok((origin, plan))
 }
 
-/// An event made ready: its body is read and planned, and refused with the first of its faults, 10 to 26.
-/// Want of memory is 50. A body that is too long or no UTF-8 is refused memory or not.
+/// Prepares an event: reads and plans its body, and refuses the first fault, 10 to 26. Out of memory is 50. A body that is too long
+/// or not UTF-8 is refused without taking memory.
 pub fn prepare(
     alloc: Global,
     event: EventName,
@@ -205,9 +205,9 @@ pub fn prepare(
     ensures gives { Gives (λ p. p) result
         (unless_faulty (faults_of body.items) (record { delivery = delivery; event = event; body = body.items })) }
 
-    // Memory or not:
-    ensures too_long { 65536 < length body.items → result ≡ Err (Numbered TooLong) }
-    ensures no_text { length body.items ≤ 65536 → is_utf8 body.items ≡ false
+    // These two hold with or without memory:
+    ensures too_long { most_body < length body.items → result ≡ Err (Numbered TooLong) }
+    ensures no_text { length body.items ≤ most_body → is_utf8 body.items ≡ false
         → result ≡ Err (Numbered NotJson) }
 {
     let (origin, plan) = origin_and_plan(alloc, body.as_slice())?;

@@ -10,13 +10,13 @@ use crate::shared_body::SharedBody;
 use std::alloc::{AllocError, Global};
 use wf_value::{Chars, Combo, Refusal, Same, TryCopy};
 
-/// A leg that is handed to a runner.
+/// A leg that is leased to a runner.
 #[derive(Drop)]
 pub struct Lease {
     pub lease: Number,
     pub run: Number,
     pub job: Chars,
-    /// The leg's number within its job, from 0.
+    /// The leg's index within its job, from 0.
     pub leg: usize,
     pub combo: Combo,
 }
@@ -75,7 +75,7 @@ fn lease_line(
     format!(in alloc; "lease {lease} {run} {job} {leg} {combo}")
 }
 
-/// How long the body is, and the body.
+/// The length of the body, and the body.
 fn body_lines(alloc: Global, body: &str) -> Result<String, AllocError>
     ensures { IfOk result (λ s. string_bytes s ≡ body_lines body.now) }
 {
@@ -89,25 +89,25 @@ fn again_line(alloc: Global, run: u32, attempt: u32) -> Result<String, AllocErro
     format!(in alloc; "again {run} {attempt}")
 }
 
-/// What a command is answered.
+/// A reply to a command.
 #[derive(Drop)]
 pub enum Reply {
-    /// The run that the delivery made.
+    /// The run that the delivery created.
     Created(Number),
     Lease(BoxedLease),
     /// No leg is ready for the runner.
     Nothing,
     Ok,
-    /// The runner is to stop at work on the leg, and to report how it ended.
+    /// The runner stops work on the leg and reports how it ended.
     Stop,
     GoOn,
-    /// The view of a run, printed.
+    /// The printed view of a run.
     Run(Chars),
     /// The admitted body of a run.
     Body(SharedBody),
-    /// The attempt that the run is at.
+    /// The current attempt of the run.
     Again(Attempt),
-    /// 40 to 45, 48 and 49. The table is as it was.
+    /// 40 to 45, 48 and 49. The table is unchanged.
     Refused(Refusal),
 }
 

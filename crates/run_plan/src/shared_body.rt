@@ -6,7 +6,8 @@ use std::alloc::Global;
 use std::marker::Model;
 use wf_value::{Refusal, Same, TryCopy};
 
-/// The body of an admitted event, which stands in memory once, however often it is asked for. A contract sees its bytes.
+/// The body of an admitted event, of which memory holds one copy, however many replies share it. In contracts it is the list of its
+/// bytes.
 #[derive(Drop)]
 pub struct SharedBody {
     event: Prepared,
@@ -21,7 +22,7 @@ impl Model for SharedBody {
 }
 
 impl SharedBody {
-    /// The body of this event. It takes no memory, as sharing the event does not.
+    /// The body of this event. It takes no memory, since sharing the event takes none.
     pub fn of(event: &Prepared) -> Result<Self, Refusal>
         ensures { Gives (λ b. b) result (Ok event.now.body) }
     {

@@ -9,10 +9,10 @@ use std::alloc::Global;
 use std::marker::{Model, PhantomData};
 use wf_value::{Chars, Refusal, Same, TryCopy};
 
-/// How many bytes a small text has at most.
-pub const MOST_TEXT_BYTES: usize = 64;
+/// The maximum length of a small text, in bytes.
+pub const MAX_TEXT_BYTES: usize = 64;
 
-/// A text of 1 to 64 bytes that its form allows.
+/// A text of 1 to 64 bytes, all of which its form allows.
 #[derive(Drop)]
 pub struct SmallText<F: Form> {
     text: Chars,
@@ -34,14 +34,14 @@ impl<F: Form> Model for SmallText<F> {
 /// GitHub Docs, "Webhook events and payloads", Delivery headers (`X-GitHub-Delivery`).
 pub type DeliveryId = SmallText<DeliveryForm>;
 
-/// The name of an event: small letters, digits and `_`.
+/// The name of an event: lower-case letters, digits and `_`.
 /// GitHub Docs, "Webhook events and payloads", Delivery headers (`X-GitHub-Event`).
 pub type EventName = SmallText<EventForm>;
 
 /// The name of a runner: letters, digits, `_`, `-` and `.`.
 pub type RunnerName = SmallText<RunnerForm>;
 
-/// A label of a runner: printed ASCII bytes without the space and the comma.
+/// A label of a runner: printable ASCII bytes except space and comma.
 /// GitHub Docs, "Using self-hosted runners in a workflow".
 pub type Label = SmallText<LabelForm>;
 
@@ -53,7 +53,7 @@ impl<F: Form> SmallText<F> {
         is_of_short_length(text) && are_allowed::<F>(text)
     }
 
-    /// The text that the bytes are, or `None` where they are none of the form, memory or not.
+    /// Copies the bytes as a text. Bytes of any other form give `None`, which takes no memory.
     pub fn of(alloc: Global, text: &[u8]) -> Result<Option<Self>, Refusal>
         ensures gives { Gives (λ t. t) result (Ok (short_text_of F.allows text.now)) }
         ensures answers { is_short F.allows text.now ≡ false → result ≡ Ok None }
@@ -64,7 +64,7 @@ impl<F: Form> SmallText<F> {
         Ok(Some(Self::copy_of(alloc, text)?))
     }
 
-    /// The text that the bytes are.
+    /// Copies bytes that are a text of the form.
     pub fn copy_of(alloc: Global, text: &[u8]) -> Result<Self, Refusal>
         requires { IsTrue (is_short F.allows text.now) }
         ensures { Gives (λ t. t) result (Ok text.now) }
@@ -101,7 +101,7 @@ impl<F: Form> Same for SmallText<F> {
 fn is_of_short_length(text: &[u8]) -> bool
     ensures { result ≡ is_of_short_length text.now }
 {
-    1 <= text.len() && text.len() <= MOST_TEXT_BYTES
+    1 <= text.len() && text.len() <= MAX_TEXT_BYTES
 }
 
 fn are_allowed<F: Form>(text: &[u8]) -> bool

@@ -1,4 +1,4 @@
--- A new run keeps what a table keeps.
+-- A new run preserves the invariants of a table.
 use Rattle.std.specs.Prelude.{◌≡◌, ℕ, ◌+◌, ◌<◌, ◌≤◌, List, [], ◌∷◌, ◌++◌, map, length, find, nat_le, true, false, Option, Some, None}
 use Rattle.std.specs.Prelude.{option_map, option_and_then, slice_get, if◌then◌else◌, refl}
 use Rattle.std.specs.List.{position}
@@ -13,24 +13,25 @@ use Rattle.run_plan.specs.Admitted.{Admitted}
 use Rattle.run_plan.specs.PlanOf.{plan_of}
 use Rattle.run_plan.specs.declared.planned.PlannedJob.{PlannedJob}
 use Rattle.run_plan.specs.declared.reply.Reply.TheVariants as reply
-use Rattle.workflow_runs.specs.Places.{LegPlace, run_at}
-use Rattle.workflow_runs.specs.Rules.{result_at}
-use Rattle.workflow_runs.specs.Parallel.{legs_at_work}
+use Rattle.run_states.specs.Parallel.{legs_at_work}
+use Rattle.run_states.specs.Places.{run_at}
+use Rattle.run_states.specs.declared.place.LegPlace.{LegPlace}
+use Rattle.run_states.specs.Rules.{result_at}
 use Rattle.run_table.specs.Sound.{AttemptsAreGiven, DeliveriesDiffer, ParallelIsBounded}
 use Rattle.run_table.specs.Step.{admission_answer, last_attempt, refused}
-use Rattle.workflow_runs.specs.NewRun.{is_delivered_as, blocked_job, new_run, run_in_attempt}
+use Rattle.run_states.specs.NewRun.{is_delivered_as, blocked_job, new_run, run_in_attempt}
 use Rattle.run_table.specs.TableState.{TableState}
-use Rattle.workflow_runs.specs.RunState.{LegState, JobState, RunState}
-use Rattle.workflow_runs.specs.Words.{planned_legs}
-use Rattle.workflow_runs.proofs.Found.{none_found, found_nowhere, each_at, at_the_end, before_the_end}
+use Rattle.run_states.specs.RunState.{LegState, JobState, RunState}
+use Rattle.run_states.specs.Words.{planned_legs}
+use Rattle.run_states.proofs.Found.{none_found, found_nowhere, each_at, at_the_end, before_the_end}
 use Rattle.run_table.proofs.Kept.{IsKept, StillHad, kept_still_had}
-use Rattle.workflow_runs.proofs.LeaseReads.{leases_same}
-use Rattle.workflow_runs.proofs.LegReads.{work_of, had_at, works_at}
-use Rattle.workflow_runs.proofs.NeedsSettled.{result_in}
-use Rattle.workflow_runs.proofs.Optional.{from_map, if_none}
-use Rattle.workflow_runs.proofs.RunFits.{JobFits, RunFits, RunsFit}
+use Rattle.run_states.proofs.LeaseReads.{leases_same}
+use Rattle.run_states.proofs.LegReads.{work_of, had_at, works_at}
+use Rattle.run_states.proofs.NeedsSettled.{result_in}
+use Rattle.run_states.proofs.Optional.{from_map, if_none}
+use Rattle.run_states.proofs.RunFits.{JobFits, RunFits, RunsFit}
 use Rattle.run_table.proofs.RunnerPut.{holds_at}
-use Rattle.workflow_runs.proofs.Settles.{fits_beside}
+use Rattle.run_states.proofs.Settles.{fits_beside}
 
 -- ---- the new run by itself
 
@@ -49,7 +50,7 @@ attempt_fits runs r attempt event = record {
   needs_first = (λ j y e some. absurd (some (sym (ap (λ (v : JobState). v.legs) (job_is_blocked (plan_of event.body) j y e)))));
 }
 
--- no leg of it is there
+-- no leg of it exists
 pub no_lease : (f : LegState → Option ℕ) (event : Admitted) (j l : ℕ)
     → option_and_then (λ (y : JobState). option_and_then f (slice_get y.legs l)) (slice_get (new_run event).jobs j) ≡ None
 no_lease f event j l =
@@ -61,7 +62,7 @@ no_lease f event j l =
     of_blocked None = refl
     of_blocked (Some planned) = refl
 
--- ---- the runs with it
+-- ---- the runs with the new one
 
 module _ (runs : List RunState) (event : Admitted) where
   pub all_fit : RunsFit runs → RunsFit (runs ++ new_run event ∷ [])
@@ -138,7 +139,7 @@ module _ (runs : List RunState) (event : Admitted) where
           sym (ap (λ (v : RunState). v.admitted.delivery)
           (same_Some (new_run event) x (sym (at_the_end runs (new_run event)) ∙ ap (slice_get (runs ++ new_run event ∷ [])) (sym s) ∙ e)))
 
--- what was kept of the runs that were there, they keep
+-- what held of the runs before still holds of them
 still_there : (runs : List RunState) (event : Admitted) → StillHad runs (runs ++ new_run event ∷ [])
 still_there runs event = record {
   runs_stay = (λ r x at. (x, as_before r x at ∙ at, omega arith));
@@ -160,13 +161,13 @@ first_attempt runs event given r y at =
       | inr n ↦ given r y (sym (before_the_end runs (new_run event) r n) ∙ at)
     ]
 
--- ---- what was looked at first
+-- ---- what was checked first
 
 nothing_mapped : {X Y : Type 0} (f : X → Y) (o : Option X) → option_map f o ≡ None → o ≡ None
 nothing_mapped f None e = refl
 nothing_mapped f (Some x) e = cc
 
--- ---- the table with it
+-- ---- the table with the new run
 
 pub admit_keeps : (t : TableState) (event : Admitted) → IsKept t → admission_answer t event ≡ None
     → IsKept (record t { runs = t.runs ++ new_run event ∷ [] })

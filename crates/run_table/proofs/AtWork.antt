@@ -1,4 +1,4 @@
--- How many legs of a job are at work follows from the leases that are read of them; and what a table keeps of their bound.
+-- How many legs of a job are at work follows from the leases read from them; and the bound on them is preserved.
 use Rattle.std.specs.Prelude.{◌≡◌, ℕ, suc, ◌≤◌, List, [], ◌∷◌, count_by, Bool, true, false, Option, Some, None}
 use Rattle.std.specs.Prelude.{option_and_then, slice_get, if◌then◌else◌, refl}
 use Rattle.std.specs.Option.{option_map_or}
@@ -6,16 +6,17 @@ use Rattle.std.proofs.Common.{arith, ap, sym, ◌∙◌, cond}
 use Rattle.std.proofs.lemmas.List.Sums.{sum_by-cons}
 use Rattle.std.proofs.lemmas.Option.{none-some}
 use Rattle.run_plan.specs.declared.planned.PlannedJob.{PlannedJob}
-use Rattle.workflow_runs.specs.Parallel.{is_at_work, legs_at_work, most_at_work}
-use Rattle.workflow_runs.specs.Places.{LegPlace, job_at, leg_place}
+use Rattle.run_states.specs.Parallel.{is_at_work, legs_at_work, most_at_work}
+use Rattle.run_states.specs.Places.{job_at, leg_place}
+use Rattle.run_states.specs.declared.place.LegPlace.{LegPlace}
 use Rattle.run_table.specs.Sound.{ParallelIsBounded}
-use Rattle.workflow_runs.specs.SoundRuns.{LeaseFits}
-use Rattle.workflow_runs.specs.RunState.{LegState, JobState, RunState}
-use Rattle.workflow_runs.specs.declared.phases.LegPhase.{LegPhase}
-use Rattle.workflow_runs.specs.declared.phases.LegPhase.TheVariants as leg
-use Rattle.workflow_runs.proofs.LegReads.{work_of, works_at, works_is}
-use Rattle.workflow_runs.proofs.RunFits.{RunsFit, admitted_at, leases_fit, leg_in_job, plan_at_same}
-use Rattle.workflow_runs.proofs.Settles.{Settles}
+use Rattle.run_states.specs.RunState.{LegState, JobState, RunState}
+use Rattle.run_states.specs.SoundRuns.{LeaseFits}
+use Rattle.run_states.specs.declared.phases.LegPhase.{LegPhase}
+use Rattle.run_states.specs.declared.phases.LegPhase.TheVariants as leg
+use Rattle.run_states.proofs.LegReads.{work_of, works_at, works_is}
+use Rattle.run_states.proofs.RunFits.{RunsFit, admitted_at, leases_fit, leg_in_job, plan_at_same}
+use Rattle.run_states.proofs.Settles.{Settles}
 
 abbrev pub at_work : LegState → Bool
 at_work l = is_at_work l.phase
@@ -26,7 +27,7 @@ one_where b = cond b 1 0
 abbrev pub one_at_work : LegState → ℕ
 one_at_work l = one_where (at_work l)
 
--- the lease of work on the leg at a place of a list
+-- the lease of work on the leg at an index of a list
 abbrev work_at : List LegState → ℕ → Option ℕ
 work_at legs l = option_and_then work_of (slice_get legs l)
 
@@ -58,12 +59,12 @@ pub at_most_one : (b : Bool) → one_where b ≤ 1
 at_most_one true = omega arith
 at_most_one false = omega arith
 
--- ---- fewer legs are at work where each of them was at work before
+-- ---- fewer legs are at work if each of them was at work before
 
 abbrev HaveLeases : List LegState → Type 0
 HaveLeases legs = (l : ℕ) (z : LegState) → slice_get legs l ≡ Some z → LeaseFits z.phase z.lease
 
--- of a leg that is at work only where another is
+-- for a leg that is at work only if another is
 fewer_of : (y x : LegState) → LeaseFits y.phase y.lease → ((n : ℕ) → work_of y ≡ Some n → work_of x ≡ Some n)
     → one_at_work y ≤ one_at_work x
 fewer_of y x fits still =
@@ -76,7 +77,7 @@ fewer_of y x fits still =
           omega (arith, one)
     ] refl
 
--- of a leg that is not there before
+-- for a leg that did not exist before
 not_at_work : (y : LegState) → LeaseFits y.phase y.lease → ((n : ℕ) → work_of y ≡ Some n → None ≡ Some n) → one_at_work y ≡ 0
 not_at_work y fits still =
     elim (at_work y) as (λ b. at_work y ≡ b → one_where b ≡ 0) [
@@ -101,7 +102,7 @@ fewer (y ∷ ys) (x ∷ xs) have still =
 
 -- ---- in a table
 
--- the legs of a job that is there, or none
+-- the legs of a job, or none if there is no job
 abbrev legs_of : Option JobState → List LegState
 legs_of o = option_map_or (λ job. job.legs) o []
 
@@ -117,7 +118,7 @@ bounded_of : (o : Option JobState) (most : ℕ) → ((x : JobState) → o ≡ So
 bounded_of None most b = omega arith
 bounded_of (Some x) most b = b x refl
 
--- a job at work on no other legs than before is bounded as before
+-- a job that is at work on no leg besides those before is bounded as before
 pub fewer_in_job : (runs next : List RunState) → RunsFit next → (r j : ℕ) (y : JobState) (most : ℕ) → job_at next r j ≡ Some y
     → ((l n : ℕ) → works_at next (leg_place r j l) ≡ Some n → works_at runs (leg_place r j l) ≡ Some n)
     → ((x : JobState) → job_at runs r j ≡ Some x → legs_at_work x ≤ most)
@@ -133,7 +134,7 @@ pub most_same : (runs next : List RunState) (r j : ℕ) → admitted_at next r �
     → most_at_work next r j ≡ most_at_work runs r j
 most_same runs next r j same = ap (option_and_then (λ (planned : PlannedJob). planned.max_parallel)) (plan_at_same runs next r j same)
 
--- where no leg is at work that was not before, the bounds stay
+-- if no leg is at work that was not before, the bounds still hold
 pub fewer_at_work : (runs next : List RunState) → RunsFit next → ((r : ℕ) → admitted_at next r ≡ admitted_at runs r)
     → ((p : LegPlace) (n : ℕ) → works_at next p ≡ Some n → works_at runs p ≡ Some n) → ParallelIsBounded runs → ParallelIsBounded next
 fewer_at_work runs next fit same still bounded r j y most at is =

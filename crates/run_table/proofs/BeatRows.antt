@@ -1,4 +1,4 @@
--- What a runner that asks whether it is to go on is told, as it is printed, by computation.
+-- Examples, by computation: the printed reply to a runner's heartbeat.
 use Rattle.std.specs.Prelude.{◌≡◌, [], ◌∷◌, Some, false, codes, refl}
 use Rattle.run_plan.specs.ReplyText.{reply_text}
 use Rattle.run_plan.specs.declared.command.Beat.{Beat as Asked}
@@ -7,9 +7,9 @@ use Rattle.run_plan.specs.declared.command.Command.TheVariants as command
 use Rattle.run_plan.specs.declared.last_command.ClaimReply.TheVariants as given
 use Rattle.run_table.specs.Step.{claiming_runner, stepped}
 use Rattle.run_table.specs.TableState.{TableState}
-use Rattle.workflow_runs.specs.declared.phases.LegPhase.{LegPhase}
-use Rattle.workflow_runs.specs.declared.phases.LegPhase.TheVariants as leg
-use Rattle.workflow_runs.specs.declared.phases.RunPhase.TheVariants as run
+use Rattle.run_states.specs.declared.phases.LegPhase.{LegPhase}
+use Rattle.run_states.specs.declared.phases.LegPhase.TheVariants as leg
+use Rattle.run_states.specs.declared.phases.RunPhase.TheVariants as run
 use Rattle.run_table.proofs.StepRows.{open_job}
 use Rattle.run_table.proofs.ViewRows.{claimed}
 

@@ -1,37 +1,40 @@
--- What a command makes of the runs of a table before they settle: each run still fits, and each group has at most one holder of each kind.
+-- The runs of a table after a command and before settling: each run still fits, and each group has at most one holder
+-- of each kind.
 use Rattle.std.specs.Prelude.{◌≡◌, ℕ, ◌-◌, ◌<◌, List, [], ◌∷◌, ◌++◌, true, false, length, Option, Some, None, IfSome, refl}
 use Rattle.std.proofs.Common.{ap, sym, ◌∙◌, subst}
 use Rattle.run_plan.specs.Admitted.{Admitted}
 use Rattle.run_plan.specs.declared.command.Attempt.{Attempt}
 use Rattle.run_plan.specs.declared.command.Done.{Done as Reported}
-use Rattle.workflow_runs.specs.Arrivals.{arrived}
-use Rattle.workflow_runs.specs.Fitting.{first_fit}
-use Rattle.workflow_runs.specs.Groups.{HasOneBeside, HasOneEach, waits}
-use Rattle.workflow_runs.specs.Moves.{Holder}
-use Rattle.workflow_runs.specs.Places.{LegPlace, run_at, with_leg, with_run}
+use Rattle.run_states.specs.Arrivals.{arrived}
+use Rattle.run_states.specs.Fitting.{first_fit}
+use Rattle.run_states.specs.Groups.{HasOneBeside, HasOneEach, waits}
+use Rattle.run_states.specs.Places.{run_at, with_leg, with_run}
+use Rattle.run_states.specs.declared.place.LegPlace.{LegPlace}
 use Rattle.run_table.specs.Sound.{IsSound}
-use Rattle.workflow_runs.specs.SoundRuns.{RunsAreSound}
-use Rattle.workflow_runs.specs.StateWords.{leg_has_ended}
+use Rattle.run_states.specs.SoundRuns.{RunsAreSound}
+use Rattle.run_states.specs.StateWords.{leg_has_ended}
 use Rattle.run_table.specs.Step.{entered, entered_again, report_answer, rerun_answer}
-use Rattle.workflow_runs.specs.StopMoves.{with_ended}
-use Rattle.workflow_runs.specs.NewRun.{again, leased_leg, new_run}
-use Rattle.workflow_runs.specs.Stops.{outcome_of_loss, stopped_run}
+use Rattle.run_states.specs.NewRun.{again, leased_leg, new_run}
+use Rattle.run_states.specs.StopMoves.{with_ended}
+use Rattle.run_states.specs.Stops.{outcome_of_loss, stopped_run}
 use Rattle.run_table.specs.TableState.{RunnerState, TableState}
-use Rattle.workflow_runs.specs.RunState.{RunState}
+use Rattle.run_states.specs.RunState.{RunState}
 use Rattle.run_table.specs.Turns.{runner_named}
-use Rattle.workflow_runs.specs.declared.phases.LegPhase.{LegPhase}
+use Rattle.run_states.specs.declared.phases.LegPhase.{LegPhase}
 use Rattle.run_table.proofs.AdmitKeeps.{all_fit}
 use Rattle.run_table.proofs.BeginsAgain.{BeginsAgain, begins_again}
 use Rattle.run_table.proofs.ClaimKeeps.{fitting_leg}
 use Rattle.run_table.proofs.CommandsOneEach.{ended_one_each, leased_one_each, stopped_one_each}
 use Rattle.run_table.proofs.Entered.{beside_new_run, entered_one_each, entered_settles, new_run_waits}
 use Rattle.run_table.proofs.EnteredAgain.{again_fits, again_waits, beside_again, entered_again_one_each, entered_again_settles}
+use Rattle.run_states.proofs.JobKeeps.{leg_in, leg_stays}
 use Rattle.workflow_runs.proofs.HoldersKeep.{run_stop_settles}
-use Rattle.workflow_runs.proofs.JobKeeps.{leg_in, leg_stays}
 use Rattle.run_table.proofs.Kept.{kept_from_sound}
 use Rattle.run_table.proofs.ReportKeeps.{loss_stays, report_stays}
-use Rattle.workflow_runs.proofs.RunFits.{RunsFit}
+use Rattle.run_states.proofs.RunFits.{RunsFit}
 use Rattle.workflow_runs.proofs.SoundRuns.{sound_runs}
+use Rattle.run_states.specs.declared.holder.Holder.{Holder}
+use Rattle.run_states.specs.declared.holder.Holder.TheVariants.{Run}
 
 -- the runs fit, and no group has two holders of a kind
 pub record MaySettle (runs : List RunState) : Type 0 where
@@ -44,20 +47,20 @@ table_fits t s = (kept_from_sound t s).fit
 pub table_settles : (t : TableState) → IsSound t → MaySettle t.runs
 table_settles t s = record { sound = sound_runs t.runs (table_fits t s); one_each = s.one_of_each_group }
 
--- runs that are those
+-- equal runs may settle too
 pub so_settles : (runs new : List RunState) → new ≡ runs → MaySettle runs → MaySettle new
 so_settles runs new is may = subst MaySettle (sym is) may
 
 -- ---- a run is entered
 
--- it may arrive
+-- the newcomer may arrive
 pub record MayArrive (runs : List RunState) (newcomer : Holder) : Type 0 where
   pub is_pending : waits runs newcomer ≡ true
   pub sound : RunsAreSound runs
   pub one_beside : HasOneBeside runs newcomer
 
 pub new_run_arrives : (t : TableState) (event : Admitted) → IsSound t
-    → MayArrive (t.runs ++ new_run event ∷ []) (Holder.a_run (length t.runs))
+    → MayArrive (t.runs ++ new_run event ∷ []) (Run (length t.runs))
 new_run_arrives t event s = record {
   is_pending = new_run_waits t.runs event;
   sound = sound_runs (t.runs ++ new_run event ∷ []) (all_fit t.runs event (table_fits t s));
@@ -70,13 +73,13 @@ entered_may_settle t event s = record {
   one_each = entered_one_each t event (table_fits t s) s.one_of_each_group;
 }
 
--- runs to which the one of the event was added, at its place
+-- runs with the event's run added, at its index
 pub record Enters (t : TableState) (event : Admitted) (added : List RunState) (place : ℕ) : Type 0 where
   pub sound : IsSound t
   pub added_is : added ≡ t.runs ++ new_run event ∷ []
   pub at_end : place ≡ length t.runs
 
--- the same of what the code has in its hands
+-- the same for the values that the code has
 pub enters : (t : TableState) (event : Admitted) (runs added : List RunState) (run : RunState) (place : ℕ) → IsSound t
     → runs ≡ t.runs → added ≡ runs ++ run ∷ [] → run ≡ new_run event → place ≡ length runs → Enters t event added place
 enters t event runs added run place s runs_are added_is run_is place_is = record {
@@ -86,23 +89,23 @@ enters t event runs added run place s runs_are added_is run_is place_is = record
 }
 
 pub entering_arrives : {t : TableState} {event : Admitted} {added : List RunState} {place : ℕ} → Enters t event added place
-    → MayArrive added (Holder.a_run place)
+    → MayArrive added (Run place)
 entering_arrives {t} {event} {added} {place} e =
-    subst (λ (xs : List RunState). MayArrive xs (Holder.a_run place)) (sym e.added_is)
-    (subst (λ (n : ℕ). MayArrive (t.runs ++ new_run event ∷ []) (Holder.a_run n)) (sym e.at_end) (new_run_arrives t event e.sound))
+    subst (λ (xs : List RunState). MayArrive xs (Run place)) (sym e.added_is)
+    (subst (λ (n : ℕ). MayArrive (t.runs ++ new_run event ∷ []) (Run n)) (sym e.at_end) (new_run_arrives t event e.sound))
 
 pub entering_settles : {t : TableState} {event : Admitted} {added : List RunState} {place : ℕ} → Enters t event added place
-    → (new : List RunState) → new ≡ (arrived (Holder.a_run place) added).runs → MaySettle new
+    → (new : List RunState) → new ≡ (arrived (Run place) added).runs → MaySettle new
 entering_settles {t} {event} {added} {place} e new new_is =
     let is : new ≡ (entered t event).runs =
-    new_is ∙ ap (λ n. (arrived (Holder.a_run n) added).runs) e.at_end
-    ∙ ap (λ xs. (arrived (Holder.a_run (length t.runs)) xs).runs) e.added_is in
+    new_is ∙ ap (λ n. (arrived (Run n) added).runs) e.at_end
+    ∙ ap (λ xs. (arrived (Run (length t.runs)) xs).runs) e.added_is in
     subst MaySettle (sym is) (entered_may_settle t event e.sound)
 
 -- ---- a run begins again
 
 pub again_arrives : (t : TableState) (r attempt : ℕ) → IsSound t → BeginsAgain t.runs r attempt
-    → MayArrive (with_run r again t.runs) (Holder.a_run r)
+    → MayArrive (with_run r again t.runs) (Run r)
 again_arrives t r attempt s begins = record {
   is_pending = again_waits t.runs r begins.was begins.there;
   sound = sound_runs (with_run r again t.runs) (again_fits t.runs r (table_fits t s));
@@ -115,7 +118,7 @@ again_may_settle t r attempt s begins = record {
   one_each = entered_again_one_each t r attempt (table_fits t s) begins s.one_of_each_group;
 }
 
--- the run of an id, at its place
+-- the run with an id, at its index
 pub may_begin : (t : TableState) (asked : Attempt) (runs : List RunState) (place : ℕ) → rerun_answer t asked ≡ None → runs ≡ t.runs
     → place ≡ asked.run - 1 → IfSome (run_at runs place) (λ x. x.attempt < 1000)
 may_begin t asked runs place due runs_are place_is =
@@ -140,18 +143,18 @@ has_begun t asked runs begun place s due runs_are begun_is place_is = record {
 }
 
 pub begun_arrives : {t : TableState} {asked : Attempt} {begun : List RunState} {place : ℕ} → Begun t asked begun place
-    → MayArrive begun (Holder.a_run place)
+    → MayArrive begun (Run place)
 begun_arrives {t} {asked} {begun} {place} b =
-    subst (λ (xs : List RunState). MayArrive xs (Holder.a_run place)) (sym b.begun_is)
-    (subst (λ (n : ℕ). MayArrive (with_run (asked.run - 1) again t.runs) (Holder.a_run n)) (sym b.at_place)
+    subst (λ (xs : List RunState). MayArrive xs (Run place)) (sym b.begun_is)
+    (subst (λ (n : ℕ). MayArrive (with_run (asked.run - 1) again t.runs) (Run n)) (sym b.at_place)
     (again_arrives t (asked.run - 1) asked.attempt b.sound (begins_again t asked b.due)))
 
 pub begun_settles : {t : TableState} {asked : Attempt} {begun : List RunState} {place : ℕ} → Begun t asked begun place
-    → (new : List RunState) → new ≡ (arrived (Holder.a_run place) begun).runs → MaySettle new
+    → (new : List RunState) → new ≡ (arrived (Run place) begun).runs → MaySettle new
 begun_settles {t} {asked} {begun} {place} b new new_is =
     let is : new ≡ (entered_again t (asked.run - 1)).runs =
-    new_is ∙ ap (λ n. (arrived (Holder.a_run n) begun).runs) b.at_place
-    ∙ ap (λ xs. (arrived (Holder.a_run (asked.run - 1)) xs).runs) b.begun_is in
+    new_is ∙ ap (λ n. (arrived (Run n) begun).runs) b.at_place
+    ∙ ap (λ xs. (arrived (Run (asked.run - 1)) xs).runs) b.begun_is in
     subst MaySettle (sym is) (again_may_settle t (asked.run - 1) asked.attempt b.sound (begins_again t asked b.due))
 
 -- ---- a leg is leased

@@ -1,4 +1,4 @@
--- The run of which another attempt begins: it has completed the one before, so no runner is at work on a leg of it.
+-- A run of which another attempt begins has completed the attempt before, so no runner is at work on a leg of it.
 use Rattle.std.specs.Prelude.{◌≡◌, ℕ, ◌+◌, ◌-◌, ◌<◌, List, Bool, true, false, is_some, nat_eq, nat_le, Option, Some, None, option_and_then}
 use Rattle.std.specs.Prelude.{slice_get, if◌then◌else◌, refl}
 use Rattle.std.specs.Option.{option_map_or}
@@ -9,30 +9,30 @@ use Rattle.wf_value.specs.declared.outcome.JobResult.{JobResult}
 use Rattle.wf_value.specs.declared.refusal.Refusal.TheVariants.{Turn}
 use Rattle.run_plan.specs.declared.command.Attempt.{Attempt}
 use Rattle.run_plan.specs.declared.reply.Reply.TheVariants as reply
-use Rattle.workflow_runs.specs.JobResults.{settled_result}
-use Rattle.workflow_runs.specs.Parallel.{is_at_work}
-use Rattle.workflow_runs.specs.Places.{run_at}
-use Rattle.workflow_runs.specs.Rules.{result_at}
-use Rattle.workflow_runs.specs.RunState.{LegState, JobState, RunState}
-use Rattle.workflow_runs.specs.SoundRuns.{LegsFit, PhaseFits}
-use Rattle.workflow_runs.specs.StateWords.{is_settled, leg_has_ended, outcome_of}
-use Rattle.workflow_runs.specs.Words.{planned_legs}
-use Rattle.workflow_runs.specs.declared.phases.LegPhase.{LegPhase}
-use Rattle.workflow_runs.specs.declared.phases.LegPhase.TheVariants as leg
-use Rattle.workflow_runs.specs.declared.phases.JobPhase.{JobPhase}
-use Rattle.workflow_runs.specs.declared.phases.JobPhase.TheVariants as job
-use Rattle.workflow_runs.specs.declared.phases.RunPhase.{RunPhase}
-use Rattle.workflow_runs.specs.declared.phases.RunPhase.TheVariants as run
+use Rattle.run_states.specs.JobResults.{settled_result}
+use Rattle.run_states.specs.Parallel.{is_at_work}
+use Rattle.run_states.specs.Places.{run_at}
+use Rattle.run_states.specs.Rules.{result_at}
+use Rattle.run_states.specs.RunState.{LegState, JobState, RunState}
+use Rattle.run_states.specs.SoundRuns.{LegsFit, PhaseFits}
+use Rattle.run_states.specs.StateWords.{is_settled, leg_has_ended, outcome_of}
+use Rattle.run_states.specs.Words.{planned_legs}
+use Rattle.run_states.specs.declared.phases.JobPhase.{JobPhase}
+use Rattle.run_states.specs.declared.phases.JobPhase.TheVariants as job
+use Rattle.run_states.specs.declared.phases.LegPhase.{LegPhase}
+use Rattle.run_states.specs.declared.phases.LegPhase.TheVariants as leg
+use Rattle.run_states.specs.declared.phases.RunPhase.{RunPhase}
+use Rattle.run_states.specs.declared.phases.RunPhase.TheVariants as run
 use Rattle.run_table.specs.Step.{answer_of_attempt, answer_of_next, has_completed, last_attempt, refused, rerun_answer}
 use Rattle.run_table.specs.TableState.{TableState}
-use Rattle.workflow_runs.proofs.JobKeeps.{no_leg}
-use Rattle.workflow_runs.proofs.LegReads.{work_of, works_in, works_in_job}
-use Rattle.workflow_runs.proofs.Optional.{each_passes}
-use Rattle.workflow_runs.proofs.RunFits.{RunFits}
+use Rattle.run_states.proofs.JobKeeps.{no_leg}
+use Rattle.run_states.proofs.LegReads.{work_of, works_in, works_in_job}
+use Rattle.run_states.proofs.Optional.{each_passes}
+use Rattle.run_states.proofs.RunFits.{RunFits}
 
--- ---- what was looked at first
+-- ---- what was checked first
 
--- the run at the place has completed the attempt before this one
+-- the run at the index has completed the attempt before this one
 pub record BeginsAgain (runs : List RunState) (r attempt : ℕ) : Type 0 where
   pub was : RunState
   pub there : run_at runs r ≡ Some was

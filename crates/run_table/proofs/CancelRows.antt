@@ -1,4 +1,4 @@
--- What cancel, lost and fetch make of tables that are written out, by computation.
+-- Examples, by computation: the effect of cancel, lost and fetch on literal tables.
 use Rattle.std.specs.Prelude.{◌≡◌, List, [], ◌∷◌, Bool, None, true, false, codes, refl}
 use Rattle.wf_value.specs.declared.code.Code.TheVariants.{LeaseNotHeld, NoRun, NoRunner, RunCompleted}
 use Rattle.wf_value.specs.declared.outcome.JobResult.TheVariants as result
@@ -8,14 +8,14 @@ use Rattle.run_plan.specs.declared.command.Command.TheVariants as command
 use Rattle.run_plan.specs.declared.reply.Reply.TheVariants as reply
 use Rattle.run_plan.specs.declared.last_command.ClaimReply.TheVariants as given
 use Rattle.run_table.specs.Step.{step, empty, claiming_runner, refused}
-use Rattle.workflow_runs.specs.NewRun.{blocked_job}
-use Rattle.workflow_runs.specs.Stops.{outcome_of_loss, stopped_run, stopped_where}
+use Rattle.run_states.specs.NewRun.{blocked_job}
+use Rattle.run_states.specs.Stops.{outcome_of_loss, stopped_run, stopped_where}
 use Rattle.run_table.specs.TableState.{RunnerState, TableState}
-use Rattle.workflow_runs.specs.RunState.{JobState, RunState}
-use Rattle.workflow_runs.specs.declared.phases.LegPhase.TheVariants as leg
-use Rattle.workflow_runs.specs.declared.phases.JobPhase.TheVariants as job
-use Rattle.workflow_runs.specs.declared.phases.RunPhase.{RunPhase}
-use Rattle.workflow_runs.specs.declared.phases.RunPhase.TheVariants as run
+use Rattle.run_states.specs.RunState.{JobState, RunState}
+use Rattle.run_states.specs.declared.phases.JobPhase.TheVariants as job
+use Rattle.run_states.specs.declared.phases.LegPhase.TheVariants as leg
+use Rattle.run_states.specs.declared.phases.RunPhase.{RunPhase}
+use Rattle.run_states.specs.declared.phases.RunPhase.TheVariants as run
 use Rattle.run_table.proofs.StepRows.{open_job}
 use Rattle.run_table.proofs.ViewRows.{claimed, unclaimed}
 
@@ -32,12 +32,12 @@ run_of phase stopping jobs =
 abbrev pub cancelled_job : JobState
 cancelled_job = record { phase = job.Settled result.Cancelled; legs = [] }
 
--- a waiting run ends, all its jobs cancelled, and its flag is not set
+-- a waiting run ends, all its jobs cancelled, and its stop flag is not set
 waiting_run_ends : stopped_run (run_of run.Waiting false (blocked_job ∷ blocked_job ∷ []))
     ≡ run_of run.Ended false (cancelled_job ∷ cancelled_job ∷ [])
 waiting_run_ends = refl
 
--- a run that is stopping already stays, also one that has a ready leg of a job whose condition is false
+-- a run that is stopping already stays as it is, even if a job whose condition is false has a ready leg
 stopping_run_stays : stopped_run (run_of run.Live true (open_job (unclaimed leg.Ready ∷ []) ∷ []))
     ≡ run_of run.Live true (open_job (unclaimed leg.Ready ∷ []) ∷ [])
 stopping_run_stays = refl
@@ -45,7 +45,7 @@ stopping_run_stays = refl
 ended_run_stays : stopped_run (run_of run.Ended false (cancelled_job ∷ [])) ≡ run_of run.Ended false (cancelled_job ∷ [])
 ended_run_stays = refl
 
--- of an open job whose condition is false the legs that no runner has end, and the running ones are told to stop
+-- in an open job whose condition is false, the legs without a runner end and the running ones are told to stop
 legs_of_a_stopped_job : stopped_where true (open_job
     (unclaimed leg.New ∷ unclaimed leg.Waiting ∷ unclaimed leg.Ready ∷ claimed leg.Running ∷ claimed leg.Stopping ∷ claimed
     (leg.Ended outcome.Failure) ∷ []))
@@ -53,7 +53,7 @@ legs_of_a_stopped_job : stopped_where true (open_job
     ∷ claimed leg.Stopping ∷ claimed leg.Stopping ∷ claimed (leg.Ended outcome.Failure) ∷ [])
 legs_of_a_stopped_job = refl
 
--- a blocked one waits for its decision, and one whose condition holds goes on
+-- a blocked job waits for its decision, and a job whose condition holds goes on
 blocked_job_stays : stopped_where true blocked_job ≡ blocked_job
 blocked_job_stays = refl
 
@@ -79,7 +79,7 @@ cancel_of_a_waiting_run : step (table_of (run_of run.Waiting false (blocked_job 
     ≡ (table_of (run_of run.Ended false (cancelled_job ∷ [])) [], reply.Ok)
 cancel_of_a_waiting_run = refl
 
--- how the leg of a lost runner ends goes by the leg, whatever its run was told
+-- how the leg of a lost runner ends depends on the leg, not on what its run was told
 running_leg_is_lost : outcome_of_loss (run_of run.Live false (open_job (claimed leg.Running ∷ []) ∷ []) ∷ []) 1 ≡ outcome.Failure
 running_leg_is_lost = refl
 

@@ -1,4 +1,5 @@
--- A claim keeps what a table keeps: the leg that it gets runs under the lease after the last, or nothing is ready.
+-- A claim preserves the invariants of a table: the leg that it gets runs under the lease after the last, or no leg is
+-- ready.
 use Rattle.std.specs.Prelude.{◌≡◌, ℕ, ◌+◌, ◌<◌, ◌≤◌, ◌&&◌, List, [], nat_le, nat_lt, Bool, true, false, is_some, Option, Some, None}
 use Rattle.std.specs.Prelude.{option_and_then, option_map, slice_get, count_by, if◌then◌else◌, refl}
 use Rattle.std.specs.Option.{option_map_or}
@@ -9,39 +10,40 @@ use Rattle.wf_value.specs.declared.code.Code.TheVariants.{HasLease, LastCounter}
 use Rattle.wf_value.proofs.OptionOr.{or_nothing}
 use Rattle.run_plan.specs.declared.command.Claim.{Claim as Claimed}
 use Rattle.run_plan.specs.declared.reply.Reply.{Reply}
-use Rattle.workflow_runs.specs.FirstOf.{changed_at}
-use Rattle.workflow_runs.specs.Fitting.{is_ready, is_served, may_run_too, fits, first_fit}
-use Rattle.workflow_runs.specs.Parallel.{has_room, legs_at_work, most_at_work}
-use Rattle.workflow_runs.specs.Places.{LegPlace, job_at, leg_at, leg_places, run_at, with_leg}
-use Rattle.workflow_runs.specs.Rules.{leg_has_ended, result_at}
+use Rattle.run_states.specs.FirstOf.{changed_at}
+use Rattle.run_states.specs.Fitting.{is_ready, is_served, may_run_too, fits, first_fit}
+use Rattle.run_states.specs.Parallel.{has_room, legs_at_work, most_at_work}
+use Rattle.run_states.specs.Places.{job_at, leg_at, leg_places, run_at, with_leg}
+use Rattle.run_states.specs.declared.place.LegPlace.{LegPlace}
+use Rattle.run_states.specs.Rules.{leg_has_ended, result_at}
 use Rattle.run_plan.specs.LastCommand.{is_last_claim}
 use Rattle.run_table.specs.Sound.{IsLastOf, ParallelIsBounded}
 use Rattle.wf_value.specs.declared.outcome.JobResult.{JobResult}
-use Rattle.workflow_runs.specs.declared.phases.JobPhase.{JobPhase}
-use Rattle.workflow_runs.specs.declared.phases.JobPhase.TheVariants as job
-use Rattle.workflow_runs.specs.Words.{planned_legs}
-use Rattle.workflow_runs.proofs.Optional.{from_and_then, from_map}
-use Rattle.workflow_runs.specs.SoundRuns.{LeaseFits, LegsFit}
+use Rattle.run_states.specs.SoundRuns.{LeaseFits, LegsFit}
+use Rattle.run_states.specs.Words.{planned_legs}
+use Rattle.run_states.specs.declared.phases.JobPhase.{JobPhase}
+use Rattle.run_states.specs.declared.phases.JobPhase.TheVariants as job
+use Rattle.run_states.proofs.Optional.{from_and_then, from_map}
 use Rattle.run_table.specs.Step.{last_number, refused, has_no_lease_left, claim_answer, claiming_runner, kept_lease_at}
-use Rattle.workflow_runs.specs.NewRun.{leased_leg}
+use Rattle.run_states.specs.NewRun.{leased_leg}
 use Rattle.run_table.specs.TableState.{RunnerState, TableState}
-use Rattle.workflow_runs.specs.RunState.{LegState, JobState, RunState}
+use Rattle.run_states.specs.RunState.{LegState, JobState, RunState}
 use Rattle.run_table.specs.Turns.{runner_named, answer_of_turn, with_runner, holds_lease}
 use Rattle.run_plan.specs.declared.last_command.ClaimReply.TheVariants as given
-use Rattle.workflow_runs.specs.declared.phases.LegPhase.{LegPhase}
-use Rattle.workflow_runs.specs.declared.phases.LegPhase.TheVariants as leg
-use Rattle.workflow_runs.proofs.Found.{find_passes}
+use Rattle.run_states.specs.declared.phases.LegPhase.{LegPhase}
+use Rattle.run_states.specs.declared.phases.LegPhase.TheVariants as leg
+use Rattle.run_states.proofs.Found.{find_passes}
 use Rattle.run_table.proofs.AtWork.{at_work, one_at_work, at_most_one, fewer_in_job, most_same}
-use Rattle.workflow_runs.proofs.JobKeeps.{leg_in, leg_stays, leg_now, leg_elsewhere, job_is_now, with_leg_of}
+use Rattle.run_states.proofs.JobKeeps.{leg_in, leg_stays, leg_now, leg_elsewhere, job_is_now, with_leg_of}
 use Rattle.workflow_runs.proofs.Lowered.{sum_of_changed}
 use Rattle.run_table.proofs.Kept.{IsKept, KeptIsHad, WasHad, attempts_still_given, kept_still_had, stay_still_had, told_the_same, deliveries_still_differ}
-use Rattle.workflow_runs.proofs.LeaseReads.{ChangesAt, names_same, place_or_another, lease_given, leases_same}
-use Rattle.workflow_runs.proofs.LegReads.{work_of, had_at, works_at, had_is, works_is, had_from_leg, works_from_leg}
-use Rattle.workflow_runs.proofs.RunFits.{RunsFit, admitted_at, plan_at_same, planned_legs_same, jobs_fit, leases_fit}
+use Rattle.run_states.proofs.LeaseReads.{ChangesAt, names_same, place_or_another, lease_given, leases_same}
+use Rattle.run_states.proofs.LegReads.{work_of, had_at, works_at, had_is, works_is, had_from_leg, works_from_leg}
+use Rattle.run_states.proofs.RunFits.{RunsFit, admitted_at, plan_at_same, planned_legs_same, jobs_fit, leases_fit}
 use Rattle.run_table.proofs.RunnerOrder.{names_still_rise}
 use Rattle.run_table.proofs.RunnerPut.{each_put, holds_at, holds_changes}
 
--- ---- what was looked at first
+-- ---- what was checked first
 
 looked_first : (a b : Bool) (x y : Reply) → (if a then Some x else (if b then Some y else None)) ≡ None → (a ≡ false) × (b ≡ false)
 looked_first true b x y e = cc
@@ -132,7 +134,7 @@ one_more legs l f z was =
 module _ (runs : List RunState) (p : LegPlace) (z : LegState) (f : LegState → LegState) (is : leg_at runs p ≡ Some z)
     (room : may_run_too runs p ≡ true) (same : (r : ℕ) → admitted_at (with_leg p f runs) r ≡ admitted_at runs r)
     (fit : RunsFit (with_leg p f runs)) (bounded : ParallelIsBounded runs) where
-  -- in its own job there was room
+  -- its own job had room
   bounded_here : (y : JobState) (most : ℕ) → job_at (with_leg p f runs) p.run p.job ≡ Some y → most_at_work runs p.run p.job ≡ Some most
       → legs_at_work y ≤ most
   bounded_here y most at bound =
@@ -148,7 +150,7 @@ module _ (runs : List RunState) (p : LegPlace) (z : LegState) (f : LegState → 
           → with_leg_of p.leg f (leg_in runs p z is).job ≡ y
       some_job y e = cc
 
-  -- and the others are as they were
+  -- and the others are unchanged
   bounded_elsewhere : (r j : ℕ) (y : JobState) (most : ℕ) → ((l : ℕ) → record { run = r; job = j; leg = l } ≡ p → ⊥)
       → job_at (with_leg p f runs) r j ≡ Some y → most_at_work runs r j ≡ Some most → legs_at_work y ≤ most
   bounded_elsewhere r j y most other at bound =
@@ -170,7 +172,7 @@ module _ (runs : List RunState) (p : LegPlace) (z : LegState) (f : LegState → 
         ]
       ]
 
--- ---- nothing is ready
+-- ---- no leg is ready
 
 pub serving_keeps : (t : TableState) (claim : Claimed) → IsKept t → claim_answer t claim ≡ None
     → IsKept (record t { runners = with_runner t.runners (claiming_runner claim None given.Nothing) })
@@ -213,7 +215,7 @@ serving_keeps t claim s none =
 no_lease_left : (o : Option LegPlace) (p : LegPlace) (b : Bool) → o ≡ Some p → (is_some o && b) ≡ false → b ≡ false
 no_lease_left o p b is e = sym (ap (λ (v : Option LegPlace). is_some v && b) is) ∙ e
 
--- a leg that had no lease has the new one, and the others have theirs
+-- a leg that had no lease has the new one, and the others keep theirs
 still_had : (before after : LegPlace → Option ℕ) (at : LegPlace) (new : Option ℕ) → ChangesAt before after at new → before at ≡ None
     → (p : LegPlace) (n : ℕ) → before p ≡ Some n → after p ≡ Some n
 still_had before after at new changes free p n e =
@@ -232,7 +234,7 @@ within_plan planned gathered (job.Settled r) legs l z (inl none) at =
 within_plan planned gathered (job.Settled r) legs l z (inr all) at =
     let within = slice_get_within legs l z at in let as_many = all.0 in omega (arith, within, as_many)
 
--- a leg that is there is one of the plan's
+-- a leg that exists is one of the plan's
 pub leg_is_planned : (runs : List RunState) → RunsFit runs → (p : LegPlace) (z : LegState) → leg_at runs p ≡ Some z
     → p.leg < planned_legs runs p.run p.job
 leg_is_planned runs fit p z e =

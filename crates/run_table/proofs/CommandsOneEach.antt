@@ -1,34 +1,35 @@
--- The change that a command makes of legs and runs keeps that a group has at most one pending and at most one running holder.
+-- A command's change of legs and runs preserves that a group has at most one pending and at most one running holder.
 use Rattle.std.specs.Prelude.{◌≡◌, ℕ, List, true, false, Some, None, if◌then◌else◌, refl}
 use Rattle.std.specs.Option.{option_map_or}
 use Rattle.std.proofs.Common.{ap, inl, inr, ◌∙◌}
 use Rattle.std.proofs.lemmas.Bool.{false≢true}
 use Rattle.wf_value.specs.declared.outcome.Outcome.{Outcome}
-use Rattle.workflow_runs.specs.Fitting.{first_fit, place_of_lease}
-use Rattle.workflow_runs.specs.Groups.{HasOneEach, holds, leg_holds}
-use Rattle.workflow_runs.specs.Moves.{Holder}
-use Rattle.workflow_runs.specs.Places.{LegPlace, with_job, with_leg, with_run}
-use Rattle.workflow_runs.specs.StateWords.{leg_has_ended, leg_in_phase}
-use Rattle.workflow_runs.specs.StopMoves.{with_ended}
-use Rattle.workflow_runs.specs.NewRun.{leased_leg}
-use Rattle.workflow_runs.specs.Stops.{after_end, stopped_run, stops_others, with_stopped_legs}
-use Rattle.workflow_runs.specs.RunState.{RunState}
-use Rattle.workflow_runs.specs.declared.phases.LegPhase.{LegPhase}
-use Rattle.workflow_runs.specs.declared.phases.LegPhase.TheVariants as leg
+use Rattle.run_states.specs.Fitting.{first_fit, place_of_lease}
+use Rattle.run_states.specs.Groups.{HasOneEach, holds, leg_holds}
+use Rattle.run_states.specs.NewRun.{leased_leg}
+use Rattle.run_states.specs.Places.{with_job, with_leg, with_run}
+use Rattle.run_states.specs.declared.place.LegPlace.{LegPlace}
+use Rattle.run_states.specs.RunState.{RunState}
+use Rattle.run_states.specs.StateWords.{leg_has_ended, leg_in_phase}
+use Rattle.run_states.specs.StopMoves.{with_ended}
+use Rattle.run_states.specs.Stops.{after_end, stopped_run, stops_others, with_stopped_legs}
+use Rattle.run_states.specs.declared.phases.LegPhase.{LegPhase}
+use Rattle.run_states.specs.declared.phases.LegPhase.TheVariants as leg
 use Rattle.run_table.proofs.ClaimKeeps.{fitting_leg}
+use Rattle.run_states.proofs.JobKeeps.{leg_in, leg_stays}
+use Rattle.run_states.proofs.RunFits.{RunsFit}
+use Rattle.run_states.proofs.Settles.{StayFit}
 use Rattle.workflow_runs.proofs.HoldersFade.{leg_fades, leg_passes, legs_stop_fades, passes, run_stop_fades, waits_before_leg}
 use Rattle.workflow_runs.proofs.HoldersKeep.{run_stop_settles}
-use Rattle.workflow_runs.proofs.JobKeeps.{leg_in, leg_stays}
 use Rattle.workflow_runs.proofs.OneEach.{Fades, fades_not, fades_on, fading_keeps, groups_stay}
 use Rattle.workflow_runs.proofs.OneEachRules.{set_holds}
-use Rattle.workflow_runs.proofs.RunFits.{RunsFit}
-use Rattle.workflow_runs.proofs.Settles.{StayFit}
+use Rattle.run_states.specs.declared.holder.Holder.TheVariants.{Leg}
 
 -- ---- a leg is leased: it held its group already
 
 module _ (runs : List RunState) (fit : RunsFit runs) (labels : List (List ℕ)) (p : LegPlace) (lease : ℕ)
     (fits : first_fit labels runs ≡ Some p) where
-  ready_held : holds runs (Holder.a_leg p) ≡ true
+  ready_held : holds runs (Leg p) ≡ true
   ready_held =
       let ready = fitting_leg labels runs p fits in
       ap (passes (leg_passes leg_holds)) ready.is ∙ ap leg_holds ready.ready

@@ -1,4 +1,4 @@
--- The context of a leg worked through by computation, on a job of two legs that needs two jobs.
+-- Examples, by computation: the context of a leg, in a job with two legs that needs two jobs.
 use Rattle.std.specs.Prelude.{◌≡◌, ℕ, List, [], ◌∷◌, codes, Option, Some, None, false, pos, refl}
 use Rattle.wf_value.specs.declared.condition.Condition.TheVariants as condition
 use Rattle.wf_value.specs.declared.outcome.JobResult.{JobResult}
@@ -7,12 +7,12 @@ use Rattle.wf_value.specs.declared.scalar.Scalar.TheVariants.{Truth, Whole, Text
 use Rattle.wf_reader.specs.declared.flag.Flag.TheVariants.{Fixed}
 use Rattle.run_plan.specs.Admitted.{Admitted}
 use Rattle.run_plan.specs.declared.planned.PlannedJob.{PlannedJob}
-use Rattle.workflow_runs.specs.LegContext.{LegFacts, context_of}
+use Rattle.run_states.specs.LegContext.{LegFacts, context_of}
 
 abbrev event : Admitted
 event = record { delivery = codes "d1"; event = codes "push"; body = [] }
 
--- its second leg has a member that the first has not
+-- its second leg has a member that the first lacks
 abbrev job : PlannedJob
 job = record {
   id = codes "m";
@@ -29,7 +29,7 @@ job = record {
       ∷ [];
 }
 
--- one of the jobs that it needs has failed, and the other has no result
+-- one of the needed jobs has failed, and the other has no result
 abbrev needs : List (List ℕ × Option JobResult)
 needs = (codes "a", Some result.Failure) ∷ (codes "b", None) ∷ []
 
@@ -59,7 +59,7 @@ second_os = refl
 index : context_of (leg_at 1) (codes "strategy" ∷ codes "job-index" ∷ []) ≡ Some (Whole (pos 1))
 index = refl
 
--- as many as there are legs, where no bound is set
+-- the number of legs, if no bound is set
 bound : context_of (leg_at 0) (codes "strategy" ∷ codes "max-parallel" ∷ []) ≡ Some (Whole (pos 2))
 bound = refl
 
@@ -81,7 +81,7 @@ need_without_result = refl
 not_needed : context_of (leg_at 0) (codes "needs" ∷ codes "c" ∷ codes "result" ∷ []) ≡ None
 not_needed = refl
 
--- a job that is needed has no other member, and is no scalar itself
+-- a needed job has no other member and is not itself a scalar
 other_member : context_of (leg_at 0) (codes "needs" ∷ codes "a" ∷ codes "outputs" ∷ []) ≡ None
 other_member = refl
 

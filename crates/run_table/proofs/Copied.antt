@@ -1,5 +1,5 @@
--- Where a reply holds a text, and the command is no claim, the table is as it was. What is answered from the table without a text is a
--- reply without one.
+-- If a reply holds a text and the command is no claim, the table is unchanged. An answer that leaves the table
+-- unchanged and holds no text is a reply without one.
 use Rattle.std.specs.Prelude.{◌≡◌, true, false, List, ℕ, IsOk, OnErr, Option, Some, None, Result, Ok, Err, refl}
 use Rattle.std.specs.Option.{option_map_or}
 use Rattle.std.proofs.Common.{inl, inr, ap, sym, ◌∙◌}
@@ -15,17 +15,17 @@ use Rattle.run_plan.specs.declared.reply.Reply.{Reply}
 use Rattle.run_table.specs.Claims.{is_claim}
 use Rattle.run_table.specs.TableState.{Step, TableState}
 use Rattle.run_table.specs.Step.{admission_answer, admitting, beat_answer, cancel_answer, cancelling, claim_answer, claiming, fetch_answer}
-use Rattle.run_table.specs.Step.{answered as answer_of, is_free, look_answer, losing, lost, refused, released, report_answer, reporting}
+use Rattle.run_table.specs.Step.{read_only_reply as answer_of, is_allocation_free, look_answer, losing, lost, refused, released, report_answer, reporting}
 use Rattle.run_table.specs.Step.{rerun_answer, rerunning, step, stepped, unchanged}
 use Rattle.run_table.specs.Turns.{runner_named}
 
 abbrev Stays : TableState → Step → Type 0
 Stays t s = carries_text s.reply ≡ true → s.table ≡ t
 
-answered : (t : TableState) (answer : Option Reply) (change : Step) → carries_text change.reply ≡ false
+read_only_reply : (t : TableState) (answer : Option Reply) (change : Step) → carries_text change.reply ≡ false
     → Stays t (option_map_or (unchanged t) answer change)
-answered t (Some reply) change plain text = refl
-answered t None change plain text = absurd (cc (sym plain ∙ text))
+read_only_reply t (Some reply) change plain text = refl
+read_only_reply t None change plain text = absurd (cc (sym plain ∙ text))
 
 lost_stays : (t : TableState) (name : List ℕ) → Stays t (lost t name)
 lost_stays t name =
@@ -41,17 +41,17 @@ lost_stays t name =
     ]
 
 text_stays : (t : TableState) (c : Command) → is_claim c ≡ false → Stays t (stepped t c)
-text_stays t (command.Admit event) other = answered t (admission_answer t event) (admitting t event) refl
+text_stays t (command.Admit event) other = read_only_reply t (admission_answer t event) (admitting t event) refl
 text_stays t (command.Claim claim) other = absurd (cc other)
-text_stays t (command.Done report) other = answered t (report_answer t report) (reporting t report) refl
+text_stays t (command.Done report) other = read_only_reply t (report_answer t report) (reporting t report) refl
 text_stays t (command.Beat beat) other = λ text. refl
-text_stays t (command.Cancel id) other = answered t (cancel_answer t id) (cancelling t id) refl
+text_stays t (command.Cancel id) other = read_only_reply t (cancel_answer t id) (cancelling t id) refl
 text_stays t (command.Lost name) other = lost_stays t name
 text_stays t (command.Fetch id) other = λ text. refl
 text_stays t (command.Look id) other = λ text. refl
-text_stays t (command.Rerun asked) other = answered t (rerun_answer t asked) (rerunning t asked) refl
+text_stays t (command.Rerun asked) other = read_only_reply t (rerun_answer t asked) (rerunning t asked) refl
 
--- Where the reply can't be copied, it holds a text.
+-- If the reply cannot be copied, it holds a text.
 pub copy_refused : {T : Type 0} (t next : TableState) (reply : Reply) (c : Command) (r : Result T Refusal) → is_claim c ≡ false
     → ◌≡◌ {A = Result (TableState × Reply) Refusal} (Ok (step t c)) (Ok (next, reply)) → (carries_text reply ≡ false → IsOk r)
     → OnErr r (next ≡ t)
@@ -59,9 +59,9 @@ copy_refused t next reply c (Ok x) other gave answers = tt
 copy_refused t next reply c (Err e) other gave answers =
     let is = same_Ok (step t c) (next, reply) gave in
     let table : (stepped t c).table ≡ next = ap (λ (p : TableState × Reply). p.0) is in
-    let told : (stepped t c).reply ≡ reply = ap (λ (p : TableState × Reply). p.1) is in
+    let lease_reply : (stepped t c).reply ≡ reply = ap (λ (p : TableState × Reply). p.1) is in
     elim (cases_Bool (carries_text reply)) [
-      | inl text ↦ sym table ∙ text_stays t c other (ap carries_text told ∙ text)
+      | inl text ↦ sym table ∙ text_stays t c other (ap carries_text lease_reply ∙ text)
       | inr plain ↦ absurd (cc (answers plain))
     ]
 
@@ -76,12 +76,12 @@ no_claim (command.Fetch id) other = refl
 no_claim (command.Look id) other = refl
 no_claim (command.Rerun asked) other = refl
 
--- ---- what is answered without a text
+-- ---- replies without a text
 
 abbrev IsPlain : Step → Type 0
 IsPlain s = carries_text s.reply ≡ false
 
-plain_answer : (t : TableState) (answer : Option Reply) (change : Step) → is_free answer ≡ true
+plain_answer : (t : TableState) (answer : Option Reply) (change : Step) → is_allocation_free answer ≡ true
     → IsPlain (option_map_or (unchanged t) answer change)
 plain_answer t (Some reply) change free = not-true (carries_text reply) free
 plain_answer t None change free = absurd (cc free)
@@ -99,7 +99,7 @@ lost_plain t name =
           ]
     ]
 
-free_plain : (t : TableState) (c : Command) → is_free (answer_of t c) ≡ true → IsPlain (stepped t c)
+free_plain : (t : TableState) (c : Command) → is_allocation_free (answer_of t c) ≡ true → IsPlain (stepped t c)
 free_plain t (command.Admit event) free = plain_answer t (admission_answer t event) (admitting t event) free
 free_plain t (command.Claim claim) free = plain_answer t (claim_answer t claim) (claiming t claim) free
 free_plain t (command.Done report) free = plain_answer t (report_answer t report) (reporting t report) free
@@ -110,10 +110,10 @@ free_plain t (command.Fetch id) free = not-true (carries_text (fetch_answer t id
 free_plain t (command.Look id) free = not-true (carries_text (look_answer t id)) free
 free_plain t (command.Rerun asked) free = plain_answer t (rerun_answer t asked) (rerunning t asked) free
 
--- A reply that was answered so can be copied.
+-- Such a reply can be copied.
 pub copied_free : {T : Type 0} (t next : TableState) (reply : Reply) (c : Command) (r : Result T Refusal)
     → ◌≡◌ {A = Result (TableState × Reply) Refusal} (Ok (step t c)) (Ok (next, reply)) → (carries_text reply ≡ false → IsOk r)
-    → is_free (answer_of t c) ≡ true → IsOk r
+    → is_allocation_free (answer_of t c) ≡ true → IsOk r
 copied_free t next reply c r gave answers free =
-    let told : (stepped t c).reply ≡ reply = ap (λ (p : TableState × Reply). p.1) (same_Ok (step t c) (next, reply) gave) in
-    answers (ap carries_text (sym told) ∙ free_plain t c free)
+    let lease_reply : (stepped t c).reply ≡ reply = ap (λ (p : TableState × Reply). p.1) (same_Ok (step t c) (next, reply) gave) in
+    answers (ap carries_text (sym lease_reply) ∙ free_plain t c free)

@@ -1,4 +1,4 @@
--- A new run, which arrives in its group, keeps what a table keeps.
+-- A new run that arrives in its group preserves the invariants of a table.
 use Rattle.std.specs.Prelude.{◌≡◌, ◌⊎◌, ℕ, ◌<◌, List, [], ◌∷◌, ◌++◌, length, Bool, true, false, Option, Some, None, option_map}
 use Rattle.std.specs.Prelude.{option_and_then, slice_get, refl}
 use Rattle.std.proofs.Common.{arith, ap, inl, inr, sym, ◌∙◌}
@@ -7,32 +7,34 @@ use Rattle.std.proofs.lemmas.Option.{slice_get-map, slice_get_within}
 use Rattle.run_plan.specs.Admitted.{Admitted}
 use Rattle.run_plan.specs.PlanOf.{plan_of}
 use Rattle.run_plan.specs.declared.planned.PlannedJob.{PlannedJob}
-use Rattle.workflow_runs.specs.Arrivals.{arrived}
-use Rattle.workflow_runs.specs.Groups.{HasOneBeside, HasOneEach, holds, leg_holds, leg_waits, run_waits, waits}
-use Rattle.workflow_runs.specs.Moves.{Holder}
-use Rattle.workflow_runs.specs.Places.{LegPlace, leg_at}
-use Rattle.workflow_runs.specs.RunNumber.{events}
-use Rattle.workflow_runs.specs.StateWords.{is_live}
+use Rattle.run_states.specs.Arrivals.{arrived}
+use Rattle.run_states.specs.Groups.{HasOneBeside, HasOneEach, holds, leg_holds, leg_waits, run_waits, waits}
+use Rattle.run_states.specs.Places.{leg_at}
+use Rattle.run_states.specs.declared.place.LegPlace.{LegPlace}
+use Rattle.run_states.specs.RunNumber.{events}
+use Rattle.run_states.specs.StateWords.{is_live}
 use Rattle.run_table.specs.Step.{admission_answer, entered}
-use Rattle.workflow_runs.specs.NewRun.{blocked_job, new_run}
+use Rattle.run_states.specs.NewRun.{blocked_job, new_run}
 use Rattle.run_table.specs.TableState.{TableState}
-use Rattle.workflow_runs.specs.RunState.{RunState}
-use Rattle.workflow_runs.specs.declared.phases.LegPhase.{LegPhase}
+use Rattle.run_states.specs.RunState.{RunState}
+use Rattle.run_states.specs.declared.phases.LegPhase.{LegPhase}
 use Rattle.run_table.proofs.AdmitKeeps.{admit_keeps, all_fit}
+use Rattle.run_states.proofs.Found.{at_the_end, before_the_end}
+use Rattle.run_states.proofs.JobKeeps.{leg_in}
 use Rattle.workflow_runs.proofs.ArrivalKeeps.{arrival_one_each}
-use Rattle.workflow_runs.proofs.Found.{at_the_end, before_the_end}
 use Rattle.workflow_runs.proofs.GroupStays.{leg_group_same, leg_needs_settled, run_group_stays}
 use Rattle.workflow_runs.proofs.HoldersFade.{by_run, job_passes, leg_passes, passes, run_passes}
 use Rattle.workflow_runs.proofs.HoldersKeep.{arrival_settles}
-use Rattle.workflow_runs.proofs.JobKeeps.{leg_in}
 use Rattle.run_table.proofs.Kept.{IsKept, kept_settles}
-use Rattle.workflow_runs.proofs.LegFacts.{SameUpTo, facts_stay}
-use Rattle.workflow_runs.proofs.NeedsSettled.{result_in}
+use Rattle.run_states.proofs.LegFacts.{SameUpTo, facts_stay}
+use Rattle.run_states.proofs.NeedsSettled.{result_in}
+use Rattle.run_states.proofs.RunFits.{RunsFit}
+use Rattle.run_states.proofs.Settles.{Settles, same_events}
 use Rattle.workflow_runs.proofs.OneEach.{Comes, GroupsStay, newcomer_besides}
-use Rattle.workflow_runs.proofs.RunFits.{RunsFit}
-use Rattle.workflow_runs.proofs.Settles.{Settles, same_events}
+use Rattle.run_states.specs.declared.holder.Holder.{Holder}
+use Rattle.run_states.specs.declared.holder.Holder.TheVariants.{Run, Leg}
 
--- ---- who waits and who holds
+-- ---- waiting and running holders
 
 no_leg_of_blocked : (test : LegPhase → Bool) (l : ℕ) (o : Option PlannedJob)
     → passes (job_passes test l) (option_map (λ _. blocked_job) o) ≡ false
@@ -59,25 +61,25 @@ module _ (runs : List RunState) (event : Admitted) where
         | inr other ↦ by_run test runs p ∙ ap (passes asked) (sym (before_the_end runs (new_run event) p.run other)) ∙ of_run
       ]
 
-  pub waited : (h : Holder) → waits (runs ++ new_run event ∷ []) h ≡ true → (h ≡ Holder.a_run (length runs)) ⊎ (waits runs h ≡ true)
-  waited (Holder.a_run r) e =
+  pub waited : (h : Holder) → waits (runs ++ new_run event ∷ []) h ≡ true → (h ≡ Run (length runs)) ⊎ (waits runs h ≡ true)
+  waited (Run r) e =
       elim (cases_eq r (length runs)) [
-        | inl same ↦ inl (ap Holder.a_run same)
+        | inl same ↦ inl (ap Run same)
         | inr other ↦ inr (ap (passes (λ (x : RunState). run_waits x.phase)) (sym (before_the_end runs (new_run event) r other)) ∙ e)
       ]
-  waited (Holder.a_leg p) e = inr (leg_before_it leg_waits p e)
+  waited (Leg p) e = inr (leg_before_it leg_waits p e)
 
   pub held : (h : Holder) → holds (runs ++ new_run event ∷ []) h ≡ true → holds runs h ≡ true
-  held (Holder.a_run r) e =
+  held (Run r) e =
       let live = passes (λ (x : RunState). is_live x.phase) in
       elim (cases_eq r (length runs)) [
         | inl same ↦ absurd (false≢true
             (sym (ap live (ap (slice_get (runs ++ new_run event ∷ [])) same ∙ at_the_end runs (new_run event))) ∙ e))
         | inr other ↦ ap live (sym (before_the_end runs (new_run event) r other)) ∙ e
       ]
-  held (Holder.a_leg p) e = leg_before_it leg_holds p e
+  held (Leg p) e = leg_before_it leg_holds p e
 
-  pub new_run_waits : waits (runs ++ new_run event ∷ []) (Holder.a_run (length runs)) ≡ true
+  pub new_run_waits : waits (runs ++ new_run event ∷ []) (Run (length runs)) ≡ true
   new_run_waits = ap (passes (λ (x : RunState). run_waits x.phase)) (at_the_end runs (new_run event))
 
   -- ---- groups stay
@@ -89,11 +91,11 @@ module _ (runs : List RunState) (event : Admitted) where
       (before_the_end runs (new_run event) s (λ m. absurd (omega (arith, le, within, m)))))
 
   pub groups_before : RunsFit runs → GroupsStay runs (runs ++ new_run event ∷ [])
-  groups_before fit (Holder.a_run r) there =
+  groups_before fit (Run r) there =
       let within = slice_get_within runs r there.0 there.1 in
       run_group_stays runs (runs ++ new_run event ∷ []) r (same_up_to r within)
       (ap (option_map (λ (v : RunState). v.attempt)) (before_the_end runs (new_run event) r (λ m. absurd (omega (arith, within, m)))))
-  groups_before fit (Holder.a_leg p) there =
+  groups_before fit (Leg p) there =
       let next = runs ++ new_run event ∷ [] in
       let at = leg_in runs p there.0 there.1 in
       let within = slice_get_within runs p.run at.place.run at.place.run_is in
@@ -102,21 +104,21 @@ module _ (runs : List RunState) (event : Admitted) where
       (facts_stay runs next p (same_up_to p.run within) (ap (option_map (λ (v : RunState). v.attempt)) before) (leg_needs_settled runs fit p there.0 there.1)
       (λ j a had. ap (option_and_then (λ (v : RunState). result_in v j)) before ∙ had))
 
-  pub beside_new_run : RunsFit runs → HasOneEach runs → HasOneBeside (runs ++ new_run event ∷ []) (Holder.a_run (length runs))
+  pub beside_new_run : RunsFit runs → HasOneEach runs → HasOneBeside (runs ++ new_run event ∷ []) (Run (length runs))
   beside_new_run fit each =
       let next = runs ++ new_run event ∷ [] in
-      let comes : Comes runs next (Holder.a_run (length runs)) = record { waited = waited; held = held } in
-      newcomer_besides runs next (Holder.a_run (length runs)) (groups_before fit) comes each
+      let comes : Comes runs next (Run (length runs)) = record { waited = waited; held = held } in
+      newcomer_besides runs next (Run (length runs)) (groups_before fit) comes each
 
-  new_run_one_each : RunsFit runs → HasOneEach runs → HasOneEach (arrived (Holder.a_run (length runs)) (runs ++ new_run event ∷ [])).runs
+  new_run_one_each : RunsFit runs → HasOneEach runs → HasOneEach (arrived (Run (length runs)) (runs ++ new_run event ∷ [])).runs
   new_run_one_each fit each =
-      arrival_one_each (runs ++ new_run event ∷ []) (all_fit runs event fit) (Holder.a_run (length runs)) new_run_waits
+      arrival_one_each (runs ++ new_run event ∷ []) (all_fit runs event fit) (Run (length runs)) new_run_waits
       (beside_new_run fit each)
 
 -- ---- in a table
 
 pub entered_settles : (t : TableState) (event : Admitted) → RunsFit t.runs → Settles (t.runs ++ new_run event ∷ []) (entered t event).runs
-entered_settles t event fit = arrival_settles (Holder.a_run (length t.runs)) (t.runs ++ new_run event ∷ []) (all_fit t.runs event fit)
+entered_settles t event fit = arrival_settles (Run (length t.runs)) (t.runs ++ new_run event ∷ []) (all_fit t.runs event fit)
 
 pub entered_keeps : (t : TableState) (event : Admitted) → IsKept t → admission_answer t event ≡ None
     → IsKept (record t { runs = (entered t event).runs })

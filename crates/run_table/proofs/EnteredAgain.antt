@@ -1,5 +1,5 @@
--- A run that has completed begins again, and arrives anew in its group: what a table keeps is kept. Its old legs are gone, on which nobody
--- was at work, and kept leases of them are of an attempt before.
+-- A completed run that begins again, and arrives in its group again, preserves the invariants of a table. Its old legs
+-- are gone, on which no runner was at work, and kept leases of them belong to an earlier attempt.
 use Rattle.std.specs.Prelude.{◌≡◌, ◌⊎◌, ℕ, ◌+◌, ◌≤◌, ◌<◌, List, Bool, true, false, Option, Some, None, option_map, option_and_then}
 use Rattle.std.specs.Prelude.{slice_get, refl}
 use Rattle.std.specs.Option.{option_map_or}
@@ -8,43 +8,45 @@ use Rattle.std.proofs.lemmas.Bool.{and_from, and_parts, cases_eq, false≢true}
 use Rattle.std.proofs.lemmas.Option.{none-some, same_Some}
 use Rattle.group_name.specs.Group.{Group, same_group}
 use Rattle.run_plan.specs.PlanOf.{plan_of}
-use Rattle.workflow_runs.specs.GroupOf.{group_at}
-use Rattle.workflow_runs.specs.Groups.{HasOneBeside, HasOneEach, holds, is_in, is_pending_in, is_running_in, leg_holds, leg_waits, run_waits}
-use Rattle.workflow_runs.specs.Groups.{waits}
-use Rattle.workflow_runs.specs.Holders.{run_of}
-use Rattle.workflow_runs.specs.Moves.{Holder}
-use Rattle.workflow_runs.specs.NewRun.{again}
-use Rattle.workflow_runs.specs.Places.{LegPlace, leg_at, run_at, with_run}
-use Rattle.workflow_runs.specs.RunNumber.{events}
-use Rattle.workflow_runs.specs.RunState.{LegState, JobState, RunState}
-use Rattle.workflow_runs.specs.StateWords.{is_live}
-use Rattle.workflow_runs.specs.declared.phases.LegPhase.{LegPhase}
+use Rattle.run_states.specs.GroupOf.{group_at}
+use Rattle.run_states.specs.Groups.{HasOneBeside, HasOneEach, holds, is_in, is_pending_in, is_running_in, leg_holds, leg_waits, run_waits}
+use Rattle.run_states.specs.Groups.{waits}
+use Rattle.run_states.specs.Holders.{run_of}
+use Rattle.run_states.specs.NewRun.{again}
+use Rattle.run_states.specs.Places.{leg_at, run_at, with_run}
+use Rattle.run_states.specs.declared.place.LegPlace.{LegPlace}
+use Rattle.run_states.specs.RunNumber.{events}
+use Rattle.run_states.specs.RunState.{LegState, JobState, RunState}
+use Rattle.run_states.specs.StateWords.{is_live}
+use Rattle.run_states.specs.declared.phases.LegPhase.{LegPhase}
 use Rattle.run_table.specs.Sound.{AttemptsAreGiven}
 use Rattle.run_table.specs.Step.{entered_again, last_attempt}
 use Rattle.run_table.specs.TableState.{TableState}
+use Rattle.run_states.proofs.Changed.{at_another, at_changed, length-changed_at}
+use Rattle.run_states.proofs.LeaseReads.{LeasesAgree}
+use Rattle.run_states.proofs.LegFacts.{SameUpTo, attempt_at, facts_stay}
+use Rattle.run_states.proofs.LegReads.{had_at, had_in, work_of, works_at, works_in}
+use Rattle.run_states.proofs.NeedsSettled.{KeepsResults, result_in}
+use Rattle.run_states.proofs.Optional.{from_map}
+use Rattle.run_states.proofs.RunFits.{RunFits, RunsFit, admitted_at}
+use Rattle.run_states.proofs.Settles.{Settles, fits_beside, same_events}
 use Rattle.workflow_runs.proofs.ArrivalKeeps.{arrival_one_each}
-use Rattle.workflow_runs.proofs.Changed.{at_another, at_changed, length-changed_at}
 use Rattle.workflow_runs.proofs.GroupStays.{leg_group_same, leg_needs_settled, run_group_stays}
 use Rattle.workflow_runs.proofs.HoldersFade.{by_run, leg_passes, passes, run_passes}
 use Rattle.workflow_runs.proofs.HoldersKeep.{arrival_settles}
-use Rattle.workflow_runs.proofs.LeaseReads.{LeasesAgree}
-use Rattle.workflow_runs.proofs.LegFacts.{SameUpTo, attempt_at, facts_stay}
-use Rattle.workflow_runs.proofs.LegReads.{had_at, had_in, work_of, works_at, works_in}
-use Rattle.workflow_runs.proofs.NeedsSettled.{KeepsResults, result_in}
 use Rattle.workflow_runs.proofs.OneEach.{IsOneOf, one_that_holds, one_that_waits}
-use Rattle.workflow_runs.proofs.Optional.{from_map}
-use Rattle.workflow_runs.proofs.RunFits.{RunFits, RunsFit, admitted_at}
-use Rattle.workflow_runs.proofs.Settles.{Settles, fits_beside, same_events}
 use Rattle.run_table.proofs.AdmitKeeps.{attempt_fits, no_lease}
 use Rattle.run_table.proofs.AtWork.{fewer_at_work}
 use Rattle.run_table.proofs.BeginsAgain.{BeginsAgain, no_work}
 use Rattle.run_table.proofs.Entered.{no_leg_of_new_run}
 use Rattle.run_table.proofs.Kept.{IsKept, StillHad, deliveries_still_differ, kept_settles, kept_still_had}
 use Rattle.run_table.proofs.RunnerPut.{holds_at}
+use Rattle.run_states.specs.declared.holder.Holder.{Holder}
+use Rattle.run_states.specs.declared.holder.Holder.TheVariants.{Run, Leg}
 
 -- ---- leases of legs that are gone
 
--- where the legs are gone that nobody was at work on
+-- if the legs that no runner was at work on are gone
 leases_fewer : (last : ℕ) (had works had' works' : LegPlace → Option ℕ) (holds : List ℕ → Option ℕ)
     → ((p : LegPlace) (n : ℕ) → had' p ≡ Some n → had p ≡ Some n) → ((p : LegPlace) → works' p ≡ works p)
     → ((p : LegPlace) (n : ℕ) → works p ≡ Some n → had' p ≡ Some n) → LeasesAgree last had works holds → LeasesAgree last had' works' holds
@@ -186,7 +188,7 @@ module _ (runs : List RunState) (r : ℕ) where
         leases_fewer last (had_at runs) (works_at runs) (had_at next) (works_at next) held had_before same_work
         (work_still_had agree.work_is_had) agree
 
-  -- ---- who waits and who holds
+  -- ---- waiting and running holders
 
   leg_beside : (test : LegPhase → Bool) (p : LegPlace) → passes (leg_passes test) (leg_at next p) ≡ true
       → (p.run ≡ r → ⊥) × (passes (leg_passes test) (leg_at runs p) ≡ true)
@@ -199,24 +201,24 @@ module _ (runs : List RunState) (r : ℕ) where
         | inr other ↦ (other, by_run test runs p ∙ ap (passes asked) (sym (elsewhere p.run other)) ∙ of_run)
       ]
 
-  pub again_waited : (h : Holder) → waits next h ≡ true → (h ≡ Holder.a_run r) ⊎ ((run_of h ≡ r → ⊥) × (waits runs h ≡ true))
-  again_waited (Holder.a_run k) e =
+  pub again_waited : (h : Holder) → waits next h ≡ true → (h ≡ Run r) ⊎ ((run_of h ≡ r → ⊥) × (waits runs h ≡ true))
+  again_waited (Run k) e =
       elim (cases_eq k r) [
-        | inl same ↦ inl (ap Holder.a_run same)
+        | inl same ↦ inl (ap Run same)
         | inr other ↦ inr (other, ap (passes (λ (v : RunState). run_waits v.phase)) (sym (elsewhere k other)) ∙ e)
       ]
-  again_waited (Holder.a_leg p) e = inr (leg_beside leg_waits p e)
+  again_waited (Leg p) e = inr (leg_beside leg_waits p e)
 
   pub again_held : (h : Holder) → holds next h ≡ true → (run_of h ≡ r → ⊥) × (holds runs h ≡ true)
-  again_held (Holder.a_run k) e =
+  again_held (Run k) e =
       let live = passes (λ (v : RunState). is_live v.phase) in
       elim (cases_eq k r) [
         | inl same ↦ absurd (false≢true (sym (ap live (at_it k same) ∙ not_live (run_at runs r)) ∙ e))
         | inr other ↦ (other, ap live (sym (elsewhere k other)) ∙ e)
       ]
-  again_held (Holder.a_leg p) e = leg_beside leg_holds p e
+  again_held (Leg p) e = leg_beside leg_holds p e
 
-  pub again_waits : (x : RunState) → run_at runs r ≡ Some x → waits next (Holder.a_run r) ≡ true
+  pub again_waits : (x : RunState) → run_at runs r ≡ Some x → waits next (Run r) ≡ true
   again_waits x at = ap (passes (λ (v : RunState). run_waits v.phase)) (here r x refl at)
 
   -- ---- groups of the other runs stay
@@ -225,8 +227,8 @@ module _ (runs : List RunState) (r : ℕ) where
   events_stay k = same_events runs next k (λ s le. again_admitted s)
 
   pub group_beside : RunsFit runs → (h : Holder) → IsOneOf runs h → (run_of h ≡ r → ⊥) → group_at next h ≡ group_at runs h
-  group_beside fit (Holder.a_run k) there other = run_group_stays runs next k (events_stay k) (same_attempt k other)
-  group_beside fit (Holder.a_leg p) there other =
+  group_beside fit (Run k) there other = run_group_stays runs next k (events_stay k) (same_attempt k other)
+  group_beside fit (Leg p) there other =
       leg_group_same runs next p
       (facts_stay runs next p (events_stay p.run) (same_attempt p.run other) (leg_needs_settled runs fit p there.0 there.1)
       (results_stay p.run other))
@@ -234,7 +236,7 @@ module _ (runs : List RunState) (r : ℕ) where
   was_in : RunsFit runs → (g : Group) (h : Holder) → IsOneOf runs h → (run_of h ≡ r → ⊥) → is_in next g h ≡ true → is_in runs g h ≡ true
   was_in fit g h there other e = ap (λ o. option_map_or (same_group g) o false) (sym (group_beside fit h there other)) ∙ e
 
-  was_pending : RunsFit runs → (g : Group) (h : Holder) → (h ≡ Holder.a_run r → ⊥) → is_pending_in next g h ≡ true
+  was_pending : RunsFit runs → (g : Group) (h : Holder) → (h ≡ Run r → ⊥) → is_pending_in next g h ≡ true
       → is_pending_in runs g h ≡ true
   was_pending fit g h another e =
       let parts = and_parts (is_in next g h) (waits next h) e in
@@ -251,7 +253,7 @@ module _ (runs : List RunState) (r : ℕ) where
       let before = again_held h parts.1 in
       and_from (is_in runs g h) (holds runs h) (was_in fit g h (one_that_holds runs h before.1) before.0 parts.0) before.1
 
-  pub beside_again : RunsFit runs → HasOneEach runs → HasOneBeside next (Holder.a_run r)
+  pub beside_again : RunsFit runs → HasOneEach runs → HasOneBeside next (Run r)
   beside_again fit each = record {
     pending = (λ g h k not_h not_k e f. each.pending g h k (was_pending fit g h not_h e) (was_pending fit g k not_k f));
     running = (λ g h k e f. each.running g h k (was_running fit g h e) (was_running fit g k f));
@@ -260,7 +262,7 @@ module _ (runs : List RunState) (r : ℕ) where
 -- ---- in a table
 
 pub entered_again_settles : (t : TableState) (r : ℕ) → RunsFit t.runs → Settles (with_run r again t.runs) (entered_again t r).runs
-entered_again_settles t r fit = arrival_settles (Holder.a_run r) (with_run r again t.runs) (again_fits t.runs r fit)
+entered_again_settles t r fit = arrival_settles (Run r) (with_run r again t.runs) (again_fits t.runs r fit)
 
 pub again_keeps : (t : TableState) (r attempt : ℕ) → IsKept t → BeginsAgain t.runs r attempt
     → IsKept (record t { runs = with_run r again t.runs })
@@ -294,5 +296,5 @@ entered_again_keeps t r attempt s begins =
 pub entered_again_one_each : (t : TableState) (r attempt : ℕ) → RunsFit t.runs → BeginsAgain t.runs r attempt → HasOneEach t.runs
     → HasOneEach (entered_again t r).runs
 entered_again_one_each t r attempt fit begins each =
-    arrival_one_each (with_run r again t.runs) (again_fits t.runs r fit) (Holder.a_run r) (again_waits t.runs r begins.was begins.there)
+    arrival_one_each (with_run r again t.runs) (again_fits t.runs r fit) (Run r) (again_waits t.runs r begins.was begins.there)
     (beside_again t.runs r fit each)

@@ -1,14 +1,14 @@
--- The lease that a runner of a sound table holds is that of a leg on which it is at work, and of no other.
+-- The lease that a runner of a sound table holds is that of exactly one leg, on which the runner is at work.
 use Rattle.std.specs.Prelude.{◌≡◌, ℕ, List, true, Some, None, Option, option_and_then, refl}
 use Rattle.std.proofs.Common.{ap, sym, ◌∙◌}
 use Rattle.std.proofs.lemmas.Option.{same_Some}
 use Rattle.run_table.specs.Sound.{IsSound}
 use Rattle.run_table.specs.TableState.{RunnerState, TableState}
 use Rattle.run_table.specs.Turns.{holds_this, runner_named}
-use Rattle.workflow_runs.specs.Fitting.{OnlyAtWork}
-use Rattle.workflow_runs.specs.Parallel.{is_at_work}
-use Rattle.workflow_runs.specs.Places.{leg_at}
-use Rattle.workflow_runs.specs.RunState.{LegState}
+use Rattle.run_states.specs.Fitting.{OnlyAtWork}
+use Rattle.run_states.specs.Parallel.{is_at_work}
+use Rattle.run_states.specs.Places.{leg_at}
+use Rattle.run_states.specs.RunState.{LegState}
 use Rattle.run_table.proofs.ReportKeeps.{holds_it}
 use Rattle.run_table.proofs.RunnerPut.{stood}
 

@@ -1,4 +1,4 @@
--- A call that gave a step, or left the table, leaves it sound.
+-- A call that made a step, or left the table unchanged, leaves it sound.
 use Rattle.std.specs.Prelude.{◌≡◌, OnErr, Result, Ok, Err}
 use Rattle.std.proofs.Common.{ap, subst, sym}
 use Rattle.wf_value.specs.Gives.{Gives}
@@ -18,7 +18,7 @@ stays_sound old new c (Ok reply) gave kept sound =
     subst (λ t. IsSound t) (ap (λ (p : TableState × Reply). p.0) is) (step_keeps old c sound)
 stays_sound old new c (Err e) gave kept sound = subst (λ t. IsSound t) (sym kept) sound
 
--- the same, where more is answered
+-- the same for a pair of replies
 pub pair_stays_sound : (old new : TableState) (c : Command) (r : Result (Reply × Reply) Refusal)
     → Gives (λ (replies : Reply × Reply). (new, replies.0)) r (Ok (step old c)) → OnErr r (new ≡ old) → IsSound old → IsSound new
 pair_stays_sound old new c (Ok replies) gave kept sound =

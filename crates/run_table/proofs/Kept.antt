@@ -1,50 +1,51 @@
--- What every table keeps within a step too: all that it keeps at rest, but that no rule applies.
+-- The invariants of every table in the middle of a step: all those at a fixpoint, except that no rule applies.
 use Rattle.std.specs.Prelude.{◌≡◌, ℕ, ◌+◌, ◌<◌, ◌≤◌, List, [], length, Bool, true, Option, Some, None, option_map, option_and_then, slice_get}
 use Rattle.std.specs.Prelude.{if◌then◌else◌, refl}
 use Rattle.std.specs.Option.{option_map_or}
 use Rattle.std.proofs.Common.{arith, ap, sym, ◌∙◌, subst}
 use Rattle.std.proofs.lemmas.Option.{same_Some}
-use Rattle.workflow_runs.specs.Groups.{HasOneEach}
+use Rattle.run_states.specs.Groups.{HasOneEach}
 use Rattle.run_plan.specs.declared.planned.PlannedJob.{PlannedJob}
-use Rattle.workflow_runs.specs.Places.{LegPlace, run_at, leg_at, plan_at}
-use Rattle.workflow_runs.specs.Settling.{first_place, settled}
+use Rattle.run_states.specs.Places.{run_at, leg_at, plan_at}
+use Rattle.run_states.specs.declared.place.LegPlace.{LegPlace}
+use Rattle.run_states.specs.Settling.{first_place, settled}
 use Rattle.run_table.specs.Sound.{DeliveriesDiffer, LeasesAreGiven, LeasesDiffer, IsHeld, IsAtWork, WorkIsHeld}
-use Rattle.workflow_runs.specs.Parallel.{is_at_work}
-use Rattle.workflow_runs.specs.Words.{planned_legs}
+use Rattle.run_states.specs.Parallel.{is_at_work}
+use Rattle.run_states.specs.Words.{planned_legs}
 use Rattle.run_table.specs.Sound.{HeldIsAtWork, HeldOnce, LastsAreOwn, AttemptsAreGiven, KeptIsOfALeg, IsSound, ParallelIsBounded}
 use Rattle.run_table.specs.Step.{last_attempt, last_number, lease_at}
 use Rattle.run_table.specs.TableState.{RunnerState, TableState}
-use Rattle.workflow_runs.specs.RunState.{LegState, RunState}
+use Rattle.run_states.specs.RunState.{LegState, RunState}
 use Rattle.run_table.specs.Turns.{names_rise, runner_named}
 use Rattle.run_plan.specs.declared.last_command.LastCommand.{LastCommand}
 use Rattle.run_plan.specs.declared.last_command.LastCommand.TheVariants as last
 use Rattle.run_plan.specs.declared.last_command.ClaimReply.TheVariants as given
 use Rattle.run_plan.specs.declared.last_command.KeptLease.{KeptLease}
 use Rattle.run_table.proofs.AtWork.{settling_bounded}
-use Rattle.workflow_runs.proofs.LeaseReads.{LeasesAgree, leases_same}
-use Rattle.workflow_runs.proofs.LegFacts.{attempt_at}
-use Rattle.workflow_runs.proofs.LegReads.{had_at, works_at, had_from_leg, works_from_leg, leg_from_had, leg_from_works, work_parts}
+use Rattle.run_states.proofs.LeaseReads.{LeasesAgree, leases_same}
+use Rattle.run_states.proofs.LegFacts.{attempt_at}
+use Rattle.run_states.proofs.LegReads.{had_at, works_at, had_from_leg, works_from_leg, leg_from_had, leg_from_works, work_parts}
+use Rattle.run_states.proofs.Optional.{from_and_then, from_map}
+use Rattle.run_states.proofs.RunFits.{RunsFit, admitted_at, plan_at_same, runs_fit, jobs_are_the_plans, run_phases_fit, jobs_fit}
+use Rattle.run_states.proofs.RunFits.{needs_come_first, leases_fit}
 use Rattle.workflow_runs.proofs.OneEachRules.{settled_one_each}
-use Rattle.workflow_runs.proofs.Optional.{from_and_then, from_map}
 use Rattle.workflow_runs.proofs.Rests.{settled_has_no_place}
-use Rattle.workflow_runs.proofs.RunFits.{RunsFit, admitted_at, plan_at_same, runs_fit, jobs_are_the_plans, run_phases_fit, jobs_fit}
-use Rattle.workflow_runs.proofs.RunFits.{needs_come_first, leases_fit}
 use Rattle.run_table.proofs.RunnerPut.{apart, found_by_name, has_the_name, holds_at, stood}
-use Rattle.workflow_runs.proofs.Settles.{Settles}
+use Rattle.run_states.proofs.Settles.{Settles}
 use Rattle.workflow_runs.proofs.SettlingKeeps.{settling_settles}
 
--- A kept lease was given, and tells of a leg that the run's plan has, in an attempt up to the one at which the run is: in that one the leg
--- had it.
+-- A kept lease was granted and names a leg of the run's plan, in an attempt up to the current one. If that is the
+-- current attempt, the leg had it.
 pub record WasHad (most : ℕ) (runs : List RunState) (kept : KeptLease) : Type 0 where
   pub place : LegPlace
   pub run : RunState
   pub run_is : run_at runs place.run ≡ Some run
   pub job_is : kept.job ≡ place.job
   pub planned : place.leg < planned_legs runs place.run place.job
-  pub tells : kept.told ≡ lease_at runs place kept.told.lease
-  pub given : (1 ≤ kept.told.lease) × (kept.told.lease ≤ most)
+  pub tells : kept.lease_reply ≡ lease_at runs place kept.lease_reply.lease
+  pub given : (1 ≤ kept.lease_reply.lease) × (kept.lease_reply.lease ≤ most)
   pub attempt : (1 ≤ kept.attempt) × (kept.attempt ≤ run.attempt)
-  pub had : kept.attempt ≡ run.attempt → had_at runs place ≡ Some kept.told.lease
+  pub had : kept.attempt ≡ run.attempt → had_at runs place ≡ Some kept.lease_reply.lease
 
 abbrev pub KeptIsHad : ℕ → List RunState → LastCommand → Type 0
 KeptIsHad most runs (last.Claim claim given.Nothing) = Unit {0}
@@ -82,7 +83,7 @@ held_somewhere runners n name e =
     let s = stood runners name in
     (s.place, f.value, s.was ∙ f.is, f.gives)
 
--- the runner at a place holds what the one of its name does
+-- the runner at an index holds what the runner of its name does
 held_by_name : (runners : List RunnerState) (n : ℕ) (k : ℕ) (x : RunnerState) → names_rise runners ≡ true → slice_get runners k ≡ Some x
     → x.holds ≡ Some n → holds_at runners x.name ≡ Some n
 held_by_name runners n k x rise at holds =
@@ -139,7 +140,7 @@ kept_is_had most runs (last.Claim claim (given.Lease kept)) h = record {
   tells = h.tells;
   given = h.given;
   attempt = h.attempt;
-  had = (λ e. let (x, at, lease) = h.has_it e in some_lease runs h.place x kept.told.lease at lease);
+  had = (λ e. let (x, at, lease) = h.has_it e in some_lease runs h.place x kept.lease_reply.lease at lease);
 }
 kept_is_had most runs (last.Done report) h = tt
 
@@ -154,11 +155,11 @@ kept_is_of_a_leg most runs (last.Claim claim (given.Lease kept)) h = record {
   tells = h.tells;
   given = h.given;
   attempt = h.attempt;
-  has_it = (λ e. let f = leg_from_had runs h.place kept.told.lease (h.had e) in (f.value, f.is, f.gives));
+  has_it = (λ e. let f = leg_from_had runs h.place kept.lease_reply.lease (h.had e) in (f.value, f.is, f.gives));
 }
 kept_is_of_a_leg most runs (last.Done report) h = tt
 
--- what is told of a leg follows from the plan
+-- the lease that is sent follows from the plan
 pub told_the_same : (runs next : List RunState) (p : LegPlace) (n : ℕ) → plan_at next p.run p.job ≡ plan_at runs p.run p.job
     → lease_at runs p n ≡ lease_at next p n
 told_the_same runs next p n same =
@@ -170,7 +171,8 @@ told_the_same runs next p n same =
       combo = option_map_or (λ leg. leg.combo) (option_and_then (λ planned. slice_get planned.legs p.leg) o) [];
     }) (sym same)
 
--- Runs keep their plans, their attempts do not fall, and what was had of a leg is had as long as its run is at the same attempt.
+-- Runs keep their plans, their attempts do not decrease, and a leg keeps the lease that it had while its run stays at
+-- the same attempt.
 pub record StillHad (runs next : List RunState) : Type 0 where
   pub runs_stay : (r : ℕ) (x : RunState) → run_at runs r ≡ Some x
       → (y : RunState) × (run_at next r ≡ Some y) × (x.attempt ≤ y.attempt)
@@ -190,16 +192,16 @@ kept_still_had most more runs next le still (last.Claim claim (given.Lease kept)
       run_is = there;
       job_is = h.job_is;
       planned = subst (λ (o : Option PlannedJob). h.place.leg < option_map_or (λ planned. length planned.legs) o 0) (sym plan) h.planned;
-      tells = h.tells ∙ told_the_same runs next h.place kept.told.lease plan;
+      tells = h.tells ∙ told_the_same runs next h.place kept.lease_reply.lease plan;
       given = (h.given.0, omega (arith, h.given.1, le));
       attempt = (h.attempt.0, omega (arith, h.attempt.1, later));
       had = (λ e.
           let one : kept.attempt ≡ h.run.attempt = omega (arith, e, later, h.attempt.1) in
-          still.had h.place kept.told.lease h.run y h.run_is there (sym e ∙ one) (h.had one));
+          still.had h.place kept.lease_reply.lease h.run y h.run_is there (sym e ∙ one) (h.had one));
     }
 kept_still_had most more runs next le still (last.Done report) h = tt
 
--- attempts that are as they were are numbers up to the last
+-- unchanged attempts are numbers up to the last
 pub attempts_still_given : (runs next : List RunState) → ((r : ℕ) → attempt_at next r ≡ attempt_at runs r) → AttemptsAreGiven runs
     → AttemptsAreGiven next
 attempts_still_given runs next same given r y at =
@@ -221,7 +223,7 @@ stay_still_had runs next events attempts had =
       plans = (λ r j x at. plan_at_same runs next r j (events r));
     }
 
--- ---- from and to what a table keeps at rest
+-- ---- to and from the invariants at a fixpoint
 
 pub kept_from_sound : (t : TableState) → IsSound t → IsKept t
 kept_from_sound t s = record {

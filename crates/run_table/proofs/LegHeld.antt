@@ -1,20 +1,21 @@
--- The leg of a lease in a sound table: where a leg has the lease it is the one, and its number is small.
+-- The leg of a lease in a sound table: a leg that has the lease is the only one, and its index is small.
 use Rattle.std.specs.Prelude.{◌≡◌, ℕ, ◌<◌, ◌^◌, List, Bool, true, false, Option, Some, None, refl}
 use Rattle.std.specs.Option.{option_map_or}
 use Rattle.std.proofs.Common.{arith, ap, sym, ◌∙◌}
 use Rattle.std.proofs.lemmas.Bool.{true≢false}
 use Rattle.std.proofs.lemmas.Option.{slice_get_within}
 use Rattle.wf_value.specs.declared.outcome.Outcome.{Outcome}
-use Rattle.workflow_runs.specs.Fitting.{has_lease, place_of_lease}
-use Rattle.workflow_runs.specs.Places.{LegPlace, leg_at, leg_places}
-use Rattle.workflow_runs.specs.RunState.{LegState, RunState}
-use Rattle.workflow_runs.specs.StopMoves.{with_ended}
-use Rattle.workflow_runs.specs.Stops.{after_end}
-use Rattle.workflow_runs.proofs.Found.{find_passes, none_found}
+use Rattle.run_states.specs.Fitting.{has_lease, place_of_lease}
+use Rattle.run_states.specs.Places.{leg_at, leg_places}
+use Rattle.run_states.specs.declared.place.LegPlace.{LegPlace}
+use Rattle.run_states.specs.RunState.{LegState, RunState}
+use Rattle.run_states.specs.StopMoves.{with_ended}
+use Rattle.run_states.specs.Stops.{after_end}
+use Rattle.run_states.proofs.Found.{find_passes, none_found}
+use Rattle.run_states.proofs.JobKeeps.{leg_in}
+use Rattle.run_states.proofs.Optional.{From, from_and_then}
+use Rattle.run_states.proofs.RunFits.{job_in_run}
 use Rattle.workflow_runs.proofs.HolderPlaces.{each_leg_place}
-use Rattle.workflow_runs.proofs.JobKeeps.{leg_in}
-use Rattle.workflow_runs.proofs.Optional.{From, from_and_then}
-use Rattle.workflow_runs.proofs.RunFits.{job_in_run}
 use Rattle.run_table.specs.Sound.{IsSound}
 use Rattle.run_table.specs.TableState.{TableState}
 use Rattle.run_table.proofs.ReportKeeps.{has_it}

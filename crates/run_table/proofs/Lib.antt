@@ -1,10 +1,11 @@
 pub mod AdmitKeeps
 pub mod AtWork
 mod BeatRows
-pub mod BeginsAgain
 pub mod BeforeSettling
+pub mod BeginsAgain
 pub mod CancelRows
 pub mod ClaimKeeps
+pub mod ClaimedCells
 pub mod CommandsOneEach
 mod ContextRows
 pub mod Copied
@@ -12,12 +13,13 @@ pub mod Entered
 pub mod EnteredAgain
 pub mod EnteredRests
 pub mod HeldAtWork
-pub mod LegHeld
 pub mod JobsText
 pub mod JoinedLegs
 pub mod KeepsSound
 pub mod Kept
 pub mod Leased
+pub mod LegHeld
+pub mod NoAnswer
 pub mod OnTables
 pub mod ReportKeeps
 mod RerunRows
@@ -25,20 +27,6 @@ pub mod RunnerOrder
 pub mod RunnerPut
 pub mod ServedNothing
 pub mod StepKeeps
-pub mod Storable
 pub mod StepRows
+pub mod Storable
 pub mod ViewRows
-pub mod GroupSetReads
-pub mod GroupsGathered
-pub mod GroupsOfTable
-pub mod LeasesPut
-mod LegsOnce
-pub mod DeliveriesFound
-pub mod PhasesTested
-pub mod RestTested
-pub mod SoundOneByOne
-pub mod StoredOnce
-pub mod StoredParts
-pub mod PartsRead
-pub mod ClaimedCells
-pub mod ByNumberRead

@@ -1,10 +1,10 @@
--- What a row unfolds to compute with the groups and the contexts of a table whose bodies are written out.
+-- What an example unfolds to compute with the groups and contexts of a table with literal bodies.
 use Rattle.std.specs.Prelude.{⊤}
 use Rattle.std.specs.Fmt.{digits}
 use Rattle.group_name.proofs.OnLiterals.{group_name_on_literals}
-use Rattle.workflow_runs.specs.GroupOf.{cancels_in_progress, group_at, run_facts_at}
-use Rattle.workflow_runs.specs.JobResults.{direct_needs, has_id}
-use Rattle.workflow_runs.specs.LegContext.{context_at, facts_at}
+use Rattle.run_states.specs.GroupOf.{cancels_in_progress, group_at, run_facts_at}
+use Rattle.run_states.specs.JobResults.{direct_needs, has_id}
+use Rattle.run_states.specs.LegContext.{context_at, facts_at}
 use Rattle.wf_reader.proofs.OnLiterals.{wf_reader_on_literals}
 
 -- `unfolding on_tables` lets `refl` compute a step

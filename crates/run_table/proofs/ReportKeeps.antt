@@ -1,4 +1,4 @@
--- A report keeps what a table keeps: the leg of the lease ends, and its runner holds it no more.
+-- A report preserves the invariants of a table: the leg of the lease ends, and its runner no longer holds it.
 use Rattle.std.specs.Prelude.{◌≡◌, ℕ, ◌≤◌, List, nat_eq, Bool, true, false, is_some, Option, Some, None, option_and_then, if◌then◌else◌}
 use Rattle.std.specs.Prelude.{refl}
 use Rattle.std.specs.Option.{option_map_or}
@@ -12,37 +12,38 @@ use Rattle.wf_value.specs.declared.outcome.Outcome.TheVariants as outcome
 use Rattle.wf_value.proofs.OptionOr.{or_nothing}
 use Rattle.run_plan.specs.declared.command.Done.{Done as Reported}
 use Rattle.run_plan.specs.declared.reply.Reply.{Reply}
-use Rattle.workflow_runs.specs.Fitting.{has_lease, place_of_lease}
-use Rattle.workflow_runs.specs.Places.{LegPlace, leg_at, leg_places, with_job, with_leg}
-use Rattle.workflow_runs.specs.Rules.{leg_in_phase, outcome_of}
+use Rattle.run_states.specs.Fitting.{has_lease, place_of_lease}
+use Rattle.run_states.specs.Places.{leg_at, leg_places, with_job, with_leg}
+use Rattle.run_states.specs.declared.place.LegPlace.{LegPlace}
+use Rattle.run_states.specs.Rules.{leg_in_phase, outcome_of}
 use Rattle.run_plan.specs.LastCommand.{is_last_report}
 use Rattle.run_table.specs.Sound.{IsLastOf}
-use Rattle.workflow_runs.specs.SoundRuns.{LeaseFits}
-use Rattle.workflow_runs.specs.Parallel.{is_at_work}
+use Rattle.run_states.specs.Parallel.{is_at_work}
+use Rattle.run_states.specs.SoundRuns.{LeaseFits}
 use Rattle.run_table.specs.Step.{refused, released, report_answer, reporting_runner}
-use Rattle.workflow_runs.specs.StopMoves.{with_ended}
-use Rattle.workflow_runs.specs.Stops.{after_end, outcome_of_loss, stops_others, with_stopped_legs}
+use Rattle.run_states.specs.StopMoves.{with_ended}
+use Rattle.run_states.specs.Stops.{after_end, outcome_of_loss, stops_others, with_stopped_legs}
 use Rattle.run_table.specs.TableState.{RunnerState, TableState}
-use Rattle.workflow_runs.specs.RunState.{LegState}
+use Rattle.run_states.specs.RunState.{LegState}
 use Rattle.run_table.specs.Turns.{is_named, runner_named, answer_of_turn, with_runner, holds_this}
-use Rattle.workflow_runs.specs.declared.phases.LegPhase.{LegPhase}
-use Rattle.workflow_runs.specs.declared.phases.LegPhase.TheVariants as leg
+use Rattle.run_states.specs.declared.phases.LegPhase.{LegPhase}
+use Rattle.run_states.specs.declared.phases.LegPhase.TheVariants as leg
 use Rattle.run_table.proofs.AtWork.{fewer_at_work}
 use Rattle.run_table.proofs.ClaimKeeps.{had_changes, works_changes}
-use Rattle.workflow_runs.proofs.Found.{find_passes, none_found}
+use Rattle.run_states.proofs.Found.{find_passes, none_found}
+use Rattle.run_states.proofs.JobKeeps.{leg_in, leg_stays, job_is_now, job_is_open, with_leg_of}
 use Rattle.workflow_runs.proofs.HolderPlaces.{each_leg_place}
-use Rattle.workflow_runs.proofs.JobKeeps.{leg_in, leg_stays, job_is_now, job_is_open, with_leg_of}
 use Rattle.run_table.proofs.Kept.{IsKept, KeptIsHad, StillHad, attempts_still_given, stay_still_had, kept_settles, kept_still_had, deliveries_still_differ}
-use Rattle.workflow_runs.proofs.LeaseReads.{ChangesAt, place_or_another, lease_ended, leases_same}
-use Rattle.workflow_runs.proofs.LegReads.{had_at, works_at, had_is, had_from_leg, works_from_leg, leg_from_had, work_parts}
-use Rattle.workflow_runs.proofs.Settles.{StayFit, stay_on}
+use Rattle.run_states.proofs.LeaseReads.{ChangesAt, place_or_another, lease_ended, leases_same}
+use Rattle.run_states.proofs.LegReads.{had_at, works_at, had_is, had_from_leg, works_from_leg, leg_from_had, work_parts}
+use Rattle.run_states.proofs.Settles.{StayFit, stay_on}
 use Rattle.run_table.proofs.RunnerOrder.{names_still_rise}
 use Rattle.run_table.proofs.RunnerPut.{each_put, holds_at, holds_changes, stood}
-use Rattle.workflow_runs.proofs.StopKeeps.{stop_settles}
+use Rattle.run_states.proofs.StopKeeps.{stop_settles}
 
 -- ---- the leg of a lease
 
--- a lease found in an option is the one that is there
+-- a lease found in an option is the one in it
 one_there : {X : Type 0} (lease_of : X → Option ℕ) (lease : ℕ) (o : Option X)
     → option_map_or (λ x. option_map_or (λ held. nat_eq held lease) (lease_of x) false) o false ≡ true
     → option_and_then lease_of o ≡ Some lease
@@ -158,7 +159,7 @@ module _ (t : TableState) (new : RunnerState) (lease : ℕ) (result : Outcome) (
             | inr n ↦ changes.elsewhere q n
           ]
 
-  -- the other legs of its job are stopped, or not
+  -- whether or not the other legs of its job are stopped
   after_end_keeps : (p : LegPlace) → had_at t.runs p ≡ Some lease
       → IsKept (record t { runs = after_end p result t.runs; runners = with_runner t.runners new })
   after_end_keeps p had =

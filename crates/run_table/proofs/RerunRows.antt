@@ -1,4 +1,4 @@
--- What a re-run makes of tables that are written out, by computation.
+-- Examples, by computation: the effect of a re-run on literal tables.
 use Rattle.std.specs.Prelude.{◌≡◌, ℕ, [], ◌∷◌, map, true, false, codes, refl}
 use Rattle.wf_value.specs.declared.code.Code.TheVariants.{LastCounter, NoRun, RunNotCompleted}
 use Rattle.wf_value.specs.declared.refusal.Refusal.TheVariants.{Turn}
@@ -8,9 +8,9 @@ use Rattle.run_plan.specs.declared.command.Command.TheVariants as command
 use Rattle.run_plan.specs.declared.reply.Reply.TheVariants as reply
 use Rattle.run_table.specs.Step.{empty, refused, step}
 use Rattle.run_table.specs.TableState.{TableState}
-use Rattle.workflow_runs.specs.NewRun.{again, blocked_job}
-use Rattle.workflow_runs.specs.declared.phases.RunPhase.{RunPhase}
-use Rattle.workflow_runs.specs.declared.phases.RunPhase.TheVariants as run
+use Rattle.run_states.specs.NewRun.{again, blocked_job}
+use Rattle.run_states.specs.declared.phases.RunPhase.{RunPhase}
+use Rattle.run_states.specs.declared.phases.RunPhase.TheVariants as run
 use Rattle.run_table.proofs.CancelRows.{cancelled_job, run_of, table_of}
 
 abbrev attempt_of : ℕ → ℕ → Attempt
@@ -23,7 +23,7 @@ at_attempt attempt phase = table_of (record (run_of phase false (cancelled_job �
 rerun_of_no_run : step empty (command.Rerun (attempt_of 1 2)) ≡ (empty, refused NoRun)
 rerun_of_no_run = refl
 
--- the attempt at which the run is has begun, whether it goes on or not
+-- the current attempt has begun, whether it is in progress or not
 present_attempt : step (at_attempt 2 run.Live) (command.Rerun (attempt_of 1 2)) ≡ (at_attempt 2 run.Live, reply.Again (attempt_of 1 2))
 present_attempt = refl
 
@@ -33,7 +33,7 @@ attempt_before = refl
 attempt_after_the_next : step (at_attempt 2 run.Ended) (command.Rerun (attempt_of 1 4)) ≡ (at_attempt 2 run.Ended, reply.Refused (Turn 2))
 attempt_after_the_next = refl
 
--- an attempt out of turn is told first, and then that there is none after the last
+-- the checks in order: an attempt out of sequence, the last attempt, and whether the run has completed
 none_after_the_last : step (at_attempt 1000 run.Live) (command.Rerun (attempt_of 1 1001)) ≡ (at_attempt 1000 run.Live, refused LastCounter)
 none_after_the_last = refl
 
@@ -43,7 +43,7 @@ run_that_goes_on = refl
 run_that_waits : step (at_attempt 2 run.Waiting) (command.Rerun (attempt_of 1 3)) ≡ (at_attempt 2 run.Waiting, refused RunNotCompleted)
 run_that_waits = refl
 
--- the next attempt has blocked jobs without legs, and is told nothing
+-- the next attempt has blocked jobs without legs, and is not stopping
 stopped_run_begins_again : again (run_of run.Ended true (cancelled_job ∷ []))
     ≡ record (run_of run.Waiting false (map (λ _. blocked_job) (plan_of (codes "{}")))) { attempt = 2 }
 stopped_run_begins_again = refl

@@ -1,4 +1,4 @@
--- Runners in the order of their names: where the one of a name stands, or would.
+-- Runners in the order of their names: the index of the runner with a name, or the index where it would be inserted.
 use Rattle.std.specs.Prelude.{◌≡◌, ◌⊎◌, ℕ, zero, suc, ◌<◌, ◌≤◌, List, [], ◌∷◌, ◌++◌, length, filter, find, Bool, true, false}
 use Rattle.std.specs.Prelude.{cond, if◌then◌else◌, is_some, Option, Some, None, option_and_then, slice_get, slice_set, OnErr, Result, Ok}
 use Rattle.std.specs.Prelude.{Err, refl}
@@ -17,14 +17,14 @@ use Rattle.wf_value.proofs.Rising.{Equal-from_same, Less-from_is_lt, after_less,
 use Rattle.wf_value.proofs.PassedOn.{same_Ok}
 use Rattle.run_table.specs.TableState.{RunnerState}
 use Rattle.run_table.specs.Turns.{is_named, is_below, is_above, kept_named, names_rise, runner_named, with_runner}
-use Rattle.workflow_runs.proofs.Found.{all_weaken, all_append, each_at}
+use Rattle.run_states.proofs.Found.{all_weaken, all_append, each_at}
 
 -- ---- two names
 
 pub after_greater : (x y : List ℕ) → name_cmp x y ≡ Greater → name_cmp y x ≡ Less
 after_greater x y h = nat_list_cmp_total.antisymm y x ∙ ap ordering_reverse h
 
--- whether it is a runner's name, by their order
+-- whether it is a runner's name, by the order of names
 pub named_by_order : (name : List ℕ) (x : RunnerState) → is_named name x ≡ is_eq (name_cmp x.name name)
 named_by_order name x = sym (is_eq-slice_cmp x.name name)
 
@@ -61,7 +61,7 @@ module _ {X : Type 0} (test : X → Bool) where
         | false ↦ λ is. all_pass xs
       ] refl
 
-  -- the elements in front pass, and no later one does
+  -- the elements before the index pass, and no later one does
   pub front_counted : (xs : List X) (i : ℕ) → i ≤ length xs → AllWithin (λ x. test x ≡ true) xs 0 i
       → AllWithin (λ x. test x ≡ false) xs i (length xs) → i ≡ length (filter test xs)
   front_counted [] i le pass fail = omega arith
@@ -73,7 +73,7 @@ module _ {X : Type 0} (test : X → Bool) where
       (λ k d lo hi. fail (suc k) d (omega arith) (omega arith)))
       ∙ ap length (sym (filter_keeps x xs (pass zero x (omega arith) (omega arith))))
 
--- what a test finds where another keeps all that it takes, or none of it
+-- what a test finds, if another test keeps all that it takes, or none of it
 module _ {X : Type 0} (test keep : X → Bool) where
   pub find_kept : ((x : X) → test x ≡ true → keep x ≡ true) → (xs : List X) → find test (filter keep xs) ≡ find test xs
   find_kept h [] = refl
@@ -274,7 +274,7 @@ module _ (runners : List RunnerState) (name : List ℕ) (h : names_rise runners 
   nothing_kept None h = refl
   nothing_kept (Some x) h = ap (λ b. if b then Some x else None) (h x refl)
 
-  -- the runner of the name stands at the place, or none has it
+  -- the runner of the name is at the index, or no runner has the name
   pub found_there : option_and_then (kept_named name) (slice_get runners place) ≡ runner_named runners name
   found_there =
       let a = around runners name h in
@@ -291,7 +291,7 @@ module _ (runners : List RunnerState) (name : List ℕ) (h : names_rise runners 
   there_is_known : (o : Option RunnerState) (x : RunnerState) → o ≡ Some x → is_some o ≡ false → ⊥
   there_is_known o x found unknown = true≢false (sym (ap is_some found) ∙ unknown)
 
-  -- the place is among them where one has the name
+  -- the index is within the list if a runner has the name
   pub place_within : is_some (runner_named runners name) ≡ true → place < length runners
   place_within known =
       let a = around runners name h in
@@ -369,7 +369,7 @@ names_still_rise runners new h =
     (all_weaken (λ r. is_above new.name r ≡ true) (λ (r : RunnerState). name_cmp new.name r.name ≡ Less) (λ r e. Less-from_is_lt _ e)
     (filter (is_above new.name) runners) (all_pass (is_above new.name) runners))
 
--- a call that put a runner among them, or left them
+-- a call that inserted a runner, or left the runners unchanged
 pub put_keeps_order : (old new : List RunnerState) (x : RunnerState) (r : Result (Unit {0}) Refusal) → names_rise old ≡ true
     → Gives (λ (_ : Unit {0}). new) r (Ok (with_runner old x)) → OnErr r (new ≡ old) → names_rise new ≡ true
 put_keeps_order old new x (Ok done) rise gave kept =

@@ -1,4 +1,4 @@
--- The runners after one is put among them, by their names.
+-- The runners after one is inserted, by their names.
 use Rattle.std.specs.Prelude.{◌≡◌, ℕ, zero, suc, ◌<◌, List, [], ◌∷◌, cond, filter, find, length, true, false, Option, Some, None}
 use Rattle.std.specs.Prelude.{option_and_then, slice_get, refl}
 use Rattle.std.specs.List.{AllByRecursion, position}
@@ -15,8 +15,8 @@ use Rattle.wf_value.proofs.Rising.{Equal-from_same, after_less, name_cmp, names_
 use Rattle.wf_value.proofs.OptionOr.{or_none}
 use Rattle.run_table.specs.TableState.{RunnerState}
 use Rattle.run_table.specs.Turns.{is_named, is_below, is_above, names_rise, runner_named, with_runner}
-use Rattle.workflow_runs.proofs.Found.{all_append, each_at, find_passes, found_at, found_nowhere, none_found}
-use Rattle.workflow_runs.proofs.LeaseReads.{ChangesAt}
+use Rattle.run_states.proofs.Found.{all_append, each_at, find_passes, found_at, found_nowhere, none_found}
+use Rattle.run_states.proofs.LeaseReads.{ChangesAt}
 use Rattle.run_table.proofs.RunnerOrder.{after_greater, all_filter, find_gone, find_kept}
 
 -- ---- a runner and its name
@@ -25,7 +25,7 @@ use Rattle.run_table.proofs.RunnerOrder.{after_greater, all_filter, find_gone, f
 pub has_the_name : (runners : List RunnerState) (name : List ℕ) (x : RunnerState) → runner_named runners name ≡ Some x → x.name ≡ name
 has_the_name runners name x found = (bytes_eq-Decides x.name name).0 (find_passes (is_named name) runners x found)
 
--- ---- the place at which a runner stood, past the end where there was none of its name
+-- ---- the index at which a runner was, past the end if there was none of its name
 
 pub record Stood (runners : List RunnerState) (name : List ℕ) : Type 0 where
   pub place : ℕ
@@ -46,7 +46,7 @@ at_place [] k x d e = cc
 at_place (y ∷ ys) zero x d e = (omega arith, cc)
 at_place (y ∷ ys) (suc k) x d e = let more = at_place ys k x d e in (omega (arith, more.0), more.1)
 
--- no two places have one name
+-- no two indices have the same name
 pub apart : (runners : List RunnerState) → names_rise runners ≡ true → (a b : ℕ) (x y : RunnerState) → slice_get runners a ≡ Some x
     → slice_get runners b ≡ Some y → x.name ≡ y.name → a ≡ b
 apart runners h a b x y at bt same =
@@ -69,14 +69,14 @@ found_by_name runners h k x at =
           sym (s.was ∙ is) ∙ ap (slice_get runners) place ∙ at
     ] refl
 
--- ---- what is kept
+-- ---- what is preserved
 
 pub all_from_each : {X : Type 0} (P : X → Type 0) (xs : List X) → ((k : ℕ) (x : X) → slice_get xs k ≡ Some x → P x) → AllByRecursion P xs
 all_from_each P [] h = tt
 all_from_each P (x ∷ xs) h = (h zero x refl, all_from_each P xs (λ k y e. h (suc k) y e))
 
 module _ (runners : List RunnerState) (new : RunnerState) where
-  -- each runner is the new one or was there
+  -- each runner is the new one or was there before
   pub each_put : (P : RunnerState → Type 0) → P new → ((k : ℕ) (x : RunnerState) → slice_get runners k ≡ Some x → P x)
       → (k : ℕ) (x : RunnerState) → slice_get (with_runner runners new) k ≡ Some x → P x
   each_put P now each k x e =
@@ -101,7 +101,7 @@ module _ (runners : List RunnerState) (new : RunnerState) where
       found_in_parts new.name ∙ ap (λ o. option_or o (cond (is_named new.name new) (Some new) back)) none
       ∙ ap (λ b. cond b (Some new) back) is_it
 
-  -- and each other as it was
+  -- and each other is found as before
   pub found_other : (name : List ℕ) → (name ≡ new.name → ⊥) → runner_named (with_runner runners new) name ≡ runner_named runners name
   found_other name other =
       let test = is_named name in

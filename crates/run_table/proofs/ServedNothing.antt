@@ -1,13 +1,14 @@
--- A claim that no leg fits leaves the runs of a sound table as they are: no rule applies, so they are settled already.
+-- A claim that no leg fits leaves the runs of a sound table unchanged: no rule applies, so they are at a fixpoint
+-- already.
 use Rattle.std.proofs.Common.{◌≡◌, ℕ, List, None, ap, sym, ◌∙◌}
 use Rattle.std.specs.Prelude.{option_and_then}
 use Rattle.run_plan.specs.declared.command.Claim.{Claim as Claimed}
 use Rattle.run_plan.specs.declared.last_command.ClaimReply.TheVariants as given
 use Rattle.run_plan.specs.declared.reply.Reply.{Reply}
 use Rattle.run_plan.specs.declared.reply.Reply.TheVariants as reply
-use Rattle.workflow_runs.specs.Rules.{rule_at}
-use Rattle.workflow_runs.specs.RunState.{RunState}
-use Rattle.workflow_runs.specs.Settling.{settled}
+use Rattle.run_states.specs.Rules.{rule_at}
+use Rattle.run_states.specs.RunState.{RunState}
+use Rattle.run_states.specs.Settling.{settled}
 use Rattle.workflow_runs.proofs.Rests.{settled_at_rest}
 use Rattle.run_table.specs.Sound.{IsSound}
 use Rattle.run_table.specs.Step.{claiming_runner, outcome, serving_nothing}

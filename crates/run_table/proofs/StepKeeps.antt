@@ -1,4 +1,4 @@
--- Every step keeps what every table keeps, and the empty table keeps it.
+-- Every step preserves the invariants of a table, and the empty table has them.
 use Rattle.std.specs.Prelude.{◌≡◌, ℕ, ◌+◌, ◌-◌, List, Option, Some, None, refl}
 use Rattle.std.specs.Option.{option_map_or}
 use Rattle.std.proofs.Common.{arith}
@@ -11,18 +11,19 @@ use Rattle.run_plan.specs.declared.command.Done.{Done as Reported}
 use Rattle.run_plan.specs.declared.command.Command.{Command}
 use Rattle.run_plan.specs.declared.command.Command.TheVariants as command
 use Rattle.run_plan.specs.declared.reply.Reply.{Reply}
-use Rattle.workflow_runs.specs.Fitting.{first_fit}
+use Rattle.run_states.specs.Fitting.{first_fit}
 use Rattle.run_table.specs.TableState.{Step, TableState}
-use Rattle.workflow_runs.specs.Places.{LegPlace, run_at, with_leg, with_run}
+use Rattle.run_states.specs.Places.{run_at, with_leg, with_run}
+use Rattle.run_states.specs.declared.place.LegPlace.{LegPlace}
 use Rattle.run_table.specs.Sound.{IsSound}
 use Rattle.run_table.specs.Step.{empty, entered, unchanged, admission_answer, admitting, admitted, claim_answer, claiming_runner}
 use Rattle.run_table.specs.Step.{kept_lease_at, leasing, serving_nothing, claiming, claimed, report_answer, reporting_runner}
-use Rattle.workflow_runs.specs.NewRun.{leased_leg}
+use Rattle.run_states.specs.NewRun.{leased_leg}
 use Rattle.run_table.specs.Step.{answer_of_run, cancel_answer, cancelling, cancelled, losing, lost, refused, released}
-use Rattle.workflow_runs.specs.Stops.{outcome_of_loss, stopped_run}
+use Rattle.run_states.specs.Stops.{outcome_of_loss, stopped_run}
 use Rattle.run_table.specs.Step.{entered_again, reporting, reported, rerun, rerun_answer, rerunning, stepped, step}
-use Rattle.workflow_runs.specs.StopMoves.{with_ended}
-use Rattle.workflow_runs.specs.RunState.{RunState}
+use Rattle.run_states.specs.RunState.{RunState}
+use Rattle.run_states.specs.StopMoves.{with_ended}
 use Rattle.run_table.specs.Turns.{runner_named, with_runner}
 use Rattle.run_plan.specs.declared.last_command.ClaimReply.TheVariants as given
 use Rattle.run_table.proofs.ClaimKeeps.{serving_keeps, leasing_keeps}
@@ -33,9 +34,9 @@ use Rattle.run_table.proofs.EnteredAgain.{entered_again_keeps, entered_again_one
 use Rattle.run_table.proofs.Kept.{kept_from_sound, kept_settles, rest_is_sound}
 use Rattle.workflow_runs.proofs.OneEach.{none_of_each}
 use Rattle.run_table.proofs.ReportKeeps.{loss_keeps, loss_stays, report_keeps, report_stays}
-use Rattle.workflow_runs.proofs.StopKeeps.{stopped_run_settles}
+use Rattle.run_states.proofs.StopKeeps.{stopped_run_settles}
 
--- a command is answered from the table as it is, or changes it
+-- a command leaves the table unchanged or changes it
 answered_or_changed : (t : TableState) (answer : Option Reply) (change : Step) → IsSound t → (answer ≡ None → IsSound change.table)
     → IsSound (option_map_or (unchanged t) answer change).table
 answered_or_changed t None change s h = h refl
@@ -81,7 +82,7 @@ reported_is_sound t report s =
     (ended_one_each report.lease report.result t.runs (kept_from_sound t s).fit (report_stays t report (kept_from_sound t s) none)
     s.one_of_each_group))
 
--- a run is there where its cancel has no answer yet
+-- a run exists if its cancel is not answered yet
 run_there : (o : Option RunState) → option_map_or (λ (x : RunState). answer_of_run x.phase x.stopping) o (Some (refused NoRun)) ≡ None
     → (x : RunState) × (o ≡ Some x)
 run_there None none = cc

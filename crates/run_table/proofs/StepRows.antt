@@ -1,4 +1,4 @@
--- The step worked through by computation, on tables written out.
+-- Examples, by computation: steps on literal tables.
 use Rattle.std.specs.Prelude.{◌≡◌, ◌&&◌, ℕ, List, [], ◌∷◌, codes, not, Bool, Some, None, true, false, is_some, slice_get}
 use Rattle.std.specs.Prelude.{if◌then◌else◌, refl}
 use Rattle.std.proofs.Common.{ap, ◌∙◌}
@@ -17,26 +17,27 @@ use Rattle.run_plan.specs.declared.planned.PlannedJob.{PlannedJob}
 use Rattle.run_plan.specs.declared.command.Claim.{Claim as Claimed}
 use Rattle.run_plan.specs.declared.command.Command.TheVariants as command
 use Rattle.run_plan.specs.declared.reply.Reply.TheVariants as reply
-use Rattle.workflow_runs.specs.Fitting.{place_of_lease}
-use Rattle.workflow_runs.specs.LegContext.{context_at}
-use Rattle.workflow_runs.specs.Arrivals.{started}
-use Rattle.workflow_runs.specs.Moves.{Holder, without_moves}
-use Rattle.workflow_runs.specs.Places.{with_job}
-use Rattle.workflow_runs.specs.Rules.{decided, may_run, new_leg, opened, rule_at, settled_as}
-use Rattle.workflow_runs.specs.Settling.{settled, first_place, first_rule, remaining_phases}
+use Rattle.run_states.specs.Arrivals.{started}
+use Rattle.run_states.specs.Fitting.{place_of_lease}
+use Rattle.run_states.specs.LegContext.{context_at}
+use Rattle.run_states.specs.Moves.{without_moves}
+use Rattle.run_states.specs.Places.{with_job}
+use Rattle.run_states.specs.Rules.{decided, may_run, new_leg, opened, rule_at, settled_as}
+use Rattle.run_states.specs.Settling.{settled, first_place, first_rule, remaining_phases}
 use Rattle.run_table.specs.Step.{step, empty, claiming_runner, reporting_runner, refused}
-use Rattle.workflow_runs.specs.NewRun.{blocked_job, leased_leg}
-use Rattle.workflow_runs.specs.Stops.{with_stopped_legs}
+use Rattle.run_states.specs.NewRun.{blocked_job, leased_leg}
+use Rattle.run_states.specs.Stops.{with_stopped_legs}
 use Rattle.run_table.specs.TableState.{RunnerState, TableState}
-use Rattle.workflow_runs.specs.RunState.{LegState, JobState, RunState}
-use Rattle.workflow_runs.specs.Words.{all_have_results, is_set, needs_have_settled, planned_legs}
+use Rattle.run_states.specs.RunState.{LegState, JobState, RunState}
+use Rattle.run_states.specs.Words.{all_have_results, is_set_for, needs_have_settled, planned_legs}
 use Rattle.run_plan.specs.declared.last_command.ClaimReply.TheVariants as given
-use Rattle.workflow_runs.specs.declared.phases.LegPhase.TheVariants as leg
-use Rattle.workflow_runs.specs.declared.phases.JobPhase.TheVariants as job
-use Rattle.workflow_runs.specs.declared.phases.RunPhase.{RunPhase}
-use Rattle.workflow_runs.specs.declared.phases.RunPhase.TheVariants as run
-use Rattle.workflow_runs.specs.declared.place.Place.TheVariants.{Opening, Whole}
+use Rattle.run_states.specs.declared.phases.JobPhase.TheVariants as job
+use Rattle.run_states.specs.declared.phases.LegPhase.TheVariants as leg
+use Rattle.run_states.specs.declared.phases.RunPhase.{RunPhase}
+use Rattle.run_states.specs.declared.phases.RunPhase.TheVariants as run
+use Rattle.run_states.specs.declared.place.RuleSite.TheVariants.{Opening, Whole}
 use Rattle.run_table.proofs.OnTables.{on_tables}
+use Rattle.run_states.specs.declared.holder.Holder.TheVariants.{Leg}
 
 -- a run of the event with this body
 abbrev pub run_with : List ℕ → RunPhase → List JobState → RunState
@@ -70,9 +71,9 @@ new_leg_becomes_ready : settled (one_job (new_leg ∷ []) ∷ []) ≡ one_job (r
 unfolding on_tables
 new_leg_becomes_ready = refl
 
--- legs go on by number, each as far as it can before the next
+-- legs advance in order of their numbers, each as far as it can before the next
 legs_by_number : first_rule (one_job (record { phase = leg.Waiting; lease = None } ∷ new_leg ∷ []) ∷ [])
-    ≡ Some (started (Holder.a_leg (record { run = 0; job = 0; leg = 0 })) (one_job (ready_leg ∷ new_leg ∷ []) ∷ []))
+    ≡ Some (started (Leg (record { run = 0; job = 0; leg = 0 })) (one_job (ready_leg ∷ new_leg ∷ []) ∷ []))
 unfolding on_tables
 legs_by_number = refl
 
@@ -94,7 +95,7 @@ plan_with set = record {
 abbrev failed_live : List ℕ → RunState
 failed_live body = run_with body run.Live (open_job (failed_leg ∷ []) ∷ [])
 
--- the same once its job has settled
+-- the same run once its job is finished
 abbrev failed_ended : List ℕ → JobResult → RunState
 failed_ended body r = run_with body run.Ended (record { phase = job.Settled r; legs = failed_leg ∷ [] } ∷ [])
 
@@ -104,15 +105,15 @@ result_by body plan =
     let values = context_at (failed_live body ∷ []) (record { run = 0; job = 0; leg = 0 }) in
     gathered (record {
       outcome = outcome.Failure;
-      continue_on_error = option_map_or (λ planned. is_set values planned.continue_on_error) (slice_get plan 0) false;
+      continue_on_error = option_map_or (λ planned. is_set_for values planned 0) (slice_get plan 0) false;
     } ∷ [])
 
--- a failed leg settles its job, and the job its run
+-- a failed leg finishes its job, and the job its run
 failed_leg_ends_its_run : (body : List ℕ) → plan_of body ≡ plan_with false
     → settled (failed_live body ∷ []) ≡ failed_ended body result.Failure ∷ []
 failed_leg_ends_its_run body planned_so = ap (λ plan. failed_ended body (result_by body plan) ∷ []) planned_so
 
--- a failure that is passed over does not make its job fail
+-- a failed leg with continue-on-error does not make its job fail
 passed_over_failure_ends_its_run : (body : List ℕ) → plan_of body ≡ plan_with true
     → settled (failed_live body ∷ []) ≡ failed_ended body result.Success ∷ []
 passed_over_failure_ends_its_run body planned_so = ap (λ plan. failed_ended body (result_by body plan) ∷ []) planned_so
@@ -121,12 +122,12 @@ passed_over_failure_ends_its_run body planned_so = ap (λ plan. failed_ended bod
 running_leg_rests : first_place (one_job (leased_leg 1 ∷ []) ∷ []) ≡ None
 running_leg_rests = refl
 
--- a waiting run without a group becomes live, and no job of it opens before that
+-- a waiting run without a group becomes live, and none of its jobs opens before that
 waiting_run_becomes_live : first_place (run_of run.Waiting (record { phase = job.Blocked; legs = [] } ∷ []) ∷ []) ≡ Some (Whole 0)
 unfolding on_tables
 waiting_run_becomes_live = refl
 
--- a blocked job of a live run opens where it needs no other
+-- a blocked job of a live run opens if it needs no other
 blocked_job_opens : (body : List ℕ) → needs_at (plan_graph (plan_of body)) 0 ≡ []
     → first_place (run_with body run.Live (blocked_job ∷ []) ∷ []) ≡ Some (Opening 0 0)
 blocked_job_opens body needs =
@@ -135,7 +136,7 @@ blocked_job_opens body needs =
     (without_moves (with_job 0 0 (decided runs 0 0) runs)) else None)
     then Some (Opening 0 0) else None) needs
 
--- and waits where it needs a job that is open
+-- and waits if it needs a job that is open
 blocked_job_waits : (body : List ℕ) → needs_at (plan_graph (plan_of body)) 0 ≡ 1 ∷ []
     → first_place (run_with body run.Live (blocked_job ∷ open_job (leased_leg 1 ∷ []) ∷ []) ∷ []) ≡ None
 blocked_job_waits body needs =
@@ -148,11 +149,11 @@ blocked_job_waits body needs =
 job_opens_with_its_legs : opened 2 (record { phase = job.Blocked; legs = [] }) ≡ open_job (new_leg ∷ new_leg ∷ [])
 job_opens_with_its_legs = refl
 
--- a live run of this job that is told to stop
+-- a live, stopping run of this job
 abbrev stopping_with : List ℕ → JobState → List RunState
 stopping_with body job = record (run_with body run.Live (job ∷ [])) { stopping = true } ∷ []
 
--- the blocked job of a run that is told to stop settles as cancelled where its condition is false
+-- the blocked job of a stopping run finishes as cancelled if its condition is false
 stopping_job_is_cancelled : (body : List ℕ) → needs_have_settled (stopping_with body blocked_job) 0 0 ≡ true
     → may_run (stopping_with body blocked_job) 0 0 ≡ false
     → rule_at (stopping_with body blocked_job) (Opening 0 0)
@@ -162,7 +163,7 @@ stopping_job_is_cancelled body needs may =
     ap (λ b. if b then Some (without_moves (with_job 0 0 (decided runs 0 0) runs)) else None) needs
     ∙ ap (λ b. Some (without_moves (with_job 0 0 (if b then opened (planned_legs runs 0 0) else settled_as result.Cancelled) runs))) may
 
--- each rule lowers what is left: a job that settles by one, a leg that goes on by one
+-- each rule lowers the measure: a job that finishes by one, a leg that advances by one
 left_of_one_job : remaining_phases (one_job (new_leg ∷ []) ∷ []) ≡ 7
 left_of_one_job = refl
 
@@ -186,7 +187,7 @@ claim_of_an_empty_table = refl
 claim_again : step (table_with served_nothing) (command.Claim (claim_of 1)) ≡ (table_with served_nothing, reply.Nothing)
 claim_again = refl
 
--- the last number with another command is out of turn
+-- the last number with another command is refused
 claim_changed : step (table_with served_nothing) (command.Claim (record { runner = codes "r1"; number = 1; labels = codes "gpu" ∷ [] }))
     ≡ (table_with served_nothing, reply.Refused (Turn 1))
 claim_changed = refl
@@ -217,7 +218,7 @@ abbrev stopped_by : List ℕ → List PlannedJob → Bool
 stopped_by body plan =
     let values = context_at (working body).runs (record { run = 0; job = 0; leg = 0 }) in
     option_map_or (λ planned. planned.fail_fast) (slice_get plan 0) false
-    && not (option_map_or (λ planned. is_set values planned.continue_on_error) (slice_get plan 0) false)
+    && not (option_map_or (λ planned. is_set_for values planned 0) (slice_get plan 0) false)
 
 -- a report ends the leg of its lease, its job and its run
 report_of_a_failure : (body : List ℕ) → plan_of body ≡ plan_with false
@@ -234,7 +235,7 @@ report_of_a_failure body planned_so =
     )) planned_so
     ∙ ap (λ plan. (failed body (result_by body plan), reply.Ok)) planned_so
 
--- the lease of a leg is found whatever job it is of
+-- the lease of a leg is found in any job
 lease_is_found : place_of_lease
     (one_job (leased_leg 1 ∷ []) ∷ run_of run.Live (open_job (leased_leg 2 ∷ []) ∷ open_job (failed_leg ∷ leased_leg 3 ∷ []) ∷ []) ∷ []) 3
     ≡ Some (record { run = 1; job = 1; leg = 1 })

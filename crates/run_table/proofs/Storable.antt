@@ -1,4 +1,4 @@
--- The runs of a table can be stored: a new leg would have a rule, and no job has more legs than its plan.
+-- The runs of a table can be stored: a rule would apply to a new leg, and no job has more legs than its plan.
 use Rattle.std.specs.Prelude.{◌≡◌, ℕ, ◌≤◌, List, [], ◌∷◌, map, flat_map, length, Bool, true, false, is_some, Option, Some, None}
 use Rattle.std.specs.Prelude.{option_and_then}
 use Rattle.std.specs.Prelude.{if◌then◌else◌, slice_get, refl}
@@ -9,28 +9,30 @@ use Rattle.wf_value.specs.declared.outcome.JobResult.{JobResult}
 use Rattle.run_plan.specs.PlanOf.{plan_of}
 use Rattle.run_plan.specs.declared.planned.PlannedJob.{PlannedJob}
 use Rattle.run_plan.proofs.FewLegs.{few_planned}
-use Rattle.workflow_runs.specs.FirstOf.{placed}
-use Rattle.workflow_runs.specs.JobResults.{settled_result}
-use Rattle.workflow_runs.specs.Places.{LegPlace, job_at, leg_at, run_at}
-use Rattle.workflow_runs.specs.Rules.{leg_has_ended, is_live, is_settled, job_places, leg_rule, leg_rule_in, outcome_of, places, result_at}
-use Rattle.workflow_runs.specs.Rules.{run_places}
-use Rattle.workflow_runs.specs.Settling.{applies, first_place}
+use Rattle.run_states.specs.FirstOf.{placed}
+use Rattle.run_states.specs.JobResults.{settled_result}
+use Rattle.run_states.specs.Places.{job_at, leg_at, run_at}
+use Rattle.run_states.specs.declared.place.LegPlace.{LegPlace}
+use Rattle.run_states.specs.Rules.{leg_has_ended, is_live, is_settled, job_places, leg_rule, leg_rule_in, outcome_of, places, result_at}
+use Rattle.run_states.specs.Rules.{run_places}
+use Rattle.run_states.specs.Settling.{applies, first_place}
 use Rattle.run_table.specs.Sound.{IsSound}
-use Rattle.workflow_runs.specs.SoundRuns.{LegsFit, PhaseFits}
-use Rattle.run_table.specs.Stored.{IsStorable, LegsAreFew, is_new}
+use Rattle.run_states.specs.SoundRuns.{LegsFit, PhaseFits}
+use Rattle.run_table.specs.Storable.{IsStorable, LegsAreFew}
+use Rattle.run_states.specs.StateWords.{is_new}
 use Rattle.run_table.specs.TableState.{TableState}
-use Rattle.workflow_runs.specs.RunState.{LegState, JobState, RunState}
-use Rattle.workflow_runs.specs.Words.{planned_legs}
-use Rattle.workflow_runs.specs.declared.place.Place.{Place}
-use Rattle.workflow_runs.specs.declared.place.Place.TheVariants.{AtLeg, Closing, Whole}
-use Rattle.workflow_runs.specs.declared.phases.LegPhase.{LegPhase}
-use Rattle.workflow_runs.specs.declared.phases.LegPhase.TheVariants as leg
-use Rattle.workflow_runs.specs.declared.phases.JobPhase.{JobPhase}
-use Rattle.workflow_runs.specs.declared.phases.JobPhase.TheVariants as job
-use Rattle.workflow_runs.specs.declared.phases.RunPhase.{RunPhase}
-use Rattle.workflow_runs.specs.declared.phases.RunPhase.TheVariants as run
-use Rattle.workflow_runs.proofs.Found.{each_of_append, each_of_flat_map, each_of_map, each_of_placed, none_found}
-use Rattle.workflow_runs.proofs.Optional.{each_passes}
+use Rattle.run_states.specs.RunState.{LegState, JobState, RunState}
+use Rattle.run_states.specs.Words.{planned_legs}
+use Rattle.run_states.specs.declared.phases.JobPhase.{JobPhase}
+use Rattle.run_states.specs.declared.phases.JobPhase.TheVariants as job
+use Rattle.run_states.specs.declared.phases.LegPhase.{LegPhase}
+use Rattle.run_states.specs.declared.phases.LegPhase.TheVariants as leg
+use Rattle.run_states.specs.declared.phases.RunPhase.{RunPhase}
+use Rattle.run_states.specs.declared.phases.RunPhase.TheVariants as run
+use Rattle.run_states.specs.declared.place.RuleSite.{RuleSite}
+use Rattle.run_states.specs.declared.place.RuleSite.TheVariants.{AtLeg, Closing, Whole}
+use Rattle.run_states.proofs.Found.{each_of_append, each_of_flat_map, each_of_map, each_of_placed, none_found}
+use Rattle.run_states.proofs.Optional.{each_passes}
 
 -- ---- the legs of a job are few
 
@@ -81,12 +83,12 @@ leg_found runs p x at =
           ] refl e
     ] refl at
 
--- where no rule applies at the places of a live run, none does at a leg of it
+-- if no rule applies at the places of a live run, none applies to a leg of it
 rests_at : (runs : List RunState) (p : LegPlace) (z : RunState) (y : JobState) (x : LegState) → first_place runs ≡ None
     → run_at runs p.run ≡ Some z
     → slice_get z.jobs p.job ≡ Some y → slice_get y.legs p.leg ≡ Some x → is_live z.phase ≡ true → applies runs (AtLeg p) ≡ false
 rests_at runs p z y x none run_is job_is leg_is live =
-    let Rests = λ (place : Place). applies runs place ≡ false in
+    let Rests = λ (place : RuleSite). applies runs place ≡ false in
     let by_run = each_of_flat_map Rests run_places (placed runs) (none_found (applies runs) (places runs) none) in
     let of_run = each_of_placed (λ e. AllByRecursion Rests (run_places e)) runs p.run z by_run run_is in
     let jobs = (each_of_append Rests (if is_live z.phase then flat_map (job_places p.run) (placed z.jobs) else [])
@@ -98,7 +100,7 @@ rests_at runs p z y x none run_is job_is leg_is live =
     let legs = (each_of_append Rests (map at (placed y.legs)) (Closing p.run p.job ∷ []) of_job.1).0 in
     each_of_placed (λ e. Rests (at e)) y.legs p.leg x (each_of_map Rests at (placed y.legs) legs) leg_is
 
--- a new leg has a rule
+-- a rule applies to a new leg
 new_goes_on : (runs : List RunState) (p : LegPlace) (x : LegState) → leg_at runs p ≡ Some x → x.phase ≡ leg.New
     → applies runs (AtLeg p) ≡ true
 new_goes_on runs p x at new =
@@ -109,7 +111,7 @@ none_at : {X : Type 0} (xs : List X) (k : ℕ) (x : X) → xs ≡ [] → slice_g
 none_at [] k x none at = cc
 none_at (y ∷ ys) k x none at = cc
 
--- a job that is blocked has no leg, and one that has settled no new one
+-- a blocked job has no leg, and a finished one has no new leg
 is_not_blocked : (planned : ℕ) (gathered : JobResult) (phase : JobPhase) (legs : List LegState) (l : ℕ) (x : LegState)
     → LegsFit planned gathered phase legs
     → slice_get legs l ≡ Some x → phase ≡ job.Blocked → ⊥

@@ -1,4 +1,4 @@
--- Views of runs at literal records, and their texts.
+-- Examples: views of literal runs, and their texts.
 use Rattle.std.proofs.Common.{◌≡◌, ℕ, List, [], ◌∷◌, ◌++◌, true, false, Some, None, codes, refl, ap}
 use Rattle.std.specs.Fmt.{digits}
 use Rattle.wf_value.specs.declared.condition.Condition.TheVariants as condition
@@ -9,15 +9,15 @@ use Rattle.wf_reader.specs.declared.flag.Flag.TheVariants as flag
 use Rattle.run_plan.specs.PlanOf.{plan_of}
 use Rattle.run_plan.specs.Admitted.{Admitted}
 use Rattle.run_plan.specs.declared.planned.PlannedJob.{PlannedJob}
-use Rattle.workflow_runs.specs.RunState.{LegState, JobState, RunState}
+use Rattle.run_states.specs.RunState.{LegState, JobState, RunState}
 use Rattle.run_table.specs.ViewText.{seen_of, seen_text, run_text}
-use Rattle.workflow_runs.specs.declared.phases.LegPhase.{LegPhase}
-use Rattle.workflow_runs.specs.declared.phases.LegPhase.TheVariants as leg
-use Rattle.workflow_runs.specs.declared.phases.JobPhase.{JobPhase}
-use Rattle.workflow_runs.specs.declared.phases.JobPhase.TheVariants as state
-use Rattle.workflow_runs.specs.declared.phases.RunPhase.TheVariants as phase
+use Rattle.run_states.specs.declared.phases.JobPhase.{JobPhase}
+use Rattle.run_states.specs.declared.phases.JobPhase.TheVariants as state
+use Rattle.run_states.specs.declared.phases.LegPhase.{LegPhase}
+use Rattle.run_states.specs.declared.phases.LegPhase.TheVariants as leg
+use Rattle.run_states.specs.declared.phases.RunPhase.TheVariants as phase
 
--- ---- a run's text, for a plan of literal ids
+-- ---- a run's text, for a plan with literal ids
 
 abbrev planned : List ℕ → PlannedJob
 planned id = record {
@@ -105,7 +105,7 @@ look_at_a_completed_run : (body : List ℕ) → plan_of body ≡ build
 unfolding digits
 look_at_a_completed_run body planned_so = ap (λ plan. codes "run 1 1 " ++ run_text plan phase.Ended (completed_run body).jobs) planned_so
 
--- from the second attempt on it stands behind the number
+-- from the second attempt on, the attempt follows the number
 look_at_a_second_attempt : (body : List ℕ) → plan_of body ≡ build
     → seen_text (record { id = 1; number = 1; run = record (completed_run body) { attempt = 2 } })
     ≡ codes "run 1 1.2 completed success build:success(success)"

@@ -1,4 +1,4 @@
--- Which commands are claims: of those that change a table, only they are answered with a text.
+-- Which commands are claims. Of the commands that change a table, only a claim has a reply with text.
 use Rattle.std.specs.Prelude.{Bool, true, false}
 use Rattle.run_plan.specs.declared.command.Command.{Command}
 use Rattle.run_plan.specs.declared.command.Command.TheVariants as command

@@ -1,4 +1,4 @@
--- Commands that are carried out one after another: the table that they leave, and the reply to each.
+-- Sequences of commands: the table after them, and the reply to each.
 use Rattle.std.specs.Prelude.{List, [], ◌∷◌}
 use Rattle.run_plan.specs.declared.command.Command.{Command}
 use Rattle.run_plan.specs.declared.reply.Reply.{Reply}

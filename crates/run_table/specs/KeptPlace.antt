@@ -1,12 +1,14 @@
--- The place of the leg that the last claim of a runner was given, as it is kept with the reply. In the attempt in which the lease was given
--- the leg there has it. Whether it is the lease that the runner holds, it does not say. Own.
+-- The place of the leg that a runner's last claim was given, as it is kept with the reply. In the attempt in which the
+-- lease was granted, the leg at that place has the lease. The place does not say whether the runner still holds the
+-- lease.
 use Rattle.std.specs.Prelude.{◌-◌, Option, Some, None}
 use Rattle.run_plan.specs.declared.last_command.LastCommand.{LastCommand}
 use Rattle.run_plan.specs.declared.last_command.LastCommand.TheVariants as last
 use Rattle.run_plan.specs.declared.last_command.ClaimReply.TheVariants as given
-use Rattle.workflow_runs.specs.Places.{LegPlace, leg_place}
+use Rattle.run_states.specs.Places.{leg_place}
+use Rattle.run_states.specs.declared.place.LegPlace.{LegPlace}
 
 abbrev pub kept_place : LastCommand → Option LegPlace
 kept_place (last.Claim claim given.Nothing) = None
-kept_place (last.Claim claim (given.Lease kept)) = Some (leg_place (kept.told.run - 1) kept.job kept.told.leg)
+kept_place (last.Claim claim (given.Lease kept)) = Some (leg_place (kept.lease_reply.run - 1) kept.job kept.lease_reply.leg)
 kept_place (last.Done report) = None

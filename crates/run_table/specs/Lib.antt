@@ -1,15 +1,10 @@
-pub mod ByLease
-pub mod ByNumber
 pub mod Claims
-pub mod GroupSets
 pub mod Histories
 pub mod KeptPlace
-pub mod OneByOne
 pub mod PlaceNamed
 pub mod Sound
 pub mod Step
-pub mod Stored
-pub mod TableOf
+pub mod Storable
 pub mod TableState
 pub mod Turns
 pub mod ViewText

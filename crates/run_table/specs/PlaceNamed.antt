@@ -1,4 +1,4 @@
--- Where the runner of a name stands among those of a table, or would.
+-- The index of the runner with a name among those of a table, or the index where it would be inserted.
 use Rattle.std.specs.Prelude.{ℕ, List, filter, length}
 use Rattle.run_table.specs.TableState.{RunnerState}
 use Rattle.run_table.specs.Turns.{is_below}

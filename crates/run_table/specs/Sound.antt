@@ -1,21 +1,22 @@
--- What every table keeps, whatever its commands were: each rule in the words of GitHub Docs, "Workflow syntax for
--- GitHub Actions" (jobs, jobs.<job_id>.strategy, jobs.<job_id>.runs-on), and "Control the concurrency of workflows and jobs",
--- where these have them; leases, numbers of commands and kept replies are own.
+-- The invariants of every table, whatever its commands were. Each rule uses the words of GitHub Docs where they have
+-- them: "Workflow syntax for GitHub Actions" (jobs, jobs.<job_id>.strategy, jobs.<job_id>.runs-on) and "Control the
+-- concurrency of workflows and jobs". This project defines leases, command numbers and kept replies.
 use Rattle.std.specs.Prelude.{◌≡◌, ℕ, ◌<◌, ◌≤◌, List, length, true, slice_get, Some, None}
-use Rattle.workflow_runs.specs.Groups.{HasOneEach}
-use Rattle.workflow_runs.specs.Parallel.{is_at_work, legs_at_work, most_at_work}
-use Rattle.workflow_runs.specs.Places.{LegPlace, run_at, job_at, leg_at}
-use Rattle.workflow_runs.specs.Settling.{first_place}
+use Rattle.run_states.specs.Groups.{HasOneEach}
+use Rattle.run_states.specs.Parallel.{is_at_work, legs_at_work, most_at_work}
+use Rattle.run_states.specs.Places.{run_at, job_at, leg_at}
+use Rattle.run_states.specs.declared.place.LegPlace.{LegPlace}
+use Rattle.run_states.specs.Settling.{first_place}
 use Rattle.run_table.specs.Step.{last_attempt, last_number, lease_at}
 use Rattle.run_table.specs.TableState.{RunnerState, TableState}
-use Rattle.workflow_runs.specs.RunState.{LegState, JobState, RunState}
+use Rattle.run_states.specs.RunState.{LegState, JobState, RunState}
 use Rattle.run_table.specs.Turns.{names_rise}
 use Rattle.run_plan.specs.declared.last_command.LastCommand.{LastCommand}
 use Rattle.run_plan.specs.declared.last_command.LastCommand.TheVariants as last
 use Rattle.run_plan.specs.declared.last_command.ClaimReply.TheVariants as given
 use Rattle.run_plan.specs.declared.last_command.KeptLease.{KeptLease}
-use Rattle.workflow_runs.specs.Words.{planned_legs}
-use Rattle.workflow_runs.specs.SoundRuns.{JobsAreThePlans, RunPhasesFit, JobsFit, NeedsComeFirst, LeasesFit}
+use Rattle.run_states.specs.SoundRuns.{JobsAreThePlans, RunPhasesFit, JobsFit, NeedsComeFirst, LeasesFit}
+use Rattle.run_states.specs.Words.{planned_legs}
 
 -- ---- runs
 
@@ -24,7 +25,7 @@ abbrev pub DeliveriesDiffer : List RunState → Type 0
 DeliveriesDiffer runs =
     (a b : ℕ) (x y : RunState) → run_at runs a ≡ Some x → run_at runs b ≡ Some y → x.admitted.delivery ≡ y.admitted.delivery → a ≡ b
 
--- attempts are numbers from 1 to the last
+-- an attempt is a number from 1 to the last
 abbrev pub AttemptIsGiven : RunState → Type 0
 AttemptIsGiven x = (1 ≤ x.attempt) × (x.attempt ≤ last_attempt)
 
@@ -33,18 +34,18 @@ AttemptsAreGiven runs = (r : ℕ) (x : RunState) → run_at runs r ≡ Some x �
 
 -- ---- jobs
 
--- of no job are more legs running or stopping than its max-parallel
+-- at most max-parallel legs of a job are running or stopping
 abbrev pub ParallelIsBounded : List RunState → Type 0
 ParallelIsBounded runs =
     (r j : ℕ) (x : JobState) (most : ℕ) → job_at runs r j ≡ Some x → most_at_work runs r j ≡ Some most → legs_at_work x ≤ most
 
--- ---- leases of legs, given and held
+-- ---- leases of legs, granted and held
 
--- leases are numbers from 1 to the last
+-- a lease is a number from 1 to the last
 abbrev pub LeasesAreGiven : ℕ → List RunState → Type 0
 LeasesAreGiven last runs = (p : LegPlace) (x : LegState) (n : ℕ) → leg_at runs p ≡ Some x → x.lease ≡ Some n → (1 ≤ n) × (n ≤ last)
 
--- no two legs have one lease
+-- no two legs have the same lease
 abbrev pub LeasesDiffer : List RunState → Type 0
 LeasesDiffer runs =
     (p q : LegPlace) (x y : LegState) (n : ℕ) → leg_at runs p ≡ Some x → leg_at runs q ≡ Some y → x.lease ≡ Some n → y.lease ≡ Some n
@@ -60,22 +61,22 @@ IsHeld runners n = (k : ℕ) × (x : RunnerState) × (slice_get runners k ≡ So
 abbrev pub IsAtWork : List RunState → ℕ → Type 0
 IsAtWork runs n = (p : LegPlace) × (x : LegState) × (leg_at runs p ≡ Some x) × (x.lease ≡ Some n) × (is_at_work x.phase ≡ true)
 
--- the leases of the legs at work are held
+-- every lease of a leg at work is held
 abbrev pub WorkIsHeld : List RunState → List RunnerState → Type 0
 WorkIsHeld runs runners =
     (p : LegPlace) (x : LegState) (n : ℕ) → leg_at runs p ≡ Some x → is_at_work x.phase ≡ true → x.lease ≡ Some n → IsHeld runners n
 
--- and no others are
+-- every lease that is held is that of a leg at work
 abbrev pub HeldIsAtWork : List RunState → List RunnerState → Type 0
 HeldIsAtWork runs runners = (k : ℕ) (x : RunnerState) (n : ℕ) → slice_get runners k ≡ Some x → x.holds ≡ Some n → IsAtWork runs n
 
--- each by one runner
+-- no two runners hold the same lease
 abbrev pub HeldOnce : List RunnerState → Type 0
 HeldOnce runners =
     (a b : ℕ) (x y : RunnerState) (n : ℕ) → slice_get runners a ≡ Some x → slice_get runners b ≡ Some y → x.holds ≡ Some n
     → y.holds ≡ Some n → a ≡ b
 
--- a runner's last command is its own, and has its last number
+-- a runner's last command is its own and has its last number
 abbrev pub IsLastOf : List ℕ → ℕ → LastCommand → Type 0
 IsLastOf name number (last.Claim claim given) = (claim.runner ≡ name) × (claim.number ≡ number)
 IsLastOf name number (last.Done report) = (report.runner ≡ name) × (report.number ≡ number)
@@ -83,18 +84,18 @@ IsLastOf name number (last.Done report) = (report.runner ≡ name) × (report.nu
 abbrev pub LastsAreOwn : List RunnerState → Type 0
 LastsAreOwn runners = (k : ℕ) (x : RunnerState) → slice_get runners k ≡ Some x → IsLastOf x.name x.number x.last
 
--- A kept lease is one that was given, of a leg that the run's plan has, in an attempt up to the one at which the run is: it tells that run,
--- that job, the leg's number and its combination. In the attempt at which the run is the leg has the lease.
+-- A kept lease was granted for a leg of the run's plan, in an attempt up to the current one. It names that run, that
+-- job, the leg's number and its combination. If it was granted in the current attempt, the leg has it.
 pub record IsOfALeg (most : ℕ) (runs : List RunState) (kept : KeptLease) : Type 0 where
   pub place : LegPlace
   pub run : RunState
   pub run_is : run_at runs place.run ≡ Some run
   pub job_is : kept.job ≡ place.job
   pub planned : place.leg < planned_legs runs place.run place.job
-  pub tells : kept.told ≡ lease_at runs place kept.told.lease
-  pub given : (1 ≤ kept.told.lease) × (kept.told.lease ≤ most)
+  pub tells : kept.lease_reply ≡ lease_at runs place kept.lease_reply.lease
+  pub given : (1 ≤ kept.lease_reply.lease) × (kept.lease_reply.lease ≤ most)
   pub attempt : (1 ≤ kept.attempt) × (kept.attempt ≤ run.attempt)
-  pub has_it : kept.attempt ≡ run.attempt → (x : LegState) × (leg_at runs place ≡ Some x) × (x.lease ≡ Some kept.told.lease)
+  pub has_it : kept.attempt ≡ run.attempt → (x : LegState) × (leg_at runs place ≡ Some x) × (x.lease ≡ Some kept.lease_reply.lease)
 
 abbrev pub KeptIsOfALeg : ℕ → List RunState → LastCommand → Type 0
 KeptIsOfALeg most runs (last.Claim claim given.Nothing) = Unit {0}
@@ -104,7 +105,7 @@ KeptIsOfALeg most runs (last.Done report) = Unit {0}
 abbrev pub KeptLeasesAreOfLegs : ℕ → List RunState → List RunnerState → Type 0
 KeptLeasesAreOfLegs most runs runners = (k : ℕ) (x : RunnerState) → slice_get runners k ≡ Some x → KeptIsOfALeg most runs x.last
 
--- ---- all of it
+-- ---- all rules
 
 pub record IsSound (t : TableState) : Type 0 where
   pub few_runs : length t.runs ≤ 100000

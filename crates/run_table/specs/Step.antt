@@ -1,7 +1,7 @@
--- One step of the table: what a command is answered, the table after it, and the moves of groups on the way. A command is either
--- answered from the table as it is, which then stays: the refusals, in the order of their checks, a delivery that is known, an
--- attempt that has begun, a command that is repeated, what a runner asks, and what is looked at. Or it changes the table, which
--- settles then: the moves of its own change come first.
+-- One step of the table: the reply to a command, the table after it, and the group moves on the way. Some commands
+-- leave the table unchanged: those that are refused, in the order of their checks, a known delivery, an attempt that
+-- has begun, a repeated command, a heartbeat, and a look or a fetch. The others change the table and then settle it;
+-- the moves of their own change come first.
 use Rattle.std.specs.Prelude.{ℕ, ◌+◌, ◌-◌, ◌&&◌, List, [], ◌∷◌, ◌++◌, length, Bool, true, false, not, is_some, nat_eq, nat_le, Option, Some, None}
 use Rattle.std.specs.Prelude.{option_map, if◌then◌else◌}
 use Rattle.std.specs.List.{position}
@@ -22,50 +22,52 @@ use Rattle.run_plan.specs.declared.command.Command.TheVariants as command
 use Rattle.run_plan.specs.declared.reply.Lease.{Lease as Leased}
 use Rattle.run_plan.specs.declared.reply.Reply.{Reply}
 use Rattle.run_plan.specs.declared.reply.Reply.TheVariants as reply
-use Rattle.workflow_runs.specs.Arrivals.{arrived}
-use Rattle.workflow_runs.specs.Fitting.{first_fit, is_lease_stopping}
-use Rattle.workflow_runs.specs.Moves.{Holder, Move, Transition}
+use Rattle.run_states.specs.Arrivals.{arrived}
+use Rattle.run_states.specs.Fitting.{first_fit, is_lease_stopping}
+use Rattle.run_states.specs.Moves.{Move, Transition}
 use Rattle.run_table.specs.TableState.{Step, RunnerState, TableState}
-use Rattle.workflow_runs.specs.Places.{LegPlace, run_at, with_leg, with_run}
-use Rattle.workflow_runs.specs.Settling.{settled, settling_moves}
-use Rattle.workflow_runs.specs.StopMoves.{stop_holder, with_ended, lease_end_moves}
-use Rattle.workflow_runs.specs.Stops.{outcome_of_loss}
-use Rattle.workflow_runs.specs.RunState.{RunState}
+use Rattle.run_states.specs.Places.{run_at, with_leg, with_run}
+use Rattle.run_states.specs.declared.place.LegPlace.{LegPlace}
+use Rattle.run_states.specs.RunState.{RunState}
+use Rattle.run_states.specs.Settling.{settled, settling_moves}
+use Rattle.run_states.specs.StopMoves.{stop_holder, with_ended, lease_end_moves}
+use Rattle.run_states.specs.Stops.{outcome_of_loss}
 use Rattle.run_table.specs.Turns.{runner_named, answer_of_turn, with_runner, holds_lease, holds_this}
 use Rattle.run_table.specs.ViewText.{Seen, seen_of, seen_text}
-use Rattle.workflow_runs.specs.Words.{job_id, combo_at}
+use Rattle.run_states.specs.Words.{job_id, combo_at}
 use Rattle.run_plan.specs.declared.last_command.LastCommand.TheVariants as last
 use Rattle.run_plan.specs.declared.last_command.ClaimReply.{ClaimReply}
 use Rattle.run_plan.specs.declared.last_command.ClaimReply.TheVariants as given
 use Rattle.run_plan.specs.declared.last_command.KeptLease.{KeptLease}
-use Rattle.workflow_runs.specs.declared.phases.RunPhase.{RunPhase}
-use Rattle.workflow_runs.specs.declared.phases.RunPhase.TheVariants as run
-use Rattle.workflow_runs.specs.NewRun.{again, is_delivered_as, new_run, leased_leg}
+use Rattle.run_states.specs.NewRun.{again, is_delivered_as, new_run, leased_leg}
+use Rattle.run_states.specs.declared.phases.RunPhase.{RunPhase}
+use Rattle.run_states.specs.declared.phases.RunPhase.TheVariants as run
+use Rattle.run_states.specs.declared.holder.Holder.TheVariants.{Run}
 
--- the table without runs and runners
+-- a table without runs or runners
 abbrev pub empty : TableState
 empty = record { last_lease = 0; runs = []; runners = [] }
 
 abbrev pub refused : Code → Reply
 refused code = reply.Refused (Numbered code)
 
--- the last number of a lease
+-- the largest lease number
 abbrev pub last_number : ℕ
 last_number = 999999999
 
--- the last attempt of a run
+-- the largest attempt number of a run
 abbrev pub last_attempt : ℕ
 last_attempt = 1000
 
--- the table as it was, with a reply
+-- the table unchanged, with a reply
 abbrev pub unchanged : TableState → Reply → Step
 unchanged t reply = record { table = t; reply = reply; moves = [] }
 
--- the table settled, with a reply, after these moves
+-- the table at a fixpoint, with a reply, after these moves
 abbrev pub at_rest_after : List Move → TableState → Reply → Step
 at_rest_after moves t reply = record { table = record t { runs = settled t.runs }; reply = reply; moves = moves ++ settling_moves t.runs }
 
--- after none
+-- the same without moves before
 abbrev pub at_rest : TableState → Reply → Step
 at_rest t reply = at_rest_after [] t reply
 
@@ -79,7 +81,7 @@ admission_answer t event =
 
 -- the new run arrives in its group
 abbrev pub entered : TableState → Admitted → Transition
-entered t event = arrived (Holder.a_run (length t.runs)) (t.runs ++ new_run event ∷ [])
+entered t event = arrived (Run (length t.runs)) (t.runs ++ new_run event ∷ [])
 
 abbrev pub admitting : TableState → Admitted → Step
 admitting t event =
@@ -90,7 +92,7 @@ admitted t event = option_map_or (unchanged t) (admission_answer t event) (admit
 
 -- ---- claim
 
--- a leg that fits finds no lease after the last
+-- a leg fits, but the last lease number is used up
 abbrev pub has_no_lease_left : TableState → Claimed → Bool
 has_no_lease_left t claim = is_some (first_fit claim.labels t.runs) && nat_le last_number t.last_lease
 
@@ -102,19 +104,19 @@ claim_answer t claim =
     option_or (answer_of_turn (runner_named t.runners claim.runner) claim.number (is_last_claim claim))
     (if holds_lease (runner_named t.runners claim.runner) then Some (refused HasLease) else lease_answer t claim)
 
--- what is kept of a runner after its claim
+-- the record of a runner after its claim
 abbrev pub claiming_runner : Claimed → Option ℕ → ClaimReply → RunnerState
 claiming_runner claim holds given = record { name = claim.runner; number = claim.number; last = last.Claim claim given; holds = holds }
 
--- what a runner is told of the leg that it gets
+-- the lease as it is sent to the runner that gets the leg
 abbrev pub lease_at : List RunState → LegPlace → ℕ → Leased
 lease_at runs p lease = record { lease = lease; run = p.run + 1; job = job_id runs p.run p.job; leg = p.leg; combo = combo_at runs p }
 
--- what is kept of it: beside what is told, the attempt of the leg's run in which it was given, and the place of the job
+-- its kept form: the lease as sent, the attempt of the leg's run in which it was granted, and the job's index
 abbrev pub kept_lease : List RunState → ℕ → LegPlace → ℕ → KeptLease
-kept_lease runs attempt p lease = record { told = lease_at runs p lease; attempt = attempt; job = p.job }
+kept_lease runs attempt p lease = record { lease_reply = lease_at runs p lease; attempt = attempt; job = p.job }
 
--- where it is given in the attempt at which the run is
+-- a kept lease of the run's current attempt
 abbrev pub kept_lease_at : List RunState → LegPlace → ℕ → KeptLease
 kept_lease_at runs p lease = kept_lease runs (option_map_or (λ x. x.attempt) (run_at runs p.run) 0) p lease
 
@@ -122,13 +124,13 @@ kept_lease_at runs p lease = kept_lease runs (option_map_or (λ x. x.attempt) (r
 abbrev pub leasing : TableState → Claimed → LegPlace → Step
 leasing t claim p =
     let lease = t.last_lease + 1 in
-    let told = lease_at t.runs p lease in
+    let lease_reply = lease_at t.runs p lease in
     at_rest (record {
       last_lease = lease;
       runs = with_leg p (λ _. leased_leg lease) t.runs;
       runners =
           with_runner t.runners (claiming_runner claim (Some lease) (given.Lease (kept_lease_at t.runs p lease)));
-    }) (reply.Lease told)
+    }) (reply.Lease lease_reply)
 
 -- no leg fits
 abbrev pub serving_nothing : TableState → Claimed → Step
@@ -147,7 +149,7 @@ report_answer t report =
     option_or (answer_of_turn (runner_named t.runners report.runner) report.number (is_last_report report))
     (if holds_this report.lease (runner_named t.runners report.runner) then None else Some (refused LeaseNotHeld))
 
--- what is kept of a runner after its report
+-- the record of a runner after its report
 abbrev pub reporting_runner : Reported → RunnerState
 reporting_runner report = record { name = report.runner; number = report.number; last = last.Done report; holds = None }
 
@@ -164,7 +166,7 @@ reported t report = option_map_or (unchanged t) (report_answer t report) (report
 
 -- ---- beat
 
--- a runner that holds the lease is told whether its leg is to stop
+-- a runner that holds the lease is told whether to stop its leg
 abbrev pub beat_answer : TableState → Asked → Reply
 beat_answer t beat =
     option_map_or (λ runner.
@@ -179,31 +181,31 @@ answer_of_run run.Waiting stopping = None
 answer_of_run run.Live stopping = if stopping then Some reply.Ok else None
 answer_of_run run.Ended stopping = Some (refused RunCompleted)
 
--- a run that is stopping already stays; ids count from 1
+-- a run that is stopping already stays as it is; ids count from 1
 abbrev pub cancel_answer : TableState → ℕ → Option Reply
 cancel_answer t id = option_map_or (λ run. answer_of_run run.phase run.stopping) (run_at t.runs (id - 1)) (Some (refused NoRun))
 
 abbrev pub cancelling : TableState → ℕ → Step
 cancelling t id =
-    let stopped = stop_holder (Holder.a_run (id - 1)) t.runs in at_rest_after stopped.moves (record t { runs = stopped.runs }) reply.Ok
+    let stopped = stop_holder (Run (id - 1)) t.runs in at_rest_after stopped.moves (record t { runs = stopped.runs }) reply.Ok
 
 abbrev pub cancelled : TableState → ℕ → Step
 cancelled t id = option_map_or (unchanged t) (cancel_answer t id) (cancelling t id)
 
--- ---- rerun: GitHub Docs, "Re-running workflows and jobs"; which attempt is asked for, and which is the last, is own
+-- ---- rerun: GitHub Docs, "Re-running workflows and jobs"; this project defines which attempt a command names, and the largest one
 
 abbrev pub has_completed : RunPhase → Bool
 has_completed run.Waiting = false
 has_completed run.Live = false
 has_completed run.Ended = true
 
--- what keeps the next attempt of a run from beginning, if anything does
+-- why the next attempt of a run may not begin, if it may not
 abbrev pub answer_of_next : RunState → Option Reply
 answer_of_next x =
     if nat_le last_attempt x.attempt then Some (refused LastCounter)
     else (if has_completed x.phase then None else Some (refused RunNotCompleted))
 
--- The attempt at which the run is has begun already. Of the others only the next may begin.
+-- The current attempt has begun already. Of the others, only the next may begin.
 abbrev pub answer_of_attempt : RunState → Attempt → Option Reply
 answer_of_attempt x asked =
     if nat_eq asked.attempt x.attempt then Some (reply.Again asked)
@@ -213,9 +215,9 @@ answer_of_attempt x asked =
 abbrev pub rerun_answer : TableState → Attempt → Option Reply
 rerun_answer t asked = option_map_or (λ x. answer_of_attempt x asked) (run_at t.runs (asked.run - 1)) (Some (refused NoRun))
 
--- the run, in its next attempt, arrives anew in its group
+-- the run, in its next attempt, arrives in its group again
 abbrev pub entered_again : TableState → ℕ → Transition
-entered_again t r = arrived (Holder.a_run r) (with_run r again t.runs)
+entered_again t r = arrived (Run r) (with_run r again t.runs)
 
 abbrev pub rerunning : TableState → Attempt → Step
 rerunning t asked =
@@ -231,11 +233,11 @@ loss_answer t name =
     option_map_or (λ runner. if is_some runner.holds then None else Some (refused LeaseNotHeld)) (runner_named t.runners name)
     (Some (refused NoRunner))
 
--- the runner holds no lease any more; its last command stays, with the kept reply
+-- the runner holds no lease; its last command and the kept reply stay
 abbrev pub released : RunnerState → RunnerState
 released runner = record runner { holds = None }
 
--- the leg of the lease ends, and its runner is put in its own place
+-- the leg of the lease ends, and the entry of its runner is replaced
 abbrev pub losing : TableState → RunnerState → ℕ → Step
 losing t runner lease =
     at_rest_after (lease_end_moves lease (outcome_of_loss t.runs lease) t.runs) (record t {
@@ -256,7 +258,7 @@ fetch_answer t id = option_map_or (λ run. reply.Body run.admitted.body) (run_at
 
 -- ---- look
 
--- what is seen of the run of an id
+-- the view of the run with an id
 abbrev pub seen : TableState → ℕ → Option Seen
 seen t id = seen_of t.runs id
 
@@ -283,20 +285,20 @@ outcome s = (s.table, s.reply)
 abbrev pub step : TableState → Command → TableState × Reply
 step t c = outcome (stepped t c)
 
--- ---- commands that leave the table
+-- ---- commands that leave the table unchanged
 
--- the reply to a command that leaves the table
-abbrev pub answered : TableState → Command → Option Reply
-answered t (command.Admit event) = admission_answer t event
-answered t (command.Claim claim) = claim_answer t claim
-answered t (command.Done report) = report_answer t report
-answered t (command.Beat beat) = Some (beat_answer t beat)
-answered t (command.Cancel id) = cancel_answer t id
-answered t (command.Lost name) = loss_answer t name
-answered t (command.Fetch id) = Some (fetch_answer t id)
-answered t (command.Look id) = Some (look_answer t id)
-answered t (command.Rerun asked) = rerun_answer t asked
+-- the reply to a command that leaves the table unchanged
+abbrev pub read_only_reply : TableState → Command → Option Reply
+read_only_reply t (command.Admit event) = admission_answer t event
+read_only_reply t (command.Claim claim) = claim_answer t claim
+read_only_reply t (command.Done report) = report_answer t report
+read_only_reply t (command.Beat beat) = Some (beat_answer t beat)
+read_only_reply t (command.Cancel id) = cancel_answer t id
+read_only_reply t (command.Lost name) = loss_answer t name
+read_only_reply t (command.Fetch id) = Some (fetch_answer t id)
+read_only_reply t (command.Look id) = Some (look_answer t id)
+read_only_reply t (command.Rerun asked) = rerun_answer t asked
 
--- whether it holds no text, so that no memory is needed for it
-abbrev pub is_free : Option Reply → Bool
-is_free answer = option_map_or (λ reply. not (carries_text reply)) answer false
+-- whether there is a reply and it holds no text, so that it needs no memory
+abbrev pub is_allocation_free : Option Reply → Bool
+is_allocation_free answer = option_map_or (λ reply. not (carries_text reply)) answer false

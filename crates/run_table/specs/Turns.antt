@@ -1,5 +1,5 @@
--- The numbered commands of runners: each command of a runner has the number after its last one, or is the
--- last one again and gets the kept reply (own).
+-- The sequence of a runner's numbered commands. Each has the number after the last, or repeats the last one and gets
+-- the kept reply.
 use Rattle.std.specs.Prelude.{ℕ, ◌+◌, ◌&&◌, List, ◌∷◌, ◌++◌, filter, find, Bool, false, nat_eq, is_some, Option, Some, None, option_map}
 use Rattle.std.specs.Prelude.{if◌then◌else◌}
 use Rattle.std.specs.Cmp.Lexicographic.{slice_cmp}
@@ -25,33 +25,33 @@ runner_named runners name = find (is_named name) runners
 abbrev pub number_of : Option RunnerState → ℕ
 number_of runner = option_map_or (λ r. r.number) runner 0
 
--- whether the command of this number, which passes the test, is the runner's last
+-- whether a command with this number, which passes the test, repeats the runner's last
 abbrev pub is_repeated : ℕ → (LastCommand → Bool) → RunnerState → Bool
 is_repeated number same runner = nat_eq runner.number number && same runner.last
 
--- a refusal, where the number is not the one after the last
+-- a refusal if the number is not the one after the last
 abbrev pub turn_answer : ℕ → ℕ → Option Reply
 turn_answer last number = if nat_eq number (last + 1) then None else Some (reply.Refused (Turn last))
 
--- What a command of this number is answered before the table is looked at: the kept reply where it is the
--- runner's last again, as the test says, and a refusal where it is out of turn.
+-- The reply to a command that follows from its number alone: the kept reply if it repeats the runner's last command,
+-- which the test decides, and a refusal if its number is not the next.
 abbrev pub answer_of_turn : Option RunnerState → ℕ → (LastCommand → Bool) → Option Reply
 answer_of_turn runner number same =
     if option_map_or (is_repeated number same) runner false
     then option_map (λ r. kept_reply r.last) runner
     else turn_answer (number_of runner) number
 
--- whether an answer holds a text, for which memory is needed
+-- whether an answer holds a text, which needs memory
 abbrev pub needs_text : Option Reply → Bool
 needs_text answer = option_map_or carries_text answer false
 
--- the runner, where it has the name
+-- the runner, if it has the name
 abbrev pub kept_named : List ℕ → RunnerState → Option RunnerState
 kept_named name runner = if is_named name runner then Some runner else None
 
 -- ---- runners in the order of their names
 
--- each name is above the one before it, by their bytes: so no two runners have one
+-- names strictly increase in byte order, so no two runners have the same name
 abbrev pub names_rise : List RunnerState → Bool
 names_rise runners = rises_by (λ r. r.name) runners
 
@@ -61,7 +61,7 @@ is_below name runner = is_lt (slice_cmp nat_cmp runner.name name)
 abbrev pub is_above : List ℕ → RunnerState → Bool
 is_above name runner = is_lt (slice_cmp nat_cmp name runner.name)
 
--- the runners below it, the runner, which takes the place of the one of its name, and those above it
+-- the runners below it, the runner in place of any of the same name, and the runners above it
 abbrev pub with_runner : List RunnerState → RunnerState → List RunnerState
 with_runner runners runner = filter (is_below runner.name) runners ++ runner ∷ filter (is_above runner.name) runners
 

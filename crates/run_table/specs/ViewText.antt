@@ -1,4 +1,4 @@
--- The view of a run, and its text.
+-- The view of a run and its text.
 use Rattle.std.specs.Prelude.{ℕ, ◌-◌, List, ◌++◌, map, flat_map, Bool, is_some, nat_le, codes, Option, option_map}
 use Rattle.std.specs.Prelude.{slice_get, if◌then◌else◌}
 use Rattle.std.specs.List.{list_any, zip, join_with_byte}
@@ -7,17 +7,17 @@ use Rattle.wf_value.specs.Words.{outcome_word, result_word}
 use Rattle.needs_graph.specs.Results.{conclusion_of}
 use Rattle.run_plan.specs.PlanOf.{plan_of}
 use Rattle.run_plan.specs.declared.planned.PlannedJob.{PlannedJob}
-pub use Rattle.workflow_runs.specs.JobResults.{results_of}
-use Rattle.workflow_runs.specs.RunNumber.{events, run_number}
-use Rattle.workflow_runs.specs.RunState.{LegState, JobState, RunState}
-use Rattle.workflow_runs.specs.declared.phases.LegPhase.{LegPhase}
-use Rattle.workflow_runs.specs.declared.phases.LegPhase.TheVariants as leg
-use Rattle.workflow_runs.specs.declared.phases.JobPhase.{JobPhase}
-use Rattle.workflow_runs.specs.declared.phases.JobPhase.TheVariants as job
-use Rattle.workflow_runs.specs.declared.phases.RunPhase.{RunPhase}
-use Rattle.workflow_runs.specs.declared.phases.RunPhase.TheVariants as phase
+pub use Rattle.run_states.specs.JobResults.{results_of}
+use Rattle.run_states.specs.RunNumber.{events, run_number}
+use Rattle.run_states.specs.RunState.{LegState, JobState, RunState}
+use Rattle.run_states.specs.declared.phases.JobPhase.{JobPhase}
+use Rattle.run_states.specs.declared.phases.JobPhase.TheVariants as job
+use Rattle.run_states.specs.declared.phases.LegPhase.{LegPhase}
+use Rattle.run_states.specs.declared.phases.LegPhase.TheVariants as leg
+use Rattle.run_states.specs.declared.phases.RunPhase.{RunPhase}
+use Rattle.run_states.specs.declared.phases.RunPhase.TheVariants as phase
 
--- what is seen of a run: its id, its number and itself
+-- the view of a run: its id, its number and the run itself
 pub record Seen : Type 0 where
   pub id : ℕ
   pub number : ℕ
@@ -54,7 +54,7 @@ has_claimed_leg j = list_any (λ l. is_some l.lease) j.legs
 abbrev pub was_claimed : List JobState → Bool
 was_claimed jobs = list_any has_claimed_leg jobs
 
--- of a live run: whether a leg of its jobs was ever claimed
+-- the status of a live run, by whether any of its legs was ever claimed
 abbrev pub live_text : Bool → List ℕ
 live_text claimed = if claimed then codes "in_progress" else codes "queued"
 
@@ -69,11 +69,11 @@ conclusion_text phase.Waiting jobs = codes "-"
 conclusion_text phase.Live jobs = codes "-"
 conclusion_text phase.Ended jobs = outcome_word (conclusion_of (results_of jobs))
 
--- a job's id and its state, behind a space
+-- a job's id and its state, after a space
 abbrev pub planned_job_text : PlannedJob × JobState → List ℕ
 planned_job_text j = codes " " ++ j.0.id ++ codes ":" ++ job_text j.1
 
--- each job of the plan with its record
+-- each job of the plan with its state
 abbrev pub jobs_text : List PlannedJob → List JobState → List ℕ
 jobs_text plan jobs = flat_map planned_job_text (zip plan jobs)
 
@@ -81,7 +81,7 @@ jobs_text plan jobs = flat_map planned_job_text (zip plan jobs)
 abbrev pub run_text : List PlannedJob → RunPhase → List JobState → List ℕ
 run_text plan phase jobs = status_text phase jobs ++ codes " " ++ conclusion_text phase jobs ++ jobs_text plan jobs
 
--- the number, and from the second attempt on the attempt behind it
+-- the number, followed by the attempt from the second one on
 abbrev pub number_text : ℕ → ℕ → List ℕ
 number_text number attempt = if nat_le attempt 1 then decimal number else decimal number ++ codes "." ++ decimal attempt
 

@@ -1,18 +1,18 @@
 //! The run table: one step for each command, and the settling that follows it.
 #![tactic(auto)]
 
-mod content;
-mod parts;
+mod leases;
 mod runner;
 mod runners;
-mod sound;
 mod table;
+mod table_data;
 mod turns;
 mod view;
 mod view_text;
 
-pub use parts::{LastParts, Parts, RunnerParts, StoredLease, StoredPlace, do_names_rise};
+pub use leases::{kept_lease, leg_has_lease};
 pub use runner::Runner;
 pub use table::Table;
+pub use table_data::{LAST_ATTEMPT, LAST_NUMBER};
 pub use view::RunView;
 pub use view_text::{conclusion_word, leg_word, status_word};

@@ -7,7 +7,7 @@ use std::alloc::Global;
 use std::marker::Model;
 use wf_value::{Refusal, TryCopy};
 
-/// What the table knows of a runner: its last numbered command with the reply that is kept for it.
+/// The table's record of a runner: its last numbered command with the kept reply, and the lease that it holds.
 #[derive(Drop)]
 pub struct Runner {
     pub name: RunnerName,
@@ -29,7 +29,7 @@ impl Model for Runner {
 impl Runner {
     ghost use Rattle.run_table.specs.Step.{claiming_runner, released, reporting_runner};
 
-    /// What is kept of a runner after its claim.
+    /// The record of a runner after its claim.
     pub(crate) fn claiming(
         alloc: Global,
         claim: &Claim,
@@ -46,7 +46,7 @@ impl Runner {
         })
     }
 
-    /// What is kept of a runner after its report.
+    /// The record of a runner after its report.
     pub(crate) fn reporting(alloc: Global, report: &Done) -> Result<Self, Refusal>
         ensures { Gives (λ r. r) result (Ok (reporting_runner report.now)) }
     {
@@ -58,7 +58,7 @@ impl Runner {
         })
     }
 
-    /// The runner, which holds no lease any more.
+    /// The runner, holding no lease.
     pub(crate) fn released(&self, alloc: Global) -> Result<Self, Refusal>
         ensures { Gives (λ r. r) result (Ok (released self.now)) }
     {
@@ -91,7 +91,7 @@ impl TryCopy for Runner {
     }
 }
 
-/// Whether the runner, if there is one, holds a lease.
+/// Whether there is a runner and it holds a lease.
 pub fn holds_lease(runner: Option<&Runner>) -> bool
     ensures { result ≡ holds_lease (option_map (λ r. r.now) runner.entry) }
 {
@@ -101,7 +101,7 @@ pub fn holds_lease(runner: Option<&Runner>) -> bool
     }
 }
 
-/// Whether the runner, if there is one, holds this lease.
+/// Whether there is a runner and it holds this lease.
 pub fn holds_this(runner: Option<&Runner>, lease: Number) -> bool
     ensures { result ≡ holds_this lease (option_map (λ r. r.now) runner.entry) }
 {

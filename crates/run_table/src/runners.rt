@@ -4,16 +4,13 @@ ghost use Rattle.wf_value.specs.Gives.{Gives};
 ghost use Rattle.run_table.specs.PlaceNamed.{place_named};
 ghost use Rattle.run_table.specs.Turns.{is_below, is_named, kept_named, names_rise, runner_named, with_runner};
 
-pub(crate) mod leased;
-mod of;
-
 use crate::runner::Runner;
 use run_plan::RunnerName;
 use std::alloc::Global;
 use std::marker::Model;
 use wf_value::{Refusal, TryCopy, copy_items};
 
-/// The runners of a table, in the order of their names. A contract sees the list of them.
+/// The runners of a table, in the order of their names. A contract sees them as a list.
 #[derive(Drop)]
 pub struct Runners {
     runners: Vec<Runner>,
@@ -40,6 +37,14 @@ impl Runners {
         }
     }
 
+    /// These runners, whose names rise.
+    pub(crate) fn of_rising(runners: Vec<Runner>) -> Self
+        requires { names_rise runners.items ≡ true }
+        ensures { result ≡ runners.items }
+    {
+        Runners { runners }
+    }
+
     pub(crate) fn as_slice(&self) -> &[Runner]
         ensures runners { result.now ≡ self.now }
         ensures rise { names_rise self.now ≡ true }
@@ -47,14 +52,14 @@ impl Runners {
         self.runners.as_slice()
     }
 
-    /// Where the runner of a name stands, or would.
+    /// The index of the runner with this name, or the index where it would be inserted.
     pub(crate) fn place_named(&self, name: &RunnerName) -> usize
         ensures { result ≡ place_named self.now name.now }
     {
         count_below(self.as_slice(), name)
     }
 
-    /// The runner of a name, whose place is known.
+    /// The runner with this name, given its index.
     pub(crate) fn at(&self, place: usize, name: &RunnerName) -> Option<&Runner>
         requires { place ≡ place_named self.now name.now }
         ensures { option_map (λ r. r.now) result ≡ runner_named self.now name.now }
@@ -62,7 +67,8 @@ impl Runners {
         named_at(self.as_slice(), place, name)
     }
 
-    /// Puts the runner where its name belongs, in the place of the one of its name. At an error the runners are as they were.
+    /// Inserts the runner at the index of its name, or replaces the runner of that name. On error the runners are
+    /// unchanged.
     pub(crate) fn put(&mut self, place: usize, runner: Runner) -> Result<(), Refusal>
         requires { place ≡ place_named self.old runner.name }
         ensures put { Gives (λ _. self.new) result (Ok (with_runner self.old runner)) }
@@ -92,7 +98,7 @@ fn is_named(runner: &Runner, name: &RunnerName) -> bool
     runner.name.as_str() == name.as_str()
 }
 
-/// How many of the runners, which stand in the order of their names, have a name below this one.
+/// The number of runners whose name is below this one. The runners are sorted by name.
 fn count_below(runners: &[Runner], name: &RunnerName) -> usize
     requires { names_rise runners.now ≡ true }
     ensures { result ≡ place_named runners.now name.now }
@@ -100,7 +106,7 @@ fn count_below(runners: &[Runner], name: &RunnerName) -> usize
     runners.partition_point(|runner| is_below(runner, name))
 }
 
-/// The runner at a place, where it has the name.
+/// The runner at an index, if it has the name.
 fn named_at<'a>(runners: &'a [Runner], place: usize, name: &RunnerName) -> Option<&'a Runner>
     ensures { option_map (λ r. r.now) result ≡ option_and_then (kept_named name.now) (slice_get runners.now place) }
 {

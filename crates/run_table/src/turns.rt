@@ -1,5 +1,5 @@
-//! What a numbered command is answered before the table is looked at: the kept reply where it is the
-//! runner's last again, and a refusal where it is out of turn.
+//! The reply to a numbered command that follows from its number alone: the kept reply if it repeats the runner's last
+//! command, and a refusal if its number is not the next.
 
 ghost use Rattle.std.specs.Prelude.{◌≡◌, false, Ok, option_map, Some, IsOk};
 ghost use Rattle.wf_value.specs.Gives.{Gives};
@@ -12,7 +12,7 @@ use run_plan::{Claim, Done, LastCommand, Number, Reply};
 use std::alloc::Global;
 use wf_value::Refusal;
 
-/// A refusal, where the number is not the one after the last.
+/// A refusal if the number is not the one after the last.
 fn turn_answer(last: u32, number: Number) -> Option<Reply>
     ensures { result ≡ turn_answer last number }
 {
@@ -31,7 +31,7 @@ fn kept_reply(alloc: Global, last: &LastCommand) -> Result<Option<Reply>, Refusa
     Ok(Some(last.reply(alloc)?))
 }
 
-/// What a claim is answered by its number alone.
+/// The reply to a claim that follows from its number alone, if any.
 pub fn answer_to_claim(
     alloc: Global,
     runner: Option<&Runner>,
@@ -50,7 +50,7 @@ pub fn answer_to_claim(
     }
 }
 
-/// What a report is answered by its number alone.
+/// The reply to a report that follows from its number alone, if any.
 pub fn answer_to_report(
     alloc: Global,
     runner: Option<&Runner>,

@@ -4,13 +4,13 @@ ghost use Rattle.run_table.specs.ViewText.{number_text, seen_of, seen_text};
 
 use crate::view_text::{conclusion_word, push_jobs, status_word};
 use run_plan::Number;
+use run_states::Run;
 use std::alloc::{AllocError, Global};
 use std::marker::Model;
 use wf_value::{Chars, Refusal};
-use workflow_runs::run::Run;
 use workflow_runs::runs::Runs;
 
-/// What is seen of a run: its id, its number among the runs of its workflow, and the run.
+/// The view of a run: its id, its number among the runs of its workflow, and the run itself.
 #[derive(Drop)]
 pub struct RunView<'a> {
     id: Number,
@@ -64,7 +64,7 @@ impl<'a> RunView<'a> {
     }
 }
 
-/// The number of a run, and from the second attempt on the attempt behind it.
+/// The number of a run, followed by the attempt from the second one on.
 fn number_text(alloc: Global, number: usize, attempt: u32) -> Result<String, AllocError>
     ensures { IfOk result (λ s. string_bytes s ≡ number_text number attempt) }
 {
@@ -75,7 +75,7 @@ fn number_text(alloc: Global, number: usize, attempt: u32) -> Result<String, All
     }
 }
 
-/// What is seen of the run of an id. It takes no memory.
+/// The view of the run with this id. It takes no memory.
 pub fn look(runs: &Runs, id: Number) -> Option<RunView<'_>>
     ensures { result ≡ seen_of runs.now id }
 {

@@ -1,19 +1,17 @@
-//! The printed view of a run, by its parts. Each `push_` function adds a part to a text.
+//! The parts of a run's printed view. Each `push_` function appends one to a text.
 
 ghost use Rattle.std.specs.Prelude.{◌≡◌, ◌++◌, OnOk, map, string_bytes};
 ghost use Rattle.std.specs.List.{join_with_byte, list_any};
 ghost use Rattle.needs_graph.specs.Results.{conclusion_of};
-ghost use Rattle.workflow_runs.specs.Cells.{states};
+ghost use Rattle.run_states.specs.Cells.{states};
 ghost use Rattle.run_table.specs.ViewText.{conclusion_text, has_claimed_leg, job_text, jobs_text, leg_text, legs_text, planned_job_text};
 ghost use Rattle.run_table.specs.ViewText.{results_of, status_text, was_claimed};
 
 use needs_graph::conclude;
 use run_plan::PlannedJob;
+use run_states::{Job, JobPhase, Leg, LegPhase, RunPhase};
 use std::alloc::AllocError;
 use wf_value::Outcome;
-use workflow_runs::job::Job;
-use workflow_runs::leg::Leg;
-use workflow_runs::phases::{JobPhase, LegPhase, RunPhase};
 
 pub fn leg_word(phase: LegPhase) -> &'static str
     ensures { result.now ≡ leg_text phase }
@@ -46,8 +44,8 @@ fn was_claimed(jobs: &[Job]) -> bool
     any_claimed(jobs)
 }
 
-/// `pending` for a waiting run, `queued` for a live one of which no leg was ever claimed, else
-/// `in_progress` or `completed`.
+/// `pending` for a waiting run, `queued` for a live run without a claimed leg, `in_progress` for any other live run,
+/// `completed` for an ended run.
 pub fn status_word(phase: RunPhase, jobs: &[Job]) -> &'static str
     ensures { result.now ≡ status_text phase (states jobs.now) }
 {
@@ -65,7 +63,7 @@ fn conclusion(jobs: &[Job]) -> Outcome
     conclude(jobs)
 }
 
-/// The conclusion of a run that has ended, else `-`.
+/// The conclusion of an ended run, else `-`.
 pub fn conclusion_word(phase: RunPhase, jobs: &[Job]) -> &'static str
     ensures { result.now ≡ conclusion_text phase (states jobs.now) }
 {
@@ -118,7 +116,7 @@ fn push_planned_job(planned: &PlannedJob, job: &Job, text: &mut String) -> Resul
     push_job(job, text)
 }
 
-/// Each job of a plan with its state, behind a space.
+/// Appends each job of a plan with its state, each after a space.
 pub fn push_jobs(plan: &[PlannedJob], jobs: &[Job], text: &mut String) -> Result<(), AllocError>
     ensures { OnOk result (string_bytes text.new ≡ string_bytes text.old ++ jobs_text plan.now (states jobs.now)) }
 {

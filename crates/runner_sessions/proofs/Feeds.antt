@@ -1,4 +1,4 @@
--- Where the first line feed of a session's bytes stands.
+-- The position of the first line feed in a session's bytes.
 use Rattle.std.proofs.Common.{◌≡◌, ◌≢◌, ℕ, ◌+◌, ◌<◌, ◌≤◌, List, [], ◌∷◌, ◌++◌, length, take, drop, Bool, true, false, cond, Some, None, refl, sym, ap, ◌∙◌, ◌==◌, append_assoc, take-append-drop, length-take, arith}
 use Rattle.std.specs.Prelude.{slice_index_or}
 use Rattle.std.proofs.Math.Dec.{ltb}
@@ -15,7 +15,7 @@ is_feed b = b == 10
 no_feed : (b : ℕ) → is_feed b ≡ false → b ≢ 10
 no_feed b absent e = let yes = ap is_feed e in cc
 
--- the first one is at i
+-- the first line feed is at i
 pub record FirstAt (bytes : List ℕ) (i : ℕ) : Type 0 where
   pub within : i < length bytes
   pub short : i < 512

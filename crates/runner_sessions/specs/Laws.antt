@@ -1,4 +1,4 @@
--- The lines of a session's bytes are one list, whatever follows them, and an unfinished line is none.
+-- The lines of a session's bytes are determined, whatever follows them, and an unfinished line is not a line.
 use Rattle.std.specs.Prelude.{◌≡◌, ℕ, ◌<◌, List, [], ◌∷◌, ◌++◌, length, take, drop, slice_index_or, refl}
 use Rattle.std.proofs.Common.{sym, ap, ◌∙◌, inl, inr, append_assoc, length-append, arith}
 use Rattle.std.proofs.lemmas.List.{get_or_append_left}
@@ -11,7 +11,7 @@ lines_steady bytes more rest r (line, none, inl (short, is, asks)) =
     (line, none, inl (short, ap (λ b. b ++ more) is ∙ append_assoc line (10 ∷ rest) more, asks))
 lines_steady bytes more rest r (line, none, inr (long, is, asks)) = (line, none, inr (long, ap (λ b. b ++ more) is ∙ append_assoc line rest more, asks))
 
--- behind a line stands its line feed, so no line goes further
+-- a line feed follows each line, so no line can be longer
 feed_behind : (line rest : List ℕ) → slice_index_or (line ++ 10 ∷ rest) (length line) 0 ≡ 10
 feed_behind [] rest = refl
 feed_behind (b ∷ line) rest = feed_behind line rest
@@ -24,7 +24,7 @@ no_further line rest other behind none e less =
 same_length : (m n : ℕ) → (m < n → ⊥) → (n < m → ⊥) → m ≡ n
 same_length m n a b = omega arith
 
--- fronts of one length are one
+-- prefixes of equal length are equal
 same_front : (line other a b : List ℕ) → length line ≡ length other → line ++ a ≡ other ++ b → line ≡ other
 same_front line other a b same e =
     sym (take-append_seam line a) ∙ ap (λ n. take n (line ++ a)) same ∙ ap (take (length other)) e ∙ take-append_seam other b
@@ -48,7 +48,7 @@ lines_one bytes rest after r s (line, none, inr (long, is, asks)) (other, never,
 lines_one bytes rest after r s (line, none, inr (long, is, asks)) (other, never, inr (vast, stands, demands)) =
     let same = long ∙ sym vast in (asks ∙ sym demands, same_rest line other rest after same (sym is ∙ stands))
 
--- a line feed stands in none of these bytes, or they are too few
+-- unfinished bytes contain no line feed and are too few for a line that is too long
 pub lines_apart : IsApart runner_rules
 lines_apart bytes rest r (none, few) (line, never, inl (short, is, asks)) =
     let e = ap length is ∙ length-append line (10 ∷ rest) in

@@ -4,7 +4,7 @@ ghost use Rattle.act_sessions.specs.Rules.{IsNext};
 ghost use Rattle.command_lines.specs.Commands.{not_a_line};
 ghost use Rattle.runner_sessions.specs.Line.{command_by, command_of, demand_by, request_in, runner_rules};
 
-use act_sessions::{Demand, Found, Request};
+use act_sessions::{Demand, FoundRequest, Request};
 use command_lines::{
     at_space, beat_of, claim_of, done_of, fetch_of, place_of_line_feed, spelled,
     strip_carriage_return,
@@ -14,7 +14,7 @@ use std::alloc::Global;
 use wf_value::{Code, Refusal};
 
 /// The longest line with its line feed, in bytes.
-pub const MOST_LINE: usize = 512;
+pub const MAX_LINE: usize = 512;
 
 fn command_by(alloc: Global, word: &[u8], fields: &[u8]) -> Result<Command, Refusal>
     ensures { Gives (λ c. c) result (command_by word.now fields.now) }
@@ -32,7 +32,7 @@ fn command_by(alloc: Global, word: &[u8], fields: &[u8]) -> Result<Command, Refu
     }
 }
 
-/// The command of a line. Every other line is refused 75, and want of memory is 50.
+/// The command of a line. Every other line is refused with 75; out of memory is refusal 50.
 fn command_of(alloc: Global, line: &[u8]) -> Result<Command, Refusal>
     ensures { Gives (λ c. c) result (command_of line.now) }
 {
@@ -40,7 +40,7 @@ fn command_of(alloc: Global, line: &[u8]) -> Result<Command, Refusal>
     command_by(alloc, word, fields)
 }
 
-/// What a line asks, which may end with a carriage return.
+/// What a line demands. The line may end with a carriage return.
 fn request_in(alloc: Global, line: &[u8]) -> Result<Request<Refusal>, Refusal>
     ensures { Gives (λ r. r) result (Ok (request_in line.now)) }
 {
@@ -55,23 +55,23 @@ fn request_in(alloc: Global, line: &[u8]) -> Result<Request<Refusal>, Refusal>
     })
 }
 
-/// The line that stands whole at the front of the bytes: one with its line feed, or as many bytes as the longest has without one.
-pub fn next_line(alloc: Global, bytes: &[u8]) -> Result<Option<Found<Refusal>>, Refusal>
+/// The whole line at the start of the bytes: a line with its line feed, or as many bytes as the longest line has without one.
+pub fn next_line(alloc: Global, bytes: &[u8]) -> Result<Option<FoundRequest<Refusal>>, Refusal>
     ensures { IsNext runner_rules bytes.now result }
 {
-    let front = &bytes[..bytes.len().min(MOST_LINE)];
+    let front = &bytes[..bytes.len().min(MAX_LINE)];
     match place_of_line_feed(front) {
-        Some(place) => Ok(Some(Found {
+        Some(place) => Ok(Some(FoundRequest {
             request: request_in(alloc, &bytes[..place])?,
             length: place + 1,
         })),
-        None if front.len() < MOST_LINE => Ok(None),
-        None => Ok(Some(Found {
+        None if front.len() < MAX_LINE => Ok(None),
+        None => Ok(Some(FoundRequest {
             request: Request {
                 demand: Demand::Fault(Refusal::Numbered(Code::Line)),
                 closes: true,
             },
-            length: MOST_LINE,
+            length: MAX_LINE,
         })),
     }
 }

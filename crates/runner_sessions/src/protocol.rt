@@ -4,14 +4,14 @@ ghost use Rattle.wf_value.specs.Gives.{Gives};
 ghost use Rattle.wf_value.specs.RefusalText.{refusal_text};
 ghost use Rattle.runner_sessions.specs.Line.{response_text};
 
-use crate::line::{MOST_LINE, next_line};
-use act_sessions::{Found, Protocol};
+use crate::line::{MAX_LINE, next_line};
+use act_sessions::{FoundRequest, Protocol};
 use run_plan::Reply;
 use std::alloc::Global;
 use wf_value::{Chars, Refusal};
 
 /// The most lines of a session.
-const MOST_LINES: u64 = 1024;
+const MAX_LINES: u64 = 1024;
 
 /// The protocol of runners.
 pub struct RunnerLines;
@@ -44,14 +44,14 @@ impl Protocol for RunnerLines {
     ghost rules = { runner_rules };
 
     fn most() -> u64 {
-        MOST_LINES
+        MAX_LINES
     }
 
     fn limit() -> usize {
-        MOST_LINE
+        MAX_LINE
     }
 
-    fn next(alloc: Global, bytes: &[u8]) -> Result<Option<Found<Refusal>>, Refusal> {
+    fn next(alloc: Global, bytes: &[u8]) -> Result<Option<FoundRequest<Refusal>>, Refusal> {
         next_line(alloc, bytes)
     }
 
@@ -67,7 +67,7 @@ impl Protocol for RunnerLines {
         line_of(fault.text(alloc)?)
     }
 
-    fn starved() -> Option<&'static [u8]> {
+    fn out_of_memory_response() -> Option<&'static [u8]> {
         None
     }
 

@@ -1,13 +1,14 @@
--- Two lists of moves that say the same of some holders, by other names.
+-- Two lists of moves that agree about some holders, under other names.
 use Rattle.std.specs.Prelude.{◌≡◌, List, [], ◌∷◌, ◌++◌, true, Some}
-use Rattle.workflow_runs.specs.GroupWords.{has_arrived, has_ended, has_started, is_pending, is_running, latest, next_displaced, was_stopped}
-use Rattle.workflow_runs.specs.Moves.{Holder, Move}
+use Rattle.run_states.specs.GroupWords.{has_arrived, has_ended, has_started, is_pending, is_running, latest, next_displaced, was_stopped}
+use Rattle.run_states.specs.Moves.{Move}
+use Rattle.run_states.specs.declared.holder.Holder.{Holder}
 
--- no two holders have one name
+-- no two holders have the same name
 abbrev pub IsInjective : (Holder → Holder) → Type 0
 IsInjective name = (h k : Holder) → name h ≡ name k → h ≡ k
 
--- What the first says of a holder the second one says of its name; and who has no name now neither runs nor waits.
+-- What the first list says about a holder, the second says about its name. A name that belongs to no holder neither runs nor waits.
 pub record Agrees (name : Holder → Holder) (now whole : List Move) : Type 0 where
   pub arrived : (h : Holder) → has_arrived (name h) whole ≡ has_arrived h now
   pub started : (h : Holder) → has_started (name h) whole ≡ has_started h now

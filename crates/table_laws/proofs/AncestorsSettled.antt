@@ -1,5 +1,5 @@
--- Where each job that was decided has its needs settled, all ancestors of a job with settled needs have settled, and
--- their results stay.
+-- If the needs of each decided job have finished, then all ancestors of a job whose needs have finished have finished too, and their
+-- results do not change.
 use Rattle.std.specs.Prelude.{◌≡◌, ℕ, zero, suc, ◌||◌, List, [], ◌∷◌, ◌++◌, filter, length, nat_eq, Bool, true, false, is_some}
 use Rattle.std.specs.Prelude.{Option, Some, None, if◌then◌else◌, refl}
 use Rattle.std.specs.List.{flat_map, list_any, range_with_len, slice_index_or}
@@ -8,13 +8,13 @@ use Rattle.std.proofs.lemmas.Bool.{and_from, and_parts, eqb-true}
 use Rattle.wf_value.specs.declared.outcome.JobResult.{JobResult}
 use Rattle.needs_graph.specs.Ancestors.{ancestors_of, is_ancestor, needs_at, walk_ends}
 use Rattle.needs_graph.specs.Conditions.{results_at}
-use Rattle.workflow_runs.specs.Words.{all_have_results}
-use Rattle.workflow_runs.proofs.LegFacts.{result_kept}
+use Rattle.run_states.specs.Words.{all_have_results}
+use Rattle.run_states.proofs.LegFacts.{result_kept}
 
 abbrev pub has_result : List (Option JobResult) → ℕ → Bool
 has_result results j = is_some (slice_index_or results j None)
 
--- each job that has a result has its needs settled
+-- the needs of each job that has a result have finished
 abbrev pub NeedsBefore : List (List ℕ) → List (Option JobResult) → Type 0
 NeedsBefore graph results = (j : ℕ) → is_some (slice_index_or results j None) ≡ true → all_have_results results (needs_at graph j) ≡ true
 

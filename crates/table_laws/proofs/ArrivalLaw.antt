@@ -1,4 +1,4 @@
--- After an arrival the moves of each group keep its law again, and say how far its holders have come.
+-- After an arrival the moves of each group satisfy its law again, and match the status of each of its holders.
 use Rattle.std.specs.Prelude.{◌≡◌, ◌⊎◌, List, [], ◌∷◌, ◌++◌, ◌&&◌, ◌||◌, filter_map, not, Bool, true, false, Option, Some, None}
 use Rattle.std.specs.Prelude.{option_to_list, if◌then◌else◌, refl}
 use Rattle.std.specs.List.{last_or}
@@ -9,17 +9,17 @@ use Rattle.std.proofs.lemmas.List.{append-nil}
 use Rattle.std.proofs.lemmas.List.Elements.{filter_map-append}
 use Rattle.wf_value.specs.declared.outcome.Outcome.TheVariants.{Cancelled}
 use Rattle.group_name.specs.Group.{Group, same_group}
-use Rattle.workflow_runs.specs.Arrivals.{arrived, displaced, others_pending, room_made, stopped_where_asked}
-use Rattle.workflow_runs.specs.GroupOf.{cancels_in_progress, group_at}
-use Rattle.workflow_runs.specs.GroupWords.{arrival_of, has_arrived, has_started, is_pending, is_running, latest, next_displaced}
-use Rattle.workflow_runs.specs.GroupWords.{same_holder, was_stopped}
-use Rattle.workflow_runs.specs.Groups.{HasOneBeside, holds, is_in, is_pending_in, is_running_in, running_in, waits}
-use Rattle.workflow_runs.specs.Moves.{Holder, Move, Transition, at_each, without_moves}
-use Rattle.workflow_runs.specs.StopMoves.{stop_holder}
-use Rattle.workflow_runs.specs.RunState.{RunState}
+use Rattle.run_states.specs.Arrivals.{arrived, displaced, others_pending, room_made, stopped_where_asked}
+use Rattle.run_states.specs.GroupOf.{cancels_in_progress, group_at}
+use Rattle.run_states.specs.GroupWords.{arrival_of, has_arrived, has_started, is_pending, is_running, latest, next_displaced}
+use Rattle.run_states.specs.GroupWords.{same_holder, was_stopped}
+use Rattle.run_states.specs.Groups.{HasOneBeside, holds, is_in, is_pending_in, is_running_in, running_in, waits}
+use Rattle.run_states.specs.Moves.{Move, Transition, at_each, without_moves}
+use Rattle.run_states.specs.RunState.{RunState}
+use Rattle.run_states.specs.StopMoves.{stop_holder}
+use Rattle.run_states.proofs.RunFits.{RunsFit}
 use Rattle.workflow_runs.proofs.ArrivalKeeps.{asked_fades, displaced_one_each, itself, nobody_else, one_or_another}
 use Rattle.workflow_runs.proofs.OneEach.{Comes, IsOneOf, group_is, one_that_holds, one_that_waits}
-use Rattle.workflow_runs.proofs.RunFits.{RunsFit}
 use Rattle.table_laws.specs.GroupLaw.{BeginsWith, cancelled_end}
 use Rattle.table_laws.proofs.ArrivalTold.{stop_begins, tells_then}
 use Rattle.table_laws.proofs.ChangesTold.{only_one}
@@ -37,14 +37,15 @@ use Rattle.table_laws.proofs.OwnMoves.{arrived_by_own, of_group, of_group_on, ow
 use Rattle.table_laws.proofs.RoomMade.{Displaces, asked_all_still, asked_stops, asked_tells, begins_in_group, displaced_all_still, displaced_fades, displaced_so, end_is_silent, end_of_another, end_of_group, who_is_displaced}
 use Rattle.table_laws.proofs.StopsTold.{Tells}
 use Rattle.table_laws.proofs.Unbegun.{AllStill, Unbegun, still_of_all, waiting_unbegun}
+use Rattle.run_states.specs.declared.holder.Holder.{Holder}
 
--- ---- the newcomer has come, and waits; then room is made for it
+-- ---- the newcomer has arrived and waits; then room is made for it
 
 module _ (in_group cancels : Holder → Bool) (g : Group) (before now : List RunState) (n : Holder) (fit : RunsFit now)
     (set : (h : Holder) → (h ≡ n → ⊥) → Goes h (status before h) (own h (Move.arrive n ∷ [])) (status now h))
     (comes : Comes before now n) (waiting : waits now n ≡ true) (besides : HasOneBeside now n)
     (same : (h : Holder) → IsOneOf now h → in_group h ≡ is_in now g h) (still : AllStill before now) where
-  -- ---- the group is another one
+  -- ---- the newcomer is in another group
 
   module _ (isnt : in_group n ≡ false) where
     coming_is_quiet : IsQuiet in_group cancels before (record { runs = now; moves = Move.arrive n ∷ [] })
@@ -98,7 +99,7 @@ module _ (in_group cancels : Holder → Bool) (g : Group) (before now : List Run
           (stops_are_quiet in_group cancels mid (stopped_where_asked c k mid) (asked_tells c k mid) (asked_stops c k mid)
           (asked_fades c k mid).waited (asked_all_still c k mid))))
 
-  -- ---- it is this group
+  -- ---- the newcomer is in this group
 
   module _ (is : in_group n ≡ true) (its : group_at now n ≡ Some g) (asks : cancels n ≡ true → cancels_in_progress now n ≡ true)
       (same_then : (h : Holder) → IsOneOf (displaced g n now).runs h → in_group h ≡ is_in (displaced g n now).runs g h)
@@ -152,7 +153,7 @@ module _ (in_group cancels : Holder → Bool) (g : Group) (before now : List Run
               absurd (true≢false (sym pends ∙ sym (waits_by_own h moves) ∙ ap (is_pending h) (so_far.others h isnt)))
         ] refl
 
-    -- so the one that it displaces is the one that waits next
+    -- so the holder that it displaces is the one that would start next
     next_is : next_displaced moves ≡ o
     next_is = by_one o refl
       where
@@ -182,7 +183,7 @@ module _ (in_group cancels : Holder → Bool) (g : Group) (before now : List Run
                   (fits_pending (status before d) d moves (so_far.each d too) ∙ sym (waits_as before d) ∙ waited)
             ]
 
-    -- ---- one that runs, and has not been told to stop, does so still once the pending one is displaced
+    -- ---- a running holder that is not asked to stop is still so once the pending holder is displaced
 
     module _ (h : Holder) (runs : is_running h moves ≡ true) (untold : was_stopped h moves ≡ false) where
       of_h : in_group h ≡ true
@@ -308,7 +309,7 @@ module _ (in_group cancels : Holder → Bool) (g : Group) (before now : List Run
           filter_map-append arrival_of (cancelled_end o) (of_group in_group (stopped_where_asked c g (displaced g n now).runs).moves)
           ∙ ap₂ (λ a b. a ++ b) (end_is_silent o) ((asked_stops c g (displaced g n now).runs).silent in_group)
 
-      -- another one had arrived before
+      -- every other holder had arrived before
       had_arrived : (h : Holder) (earlier : List Move) → (h ≡ n → ⊥)
           → has_arrived h (earlier ++ of_group in_group (Move.arrive n ∷ (room_made c n now g).moves)) ≡ true → has_arrived h earlier ≡ true
       had_arrived h earlier other arrives =
@@ -351,7 +352,7 @@ module _ (in_group cancels : Holder → Bool) (g : Group) (before now : List Run
                 (started_before in_group cancels h moves more unstarted)))
           ]
 
-      -- how far each has come once the newcomer has, and then once room is made for it
+      -- the status of each holder after the arrival, and then after room is made
       came : (h : Holder) → in_group h ≡ true → Fits (status now h) h (own h moves ++ own h (Move.arrive n ∷ []))
       came h too =
           elim (one_or_another h n) [
@@ -394,7 +395,7 @@ module _ (in_group cancels : Holder → Bool) (g : Group) (before now : List Run
             once = arrives_once;
           }
 
-  -- ---- whatever its group
+  -- ---- in any group
 
   module _ (asked : cancels n ≡ true → cancels_in_progress now n ≡ true)
       (same_then : group_at now n ≡ Some g → (h : Holder) → IsOneOf (displaced g n now).runs h

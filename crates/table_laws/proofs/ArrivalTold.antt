@@ -1,30 +1,33 @@
--- An arrival keeps the law of its group: the pending holder is displaced, and with cancel-in-progress the running one is stopped.
+-- An arrival preserves the law of its group: the pending holder is displaced, and with cancel-in-progress the running one is stopped.
 use Rattle.std.specs.Prelude.{◌≡◌, ℕ, List, [], ◌∷◌, ◌++◌, Bool, true, false, Option, Some, None}
 use Rattle.std.specs.Prelude.{option_map, if◌then◌else◌, slice_get, refl}
 use Rattle.std.specs.Option.{option_map_or}
 use Rattle.std.proofs.Common.{ap, inl, inr, sym, ◌∙◌, subst}
 use Rattle.wf_value.specs.declared.outcome.Outcome.TheVariants.{Cancelled}
-use Rattle.workflow_runs.specs.FirstOf.{changed_at}
-use Rattle.workflow_runs.specs.Moves.{Holder, Move, Transition, and_then, at_each, without_moves}
-use Rattle.workflow_runs.specs.Places.{LegPlace, leg_at, run_at, with_leg}
-use Rattle.workflow_runs.specs.StopMoves.{displace, jobs_stop_moves, leg_stop_moves, run_stop_moves_in, stop_holder, told_moves}
-use Rattle.workflow_runs.specs.Stops.{stopped, stopped_in, stopped_run}
-use Rattle.workflow_runs.specs.RunState.{LegState, RunState}
-use Rattle.workflow_runs.specs.declared.phases.LegPhase.{LegPhase}
-use Rattle.workflow_runs.specs.declared.phases.LegPhase.TheVariants as leg
-use Rattle.workflow_runs.specs.declared.phases.RunPhase.{RunPhase}
-use Rattle.workflow_runs.specs.declared.phases.RunPhase.TheVariants as run
+use Rattle.run_states.specs.FirstOf.{changed_at}
+use Rattle.run_states.specs.Moves.{Move, Transition, and_then, at_each, without_moves}
+use Rattle.run_states.specs.Places.{leg_at, run_at, with_leg}
+use Rattle.run_states.specs.declared.place.LegPlace.{LegPlace}
+use Rattle.run_states.specs.RunState.{LegState, RunState}
+use Rattle.run_states.specs.StopMoves.{displace, jobs_stop_moves, leg_stop_moves, run_stop_moves_in, stop_holder, told_moves}
+use Rattle.run_states.specs.Stops.{stopped, stopped_in, stopped_run}
+use Rattle.run_states.specs.declared.phases.LegPhase.{LegPhase}
+use Rattle.run_states.specs.declared.phases.LegPhase.TheVariants as leg
+use Rattle.run_states.specs.declared.phases.RunPhase.{RunPhase}
+use Rattle.run_states.specs.declared.phases.RunPhase.TheVariants as run
+use Rattle.run_states.proofs.Changed.{at_changed}
+use Rattle.run_states.proofs.JobKeeps.{with_job_of, with_leg_of}
 use Rattle.workflow_runs.proofs.ArrivalKeeps.{itself, one_or_another}
-use Rattle.workflow_runs.proofs.Changed.{at_changed}
-use Rattle.workflow_runs.proofs.JobKeeps.{with_job_of, with_leg_of}
 use Rattle.table_laws.specs.GroupLaw.{BeginsWith}
 use Rattle.table_laws.proofs.ChangesTold.{only_one, stop_tells}
 use Rattle.table_laws.proofs.HolderStatus.{Goes, Status, ends_at_once, goes_not, goes_on, goes_over, leg_status, run_status, status}
 use Rattle.table_laws.proofs.HolderStatus.{status_by, status_by_run, status_in_job, status_in_run, status_of_leg, status_of_run}
 use Rattle.table_laws.proofs.OwnMoves.{own, own_on}
 use Rattle.table_laws.proofs.StopsTold.{Tells, goes_by}
+use Rattle.run_states.specs.declared.holder.Holder.{Holder}
+use Rattle.run_states.specs.declared.holder.Holder.TheVariants.{Run, Leg}
 
--- ---- one change after another tells
+-- ---- one change after another
 
 pub tells_then : (runs : List RunState) (m : Transition) (change : List RunState → Transition) → Tells runs m → Tells m.runs (change m.runs)
     → Tells runs (and_then m change)
@@ -45,15 +48,15 @@ each_tells change one (h ∷ hs) runs =
 
 -- ---- a pending holder is displaced
 
--- a stop of one that waits is its stop and its end
+-- a stop of a waiting holder moves by its stop and its end
 run_stop_when_waiting : (r : ℕ) (phase : RunPhase) (b : Bool) (x : RunState) → run_status phase b ≡ Status.waiting
-    → run_stop_moves_in phase r x ≡ Move.stop (Holder.a_run r) ∷ Move.end_with Cancelled (Holder.a_run r) ∷ []
+    → run_stop_moves_in phase r x ≡ Move.stop (Run r) ∷ Move.end_with Cancelled (Run r) ∷ []
 run_stop_when_waiting r run.Waiting b x e = refl
 run_stop_when_waiting r run.Live b x e = cc
 run_stop_when_waiting r run.Ended b x e = cc
 
 leg_stop_when_waiting : (p : LegPlace) (phase : LegPhase) → leg_status phase ≡ Status.waiting
-    → leg_stop_moves p phase ≡ Move.stop (Holder.a_leg p) ∷ Move.end_with Cancelled (Holder.a_leg p) ∷ []
+    → leg_stop_moves p phase ≡ Move.stop (Leg p) ∷ Move.end_with Cancelled (Leg p) ∷ []
 leg_stop_when_waiting p leg.New e = cc
 leg_stop_when_waiting p leg.Waiting e = refl
 leg_stop_when_waiting p leg.Ready e = cc
@@ -69,16 +72,16 @@ moves_when of_it moves found so (Some x) e = so x e
 
 stop_when_waiting : (h : Holder) (runs : List RunState) → status runs h ≡ Status.waiting
     → (stop_holder h runs).moves ≡ Move.stop h ∷ Move.end_with Cancelled h ∷ []
-stop_when_waiting (Holder.a_run r) runs e =
+stop_when_waiting (Run r) runs e =
     moves_when status_of_run (λ x. run_stop_moves_in x.phase r x)
-    (Move.stop (Holder.a_run r) ∷ Move.end_with Cancelled (Holder.a_run r) ∷ [])
+    (Move.stop (Run r) ∷ Move.end_with Cancelled (Run r) ∷ [])
     (λ x is. run_stop_when_waiting r x.phase x.stopping x is) (run_at runs r) e
-stop_when_waiting (Holder.a_leg p) runs e =
+stop_when_waiting (Leg p) runs e =
     moves_when status_of_leg (λ z. leg_stop_moves p z.phase)
-    (Move.stop (Holder.a_leg p) ∷ Move.end_with Cancelled (Holder.a_leg p) ∷ []) (λ z is. leg_stop_when_waiting p z.phase is)
+    (Move.stop (Leg p) ∷ Move.end_with Cancelled (Leg p) ∷ []) (λ z is. leg_stop_when_waiting p z.phase is)
     (leg_at runs p) e
 
--- and it is over then
+-- and then it is over
 over_when : {X : Type 0} (of_it : X → Status) (f : X → X) → ((x : X) → of_it x ≡ Status.waiting → of_it (f x) ≡ Status.over)
     → (xs : List X) (i : ℕ)
     → status_by of_it (slice_get xs i) ≡ Status.waiting → status_by of_it (slice_get (changed_at i f xs) i) ≡ Status.over
@@ -103,8 +106,8 @@ leg_over z leg.Stopping is e = cc
 leg_over z (leg.Ended r) is e = cc
 
 stop_is_over : (h : Holder) (runs : List RunState) → status runs h ≡ Status.waiting → status (stop_holder h runs).runs h ≡ Status.over
-stop_is_over (Holder.a_run r) runs e = over_when status_of_run stopped_run (λ x is. run_over x.phase x.stopping x is) runs r e
-stop_is_over (Holder.a_leg p) runs e =
+stop_is_over (Run r) runs e = over_when status_of_run stopped_run (λ x is. run_over x.phase x.stopping x is) runs r e
+stop_is_over (Leg p) runs e =
     status_by_run (with_leg p stopped runs) p
     ∙ over_when (status_in_run p.job p.leg) (with_job_of p.job (with_leg_of p.leg stopped))
     (λ x is. over_when (status_in_job p.leg) (with_leg_of p.leg stopped)
@@ -130,10 +133,10 @@ displace_tells d runs waiting h =
           (none_of_stop ∙ sym (only_one d (Move.end_with Cancelled d) refl h apart)) (stop_tells d runs h)
     ]
 
--- ---- the stop of one that runs untold stands first
+-- ---- the stop of a running holder that is not yet asked to stop comes first
 
 run_begins : (r : ℕ) (phase : RunPhase) (x : RunState) → x.phase ≡ phase → status_of_run x ≡ Status.running false
-    → BeginsWith (Move.stop (Holder.a_run r) ∷ []) (run_stop_moves_in phase r x)
+    → BeginsWith (Move.stop (Run r) ∷ []) (run_stop_moves_in phase r x)
 run_begins r run.Waiting x is e = let no : Status.waiting ≡ Status.running false = sym (ap (λ
     (phase : RunPhase). run_status phase x.stopping) is) ∙ e in cc
 run_begins r run.Live x is e =
@@ -144,10 +147,10 @@ run_begins r run.Ended x is e = let no : Status.over ≡ Status.running false = 
     (phase : RunPhase). run_status phase x.stopping) is) ∙ e in cc
 
 leg_begins : (p : LegPlace) (phase : LegPhase) → leg_status phase ≡ Status.running false
-    → BeginsWith (Move.stop (Holder.a_leg p) ∷ []) (leg_stop_moves p phase)
+    → BeginsWith (Move.stop (Leg p) ∷ []) (leg_stop_moves p phase)
 leg_begins p leg.New e = cc
 leg_begins p leg.Waiting e = cc
-leg_begins p leg.Ready e = (Move.end_with Cancelled (Holder.a_leg p) ∷ [], refl)
+leg_begins p leg.Ready e = (Move.end_with Cancelled (Leg p) ∷ [], refl)
 leg_begins p leg.Running e = ([], refl)
 leg_begins p leg.Stopping e = cc
 leg_begins p (leg.Ended r) e = cc
@@ -160,10 +163,10 @@ begins_when of_it moves front so (Some x) e = so x e
 
 pub stop_begins : (h : Holder) (runs : List RunState) → status runs h ≡ Status.running false
     → BeginsWith (Move.stop h ∷ []) (stop_holder h runs).moves
-stop_begins (Holder.a_run r) runs e =
-    begins_when status_of_run (λ x. run_stop_moves_in x.phase r x) (Move.stop (Holder.a_run r) ∷ [])
+stop_begins (Run r) runs e =
+    begins_when status_of_run (λ x. run_stop_moves_in x.phase r x) (Move.stop (Run r) ∷ [])
     (λ x is. run_begins r x.phase x refl is)
     (run_at runs r) e
-stop_begins (Holder.a_leg p) runs e =
-    begins_when status_of_leg (λ z. leg_stop_moves p z.phase) (Move.stop (Holder.a_leg p) ∷ []) (λ z is. leg_begins p z.phase is)
+stop_begins (Leg p) runs e =
+    begins_when status_of_leg (λ z. leg_stop_moves p z.phase) (Move.stop (Leg p) ∷ []) (λ z is. leg_begins p z.phase is)
     (leg_at runs p) e

@@ -1,18 +1,19 @@
--- Who asks for cancelling is seen in the step in which it comes.
+-- Whether a holder asks for cancellation is determined in the step in which it arrives.
 use Rattle.std.specs.Prelude.{◌≡◌, List, [], ◌∷◌, ◌||◌, filter_map, find, map, Bool, true, false, Some, None, option_map, if◌then◌else◌, refl}
 use Rattle.std.specs.Option.{unwrap_or}
 use Rattle.std.proofs.Common.{ap, sym, ◌∙◌}
 use Rattle.std.proofs.lemmas.Bool.{or_parts}
 use Rattle.group_name.specs.Group.{Group}
-use Rattle.workflow_runs.specs.GroupOf.{cancels_in_progress}
-use Rattle.workflow_runs.specs.GroupWords.{arrival_of, has_arrived, same_holder}
-use Rattle.workflow_runs.specs.Moves.{Holder, Move}
+use Rattle.run_states.specs.GroupOf.{cancels_in_progress}
+use Rattle.run_states.specs.GroupWords.{arrival_of, has_arrived, same_holder}
+use Rattle.run_states.specs.Moves.{Move}
 use Rattle.workflow_runs.proofs.ArrivalKeeps.{holder_tested}
 use Rattle.run_table.specs.TableState.{Step}
 use Rattle.table_laws.specs.GroupHistories.{asks_in, moves_in, step_moves}
 use Rattle.table_laws.specs.Names.{Names, name_in, renamed}
 use Rattle.table_laws.proofs.HistoryNames.{names_are_injective}
 use Rattle.table_laws.proofs.NamedMoves.{arrived_named}
+use Rattle.run_states.specs.declared.holder.Holder.{Holder}
 
 module _ (name : Holder → Holder) (n : Holder) where
   nobody_comes : (moves : List Move) → has_arrived n (map (renamed name) moves) ≡ false
@@ -40,7 +41,7 @@ module _ (name : Holder → Holder) (n : Holder) where
   somebody_comes (Move.end_with r h ∷ moves) e = somebody_comes moves e
 
 module _ (names : Names) (g : Group) (s : Step) where
-  -- who comes in the step
+  -- a holder that arrives in the step
   pub asks_now : (k : Holder) (later : Bool) → has_arrived k (moves_in s.table.runs g s.moves) ≡ true
       → unwrap_or (asks_in names g s (name_in names s.table.runs k)) later ≡ cancels_in_progress s.table.runs k
   asks_now k later arrives =
@@ -51,7 +52,7 @@ module _ (names : Names) (g : Group) (s : Step) where
       ap (λ o. unwrap_or (option_map (cancels_in_progress s.table.runs) o) later) from.1
       ∙ ap (cancels_in_progress s.table.runs) (sym (one k from.0 from.2))
 
-  -- who does not
+  -- a holder that does not
   pub asks_later : (n : Holder) (later : Bool) → has_arrived n (step_moves names g s) ≡ false → unwrap_or (asks_in names g s n) later ≡ later
   asks_later n later none =
       ap (λ o. unwrap_or (option_map (cancels_in_progress s.table.runs) o) later)

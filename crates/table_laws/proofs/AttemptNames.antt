@@ -1,15 +1,14 @@
--- The attempts at which runs are, once one of them is at its next attempt, and has settled.
+-- The attempts of runs, after one of them enters its next attempt and the runs settle.
 use Rattle.std.specs.Prelude.{◌≡◌, ℕ, ◌+◌, ◌≤◌, List, Some, option_map}
 use Rattle.std.specs.Option.{option_map_or}
 use Rattle.std.proofs.Common.{arith, ap, inl, inr, ◌∙◌}
-use Rattle.workflow_runs.specs.Holders.{run_of}
-use Rattle.workflow_runs.specs.Moves.{Holder}
-use Rattle.workflow_runs.specs.NewRun.{again}
-use Rattle.workflow_runs.specs.Places.{run_at, with_run}
-use Rattle.workflow_runs.specs.RunState.{RunState}
-use Rattle.workflow_runs.specs.Settling.{settled}
-use Rattle.workflow_runs.proofs.Changed.{at_another, at_changed}
-use Rattle.workflow_runs.proofs.RunFits.{RunsFit}
+use Rattle.run_states.specs.Holders.{run_of}
+use Rattle.run_states.specs.NewRun.{again}
+use Rattle.run_states.specs.Places.{run_at, with_run}
+use Rattle.run_states.specs.RunState.{RunState}
+use Rattle.run_states.specs.Settling.{settled}
+use Rattle.run_states.proofs.Changed.{at_another, at_changed}
+use Rattle.run_states.proofs.RunFits.{RunsFit}
 use Rattle.workflow_runs.proofs.SettlingKeeps.{settling_settles}
 use Rattle.run_table.specs.Step.{entered_again}
 use Rattle.run_table.specs.TableState.{TableState}
@@ -17,6 +16,7 @@ use Rattle.run_table.proofs.EnteredAgain.{entered_again_settles}
 use Rattle.table_laws.specs.Names.{attempt_of}
 use Rattle.table_laws.proofs.GroupsKept.{Grows, grows_on, stays_grows}
 use Rattle.table_laws.proofs.Parked.{here_or_elsewhere}
+use Rattle.run_states.specs.declared.holder.Holder.{Holder}
 
 module _ (t : TableState) (r : ℕ) (x : RunState) (there : run_at t.runs r ≡ Some x) (fit : RunsFit t.runs) where
   abbrev now : List RunState

@@ -1,4 +1,4 @@
--- The moves that stand for the holders that a group has already say how far these have come, and keep its law, by their names.
+-- The base moves match the status of each holder that a group already has, and satisfy its law, by the holders' names.
 use Rattle.std.specs.Prelude.{◌≡◌, List, [], ◌∷◌, ◌++◌, find, map, option_to_list, Bool, true, false, Option, Some, None}
 use Rattle.std.specs.Prelude.{if◌then◌else◌, refl}
 use Rattle.std.specs.List.{AllByRecursion}
@@ -7,15 +7,15 @@ use Rattle.std.proofs.Common.{ap, ap₂, sym, ◌∙◌}
 use Rattle.std.proofs.lemmas.Bool.{and_from, and_parts, false≢true, true≢false}
 use Rattle.std.proofs.lemmas.List.{append-nil}
 use Rattle.group_name.specs.Group.{Group}
-use Rattle.workflow_runs.specs.GroupOf.{cancels_in_progress}
-use Rattle.workflow_runs.specs.GroupWords.{has_arrived, has_started, holder_of, is_pending, is_running, is_the, same_holder}
-use Rattle.workflow_runs.specs.Groups.{HasOneEach, all_holders, group_state, holds, is_in, is_pending_in, is_running_in}
-use Rattle.workflow_runs.specs.Groups.{is_told_to_stop, waits}
-use Rattle.workflow_runs.specs.Moves.{Holder, Move}
-use Rattle.workflow_runs.specs.RunState.{RunState}
-use Rattle.workflow_runs.proofs.Found.{find_passes, none_found}
+use Rattle.run_states.specs.GroupOf.{cancels_in_progress}
+use Rattle.run_states.specs.GroupWords.{has_arrived, has_started, holder_of, is_pending, is_running, is_the, same_holder}
+use Rattle.run_states.specs.Groups.{HasOneEach, all_holders, group_state, holds, is_in, is_pending_in, is_running_in}
+use Rattle.run_states.specs.Groups.{is_told_to_stop, waits}
+use Rattle.run_states.specs.Moves.{Move}
+use Rattle.run_states.specs.RunState.{RunState}
+use Rattle.run_states.proofs.Found.{find_passes, none_found}
+use Rattle.run_states.proofs.RunFits.{RunsFit}
 use Rattle.workflow_runs.proofs.OneEach.{IsOneOf, each_holder, one_that_holds, one_that_waits}
-use Rattle.workflow_runs.proofs.RunFits.{RunsFit}
 use Rattle.run_table.proofs.RunnerOrder.{filter_all, filter_none}
 use Rattle.workflow_runs.proofs.ArrivalKeeps.{holder_tested}
 use Rattle.table_laws.specs.GroupChanges.{base_moves, beyond_base, running_moves}
@@ -31,8 +31,9 @@ use Rattle.table_laws.proofs.LawSoFar.{LawSoFar}
 use Rattle.table_laws.proofs.NamedMoves.{arrived_named}
 use Rattle.table_laws.proofs.OwnMoves.{arrived_by_own, own, own_on}
 use Rattle.table_laws.proofs.Unbegun.{waiting_unbegun}
+use Rattle.run_states.specs.declared.holder.Holder.{Holder}
 
--- ---- of each holder
+-- ---- the moves of each holder
 
 each_running : (h k : Holder) (b told : Bool) → same_holder h k ≡ b
     → AllByRecursion (λ m. same_holder h (holder_of m) ≡ b) (running_moves told k)
@@ -81,7 +82,7 @@ module _ (runs : List RunState) (g : Group) (fit : RunsFit runs) (each : HasOneE
       found (is_pending_in runs g) h is (one_that_waits runs h (and_parts (is_in runs g h) (waits runs h) is).1)
       (λ k too. each.pending g k h too is)
 
-  -- whom the state names runs, or waits
+  -- the holders in the state run and wait
   it_runs : (h : Holder) → (group_state runs g).running ≡ Some h → is_running_in runs g h ≡ true
   it_runs h at = find_passes (is_running_in runs g) (all_holders runs) h at
 
@@ -111,7 +112,7 @@ module _ (runs : List RunState) (g : Group) (fit : RunsFit runs) (each : HasOneE
   differ h at =
       not_the (group_state runs g).pending h (λ too. not_both_ways (status runs h) (held_now h at) (waiting_now h too))
 
-  -- ---- the moves that stand for them
+  -- ---- the base moves
 
   own_base : (h : Holder)
       → own h (base_moves (group_state runs g))
@@ -156,7 +157,7 @@ module _ (runs : List RunState) (g : Group) (fit : RunsFit runs) (each : HasOneE
       (unqueued h (λ e. false≢true (sym (ap is_waiting at) ∙ e))) in
       (ap (is_running h) none, ap (is_pending h) none)
 
-  -- one that has arrived, and not started, waits
+  -- a holder that has arrived and not started waits
   waits_by : (h : Holder) (s : Status) → status runs h ≡ s → is_in runs g h ≡ true → has_arrived h (base_moves (group_state runs g)) ≡ true
       → has_started h (base_moves (group_state runs g)) ≡ false → waits runs h ≡ true
   waits_by h Status.unarrived at is arrives unstarted =

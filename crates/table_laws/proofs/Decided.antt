@@ -1,5 +1,5 @@
--- Each job that is no longer blocked has its needs settled, and each that was skipped has a condition that is false: what
--- each change of the runs keeps of it.
+-- For each job that is not blocked, its needs have finished, and for each skipped job, its condition is false: how each change of the runs
+-- preserves this.
 use Rattle.std.specs.Prelude.{◌≡◌, ℕ, zero, suc, List, [], ◌∷◌, true, false, Option, Some, None}
 use Rattle.std.specs.Prelude.{option_map, option_and_then, slice_get, refl}
 use Rattle.std.specs.List.{slice_index_or}
@@ -12,20 +12,21 @@ use Rattle.wf_value.specs.declared.outcome.JobResult.TheVariants as result
 use Rattle.needs_graph.specs.Ancestors.{ancestors_of}
 use Rattle.needs_graph.specs.Conditions.{condition_value, results_at}
 use Rattle.run_plan.specs.declared.planned.PlannedJob.{PlannedJob}
-use Rattle.workflow_runs.specs.FirstOf.{changed_at}
-use Rattle.workflow_runs.specs.Places.{LegPlace, run_at, job_at, with_job, with_leg}
-use Rattle.workflow_runs.specs.RunState.{LegState, JobState, RunState}
-use Rattle.workflow_runs.specs.Words.{ancestor_results, condition_of, job_results, needs_graph_at, needs_have_settled, settled_result}
-use Rattle.workflow_runs.specs.declared.phases.JobPhase.{JobPhase}
-use Rattle.workflow_runs.specs.declared.phases.JobPhase.TheVariants as job
-use Rattle.workflow_runs.proofs.Changed.{holds_of_each}
-use Rattle.workflow_runs.proofs.JobKeeps.{JobIn, job_in, with_job_of}
-use Rattle.workflow_runs.proofs.NeedsSettled.{KeepsResults, graph_same, needs_stay_settled, result_in, result_of_job}
-use Rattle.workflow_runs.proofs.Optional.{from_and_then, some_of}
-use Rattle.workflow_runs.proofs.RunFits.{admitted_at, job_in_run, plan_at_same}
+use Rattle.run_states.specs.FirstOf.{changed_at}
+use Rattle.run_states.specs.Places.{run_at, job_at, with_job, with_leg}
+use Rattle.run_states.specs.declared.place.LegPlace.{LegPlace}
+use Rattle.run_states.specs.RunState.{LegState, JobState, RunState}
+use Rattle.run_states.specs.Words.{ancestor_results, condition_of, job_results, needs_graph_at, needs_have_settled, settled_result}
+use Rattle.run_states.specs.declared.phases.JobPhase.{JobPhase}
+use Rattle.run_states.specs.declared.phases.JobPhase.TheVariants as job
+use Rattle.run_states.proofs.Changed.{holds_of_each}
+use Rattle.run_states.proofs.JobKeeps.{JobIn, job_in, with_job_of}
+use Rattle.run_states.proofs.NeedsSettled.{KeepsResults, graph_same, needs_stay_settled, result_in, result_of_job}
+use Rattle.run_states.proofs.Optional.{from_and_then, some_of}
+use Rattle.run_states.proofs.RunFits.{admitted_at, job_in_run, plan_at_same}
 use Rattle.table_laws.proofs.AncestorsSettled.{NeedsBefore, ancestors_settled, results_stay}
 
--- what holds of a job, once it is no longer blocked
+-- what holds of a job once it is not blocked
 abbrev pub JobDecided : List RunState → ℕ → ℕ → JobPhase → Type 0
 JobDecided runs r j job.Blocked = Unit {0}
 JobDecided runs r j job.Open = needs_have_settled runs r j ≡ true
@@ -36,7 +37,7 @@ JobDecided runs r j (job.Settled s) =
 abbrev pub Decided : List RunState → Type 0
 Decided runs = (r j : ℕ) (y : JobState) → job_at runs r j ≡ Some y → JobDecided runs r j y.phase
 
--- ---- what was decided stays so
+-- ---- what was decided does not change
 
 needs_of_settled : (runs : List RunState) (r j : ℕ) (phase : JobPhase) (a : JobResult) → settled_result phase ≡ Some a
     → JobDecided runs r j phase → needs_have_settled runs r j ≡ true
@@ -72,7 +73,7 @@ module _ (runs next : List RunState) (all : Decided runs) (r : ℕ) (same : admi
         ∙ ap (λ os. condition_value (condition_of runs r j) os false) (ancestors_stay j d.0) ∙ d.1 e),
   )
 
--- where each job now is as it was decided before
+-- if each job of the new runs was decided by the old ones
 pub all_decided : (runs next : List RunState) → Decided runs → ((r : ℕ) → admitted_at next r ≡ admitted_at runs r)
     → ((r : ℕ) → KeepsResults runs next r) → ((r j : ℕ) (y : JobState) → job_at next r j ≡ Some y → JobDecided runs r j y.phase)
     → Decided next
@@ -94,7 +95,7 @@ one_decided runs r j f y was now all s i z at =
     (λ l v e. all r l v (job_in_run runs r l old.run old.run_is ∙ e)))
     (λ k x e l v d. all k l v (job_in_run runs k l x e ∙ d)) s new.run new.run_is i z new.job_is
 
--- ---- a change that leaves the phases of jobs
+-- ---- a change that keeps the phases of jobs
 
 reads_alike : {X Y : Type 0} (i : ℕ) (f : X → X) (xs : List X) (g : X → Option Y) → ((x : X) → g (f x) ≡ g x) → (k : ℕ)
     → option_and_then g (slice_get (changed_at i f xs) k) ≡ option_and_then g (slice_get xs k)
@@ -150,7 +151,7 @@ same_phases_decided runs next same phases all =
         subst (JobDecided runs r j) (same_Some of_job.value.phase y.phase of_job.gives)
         (all r j of_job.value (job_in_run runs r j of_run.value of_run.is ∙ of_job.is))
 
--- a job changed, but for its phase
+-- a change of a job that keeps its phase
 pub job_change_decided : (runs : List RunState) (r j : ℕ) (f : JobState → JobState) → ((y : JobState) → (f y).phase ≡ y.phase)
     → Decided runs → Decided (with_job r j f runs)
 job_change_decided runs r j f same all =

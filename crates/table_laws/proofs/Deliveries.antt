@@ -1,4 +1,4 @@
--- The runs of a table stay, each with what was admitted: so a delivery that made a run is found at its place in every later table.
+-- Runs are never removed, and each keeps what was admitted. So the run that a delivery made is found at its index in every later table.
 use Rattle.std.proofs.Common.{◌≡◌, ℕ, ◌+◌, ◌-◌, ◌<◌, ◌≤◌, Bool, true, false, List, [], ◌∷◌, ◌++◌, length, map, refl, sym, ◌∙◌, ap}
 use Rattle.std.proofs.Common.{append_assoc, length-append, arith, cond, not}
 use Rattle.std.specs.Prelude.{Option, Some, None, option_map, if◌then◌else◌, nat_le, nat_lt}
@@ -14,20 +14,20 @@ use Rattle.run_plan.specs.declared.command.Command.{Command}
 use Rattle.run_plan.specs.declared.command.Command.TheVariants as command
 use Rattle.run_plan.specs.declared.reply.Reply.TheVariants as reply
 use Rattle.run_table.specs.Histories.{after}
-use Rattle.workflow_runs.specs.Moves.{Holder}
 use Rattle.run_table.specs.TableState.{Step, TableState}
-use Rattle.workflow_runs.specs.Places.{with_run}
-use Rattle.workflow_runs.specs.RunNumber.{events}
-use Rattle.workflow_runs.specs.Settling.{settled}
+use Rattle.run_states.specs.Places.{with_run}
+use Rattle.run_states.specs.RunNumber.{events}
+use Rattle.run_states.specs.Settling.{settled}
 use Rattle.run_table.specs.Step.{admitting}
-use Rattle.workflow_runs.specs.NewRun.{again, is_delivered_as}
+use Rattle.run_states.specs.NewRun.{again, is_delivered_as}
 use Rattle.run_table.specs.Step.{entered_again, rerun_answer, rerunning}
 use Rattle.run_table.specs.Step.{refused, step}
 use Rattle.run_table.specs.Step.{stepped, unchanged}
-use Rattle.workflow_runs.specs.RunState.{RunState}
-use Rattle.workflow_runs.proofs.Optional.{if_some}
+use Rattle.run_states.specs.RunState.{RunState}
+use Rattle.run_states.proofs.Optional.{if_some}
 use Rattle.table_laws.proofs.RunsStay.{IsOfCourse, arrived_stays, run_stays, settled_stays}
 use Rattle.table_laws.proofs.StepsStay.{answered, entered_stays, keeps_all, keeps_itself, step_stays}
+use Rattle.run_states.specs.declared.holder.Holder.TheVariants.{Run}
 
 -- ---- steps
 
@@ -38,7 +38,7 @@ event_of x = x.admitted
 its_event : IsOfCourse event_of
 its_event x y event attempt = event
 
--- the runs of the one table are the first of the other
+-- the runs of the first table are a prefix of those of the second
 abbrev pub Keeps : TableState → TableState → Type 0
 Keeps t next = (more : List Admitted) × (events next.runs ≡ events t.runs ++ more)
 
@@ -48,7 +48,7 @@ entered_events t event = entered_stays event_of its_event t event
 -- a run that begins again stays, with its event
 begins : (t : TableState) (r : ℕ) → events (settled (entered_again t r).runs) ≡ events t.runs
 begins t r =
-    settled_stays event_of its_event (entered_again t r).runs ∙ arrived_stays event_of its_event (Holder.a_run r) (with_run r again t.runs)
+    settled_stays event_of its_event (entered_again t r).runs ∙ arrived_stays event_of its_event (Run r) (with_run r again t.runs)
     ∙ run_stays event_of its_event r again t.runs (λ x. refl)
 
 pub step_keeps : (t : TableState) (c : Command) → Keeps t (stepped t c).table
@@ -66,7 +66,7 @@ after_keeps t (c ∷ cs) =
       others.1 ∙ ap (λ (l : List Admitted). l ++ others.0) first.1 ∙ append_assoc (events t.runs) first.0 others.0,
     )
 
--- ---- the place of a delivery
+-- ---- the index of a delivery
 
 abbrev pub place_of : List ℕ → TableState → Option ℕ
 place_of delivery t = position (is_delivered_as delivery) t.runs
@@ -116,7 +116,7 @@ len_all p (x ∷ xs) y all fails =
       | false ↦ λ h. absurd (omega (arith, h))
     ] all
 
--- what stands at a place stays there
+-- the index does not change
 pub place_stays : (delivery : List ℕ) (t next : TableState) (i : ℕ) → Keeps t next → place_of delivery t ≡ Some i
     → place_of delivery next ≡ Some i
 place_stays delivery t next i keeps is =
@@ -131,7 +131,7 @@ place_stays delivery t next i keeps is =
     ∙ place_is (prefix_len q (old ++ keeps.0)) (length (old ++ keeps.0)) less
     ∙ ap (λ (n : ℕ). Some n) (same ∙ there.1)
 
--- ---- what an admission is answered
+-- ---- the answer to an admission
 
 abbrev admitted_by : TableState → Admitted → Option ℕ → Bool → Step
 admitted_by t event place full =
@@ -154,7 +154,7 @@ new_place t event none =
     ∙ place_is (prefix_len q (old ++ event ∷ [])) (length (old ++ event ∷ [])) (omega (arith, same, length-append old (event ∷ [])))
     ∙ ap (λ (n : ℕ). Some n) (same ∙ length_is)
 
--- a delivery that was answered with a run stands at the run's place
+-- a delivery that was answered with a run is found at the run's index
 pub created_at : (t : TableState) (event : Admitted) (id : ℕ) → (stepped t (command.Admit event)).reply ≡ reply.Created id
     → (i : ℕ) × (id ≡ i + 1) × (place_of event.delivery (stepped t (command.Admit event)).table ≡ Some i)
 created_at t event id given =

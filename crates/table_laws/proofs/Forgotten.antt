@@ -1,18 +1,19 @@
--- The moves of holders that are over are forgotten, where these get new names.
+-- The moves of holders that are over are dropped, and these holders get new names.
 use Rattle.std.specs.Prelude.{◌≡◌, List, [], ◌∷◌, ◌++◌, ◌&&◌, filter_map, not, Bool, true, false, Option, Some, None, if◌then◌else◌, refl}
 use Rattle.std.specs.List.{last_or}
 use Rattle.std.proofs.Common.{ap, ap₂, sym, ◌∙◌}
 use Rattle.std.proofs.lemmas.Bool.{true≢false}
 use Rattle.std.proofs.lemmas.Option.{same_Some}
-use Rattle.workflow_runs.specs.GroupWords.{arrival_of, has_arrived, has_ended, has_started, is_pending, is_running, latest}
-use Rattle.workflow_runs.specs.GroupWords.{next_displaced, was_stopped}
-use Rattle.workflow_runs.specs.Moves.{Holder, Move}
+use Rattle.run_states.specs.GroupWords.{arrival_of, has_arrived, has_ended, has_started, is_pending, is_running, latest}
+use Rattle.run_states.specs.GroupWords.{next_displaced, was_stopped}
+use Rattle.run_states.specs.Moves.{Move}
 use Rattle.table_laws.proofs.Agrees.{Agrees}
 use Rattle.table_laws.proofs.NamedMoves.{latest_arrived}
 use Rattle.table_laws.proofs.OwnMoves.{arrived_by_own, ended_by_own, of_group, own, own_of_another, own_of_group, started_by_own}
 use Rattle.table_laws.proofs.OwnMoves.{stopped_by_own, waits_by_own}
+use Rattle.run_states.specs.declared.holder.Holder.{Holder}
 
--- the latest arrival, where it is kept, is the latest of those that are
+-- the latest arrival, if it is kept, is the latest of those that are kept
 pub latest_kept : (keeps : Holder → Bool) (moves : List Move) (o u : Option Holder) (h : Holder) → keeps h ≡ true → (o ≡ Some h → u ≡ Some h)
     → last_or o (filter_map arrival_of moves) ≡ Some h → last_or u (filter_map arrival_of (of_group keeps moves)) ≡ Some h
 latest_kept keeps [] o u h is onward e = onward e
@@ -44,7 +45,7 @@ latest_kept keeps (Move.end_with r k ∷ moves) o u h is onward e =
       | false ↦ latest_kept keeps moves o u h is onward e
     ]
 
--- what a word says of a holder by its own moves alone
+-- a property of a holder that depends only on its own moves
 module _ (word : Holder → List Move → Bool) (by_own : (h : Holder) (moves : List Move) → word h (own h moves) ≡ word h moves) where
   said_of_kept : (keeps : Holder → Bool) (moves : List Move) (h : Holder) → keeps h ≡ true → word h (of_group keeps moves) ≡ word h moves
   said_of_kept keeps moves h is =

@@ -1,4 +1,4 @@
--- An arrival keeps the law of its group, and the state is what the moves say.
+-- An arrival preserves the law of its group, and the moves determine the state after it.
 use Rattle.std.specs.List.{last_or, list_any}
 use Rattle.std.specs.Prelude.{filter_map, map, option_and_then, option_to_list, cond}
 use Rattle.std.proofs.Common.{◌≡◌, List, [], ◌∷◌, ◌++◌, Bool, true, false, ◌&&◌, ◌||◌, not, Option, Some, None}
@@ -7,10 +7,10 @@ use Rattle.std.proofs.lemmas.Bool.{false_from_ne_true, not-true, or_parts}
 use Rattle.std.proofs.lemmas.List.{append-nil}
 use Rattle.std.proofs.lemmas.Option.{same_Some}
 use Rattle.wf_value.specs.declared.outcome.Outcome.TheVariants.{Cancelled}
-use Rattle.workflow_runs.specs.GroupState.{GroupState}
-use Rattle.workflow_runs.specs.GroupWords.{arrival_of, end_of, start_of, stop_of, has_arrived, has_ended, has_started, was_stopped}
-use Rattle.workflow_runs.specs.GroupWords.{holder_of, is_pending, is_running, is_the, latest, next_displaced, same_holder}
-use Rattle.workflow_runs.specs.Moves.{Holder, Move}
+use Rattle.run_states.specs.GroupState.{GroupState}
+use Rattle.run_states.specs.GroupWords.{arrival_of, end_of, start_of, stop_of, has_arrived, has_ended, has_started, was_stopped}
+use Rattle.run_states.specs.GroupWords.{holder_of, is_pending, is_running, is_the, latest, next_displaced, same_holder}
+use Rattle.run_states.specs.Moves.{Move}
 use Rattle.workflow_runs.proofs.ArrivalKeeps.{holder_tested, itself}
 use Rattle.table_laws.specs.GroupChanges.{Change, Matches, changed, is_new, moves_of, stopped_at_arrival}
 use Rattle.table_laws.specs.GroupLaw.{BeginsWith, cancelled_end}
@@ -19,8 +19,9 @@ use Rattle.table_laws.proofs.GroupSaid.{latest_on, pending_on, running_on, stopp
 use Rattle.table_laws.proofs.GroupTruths.{not_both, or_false, pending_after_arrival, running_after_arrival}
 use Rattle.table_laws.proofs.ListWalk.{Walk}
 use Rattle.table_laws.proofs.OwnMoves.{arrival_is_own, end_is_own, start_is_own, stop_is_own}
+use Rattle.run_states.specs.declared.holder.Holder.{Holder}
 
--- ---- whom the next arrival displaces
+-- ---- the holder that the next arrival displaces
 
 next_by : (moves : List Move) (last one : Option Holder) → ((h : Holder) → is_pending h moves ≡ is_the one h)
     → ((h : Holder) → one ≡ Some h → last ≡ Some h)
@@ -34,7 +35,7 @@ next_by moves (Some h) None pending late = ap (λ b. cond b (Some h) None) (pend
 pub next_is_pending : (g : GroupState) (moves : List Move) → Matches g moves → next_displaced moves ≡ g.pending
 next_is_pending g moves is = next_by moves (latest moves) g.pending is.pending is.latest
 
--- ---- the moves of an arrival, with the one that is displaced and the one that is stopped
+-- ---- the moves of an arrival, with the displaced holder and the stopped one
 
 abbrev arrival_moves : Holder → Option Holder → Option Holder → List Move
 arrival_moves k displaced stopped = Move.arrive k ∷ cancelled_end displaced ++ map (λ s. Move.stop s) (option_to_list stopped)
@@ -116,7 +117,7 @@ any_weaker p q so (x ∷ xs) none =
     let parts = or_parts (q x) (list_any q xs) none in
     ap₂ (λ a b. a || b) (false_from_ne_true (p x) (λ is. not_both (q x) (so x is) parts.0)) (any_weaker p q so xs parts.1)
 
--- what is false of the newcomer is so of every holder that is the newcomer
+-- if something is false for the newcomer, it is false for each holder that equals the newcomer
 apart_by : (f : Holder → Bool) (h k : Holder) (b : Bool) → same_holder h k ≡ b → f k ≡ false → (b && f h) ≡ false
 apart_by f h k true same isnt = subst (λ x. f x ≡ false) (sym (holder_tested h k same)) isnt
 apart_by f h k false same isnt = refl

@@ -1,4 +1,4 @@
--- The moves with which a list begins keep the law, and say who holds the group.
+-- The base moves satisfy the law and determine the state of the group.
 use Rattle.std.specs.Option.{option_map_or}
 use Rattle.std.specs.Prelude.{cond, map, option_to_list}
 use Rattle.std.proofs.lemmas.List.{append-nil}
@@ -6,9 +6,9 @@ use Rattle.std.proofs.Common.{◌≡◌, List, [], ◌∷◌, ◌++◌, Bool, tr
 use Rattle.std.proofs.Common.{refl, ap, ap₂, sym, subst, ◌∙◌}
 use Rattle.std.proofs.lemmas.Option.{none-some}
 use Rattle.std.proofs.lemmas.Bool.{and_right, or_right}
-use Rattle.workflow_runs.specs.GroupState.{GroupState}
-use Rattle.workflow_runs.specs.GroupWords.{has_arrived, is_the, same_holder}
-use Rattle.workflow_runs.specs.Moves.{Holder, Move}
+use Rattle.run_states.specs.GroupState.{GroupState}
+use Rattle.run_states.specs.GroupWords.{has_arrived, is_the, same_holder}
+use Rattle.run_states.specs.Moves.{Move}
 use Rattle.workflow_runs.proofs.ArrivalKeeps.{holder_tested, itself}
 use Rattle.table_laws.specs.GroupChanges.{Change, Matches, base_moves, beyond_base, changed, is_new, moves_of, running_moves}
 use Rattle.table_laws.specs.GroupLaw.{KeepsLaw, cancelled_end}
@@ -17,8 +17,9 @@ use Rattle.table_laws.proofs.GroupLawWalk.{Lawful, walk_is_law}
 use Rattle.table_laws.proofs.GroupSaid.{arrived_on, the_same}
 use Rattle.table_laws.proofs.GroupTruths.{not_both, or_false}
 use Rattle.table_laws.proofs.ListWalk.{Walk}
+use Rattle.run_states.specs.declared.holder.Holder.{Holder}
 
--- ---- nobody holds the group yet
+-- ---- no holder yet
 
 abbrev idle : Bool → GroupState
 idle stopping = record { running = None; stopping = stopping; pending = None }
@@ -76,7 +77,7 @@ new_beside : (r p : Holder) (stopping : Bool) → same_holder p r ≡ false → 
 new_beside r p true apart = ap (λ b. not (b || (b || (b || false)))) apart
 new_beside r p false apart = ap (λ b. not (b || (b || false))) apart
 
--- ---- and another one waits
+-- ---- and another holder waits
 
 abbrev waiting : GroupState → Holder → GroupState
 waiting g p = record { running = g.running; stopping = g.stopping; pending = Some p }
@@ -106,9 +107,9 @@ plain_match cancels g moves p asks alone new is =
     (subst (λ ms. Matches (changed cancels g (Change.arrival p)) (moves ++ ms)) (plain_moves cancels g p asks alone)
     (change_matches cancels g moves (Change.arrival p) new is))
 
--- ---- all together
+-- ---- all holders together
 
--- the pending holder asks for no cancelling here, and is not the running one
+-- the pending holder does not ask for cancellation here, and is not the running one
 record Apart (cancels : Holder → Bool) (running pending : Option Holder) : Type 0 where
   asks : (p : Holder) → pending ≡ Some p → cancels p ≡ false
   other : (r p : Holder) → running ≡ Some r → pending ≡ Some p → same_holder p r ≡ false

@@ -1,4 +1,4 @@
--- Each single change keeps the law of its group, and the state after it is what the moves say.
+-- Each single change preserves the law of its group, and the moves determine the state after it.
 use Rattle.std.proofs.Common.{◌≡◌, List, [], ◌∷◌, ◌++◌, Bool, true, false, ◌&&◌, ◌||◌, not, Some, None}
 use Rattle.std.proofs.Common.{refl, ap, ap₂, sym, subst, ◌∙◌, append_assoc}
 use Rattle.std.proofs.lemmas.List.{append-nil}
@@ -6,9 +6,9 @@ use Rattle.std.proofs.lemmas.Bool.{and_right, not-true, or_right}
 use Rattle.std.proofs.lemmas.Option.{none-some}
 use Rattle.wf_value.specs.declared.outcome.Outcome.{Outcome}
 use Rattle.wf_value.specs.declared.outcome.Outcome.TheVariants.{Cancelled}
-use Rattle.workflow_runs.specs.GroupState.{GroupState}
-use Rattle.workflow_runs.specs.GroupWords.{has_arrived, has_ended, has_started, was_stopped, is_pending, is_running, is_the, same_holder}
-use Rattle.workflow_runs.specs.Moves.{Holder, Move}
+use Rattle.run_states.specs.GroupState.{GroupState}
+use Rattle.run_states.specs.GroupWords.{has_arrived, has_ended, has_started, was_stopped, is_pending, is_running, is_the, same_holder}
+use Rattle.run_states.specs.Moves.{Move}
 use Rattle.table_laws.specs.GroupChanges.{Change, Matches, MayAllBe, MayBe, after_all, changed, moves_of, moves_of_all}
 use Rattle.table_laws.specs.GroupLaw.{KeepsLaw}
 use Rattle.table_laws.proofs.GroupArrival.{arrival_matches, arrival_walks}
@@ -20,8 +20,9 @@ use Rattle.table_laws.proofs.GroupTruths.{pending_after_withdrawal, running_afte
 use Rattle.table_laws.proofs.GroupTruths.{or_false, running_after_stop}
 use Rattle.table_laws.proofs.ListWalk.{Walk}
 use Rattle.table_laws.proofs.OnlyStops.{told_then}
+use Rattle.run_states.specs.declared.holder.Holder.{Holder}
 
--- ---- who waits does not run
+-- ---- a pending holder does not run
 
 waits : (g : GroupState) (moves : List Move) (h : Holder) → Matches g moves → g.pending ≡ Some h → is_pending h moves ≡ true
 waits g moves h is one = is.pending h ∙ the_same g.pending h one
@@ -74,7 +75,7 @@ start_matches cancels g moves k idle one is =
       unstopped = λ h same. absurd (none-some h same);
     }
 
--- ---- the running holder is told to stop
+-- ---- the running holder is asked to stop
 
 stop_matches : (cancels : Holder → Bool) (g : GroupState) (moves : List Move) (k : Holder) → g.running ≡ Some k → Matches g moves
     → Matches (changed cancels g (Change.stop_request k)) (moves ++ Move.stop k ∷ [])
@@ -124,7 +125,7 @@ end_matches cancels g moves r k one is =
       unstopped = λ h same. stopped_on h moves more ∙ or_false (was_stopped h moves) ∙ is.unstopped h same;
     }
 
--- ---- the pending holder is told to stop, and so ends
+-- ---- the pending holder is asked to stop, and so ends
 
 withdrawal_walks : (cancels : Holder → Bool) (moves : List Move) (k : Holder)
     → Walk (Lawful cancels) moves (Move.stop k ∷ Move.end_with Cancelled k ∷ [])

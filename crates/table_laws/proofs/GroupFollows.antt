@@ -1,4 +1,4 @@
--- What follows from the law of a group, at any place of a list of moves that keeps it.
+-- What follows from the law of a group, at any point of a list of moves that satisfies it.
 use Rattle.std.specs.List.{last_or}
 use Rattle.std.specs.Prelude.{filter_map, option_and_then, cond, ◌⊎◌}
 use Rattle.std.proofs.Common.{◌≡◌, List, [], ◌∷◌, ◌++◌, Bool, true, false, ◌&&◌, ◌||◌, not, Option, Some, None}
@@ -7,15 +7,16 @@ use Rattle.std.proofs.lemmas.Bool.{and_parts, false_from_ne_true, false≢true, 
 use Rattle.std.proofs.lemmas.Option.{none-some, same_Some}
 use Rattle.wf_value.specs.declared.outcome.Outcome.{Outcome}
 use Rattle.wf_value.specs.declared.outcome.Outcome.TheVariants.{Cancelled}
-use Rattle.workflow_runs.specs.GroupWords.{arrival_of, end_of, has_arrived, has_ended, has_started, was_stopped}
-use Rattle.workflow_runs.specs.GroupWords.{is_pending, is_running, is_the, latest, next_displaced, same_holder}
-use Rattle.workflow_runs.specs.Moves.{Holder, Move}
+use Rattle.run_states.specs.GroupWords.{arrival_of, end_of, has_arrived, has_ended, has_started, was_stopped}
+use Rattle.run_states.specs.GroupWords.{is_pending, is_running, is_the, latest, next_displaced, same_holder}
+use Rattle.run_states.specs.Moves.{Move}
 use Rattle.workflow_runs.proofs.ArrivalKeeps.{holder_tested, itself}
 use Rattle.table_laws.specs.GroupLaw.{BeginsWith, KeepsLaw}
 use Rattle.table_laws.proofs.GroupSaid.{arrived_on, ended_on, latest_on, started_on, runs_started, waits_unstarted}
 use Rattle.table_laws.proofs.GroupTruths.{not_both, or_second}
+use Rattle.run_states.specs.declared.holder.Holder.{Holder}
 
--- ---- where a move is
+-- ---- the position of a move
 
 behind : (m : Move) (moves : List Move) (found : Move) → ((a : List Move) × (b : List Move) × (moves ≡ a ++ found ∷ b))
     → (a : List Move) × (b : List Move) × (m ∷ moves ≡ a ++ found ∷ b)
@@ -49,7 +50,7 @@ arrival_found h (Move.start k ∷ moves) is = behind (Move.start k) moves (Move.
 arrival_found h (Move.stop k ∷ moves) is = behind (Move.stop k) moves (Move.arrive h) (arrival_found h moves is)
 arrival_found h (Move.end_with r k ∷ moves) is = behind (Move.end_with r k) moves (Move.arrive h) (arrival_found h moves is)
 
--- nobody arrives, or a first one does
+-- no arrival, or the first one
 data FirstArrival (moves : List Move) : Type 0 where
   nobody : filter_map arrival_of moves ≡ [] → FirstArrival moves
   first : (x y : List Move) (k : Holder) → moves ≡ x ++ Move.arrive k ∷ y → filter_map arrival_of x ≡ [] → FirstArrival moves
@@ -77,7 +78,7 @@ and_second true true holds isnt = refl
 and_second true false holds isnt = absurd (cc)
 and_second false b holds isnt = absurd (cc)
 
--- between two starts the first one has ended
+-- between two starts the first holder has ended
 pub first_has_ended : (cancels : Holder → Bool) (moves before between after : List Move) (h k : Holder) → KeepsLaw cancels moves
     → moves ≡ before ++ Move.start h ∷ (between ++ Move.start k ∷ after) → has_ended h between ≡ true
 first_has_ended cancels moves before between after h k law e =
@@ -92,7 +93,7 @@ first_has_ended cancels moves before between after h k law e =
     (later.0 h) in
     or_second (has_ended h before) (has_ended h between) own.2 (sym (ended_on h before (Move.start h ∷ between)) ∙ ended)
 
--- who has ended does not start again
+-- a holder that has ended does not start again
 pub ended_is_over : (cancels : Holder → Bool) (moves before after : List Move) (h : Holder) → KeepsLaw cancels moves
     → moves ≡ before ++ after → has_ended h before ≡ true → has_started h after ≡ true → ⊥
 ended_is_over cancels moves before after h law e ended starts =
@@ -104,7 +105,7 @@ ended_is_over cancels moves before after h law e ended starts =
 runs_unended : (h : Holder) (moves : List Move) → is_running h moves ≡ true → has_ended h moves ≡ false
 runs_unended h moves is = not-true (has_ended h moves) (and_parts (has_started h moves) (not (has_ended h moves)) is).1
 
--- of two that have started, in this order, the first has ended
+-- if two holders have started in this order, the first has ended
 in_order : (cancels : Holder → Bool) (moves before after x y : List Move) (h k : Holder) → KeepsLaw cancels moves
     → moves ≡ before ++ after
     → before ≡ x ++ Move.start h ∷ y → has_started k y ≡ true → has_ended h before ≡ true
@@ -141,7 +142,7 @@ one_by cancels moves before after x y h k law e is one other true false false in
     (in_order cancels moves before after spot.0 (spot.1 ++ Move.start h ∷ y) k h law e parts later) (runs_unended k before other))
 one_by cancels moves before after x y h k law e is one other false false false in_x same in_y found = absurd (false≢true found)
 
--- at no moment do two run
+-- at no moment do two holders run
 pub one_runs : (cancels : Holder → Bool) (moves before after : List Move) (h k : Holder) → KeepsLaw cancels moves
     → moves ≡ before ++ after
     → is_running h before ≡ true → is_running k before ≡ true → h ≡ k
@@ -151,7 +152,7 @@ one_runs cancels moves before after h k law e one other =
     spot.1) refl
     refl refl (sym (started_on k spot.0 (Move.start h ∷ spot.1)) ∙ ap (λ ms. has_started k ms) (sym spot.2) ∙ runs_started k before other)
 
--- ---- who waits
+-- ---- pending holders
 
 pub next_shown : (moves : List Move) (h : Holder) → latest moves ≡ Some h → is_pending h moves ≡ true → next_displaced moves ≡ Some h
 next_shown moves h late is =
@@ -170,7 +171,7 @@ next_by moves h (Some x) is = next_kept moves h x (is_pending x moves) refl is
 pub displaced_waits : (moves : List Move) (h : Holder) → next_displaced moves ≡ Some h → is_pending h moves ≡ true
 displaced_waits moves h is = next_by moves h (latest moves) is
 
--- what a part of the moves says of one who waits after all of them
+-- what a part of the moves says about a holder that is pending after all of them
 waits_before : (h : Holder) (x y : List Move) → has_arrived h x ≡ true → is_pending h (x ++ y) ≡ true → is_pending h x ≡ true
 waits_before h x y arrived is =
     let parts = waits_unstarted h (x ++ y) is in
@@ -190,7 +191,7 @@ arrived_then h x y =
 same_head : (m n : Move) (xs ys : List Move) → m ∷ xs ≡ n ∷ ys → m ≡ n
 same_head m n xs ys e = cc
 
--- the end stands among the moves so far, or comes next
+-- the end is among the moves so far, or it is the next move
 end_is_next : (before x y after : List Move) (h : Holder) → before ≡ x ++ y → has_ended h before ≡ false
     → BeginsWith (Move.end_with Cancelled h ∷ []) (y ++ after) → BeginsWith (Move.end_with Cancelled h ∷ []) after
 end_is_next before x [] after h is unended begins = begins
@@ -217,7 +218,7 @@ latest_by cancels moves before after x y h law e is waits (first p q k spot none
     inr (end_is_next before (earlier ++ Move.arrive k ∷ []) q after h (parts ∙ sym (append_assoc earlier (Move.arrive k ∷ []) q))
     (not-true (has_ended h before) (waits_unstarted h before waits).1) begins)
 
--- who waits is the latest arrival, or is displaced by the next move
+-- a pending holder is the latest arrival, or the next move displaces it
 pub waits_as_latest : (cancels : Holder → Bool) (moves before after : List Move) (h : Holder) → KeepsLaw cancels moves
     → moves ≡ before ++ after → is_pending h before ≡ true
     → (latest before ≡ Some h) ⊎ BeginsWith (Move.end_with Cancelled h ∷ []) after
@@ -233,7 +234,7 @@ one_waits_by before after h k none (inl one) (inl other) = same_Some h k (sym on
 one_waits_by before after h k none (inl one) (inr other) = absurd (none k other)
 one_waits_by before after h k none (inr one) other = absurd (none h one)
 
--- two wait only where the next move is the end of one that is displaced
+-- two holders are pending only if the next move is the end of a displaced one
 pub one_waits : (cancels : Holder → Bool) (moves before after : List Move) (h k : Holder) → KeepsLaw cancels moves
     → moves ≡ before ++ after
     → is_pending h before ≡ true → is_pending k before ≡ true
@@ -242,7 +243,7 @@ one_waits cancels moves before after h k law e one other none =
     one_waits_by before after h k none (waits_as_latest cancels moves before after h law e one)
     (waits_as_latest cancels moves before after k law e other)
 
--- who is displaced false_from_ne_true starts
+-- a displaced holder never starts
 pub displaced_never_starts : (cancels : Holder → Bool) (moves before after : List Move) (newcomer h : Holder) → KeepsLaw cancels moves
     → moves ≡ before ++ Move.arrive newcomer ∷ after → next_displaced before ≡ Some h → has_started h moves ≡ false
 displaced_never_starts cancels moves before after newcomer h law e is =
@@ -261,7 +262,7 @@ displaced_never_starts cancels moves before after newcomer h law e is =
     ∙ ap (λ b. b || has_started h rest) (started_on h before pair ∙ ap (λ b. b || false) unstarted) in
     started ∙ false_from_ne_true (has_started h rest) (ended_is_over cancels moves (before ++ pair) rest h law whole ended)
 
--- who ends without a start or a stop is displaced by one that arrived later
+-- a holder that ends without a start and without a stop is displaced by one that arrived later
 pub displaced_by_a_later_one : (cancels : Holder → Bool) (moves before after : List Move) (r : Outcome) (h : Holder)
     → KeepsLaw cancels moves → moves ≡ before ++ Move.end_with r h ∷ after → has_started h before ≡ false → was_stopped h before ≡ false
     → (earlier : List Move) × (newcomer : Holder) × (before ≡ earlier ++ Move.arrive newcomer ∷ []) × (has_arrived h earlier ≡ true)

@@ -1,4 +1,4 @@
--- The test of the law says yes exactly where the law is kept.
+-- The test of the law returns true exactly if the law holds.
 use Rattle.std.specs.List.{list_all}
 use Rattle.std.specs.Prelude.{map}
 use Rattle.std.proofs.Common.{◌≡◌, List, [], ◌∷◌, ◌++◌, Bool, true, false, ◌&&◌, ◌||◌, not, Option, Some, None}
@@ -7,9 +7,9 @@ use Rattle.std.proofs.lemmas.List.{append-nil}
 use Rattle.std.proofs.lemmas.Bool.{and_from, and_parts, not-true}
 use Rattle.wf_value.specs.declared.outcome.Outcome.{Outcome}
 use Rattle.wf_value.specs.declared.outcome.Outcome.TheVariants.{Success, Failure, Cancelled}
-use Rattle.workflow_runs.specs.GroupWords.{has_ended, has_started, holder_of, is_running, is_the, latest, next_displaced}
-use Rattle.workflow_runs.specs.GroupWords.{same_holder, was_stopped}
-use Rattle.workflow_runs.specs.Moves.{Holder, Move}
+use Rattle.run_states.specs.GroupWords.{has_ended, has_started, holder_of, is_running, is_the, latest, next_displaced}
+use Rattle.run_states.specs.GroupWords.{same_holder, was_stopped}
+use Rattle.run_states.specs.Moves.{Move}
 use Rattle.workflow_runs.proofs.ArrivalKeeps.{holder_tested, itself}
 use Rattle.table_laws.specs.GroupLaw.{BeginsWith, IsJustDisplaced, KeepsLaw, cancelled_end}
 use Rattle.table_laws.specs.GroupLawTest.{allows, allows_all, begins_with_end, begins_with_stop, displaced_last, ends_displaced}
@@ -18,6 +18,7 @@ use Rattle.table_laws.proofs.GroupLawWalk.{Lawful, law_walks, walk_is_law}
 use Rattle.table_laws.proofs.GroupSaid.{runs_started, the_one, the_same}
 use Rattle.table_laws.proofs.GroupTruths.{or_second}
 use Rattle.table_laws.proofs.ListWalk.{Walk}
+use Rattle.run_states.specs.declared.holder.Holder.{Holder}
 
 -- ---- from the test to the law
 
@@ -63,7 +64,7 @@ named_by : (test : Holder → Bool) (h k : Holder) (moves : List Move) (b : Bool
 named_by test h k moves true same is here next = subst (λ x. test x ≡ true) (sym (holder_tested h k same)) here
 named_by test h k moves false same is here next = next is
 
--- what is so of every holder of the moves is so of one that has started
+-- a property of every holder that moves holds of one that has started
 named : (test : Holder → Bool) (h : Holder) (moves : List Move) → has_started h moves ≡ true
     → list_all test (map holder_of moves) ≡ true → test h ≡ true
 named test h [] is all = absurd (cc)
@@ -74,7 +75,7 @@ named test h (Move.start k ∷ moves) is all =
 named test h (Move.stop k ∷ moves) is all = named test h moves is (and_parts (test k) (list_all test (map holder_of moves)) all).1
 named test h (Move.end_with r k ∷ moves) is all = named test h moves is (and_parts (test k) (list_all test (map holder_of moves)) all).1
 
--- one who would have started passes the test that says no
+-- if no holder that moves is running by the test, no holder is running
 never_runs : (moves : List Move) (h : Holder) (b : Bool) → is_running h moves ≡ b
     → list_all (λ other. not (is_running other moves)) (map holder_of moves) ≡ true → is_running h moves ≡ false
 never_runs moves h true is all =
@@ -142,7 +143,7 @@ walk_by_test cancels before (m ∷ after) is =
 pub law_by_test : (cancels : Holder → Bool) (moves : List Move) → keeps_law cancels moves ≡ true → KeepsLaw cancels moves
 law_by_test cancels moves is = walk_is_law cancels moves (walk_by_test cancels [] moves is)
 
--- ---- and back
+-- ---- from the law to the test
 
 end_tested : (h : Holder) (after : List Move) → BeginsWith (Move.end_with Cancelled h ∷ []) after → begins_with_end h after ≡ true
 end_tested h after begins = ap (λ ms. begins_with_end h ms) begins.1 ∙ itself h

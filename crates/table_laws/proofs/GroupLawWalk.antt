@@ -2,12 +2,13 @@
 use Rattle.std.proofs.Common.{◌≡◌, List, [], ◌∷◌, ◌++◌, Bool, true, false, Some, ap, sym, subst, ◌∙◌, append_assoc}
 use Rattle.std.proofs.lemmas.List.{append-nil}
 use Rattle.wf_value.specs.declared.outcome.Outcome.TheVariants.{Cancelled}
-use Rattle.workflow_runs.specs.GroupWords.{has_ended, has_started, is_running, latest, next_displaced, was_stopped}
-use Rattle.workflow_runs.specs.Moves.{Holder, Move}
+use Rattle.run_states.specs.GroupWords.{has_ended, has_started, is_running, latest, next_displaced, was_stopped}
+use Rattle.run_states.specs.Moves.{Move}
 use Rattle.table_laws.specs.GroupLaw.{BeginsWith, IsJustDisplaced, KeepsLaw, cancelled_end}
 use Rattle.table_laws.proofs.ListWalk.{AtEach, Walk, each_of, walk_of, walk_on}
+use Rattle.run_states.specs.declared.holder.Holder.{Holder}
 
--- what the law says of one move
+-- what the law requires of one move
 abbrev pub Lawful : (Holder → Bool) → List Move → Move → List Move → Type 0
 Lawful cancels before (Move.arrive newcomer) after =
     ((h : Holder) → next_displaced before ≡ Some h → BeginsWith (Move.end_with Cancelled h ∷ []) after)
@@ -41,7 +42,7 @@ law_walks cancels moves law = walk_of (Lawful cancels) [] moves (law_at cancels 
 pub walk_is_law : (cancels : Holder → Bool) (moves : List Move) → Walk (Lawful cancels) [] moves → KeepsLaw cancels moves
 walk_is_law cancels moves walk = at_law cancels moves (each_of (Lawful cancels) [] moves walk)
 
--- ---- more moves behind
+-- ---- more moves after these
 
 still_begins : (front after more : List Move) → BeginsWith front after → BeginsWith front (after ++ more)
 still_begins front after more begins =
@@ -58,13 +59,13 @@ still_lawful cancels before after more (Move.start h) law = law
 still_lawful cancels before after more (Move.stop h) law = tt
 still_lawful cancels before after more (Move.end_with r h) law = law
 
--- moves that keep the law, and more that keep it behind them
+-- moves that satisfy the law, followed by more that do
 pub law_goes_on : (cancels : Holder → Bool) (moves more : List Move) → KeepsLaw cancels moves → Walk (Lawful cancels) moves more
     → KeepsLaw cancels (moves ++ more)
 law_goes_on cancels moves more law walk =
     walk_is_law cancels (moves ++ more) (walk_on (Lawful cancels) (still_lawful cancels) [] moves more (law_walks cancels moves law) walk)
 
--- the moves behind others that keep the law together
+-- the later part of a list that satisfies the law
 parted : {X : Type 0} (P : List X → X → List X → Type 0) (start xs ys : List X) → Walk P start (xs ++ ys) → Walk P (start ++ xs) ys
 parted P start [] ys walk = subst (λ s. Walk P s ys) (sym (append-nil start)) walk
 parted P start (x ∷ xs) ys walk = subst (λ s. Walk P s ys) (append_assoc start (x ∷ []) xs) (parted P (start ++ x ∷ []) xs ys walk.1)

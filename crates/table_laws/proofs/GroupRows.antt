@@ -1,22 +1,24 @@
--- The law played through by computation: pictures of the documentation, and lists that break each rule.
+-- The law evaluated on examples: the cases of the documentation, and lists that break each rule.
 use Rattle.std.specs.Prelude.{◌≡◌, [], ◌∷◌, ◌++◌, Bool, true, false, Some, refl}
 use Rattle.wf_value.specs.declared.outcome.Outcome.TheVariants.{Success, Failure, Cancelled}
-use Rattle.workflow_runs.specs.GroupState.{GroupState}
-use Rattle.workflow_runs.specs.Moves.{Holder, Move}
+use Rattle.run_states.specs.GroupState.{GroupState}
+use Rattle.run_states.specs.Moves.{Move}
 use Rattle.table_laws.specs.GroupChanges.{base_moves, beyond_base}
 use Rattle.table_laws.specs.GroupLawTest.{keeps_law}
+use Rattle.run_states.specs.declared.holder.Holder.{Holder}
+use Rattle.run_states.specs.declared.holder.Holder.TheVariants.{Run, Leg}
 
 abbrev pub run1 : Holder
-run1 = Holder.a_run 0
+run1 = Run 0
 
 abbrev pub run2 : Holder
-run2 = Holder.a_run 1
+run2 = Run 1
 
 abbrev pub run3 : Holder
-run3 = Holder.a_run 2
+run3 = Run 2
 
 abbrev leg : Holder
-leg = Holder.a_leg (record { run = 3; job = 1; leg = 2 })
+leg = Leg (record { run = 3; job = 1; leg = 2 })
 
 abbrev never : Holder → Bool
 never h = false
@@ -24,7 +26,7 @@ never h = false
 abbrev always : Holder → Bool
 always h = true
 
--- ---- lists that keep the law
+-- ---- lists that satisfy the law
 
 -- one run after another
 in_turn : keeps_law never (Move.arrive run1 ∷ Move.start run1 ∷ Move.arrive run2 ∷ Move.end_with Failure run1 ∷ Move.start run2 ∷ [])
@@ -36,17 +38,17 @@ run_and_leg : keeps_law never (Move.arrive run1 ∷ Move.start run1 ∷ Move.arr
     ≡ true
 run_and_leg = refl
 
--- the third run takes the place of the second, which waits
+-- the third run takes the place of the second, which is pending
 pending_is_replaced : keeps_law never (Move.arrive run1 ∷ Move.start run1 ∷ Move.arrive run2 ∷ Move.arrive run3
     ∷ Move.end_with Cancelled run2 ∷ Move.end_with Success run1 ∷ Move.start run3 ∷ []) ≡ true
 pending_is_replaced = refl
 
--- with cancel-in-progress the newcomer stops the run in progress, and waits until that has ended
+-- with cancel-in-progress the newcomer stops the run in progress, and waits until that run has ended
 progress_is_cancelled : keeps_law always (Move.arrive run1 ∷ Move.start run1 ∷ Move.arrive run2 ∷ Move.stop run1
     ∷ Move.end_with Cancelled run1 ∷ Move.start run2 ∷ []) ≡ true
 progress_is_cancelled = refl
 
--- with both, the pending one ends first, and then the running one is stopped
+-- with both, the pending holder ends first, and then the running one is stopped
 abbrev held : GroupState
 held = record { running = Some run1; stopping = false; pending = Some run2 }
 
@@ -55,23 +57,23 @@ both_at_once : keeps_law (beyond_base always held) (base_moves held ++ Move.arri
     ≡ true
 both_at_once = refl
 
--- a pending holder that is told to stop
+-- a pending holder that is asked to stop
 told_to_stop : keeps_law never (Move.arrive run1 ∷ Move.start run1 ∷ Move.arrive run2 ∷ Move.stop run2 ∷ Move.end_with Cancelled run2
     ∷ Move.end_with Success run1 ∷ []) ≡ true
 told_to_stop = refl
 
--- a group that has holders already asks for no cancelling
+-- the holders that a group already has do not count as asking for cancellation
 base_is_excepted : keeps_law (beyond_base always held)
     (base_moves held) ≡ true
 base_is_excepted = refl
 
--- ---- lists that break it
+-- ---- lists that break the law
 
--- two run at once
+-- two holders run at once
 starts_beside_another : keeps_law never (Move.arrive run1 ∷ Move.start run1 ∷ Move.arrive run2 ∷ Move.start run2 ∷ []) ≡ false
 starts_beside_another = refl
 
--- a stopped holder frees the group only at its end
+-- a stopped holder releases the group only when it ends
 freed_at_the_stop : keeps_law always (Move.arrive run1 ∷ Move.start run1 ∷ Move.arrive run2 ∷ Move.stop run1 ∷ Move.start run2 ∷ [])
     ≡ false
 freed_at_the_stop = refl
@@ -80,7 +82,7 @@ freed_at_the_stop = refl
 starts_after_its_end : keeps_law never (Move.arrive run1 ∷ Move.start run1 ∷ Move.end_with Success run1 ∷ Move.start run1 ∷ []) ≡ false
 starts_after_its_end = refl
 
--- not the latest arrival starts
+-- a holder that is not the latest arrival starts
 starts_out_of_turn : keeps_law never (Move.arrive run1 ∷ Move.stop run1 ∷ Move.arrive run2 ∷ Move.end_with Cancelled run1
     ∷ Move.start run1 ∷ []) ≡ false
 starts_out_of_turn = refl
@@ -90,22 +92,22 @@ queues_every_newcomer : keeps_law never (Move.arrive run1 ∷ Move.start run1 �
     ∷ Move.end_with Success run1 ∷ Move.start run3 ∷ []) ≡ false
 queues_every_newcomer = refl
 
--- the displaced one ends as failure
+-- the displaced holder ends as a failure
 ends_otherwise : keeps_law never (Move.arrive run1 ∷ Move.start run1 ∷ Move.arrive run2 ∷ Move.arrive run3
     ∷ Move.end_with Failure run2 ∷ []) ≡ false
 ends_otherwise = refl
 
--- a pending holder ends though nobody came
+-- a pending holder ends though no other arrived
 ends_without_cause : keeps_law never (Move.arrive run1 ∷ Move.start run1 ∷ Move.arrive run2 ∷ Move.end_with Cancelled run2 ∷ []) ≡ false
 ends_without_cause = refl
 
--- a newcomer with cancel-in-progress stops nobody
+-- a newcomer with cancel-in-progress stops no holder
 stops_nobody : keeps_law always (Move.arrive run1 ∷ Move.start run1 ∷ Move.arrive run2 ∷ Move.end_with Success run1 ∷ Move.start run2
     ∷ [])
     ≡ false
 stops_nobody = refl
 
--- the stop stands before the end of the displaced one
+-- the stop comes before the end of the displaced holder
 stops_too_early : keeps_law (beyond_base always held)
     (Move.arrive run1 ∷ Move.start run1 ∷ Move.arrive run2 ∷ Move.arrive run3 ∷ Move.stop run1 ∷ Move.end_with Cancelled run2
     ∷ []) ≡ false

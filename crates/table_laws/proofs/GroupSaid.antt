@@ -1,4 +1,4 @@
--- What a list of moves says of a holder once more moves stand behind it.
+-- What a list of moves says about a holder when more moves follow.
 use Rattle.std.specs.List.{last_or}
 use Rattle.std.specs.Prelude.{filter_map}
 use Rattle.std.proofs.Common.{◌≡◌, List, [], ◌∷◌, ◌++◌, Bool, true, ◌&&◌, ◌||◌, not, Option, Some, None}
@@ -6,12 +6,13 @@ use Rattle.std.proofs.Common.{refl, ap, ap₂, sym, ◌∙◌}
 use Rattle.std.proofs.lemmas.Bool.{and_parts}
 use Rattle.std.proofs.lemmas.List.Elements.{filter_map-append}
 use Rattle.std.proofs.lemmas.List.Folds.{list_any-append}
-use Rattle.workflow_runs.specs.GroupWords.{arrival_of, end_of, start_of, stop_of, has_arrived, has_ended, has_started, was_stopped}
-use Rattle.workflow_runs.specs.GroupWords.{is_pending, is_running, is_the, latest}
-use Rattle.workflow_runs.specs.Moves.{Holder, Move}
+use Rattle.run_states.specs.GroupWords.{arrival_of, end_of, start_of, stop_of, has_arrived, has_ended, has_started, was_stopped}
+use Rattle.run_states.specs.GroupWords.{is_pending, is_running, is_the, latest}
+use Rattle.run_states.specs.Moves.{Move}
 use Rattle.workflow_runs.proofs.ArrivalKeeps.{holder_tested, itself}
+use Rattle.run_states.specs.declared.holder.Holder.{Holder}
 
--- ---- the same holder
+-- ---- equality of holders
 
 pub the_one : (o : Option Holder) (h : Holder) → is_the o h ≡ true → o ≡ Some h
 the_one None h is = absurd (cc)
@@ -20,7 +21,7 @@ the_one (Some k) h is = ap (λ x. Some x) (sym (holder_tested h k is))
 pub the_same : (o : Option Holder) (h : Holder) → o ≡ Some h → is_the o h ≡ true
 the_same o h is = ap (λ x. is_the x h) is ∙ itself h
 
--- ---- what all moves together say
+-- ---- both lists together
 
 pub arrived_on : (h : Holder) (moves more : List Move) → has_arrived h (moves ++ more) ≡ (has_arrived h moves || has_arrived h more)
 arrived_on h moves more = list_any-append (λ m. is_the (arrival_of m) h) moves more
@@ -34,7 +35,7 @@ stopped_on h moves more = list_any-append (λ m. is_the (stop_of m) h) moves mor
 pub ended_on : (h : Holder) (moves more : List Move) → has_ended h (moves ++ more) ≡ (has_ended h moves || has_ended h more)
 ended_on h moves more = list_any-append (λ m. is_the (end_of m) h) moves more
 
--- where more moves say so much
+-- if it is known what the further moves say
 pub running_on : (h : Holder) (moves more : List Move) (s e : Bool) → has_started h more ≡ s → has_ended h more ≡ e
     → is_running h (moves ++ more) ≡ ((has_started h moves || s) && not (has_ended h moves || e))
 running_on h moves more s e starts ends =
@@ -58,7 +59,7 @@ latest_on moves more =
     ap (λ hs. last_or None hs) (filter_map-append arrival_of moves more)
     ∙ last_on None (filter_map arrival_of moves) (filter_map arrival_of more)
 
--- ---- who runs does not wait
+-- ---- a running holder is not pending
 
 pub runs_started : (h : Holder) (moves : List Move) → is_running h moves ≡ true → has_started h moves ≡ true
 runs_started h moves is = (and_parts (has_started h moves) (not (has_ended h moves)) is).0

@@ -1,4 +1,4 @@
--- Scripts in which runs and legs share concurrency groups, played by computation from the empty table.
+-- Scripts in which runs and legs share concurrency groups, evaluated from the empty table.
 use Rattle.std.specs.Prelude.{◌≡◌, ℕ, List, [], ◌∷◌, ◌++◌, codes, map, Bool, true, false, refl}
 use Rattle.wf_value.specs.declared.outcome.Outcome.{Outcome}
 use Rattle.wf_value.specs.declared.outcome.Outcome.TheVariants.{Success, Failure, Cancelled}
@@ -7,7 +7,7 @@ use Rattle.run_plan.specs.ReplyText.{reply_text}
 use Rattle.run_plan.specs.declared.command.Command.{Command}
 use Rattle.run_plan.specs.declared.command.Command.TheVariants as command
 use Rattle.run_table.specs.Histories.{replies}
-use Rattle.workflow_runs.specs.Moves.{Holder, Move}
+use Rattle.run_states.specs.Moves.{Move}
 use Rattle.run_table.specs.Step.{empty}
 use Rattle.run_table.proofs.OnTables.{on_tables}
 use Rattle.table_laws.specs.GroupHistories.{all_moves, asks_for_cancelling, group_moves}
@@ -16,8 +16,10 @@ use Rattle.table_laws.specs.Names.{Names, renamed}
 use Rattle.table_laws.proofs.GroupRows.{run1, run2, run3}
 use Rattle.table_laws.proofs.GroupTableRows.{group}
 use Rattle.table_laws.proofs.Packed.{packed}
+use Rattle.run_states.specs.declared.holder.Holder.{Holder}
+use Rattle.run_states.specs.declared.holder.Holder.TheVariants.{Leg}
 
--- a workflow of the one repository
+-- a workflow of the repository
 abbrev of_workflow : List ℕ → List ℕ
 of_workflow workflow = codes "{\"repo\":\"o/r\",\"path\":\"ci.json\",\"workflow\":" ++ workflow ++ codes "}"
 
@@ -34,7 +36,7 @@ done runner number lease result = command.Done (record { runner = runner; number
 abbrev answers : List Command → List (List ℕ)
 answers commands = map reply_text (replies empty commands)
 
--- the law of the group as a test that computes
+-- the executable test of the law of the group
 abbrev plays_by_law : Group → List Command → Bool
 plays_by_law g commands = keeps_law (asks_for_cancelling packed g empty commands) (all_moves packed g empty commands)
 
@@ -72,7 +74,7 @@ three_deploys_keep_the_law = refl
 
 -- ---- a run begins again
 
--- The run that has completed arrives behind the one in progress, and displaces the pending one.
+-- The completed run arrives after the one in progress and displaces the pending one.
 abbrev deploy_again : List Command
 deploy_again =
     admit (codes "a") deploys ∷ claim (codes "r1") 1 ∷ done (codes "r1") 2 1 Success ∷ admit (codes "b") deploys ∷ claim (codes "r1") 3
@@ -84,7 +86,7 @@ completed_run_displaces : answers deploy_again
 unfolding on_tables
 completed_run_displaces = refl
 
--- its second attempt is another holder than its first
+-- its second attempt is a different holder from its first
 moves_of_deploy_again : (names : Names) → group_moves names (group (codes "deploy")) empty deploy_again
     ≡ first_attempts names (Move.arrive run1 ∷ Move.start run1 ∷ Move.end_with Success run1 ∷ Move.arrive run2 ∷ Move.start run2
     ∷ Move.arrive run3 ∷ [])
@@ -96,7 +98,7 @@ deploy_again_keeps_the_law : plays_by_law (group (codes "deploy")) deploy_again 
 unfolding on_tables
 deploy_again_keeps_the_law = refl
 
--- The run alone: by its two names the law holds, and by one name it would not.
+-- A single run: with two names the law holds, and with one it would not.
 abbrev deploy_twice : List Command
 deploy_twice =
     admit (codes "a") deploys ∷ claim (codes "r1") 1 ∷ done (codes "r1") 2 1 Success ∷ command.Rerun (record { run = 1; attempt = 2 })
@@ -132,7 +134,7 @@ abbrev prod_at_once : List ℕ
 prod_at_once =
     of_workflow (codes "{\"concurrency\":{\"group\":\"prod\",\"cancel-in-progress\":true},\"jobs\":{\"go\":{\"runs-on\":\"linux\"}}}")
 
--- The newcomer waits until the one that it stopped has ended.
+-- The newcomer waits until the run that it stopped has ended.
 abbrev prod_twice : List Command
 prod_twice =
     admit (codes "a") prod ∷ claim (codes "r1") 1 ∷ admit (codes "b") prod_at_once
@@ -156,7 +158,7 @@ prod_twice_keeps_the_law = refl
 
 -- ---- legs
 
--- The legs of a job share a group: the first is ready, the last waits, and the one between was displaced.
+-- The legs of a job share a group: the first is ready, the last waits, and the one in between was displaced.
 abbrev sharing_legs : List ℕ
 sharing_legs =
     of_workflow (codes "{\"jobs\":{\"m\":{\"runs-on\":\"linux\",\"concurrency\":\"g\",\"strategy\":{\"matrix\":{\"n\":[1,2,3]}}}}}")
@@ -176,10 +178,10 @@ own_group_cancels : answers (admit (codes "d1") leg_of_its_runs_group ∷ comman
 unfolding on_tables
 own_group_cancels = refl
 
--- ---- in the midst of settling
+-- ---- during settling
 
--- The first leg of the second run stops a leg of the first run. So another job of the first run arrives, and stops the second
--- run, whose second leg has not arrived yet.
+-- The first leg of the second run stops a leg of the first run. Therefore another job of the first run arrives, and stops the second run,
+-- whose second leg has not arrived yet.
 abbrev first_of_two : List ℕ
 first_of_two =
     of_workflow (codes "{\"jobs\":{\"a\":{\"runs-on\":\"linux\",\"concurrency\":\"g\"},\"b\":{\"runs-on\":\"linux\",\"needs\":\"a\","
@@ -199,10 +201,10 @@ new_leg_of_a_stopped_run_ends : answers two_that_stop_each_other
 unfolding on_tables
 new_leg_of_a_stopped_run_ends = refl
 
--- ---- their moves
+-- ---- the moves of these runs
 
 abbrev leg_at_place : ℕ → ℕ → ℕ → Holder
-leg_at_place r j l = Holder.a_leg (record { run = r; job = j; leg = l })
+leg_at_place r j l = Leg (record { run = r; job = j; leg = l })
 
 moves_in_the_first_group : (names : Names) → group_moves names (group (codes "g")) empty two_that_stop_each_other
     ≡ first_attempts names (Move.arrive (leg_at_place 0 0 0) ∷ Move.start (leg_at_place 0 0 0) ∷ Move.arrive (leg_at_place 1 0 0)
@@ -232,7 +234,7 @@ run_of_group_and_legs =
 abbrev behind_it : List ℕ
 behind_it = of_workflow (codes "{\"concurrency\":\"x\",\"jobs\":{\"go\":{\"runs-on\":\"linux\"}}}")
 
--- Its legs end with it, ready and waiting, but for those of a job that always runs. A pending run that is cancelled has ended.
+-- Its ready and waiting legs end with it, except those of a job that always runs. A pending run that is cancelled ends.
 abbrev both_cancelled : List Command
 both_cancelled =
     admit (codes "a") run_of_group_and_legs ∷ admit (codes "b") behind_it ∷ command.Cancel 1 ∷ command.Look 1 ∷ command.Cancel 2
@@ -287,7 +289,7 @@ moves_of_the_other_leg : (names : Names) → group_moves names (group (codes "g2
 unfolding on_tables
 moves_of_the_other_leg names = refl
 
--- ---- which names are one group
+-- ---- which names denote the same group
 
 abbrev named : List ℕ → List ℕ
 named name = of_workflow (codes "{\"concurrency\":\"" ++ name ++ codes "\",\"jobs\":{\"go\":{\"runs-on\":\"linux\"}}}")
@@ -304,13 +306,13 @@ case_does_not_count : answers (admit (codes "a") (named (codes "Stra\\u00dfe")) 
 unfolding on_tables
 case_does_not_count = refl
 
--- an empty name is none
+-- an empty name means no group
 empty_name_is_no_group : answers (admit (codes "a") (named []) ∷ admit (codes "b") (named []) ∷ command.Look 2 ∷ [])
     ≡ codes "created 1" ∷ codes "created 2" ∷ codes "run 2 2 queued - go:open(ready)" ∷ []
 unfolding on_tables
 empty_name_is_no_group = refl
 
--- a job may name its group by how the jobs that it needs ended
+-- a job may name its group by the results of its needs
 abbrev group_of_a_result : List ℕ
 group_of_a_result =
     of_workflow (codes "{\"jobs\":{\"a\":{\"runs-on\":\"linux\"},\"b\":{\"runs-on\":\"linux\",\"needs\":\"a\","

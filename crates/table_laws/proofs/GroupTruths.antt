@@ -1,4 +1,4 @@
--- Facts about truth values, each by its cases.
+-- Facts about booleans, each by cases.
 use Rattle.std.proofs.Common.{◌≡◌, Bool, true, false, ◌&&◌, ◌||◌, not, refl, ap}
 use Rattle.std.proofs.lemmas.Bool.{and_right}
 
@@ -14,7 +14,7 @@ pub not_both : (b : Bool) → b ≡ true → b ≡ false → ⊥
 not_both true is isnt = cc
 not_both false is isnt = cc
 
--- ---- whether a holder runs or waits, from whether it has arrived, started and ended, after each change
+-- ---- whether a holder is running or pending, from whether it has arrived, started and ended, after each change
 
 pub running_after_arrival : (a s e : Bool) → ((s || false) && not (e || (a && (not s && not e)))) ≡ (s && not e)
 running_after_arrival a true true = refl

@@ -1,4 +1,4 @@
--- The group of a holder, and whether its coming cancels what is in progress, stay what they are in every later table.
+-- The group of a holder, and whether its arrival cancels what is in progress, are the same in every later table.
 use Rattle.std.specs.Prelude.{◌≡◌, ℕ, zero, suc, ◌<◌, List, [], ◌∷◌, ◌++◌, length, false, Option, Some, None}
 use Rattle.std.specs.Prelude.{option_map, option_and_then, refl}
 use Rattle.std.specs.Option.{option_map_or, unwrap_or}
@@ -7,27 +7,29 @@ use Rattle.std.proofs.lemmas.Bool.{cases_eq}
 use Rattle.std.proofs.lemmas.Option.{slice_get-map, slice_get_past, slice_get_within}
 use Rattle.group_name.specs.Group.{Group, same_group}
 use Rattle.run_plan.specs.Admitted.{Admitted}
-use Rattle.workflow_runs.specs.GroupOf.{cancels_in_progress, group_at, leg_cancels, run_cancels, run_facts_at}
-use Rattle.workflow_runs.specs.LegContext.{facts_at}
-use Rattle.workflow_runs.specs.Groups.{is_in}
-use Rattle.workflow_runs.specs.Holders.{run_of}
-use Rattle.workflow_runs.specs.Moves.{Holder}
-use Rattle.workflow_runs.specs.Places.{LegPlace, leg_at, run_at}
-use Rattle.workflow_runs.specs.RunNumber.{events}
-use Rattle.workflow_runs.specs.NewRun.{new_run}
-use Rattle.workflow_runs.specs.RunState.{LegState, RunState}
-use Rattle.workflow_runs.proofs.Found.{at_the_end, before_the_end}
+use Rattle.run_states.specs.GroupOf.{cancels_in_progress, group_at, leg_cancels, run_cancels, run_facts_at}
+use Rattle.run_states.specs.Groups.{is_in}
+use Rattle.run_states.specs.Holders.{run_of}
+use Rattle.run_states.specs.LegContext.{facts_at}
+use Rattle.run_states.specs.NewRun.{new_run}
+use Rattle.run_states.specs.Places.{leg_at, run_at}
+use Rattle.run_states.specs.declared.place.LegPlace.{LegPlace}
+use Rattle.run_states.specs.RunNumber.{events}
+use Rattle.run_states.specs.RunState.{LegState, RunState}
+use Rattle.run_states.proofs.Found.{at_the_end, before_the_end}
+use Rattle.run_states.proofs.JobKeeps.{leg_in}
+use Rattle.run_states.proofs.LegFacts.{SameUpTo, attempt_at, facts_stay}
+use Rattle.run_states.proofs.NeedsSettled.{KeepsResults, result_in, result_so_far}
+use Rattle.run_states.proofs.RunFits.{RunsFit, admitted_at}
+use Rattle.run_states.proofs.Settles.{StayFit}
 use Rattle.workflow_runs.proofs.GroupStays.{leg_group_same, leg_needs_settled, run_facts_stay, run_group_stays}
-use Rattle.workflow_runs.proofs.JobKeeps.{leg_in}
-use Rattle.workflow_runs.proofs.LegFacts.{SameUpTo, attempt_at, facts_stay}
-use Rattle.workflow_runs.proofs.NeedsSettled.{KeepsResults, result_in, result_so_far}
 use Rattle.workflow_runs.proofs.OneEach.{IsOneOf}
-use Rattle.workflow_runs.proofs.RunFits.{RunsFit, admitted_at}
-use Rattle.workflow_runs.proofs.Settles.{StayFit}
 use Rattle.table_laws.specs.Names.{attempt_of}
+use Rattle.run_states.specs.declared.holder.Holder.{Holder}
+use Rattle.run_states.specs.declared.holder.Holder.TheVariants.{Run, Leg}
 
--- Runs of before stand where they stood, with the same events, in the same attempts, and settled jobs keep their results. Those that have come are
--- at their first attempt, so that no holder gets another name.
+-- The earlier runs keep their indices, their events and their attempts, and finished jobs keep their results. The added runs are at their
+-- first attempt, so no holder gets another name.
 pub record Grows (runs later : List RunState) : Type 0 where
   pub same_admitted : (r : ℕ) (a : Admitted) → admitted_at runs r ≡ Some a → admitted_at later r ≡ Some a
   pub same_attempt : (r n : ℕ) → attempt_at runs r ≡ Some n → attempt_at later r ≡ Some n
@@ -88,7 +90,7 @@ new_run_grows runs event = record {
   ]);
 }
 
--- ---- the events up to a run that is there
+-- ---- the events up to a run that exists
 
 event_there : (runs : List RunState) (s : ℕ) → s < length runs → (x : Admitted) × (admitted_at runs s ≡ Some x)
 event_there [] s within = absurd (omega (arith, within))
@@ -101,15 +103,15 @@ same_up_to runs later grows r within s le =
     slice_get-map (λ (x : RunState). x.admitted) later s ∙ grows.same_admitted s event.0 event.1 ∙ sym event.1
     ∙ sym (slice_get-map (λ (x : RunState). x.admitted) runs s)
 
--- ---- a holder that is there
+-- ---- a holder that exists
 
 leg_cancels_same : (runs later : List RunState) (p : LegPlace) → facts_at later p ≡ facts_at runs p
-    → cancels_in_progress later (Holder.a_leg p) ≡ cancels_in_progress runs (Holder.a_leg p)
+    → cancels_in_progress later (Leg p) ≡ cancels_in_progress runs (Leg p)
 unfolding cancels_in_progress
 leg_cancels_same runs later p same = ap (λ o. option_map_or leg_cancels o false) same
 
 run_cancels_same : (runs later : List RunState) (r : ℕ) → run_facts_at later r ≡ run_facts_at runs r
-    → cancels_in_progress later (Holder.a_run r) ≡ cancels_in_progress runs (Holder.a_run r)
+    → cancels_in_progress later (Run r) ≡ cancels_in_progress runs (Run r)
 unfolding cancels_in_progress
 run_cancels_same runs later r same = ap (λ o. option_map_or run_cancels o false) same
 
@@ -130,13 +132,13 @@ module _ (runs later : List RunState) (fit : RunsFit runs) (grows : Grows runs l
   run_events_kept r x at = same_up_to runs later grows r (slice_get_within runs r x at)
 
   pub group_kept : (h : Holder) → IsOneOf runs h → group_at later h ≡ group_at runs h
-  group_kept (Holder.a_run r) there = run_group_stays runs later r (run_events_kept r there.0 there.1) (attempt_kept r there.0 there.1)
-  group_kept (Holder.a_leg p) there = leg_group_same runs later p (leg_facts_kept p there.0 there.1)
+  group_kept (Run r) there = run_group_stays runs later r (run_events_kept r there.0 there.1) (attempt_kept r there.0 there.1)
+  group_kept (Leg p) there = leg_group_same runs later p (leg_facts_kept p there.0 there.1)
 
   pub cancels_kept : (h : Holder) → IsOneOf runs h → cancels_in_progress later h ≡ cancels_in_progress runs h
-  cancels_kept (Holder.a_run r) there =
+  cancels_kept (Run r) there =
       run_cancels_same runs later r (run_facts_stay runs later r (run_events_kept r there.0 there.1) (attempt_kept r there.0 there.1))
-  cancels_kept (Holder.a_leg p) there = leg_cancels_same runs later p (leg_facts_kept p there.0 there.1)
+  cancels_kept (Leg p) there = leg_cancels_same runs later p (leg_facts_kept p there.0 there.1)
 
   pub is_in_kept : (g : Group) (h : Holder) → IsOneOf runs h → is_in later g h ≡ is_in runs g h
   is_in_kept g h there = ap (λ o. option_map_or (same_group g) o false) (group_kept h there)

@@ -1,21 +1,21 @@
--- The moves of a group over all commands keep its law, behind those of the holders that the group has already, by the names of the holders in
--- the attempts of their runs.
+-- The moves of a group over all commands satisfy its law, after the base moves of the holders that the group already has, by the names of
+-- the holders in the attempts of their runs.
 use Rattle.std.specs.Prelude.{◌≡◌, ◌-◌, ◌≤◌, List, [], ◌∷◌, ◌++◌, ◌&&◌, not, Bool, true, false, refl}
 use Rattle.std.proofs.Common.{arith, ap, inl, inr, sym, ◌∙◌, subst, append_assoc}
 use Rattle.std.proofs.lemmas.Bool.{and_from, and_parts, and_right, false≢true, or_parts}
 use Rattle.std.proofs.lemmas.List.{append-nil}
 use Rattle.group_name.specs.Group.{Group}
 use Rattle.run_plan.specs.declared.command.Command.{Command}
-use Rattle.workflow_runs.specs.GroupOf.{cancels_in_progress}
-use Rattle.workflow_runs.specs.GroupWords.{has_arrived}
-use Rattle.workflow_runs.specs.Groups.{is_in}
+use Rattle.run_states.specs.GroupOf.{cancels_in_progress}
+use Rattle.run_states.specs.GroupWords.{has_arrived}
+use Rattle.run_states.specs.Groups.{is_in}
 use Rattle.run_table.specs.Histories.{after}
-use Rattle.workflow_runs.specs.Moves.{Holder, Move}
+use Rattle.run_states.specs.Moves.{Move}
 use Rattle.run_table.specs.Sound.{IsSound}
 use Rattle.run_table.specs.Step.{stepped}
 use Rattle.run_table.specs.TableState.{Step, TableState}
 use Rattle.run_table.proofs.Kept.{kept_from_sound}
-use Rattle.workflow_runs.proofs.RunFits.{RunsFit}
+use Rattle.run_states.proofs.RunFits.{RunsFit}
 use Rattle.run_table.proofs.StepKeeps.{stepped_is_sound}
 use Rattle.table_laws.specs.GroupHistories.{all_moves, asks_by, asks_for_cancelling, first_moves, group_moves, moves_in, step_moves}
 use Rattle.table_laws.specs.GroupLaw.{KeepsLaw}
@@ -31,6 +31,7 @@ use Rattle.table_laws.proofs.LawSoFar.{LawSoFar}
 use Rattle.table_laws.proofs.RerunLaw.{again_goes_on}
 use Rattle.table_laws.proofs.SameGroups.{by_later_groups}
 use Rattle.table_laws.proofs.StepsLaw.{StepSays, step_says}
+use Rattle.run_states.specs.declared.holder.Holder.{Holder}
 
 -- ---- one step
 
@@ -78,7 +79,7 @@ module _ (names : Names) (g : Group) (asks : Holder → Bool) where
 
   -- ---- all commands
 
-  -- who asks for cancelling, of those that have not come, does so by the step in which it comes
+  -- a name that has not arrived yet asks for cancellation only by the step in which it arrives
   abbrev pub AreAskedBy : TableState → List Command → List Move → Type 0
   AreAskedBy t cs whole = (n : Holder) → has_arrived n whole ≡ false → asks n ≡ true → asks_by names g t cs n ≡ true
 
@@ -113,7 +114,7 @@ module _ (names : Names) (g : Group) (asks : Holder → Bool) where
       history_goes_on t cs (first_moves names g t) s asked
       (base_so_far t.runs g (kept_from_sound t s).fit s.one_of_each_group names asks none_asks)
 
--- attempts only rise
+-- attempts never decrease
 pub attempts_rise : (g : Group) (t : TableState) (c : Command) → IsSound t → (h : Holder) → attempt_of t.runs h ≤ attempt_of (stepped t c).table.runs h
 attempts_rise g t c s h =
     elim (step_says g t c s) [
@@ -134,7 +135,7 @@ all_so_far names t cs g s =
     (λ n arrives. ap (λ b. asks_by names g t cs n && not b) arrives ∙ and_right (asks_by names g t cs n) false refl)
     (λ n new asked. (and_parts (asks_by names g t cs n) (not (has_arrived n first)) asked).0)
 
--- whoever asks for cancelling
+-- whichever holders ask for cancellation
 pub told_so_far : (names : Names) (t : TableState) (cs : List Command) (g : Group) → IsSound t
     → SoFar names g (λ n. false) (after t cs).runs (all_moves names g t cs)
 told_so_far names t cs g s = all_go_on names g (λ n. false) t cs s (λ n arrives. refl) (λ n new asked. absurd (false≢true asked))

@@ -1,19 +1,21 @@
--- The names of holders over a history: within a step whose runs stay at their attempts they stay, and a name that has not come has made no move.
+-- The names of holders over a history: they do not change within a step in which runs keep their attempts, and a name that has not arrived
+-- has made no move.
 use Rattle.std.specs.Prelude.{◌≡◌, ℕ, ◌≤◌, List, [], ◌∷◌, ◌++◌, Some, refl}
 use Rattle.std.proofs.Common.{arith, ap, sym, ◌∙◌, subst}
-use Rattle.workflow_runs.specs.GroupWords.{has_arrived, has_ended, has_started}
-use Rattle.workflow_runs.specs.GroupWords.{was_stopped}
-use Rattle.workflow_runs.specs.Moves.{Holder, Move}
-use Rattle.workflow_runs.specs.RunState.{RunState}
+use Rattle.run_states.specs.GroupWords.{has_arrived, has_ended, has_started}
+use Rattle.run_states.specs.GroupWords.{was_stopped}
+use Rattle.run_states.specs.Moves.{Move}
+use Rattle.run_states.specs.RunState.{RunState}
 use Rattle.table_laws.specs.Names.{Names, attempt_of, name_in}
 use Rattle.table_laws.proofs.Agrees.{Agrees, IsInjective}
 use Rattle.table_laws.proofs.ListWalk.{nil_is_no_cons}
 use Rattle.table_laws.proofs.OwnMoves.{own}
+use Rattle.run_states.specs.declared.holder.Holder.{Holder}
 
 pub names_are_injective : (names : Names) (runs : List RunState) → IsInjective (name_in names runs)
 names_are_injective names runs h k e = (names.differ (attempt_of runs h) (attempt_of runs k) h k e).1
 
--- by names that are the same one by one
+-- agreement under other names that are equal for each holder
 pub agrees_by : (name next : Holder → Holder) (now whole : List Move) → ((h : Holder) → next h ≡ name h) → Agrees name now whole
     → Agrees next now whole
 agrees_by name next now whole same agrees = record {
@@ -47,7 +49,7 @@ agrees_at_first name = record {
   just = (λ before k h split displaced. absurd (nil_is_no_cons before [] (Move.arrive k) split));
 }
 
--- each move is named by an attempt up to the one at which the run is
+-- the holder of each move is named by an attempt up to the run's present one
 abbrev pub AreNamed : Names → List RunState → List Move → Type 0
 AreNamed names runs whole = (n : Holder) → (own n whole ≡ [] → ⊥)
     → (a : ℕ) × (h : Holder) × (n ≡ names.name a h) × (a ≤ attempt_of runs h)

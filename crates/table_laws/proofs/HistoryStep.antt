@@ -1,15 +1,15 @@
--- What is known of a group after some commands: how far its holders have come by the moves of the present attempts, and that all moves keep
--- the law, by names. One step keeps it.
+-- What is known about a group after some commands: the moves of the present attempts match the status of its holders, and all moves, by
+-- names, satisfy the law. One step preserves this.
 use Rattle.std.specs.Prelude.{◌≡◌, ℕ, ◌≤◌, List, [], ◌∷◌, ◌++◌, map, Bool, true, false, Some, if◌then◌else◌, refl}
 use Rattle.std.proofs.Common.{arith, ap, sym, ◌∙◌, subst}
 use Rattle.std.proofs.lemmas.Bool.{true≢false}
 use Rattle.std.proofs.lemmas.List.{append_cancel_left}
 use Rattle.group_name.specs.Group.{Group}
-use Rattle.workflow_runs.specs.GroupOf.{cancels_in_progress}
-use Rattle.workflow_runs.specs.GroupWords.{has_arrived, has_started, holder_of, latest, same_holder}
-use Rattle.workflow_runs.specs.Groups.{is_in, waits}
-use Rattle.workflow_runs.specs.Moves.{Holder, Move}
-use Rattle.workflow_runs.specs.RunState.{RunState}
+use Rattle.run_states.specs.GroupOf.{cancels_in_progress}
+use Rattle.run_states.specs.GroupWords.{has_arrived, has_started, holder_of, latest, same_holder}
+use Rattle.run_states.specs.Groups.{is_in, waits}
+use Rattle.run_states.specs.Moves.{Move}
+use Rattle.run_states.specs.RunState.{RunState}
 use Rattle.workflow_runs.proofs.ArrivalKeeps.{holder_tested}
 use Rattle.run_table.specs.TableState.{Step}
 use Rattle.table_laws.specs.GroupHistories.{moves_in}
@@ -24,6 +24,7 @@ use Rattle.table_laws.proofs.ListWalk.{Walk}
 use Rattle.table_laws.proofs.NamedLaw.{named_law_goes_on}
 use Rattle.table_laws.proofs.OwnMoves.{arrived_by_own, own, own_on}
 use Rattle.table_laws.proofs.Unbegun.{Unbegun}
+use Rattle.run_states.specs.declared.holder.Holder.{Holder}
 
 pub record SoFar (names : Names) (g : Group) (asks : Holder → Bool) (runs : List RunState) (whole : List Move) : Type 0 where
   pub now : List Move
@@ -35,13 +36,13 @@ pub record SoFar (names : Names) (g : Group) (asks : Holder → Bool) (runs : Li
   pub named : AreNamed names runs whole
   pub law : KeepsLaw asks whole
 
--- who asks for cancelling by its name, and comes in this step, does so in the table after it
+-- a holder that asks for cancellation by its name, and arrives in this step, does so in the table after it
 abbrev pub AreAsked : Names → Group → (Holder → Bool) → Step → List Move → Type 0
 AreAsked names g asks s whole =
     (k : Holder) → has_arrived k (moves_in s.table.runs g s.moves) ≡ true → has_arrived (name_in names s.table.runs k) whole ≡ false
     → asks (name_in names s.table.runs k) ≡ true → cancels_in_progress s.table.runs k ≡ true
 
--- one that has arrived is of the group
+-- a holder that has arrived is in the group
 pub arrived_in_it : (names : Names) (g : Group) (asks : Holder → Bool) (runs : List RunState) (whole : List Move)
     → (so_far : SoFar names g asks runs whole) → (h : Holder) → has_arrived h so_far.now ≡ true → is_in runs g h ≡ true
 arrived_in_it names g asks runs whole so_far h arrives =
@@ -51,7 +52,7 @@ arrived_in_it names g asks runs whole so_far h arrives =
           absurd (true≢false (sym arrives ∙ sym (arrived_by_own h so_far.now) ∙ ap (has_arrived h) (so_far.others h isnt)))
     ] refl
 
--- a move by another name is that of one who has the name
+-- a move by a new name is of the holder with that name
 named_by : (name : Holder → Holder) (n : Holder) (moves : List Move) → (own n (map (renamed name) moves) ≡ [] → ⊥)
     → (h : Holder) × (n ≡ name h)
 named_by name n [] some = absurd (some refl)
@@ -93,7 +94,7 @@ module _ (names : Names) (g : Group) (runs : List RunState) where
       no_cons : (m : Move) (ms : List Move) → m ∷ ms ≡ [] → ⊥
       no_cons m ms e = cc
 
-  -- a step that began with these moves, in which no attempt changes any more; who comes in it had not come by its name
+  -- the part of a step after these moves, in which no attempt changes; a holder that arrives in it has not arrived under its name before
   pub after_step : (cancels asks : Holder → Bool) (now whole more : List Move) → Agrees (name_in names runs) now whole
       → AreNamed names runs whole → KeepsLaw asks whole
       → ((k : Holder) → has_arrived k more ≡ true → has_arrived (name_in names runs k) whole ≡ false → asks (name_in names runs k) ≡ true

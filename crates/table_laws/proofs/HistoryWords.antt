@@ -5,18 +5,18 @@ use Rattle.std.proofs.lemmas.Bool.{and_parts, or_right, true≢false}
 use Rattle.wf_value.specs.declared.outcome.Outcome.{Outcome}
 use Rattle.group_name.specs.Group.{Group}
 use Rattle.run_plan.specs.declared.command.Command.{Command}
-use Rattle.workflow_runs.specs.GroupWords.{has_arrived, has_ended, has_started, next_displaced, was_stopped}
-use Rattle.workflow_runs.specs.Groups.{pending_in, running_in}
+use Rattle.run_states.specs.GroupWords.{has_arrived, has_ended, has_started, next_displaced, was_stopped}
+use Rattle.run_states.specs.Groups.{pending_in, running_in}
 use Rattle.run_table.specs.Histories.{after}
-use Rattle.workflow_runs.specs.Moves.{Holder, Move}
-use Rattle.workflow_runs.specs.Places.{leg_at, run_at}
+use Rattle.run_states.specs.Moves.{Move}
+use Rattle.run_states.specs.Places.{leg_at, run_at}
 use Rattle.run_table.specs.Sound.{IsSound}
 use Rattle.run_table.specs.TableState.{TableState}
-use Rattle.workflow_runs.specs.RunState.{RunState}
-use Rattle.workflow_runs.specs.declared.phases.LegPhase.{LegPhase}
-use Rattle.workflow_runs.specs.declared.phases.LegPhase.TheVariants as leg
-use Rattle.workflow_runs.specs.declared.phases.RunPhase.{RunPhase}
-use Rattle.workflow_runs.specs.declared.phases.RunPhase.TheVariants as run
+use Rattle.run_states.specs.RunState.{RunState}
+use Rattle.run_states.specs.declared.phases.LegPhase.{LegPhase}
+use Rattle.run_states.specs.declared.phases.LegPhase.TheVariants as leg
+use Rattle.run_states.specs.declared.phases.RunPhase.{RunPhase}
+use Rattle.run_states.specs.declared.phases.RunPhase.TheVariants as run
 use Rattle.workflow_runs.proofs.ArrivalKeeps.{itself}
 use Rattle.table_laws.specs.GroupHistories.{NeverBegan, all_moves, asks_for_cancelling}
 use Rattle.table_laws.specs.Names.{Names, attempt_of, name_in}
@@ -29,6 +29,8 @@ use Rattle.table_laws.proofs.HoldersOnce.{one_pending, one_running}
 use Rattle.table_laws.proofs.OwnMoves.{arrived_by_own, ended_by_own, own}
 use Rattle.table_laws.proofs.ReachedTables.{after_is_sound}
 use Rattle.table_laws.proofs.Unbegun.{Unbegun}
+use Rattle.run_states.specs.declared.holder.Holder.{Holder}
+use Rattle.run_states.specs.declared.holder.Holder.TheVariants.{Run, Leg}
 
 -- ---- starts and ends
 
@@ -44,7 +46,7 @@ pub only_a_later_one : (names : Names) (t : TableState) (cs : List Command) (g :
 only_a_later_one names t cs g before after_it r h s e =
     displaced_by_a_later_one (asks_for_cancelling names g t cs) (all_moves names g t cs) before after_it r h (group_keeps_law names t cs g s) e
 
--- ---- one of each
+-- ---- at most one of each kind
 
 pub one_pending_after : (t : TableState) (cs : List Command) (g : Group) → IsSound t → length (pending_in (after t cs).runs g) ≤ 1
 one_pending_after t cs g s = one_pending (after t cs).runs g (after_is_sound t cs s).one_of_each_group
@@ -52,9 +54,9 @@ one_pending_after t cs g s = one_pending (after t cs).runs g (after_is_sound t c
 pub one_running_after : (t : TableState) (cs : List Command) (g : Group) → IsSound t → length (running_in (after t cs).runs g) ≤ 1
 one_running_after t cs g s = one_running (after t cs).runs g (after_is_sound t cs s).one_of_each_group
 
--- ---- one that is displaced never begins
+-- ---- a displaced holder never begins
 
--- how far one has come that has arrived and ended, and never started
+-- the status of a holder that has arrived and ended, and never started
 over_by : (h : Holder) (s : Status) (moves : List Move) → Fits s h (own h moves) → has_arrived h moves ≡ true → has_ended h moves ≡ true
     → has_started h moves ≡ false → s ≡ Status.over
 over_by h Status.unarrived moves fits arrives ends unstarted =
@@ -81,16 +83,16 @@ leg_over leg.Stopping e = cc
 leg_over (leg.Ended r) e = (r, refl)
 
 never_began : (runs : List RunState) (h : Holder) → status runs h ≡ Status.over → Unbegun runs h → NeverBegan runs h
-never_began runs (Holder.a_run r) over un =
-    elim (run_at runs r) as (λ o. run_at runs r ≡ o → status_by status_of_run o ≡ Status.over → NeverBegan runs (Holder.a_run r)) [
+never_began runs (Run r) over un =
+    elim (run_at runs r) as (λ o. run_at runs r ≡ o → status_by status_of_run o ≡ Status.over → NeverBegan runs (Run r)) [
       | None ↦ λ is e. cc
       | Some x ↦ λ is e.
           let ended = run_over x.phase x.stopping e in
           let its = un x is in
           (x, is, record { ended = ended; all_cancelled = its.cancelled ended; no_legs = its.no_legs })
     ] refl over
-never_began runs (Holder.a_leg p) over un =
-    elim (leg_at runs p) as (λ o. leg_at runs p ≡ o → status_by status_of_leg o ≡ Status.over → NeverBegan runs (Holder.a_leg p)) [
+never_began runs (Leg p) over un =
+    elim (leg_at runs p) as (λ o. leg_at runs p ≡ o → status_by status_of_leg o ≡ Status.over → NeverBegan runs (Leg p)) [
       | None ↦ λ is e. cc
       | Some z ↦ λ is e.
           let ended = leg_over z.phase e in
@@ -98,7 +100,7 @@ never_began runs (Holder.a_leg p) over un =
           (z, is, record { cancelled = ended.1 ∙ ap (λ o. leg.Ended o) (its.cancelled ended.0 ended.1); no_lease = its.no_lease })
     ] refl over
 
--- by its moves, one that is displaced has come, has ended and has not started
+-- by its moves, a displaced holder has arrived and ended, and has not started
 pub record IsDisplaced (h : Holder) (moves : List Move) : Type 0 where
   pub arrived : has_arrived h moves ≡ true
   pub ended : has_ended h moves ≡ true

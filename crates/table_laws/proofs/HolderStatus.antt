@@ -1,4 +1,4 @@
--- How far a holder of a group has come, and what its own moves then are.
+-- The status of a holder of a group, and its own moves up to that status.
 use Rattle.std.specs.Prelude.{◌≡◌, ℕ, List, [], ◌∷◌, ◌++◌, ◌&&◌, ◌||◌, not, Bool, true, false, Option, Some, None, option_and_then}
 use Rattle.std.specs.Prelude.{slice_get, if◌then◌else◌, refl}
 use Rattle.std.specs.Option.{option_map_or}
@@ -6,26 +6,29 @@ use Rattle.std.proofs.Common.{ap, sym, ◌∙◌, append_assoc, subst}
 use Rattle.std.proofs.lemmas.List.{append-nil}
 use Rattle.std.proofs.lemmas.Bool.{and_right, or_right}
 use Rattle.wf_value.specs.declared.outcome.Outcome.{Outcome}
-use Rattle.workflow_runs.specs.Fitting.{is_stopping_leg}
-use Rattle.workflow_runs.specs.GroupWords.{has_arrived, has_ended, has_started, is_pending, is_running, was_stopped}
-use Rattle.workflow_runs.specs.Groups.{holds, is_told_to_stop, leg_holds, leg_waits, run_waits, waits}
-use Rattle.workflow_runs.specs.Moves.{Holder, Move}
-use Rattle.workflow_runs.specs.Places.{LegPlace, job_at, leg_at, run_at}
-use Rattle.workflow_runs.specs.StateWords.{is_live}
-use Rattle.workflow_runs.specs.RunState.{LegState, JobState, RunState}
-use Rattle.workflow_runs.specs.declared.phases.LegPhase.{LegPhase}
-use Rattle.workflow_runs.specs.declared.phases.LegPhase.TheVariants as leg
-use Rattle.workflow_runs.specs.declared.phases.RunPhase.{RunPhase}
-use Rattle.workflow_runs.specs.declared.phases.RunPhase.TheVariants as run
+use Rattle.run_states.specs.Fitting.{is_stopping_leg}
+use Rattle.run_states.specs.GroupWords.{has_arrived, has_ended, has_started, is_pending, is_running, was_stopped}
+use Rattle.run_states.specs.Groups.{holds, is_told_to_stop, leg_holds, leg_waits, run_waits, waits}
+use Rattle.run_states.specs.Moves.{Move}
+use Rattle.run_states.specs.Places.{job_at, leg_at, run_at}
+use Rattle.run_states.specs.declared.place.LegPlace.{LegPlace}
+use Rattle.run_states.specs.RunState.{LegState, JobState, RunState}
+use Rattle.run_states.specs.StateWords.{is_live}
+use Rattle.run_states.specs.declared.phases.LegPhase.{LegPhase}
+use Rattle.run_states.specs.declared.phases.LegPhase.TheVariants as leg
+use Rattle.run_states.specs.declared.phases.RunPhase.{RunPhase}
+use Rattle.run_states.specs.declared.phases.RunPhase.TheVariants as run
 use Rattle.workflow_runs.proofs.ArrivalKeeps.{itself}
 use Rattle.table_laws.proofs.GroupSaid.{ended_on}
 use Rattle.table_laws.proofs.OwnMoves.{ended_by_own, own, runs_by_own, stopped_by_own, waits_by_own}
+use Rattle.run_states.specs.declared.holder.Holder.{Holder}
+use Rattle.run_states.specs.declared.holder.Holder.TheVariants.{Run, Leg}
 
 pub data Status : Type 0 where
-  -- not there, or new
+  -- it does not exist, or is new
   unarrived : Status
   waiting : Status
-  -- and whether it has been told to stop
+  -- and whether it is asked to stop
   running : Bool → Status
   over : Status
 
@@ -50,15 +53,15 @@ status_of_leg z = leg_status z.phase
 abbrev pub status_of_run : RunState → Status
 status_of_run x = run_status x.phase x.stopping
 
--- of what is there, if anything is
+-- of the element that exists, if there is one
 abbrev pub status_by : {X : Type 0} → (X → Status) → Option X → Status
 status_by of_it o = option_map_or of_it o Status.unarrived
 
 abbrev pub status : List RunState → Holder → Status
-status runs (Holder.a_run r) = status_by status_of_run (run_at runs r)
-status runs (Holder.a_leg p) = status_by status_of_leg (leg_at runs p)
+status runs (Run r) = status_by status_of_run (run_at runs r)
+status runs (Leg p) = status_by status_of_leg (leg_at runs p)
 
--- ---- what the table says is what the status says
+-- ---- the status agrees with the table
 
 abbrev pub is_waiting : Status → Bool
 is_waiting Status.unarrived = false
@@ -104,14 +107,14 @@ leg_holds_as leg.Stopping = refl
 leg_holds_as (leg.Ended r) = refl
 
 pub waits_as : (runs : List RunState) (h : Holder) → waits runs h ≡ is_waiting (status runs h)
-waits_as runs (Holder.a_run r) =
+waits_as runs (Run r) =
     said_by is_waiting status_of_run (λ x. run_waits x.phase) refl (λ x. run_waits_as x.phase x.stopping) (run_at runs r)
-waits_as runs (Holder.a_leg p) = said_by is_waiting status_of_leg (λ z. leg_waits z.phase) refl (λ z. leg_waits_as z.phase) (leg_at runs p)
+waits_as runs (Leg p) = said_by is_waiting status_of_leg (λ z. leg_waits z.phase) refl (λ z. leg_waits_as z.phase) (leg_at runs p)
 
 pub holds_as : (runs : List RunState) (h : Holder) → holds runs h ≡ is_held (status runs h)
-holds_as runs (Holder.a_run r) =
+holds_as runs (Run r) =
     said_by is_held status_of_run (λ x. is_live x.phase) refl (λ x. run_holds_as x.phase x.stopping) (run_at runs r)
-holds_as runs (Holder.a_leg p) = said_by is_held status_of_leg (λ z. leg_holds z.phase) refl (λ z. leg_holds_as z.phase) (leg_at runs p)
+holds_as runs (Leg p) = said_by is_held status_of_leg (λ z. leg_holds z.phase) refl (λ z. leg_holds_as z.phase) (leg_at runs p)
 
 pub waiting_is : (s : Status) → is_waiting s ≡ true → s ≡ Status.waiting
 waiting_is Status.unarrived e = cc
@@ -125,7 +128,7 @@ held_is Status.waiting e = cc
 held_is (Status.running told) e = (told, refl)
 held_is Status.over e = cc
 
--- whether the running holder has been told to stop
+-- whether the running holder is asked to stop
 run_told : (phase : RunPhase) (b told : Bool) → run_status phase b ≡ Status.running told → b ≡ told
 run_told run.Waiting b told e = cc
 run_told run.Live b told e = cc
@@ -146,9 +149,9 @@ told_by of_it asked told same None e = cc
 told_by of_it asked told same (Some x) e = same x e
 
 pub told_as : (runs : List RunState) (h : Holder) (told : Bool) → status runs h ≡ Status.running told → is_told_to_stop runs h ≡ told
-told_as runs (Holder.a_run r) told e =
+told_as runs (Run r) told e =
     told_by status_of_run (λ x. x.stopping) told (λ x is. run_told x.phase x.stopping told is) (run_at runs r) e
-told_as runs (Holder.a_leg p) told e =
+told_as runs (Leg p) told e =
     told_by status_of_leg (λ z. is_stopping_leg z.phase) told (λ z is. leg_told z.phase told is) (leg_at runs p) e
 
 -- ---- the leg of a run
@@ -165,14 +168,14 @@ abbrev pub status_in_run : ℕ → ℕ → RunState → Status
 status_in_run j l x = status_by (status_in_job l) (slice_get x.jobs j)
 
 pub status_by_run : (runs : List RunState) (p : LegPlace)
-    → status runs (Holder.a_leg p) ≡ status_by (status_in_run p.job p.leg) (run_at runs p.run)
+    → status runs (Leg p) ≡ status_by (status_in_run p.job p.leg) (run_at runs p.run)
 status_by_run runs p =
     through status_of_leg (λ (y : JobState). slice_get y.legs p.leg) (job_at runs p.run p.job)
     ∙ through (status_in_job p.leg) (λ (x : RunState). slice_get x.jobs p.job) (run_at runs p.run)
 
--- ---- the moves of a holder that has come so far
+-- ---- the moves of a holder up to its status
 
--- it neither runs nor waits
+-- it is neither running nor pending
 abbrev pub IsOver : Holder → List Move → Type 0
 IsOver h moves = (is_running h moves ≡ false) × (is_pending h moves ≡ false)
 
@@ -229,9 +232,9 @@ fits_stopped told h moves fits = sym (stopped_by_own h moves) ∙ ap (was_stoppe
 pub fits_unended : (h : Holder) (moves : List Move) → Fits Status.waiting h (own h moves) → has_ended h moves ≡ false
 fits_unended h moves fits = sym (ended_by_own h moves) ∙ ap (has_ended h) fits
 
--- ---- how a holder goes on
+-- ---- how the status of a holder changes
 
--- with these moves of its own a holder that has come so far comes that far
+-- with these moves of its own, a holder goes from one status to the other
 abbrev pub Goes : Holder → Status → List Move → Status → Type 0
 Goes h before more after = (moves : List Move) → Fits before h moves → Fits after h (moves ++ more)
 

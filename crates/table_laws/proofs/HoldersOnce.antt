@@ -1,4 +1,4 @@
--- Each run and each leg stands once among all holders, so a test that one of them alone passes keeps that one.
+-- Each run and each leg occurs once among all holders, so a test that only one of them passes keeps exactly that one.
 use Rattle.std.specs.Prelude.{◌≡◌, ℕ, ◌≤◌, List, [], ◌∷◌, ◌++◌, filter, length, map, Bool, true, false, Option, Some}
 use Rattle.std.specs.Prelude.{if◌then◌else◌, slice_get, refl}
 use Rattle.std.specs.List.{AllByRecursion}
@@ -8,18 +8,20 @@ use Rattle.std.proofs.lemmas.Bool.{and_parts, true≢false}
 use Rattle.std.proofs.lemmas.List.Concat.{flat_map_single}
 use Rattle.std.proofs.lemmas.List.Elements.{filter-append}
 use Rattle.group_name.specs.Group.{Group}
-use Rattle.workflow_runs.specs.FirstOf.{placed}
-use Rattle.workflow_runs.specs.Groups.{HasOneEach, all_holders, holds, is_in, is_pending_in, is_running_in, pending_in, running_in, waits}
-use Rattle.workflow_runs.specs.Moves.{Holder}
-use Rattle.workflow_runs.specs.Places.{LegPlace, leg_at, leg_place, leg_places, leg_places_of_job, leg_places_of_run}
-use Rattle.workflow_runs.specs.RunState.{LegState, JobState, RunState}
-use Rattle.workflow_runs.proofs.JobKeeps.{leg_in}
+use Rattle.run_states.specs.FirstOf.{placed}
+use Rattle.run_states.specs.Groups.{HasOneEach, all_holders, holds, is_in, is_pending_in, is_running_in, pending_in, running_in, waits}
+use Rattle.run_states.specs.Places.{leg_at, leg_place, leg_places, leg_places_of_job, leg_places_of_run}
+use Rattle.run_states.specs.declared.place.LegPlace.{LegPlace}
+use Rattle.run_states.specs.RunState.{LegState, JobState, RunState}
+use Rattle.run_states.proofs.JobKeeps.{leg_in}
 use Rattle.workflow_runs.proofs.OneEach.{IsOneOf, each_holder, one_that_holds, one_that_waits}
 use Rattle.table_laws.proofs.PlacedOne.{filter_flat_map, filter_of_map, filter_to_none, none_of_all, one_of_placed}
+use Rattle.run_states.specs.declared.holder.Holder.{Holder}
+use Rattle.run_states.specs.declared.holder.Holder.TheVariants.{Run, Leg}
 
--- ---- what one alone passes
+-- ---- a test that only one passes
 
--- the others fail
+-- all others fail
 fails_else : {X : Type 0} (test : X → Bool) (h : X) → ((k : X) → test k ≡ true → k ≡ h) → (k : X) → (k ≡ h → ⊥) → test k ≡ false
 fails_else test h only k other =
     elim (test k) as (λ b. test k ≡ b → b ≡ false) [
@@ -33,7 +35,7 @@ kept_alone test x is = ap (λ b. if b then x ∷ [] else []) is
 dropped_alone : {X : Type 0} (test : X → Bool) (x : X) → test x ≡ false → filter test (x ∷ []) ≡ []
 dropped_alone test x is = ap (λ b. if b then x ∷ [] else []) is
 
--- the one place that passes, of a list in which each place makes one thing
+-- the one index that passes, in a list with one element for each index
 one_made : {X Y : Type 0} (test : Y → Bool) (make : ℕ → Y) (xs : List X) (i : ℕ) (x : X) → slice_get xs i ≡ Some x → test (make i) ≡ true
     → ((k : ℕ) → (k ≡ i → ⊥) → test (make k) ≡ false) → filter test (map (λ (e : ℕ × X). make e.0) (placed xs)) ≡ make i ∷ []
 one_made {X} {Y} test make xs i x at is others =
@@ -86,39 +88,39 @@ module _ (runs : List RunState) (test : LegPlace → Bool) (p : LegPlace) (is : 
 
 -- ---- a holder
 
-pub leg_is : (a b : LegPlace) → Holder.a_leg a ≡ Holder.a_leg b → a ≡ b
+pub leg_is : (a b : LegPlace) → Leg a ≡ Leg b → a ≡ b
 leg_is a b e = cc
 
 pub one_holder_kept : (runs : List RunState) (test : Holder → Bool) (h : Holder) → IsOneOf runs h → test h ≡ true
     → ((k : Holder) → test k ≡ true → k ≡ h) → filter test (all_holders runs) ≡ h ∷ []
-one_holder_kept runs test (Holder.a_run r) there is only =
-    let runs_of = map (λ (x : ℕ × RunState). Holder.a_run x.0) (placed runs) in
-    let legs_of = map (λ p. Holder.a_leg p) (leg_places runs) in
+one_holder_kept runs test (Run r) there is only =
+    let runs_of = map (λ (x : ℕ × RunState). Run x.0) (placed runs) in
+    let legs_of = map (λ p. Leg p) (leg_places runs) in
     filter-append test runs_of legs_of
     ∙ ap₂ (λ a b. a ++ b)
-    (one_made test (λ k. Holder.a_run k) runs r there.0 there.1 is
-    (λ k other. fails_else test (Holder.a_run r) only (Holder.a_run k) (λ e. other (run_is k r e))))
-    (filter_of_map test (λ p. Holder.a_leg p) (leg_places runs)
-    ∙ ap (map (λ p. Holder.a_leg p))
-    (filter_to_none (λ p. test (Holder.a_leg p)) (leg_places runs) (λ p. fails_else test (Holder.a_run r) only (Holder.a_leg p) (λ e. cc))))
+    (one_made test (λ k. Run k) runs r there.0 there.1 is
+    (λ k other. fails_else test (Run r) only (Run k) (λ e. other (run_is k r e))))
+    (filter_of_map test (λ p. Leg p) (leg_places runs)
+    ∙ ap (map (λ p. Leg p))
+    (filter_to_none (λ p. test (Leg p)) (leg_places runs) (λ p. fails_else test (Run r) only (Leg p) (λ e. cc))))
   where
-    run_is : (a b : ℕ) → Holder.a_run a ≡ Holder.a_run b → a ≡ b
+    run_is : (a b : ℕ) → Run a ≡ Run b → a ≡ b
     run_is a b e = cc
-one_holder_kept runs test (Holder.a_leg p) there is only =
-    let runs_of = map (λ (x : ℕ × RunState). Holder.a_run x.0) (placed runs) in
-    let legs_of = map (λ q. Holder.a_leg q) (leg_places runs) in
+one_holder_kept runs test (Leg p) there is only =
+    let runs_of = map (λ (x : ℕ × RunState). Run x.0) (placed runs) in
+    let legs_of = map (λ q. Leg q) (leg_places runs) in
     filter-append test runs_of legs_of
     ∙ ap₂ (λ a b. a ++ b)
-    (filter_of_map test (λ (x : ℕ × RunState). Holder.a_run x.0) (placed runs)
-    ∙ ap (map (λ (x : ℕ × RunState). Holder.a_run x.0))
-    (filter_to_none (λ (x : ℕ × RunState). test (Holder.a_run x.0)) (placed runs)
-    (λ x. fails_else test (Holder.a_leg p) only (Holder.a_run x.0) (λ e. cc))))
-    (filter_of_map test (λ q. Holder.a_leg q) (leg_places runs)
-    ∙ ap (map (λ q. Holder.a_leg q))
-    (one_leg_place runs (λ q. test (Holder.a_leg q)) p is
-    (λ q other. fails_else test (Holder.a_leg p) only (Holder.a_leg q) (λ e. other (leg_is q p e))) there.0 there.1))
+    (filter_of_map test (λ (x : ℕ × RunState). Run x.0) (placed runs)
+    ∙ ap (map (λ (x : ℕ × RunState). Run x.0))
+    (filter_to_none (λ (x : ℕ × RunState). test (Run x.0)) (placed runs)
+    (λ x. fails_else test (Leg p) only (Run x.0) (λ e. cc))))
+    (filter_of_map test (λ q. Leg q) (leg_places runs)
+    ∙ ap (map (λ q. Leg q))
+    (one_leg_place runs (λ q. test (Leg q)) p is
+    (λ q other. fails_else test (Leg p) only (Leg q) (λ e. other (leg_is q p e))) there.0 there.1))
 
--- one that passes is kept
+-- a holder that passes is kept
 none_kept : {X : Type 0} (test : X → Bool) (xs : List X) → filter test xs ≡ [] → AllByRecursion (λ x. test x ≡ false) xs
 none_kept test [] e = tt
 none_kept test (x ∷ xs) e =
@@ -133,7 +135,7 @@ pub some_kept : (runs : List RunState) (test : Holder → Bool) (h : Holder) →
 some_kept runs test h there is none =
     true≢false (sym is ∙ each_holder (λ k. test k ≡ false) runs h (none_kept test (all_holders runs) none) there)
 
--- ---- of each group at most one
+-- ---- at most one in each group
 
 some_first : {X : Type 0} (x y : X) (xs ys : List X) → x ∷ xs ≡ y ∷ ys → x ≡ y
 some_first x y xs ys e = cc

@@ -1,14 +1,14 @@
--- The moves of a group over all commands say exactly who holds it in the table after them.
+-- The moves of a group over all commands determine its holders in the table after them.
 use Rattle.std.specs.Prelude.{◌≡◌, ◌&&◌, not, Bool, true, false, List, refl}
 use Rattle.std.proofs.Common.{ap, ap₂, sym, ◌∙◌, subst}
 use Rattle.std.proofs.lemmas.Bool.{and_parts}
 use Rattle.group_name.specs.Group.{Group}
 use Rattle.run_plan.specs.declared.command.Command.{Command}
-use Rattle.workflow_runs.specs.GroupWords.{is_pending, is_running, was_stopped}
-use Rattle.workflow_runs.specs.Groups.{holds, is_in, is_pending_in, is_running_in, is_told_to_stop, waits}
+use Rattle.run_states.specs.GroupWords.{is_pending, is_running, was_stopped}
+use Rattle.run_states.specs.Groups.{holds, is_in, is_pending_in, is_running_in, is_told_to_stop, waits}
 use Rattle.run_table.specs.Histories.{after}
-use Rattle.workflow_runs.specs.Moves.{Holder, Move}
-use Rattle.workflow_runs.specs.RunState.{RunState}
+use Rattle.run_states.specs.Moves.{Move}
+use Rattle.run_states.specs.RunState.{RunState}
 use Rattle.run_table.specs.Sound.{IsSound}
 use Rattle.run_table.specs.TableState.{TableState}
 use Rattle.table_laws.specs.GroupHistories.{all_moves}
@@ -18,13 +18,14 @@ use Rattle.table_laws.proofs.HistoryLaw.{told_so_far}
 use Rattle.table_laws.proofs.HistoryStep.{SoFar}
 use Rattle.table_laws.proofs.HolderStatus.{Fits, Status, fits_pending, fits_running, fits_stopped, held_is, holds_as, status, told_as, waits_as}
 use Rattle.table_laws.proofs.OwnMoves.{own, runs_by_own, waits_by_own}
+use Rattle.run_states.specs.declared.holder.Holder.{Holder}
 
 module _ (names : Names) (runs : List RunState) (g : Group) (asks : Holder → Bool) (whole : List Move)
     (so_far : SoFar names g asks runs whole) where
   abbrev moves : List Move
   moves = so_far.now
 
-  -- what is said of a holder of the group, where nothing is said of the others
+  -- what the moves say about a holder of the group, if they say nothing about others
   said : (h : Holder) (told tested : Bool) → (is_in runs g h ≡ true → told ≡ tested) → (is_in runs g h ≡ false → told ≡ false)
       → told ≡ (is_in runs g h && tested)
   said h told tested within outside =
@@ -44,7 +45,7 @@ module _ (names : Names) (runs : List RunState) (g : Group) (asks : Holder → B
       said h (is_pending h moves) (waits runs h) (λ is. fits_pending (status runs h) h moves (so_far.each h is) ∙ sym (waits_as runs h))
       (λ isnt. sym (waits_by_own h moves) ∙ ap (is_pending h) (so_far.others h isnt))
 
-  -- a holder that runs
+  -- a running holder
   told_said : (h : Holder) → is_running_in runs g h ≡ true → was_stopped h moves ≡ is_told_to_stop runs h
   told_said h is =
       let parts = and_parts (is_in runs g h) (holds runs h) is in
@@ -60,7 +61,7 @@ module _ (names : Names) (runs : List RunState) (g : Group) (asks : Holder → B
         | false ↦ λ isnt. ap (λ b. b && was_stopped h moves) (running_said h ∙ isnt)
       ] refl
 
-  -- by their names
+  -- by the names
   running_named : (h : Holder) → is_running (name_in names runs h) whole ≡ is_running h moves
   running_named h = ap₂ (λ s e. s && not e) (so_far.agrees.started h) (so_far.agrees.ended h)
 

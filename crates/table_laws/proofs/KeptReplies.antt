@@ -1,4 +1,5 @@
--- What is kept of a runner stays until a later command of it is carried out: its last number, the command, and the reply to it.
+-- What is kept about a runner does not change until a later command of it is carried out: its last number, the command, and the reply to
+-- it.
 use Rattle.std.proofs.Common.{◌≡◌, ℕ, ◌+◌, ◌<◌, ◌≤◌, Bool, true, false, List, [], ◌∷◌, refl, sym, ◌∙◌, ap, subst}
 use Rattle.std.proofs.Common.{arith}
 use Rattle.std.specs.Prelude.{Option, Some, None, option_map, if◌then◌else◌, nat_eq, nat_lt, ◌&&◌}
@@ -20,7 +21,7 @@ use Rattle.run_plan.specs.declared.last_command.ClaimReply.TheVariants as given
 use Rattle.run_plan.specs.declared.last_command.LastCommand.{LastCommand}
 use Rattle.run_plan.specs.declared.reply.Reply.{Reply}
 use Rattle.run_plan.specs.declared.reply.Reply.TheVariants as reply
-use Rattle.workflow_runs.specs.Fitting.{first_fit}
+use Rattle.run_states.specs.Fitting.{first_fit}
 use Rattle.run_table.specs.Histories.{after}
 use Rattle.run_table.specs.TableState.{Step, RunnerState, TableState}
 use Rattle.run_table.specs.Step.{admission_answer, admitting, cancel_answer, cancelling, claim_answer, claiming, claiming_runner}
@@ -54,7 +55,7 @@ module _ (name : List ℕ) (number : ℕ) (same : LastCommand → Bool) (kept : 
     keeps = has.keeps;
   }
 
-  -- a runner is put among them
+  -- a runner is added or replaced
   has_beside : (t next : TableState) (new : RunnerState) → next.runners ≡ with_runner t.runners new
       → ((has : Has t) → name ≡ new.name → Has next) → Has t → Has next
   has_beside t next new is same_name has =
@@ -71,7 +72,7 @@ module _ (name : List ℕ) (number : ℕ) (same : LastCommand → Bool) (kept : 
         }
       ] refl
 
-  -- a runner whose command is in turn
+  -- a runner with its next command
   in_turn : (t next : TableState) (new : RunnerState) → next.runners ≡ with_runner t.runners new
       → new.number ≡ number_of (runner_named t.runners new.name) + 1 → (new.name ≡ name → new.number ≤ number) → Has t → Has next
   in_turn t next new is turn no_later has = has_beside t next new is (λ has named.
@@ -155,7 +156,7 @@ module _ (name : List ℕ) (number : ℕ) (same : LastCommand → Bool) (kept : 
             ]
       ] refl
 
-  -- a claim that changes the table is no refusal, and no more is a report
+  -- a claim that changes the table is not refused, and neither is a report
   claim_unrefused : (t : TableState) (claim : Claimed) → claim_answer t claim ≡ None → IsRefused (stepped t (command.Claim claim)).reply → ⊥
   claim_unrefused t claim none =
       subst (λ (o : Option Reply). IsRefused (option_map_or (unchanged t) o (claiming t claim)).reply → ⊥) (sym none)
@@ -204,7 +205,7 @@ module _ (name : List ℕ) (number : ℕ) (same : LastCommand → Bool) (kept : 
       has_after (stepped t c).table cs no_later.1
       (has_step t c (λ n turn later. absurd (omega (arith, no_later.0 n turn, later))) has)
 
-  -- the command again
+  -- the same command again
   pub answer_again : (t : TableState) → Has t → answer_of_turn (runner_named t.runners name) number same ≡ Some kept
   answer_again t has =
       let x = has.runner in
@@ -214,9 +215,9 @@ module _ (name : List ℕ) (number : ℕ) (same : LastCommand → Bool) (kept : 
       ∙ ap (λ (b : Bool). if b then Some (kept_reply x.last) else turn_answer x.number number) repeats
       ∙ ap (λ (r : Reply). Some r) has.keeps
 
--- ---- what a command keeps that is not refused
+-- ---- what a command that is not refused leaves
 
--- put among the runners
+-- for the runner that is added or replaced
 put_has : (t next : TableState) (new : RunnerState) (same : LastCommand → Bool) (kept : Reply) → next.runners ≡ with_runner t.runners new
     → same new.last ≡ true → kept_reply new.last ≡ kept → HasKept next new.name new.number same kept
 put_has t next new same kept is passes keeps = record {
@@ -227,7 +228,7 @@ put_has t next new same kept is passes keeps = record {
   keeps = keeps;
 }
 
--- what was kept already
+-- what was already kept
 repeated_has : (t : TableState) (name : List ℕ) (number : ℕ) (same : LastCommand → Bool) (x : RunnerState)
     → runner_named t.runners name ≡ Some x
     → is_repeated number same x ≡ true → HasKept t name number same (kept_reply x.last)
@@ -241,7 +242,7 @@ repeated_has t name number same x found is =
       keeps = refl;
     }
 
--- A numbered command is answered by what is kept, or is refused, or changes the table.
+-- A numbered command is answered from what is kept, or is refused, or changes the table.
 abbrev turned : TableState → Option RunnerState → Bool → ℕ → Option Reply → Step → Step
 turned t o b number others change =
     option_map_or (unchanged t)

@@ -1,4 +1,4 @@
--- The attempt at which a run is stays until a re-run begins another one, and a re-run that asks for it is answered with it again.
+-- The attempt of a run does not change until a re-run begins another one, and a re-run that asks for it is answered with it again.
 use Rattle.std.specs.Prelude.{◌≡◌, ℕ, zero, suc, ◌+◌, ◌-◌, List, [], ◌∷◌, ◌++◌, map, Bool, true, false, nat_eq, nat_le, Option, Some, None}
 use Rattle.std.specs.Prelude.{option_map, slice_get, if◌then◌else◌, refl}
 use Rattle.std.specs.Option.{option_map_or}
@@ -11,12 +11,11 @@ use Rattle.run_plan.specs.declared.command.Command.TheVariants as command
 use Rattle.run_plan.specs.declared.reply.Reply.TheVariants as reply
 use Rattle.wf_value.specs.declared.code.Code.TheVariants.{LastCounter, NoRun, RunNotCompleted}
 use Rattle.wf_value.specs.declared.refusal.Refusal.TheVariants.{Turn}
-use Rattle.workflow_runs.specs.Moves.{Holder}
-use Rattle.workflow_runs.specs.NewRun.{again}
-use Rattle.workflow_runs.specs.Places.{run_at, with_run}
-use Rattle.workflow_runs.specs.RunState.{RunState}
-use Rattle.workflow_runs.proofs.Changed.{at_another, at_changed}
-use Rattle.workflow_runs.proofs.LegFacts.{attempt_at}
+use Rattle.run_states.specs.NewRun.{again}
+use Rattle.run_states.specs.Places.{run_at, with_run}
+use Rattle.run_states.specs.RunState.{RunState}
+use Rattle.run_states.proofs.Changed.{at_another, at_changed}
+use Rattle.run_states.proofs.LegFacts.{attempt_at}
 use Rattle.run_table.specs.Histories.{after, replies}
 use Rattle.run_table.specs.Step.{answer_of_attempt, answer_of_next, entered_again, has_completed, last_attempt, outcome, refused, rerun_answer, rerunning, step}
 use Rattle.run_table.specs.Step.{stepped, unchanged}
@@ -26,6 +25,7 @@ use Rattle.table_laws.specs.ExactlyOnce.{IsRefused}
 use Rattle.table_laws.specs.Remembered.{AreNoOtherAttempts, IsNoOtherAttempt, KnowsAttempt}
 use Rattle.table_laws.proofs.RunsStay.{IsOfCourse, arrived_stays, settled_stays}
 use Rattle.table_laws.proofs.StepsStay.{Keeps, step_stays}
+use Rattle.run_states.specs.declared.holder.Holder.TheVariants.{Run}
 
 -- ---- a run begins again
 
@@ -35,7 +35,7 @@ attempt_in x = x.attempt
 its_attempt : IsOfCourse attempt_in
 its_attempt x y event attempt = attempt
 
--- by place
+-- by index
 by_place : (runs next : List RunState) → map attempt_in next ≡ map attempt_in runs → (k : ℕ) → attempt_at next k ≡ attempt_at runs k
 by_place runs next same k =
     sym (slice_get-map attempt_in next k) ∙ ap (λ ns. slice_get ns k) same ∙ slice_get-map attempt_in runs k
@@ -51,7 +51,7 @@ module _ (t : TableState) (asked : Attempt) (begins : BeginsAgain t.runs (asked.
   settled_at =
       by_place (with_run r again t.runs) reached
       (settled_stays attempt_in its_attempt (entered_again t r).runs
-      ∙ arrived_stays attempt_in its_attempt (Holder.a_run r) (with_run r again t.runs))
+      ∙ arrived_stays attempt_in its_attempt (Run r) (with_run r again t.runs))
 
   begun_at : (k : ℕ) → k ≡ r → attempt_at reached k ≡ Some asked.attempt
   begun_at k same =
@@ -62,9 +62,9 @@ module _ (t : TableState) (asked : Attempt) (begins : BeginsAgain t.runs (asked.
   stays_elsewhere : (k : ℕ) → (k ≡ r → ⊥) → attempt_at reached k ≡ attempt_at t.runs k
   stays_elsewhere k other = settled_at k ∙ ap (option_map attempt_in) (at_another r again t.runs k other)
 
--- ---- what is answered
+-- ---- the answer
 
--- the answer with the attempt is that of the attempt at which the run is
+-- an answer with the attempt means that it is the run's present attempt
 answered_now : (x : RunState) (asked : Attempt) → answer_of_attempt x asked ≡ Some (reply.Again asked) → x.attempt ≡ asked.attempt
 answered_now x asked is =
     elim (nat_eq asked.attempt x.attempt) as
@@ -115,7 +115,7 @@ known_attempt_is_answered t asked knows =
         else (if nat_eq asked.attempt (x.attempt + 1) then answer_of_next x else Some (reply.Refused (Turn x.attempt))))
         (eq-eqb asked.attempt x.attempt (sym (same_Some x.attempt asked.attempt is)))
 
--- ---- it stays
+-- ---- the attempt does not change
 
 front_stays : (ns ms : List ℕ) (k n : ℕ) → slice_get ns k ≡ Some n → slice_get (ns ++ ms) k ≡ Some n
 front_stays [] ms k n e = cc

@@ -1,4 +1,4 @@
--- The moves of a group so far keep its law and say how far each of its holders has come; what goes on so.
+-- The moves of a group so far satisfy its law and match the status of each of its holders; which changes preserve this.
 use Rattle.std.specs.Prelude.{◌≡◌, List, [], ◌∷◌, ◌++◌, ◌&&◌, ◌||◌, filter_map, not, Bool, true, false, Some, None}
 use Rattle.std.specs.Prelude.{if◌then◌else◌, refl}
 use Rattle.std.specs.List.{last_or}
@@ -7,11 +7,11 @@ use Rattle.std.proofs.lemmas.List.{append-nil}
 use Rattle.std.proofs.lemmas.Bool.{and_from, or_parts}
 use Rattle.wf_value.specs.declared.outcome.Outcome.{Outcome}
 use Rattle.group_name.specs.Group.{Group}
-use Rattle.workflow_runs.specs.GroupWords.{arrival_of, has_arrived, has_ended, has_started, is_running, latest}
-use Rattle.workflow_runs.specs.Groups.{holds, is_in, may_start, waits}
-use Rattle.workflow_runs.specs.Moves.{Holder, Move, Transition, and_then, without_moves}
-use Rattle.workflow_runs.specs.StopMoves.{stop_holder}
-use Rattle.workflow_runs.specs.RunState.{RunState}
+use Rattle.run_states.specs.GroupWords.{arrival_of, has_arrived, has_ended, has_started, is_running, latest}
+use Rattle.run_states.specs.Groups.{holds, is_in, may_start, waits}
+use Rattle.run_states.specs.Moves.{Move, Transition, and_then, without_moves}
+use Rattle.run_states.specs.RunState.{RunState}
+use Rattle.run_states.specs.StopMoves.{stop_holder}
 use Rattle.workflow_runs.proofs.HoldersFade.{holder_stop_fades}
 use Rattle.workflow_runs.proofs.OneEach.{IsOneOf, free_to_start, one_that_holds, one_that_waits}
 use Rattle.table_laws.proofs.ChangesTold.{stop_tells}
@@ -24,10 +24,11 @@ use Rattle.table_laws.proofs.OnlyStops.{OnlyStops, holder_stops}
 use Rattle.table_laws.proofs.OwnMoves.{of_group, of_group_on, own, own_of_another, own_of_group, own_on, runs_by_own}
 use Rattle.table_laws.proofs.StopsTold.{Tells}
 use Rattle.table_laws.proofs.Unbegun.{AllStill, Still, Unbegun, still_of_all, stop_all_still}
+use Rattle.run_states.specs.declared.holder.Holder.{Holder}
 
 -- ---- so far
 
--- who does not arrive has not arrived
+-- if no move is an arrival, no holder has arrived
 pub nobody_arrives : (h : Holder) (moves : List Move) → filter_map arrival_of moves ≡ [] → has_arrived h moves ≡ false
 nobody_arrives h [] e = refl
 nobody_arrives h (Move.arrive k ∷ moves) e = cc
@@ -36,8 +37,8 @@ nobody_arrives h (Move.stop k ∷ moves) e = nobody_arrives h moves e
 nobody_arrives h (Move.end_with r k ∷ moves) e = nobody_arrives h moves e
 
 module _ (in_group cancels : Holder → Bool) where
-  -- The moves of the present attempts; and of those behind the first of them, `start`, that each is lawful, and that nobody arrives who has
-  -- arrived in these. The moves of earlier attempts are not among them, so that they need not keep the law by themselves.
+  -- The moves of the present attempts. Each move after the prefix `start` is lawful, and no holder that has arrived in `start` arrives
+  -- after it. The moves of earlier attempts are not included, so the moves here need not satisfy the law on their own.
   pub record LawSoFar (start : List Move) (runs : List RunState) (moves : List Move) : Type 0 where
     pub each : (h : Holder) → in_group h ≡ true → Fits (status runs h) h (own h moves)
     pub others : (h : Holder) → in_group h ≡ false → own h moves ≡ []
@@ -48,15 +49,15 @@ module _ (in_group cancels : Holder → Bool) where
     pub walk : Walk (Lawful cancels) start rest
     pub once : (h : Holder) → has_arrived h rest ≡ true → has_arrived h start ≡ false
 
-  -- a change after which it is so again
+  -- a change that preserves this
   abbrev pub GoesOn : List RunState → Transition → Type 0
   GoesOn runs m = (start moves : List Move) → LawSoFar start runs moves → LawSoFar start m.runs (moves ++ of_group in_group m.moves)
 
-  -- the moves of a change say of each holder of the group how far it has come by it
+  -- the moves of a change match how the status of each holder of the group changes
   abbrev pub TellsOfGroup : List RunState → Transition → Type 0
   TellsOfGroup runs m = (h : Holder) → in_group h ≡ true → Goes h (status runs h) (own h m.moves) (status m.runs h)
 
-  -- a change at which nobody arrives in the group
+  -- a change without an arrival in the group
   pub record IsQuiet (runs : List RunState) (m : Transition) : Type 0 where
     pub tells : TellsOfGroup runs m
     pub silent : filter_map arrival_of (of_group in_group m.moves) ≡ []
@@ -64,7 +65,7 @@ module _ (in_group cancels : Holder → Bool) where
     pub still : Still runs m.runs
     pub lawful : (start moves : List Move) → LawSoFar start runs moves → Walk (Lawful cancels) moves (of_group in_group m.moves)
 
-  -- what each holder's moves say after a change
+  -- the moves of each holder match its status after the change
   pub each_on : (runs : List RunState) (m : Transition) (moves : List Move) → TellsOfGroup runs m
       → ((h : Holder) → in_group h ≡ true → Fits (status runs h) h (own h moves)) → (h : Holder) → in_group h ≡ true
       → Fits (status m.runs h) h (own h (moves ++ of_group in_group m.moves))
@@ -79,7 +80,7 @@ module _ (in_group cancels : Holder → Bool) where
       own_on h moves (of_group in_group m.moves)
       ∙ ap (λ ms. own h moves ++ ms) (own_of_another in_group h m.moves isnt) ∙ append-nil (own h moves) ∙ others h isnt
 
-  -- one that has not come has made no move
+  -- a holder that has not arrived has made no move
   pub unseen_is_unmoved : (runs : List RunState) (moves : List Move)
       → ((h : Holder) → in_group h ≡ true → Fits (status runs h) h (own h moves)) → ((h : Holder) → in_group h ≡ false → own h moves ≡ [])
       → (h : Holder) → status runs h ≡ Status.unarrived → own h moves ≡ []
@@ -89,7 +90,7 @@ module _ (in_group cancels : Holder → Bool) where
         | false ↦ λ isnt. others h isnt
       ] refl
 
-  -- one that has not started holds nothing
+  -- a holder that has not started holds no group
   pub holds_nothing : (runs : List RunState) (moves : List Move)
       → ((h : Holder) → in_group h ≡ true → Fits (status runs h) h (own h moves)) → (h : Holder) → in_group h ≡ true
       → has_started h moves ≡ false → holds runs h ≡ false
@@ -108,7 +109,7 @@ module _ (in_group cancels : Holder → Bool) where
   walk_further start rest moves more is first second =
       walk_on (Lawful cancels) (still_lawful cancels) start rest more first (subst (λ ms. Walk (Lawful cancels) ms more) is second)
 
-  -- who has arrived, where nobody does so in the last moves, had arrived before them
+  -- a holder that has arrived, but not by the last moves, had arrived before them
   pub arrived_earlier : (h : Holder) (moves more : List Move) → filter_map arrival_of more ≡ [] → has_arrived h (moves ++ more) ≡ true
       → has_arrived h moves ≡ true
   arrived_earlier h moves more silent arrives =
@@ -189,7 +190,7 @@ module _ (in_group cancels : Holder → Bool) where
       no_one (Move.stop h) e = refl
       no_one (Move.end_with r h) e = refl
 
-  -- one that runs has started
+  -- a holder that holds its group has started
   has_begun : (runs : List RunState) (k : Holder) (start moves : List Move) → LawSoFar start runs moves → in_group k ≡ true → holds runs k ≡ true
       → has_started k moves ≡ true
   has_begun runs k start moves so_far is held =

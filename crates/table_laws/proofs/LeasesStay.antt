@@ -1,4 +1,4 @@
--- A leg that has a lease has it after each step in which its run stays at its attempt.
+-- A leg keeps its lease in each step in which its run keeps its attempt.
 use Rattle.std.specs.Prelude.{◌≡◌, ℕ, ◌+◌, ◌-◌, List, [], ◌∷◌, ◌++◌, Option, Some, None, option_and_then, refl}
 use Rattle.std.specs.Option.{option_map_or}
 use Rattle.std.proofs.Common.{arith, ap, inl, inr, sym, ◌∙◌}
@@ -10,37 +10,38 @@ use Rattle.run_plan.specs.declared.command.Command.{Command}
 use Rattle.run_plan.specs.declared.command.Command.TheVariants as command
 use Rattle.run_plan.specs.declared.reply.Reply.{Reply}
 use Rattle.wf_value.specs.declared.code.Code.TheVariants.{LeaseNotHeld, NoRunner}
-use Rattle.workflow_runs.specs.Fitting.{first_fit}
+use Rattle.run_states.specs.Fitting.{first_fit}
 use Rattle.run_table.specs.Histories.{after}
-use Rattle.workflow_runs.specs.Moves.{Holder}
 use Rattle.run_table.specs.TableState.{Step, TableState}
-use Rattle.workflow_runs.specs.Places.{LegPlace, with_leg, with_run}
-use Rattle.workflow_runs.specs.Settling.{settled}
+use Rattle.run_states.specs.Places.{with_leg, with_run}
+use Rattle.run_states.specs.declared.place.LegPlace.{LegPlace}
+use Rattle.run_states.specs.Settling.{settled}
 use Rattle.run_table.specs.Sound.{IsSound}
 use Rattle.run_table.specs.Step.{admission_answer, admitting, cancel_answer, cancelling, claim_answer, claimed, claiming, entered}
 use Rattle.run_table.specs.Step.{leasing, losing, lost, refused, released, report_answer, reporting, serving_nothing}
-use Rattle.workflow_runs.specs.NewRun.{again, leased_leg}
+use Rattle.run_states.specs.NewRun.{again, leased_leg}
 use Rattle.run_table.specs.Step.{entered_again, rerun, rerun_answer, rerunning, stepped, unchanged}
-use Rattle.workflow_runs.specs.StopMoves.{with_ended}
-use Rattle.workflow_runs.specs.Stops.{outcome_of_loss, stopped_run}
-use Rattle.workflow_runs.specs.RunState.{LegState, RunState}
+use Rattle.run_states.specs.RunState.{LegState, RunState}
+use Rattle.run_states.specs.StopMoves.{with_ended}
+use Rattle.run_states.specs.Stops.{outcome_of_loss, stopped_run}
 use Rattle.run_table.specs.Turns.{runner_named}
 use Rattle.run_table.proofs.AdmitKeeps.{same_reads}
 use Rattle.run_table.proofs.BeginsAgain.{begins_again}
 use Rattle.run_table.proofs.ClaimKeeps.{fitting_leg, had_changes, leasing_keeps, ready_has_no_lease}
 use Rattle.run_table.proofs.Entered.{entered_keeps, entered_settles}
 use Rattle.run_table.proofs.EnteredAgain.{entered_again_settles}
-use Rattle.workflow_runs.proofs.Changed.{at_another}
+use Rattle.run_states.proofs.Changed.{at_another}
 use Rattle.workflow_runs.proofs.HoldersKeep.{run_stop_settles}
 use Rattle.run_table.proofs.Kept.{kept_from_sound}
-use Rattle.workflow_runs.proofs.LeaseReads.{place_or_another}
-use Rattle.workflow_runs.proofs.LegReads.{had_at, had_from_leg, had_in}
+use Rattle.run_states.proofs.LeaseReads.{place_or_another}
+use Rattle.run_states.proofs.LegReads.{had_at, had_from_leg, had_in}
 use Rattle.run_table.proofs.ReportKeeps.{loss_keeps, report_keeps}
-use Rattle.workflow_runs.proofs.RunFits.{RunsFit, leases_fit}
+use Rattle.run_states.proofs.RunFits.{RunsFit, leases_fit}
 use Rattle.workflow_runs.proofs.SettlingKeeps.{settling_settles}
 use Rattle.table_laws.specs.Names.{attempt_of}
 use Rattle.table_laws.proofs.AttemptNames.{attempt_before, attempt_then}
 use Rattle.table_laws.proofs.ReachedTables.{with_ended_keeps_leases}
+use Rattle.run_states.specs.declared.holder.Holder.TheVariants.{Leg}
 
 abbrev pub HadStays : List RunState → List RunState → Type 0
 HadStays runs next = (p : LegPlace) (n : ℕ) → had_at runs p ≡ Some n → had_at next p ≡ Some n
@@ -53,7 +54,7 @@ had_by t (Some r) change h = λ p n e. e
 had_at_rest : (runs next : List RunState) → RunsFit next → HadStays runs next → HadStays runs (settled next)
 had_at_rest runs next fit stays p n e = (settling_settles next fit).same_had p ∙ stays p n e
 
--- a ready leg, which has none, is leased
+-- a ready leg, which has no lease, is leased
 lease_had : (runs : List RunState) (labels : List (List ℕ)) (p : LegPlace) (lease : ℕ) → RunsFit runs → first_fit labels runs ≡ Some p
     → HadStays runs (with_leg p (λ _. leased_leg lease) runs)
 lease_had runs labels p lease fit fits q n e =
@@ -96,14 +97,14 @@ loss_had t name s =
           ] refl
     ] refl
 
--- the legs of the run that begins again are gone, and it is at another attempt
+-- the legs of a run that begins again are gone, and the run is at another attempt
 again_had : (t : TableState) (asked : Attempt) → IsSound t → (p : LegPlace) (n : ℕ)
-    → attempt_of (rerun t asked).table.runs (Holder.a_leg p) ≡ attempt_of t.runs (Holder.a_leg p) → had_at t.runs p ≡ Some n
+    → attempt_of (rerun t asked).table.runs (Leg p) ≡ attempt_of t.runs (Leg p) → had_at t.runs p ≡ Some n
     → had_at (rerun t asked).table.runs p ≡ Some n
 again_had t asked s p n =
     elim (rerun_answer t asked) as
     (λ o. rerun_answer t asked ≡ o
-    → attempt_of (option_map_or (unchanged t) o (rerunning t asked)).table.runs (Holder.a_leg p) ≡ attempt_of t.runs (Holder.a_leg p)
+    → attempt_of (option_map_or (unchanged t) o (rerunning t asked)).table.runs (Leg p) ≡ attempt_of t.runs (Leg p)
     → had_at t.runs p ≡ Some n → had_at (option_map_or (unchanged t) o (rerunning t asked)).table.runs p ≡ Some n) [
       | Some given ↦ λ is same e. e
       | None ↦ λ none same e.
@@ -113,10 +114,10 @@ again_had t asked s p n =
           let entry = entered_again_settles t r fit in
           elim (cases_eq p.run r) [
             | inl here ↦
-                let before : attempt_of t.runs (Holder.a_leg p) ≡ begins.was.attempt =
-                attempt_before t r begins.was begins.there fit (Holder.a_leg p) here in
-                let next : attempt_of (rerunning t asked).table.runs (Holder.a_leg p) ≡ begins.was.attempt + 1 =
-                attempt_then t r begins.was begins.there fit (Holder.a_leg p) here in
+                let before : attempt_of t.runs (Leg p) ≡ begins.was.attempt =
+                attempt_before t r begins.was begins.there fit (Leg p) here in
+                let next : attempt_of (rerunning t asked).table.runs (Leg p) ≡ begins.was.attempt + 1 =
+                attempt_then t r begins.was begins.there fit (Leg p) here in
                 absurd (omega (arith, before, next, same))
             | inr other ↦
                 (settling_settles (entered_again t r).runs entry.stay.fit).same_had p ∙ entry.same_had p
@@ -124,9 +125,9 @@ again_had t asked s p n =
           ]
     ] refl
 
--- of a run that stays at its attempt
+-- for a run that keeps its attempt
 pub step_had : (t : TableState) (c : Command) → IsSound t → (p : LegPlace) (n : ℕ)
-    → attempt_of (stepped t c).table.runs (Holder.a_leg p) ≡ attempt_of t.runs (Holder.a_leg p) → had_at t.runs p ≡ Some n
+    → attempt_of (stepped t c).table.runs (Leg p) ≡ attempt_of t.runs (Leg p) → had_at t.runs p ≡ Some n
     → had_at (stepped t c).table.runs p ≡ Some n
 step_had t (command.Admit event) s p n same =
     had_by t (admission_answer t event) (admitting t event) (λ none.

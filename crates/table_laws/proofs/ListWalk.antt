@@ -1,8 +1,8 @@
--- What holds at every move of a list, with the moves before it and after it, by recursion.
+-- A property of every move of a list, with the moves before it and after it, by recursion.
 use Rattle.std.proofs.Common.{◌≡◌, List, [], ◌∷◌, ◌++◌, refl, ap, sym, subst, append_assoc}
 use Rattle.std.proofs.lemmas.List.{append-nil}
 
--- P holds at each element, where the list stands behind others
+-- P holds at each element of a list that follows others
 abbrev pub AtEach : {X : Type 0} → (List X → X → List X → Type 0) → List X → List X → Type 0
 AtEach {X} P start xs = (before after : List X) (x : X) → xs ≡ before ++ x ∷ after → P (start ++ before) x after
 
@@ -34,7 +34,7 @@ each_of P start (x ∷ xs) walk (z ∷ before) after y e =
     subst (λ s. P s y after) (append_assoc start (z ∷ []) before)
     (subst (λ w. P ((start ++ w ∷ []) ++ before) y after) same (each_of P (start ++ x ∷ []) xs walk.1 before after y rest))
 
--- what holds of two parts holds of both together, where it stays true of more moves behind
+-- a property of both parts holds of the whole, if it is stable under appending moves
 pub walk_on : {X : Type 0} (P : List X → X → List X → Type 0) → ((before after more : List X) (x : X) → P before x after
     → P before x (after ++ more)) → (start xs ys : List X) → Walk P start xs → Walk P (start ++ xs) ys → Walk P start (xs ++ ys)
 walk_on P more start [] ys first second = subst (λ s. Walk P s ys) (append-nil start) second

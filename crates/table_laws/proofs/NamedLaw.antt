@@ -1,13 +1,14 @@
--- Moves behind others that keep the law, by the names that those have.
+-- Moves after others that satisfy the law, by the names of those.
 use Rattle.std.specs.Prelude.{◌≡◌, List, ◌++◌, map, Bool, true}
-use Rattle.workflow_runs.specs.GroupWords.{has_arrived}
-use Rattle.workflow_runs.specs.Moves.{Holder, Move}
+use Rattle.run_states.specs.GroupWords.{has_arrived}
+use Rattle.run_states.specs.Moves.{Move}
 use Rattle.table_laws.proofs.Agrees.{Agrees, IsInjective}
 use Rattle.table_laws.specs.GroupLaw.{KeepsLaw}
 use Rattle.table_laws.specs.Names.{renamed}
 use Rattle.table_laws.proofs.GroupLawWalk.{Lawful, law_goes_on}
 use Rattle.table_laws.proofs.ListWalk.{Walk}
 use Rattle.table_laws.proofs.NamedMoves.{walk_named}
+use Rattle.run_states.specs.declared.holder.Holder.{Holder}
 
 pub named_law_goes_on : (name : Holder → Holder) (cancels asks : Holder → Bool) (now whole more : List Move) → IsInjective name
     → Agrees name now whole → ((k : Holder) → has_arrived k more ≡ true → asks (name k) ≡ true → cancels k ≡ true)

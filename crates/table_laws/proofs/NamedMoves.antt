@@ -1,4 +1,4 @@
--- Moves that keep the law of a group keep it by other names too, behind moves that say the same.
+-- Moves that satisfy the law of a group satisfy it under other names too, after moves that agree with those before.
 use Rattle.std.specs.Prelude.{◌≡◌, ◌⊎◌, List, [], ◌∷◌, ◌++◌, ◌&&◌, ◌||◌, map, filter_map, not, option_and_then, option_map, Bool, true, false}
 use Rattle.std.specs.Prelude.{Option, Some, None, if◌then◌else◌, refl}
 use Rattle.std.specs.List.{last_or}
@@ -7,9 +7,9 @@ use Rattle.std.proofs.lemmas.Bool.{and_from, or_right, true≢false}
 use Rattle.std.proofs.lemmas.List.{append-nil, map-append}
 use Rattle.std.proofs.lemmas.Option.{none-some, same_Some}
 use Rattle.wf_value.specs.declared.outcome.Outcome.TheVariants.{Cancelled}
-use Rattle.workflow_runs.specs.GroupWords.{arrival_of, end_of, start_of, stop_of, has_arrived, has_ended, has_started, was_stopped}
-use Rattle.workflow_runs.specs.GroupWords.{holder_of, is_pending, is_running, is_the, latest, next_displaced, same_holder}
-use Rattle.workflow_runs.specs.Moves.{Holder, Move}
+use Rattle.run_states.specs.GroupWords.{arrival_of, end_of, start_of, stop_of, has_arrived, has_ended, has_started, was_stopped}
+use Rattle.run_states.specs.GroupWords.{holder_of, is_pending, is_running, is_the, latest, next_displaced, same_holder}
+use Rattle.run_states.specs.Moves.{Move}
 use Rattle.workflow_runs.proofs.ArrivalKeeps.{holder_tested, itself}
 use Rattle.table_laws.proofs.Agrees.{Agrees, IsInjective}
 use Rattle.table_laws.specs.GroupLaw.{BeginsWith, cancelled_end}
@@ -17,8 +17,9 @@ use Rattle.table_laws.specs.Names.{renamed}
 use Rattle.table_laws.proofs.GroupLawWalk.{Lawful}
 use Rattle.table_laws.proofs.GroupSaid.{arrived_on, ended_on, latest_on, pending_on, running_on, started_on, stopped_on}
 use Rattle.table_laws.proofs.ListWalk.{Walk}
+use Rattle.run_states.specs.declared.holder.Holder.{Holder}
 
--- ---- truths
+-- ---- booleans
 
 or_false : (b : Bool) → (b || false) ≡ b
 or_false true = refl
@@ -52,7 +53,7 @@ last_same (z ∷ xs) (w ∷ ys) x y e =
     let same = last_same xs ys x y rest in
     (ap (λ a. a ∷ xs) first ∙ ap (λ l. w ∷ l) same.0, same.1)
 
--- ---- moves of another
+-- ---- moves of another holder
 
 of_another : (n : Holder) (m : Move) → same_holder n (holder_of m) ≡ false
     → (is_the (arrival_of m) n ≡ false) × (is_the (start_of m) n ≡ false) × (is_the (end_of m) n ≡ false)
@@ -76,14 +77,14 @@ pending_unmoved n moves m e =
     ∙ ap₂ (λ a b. a && b) (or_false (has_arrived n moves))
     (ap₂ (λ s t. not s && not t) (or_false (has_started n moves)) (or_false (has_ended n moves)))
 
--- one that waits after a move that is no arrival waited before it
+-- a holder that is pending after a move that is not its arrival was pending before the move
 pending_before : (h : Holder) (moves : List Move) (m : Move) → is_the (arrival_of m) h ≡ false → is_pending h (moves ++ m ∷ []) ≡ true
     → is_pending h moves ≡ true
 pending_before h moves m none is =
     still_pending (has_arrived h moves) (has_started h moves) (has_ended h moves) (has_started h (m ∷ [])) (has_ended h (m ∷ []))
     (sym (pending_on h moves (m ∷ []) false (has_started h (m ∷ [])) (has_ended h (m ∷ [])) (ap (λ b. b || false) none) refl refl) ∙ is)
 
--- ---- who is displaced
+-- ---- the displaced holder
 
 pub displaced_is : (moves : List Move) (h : Holder) → next_displaced moves ≡ Some h → (latest moves ≡ Some h) × (is_pending h moves ≡ true)
 displaced_is moves h e =
@@ -123,7 +124,7 @@ latest_arrived moves h e =
       | inr arrives ↦ arrives
     ]
 
--- ---- by other names
+-- ---- under other names
 
 module _ (name : Holder → Holder) (one : IsInjective name) where
   same_by : (h k : Holder) (b : Bool) → same_holder h k ≡ b → same_holder (name h) (name k) ≡ b
@@ -287,7 +288,7 @@ module _ (name : Holder → Holder) (one : IsInjective name) where
         latest_on whole (Move.end_with r (name k) ∷ [])
         ∙ agrees.named_latest h (pending_before h now (Move.end_with r k) refl waits) (sym (latest_on now (Move.end_with r k ∷ [])) ∙ e)
 
-    -- one that runs or waits by now has a name
+    -- a holder that runs or waits after the move has a name
     one_named : (m : Move) (n : Holder) (before after : Bool) → (same_holder n (holder_of (renamed name m)) ≡ false → after ≡ before)
         → (before ≡ true → (h : Holder) × (n ≡ name h)) → after ≡ true → (h : Holder) × (n ≡ name h)
     one_named m n before after unmoved was is =

@@ -1,4 +1,4 @@
--- Nothing of a holder that was displaced is ever leased, as long as its run is at that attempt.
+-- No leg of a displaced holder is ever leased, as long as its run is at that attempt.
 use Rattle.std.specs.Prelude.{◌≡◌, ℕ, ◌<◌, ◌≤◌, List, [], ◌∷◌, ◌++◌, ◌||◌, true, false, Option, Some, None, refl}
 use Rattle.std.specs.Option.{option_map_or}
 use Rattle.std.proofs.Common.{arith, ap, ap₂, inl, inr, sym, ◌∙◌, subst, append_assoc}
@@ -7,12 +7,13 @@ use Rattle.std.proofs.lemmas.List.{append-nil}
 use Rattle.std.proofs.lemmas.Option.{none-some}
 use Rattle.group_name.specs.Group.{Group}
 use Rattle.run_plan.specs.declared.command.Command.{Command}
-use Rattle.workflow_runs.specs.GroupWords.{has_arrived, has_started, next_displaced}
-use Rattle.workflow_runs.specs.Moves.{Holder, Move}
-use Rattle.workflow_runs.specs.Places.{LegPlace, leg_at, run_at}
-use Rattle.workflow_runs.specs.RunState.{LegState, RunState}
-use Rattle.workflow_runs.proofs.JobKeeps.{leg_in, no_leg}
-use Rattle.workflow_runs.proofs.LegReads.{had_at, had_from_leg, leg_from_had}
+use Rattle.run_states.specs.GroupWords.{has_arrived, has_started, next_displaced}
+use Rattle.run_states.specs.Moves.{Move}
+use Rattle.run_states.specs.Places.{leg_at, run_at}
+use Rattle.run_states.specs.declared.place.LegPlace.{LegPlace}
+use Rattle.run_states.specs.RunState.{LegState, RunState}
+use Rattle.run_states.proofs.JobKeeps.{leg_in, no_leg}
+use Rattle.run_states.proofs.LegReads.{had_at, had_from_leg, leg_from_had}
 use Rattle.run_table.specs.Histories.{after}
 use Rattle.run_table.specs.Sound.{IsSound}
 use Rattle.run_table.specs.Step.{stepped}
@@ -28,31 +29,33 @@ use Rattle.table_laws.proofs.HistoryWords.{one_displaced}
 use Rattle.table_laws.proofs.LeasesStay.{step_had}
 use Rattle.table_laws.proofs.ReachedTables.{after_is_sound}
 use Rattle.table_laws.proofs.Unbegun.{Unbegun}
+use Rattle.run_states.specs.declared.holder.Holder.{Holder}
+use Rattle.run_states.specs.declared.holder.Holder.TheVariants.{Run, Leg}
 
--- ---- what has not begun has no lease
+-- ---- a holder that has not begun has no lease
 
 unbegun_had_none : (runs : List RunState) (h : Holder) → Unbegun runs h → (p : LegPlace) → IsOf h p → (n : ℕ) → had_at runs p ≡ Some n → ⊥
-unbegun_had_none runs (Holder.a_run r) un p of_it n e =
+unbegun_had_none runs (Run r) un p of_it n e =
     let from = leg_from_had runs p n e in
     let place = leg_in runs p from.value from.is in
     let no_legs = (un place.place.run (sym (ap (run_at runs) of_it) ∙ place.place.run_is)).no_legs p.job place.job place.place.job_is in
     no_leg place.job.legs p.leg from.value no_legs place.leg_is
-unbegun_had_none runs (Holder.a_leg q) un p of_it n e =
+unbegun_had_none runs (Leg q) un p of_it n e =
     let from = leg_from_had runs p n e in
     let none = (un from.value (sym (ap (leg_at runs) of_it) ∙ from.is)).no_lease in
     none-some n (sym none ∙ from.gives)
 
--- ---- the attempt of a leg is that of the holder
+-- ---- the attempt of a leg is the attempt of its holder
 
-same_attempt : (runs : List RunState) (h : Holder) (p : LegPlace) → IsOf h p → attempt_of runs (Holder.a_leg p) ≡ attempt_of runs h
-same_attempt runs (Holder.a_run r) p of_it = ap (λ (k : ℕ). option_map_or (λ x. x.attempt) (run_at runs k) 1) of_it
-same_attempt runs (Holder.a_leg q) p of_it = ap (λ (k : LegPlace). option_map_or (λ x. x.attempt) (run_at runs k.run) 1) of_it
+same_attempt : (runs : List RunState) (h : Holder) (p : LegPlace) → IsOf h p → attempt_of runs (Leg p) ≡ attempt_of runs h
+same_attempt runs (Run r) p of_it = ap (λ (k : ℕ). option_map_or (λ x. x.attempt) (run_at runs k) 1) of_it
+same_attempt runs (Leg q) p of_it = ap (λ (k : LegPlace). option_map_or (λ x. x.attempt) (run_at runs k.run) 1) of_it
 
 module _ (names : Names) (g : Group) (a : ℕ) (h : Holder) where
   abbrev name : Holder
   name = names.name a h
 
-  -- ---- an attempt that is over makes no move any more
+  -- ---- a past attempt makes no more moves
 
   not_in_step : (t : TableState) (c : Command) → a < attempt_of (stepped t c).table.runs h
       → has_arrived name (step_moves names g (stepped t c)) ≡ false
@@ -78,7 +81,7 @@ module _ (names : Names) (g : Group) (a : ℕ) (h : Holder) where
       arrived_on name (step_moves names g (stepped t c)) (group_moves names g next cs)
       ∙ ap₂ (λ x y. x || y) (not_in_step t c later_still) (not_in_rest next cs (stepped_is_sound t c s) later_still)
 
-  -- ---- one of which a leg has a lease has not arrived without starting
+  -- ---- a holder with a leased leg that has not started has not arrived
 
   unstarted_before : (whole more : List Move) → has_started name (whole ++ more) ≡ false → has_started name whole ≡ false
   unstarted_before whole more unstarted =
@@ -97,7 +100,7 @@ module _ (names : Names) (g : Group) (a : ℕ) (h : Holder) where
         | false ↦ λ none. refl
       ] refl
 
-  -- nor does it later
+  -- nor does it arrive later
   never_comes : (p : LegPlace) (n : ℕ) → IsOf h p → (t : TableState) (cs : List Command) (whole : List Move) → IsSound t
       → SoFar names g (λ k. false) t.runs whole → attempt_of t.runs h ≡ a → had_at t.runs p ≡ Some n
       → has_started name (whole ++ group_moves names g t cs) ≡ false → has_arrived name (whole ++ group_moves names g t cs) ≡ false
@@ -110,7 +113,7 @@ module _ (names : Names) (g : Group) (a : ℕ) (h : Holder) where
       let rest = group_moves names g next cs in
       elim (cases_eq (attempt_of next.runs h) a) [
         | inl same ↦
-            let stays : attempt_of next.runs (Holder.a_leg p) ≡ attempt_of t.runs (Holder.a_leg p) =
+            let stays : attempt_of next.runs (Leg p) ≡ attempt_of t.runs (Leg p) =
             same_attempt next.runs h p of_it ∙ same ∙ sym at ∙ sym (same_attempt t.runs h p of_it) in
             ap (has_arrived name) (sym (append_assoc whole made rest))
             ∙ never_comes p n of_it next cs (whole ++ made) (stepped_is_sound t c s) (one_step t c whole s so_far) same

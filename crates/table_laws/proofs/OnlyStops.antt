@@ -1,4 +1,4 @@
--- Moves that the law allows everywhere: stops, and ends that follow the stop of the same holder.
+-- Moves that the law always allows: stops, and ends that follow the stop of the same holder.
 use Rattle.std.specs.Prelude.{◌≡◌, ℕ, List, [], ◌∷◌, ◌++◌, ◌&&◌, ◌||◌, filter_map, flat_map, not, Bool, true, false, Option, Some, None}
 use Rattle.std.specs.Prelude.{if◌then◌else◌, refl}
 use Rattle.std.specs.Option.{option_map_or}
@@ -6,27 +6,30 @@ use Rattle.std.proofs.Common.{ap, ap₂, sym, ◌∙◌, subst}
 use Rattle.std.proofs.lemmas.List.Elements.{filter_map-append}
 use Rattle.std.proofs.lemmas.Bool.{or_right}
 use Rattle.wf_value.specs.declared.outcome.Outcome.TheVariants.{Cancelled}
-use Rattle.workflow_runs.specs.FirstOf.{placed}
-use Rattle.workflow_runs.specs.GroupWords.{arrival_of, was_stopped}
-use Rattle.workflow_runs.specs.Moves.{Holder, Move}
-use Rattle.workflow_runs.specs.Places.{LegPlace, job_at, leg_at, leg_place, run_at}
-use Rattle.workflow_runs.specs.RunConditions.{may_run_in}
-use Rattle.workflow_runs.specs.StateWords.{is_open}
-use Rattle.workflow_runs.specs.StopMoves.{jobs_stop_moves, leg_stop_moves, legs_stop_moves, run_stop_moves_in, stop_holder, told_moves}
-use Rattle.workflow_runs.specs.StopMoves.{where_stop_moves}
-use Rattle.workflow_runs.specs.RunState.{LegState, JobState, RunState}
-use Rattle.workflow_runs.specs.declared.phases.LegPhase.{LegPhase}
-use Rattle.workflow_runs.specs.declared.phases.LegPhase.TheVariants as leg
-use Rattle.workflow_runs.specs.declared.phases.RunPhase.{RunPhase}
-use Rattle.workflow_runs.specs.declared.phases.RunPhase.TheVariants as run
+use Rattle.run_states.specs.FirstOf.{placed}
+use Rattle.run_states.specs.GroupWords.{arrival_of, was_stopped}
+use Rattle.run_states.specs.Moves.{Move}
+use Rattle.run_states.specs.Places.{job_at, leg_at, leg_place, run_at}
+use Rattle.run_states.specs.declared.place.LegPlace.{LegPlace}
+use Rattle.run_states.specs.RunConditions.{may_run_in}
+use Rattle.run_states.specs.RunState.{LegState, JobState, RunState}
+use Rattle.run_states.specs.StateWords.{is_open}
+use Rattle.run_states.specs.StopMoves.{jobs_stop_moves, leg_stop_moves, legs_stop_moves, run_stop_moves_in, stop_holder, told_moves}
+use Rattle.run_states.specs.StopMoves.{where_stop_moves}
+use Rattle.run_states.specs.declared.phases.LegPhase.{LegPhase}
+use Rattle.run_states.specs.declared.phases.LegPhase.TheVariants as leg
+use Rattle.run_states.specs.declared.phases.RunPhase.{RunPhase}
+use Rattle.run_states.specs.declared.phases.RunPhase.TheVariants as run
 use Rattle.workflow_runs.proofs.ArrivalKeeps.{itself}
 use Rattle.table_laws.proofs.GroupLawWalk.{Lawful, still_lawful}
 use Rattle.table_laws.proofs.GroupSaid.{stopped_on}
 use Rattle.table_laws.proofs.GroupTruths.{not_both}
 use Rattle.table_laws.proofs.ListWalk.{Walk, walk_on}
 use Rattle.table_laws.proofs.OwnMoves.{of_group, of_group_on}
+use Rattle.run_states.specs.declared.holder.Holder.{Holder}
+use Rattle.run_states.specs.declared.holder.Holder.TheVariants.{Run, Leg}
 
--- of each group: nobody arrives, and the law allows them behind any moves
+-- in each group: no move is an arrival, and the law allows them after any moves
 pub record OnlyStops (moves : List Move) : Type 0 where
   pub silent : (in_group : Holder → Bool) → filter_map arrival_of (of_group in_group moves) ≡ []
   pub lawful : (cancels in_group : Holder → Bool) (before : List Move) → Walk (Lawful cancels) before (of_group in_group moves)
@@ -50,7 +53,7 @@ stops_of_all : {X : Type 0} (f : X → List Move) → ((x : X) → OnlyStops (f 
 stops_of_all f each [] = no_stops
 stops_of_all f each (x ∷ xs) = stops_on (f x) (flat_map f xs) (each x) (stops_of_all f each xs)
 
--- ---- of one holder
+-- ---- stops of one holder
 
 one_stop : (h : Holder) → OnlyStops (Move.stop h ∷ [])
 one_stop h = record {
@@ -98,13 +101,13 @@ stop_and_end h = record {
       ]);
 }
 
--- ---- of legs, jobs and runs
+-- ---- stops of legs, jobs and runs
 
 leg_stops : (p : LegPlace) (phase : LegPhase) → OnlyStops (leg_stop_moves p phase)
 leg_stops p leg.New = no_stops
-leg_stops p leg.Waiting = stop_and_end (Holder.a_leg p)
-leg_stops p leg.Ready = stop_and_end (Holder.a_leg p)
-leg_stops p leg.Running = one_stop (Holder.a_leg p)
+leg_stops p leg.Waiting = stop_and_end (Leg p)
+leg_stops p leg.Ready = stop_and_end (Leg p)
+leg_stops p leg.Running = one_stop (Leg p)
 leg_stops p leg.Stopping = no_stops
 leg_stops p (leg.Ended r) = no_stops
 
@@ -126,12 +129,12 @@ jobs_stops r x =
     (λ j. where_stops (not (may_run_in x j.0)) r j.0 j.1) (placed x.jobs)
 
 run_stops : (r : ℕ) (phase : RunPhase) (x : RunState) → OnlyStops (run_stop_moves_in phase r x)
-run_stops r run.Waiting x = stop_and_end (Holder.a_run r)
+run_stops r run.Waiting x = stop_and_end (Run r)
 run_stops r run.Live x =
     elim (x.stopping) as (λ b. OnlyStops (if b then [] else told_moves r x)) [
       | true ↦ no_stops
       | false ↦
-          stops_on (Move.stop (Holder.a_run r) ∷ []) (jobs_stop_moves r (record x { stopping = true })) (one_stop (Holder.a_run r))
+          stops_on (Move.stop (Run r) ∷ []) (jobs_stop_moves r (record x { stopping = true })) (one_stop (Run r))
           (jobs_stops r (record x { stopping = true }))
     ]
 run_stops r run.Ended x = no_stops
@@ -149,8 +152,8 @@ by_job r j None = no_stops
 by_job r j (Some y) = legs_stops r j y.legs
 
 pub holder_stops : (h : Holder) (runs : List RunState) → OnlyStops (stop_holder h runs).moves
-holder_stops (Holder.a_run r) runs = by_run r (run_at runs r)
-holder_stops (Holder.a_leg p) runs = by_leg p (leg_at runs p)
+holder_stops (Run r) runs = by_run r (run_at runs r)
+holder_stops (Leg p) runs = by_leg p (leg_at runs p)
 
 pub job_stops : (r j : ℕ) (runs : List RunState) → OnlyStops (option_map_or (λ y. legs_stop_moves r j y.legs) (job_at runs r j) [])
 job_stops r j runs = by_job r j (job_at runs r j)

@@ -1,18 +1,19 @@
--- The moves of one holder among those of all, and those of the holders of one group.
+-- The moves of one holder, and those of the holders of one group.
 use Rattle.std.specs.Prelude.{◌≡◌, List, [], ◌++◌, ◌&&◌, filter, not, Bool, true, false}
 use Rattle.std.proofs.Common.{ap, ap₂, sym, ◌∙◌}
 use Rattle.std.proofs.lemmas.List.Elements.{filter-append}
-use Rattle.workflow_runs.specs.GroupWords.{arrival_of, end_of, start_of, stop_of, has_arrived, has_ended, has_started, was_stopped}
-use Rattle.workflow_runs.specs.GroupWords.{holder_of, is_pending, is_running, is_the, same_holder}
-use Rattle.workflow_runs.specs.Moves.{Holder, Move}
+use Rattle.run_states.specs.GroupWords.{arrival_of, end_of, start_of, stop_of, has_arrived, has_ended, has_started, was_stopped}
+use Rattle.run_states.specs.GroupWords.{holder_of, is_pending, is_running, is_the, same_holder}
+use Rattle.run_states.specs.Moves.{Move}
 use Rattle.workflow_runs.proofs.ArrivalKeeps.{holder_tested}
 use Rattle.table_laws.proofs.PlacedOne.{any_filtered, filter_apart, filter_twice}
+use Rattle.run_states.specs.declared.holder.Holder.{Holder}
 
--- those of the holder
+-- the moves of the holder
 abbrev pub own : Holder → List Move → List Move
 own h moves = filter (λ m. same_holder h (holder_of m)) moves
 
--- those of holders that pass
+-- the moves of the holders that pass
 abbrev pub of_group : (Holder → Bool) → List Move → List Move
 of_group in_group moves = filter (λ m. in_group (holder_of m)) moves
 
@@ -23,21 +24,21 @@ pub of_group_on : (in_group : Holder → Bool) (moves more : List Move)
     → of_group in_group (moves ++ more) ≡ of_group in_group moves ++ of_group in_group more
 of_group_on in_group moves more = filter-append (λ m. in_group (holder_of m)) moves more
 
--- the group has all moves of its holders
+-- the moves of the group include all moves of a holder in it
 pub own_of_group : (in_group : Holder → Bool) (h : Holder) (moves : List Move) → in_group h ≡ true
     → own h (of_group in_group moves) ≡ own h moves
 own_of_group in_group h moves is =
     filter_twice (λ m. same_holder h (holder_of m)) (λ m. in_group (holder_of m)) moves
     (λ m same. ap in_group (sym (holder_tested h (holder_of m) same)) ∙ is)
 
--- and no others
+-- and no moves of other holders
 pub own_of_another : (in_group : Holder → Bool) (h : Holder) (moves : List Move) → in_group h ≡ false
     → own h (of_group in_group moves) ≡ []
 own_of_another in_group h moves isnt =
     filter_apart (λ m. same_holder h (holder_of m)) (λ m. in_group (holder_of m)) moves
     (λ m same. ap in_group (sym (holder_tested h (holder_of m) same)) ∙ isnt)
 
--- ---- what is said of a holder its own moves say
+-- ---- what is said about a holder depends only on its own moves
 
 pub arrival_is_own : (h : Holder) (m : Move) → is_the (arrival_of m) h ≡ true → same_holder h (holder_of m) ≡ true
 arrival_is_own h (Move.arrive k) is = is

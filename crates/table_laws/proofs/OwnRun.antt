@@ -1,19 +1,19 @@
--- A rule changes no run but the one of its place, unless a leg arrives.
+-- A rule changes only the run of its place, unless a leg arrives.
 use Rattle.std.specs.Prelude.{◌≡◌, ℕ, List, Some}
-use Rattle.workflow_runs.specs.Moves.{Transition}
-use Rattle.workflow_runs.specs.Places.{run_at}
-use Rattle.workflow_runs.specs.Rules.{rule_at, run_of_place}
-use Rattle.workflow_runs.specs.Rules.{IsNoArrival, decided, result_at}
-use Rattle.workflow_runs.specs.StateWords.{leg_in_phase, run_in_phase, settled_as}
-use Rattle.workflow_runs.specs.RunState.{RunState}
-use Rattle.workflow_runs.specs.declared.phases.LegPhase.TheVariants as leg
-use Rattle.workflow_runs.specs.declared.phases.RunPhase.TheVariants as run
-use Rattle.workflow_runs.specs.declared.place.Place.{Place}
-use Rattle.workflow_runs.proofs.Changed.{at_another}
+use Rattle.run_states.specs.Moves.{Transition}
+use Rattle.run_states.specs.Places.{run_at}
+use Rattle.run_states.specs.Rules.{rule_at, run_of_place}
+use Rattle.run_states.specs.Rules.{IsNoArrival, decided, result_at}
+use Rattle.run_states.specs.RunState.{RunState}
+use Rattle.run_states.specs.StateWords.{leg_in_phase, run_in_phase, settled_as}
+use Rattle.run_states.specs.declared.phases.LegPhase.TheVariants as leg
+use Rattle.run_states.specs.declared.phases.RunPhase.TheVariants as run
+use Rattle.run_states.specs.declared.place.RuleSite.{RuleSite}
+use Rattle.run_states.proofs.Changed.{at_another}
+use Rattle.run_states.proofs.JobKeeps.{with_job_of, with_leg_of}
 use Rattle.workflow_runs.proofs.EachRule.{by_rule}
-use Rattle.workflow_runs.proofs.JobKeeps.{with_job_of, with_leg_of}
 
-pub own_run_alone : (runs : List RunState) (m : Transition) (place : Place) (r : ℕ) → rule_at runs place ≡ Some m → IsNoArrival runs place
+pub own_run_alone : (runs : List RunState) (m : Transition) (place : RuleSite) (r : ℕ) → rule_at runs place ≡ Some m → IsNoArrival runs place
     → (r ≡ run_of_place place → ⊥) → run_at m.runs r ≡ run_at runs r
 own_run_alone runs m place r =
     by_rule runs (λ at made. IsNoArrival runs at → (r ≡ run_of_place at → ⊥) → run_at made.runs r ≡ run_at runs r)

@@ -1,12 +1,13 @@
--- There are names by which attempts and holders differ.
+-- There are names that differ for different attempts and holders.
 use Rattle.std.specs.Prelude.{◌≡◌, ℕ, zero, suc, ◌+◌, ◌≤◌, ◌<◌, refl}
 use Rattle.std.proofs.Common.{arith, ap, inl, inr, sym, ◌∙◌}
 use Rattle.std.proofs.lemmas.Bool.{cases_eq}
-use Rattle.workflow_runs.specs.Moves.{Holder}
-use Rattle.workflow_runs.specs.Places.{LegPlace}
+use Rattle.run_states.specs.declared.place.LegPlace.{LegPlace}
 use Rattle.table_laws.specs.Names.{Names}
+use Rattle.run_states.specs.declared.holder.Holder.{Holder}
+use Rattle.run_states.specs.declared.holder.Holder.TheVariants.{Run, Leg}
 
--- two numbers in one
+-- two numbers encoded as one
 abbrev tri : ℕ → ℕ
 tri zero = 0
 tri (suc n) = tri n + suc n
@@ -45,26 +46,26 @@ two_same a b c d e =
     ]
 
 abbrev pub packed_name : ℕ → Holder → Holder
-packed_name a (Holder.a_run r) = Holder.a_run (two a r)
-packed_name a (Holder.a_leg p) = Holder.a_leg (record p { run = two a p.run })
+packed_name a (Run r) = Run (two a r)
+packed_name a (Leg p) = Leg (record p { run = two a p.run })
 
 pub packed_differ : (a b : ℕ) (h k : Holder) → packed_name a h ≡ packed_name b k → (a ≡ b) × (h ≡ k)
-packed_differ a b (Holder.a_run r) (Holder.a_run s) e =
+packed_differ a b (Run r) (Run s) e =
     let one : two a r ≡ two b s = cc in
     let same = two_same a r b s one in
-    (same.0, ap (λ x. Holder.a_run x) same.1)
-packed_differ a b (Holder.a_run r) (Holder.a_leg q) e = cc
-packed_differ a b (Holder.a_leg p) (Holder.a_run s) e = cc
-packed_differ a b (Holder.a_leg p) (Holder.a_leg q) e =
+    (same.0, ap (λ x. Run x) same.1)
+packed_differ a b (Run r) (Leg q) e = cc
+packed_differ a b (Leg p) (Run s) e = cc
+packed_differ a b (Leg p) (Leg q) e =
     let places : record p { run = two a p.run } ≡ record q { run = two b q.run } = cc in
     let one : two a p.run ≡ two b q.run = ap (λ (x : LegPlace). x.run) places in
     let same = two_same a p.run b q.run one in
     let jobs : p.job ≡ q.job = ap (λ (x : LegPlace). x.job) places in
     let legs : p.leg ≡ q.leg = ap (λ (x : LegPlace). x.leg) places in (
       same.0,
-      ap (λ r. Holder.a_leg (record { run = r; job = p.job; leg = p.leg })) same.1
-          ∙ ap (λ j. Holder.a_leg (record { run = q.run; job = j; leg = p.leg })) jobs
-          ∙ ap (λ l. Holder.a_leg (record { run = q.run; job = q.job; leg = l })) legs,
+      ap (λ r. Leg (record { run = r; job = p.job; leg = p.leg })) same.1
+          ∙ ap (λ j. Leg (record { run = q.run; job = j; leg = p.leg })) jobs
+          ∙ ap (λ l. Leg (record { run = q.run; job = q.job; leg = l })) legs,
     )
 
 abbrev pub packed : Names

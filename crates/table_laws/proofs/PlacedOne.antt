@@ -1,4 +1,4 @@
--- What is made of the elements of a list with their places, where only the one at one place gives anything.
+-- Mapping the elements of a list with their indices to lists, if only the element at one index gives a list that is not empty.
 use Rattle.std.specs.Prelude.{◌≡◌, ℕ, zero, suc, ◌+◌, ◌≤◌, List, [], ◌∷◌, ◌++◌, map, flat_map, filter, Bool, true, false}
 use Rattle.std.specs.Prelude.{slice_get, if◌then◌else◌, refl}
 use Rattle.std.specs.List.{enumerate_from, list_any}
@@ -7,9 +7,9 @@ use Rattle.std.proofs.Common.{arith, ap, ap₂, sym, ◌∙◌, ◌||◌}
 use Rattle.std.proofs.lemmas.Bool.{true≢false}
 use Rattle.std.proofs.lemmas.List.{append-nil}
 use Rattle.std.proofs.lemmas.List.Elements.{filter-append}
-use Rattle.workflow_runs.specs.FirstOf.{placed}
+use Rattle.run_states.specs.FirstOf.{placed}
 
--- ---- one place
+-- ---- one index
 
 nothing_from : {X Y : Type 0} (f : ℕ × X → List Y) (n : ℕ) (xs : List X) → ((k : ℕ) (x : X) → n ≤ k → f (k, x) ≡ [])
     → flat_map f (enumerate_from n xs) ≡ []
@@ -65,7 +65,7 @@ filter_to_none test [] none = refl
 filter_to_none test (x ∷ xs) none =
     ap (λ b. if b then x ∷ filter test xs else filter test xs) (none x) ∙ filter_to_none test xs none
 
--- a filter of what a weaker one leaves
+-- filtering what a weaker test leaves
 pub filter_twice : {X : Type 0} (p q : X → Bool) (xs : List X) → ((x : X) → p x ≡ true → q x ≡ true) → filter p (filter q xs) ≡ filter p xs
 filter_twice p q [] weaker = refl
 filter_twice p q (x ∷ xs) weaker =
@@ -78,7 +78,7 @@ filter_twice p q (x ∷ xs) weaker =
       ] refl
     ] refl
 
--- a filter of what another one leaves that no element passes with it
+-- filtering what a disjoint test leaves
 pub filter_apart : {X : Type 0} (p q : X → Bool) (xs : List X) → ((x : X) → p x ≡ true → q x ≡ false) → filter p (filter q xs) ≡ []
 filter_apart p q [] other = refl
 filter_apart p q (x ∷ xs) other =
@@ -90,7 +90,7 @@ filter_apart p q (x ∷ xs) other =
       ] refl
     ] refl
 
--- what any element passes passes among those that a weaker test leaves
+-- some element passes a test exactly if some element that a weaker test leaves passes it
 pub any_filtered : {X : Type 0} (test p : X → Bool) (xs : List X) → ((x : X) → test x ≡ true → p x ≡ true)
     → list_any test (filter p xs) ≡ list_any test xs
 any_filtered test p [] weaker = refl

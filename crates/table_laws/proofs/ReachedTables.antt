@@ -16,47 +16,49 @@ use Rattle.run_plan.specs.declared.command.Command.TheVariants as command
 use Rattle.run_plan.specs.declared.last_command.ClaimReply.TheVariants as given
 use Rattle.run_plan.specs.declared.reply.Reply.{Reply}
 use Rattle.run_plan.specs.declared.reply.Reply.TheVariants as reply
-use Rattle.workflow_runs.specs.FirstOf.{changed_at}
-use Rattle.workflow_runs.specs.Fitting.{first_fit, place_of_lease}
+use Rattle.run_states.specs.FirstOf.{changed_at}
+use Rattle.run_states.specs.Fitting.{first_fit, place_of_lease}
 use Rattle.run_table.specs.Histories.{after, replies}
-use Rattle.workflow_runs.specs.Moves.{Holder, Move}
+use Rattle.run_states.specs.Moves.{Move}
 use Rattle.run_table.specs.TableState.{Step, TableState}
-use Rattle.workflow_runs.specs.Places.{LegPlace, leg_at, run_at, with_job, with_leg, with_run}
-use Rattle.workflow_runs.specs.Rules.{leg_in_phase}
+use Rattle.run_states.specs.Places.{leg_at, run_at, with_job, with_leg, with_run}
+use Rattle.run_states.specs.declared.place.LegPlace.{LegPlace}
+use Rattle.run_states.specs.Rules.{leg_in_phase}
 use Rattle.run_table.specs.Sound.{IsSound}
 use Rattle.run_table.specs.Step.{empty, at_rest_after, entered, unchanged, admission_answer, admitting, admitted}
-use Rattle.workflow_runs.specs.StopMoves.{lease_end_moves, with_ended, stop_holder}
-use Rattle.workflow_runs.specs.NewRun.{again, new_run, leased_leg}
+use Rattle.run_states.specs.NewRun.{again, new_run, leased_leg}
+use Rattle.run_states.specs.StopMoves.{lease_end_moves, with_ended, stop_holder}
 use Rattle.run_table.specs.Step.{claim_answer, claiming_runner, entered_again, rerun, rerun_answer, rerunning}
 use Rattle.run_table.specs.Step.{kept_lease_at, lease_at, leasing, serving_nothing, claiming, report_answer, reporting_runner}
 use Rattle.run_table.specs.Step.{reporting, reported, stepped, cancel_answer, cancelling, cancelled, losing, lost, refused, released}
-use Rattle.workflow_runs.specs.Stops.{after_end, outcome_of_loss, stopped_run, stops_others, with_stopped_legs}
-use Rattle.workflow_runs.specs.RunState.{LegState, JobState, RunState}
+use Rattle.run_states.specs.RunState.{LegState, JobState, RunState}
+use Rattle.run_states.specs.Stops.{after_end, outcome_of_loss, stopped_run, stops_others, with_stopped_legs}
 use Rattle.run_table.specs.Turns.{runner_named, with_runner}
-use Rattle.workflow_runs.specs.declared.phases.LegPhase.TheVariants as leg
+use Rattle.run_states.specs.declared.phases.LegPhase.TheVariants as leg
 use Rattle.run_table.proofs.AdmitKeeps.{no_lease, same_reads}
 use Rattle.run_table.proofs.BeginsAgain.{begins_again}
 use Rattle.run_table.proofs.ClaimKeeps.{fitting_leg, had_changes, leasing_keeps, serving_keeps}
 use Rattle.run_table.proofs.Entered.{entered_keeps, entered_settles}
 use Rattle.run_table.proofs.EnteredAgain.{again_admitted, entered_again_keeps, entered_again_settles}
-use Rattle.workflow_runs.proofs.Changed.{at_another, at_changed}
-use Rattle.workflow_runs.proofs.Found.{before_the_end}
+use Rattle.run_states.proofs.Changed.{at_another, at_changed}
+use Rattle.run_states.proofs.Found.{before_the_end}
 use Rattle.run_table.proofs.Kept.{IsKept, kept_from_sound, kept_settles, told_the_same}
-use Rattle.workflow_runs.proofs.JobKeeps.{leg_in, with_job_of, with_leg_of}
-use Rattle.workflow_runs.proofs.LeaseReads.{place_or_another}
-use Rattle.workflow_runs.proofs.LegReads.{had_at, had_in, had_in_job, had_from_leg}
+use Rattle.run_states.proofs.JobKeeps.{leg_in, with_job_of, with_leg_of}
+use Rattle.run_states.proofs.LeaseReads.{place_or_another}
+use Rattle.run_states.proofs.LegReads.{had_at, had_in, had_in_job, had_from_leg}
 use Rattle.run_table.proofs.ReportKeeps.{loss_keeps, report_keeps}
-use Rattle.workflow_runs.proofs.RunFits.{admitted_at, plan_at_same}
+use Rattle.run_states.proofs.RunFits.{admitted_at, plan_at_same}
 use Rattle.workflow_runs.proofs.SettlingKeeps.{settling_settles}
 use Rattle.run_table.proofs.StepKeeps.{empty_is_sound, run_to_cancel, stepped_is_sound}
-use Rattle.workflow_runs.proofs.StopKeeps.{same_reads as stopped_reads, stopped_run_settles}
+use Rattle.run_states.proofs.StopKeeps.{same_reads as stopped_reads, stopped_run_settles}
 use Rattle.table_laws.specs.Answered.{WasAnswered}
+use Rattle.run_states.specs.declared.holder.Holder.TheVariants.{Run}
 
 pub after_is_sound : (t : TableState) (commands : List Command) → IsSound t → IsSound (after t commands)
 after_is_sound t [] sound = sound
 after_is_sound t (c ∷ cs) sound = after_is_sound (stepped t c).table cs (stepped_is_sound t c sound)
 
--- ---- what is read of an element that a change keeps
+-- ---- reading an element that a change keeps
 
 kept_by_change : {X Y : Type 0} (read : X → Option Y) (f : X → X) → ((x : X) → read (f x) ≡ read x) → (i : ℕ) (xs : List X) (k : ℕ)
     → option_and_then read (slice_get (changed_at i f xs) k) ≡ option_and_then read (slice_get xs k)
@@ -131,7 +133,7 @@ with_ended_keeps_events lease o r runs =
 
 -- ---- what a step leaves
 
--- a leg's lease was there before, or is the answer to this claim
+-- the lease of a leg existed before, or is the answer to this claim
 record NewLease (t : TableState) (c : Command) (s : Step) (p : LegPlace) (n : ℕ) : Type 0 where
   claim : Claimed
   claims : c ≡ command.Claim claim
@@ -151,7 +153,7 @@ either_reads : (t : TableState) (c : Command) (answer : Option Reply) (change : 
 either_reads t c None change h = h refl
 either_reads t c (Some r) change h = unchanged_reads t c r
 
--- the table settles, with the leases that it had
+-- the table settles and keeps its leases
 rest_reads : (t : TableState) (c : Command) (moves : List Move) (mid : TableState) (r : Reply) → IsKept mid
     → ((i : ℕ) (a : Admitted) → admitted_at t.runs i ≡ Some a → admitted_at mid.runs i ≡ Some a)
     → ((p : LegPlace) (n : ℕ) → had_at mid.runs p ≡ Some n → (had_at t.runs p ≡ Some n) ⊎ NewLease t c (at_rest_after moves mid r) p n)
@@ -241,7 +243,7 @@ cancel_reads t id s =
     let found = run_to_cancel t id none in
     let stop = stopped_run_settles t.runs (kept_from_sound t s).fit (id - 1) found.0 found.1 in
     let next = with_run (id - 1) stopped_run t.runs in
-    rest_reads t (command.Cancel id) (stop_holder (Holder.a_run (id - 1)) t.runs).moves (record t { runs = next }) reply.Ok
+    rest_reads t (command.Cancel id) (stop_holder (Run (id - 1)) t.runs).moves (record t { runs = next }) reply.Ok
     (kept_settles t next (kept_from_sound t s) stop)
     (λ i a e. stop.stay.same_admitted i ∙ e) (λ p n e. inl (sym (stop.same_had p) ∙ e)))
 
@@ -313,7 +315,7 @@ events_after t [] s r a e = e
 events_after t (c ∷ cs) s r a e =
     events_after (stepped t c).table cs (stepped_is_sound t c s) r a ((step_reads t c s).same_admitted r a e)
 
--- what a runner is told of a leg follows from the plan
+-- what a runner learns about a leg follows from the plan
 same_lease : (runs next : List RunState) (p : LegPlace) (n : ℕ) (a : Admitted) → admitted_at runs p.run ≡ Some a
     → admitted_at next p.run ≡ Some a → lease_at runs p n ≡ lease_at next p n
 same_lease runs next p n a before now =

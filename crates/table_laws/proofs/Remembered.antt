@@ -1,4 +1,4 @@
--- What a table remembers of a delivery, and of a runner's last command, stays, and is what both are answered from again.
+-- What a table remembers about a delivery, and about a runner's last command, does not change, and both are answered from it again.
 use Rattle.std.proofs.Common.{◌≡◌, ℕ, ◌+◌, true, List, [], ◌∷◌, refl, sym, ◌∙◌, ap, subst}
 use Rattle.std.specs.Prelude.{Option, Some, None, option_map}
 use Rattle.std.proofs.lemmas.Option.{same_Some}
@@ -20,7 +20,7 @@ use Rattle.table_laws.proofs.KeptReplies.{HasKept, has_step, test_of, turn_again
 
 -- ---- deliveries
 
--- the place of the run
+-- the index of the run
 place_known : (t : TableState) (delivery : List ℕ) (run : ℕ) → KnowsDelivery t delivery run
     → (i : ℕ) × (run ≡ i + 1) × (place_of delivery t ≡ Some i)
 place_known t delivery run knows = at (place_of delivery t) refl knows
@@ -60,7 +60,7 @@ known_is_answered t event run knows =
 
 -- ---- last commands
 
--- what passes the test of a command is that command
+-- a kept command that passes the test of a command is that command
 passing_is : (c : Command) (name : List ℕ) (number : ℕ) (l : LastCommand) → HasTurn c name number → test_of c l ≡ true → kept_command l ≡ c
 passing_is (command.Claim claim) name number (last.Claim earlier given) turn passes =
     ap (λ x. command.Claim x) ((claims_decide earlier claim).0 passes)

@@ -1,5 +1,5 @@
--- The step in which a run begins again keeps the law of every group. The moves of its attempt before are forgotten, and it arrives as a holder
--- with another name.
+-- The step in which a run begins again preserves the law of every group. The moves of its attempt before are dropped, and it arrives as a
+-- holder with another name.
 use Rattle.std.specs.Prelude.{◌≡◌, ℕ, ◌+◌, ◌-◌, ◌≤◌, List, [], ◌∷◌, ◌++◌, ◌&&◌, ◌||◌, not, Bool, true, false, Some, None, if◌then◌else◌}
 use Rattle.std.specs.Prelude.{refl}
 use Rattle.std.specs.Option.{option_map_or}
@@ -9,18 +9,18 @@ use Rattle.std.proofs.lemmas.List.{append-nil}
 use Rattle.std.proofs.lemmas.Option.{same_Some}
 use Rattle.group_name.specs.Group.{Group, same_group}
 use Rattle.run_plan.specs.declared.command.Attempt.{Attempt}
-use Rattle.workflow_runs.specs.GroupOf.{cancels_in_progress}
-use Rattle.workflow_runs.specs.GroupWords.{has_arrived, has_ended, has_started, is_pending, is_running, latest, next_displaced, same_holder}
-use Rattle.workflow_runs.specs.Groups.{is_in, waits}
-use Rattle.workflow_runs.specs.Holders.{run_of}
-use Rattle.workflow_runs.specs.Moves.{Holder, Move, Transition}
-use Rattle.workflow_runs.specs.NewRun.{again}
-use Rattle.workflow_runs.specs.Places.{with_run}
-use Rattle.workflow_runs.specs.RunState.{RunState}
-use Rattle.workflow_runs.specs.Settling.{remaining_phases, settled, settling}
+use Rattle.run_states.specs.GroupOf.{cancels_in_progress}
+use Rattle.run_states.specs.GroupWords.{has_arrived, has_ended, has_started, is_pending, is_running, latest, next_displaced, same_holder}
+use Rattle.run_states.specs.Groups.{is_in, waits}
+use Rattle.run_states.specs.Holders.{run_of}
+use Rattle.run_states.specs.Moves.{Move, Transition}
+use Rattle.run_states.specs.NewRun.{again}
+use Rattle.run_states.specs.Places.{with_run}
+use Rattle.run_states.specs.RunState.{RunState}
+use Rattle.run_states.specs.Settling.{remaining_phases, settled, settling}
+use Rattle.run_states.proofs.RunFits.{RunsFit}
 use Rattle.workflow_runs.proofs.ArrivalKeeps.{itself, one_or_another}
 use Rattle.workflow_runs.proofs.OneEach.{IsOneOf, one_that_waits}
-use Rattle.workflow_runs.proofs.RunFits.{RunsFit}
 use Rattle.run_table.specs.Sound.{IsSound}
 use Rattle.run_table.specs.Step.{entered_again, rerunning}
 use Rattle.run_table.specs.TableState.{TableState}
@@ -46,6 +46,8 @@ use Rattle.table_laws.proofs.Parked.{one_elsewhere, parked_is_over, parked_run, 
 use Rattle.table_laws.proofs.RulesLaw.{arrival_keeps, settled_keeps}
 use Rattle.table_laws.proofs.SameGroups.{there_or_not}
 use Rattle.table_laws.proofs.Unbegun.{Unbegun}
+use Rattle.run_states.specs.declared.holder.Holder.{Holder}
+use Rattle.run_states.specs.declared.holder.Holder.TheVariants.{Run}
 
 still_waits : (a s e : Bool) → (a && (not s && not e)) ≡ true → ((a || true) && (not (s || false) && not (e || false))) ≡ true
 still_waits false s e is = cc
@@ -76,7 +78,7 @@ module _ (names : Names) (g : Group) (asks : Holder → Bool) (t : TableState) (
   fit : RunsFit t.runs
   fit = (kept_from_sound t s).fit
 
-  -- ---- what is left of the moves so far
+  -- ---- the moves so far that remain
 
   abbrev start : List Move
   start = of_group (is_elsewhere r) so_far.now
@@ -92,7 +94,7 @@ module _ (names : Names) (g : Group) (asks : Holder → Bool) (t : TableState) (
       is_in_kept now reached (again_fits t.runs r fit) (again_grows t r x begins.there fit) g h (one_elsewhere t.runs r again h other there)
       ∙ ap (λ o. option_map_or (same_group g) o false) (group_beside t.runs r fit h there other)
 
-  -- ---- while the run is parked, they say how far each holder has come
+  -- ---- while the run is parked, they match the status of each holder
 
   nothing_fits : (h : Holder) → run_of h ≡ r → Fits (status parked h) h []
   nothing_fits h same =
@@ -211,7 +213,7 @@ module _ (names : Names) (g : Group) (asks : Holder → Bool) (t : TableState) (
   pending_is_newest : (h : Holder) → is_pending h so_far.now ≡ true → latest so_far.now ≡ Some h
   pending_is_newest h pends = let its = pending_in_it h pends in so_far.newest h its.0 its.1
 
-  -- one that is pending has arrived, and made no other move
+  -- a pending holder has arrived and has made no other move
   pending_moves : (h : Holder) → is_pending h so_far.now ≡ true → own h so_far.now ≡ Move.arrive h ∷ []
   pending_moves h pends =
       let its = pending_in_it h pends in
@@ -237,7 +239,7 @@ module _ (names : Names) (g : Group) (asks : Holder → Bool) (t : TableState) (
         | inl same ↦ of_itself same was.1
       ]
     where
-      -- another one would still be the latest
+      -- if they differ, the displaced holder would still be the latest arrival
       of_another : same_holder h k ≡ false → is_pending h before ≡ true → h ≡ k
       of_another apart pended =
           let pends : is_pending h start ≡ true = ap (is_pending h) split ∙ pending_unmoved h before (Move.arrive k) apart ∙ pended in
@@ -246,7 +248,7 @@ module _ (names : Names) (g : Group) (asks : Holder → Bool) (t : TableState) (
           latest_kept (is_elsewhere r) so_far.now None None h kept.0 (λ e. e) (pending_is_newest h kept.1) in
           same_Some h k (sym last ∙ ap latest split ∙ latest_on before (Move.arrive k ∷ []))
 
-      -- the same one would arrive twice
+      -- if they are the same, the holder would arrive twice
       of_itself : h ≡ k → is_pending h before ≡ true → ⊥
       of_itself same pended =
           let its : same_holder h k ≡ true = ap (same_holder h) (sym same) ∙ itself h in
@@ -279,7 +281,7 @@ module _ (names : Names) (g : Group) (asks : Holder → Bool) (t : TableState) (
   pub again_goes_on : AreAsked names g asks (rerunning t asked) whole
       → SoFar names g asks reached (whole ++ step_moves names g (rerunning t asked))
   again_goes_on are_asked =
-      let n = Holder.a_run r in
+      let n = Run r in
       let of_it = is_in reached g in
       let cancels : Holder → Bool = λ h. asks (name_in names reached h) && cancels_in_progress reached h in
       let asks_now = λ (h : Holder) (e : cancels h ≡ true). (and_parts (asks (name_in names reached h)) (cancels_in_progress reached h) e).1 in

@@ -1,4 +1,4 @@
--- Whom an arrival displaces and whom it stops: at most one each, and these are all the moves that it makes beside its own.
+-- Which holders an arrival displaces and stops: at most one each. These are all the moves that it makes besides its own.
 use Rattle.std.specs.Prelude.{◌≡◌, List, [], ◌∷◌, ◌&&◌, filter_map, not, Bool, true, false, Option, Some, None}
 use Rattle.std.specs.Prelude.{option_to_list, if◌then◌else◌, refl}
 use Rattle.std.proofs.Common.{ap, sym, ◌∙◌, subst}
@@ -6,13 +6,13 @@ use Rattle.std.proofs.lemmas.Bool.{and_parts, not-true}
 use Rattle.std.proofs.lemmas.Option.{same_Some}
 use Rattle.wf_value.specs.declared.outcome.Outcome.TheVariants.{Cancelled}
 use Rattle.group_name.specs.Group.{Group}
-use Rattle.workflow_runs.specs.Arrivals.{displaced, others_pending, stopped_where_asked}
-use Rattle.workflow_runs.specs.GroupWords.{arrival_of}
-use Rattle.workflow_runs.specs.GroupWords.{same_holder}
-use Rattle.workflow_runs.specs.Groups.{HasOneBeside, is_in, is_pending_in, running_in, waits}
-use Rattle.workflow_runs.specs.Moves.{Holder, Move, at_each}
-use Rattle.workflow_runs.specs.StopMoves.{displace, stop_holder}
-use Rattle.workflow_runs.specs.RunState.{RunState}
+use Rattle.run_states.specs.Arrivals.{displaced, others_pending, stopped_where_asked}
+use Rattle.run_states.specs.GroupWords.{arrival_of}
+use Rattle.run_states.specs.GroupWords.{same_holder}
+use Rattle.run_states.specs.Groups.{HasOneBeside, is_in, is_pending_in, running_in, waits}
+use Rattle.run_states.specs.Moves.{Move, at_each}
+use Rattle.run_states.specs.RunState.{RunState}
+use Rattle.run_states.specs.StopMoves.{displace, stop_holder}
 use Rattle.workflow_runs.proofs.ArrivalKeeps.{itself}
 use Rattle.workflow_runs.proofs.HoldersFade.{each_fades, holder_stop_fades}
 use Rattle.workflow_runs.proofs.OneEach.{Fades, one_that_waits}
@@ -27,8 +27,9 @@ use Rattle.table_laws.proofs.OnlyStops.{OnlyStops, holder_stops, no_stops, stops
 use Rattle.table_laws.proofs.OwnMoves.{of_group}
 use Rattle.table_laws.proofs.StopsTold.{Tells}
 use Rattle.table_laws.proofs.Unbegun.{AllStill, each_all_still, stop_all_still}
+use Rattle.run_states.specs.declared.holder.Holder.{Holder}
 
--- ---- who is stopped
+-- ---- the stopped holder
 
 stops_of_each : (hs : List Holder) (runs : List RunState) → OnlyStops (at_each stop_holder hs runs).moves
 stops_of_each [] runs = no_stops
@@ -51,9 +52,9 @@ asked_all_still false g runs = λ h un. un
 pub displaced_all_still : (g : Group) (n : Holder) (runs : List RunState) → AllStill runs (displaced g n runs).runs
 displaced_all_still g n runs = each_all_still displace (λ h rs. stop_all_still h rs) (others_pending g n runs) runs
 
--- ---- who is displaced: at most one
+-- ---- the displaced holder: at most one
 
--- the one that waits in the group beside the newcomer
+-- a holder that waits in the group, other than the newcomer
 pub record Beside (runs : List RunState) (g : Group) (n d : Holder) : Type 0 where
   pub pends : is_pending_in runs g d ≡ true
   pub other : d ≡ n → ⊥
@@ -88,7 +89,7 @@ who_is_displaced runs g n besides =
           )
     ] refl
 
--- its end is all that this moves
+-- its end is the only move of the displacement
 pub displaced_so : (runs : List RunState) (hs : List Holder) (o : Option Holder) → hs ≡ option_to_list o
     → ((d : Holder) → o ≡ Some d → status runs d ≡ Status.waiting)
     → Tells runs (at_each displace hs runs) × ((at_each displace hs runs).moves ≡ cancelled_end o)

@@ -1,4 +1,4 @@
--- Each settling rule keeps what was decided of jobs, and so does settling.
+-- Each settling rule, and so settling, preserves what was decided about jobs.
 use Rattle.std.specs.Prelude.{◌≡◌, ℕ, List, [], ◌∷◌, Bool, true, false, Some, None, slice_get, if◌then◌else◌, refl}
 use Rattle.std.specs.List.{list_all, list_any}
 use Rattle.std.specs.Option.{option_map_or}
@@ -9,38 +9,40 @@ use Rattle.wf_value.specs.declared.outcome.Outcome.TheVariants as outcome
 use Rattle.needs_graph.specs.Conditions.{condition_value}
 use Rattle.needs_graph.specs.Results.{fails_job, was_cancelled}
 use Rattle.group_name.specs.Group.{Group}
-use Rattle.workflow_runs.specs.Arrivals.{arrived, displaced, others_pending, room_made, stopped_where_asked}
-use Rattle.workflow_runs.specs.GroupOf.{cancels_in_progress, group_at}
-use Rattle.workflow_runs.specs.Groups.{running_in}
-use Rattle.workflow_runs.specs.Moves.{Holder, Transition, at_each, without_moves}
-use Rattle.workflow_runs.specs.Places.{run_at, job_at, with_run, with_job}
-use Rattle.workflow_runs.specs.Rules.{rule_at}
-use Rattle.workflow_runs.specs.Rules.{decided, leg_ends, may_run, result_at, with_leg_in}
-use Rattle.workflow_runs.specs.Settling.{settled}
-use Rattle.workflow_runs.specs.StateWords.{leg_has_ended, is_done, is_open, leg_in_phase, opened, run_in_phase, settled_as}
-use Rattle.workflow_runs.specs.StopMoves.{displace, stop_holder}
-use Rattle.workflow_runs.specs.Stops.{stopped, stopped_run}
-use Rattle.workflow_runs.specs.RunState.{JobState, RunState}
-use Rattle.workflow_runs.specs.Words.{ancestor_results, condition_of, is_stopping, needs_have_settled, planned_legs}
-use Rattle.workflow_runs.specs.declared.phases.JobPhase.{JobPhase}
-use Rattle.workflow_runs.specs.declared.phases.JobPhase.TheVariants as job
-use Rattle.workflow_runs.specs.declared.phases.LegPhase.TheVariants as leg
-use Rattle.workflow_runs.specs.declared.phases.RunPhase.{RunPhase}
-use Rattle.workflow_runs.specs.declared.phases.RunPhase.TheVariants as run
-use Rattle.workflow_runs.specs.declared.place.Place.{Place}
-use Rattle.workflow_runs.proofs.Changed.{holds_of_each}
+use Rattle.run_states.specs.Arrivals.{arrived, displaced, others_pending, room_made, stopped_where_asked}
+use Rattle.run_states.specs.GroupOf.{cancels_in_progress, group_at}
+use Rattle.run_states.specs.Groups.{running_in}
+use Rattle.run_states.specs.Moves.{Transition, at_each, without_moves}
+use Rattle.run_states.specs.Places.{run_at, job_at, with_run, with_job}
+use Rattle.run_states.specs.Rules.{rule_at}
+use Rattle.run_states.specs.Rules.{decided, leg_ends, may_run, result_at, with_leg_in}
+use Rattle.run_states.specs.RunState.{JobState, RunState}
+use Rattle.run_states.specs.Settling.{settled}
+use Rattle.run_states.specs.StateWords.{leg_has_ended, is_done, is_open, leg_in_phase, opened, run_in_phase, settled_as}
+use Rattle.run_states.specs.StopMoves.{displace, stop_holder}
+use Rattle.run_states.specs.Stops.{stopped, stopped_run}
+use Rattle.run_states.specs.Words.{ancestor_results, condition_of, is_stopping, needs_have_settled, planned_legs}
+use Rattle.run_states.specs.declared.phases.JobPhase.{JobPhase}
+use Rattle.run_states.specs.declared.phases.JobPhase.TheVariants as job
+use Rattle.run_states.specs.declared.phases.LegPhase.TheVariants as leg
+use Rattle.run_states.specs.declared.phases.RunPhase.{RunPhase}
+use Rattle.run_states.specs.declared.phases.RunPhase.TheVariants as run
+use Rattle.run_states.specs.declared.place.RuleSite.{RuleSite}
+use Rattle.run_states.proofs.Changed.{holds_of_each}
+use Rattle.run_states.proofs.JobKeeps.{job_in}
+use Rattle.run_states.proofs.JobPhases.{is_open_open}
+use Rattle.run_states.proofs.RunFits.{RunsFit, job_in_run}
+use Rattle.run_states.proofs.Settles.{Settles}
+use Rattle.run_states.proofs.Transitions.{changed_none}
 use Rattle.workflow_runs.proofs.EachRule.{by_rule}
 use Rattle.workflow_runs.proofs.HoldersKeep.{displaced_settles, holder_stop_settles, no_run}
-use Rattle.workflow_runs.proofs.JobKeeps.{job_in}
-use Rattle.workflow_runs.proofs.JobPhases.{is_open_open}
 use Rattle.workflow_runs.proofs.LivePlaces.{LivePlace}
-use Rattle.workflow_runs.proofs.Transitions.{changed_none}
 use Rattle.workflow_runs.proofs.RuleKeeps.{newcomer_waits, rule_settles}
-use Rattle.workflow_runs.proofs.RunFits.{RunsFit, job_in_run}
-use Rattle.workflow_runs.proofs.Settles.{Settles}
 use Rattle.workflow_runs.proofs.SettlingKeeps.{settling_keeps}
 use Rattle.table_laws.proofs.Decided.{Decided, JobDecided, NowDecided, all_decided, leg_change_decided, one_decided}
 use Rattle.table_laws.proofs.StopDecided.{stopped_decided}
+use Rattle.run_states.specs.declared.holder.Holder.{Holder}
+use Rattle.run_states.specs.declared.holder.Holder.TheVariants.{Run, Leg}
 
 -- ---- the rules
 
@@ -91,12 +93,12 @@ phase_now runs r x to was all =
 -- ---- stops and arrivals
 
 stop_decided : (h : Holder) (runs : List RunState) → RunsFit runs → Decided runs → Decided (stop_holder h runs).runs
-stop_decided (Holder.a_run r) runs fit all =
+stop_decided (Run r) runs fit all =
     elim (run_at runs r) as (λ o. run_at runs r ≡ o → Decided (with_run r stopped_run runs)) [
       | None ↦ λ is. subst Decided (changed_none runs r stopped_run (λ x at. no_run (run_at runs r) x (stopped_run x) is at)) all
       | Some x ↦ λ is. stopped_decided runs fit all r x is
     ] refl
-stop_decided (Holder.a_leg p) runs fit all = leg_change_decided runs p stopped all
+stop_decided (Leg p) runs fit all = leg_change_decided runs p stopped all
 
 each_decided : (change : Holder → List RunState → Transition)
     → ((h : Holder) (runs : List RunState) → RunsFit runs → Settles runs (change h runs).runs)
@@ -125,11 +127,11 @@ arrival_decided newcomer runs fit all =
 
 -- ---- the rule at each place
 
--- where runs settle, and each job now is as it was decided before
+-- if the change keeps what settling keeps, and each job was decided by the old runs
 decided_after : (runs next : List RunState) → Decided runs → NowDecided runs next → Settles runs next → Decided next
 decided_after runs next all now settles = all_decided runs next all settles.stay.same_admitted settles.stay.keeps_results now
 
-pub rule_decided : (runs : List RunState) (m : Transition) (place : Place) → RunsFit runs → LivePlace runs place → rule_at runs place ≡ Some m
+pub rule_decided : (runs : List RunState) (m : Transition) (place : RuleSite) → RunsFit runs → LivePlace runs place → rule_at runs place ≡ Some m
     → Decided runs → Decided m.runs
 rule_decided runs m place fit live h all =
     let phase_decided = λ (r : ℕ) (x : RunState) (to : RunPhase) (was : run_at runs r ≡ Some x).
@@ -140,7 +142,7 @@ rule_decided runs m place fit live h all =
           decided_after runs (with_job r j (decided runs r j) runs) all (opening_now runs r j y was needs all));
       leg_is_cancelled = (λ p z was is settles. leg_change_decided runs p (leg_in_phase (leg.Ended outcome.Cancelled)) all);
       leg_arrives = (λ p z was is settles.
-          arrival_decided (Holder.a_leg p) (with_leg_in leg.Waiting p runs) (newcomer_waits runs p z fit was is).stay.fit
+          arrival_decided (Leg p) (with_leg_in leg.Waiting p runs) (newcomer_waits runs p z fit was is).stay.fit
           (leg_change_decided runs p (leg_in_phase leg.Waiting) all));
       leg_starts = (λ p z was is may settles. leg_change_decided runs p (leg_in_phase leg.Ready) all);
       job_settles = (λ r j y was done.

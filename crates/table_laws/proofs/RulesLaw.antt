@@ -1,4 +1,4 @@
--- Each settling rule keeps the law of every group, and so does settling.
+-- Each settling rule, and so settling, preserves the law of every group.
 use Rattle.std.specs.Prelude.{◌≡◌, ℕ, zero, suc, List, [], ◌∷◌, ◌++◌, Bool, true, false, Some, None, if◌then◌else◌}
 use Rattle.std.specs.Prelude.{slice_get, refl}
 use Rattle.std.specs.List.{list_all}
@@ -10,41 +10,42 @@ use Rattle.wf_value.specs.declared.outcome.JobResult.TheVariants as result
 use Rattle.wf_value.specs.declared.outcome.Outcome.TheVariants as outcome
 use Rattle.group_name.specs.Group.{Group}
 use Rattle.needs_graph.specs.Results.{conclusion_of}
-use Rattle.workflow_runs.specs.Arrivals.{arrived, displaced, room_made, started}
-use Rattle.workflow_runs.specs.GroupOf.{cancels_in_progress, group_at}
-use Rattle.workflow_runs.specs.GroupWords.{holder_of, same_holder}
-use Rattle.workflow_runs.specs.Groups.{HasOneBeside, HasOneEach, holds, is_in, leg_waits, may_start, run_waits, waits}
-use Rattle.workflow_runs.specs.JobResults.{results_of}
-use Rattle.workflow_runs.specs.Moves.{Holder, Move, Transition, and_then, without_moves}
-use Rattle.workflow_runs.specs.Places.{LegPlace, job_at, leg_at, run_at, with_job, with_run}
-use Rattle.workflow_runs.specs.Rules.{decided, may_run, result_at}
-use Rattle.workflow_runs.specs.Rules.{rule_at}
-use Rattle.workflow_runs.specs.Rules.{with_leg_in}
-use Rattle.workflow_runs.specs.Settling.{first_place, first_rule, settled_within}
-use Rattle.workflow_runs.specs.SoundRuns.{PhaseFits}
-use Rattle.workflow_runs.specs.StateWords.{leg_has_ended, is_blocked, is_done, is_live, is_open, leg_in_phase, opened}
-use Rattle.workflow_runs.specs.StateWords.{run_in_phase, settled_as}
-use Rattle.workflow_runs.specs.RunState.{LegState, JobState, RunState}
-use Rattle.workflow_runs.specs.Words.{is_stopping, planned_legs}
-use Rattle.workflow_runs.specs.declared.phases.LegPhase.{LegPhase}
-use Rattle.workflow_runs.specs.declared.phases.LegPhase.TheVariants as leg
-use Rattle.workflow_runs.specs.declared.phases.RunPhase.{RunPhase}
-use Rattle.workflow_runs.specs.declared.phases.RunPhase.TheVariants as run
-use Rattle.workflow_runs.specs.declared.place.Place.{Place}
-use Rattle.workflow_runs.specs.declared.place.Place.TheVariants.{Opening}
+use Rattle.run_states.specs.Arrivals.{arrived, displaced, room_made, started}
+use Rattle.run_states.specs.GroupOf.{cancels_in_progress, group_at}
+use Rattle.run_states.specs.GroupWords.{holder_of, same_holder}
+use Rattle.run_states.specs.Groups.{HasOneBeside, HasOneEach, holds, is_in, leg_waits, may_start, run_waits, waits}
+use Rattle.run_states.specs.JobResults.{results_of}
+use Rattle.run_states.specs.Moves.{Move, Transition, and_then, without_moves}
+use Rattle.run_states.specs.Places.{job_at, leg_at, run_at, with_job, with_run}
+use Rattle.run_states.specs.declared.place.LegPlace.{LegPlace}
+use Rattle.run_states.specs.Rules.{decided, may_run, result_at}
+use Rattle.run_states.specs.Rules.{rule_at}
+use Rattle.run_states.specs.Rules.{with_leg_in}
+use Rattle.run_states.specs.RunState.{LegState, JobState, RunState}
+use Rattle.run_states.specs.Settling.{first_place, first_rule, settled_within}
+use Rattle.run_states.specs.SoundRuns.{PhaseFits}
+use Rattle.run_states.specs.StateWords.{leg_has_ended, is_blocked, is_done, is_live, is_open, leg_in_phase, opened}
+use Rattle.run_states.specs.StateWords.{run_in_phase, settled_as}
+use Rattle.run_states.specs.Words.{is_stopping, planned_legs}
+use Rattle.run_states.specs.declared.phases.LegPhase.{LegPhase}
+use Rattle.run_states.specs.declared.phases.LegPhase.TheVariants as leg
+use Rattle.run_states.specs.declared.phases.RunPhase.{RunPhase}
+use Rattle.run_states.specs.declared.phases.RunPhase.TheVariants as run
+use Rattle.run_states.specs.declared.place.RuleSite.{RuleSite}
+use Rattle.run_states.specs.declared.place.RuleSite.TheVariants.{Opening}
+use Rattle.run_states.proofs.JobKeeps.{open_is_live}
+use Rattle.run_states.proofs.JobPhases.{is_blocked_blocked, is_open_open, no_legs}
+use Rattle.run_states.proofs.Optional.{from_and_then}
+use Rattle.run_states.proofs.RunFits.{RunsFit, job_in_run, jobs_fit}
+use Rattle.workflow_runs.proofs.ArrivalKeeps.{itself}
 use Rattle.workflow_runs.proofs.EachRule.{by_rule, run_ended}
 use Rattle.workflow_runs.proofs.HoldersFade.{job_fades, leg_fades, leg_passes, passes, waits_before_leg}
 use Rattle.workflow_runs.proofs.HoldersKeep.{arrival_settles, asked_settles, displaced_settles}
-use Rattle.workflow_runs.proofs.JobKeeps.{open_is_live}
-use Rattle.workflow_runs.proofs.JobPhases.{is_blocked_blocked, is_open_open, no_legs}
 use Rattle.workflow_runs.proofs.LivePlaces.{LivePlace, first_place_is_live}
 use Rattle.workflow_runs.proofs.OneEach.{Comes, GroupsStay, IsOneOf, groups_stay, newcomer_besides, one_that_waits}
 use Rattle.workflow_runs.proofs.OneEachRules.{decided_fades, ended_fades, first_rule_one_each, live_waits, newcomer_comes, set_itself}
-use Rattle.workflow_runs.proofs.Optional.{from_and_then}
 use Rattle.workflow_runs.proofs.RuleKeeps.{newcomer_waits}
-use Rattle.workflow_runs.proofs.RunFits.{RunsFit, job_in_run, jobs_fit}
 use Rattle.workflow_runs.proofs.SettlingKeeps.{first_rule_settles, settles_within}
-use Rattle.workflow_runs.proofs.ArrivalKeeps.{itself}
 use Rattle.table_laws.proofs.ArrivalLaw.{arrival_goes_on}
 use Rattle.table_laws.proofs.ChangesTold.{leg_tells, new_legs_same, only_none, only_one, quiet_job_tells, run_tells}
 use Rattle.table_laws.proofs.GroupsKept.{Grows, cancels_kept, grows_on, is_in_kept, stays_grows}
@@ -55,8 +56,10 @@ use Rattle.table_laws.proofs.LawSoFar.{unmoved_is_quiet}
 use Rattle.table_laws.proofs.OwnMoves.{of_group, own}
 use Rattle.table_laws.proofs.StopsTold.{Tells, goes_by}
 use Rattle.table_laws.proofs.Unbegun.{AllStill, LegUnbegun, There, leg_all_still, live_job_still, new_leg_unbegun, phase_still, still_of_all}
+use Rattle.run_states.specs.declared.holder.Holder.{Holder}
+use Rattle.run_states.specs.declared.holder.Holder.TheVariants.{Run, Leg}
 
--- ---- a job that opens
+-- ---- a job opens
 
 decided_same : (may stopping : Bool) (n l : ℕ) (y : JobState) → y.legs ≡ []
     → status_in_job l ((if may then opened n else settled_as (if stopping then result.Cancelled else result.Skipped)) y) ≡ status_in_job l y
@@ -77,38 +80,38 @@ opening_tells runs fit r j y was blocked =
 
 -- ---- a leg
 
--- a leg that is in this phase goes on with its moves
+-- a leg in this phase changes as its moves say
 leg_goes_by : (runs : List RunState) (p : LegPlace) (z : LegState) (phase : LegPhase) (to : LegPhase) (moves : List Move)
-    → leg_at runs p ≡ Some z → z.phase ≡ phase → Goes (Holder.a_leg p) (leg_status phase) (own (Holder.a_leg p) moves) (leg_status to)
+    → leg_at runs p ≡ Some z → z.phase ≡ phase → Goes (Leg p) (leg_status phase) (own (Leg p) moves) (leg_status to)
     → (y : LegState) → leg_at runs p ≡ Some y
-    → Goes (Holder.a_leg p) (status_of_leg y) (own (Holder.a_leg p) moves) (status_of_leg (leg_in_phase to y))
+    → Goes (Leg p) (status_of_leg y) (own (Leg p) moves) (status_of_leg (leg_in_phase to y))
 leg_goes_by runs p z phase to moves was is goes y at =
     let same : y.phase ≡ phase = ap (λ (x : LegState). x.phase) (same_Some y z (sym at ∙ was)) ∙ is in
-    subst (λ (ph : LegPhase). Goes (Holder.a_leg p) (leg_status ph) (own (Holder.a_leg p) moves) (leg_status to)) (sym same) goes
+    subst (λ (ph : LegPhase). Goes (Leg p) (leg_status ph) (own (Leg p) moves) (leg_status to)) (sym same) goes
 
 own_itself : (h : Holder) (m : Move) → holder_of m ≡ h → own h (m ∷ []) ≡ m ∷ []
 own_itself h m is = ap (λ b. if b then m ∷ [] else []) (ap (same_holder h) is ∙ itself h)
 
 leg_set_tells : (runs : List RunState) (p : LegPlace) (z : LegState) (phase to : LegPhase) (m : Move) → leg_at runs p ≡ Some z
     → z.phase ≡ phase
-    → holder_of m ≡ Holder.a_leg p → Goes (Holder.a_leg p) (leg_status phase) (m ∷ []) (leg_status to)
+    → holder_of m ≡ Leg p → Goes (Leg p) (leg_status phase) (m ∷ []) (leg_status to)
     → Tells runs (record { runs = with_leg_in to p runs; moves = m ∷ [] })
 leg_set_tells runs p z phase to m was is of_it goes =
     leg_tells p (leg_in_phase to) runs (m ∷ [])
     (leg_goes_by runs p z phase to (m ∷ []) was is
-    (goes_by (Holder.a_leg p) (leg_status phase) (leg_status to) (own (Holder.a_leg p) (m ∷ [])) (m ∷ []) (sym (own_itself
-    (Holder.a_leg p) m of_it))
+    (goes_by (Leg p) (leg_status phase) (leg_status to) (own (Leg p) (m ∷ [])) (m ∷ []) (sym (own_itself
+    (Leg p) m of_it))
     goes))
-    (λ none. absurd (none-some z (sym none ∙ was))) (only_one (Holder.a_leg p) m of_it)
+    (λ none. absurd (none-some z (sym none ∙ was))) (only_one (Leg p) m of_it)
 
 unseen_tells : (runs : List RunState) (p : LegPlace) (z : LegState) → leg_at runs p ≡ Some z → z.phase ≡ leg.New
     → Tells runs (without_moves (with_leg_in (leg.Ended outcome.Cancelled) p runs))
 unseen_tells runs p z was is =
     leg_tells p (leg_in_phase (leg.Ended outcome.Cancelled)) runs []
-    (leg_goes_by runs p z leg.New (leg.Ended outcome.Cancelled) [] was is (goes_unseen (Holder.a_leg p))) (λ none. refl)
-    (only_none (Holder.a_leg p))
+    (leg_goes_by runs p z leg.New (leg.Ended outcome.Cancelled) [] was is (goes_unseen (Leg p))) (λ none. refl)
+    (only_none (Leg p))
 
--- ---- what has not begun
+-- ---- holders that have not begun
 
 ended_unbegun : (z : LegState) → LegUnbegun z → LegUnbegun (leg_in_phase (leg.Ended outcome.Cancelled) z)
 ended_unbegun z un = record { no_lease = un.no_lease; cancelled = (λ o e. cc) }
@@ -121,7 +124,7 @@ decided_unbegun false stopping n l y all = all
 live_run : (runs : List RunState) (r : ℕ) → LivePlace runs (Opening r 0) → (x : RunState) → run_at runs r ≡ Some x → is_live x.phase ≡ true
 live_run runs r live x at = ap (λ (v : RunState). is_live v.phase) (same_Some x live.0 (sym at ∙ live.1)) ∙ ap is_live live.2
 
--- a run with a job that is done is live
+-- a run with a job whose legs have all ended is live
 closing_run : (runs : List RunState) → RunsFit runs → (r j : ℕ) (y : JobState) → job_at runs r j ≡ Some y → is_done y ≡ true
     → (x : RunState)
     → run_at runs r ≡ Some x → is_live x.phase ≡ true
@@ -133,18 +136,18 @@ closing_run runs fit r j y was done x at =
 -- ---- a run
 
 run_set_tells : (runs : List RunState) (r : ℕ) (x : RunState) (to : RunPhase) (m : Move) → run_at runs r ≡ Some x
-    → holder_of m ≡ Holder.a_run r → Goes (Holder.a_run r) (status_of_run x) (m ∷ []) (run_status to x.stopping)
+    → holder_of m ≡ Run r → Goes (Run r) (status_of_run x) (m ∷ []) (run_status to x.stopping)
     → Tells runs (record { runs = with_run r (run_in_phase to) runs; moves = m ∷ [] })
 run_set_tells runs r x to m was of_it goes =
     run_tells r (run_in_phase to) runs (m ∷ []) (λ y. refl)
     (λ y at. subst
-    (λ (v : RunState). Goes (Holder.a_run r) (status_of_run v) (own (Holder.a_run r) (m ∷ [])) (run_status to v.stopping))
+    (λ (v : RunState). Goes (Run r) (status_of_run v) (own (Run r) (m ∷ [])) (run_status to v.stopping))
     (sym (same_Some y x (sym at ∙ was)))
-    (goes_by (Holder.a_run r) (status_of_run x) (run_status to x.stopping) (own (Holder.a_run r) (m ∷ [])) (m ∷ [])
-    (sym (own_itself (Holder.a_run r) m of_it)) goes))
-    (λ none. absurd (none-some x (sym none ∙ was))) (only_one (Holder.a_run r) m of_it)
+    (goes_by (Run r) (status_of_run x) (run_status to x.stopping) (own (Run r) (m ∷ [])) (m ∷ [])
+    (sym (own_itself (Run r) m of_it)) goes))
+    (λ none. absurd (none-some x (sym none ∙ was))) (only_one (Run r) m of_it)
 
--- ---- the rules, on the way to a table that is reached
+-- ---- the rules, on the way to the table that is reached
 
 module _ (reached : List RunState) (g : Group) (cancels : Holder → Bool)
     (asks : (h : Holder) → cancels h ≡ true → cancels_in_progress reached h ≡ true) where
@@ -185,7 +188,7 @@ module _ (reached : List RunState) (g : Group) (cancels : Holder → Bool)
       arrival_goes_on (is_in reached g) cancels g before now n fit set comes waiting besides (agrees now fit fit_now) still
       (asked_now now fit fit_now n (one_that_waits now n waiting)) (then_agrees now n fit grows) start moves so_far fresh
 
-  -- of one that was not there, or was new
+  -- of a newcomer that did not exist, or was new
   pub first_arrival_keeps : (before now : List RunState) (n : Holder) → RunsFit now
       → Tells before (record { runs = now; moves = Move.arrive n ∷ [] }) → status before n ≡ Status.unarrived → Comes before now n
       → waits now n ≡ true → GroupsStay before now → HasOneEach before → AllStill before now → Grows (arrived n now).runs reached
@@ -194,9 +197,9 @@ module _ (reached : List RunState) (g : Group) (cancels : Holder → Bool)
       arrival_keeps before now n fit (λ h other. set h) comes waiting (newcomer_besides before now n stay comes each) still grows start moves
       so_far (λ is. subst (λ (s : Status). Fits s n (own n moves)) unseen (so_far.each n is))
 
-  -- ---- a leg goes on
+  -- ---- a leg advances
 
-  -- the newcomer is of the group that its own run holds
+  -- the newcomer's group is held by its own run
   own_group_keeps : (runs : List RunState) (p : LegPlace) (z : LegState) → leg_at runs p ≡ Some z → z.phase ≡ leg.New
       → Keeps runs (without_moves (with_leg_in (leg.Ended outcome.Cancelled) p runs))
   own_group_keeps runs p z was is =
@@ -206,24 +209,24 @@ module _ (reached : List RunState) (g : Group) (cancels : Holder → Bool)
       (leg_fades (leg_in_phase (leg.Ended outcome.Cancelled)) p runs (λ v e. absurd (false≢true e)) (λ v e. absurd (false≢true e))).waited
       (still_of_all runs next (leg_all_still runs p (leg_in_phase (leg.Ended outcome.Cancelled)) ended_unbegun)))
 
-  -- or it arrives
+  -- or the newcomer arrives
   leg_arrival_keeps : (runs : List RunState) (p : LegPlace) (z : LegState) → RunsFit runs → leg_at runs p ≡ Some z → z.phase ≡ leg.New
-      → HasOneEach runs → Grows (arrived (Holder.a_leg p) (with_leg_in leg.Waiting p runs)).runs reached
-      → Keeps runs (arrived (Holder.a_leg p) (with_leg_in leg.Waiting p runs))
+      → HasOneEach runs → Grows (arrived (Leg p) (with_leg_in leg.Waiting p runs)).runs reached
+      → Keeps runs (arrived (Leg p) (with_leg_in leg.Waiting p runs))
   leg_arrival_keeps runs p z fit was is each grows =
       let now = with_leg_in leg.Waiting p runs in
       let stay = (newcomer_waits runs p z fit was is).stay in
-      first_arrival_keeps runs now (Holder.a_leg p) stay.fit
-      (leg_set_tells runs p z leg.New leg.Waiting (Move.arrive (Holder.a_leg p)) was is refl (goes_to_arrive (Holder.a_leg p)))
+      first_arrival_keeps runs now (Leg p) stay.fit
+      (leg_set_tells runs p z leg.New leg.Waiting (Move.arrive (Leg p)) was is refl (goes_to_arrive (Leg p)))
       (ap (status_by status_of_leg) was ∙ ap leg_status is) (newcomer_comes runs p z was)
       (ap (passes (leg_passes leg_waits)) (set_itself runs p z was (leg_in_phase leg.Waiting))) (groups_stay runs now fit stay) each
       (leg_all_still runs p (leg_in_phase leg.Waiting) (λ v un. record { no_lease = un.no_lease; cancelled = (λ o e. cc) })) grows
 
   leg_start_keeps : (runs : List RunState) (p : LegPlace) (z : LegState) → RunsFit runs → Grows runs reached → leg_at runs p ≡ Some z
-      → z.phase ≡ leg.Waiting → may_start runs (Holder.a_leg p) ≡ true
-      → Keeps runs (started (Holder.a_leg p) (with_leg_in leg.Ready p runs))
+      → z.phase ≡ leg.Waiting → may_start runs (Leg p) ≡ true
+      → Keeps runs (started (Leg p) (with_leg_in leg.Ready p runs))
   leg_start_keeps runs p z fit from was is may =
-      let k = Holder.a_leg p in
+      let k = Leg p in
       let next = with_leg_in leg.Ready p runs in
       let waiting : waits runs k ≡ true = ap (passes (leg_passes leg_waits)) was ∙ ap leg_waits is in
       quiet_goes_on (is_in reached g) cancels runs (started k next)
@@ -237,13 +240,13 @@ module _ (reached : List RunState) (g : Group) (cancels : Holder → Bool)
       })))
       waiting may)
 
-  -- ---- a run goes on
+  -- ---- a run advances
 
   run_start_keeps : (runs : List RunState) (r : ℕ) (x : RunState) → RunsFit runs → Grows runs reached → run_at runs r ≡ Some x
-      → x.phase ≡ run.Waiting → may_start runs (Holder.a_run r) ≡ true
-      → Keeps runs (started (Holder.a_run r) (with_run r (run_in_phase run.Live) runs))
+      → x.phase ≡ run.Waiting → may_start runs (Run r) ≡ true
+      → Keeps runs (started (Run r) (with_run r (run_in_phase run.Live) runs))
   run_start_keeps runs r x fit from was is may =
-      let k = Holder.a_run r in
+      let k = Run r in
       let next = with_run r (run_in_phase run.Live) runs in
       let waiting : waits runs k ≡ true = ap (passes (λ (v : RunState). run_waits v.phase)) was ∙ ap run_waits is in
       let unstopped = (subst (λ (phase : RunPhase). PhaseFits phase x.stopping x.jobs) is (fit r x was).phase_fits).0 in
@@ -258,7 +261,7 @@ module _ (reached : List RunState) (g : Group) (cancels : Holder → Bool)
   run_end_keeps : (runs : List RunState) (r : ℕ) (x : RunState) → run_at runs r ≡ Some x → x.phase ≡ run.Live
       → Keeps runs (run_ended runs r x)
   run_end_keeps runs r x was is =
-      let k = Holder.a_run r in
+      let k = Run r in
       let next = with_run r (run_in_phase run.Ended) runs in
       let end = Move.end_with (conclusion_of (results_of x.jobs)) k in
       let held : holds runs k ≡ true = ap (passes (λ (v : RunState). is_live v.phase)) was ∙ ap is_live is in
@@ -269,7 +272,7 @@ module _ (reached : List RunState) (g : Group) (cancels : Holder → Bool)
       (phase_still runs r run.Ended (λ y at before now.
       true≢false (sym (ap (λ (v : RunState). is_live v.phase) (same_Some y x (sym at ∙ was)) ∙ ap is_live is) ∙ before))) held)
 
-  -- ---- a job opens, or settles
+  -- ---- a job opens or finishes
 
   opening_keeps : (runs : List RunState) (r j : ℕ) (y : JobState) → RunsFit runs → LivePlace runs (Opening r j) → job_at runs r j ≡ Some y
       → is_blocked y.phase ≡ true → Keeps runs (without_moves (with_job r j (decided runs r j) runs))
@@ -292,7 +295,7 @@ module _ (reached : List RunState) (g : Group) (cancels : Holder → Bool)
 
   -- ---- at each place
 
-  rule_keeps : (runs : List RunState) (m : Transition) (place : Place) → RunsFit runs → LivePlace runs place → rule_at runs place ≡ Some m
+  rule_keeps : (runs : List RunState) (m : Transition) (place : RuleSite) → RunsFit runs → LivePlace runs place → rule_at runs place ≡ Some m
       → HasOneEach runs
       → Grows runs reached → Grows m.runs reached → Keeps runs m
   rule_keeps runs m place fit live h each from =

@@ -1,32 +1,35 @@
--- Runs keep what was admitted for them, and the attempt at which they are, whatever is made of them within an attempt: a change of one of them,
--- a stop, an arrival in a group, a rule, and settling.
+-- Runs keep what was admitted and their attempt under every change within an attempt: a change of one run, a stop, an arrival in a group, a
+-- rule, and settling.
 use Rattle.std.proofs.Common.{◌≡◌, ℕ, zero, suc, true, false, List, [], ◌∷◌, map, refl, ◌∙◌, ap}
 use Rattle.std.specs.Prelude.{Some, None, if◌then◌else◌}
 use Rattle.std.specs.Option.{option_map_or}
 use Rattle.wf_value.specs.declared.outcome.Outcome.{Outcome}
 use Rattle.wf_value.specs.declared.outcome.Outcome.TheVariants as outcome
-use Rattle.workflow_runs.specs.Arrivals.{arrived, displaced, others_pending, room_made, stopped_where_asked}
-use Rattle.workflow_runs.specs.FirstOf.{changed_at}
-use Rattle.workflow_runs.specs.Fitting.{place_of_lease}
-use Rattle.workflow_runs.specs.GroupOf.{cancels_in_progress, group_at}
-use Rattle.workflow_runs.specs.Groups.{running_in}
-use Rattle.workflow_runs.specs.Moves.{Holder, Transition, and_then, at_each, without_moves}
-use Rattle.workflow_runs.specs.Places.{LegPlace, with_job, with_leg, with_run}
-use Rattle.workflow_runs.specs.Rules.{decided, leg_in_phase}
-use Rattle.workflow_runs.specs.Rules.{result_at, rule_at, run_in_phase, settled_as}
-use Rattle.workflow_runs.specs.Rules.{with_leg_in}
-use Rattle.workflow_runs.specs.Settling.{first_place, first_rule, remaining_phases, settled, settled_within}
-use Rattle.workflow_runs.specs.StopMoves.{with_ended, displace, stop_holder}
-use Rattle.workflow_runs.specs.Stops.{after_end, stopped, stopped_in, stopped_run, stops_others, told_to_stop, with_stopped_legs}
-use Rattle.workflow_runs.specs.RunState.{JobState, LegState, RunState}
-use Rattle.workflow_runs.specs.declared.phases.LegPhase.TheVariants as leg
-use Rattle.workflow_runs.specs.declared.phases.RunPhase.{RunPhase}
-use Rattle.workflow_runs.specs.declared.phases.RunPhase.TheVariants as run
-use Rattle.workflow_runs.specs.declared.place.Place.{Place}
+use Rattle.run_states.specs.Arrivals.{arrived, displaced, others_pending, room_made, stopped_where_asked}
+use Rattle.run_states.specs.FirstOf.{changed_at}
+use Rattle.run_states.specs.Fitting.{place_of_lease}
+use Rattle.run_states.specs.GroupOf.{cancels_in_progress, group_at}
+use Rattle.run_states.specs.Groups.{running_in}
+use Rattle.run_states.specs.Moves.{Transition, and_then, at_each, without_moves}
+use Rattle.run_states.specs.Places.{with_job, with_leg, with_run}
+use Rattle.run_states.specs.declared.place.LegPlace.{LegPlace}
+use Rattle.run_states.specs.Rules.{decided, leg_in_phase}
+use Rattle.run_states.specs.Rules.{result_at, rule_at, run_in_phase, settled_as}
+use Rattle.run_states.specs.Rules.{with_leg_in}
+use Rattle.run_states.specs.RunState.{JobState, LegState, RunState}
+use Rattle.run_states.specs.Settling.{first_place, first_rule, remaining_phases, settled, settled_within}
+use Rattle.run_states.specs.StopMoves.{with_ended, displace, stop_holder}
+use Rattle.run_states.specs.Stops.{after_end, stopped, stopped_in, stopped_run, stops_others, told_to_stop, with_stopped_legs}
+use Rattle.run_states.specs.declared.phases.LegPhase.TheVariants as leg
+use Rattle.run_states.specs.declared.phases.RunPhase.{RunPhase}
+use Rattle.run_states.specs.declared.phases.RunPhase.TheVariants as run
+use Rattle.run_states.specs.declared.place.RuleSite.{RuleSite}
+use Rattle.run_states.proofs.Optional.{from_and_then}
 use Rattle.workflow_runs.proofs.EachRule.{by_rule}
-use Rattle.workflow_runs.proofs.Optional.{from_and_then}
+use Rattle.run_states.specs.declared.holder.Holder.{Holder}
+use Rattle.run_states.specs.declared.holder.Holder.TheVariants.{Run, Leg}
 
--- what is read of each run goes by these two alone
+-- the value read from a run depends only on these two
 abbrev pub IsOfCourse : {X : Type 0} → (RunState → X) → Type 0
 IsOfCourse read = (x y : RunState) → y.admitted ≡ x.admitted → y.attempt ≡ x.attempt → read y ≡ read x
 
@@ -58,8 +61,8 @@ module _ {X : Type 0} (read : RunState → X) (of_course : IsOfCourse read) wher
   stopped_stays run.Ended r = refl
 
   pub stop_stays : (h : Holder) (runs : List RunState) → reads (stop_holder h runs).runs ≡ reads runs
-  stop_stays (Holder.a_run r) runs = run_stays r stopped_run runs (λ x. stopped_stays x.phase x)
-  stop_stays (Holder.a_leg p) runs = leg_stays p stopped runs
+  stop_stays (Run r) runs = run_stays r stopped_run runs (λ x. stopped_stays x.phase x)
+  stop_stays (Leg p) runs = leg_stays p stopped runs
 
   -- ---- an arrival
 
@@ -91,14 +94,14 @@ module _ {X : Type 0} (read : RunState → X) (of_course : IsOfCourse read) wher
   phase_stays : (runs : List RunState) (r : ℕ) (phase : RunPhase) → reads (with_run r (run_in_phase phase) runs) ≡ reads runs
   phase_stays runs r phase = run_stays r (run_in_phase phase) runs (λ x. of_course x (run_in_phase phase x) refl refl)
 
-  rule_stays : (runs : List RunState) (m : Transition) (place : Place) → rule_at runs place ≡ Some m → reads m.runs ≡ reads runs
+  rule_stays : (runs : List RunState) (m : Transition) (place : RuleSite) → rule_at runs place ≡ Some m → reads m.runs ≡ reads runs
   rule_stays runs =
       by_rule runs (λ place made. reads made.runs ≡ reads runs)
       (record {
         job_opens = (λ r j y was blocked needs. job_stays r j (decided runs r j) runs);
         leg_is_cancelled = (λ p z was is. leg_stays p (leg_in_phase (leg.Ended outcome.Cancelled)) runs);
         leg_arrives = (λ p z was is.
-            arrived_stays (Holder.a_leg p) (with_leg_in leg.Waiting p runs) ∙ leg_stays p (leg_in_phase leg.Waiting) runs);
+            arrived_stays (Leg p) (with_leg_in leg.Waiting p runs) ∙ leg_stays p (leg_in_phase leg.Waiting) runs);
         leg_starts = (λ p z was is may. leg_stays p (leg_in_phase leg.Ready) runs);
         job_settles = (λ r j y was done. job_stays r j (settled_as (result_at runs r j y)) runs);
         run_starts = (λ r x was is may. phase_stays runs r run.Live);

@@ -1,27 +1,30 @@
--- What the moves of a group say of its holders they say by the groups of a later table too, since a holder that has come stays in its group.
+-- What the moves of a group say about its holders holds by the groups of a later table too, since a holder that has arrived stays in its
+-- group.
 use Rattle.std.specs.Prelude.{◌≡◌, ◌⊎◌, List, [], Bool, true, false, Some, None, refl}
 use Rattle.std.proofs.Common.{ap, inl, inr, sym, ◌∙◌, subst}
 use Rattle.std.proofs.lemmas.Bool.{true≢false}
 use Rattle.group_name.specs.Group.{Group}
-use Rattle.workflow_runs.specs.GroupWords.{has_arrived}
-use Rattle.workflow_runs.specs.Groups.{is_in}
-use Rattle.workflow_runs.specs.Moves.{Holder, Move}
-use Rattle.workflow_runs.specs.Places.{leg_at, run_at}
-use Rattle.workflow_runs.specs.RunState.{LegState, RunState}
+use Rattle.run_states.specs.GroupWords.{has_arrived}
+use Rattle.run_states.specs.Groups.{is_in}
+use Rattle.run_states.specs.Moves.{Move}
+use Rattle.run_states.specs.Places.{leg_at, run_at}
+use Rattle.run_states.specs.RunState.{LegState, RunState}
+use Rattle.run_states.proofs.RunFits.{RunsFit}
 use Rattle.workflow_runs.proofs.OneEach.{IsOneOf, one_that_waits}
-use Rattle.workflow_runs.proofs.RunFits.{RunsFit}
 use Rattle.table_laws.proofs.GroupsKept.{Grows, is_in_kept}
 use Rattle.table_laws.proofs.HolderStatus.{Fits, Status, status, status_by, status_of_leg, status_of_run}
 use Rattle.table_laws.proofs.LawSoFar.{LawSoFar, unseen_is_unmoved}
 use Rattle.table_laws.proofs.OwnMoves.{arrived_by_own, own}
+use Rattle.run_states.specs.declared.holder.Holder.{Holder}
+use Rattle.run_states.specs.declared.holder.Holder.TheVariants.{Run, Leg}
 
 pub there_or_not : (runs : List RunState) (h : Holder) → IsOneOf runs h ⊎ (status runs h ≡ Status.unarrived)
-there_or_not runs (Holder.a_run r) =
+there_or_not runs (Run r) =
     elim (run_at runs r) as (λ o. ((x : RunState) × (o ≡ Some x)) ⊎ (status_by status_of_run o ≡ Status.unarrived)) [
       | None ↦ inr refl
       | Some x ↦ inl (x, refl)
     ]
-there_or_not runs (Holder.a_leg p) =
+there_or_not runs (Leg p) =
     elim (leg_at runs p) as (λ o. ((z : LegState) × (o ≡ Some z)) ⊎ (status_by status_of_leg o ≡ Status.unarrived)) [
       | None ↦ inr refl
       | Some z ↦ inl (z, refl)
@@ -33,11 +36,11 @@ module _ (cancels : Holder → Bool) (g : Group) (runs next : List RunState) (fi
   same_group_as : (h : Holder) → IsOneOf runs h → is_in next g h ≡ is_in runs g h
   same_group_as = is_in_kept runs next fit grows g
 
-  -- one that has not come has made no move
+  -- a holder that has not arrived has made no move
   none_of_it : (h : Holder) → status runs h ≡ Status.unarrived → own h moves ≡ []
   none_of_it h unseen = unseen_is_unmoved (is_in runs g) cancels runs moves so_far.each so_far.others h unseen
 
-  -- one that has arrived is of the group
+  -- a holder that has arrived is in the group
   arrived_in_it : (h : Holder) → has_arrived h moves ≡ true → is_in runs g h ≡ true
   arrived_in_it h arrives =
       elim (is_in runs g h) as (λ b. is_in runs g h ≡ b → b ≡ true) [

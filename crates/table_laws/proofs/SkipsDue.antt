@@ -1,4 +1,4 @@
--- Every step keeps what was decided of jobs, so it holds in each table that commands lead to.
+-- Every step preserves what was decided about jobs, so it holds in each table that commands reach.
 use Rattle.std.specs.Prelude.{◌≡◌, ℕ, ◌+◌, ◌-◌, List, [], ◌∷◌, ◌++◌, length, Option, Some, None, option_map, option_and_then, slice_get}
 use Rattle.std.specs.Prelude.{true, false, if◌then◌else◌, refl}
 use Rattle.std.specs.Option.{option_map_or}
@@ -15,40 +15,41 @@ use Rattle.run_plan.specs.declared.command.Done.{Done as Reported}
 use Rattle.run_plan.specs.declared.command.Command.{Command}
 use Rattle.run_plan.specs.declared.command.Command.TheVariants as command
 use Rattle.run_plan.specs.declared.reply.Reply.{Reply}
-use Rattle.workflow_runs.specs.Fitting.{first_fit, place_of_lease}
+use Rattle.run_states.specs.Fitting.{first_fit, place_of_lease}
 use Rattle.run_table.specs.Histories.{after}
-use Rattle.workflow_runs.specs.Moves.{Holder}
 use Rattle.run_table.specs.TableState.{Step, TableState}
-use Rattle.workflow_runs.specs.Places.{LegPlace, run_at, with_job, with_leg, with_run}
-use Rattle.workflow_runs.specs.Rules.{leg_in_phase}
+use Rattle.run_states.specs.Places.{run_at, with_job, with_leg, with_run}
+use Rattle.run_states.specs.declared.place.LegPlace.{LegPlace}
+use Rattle.run_states.specs.Rules.{leg_in_phase}
 use Rattle.run_table.specs.Sound.{IsSound}
 use Rattle.run_table.specs.Step.{empty, entered, unchanged, admission_answer, admitting, admitted, claim_answer, leasing}
-use Rattle.workflow_runs.specs.NewRun.{again, new_run, leased_leg}
+use Rattle.run_states.specs.NewRun.{again, new_run, leased_leg}
 use Rattle.run_table.specs.Step.{entered_again, rerun, rerun_answer, rerunning}
 use Rattle.run_table.specs.Step.{serving_nothing, claiming, claimed, report_answer, reporting, reported, stepped}
-use Rattle.workflow_runs.specs.StopMoves.{with_ended}
+use Rattle.run_states.specs.StopMoves.{with_ended}
 use Rattle.run_table.specs.Step.{cancel_answer, cancelling, cancelled, losing, lost, refused, released}
-use Rattle.workflow_runs.specs.Stops.{after_end, outcome_of_loss, stopped_run, stops_others, with_stopped_legs}
-use Rattle.workflow_runs.specs.RunState.{JobState, RunState}
+use Rattle.run_states.specs.RunState.{JobState, RunState}
+use Rattle.run_states.specs.Stops.{after_end, outcome_of_loss, stopped_run, stops_others, with_stopped_legs}
 use Rattle.run_table.specs.Turns.{runner_named}
-use Rattle.workflow_runs.specs.declared.phases.LegPhase.TheVariants as leg
+use Rattle.run_states.specs.declared.phases.LegPhase.TheVariants as leg
 use Rattle.run_table.proofs.AdmitKeeps.{all_fit, job_is_blocked}
 use Rattle.run_table.proofs.ClaimKeeps.{leasing_keeps}
 use Rattle.run_table.proofs.Entered.{entered_settles}
 use Rattle.run_table.proofs.EnteredAgain.{again_fits, entered_again_settles}
-use Rattle.workflow_runs.proofs.Changed.{at_another, at_changed}
-use Rattle.workflow_runs.proofs.Found.{at_the_end, before_the_end}
-use Rattle.workflow_runs.proofs.JobKeeps.{job_in}
+use Rattle.run_states.proofs.Changed.{at_another, at_changed}
+use Rattle.run_states.proofs.Found.{at_the_end, before_the_end}
+use Rattle.run_states.proofs.JobKeeps.{job_in}
 use Rattle.run_table.proofs.Kept.{kept_from_sound}
-use Rattle.workflow_runs.proofs.NeedsSettled.{result_in}
+use Rattle.run_states.proofs.NeedsSettled.{result_in}
 use Rattle.run_table.proofs.ReportKeeps.{loss_keeps, report_keeps}
-use Rattle.workflow_runs.proofs.RunFits.{job_in_run}
+use Rattle.run_states.proofs.RunFits.{job_in_run}
 use Rattle.run_table.proofs.StepKeeps.{empty_is_sound, run_to_cancel, stepped_is_sound}
-use Rattle.workflow_runs.proofs.StopKeeps.{stopped_run_settles}
+use Rattle.run_states.proofs.StopKeeps.{stopped_run_settles}
 use Rattle.table_laws.specs.Skips.{SkipsAreDue}
 use Rattle.table_laws.proofs.Decided.{JobDecided, Decided, decided_stays, job_change_decided, leg_change_decided}
 use Rattle.table_laws.proofs.RulesDecided.{arrival_decided, settled_decided}
 use Rattle.table_laws.proofs.StopDecided.{stopped_decided}
+use Rattle.run_states.specs.declared.holder.Holder.TheVariants.{Run}
 
 -- ---- a new run
 
@@ -101,7 +102,7 @@ module _ (runs : List RunState) (r : ℕ) (all : Decided runs) where
 
 -- ---- the steps
 
--- a command is answered from the table as it is, or changes it
+-- a command is answered from the table as it is, or changes the table
 answered_or_changed : (t : TableState) (answer : Option Reply) (change : Step) → Decided t.runs
     → (answer ≡ None → Decided change.table.runs) → Decided (option_map_or (unchanged t) answer change).table.runs
 answered_or_changed t None change all h = h refl
@@ -113,7 +114,7 @@ admitted_decided t event s all =
     (λ none.
     let fit = (kept_from_sound t s).fit in
     settled_decided (entered t event).runs (entered_settles t event fit).stay.fit
-    (arrival_decided (Holder.a_run (length t.runs)) (t.runs ++ new_run event ∷ []) (all_fit t.runs event fit)
+    (arrival_decided (Run (length t.runs)) (t.runs ++ new_run event ∷ []) (all_fit t.runs event fit)
     (new_run_decided t.runs event all)))
 
 claiming_decided : (t : TableState) (claim : Claimed) → IsSound t → Decided t.runs → claim_answer t claim ≡ None
@@ -165,7 +166,7 @@ rerun_decided t asked s all =
     let fit = (kept_from_sound t s).fit in
     answered_or_changed t (rerun_answer t asked) (rerunning t asked) all
     (λ none. settled_decided (entered_again t r).runs (entered_again_settles t r fit).stay.fit
-    (arrival_decided (Holder.a_run r) (with_run r again t.runs) (again_fits t.runs r fit) (again_decided t.runs r all)))
+    (arrival_decided (Run r) (with_run r again t.runs) (again_fits t.runs r fit) (again_decided t.runs r all)))
 
 lost_decided : (t : TableState) (name : List ℕ) → IsSound t → Decided t.runs → Decided (lost t name).table.runs
 lost_decided t name s all =

@@ -1,4 +1,4 @@
--- Each step keeps the law of every group.
+-- Each step preserves the law of every group.
 use Rattle.std.specs.Prelude.{◌≡◌, ◌⊎◌, ℕ, ◌+◌, ◌-◌, List, [], ◌∷◌, ◌++◌, length, Bool, true, false, Option, Some, None}
 use Rattle.std.specs.Prelude.{option_map}
 use Rattle.std.specs.Prelude.{slice_get, if◌then◌else◌, refl}
@@ -20,47 +20,48 @@ use Rattle.run_plan.specs.declared.planned.PlannedJob.{PlannedJob}
 use Rattle.run_plan.specs.declared.reply.Reply.{Reply}
 use Rattle.run_plan.specs.declared.reply.Reply.TheVariants as reply
 use Rattle.wf_value.specs.declared.code.Code.TheVariants.{LeaseNotHeld, NoRunner}
-use Rattle.workflow_runs.specs.Fitting.{first_fit, has_lease, place_of_lease}
-use Rattle.workflow_runs.specs.GroupOf.{cancels_in_progress}
-use Rattle.workflow_runs.specs.Groups.{HasOneEach, holds, is_in, leg_holds}
-use Rattle.workflow_runs.specs.Moves.{Holder, Move, Transition, without_moves}
+use Rattle.run_states.specs.Fitting.{first_fit, has_lease, place_of_lease}
+use Rattle.run_states.specs.GroupOf.{cancels_in_progress}
+use Rattle.run_states.specs.Groups.{HasOneEach, holds, is_in, leg_holds}
+use Rattle.run_states.specs.Moves.{Move, Transition, without_moves}
 use Rattle.run_table.specs.TableState.{Step, RunnerState, TableState}
-use Rattle.workflow_runs.specs.Parallel.{is_at_work}
-use Rattle.workflow_runs.specs.Places.{LegPlace, job_at, leg_at, leg_places, run_at, with_job, with_leg}
-use Rattle.workflow_runs.specs.Settling.{remaining_phases, settled, settling}
+use Rattle.run_states.specs.Parallel.{is_at_work}
+use Rattle.run_states.specs.Places.{job_at, leg_at, leg_places, run_at, with_job, with_leg}
+use Rattle.run_states.specs.declared.place.LegPlace.{LegPlace}
+use Rattle.run_states.specs.Settling.{remaining_phases, settled, settling}
 use Rattle.run_table.specs.Sound.{IsSound}
-use Rattle.workflow_runs.specs.StateWords.{leg_has_ended, leg_in_phase}
+use Rattle.run_states.specs.StateWords.{leg_has_ended, leg_in_phase}
 use Rattle.run_table.specs.Step.{admission_answer, admitted, admitting, at_rest_after, cancel_answer, cancelled}
-use Rattle.workflow_runs.specs.NewRun.{blocked_job, leased_leg, new_run}
+use Rattle.run_states.specs.NewRun.{blocked_job, leased_leg, new_run}
 use Rattle.run_table.specs.Step.{cancelling, claim_answer, claimed, claiming, claiming_runner, entered, kept_lease_at, lease_at, leasing, losing, lost}
-use Rattle.workflow_runs.specs.StopMoves.{lease_end_moves, with_ended, end_moves, legs_stop_moves, others_stop_moves, stop_holder}
+use Rattle.run_states.specs.StopMoves.{lease_end_moves, with_ended, end_moves, legs_stop_moves, others_stop_moves, stop_holder}
 use Rattle.run_table.specs.Step.{refused, released, report_answer, reported, reporting, reporting_runner, rerun, rerun_answer, rerunning}
 use Rattle.run_table.specs.Step.{serving_nothing, stepped}
 use Rattle.run_table.specs.Step.{unchanged}
-use Rattle.workflow_runs.specs.Stops.{after_end, outcome_of_loss, stops_others, with_stopped_legs}
-use Rattle.workflow_runs.specs.RunState.{RunState}
+use Rattle.run_states.specs.RunState.{RunState}
+use Rattle.run_states.specs.Stops.{after_end, outcome_of_loss, stops_others, with_stopped_legs}
 use Rattle.run_table.specs.Turns.{runner_named, with_runner}
-use Rattle.workflow_runs.specs.declared.phases.LegPhase.{LegPhase}
-use Rattle.workflow_runs.specs.declared.phases.LegPhase.TheVariants as leg
+use Rattle.run_states.specs.declared.phases.LegPhase.{LegPhase}
+use Rattle.run_states.specs.declared.phases.LegPhase.TheVariants as leg
 use Rattle.run_table.proofs.AdmitKeeps.{all_fit}
 use Rattle.run_table.proofs.BeginsAgain.{BeginsAgain, begins_again}
 use Rattle.run_table.proofs.ClaimKeeps.{fitting_leg}
 use Rattle.run_table.proofs.CommandsOneEach.{ended_one_each, leased_fades, leased_one_each, stopped_one_each}
 use Rattle.run_table.proofs.Entered.{entered_keeps, entered_one_each, entered_settles, groups_before, held, new_run_waits, waited}
-use Rattle.workflow_runs.proofs.Found.{at_the_end, before_the_end, find_passes}
+use Rattle.run_states.proofs.Found.{at_the_end, before_the_end, find_passes}
+use Rattle.run_states.proofs.JobKeeps.{leg_elsewhere, leg_in, leg_now, leg_stays}
 use Rattle.workflow_runs.proofs.HoldersFade.{leg_fades, leg_passes, legs_stop_fades, passes}
 use Rattle.workflow_runs.proofs.HoldersKeep.{run_stop_settles}
-use Rattle.workflow_runs.proofs.JobKeeps.{leg_elsewhere, leg_in, leg_now, leg_stays}
 use Rattle.run_table.proofs.Kept.{kept_from_sound}
-use Rattle.workflow_runs.proofs.LegReads.{had_at, had_is, leg_from_works, work_parts, works_at}
+use Rattle.run_states.proofs.LegReads.{had_at, had_is, leg_from_works, work_parts, works_at}
 use Rattle.workflow_runs.proofs.OneEach.{Comes}
 use Rattle.run_table.proofs.ReportKeeps.{has_it, held_for_loss, held_for_report, loss_keeps, loss_stays, report_keeps, report_stays}
 use Rattle.run_table.proofs.ReportKeeps.{work_at}
-use Rattle.workflow_runs.proofs.RunFits.{RunsFit}
+use Rattle.run_states.proofs.RunFits.{RunsFit}
 use Rattle.run_table.proofs.RunnerPut.{stood}
-use Rattle.workflow_runs.proofs.Settles.{StayFit}
-use Rattle.workflow_runs.proofs.SettlingKeeps.{settling_settles}
+use Rattle.run_states.proofs.Settles.{StayFit}
 use Rattle.workflow_runs.proofs.ArrivalKeeps.{itself}
+use Rattle.workflow_runs.proofs.SettlingKeeps.{settling_settles}
 use Rattle.table_laws.proofs.ChangesTold.{leg_tells, legs_stop_tells, only_none, only_one}
 use Rattle.table_laws.proofs.GroupsKept.{Grows, grows_not, grows_on, new_run_grows, past_the_end, stays_grows}
 use Rattle.table_laws.proofs.HolderStatus.{Goes, Status, ends_at_once, goes_over, goes_to_arrive, leg_status, status, status_by}
@@ -72,6 +73,8 @@ use Rattle.table_laws.proofs.OwnMoves.{own}
 use Rattle.table_laws.proofs.RulesLaw.{first_arrival_keeps, settled_keeps}
 use Rattle.table_laws.proofs.StopsTold.{Tells, goes_by, goes_same}
 use Rattle.table_laws.proofs.Unbegun.{Still, leg_still, legs_all_still, new_run_still}
+use Rattle.run_states.specs.declared.holder.Holder.{Holder}
+use Rattle.run_states.specs.declared.holder.Holder.TheVariants.{Run, Leg}
 
 -- ---- a new run
 
@@ -84,17 +87,17 @@ no_leg_yet j l event = ap (status_by (status_in_job l)) (slice_get-map (λ _. bl
     none (Some planned) = refl
 
 module _ (runs : List RunState) (event : Admitted) where
-  new_is_unseen : status runs (Holder.a_run (length runs)) ≡ Status.unarrived
+  new_is_unseen : status runs (Run (length runs)) ≡ Status.unarrived
   new_is_unseen = ap (status_by status_of_run) (past_the_end runs (length runs) refl)
 
-  new_run_tells : Tells runs (record { runs = runs ++ new_run event ∷ []; moves = Move.arrive (Holder.a_run (length runs)) ∷ [] })
-  new_run_tells (Holder.a_run r) =
+  new_run_tells : Tells runs (record { runs = runs ++ new_run event ∷ []; moves = Move.arrive (Run (length runs)) ∷ [] })
+  new_run_tells (Run r) =
       let next = runs ++ new_run event ∷ [] in
-      let n = Holder.a_run (length runs) in
+      let n = Run (length runs) in
       let arrives : List Move = Move.arrive n ∷ [] in
       elim (cases_eq r (length runs)) [
-        | inl same ↦ subst (λ (k : ℕ). Goes (Holder.a_run k) (status runs (Holder.a_run k)) (own (Holder.a_run k) arrives) (status next
-            (Holder.a_run k)))
+        | inl same ↦ subst (λ (k : ℕ). Goes (Run k) (status runs (Run k)) (own (Run k) arrives) (status next
+            (Run k)))
             (sym same)
             (goes_by n (status runs n) (status next n) (own n arrives) arrives (sym (ap (λ b. if b then arrives else []) (itself n)))
             (subst (λ (s : Status). Goes n s arrives (status next n)) (sym new_is_unseen)
@@ -102,17 +105,17 @@ module _ (runs : List RunState) (event : Admitted) where
             (new_run event))))
             (goes_to_arrive n))))
         | inr other ↦
-            let h = Holder.a_run r in
+            let h = Run r in
             goes_by h (status runs h) (status next h) (own h arrives) [] (sym (only_one n (Move.arrive n) refl h (λ e. other (run_is r e))))
             (goes_same h (status runs h) (status next h) (ap (status_by status_of_run) (before_the_end runs (new_run event) r other)))
       ]
     where
-      run_is : (r : ℕ) → Holder.a_run r ≡ Holder.a_run (length runs) → r ≡ length runs
+      run_is : (r : ℕ) → Run r ≡ Run (length runs) → r ≡ length runs
       run_is r e = cc
-  new_run_tells (Holder.a_leg q) =
+  new_run_tells (Leg q) =
       let next = runs ++ new_run event ∷ [] in
-      let n = Holder.a_run (length runs) in
-      let h = Holder.a_leg q in
+      let n = Run (length runs) in
+      let h = Leg q in
       let arrives : List Move = Move.arrive n ∷ [] in
       goes_by h (status runs h) (status next h) (own h arrives) [] (sym (only_one n (Move.arrive n) refl h (λ e. cc)))
       (goes_same h (status runs h) (status next h) (status_by_run next q ∙ same_leg q ∙ sym (status_by_run runs q)))
@@ -129,7 +132,7 @@ module _ (runs : List RunState) (event : Admitted) where
             | inr other ↦ ap of_leg (before_the_end runs (new_run event) q.run other)
           ]
 
--- ---- the leg of a lease ends
+-- ---- the leg with a lease ends
 
 at_work_holds : (phase : LegPhase) → is_at_work phase ≡ true → leg_holds phase ≡ true
 at_work_holds leg.New e = cc
@@ -141,15 +144,15 @@ at_work_holds (leg.Ended r) e = cc
 
 module _ (in_group cancels : Holder → Bool) (runs : List RunState) (p : LegPlace) (o : Outcome) (lease : ℕ) (works : works_at runs p
     ≡ Some lease) where
-  it_holds : holds runs (Holder.a_leg p) ≡ true
+  it_holds : holds runs (Leg p) ≡ true
   it_holds =
       let from = leg_from_works runs p lease works in
       ap (passes (leg_passes leg_holds)) from.is
       ∙ at_work_holds from.value.phase (work_parts (is_at_work from.value.phase) from.value.lease lease from.gives).0
 
-  end_tells : Tells runs (record { runs = with_leg p (leg_in_phase (leg.Ended o)) runs; moves = Move.end_with o (Holder.a_leg p) ∷ [] })
+  end_tells : Tells runs (record { runs = with_leg p (leg_in_phase (leg.Ended o)) runs; moves = Move.end_with o (Leg p) ∷ [] })
   end_tells =
-      let h = Holder.a_leg p in
+      let h = Leg p in
       let ends : List Move = Move.end_with o h ∷ [] in
       let from = leg_from_works runs p lease works in
       leg_tells p (leg_in_phase (leg.Ended o)) runs ends
@@ -168,11 +171,11 @@ module _ (in_group cancels : Holder → Bool) (runs : List RunState) (p : LegPla
       (sym (at_work_holds z.phase (work_parts (is_at_work z.phase) z.lease lease from.gives).0) ∙ before))
 
   end_goes_on : GoesOn in_group cancels runs
-      (record { runs = with_leg p (leg_in_phase (leg.Ended o)) runs; moves = Move.end_with o (Holder.a_leg p) ∷ [] })
+      (record { runs = with_leg p (leg_in_phase (leg.Ended o)) runs; moves = Move.end_with o (Leg p) ∷ [] })
   end_goes_on =
       let next = with_leg p (leg_in_phase (leg.Ended o)) runs in
-      quiet_goes_on in_group cancels runs (record { runs = next; moves = Move.end_with o (Holder.a_leg p) ∷ [] })
-      (end_is_quiet in_group cancels runs next o (Holder.a_leg p) end_tells
+      quiet_goes_on in_group cancels runs (record { runs = next; moves = Move.end_with o (Leg p) ∷ [] })
+      (end_is_quiet in_group cancels runs next o (Leg p) end_tells
       (leg_fades (leg_in_phase (leg.Ended o)) p runs (λ v e. absurd (false≢true e))
       (λ v e. absurd (false≢true e))).waited end_still it_holds)
 
@@ -187,10 +190,10 @@ module _ (in_group cancels : Holder → Bool) (runs : List RunState) (p : LegPla
       (λ b. GoesOn in_group cancels runs (record {
         runs = if b then with_job p.run p.job with_stopped_legs ended else ended;
         moves =
-            Move.end_with o (Holder.a_leg p) ∷ (if b then others_stop_moves p o runs else []);
+            Move.end_with o (Leg p) ∷ (if b then others_stop_moves p o runs else []);
       })) [
         | true ↦
-            goes_on_then in_group cancels runs (record { runs = ended; moves = Move.end_with o (Holder.a_leg p) ∷ [] }) change end_goes_on
+            goes_on_then in_group cancels runs (record { runs = ended; moves = Move.end_with o (Leg p) ∷ [] }) change end_goes_on
             (quiet_goes_on in_group cancels ended (change ended)
             (stops_are_quiet in_group cancels ended (change ended) (legs_stop_tells p.run p.job ended) (job_stops p.run p.job ended)
             (legs_stop_fades p.run p.job ended).waited (legs_all_still ended p.run p.job)))
@@ -211,7 +214,7 @@ lease_end_goes_on in_group cancels runs lease o works =
       | Some p ↦ λ is. after_end_goes_on in_group cancels runs p o lease (works p is)
     ] refl
 
--- the leg of a lease that a runner holds is at work
+-- the leg with a lease that a runner holds is at work
 found_has : (runs : List RunState) (lease : ℕ) (p : LegPlace) → place_of_lease runs lease ≡ Some p → had_at runs p ≡ Some lease
 found_has runs lease p is =
     sym (had_is runs p)
@@ -221,7 +224,7 @@ found_has runs lease p is =
 -- ---- the steps
 
 module _ (g : Group) where
-  -- the groups, and who cancels what is in progress, are those of the table after the step
+  -- the groups, and which holders cancel what is in progress, are those of the table after the step
   abbrev GoesOnTo : List RunState → List RunState → Transition → Type 0
   GoesOnTo reached runs m =
       (cancels : Holder → Bool) → ((h : Holder) → cancels h ≡ true → cancels_in_progress reached h ≡ true)
@@ -234,7 +237,7 @@ module _ (g : Group) where
     pub begins : BeginsAgain t.runs (asked.run - 1) asked.attempt
     pub is : s ≡ rerunning t asked
 
-  -- and one in which none does
+  -- a step in which no run begins again
   pub record StepSays (t : TableState) (s : Step) : Type 0 where
     pub grows : Grows t.runs s.table.runs
     pub goes_on : GoesOnTo s.table.runs t.runs (record { runs = s.table.runs; moves = s.moves })
@@ -242,7 +245,7 @@ module _ (g : Group) where
   unchanged_says : (t : TableState) (r : Reply) → StepSays t (unchanged t r)
   unchanged_says t r = record { grows = grows_not t.runs; goes_on = (λ cancels asks. goes_on_still (is_in t.runs g) cancels t.runs) }
 
-  -- a change, and then settling
+  -- a change followed by settling
   rest_says : (t u : TableState) (moves : List Move) (r : Reply) → RunsFit u.runs → HasOneEach u.runs → Grows t.runs u.runs
       → GoesOnTo (settled u.runs) t.runs (record { runs = u.runs; moves = moves })
       → StepSays t (at_rest_after moves u r)
@@ -265,7 +268,7 @@ module _ (g : Group) where
       either_says t (admission_answer t event) (admitting t event) (λ none.
       let kept = kept_from_sound t s in
       let now = t.runs ++ new_run event ∷ [] in
-      let n = Holder.a_run (length t.runs) in
+      let n = Run (length t.runs) in
       let u = record t { runs = (entered t event).runs } in
       let fit_u = (entered_keeps t event kept none).fit in
       let entry = stays_grows now u.runs (entered_settles t event kept.fit).stay in
@@ -293,9 +296,9 @@ module _ (g : Group) where
       let stay = leg_stays t.runs kept.fit p z (λ _. leased_leg lease) place unended refl in
       let tells : Tells t.runs (without_moves next) =
       leg_tells p (λ _. leased_leg lease) t.runs []
-      (λ y at. goes_same (Holder.a_leg p) (status_of_leg y) (Status.running false)
+      (λ y at. goes_same (Leg p) (status_of_leg y) (Status.running false)
       (sym (ap status_of_leg (same_Some y z (sym at ∙ ready.is)) ∙ ap leg_status ready.ready))) (λ nothing. refl) (only_none
-      (Holder.a_leg p)) in
+      (Leg p)) in
       rest_says t (record {
         last_lease = lease;
         runs = next;
@@ -344,7 +347,7 @@ module _ (g : Group) where
   cancel_says t id s =
       either_says t (cancel_answer t id) (cancelling t id) (λ none.
       let kept = kept_from_sound t s in
-      let h = Holder.a_run (id - 1) in
+      let h = Run (id - 1) in
       let stop = run_stop_settles t.runs (id - 1) kept.fit in
       let next = (stop_holder h t.runs).runs in
       rest_says t (record t { runs = next }) (stop_holder h t.runs).moves reply.Ok stop.stay.fit

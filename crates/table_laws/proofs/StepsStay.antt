@@ -1,4 +1,5 @@
--- What each step but that of a re-run keeps of the runs: they stay, each with what was admitted for it, at its attempt; others come behind them.
+-- What each step except a re-run keeps about the runs: each run keeps its index, what was admitted for it, and its attempt. New runs are
+-- added at the end.
 use Rattle.std.proofs.Common.{◌≡◌, ℕ, ◌+◌, ◌-◌, List, [], ◌∷◌, ◌++◌, length, map, refl, sym, ◌∙◌}
 use Rattle.std.specs.Prelude.{Option, Some, None}
 use Rattle.std.specs.Option.{option_map_or}
@@ -10,20 +11,20 @@ use Rattle.run_plan.specs.declared.command.Claim.{Claim as Claimed}
 use Rattle.run_plan.specs.declared.command.Command.{Command}
 use Rattle.run_plan.specs.declared.command.Command.TheVariants as command
 use Rattle.run_plan.specs.declared.reply.Reply.{Reply}
-use Rattle.workflow_runs.specs.Fitting.{first_fit}
-use Rattle.workflow_runs.specs.Moves.{Holder}
-use Rattle.workflow_runs.specs.NewRun.{leased_leg, new_run}
-use Rattle.workflow_runs.specs.Places.{with_leg}
-use Rattle.workflow_runs.specs.RunState.{LegState, RunState}
-use Rattle.workflow_runs.specs.Settling.{settled}
-use Rattle.workflow_runs.specs.StopMoves.{with_ended, stop_holder}
-use Rattle.workflow_runs.specs.Stops.{outcome_of_loss}
+use Rattle.run_states.specs.Fitting.{first_fit}
+use Rattle.run_states.specs.NewRun.{leased_leg, new_run}
+use Rattle.run_states.specs.Places.{with_leg}
+use Rattle.run_states.specs.RunState.{LegState, RunState}
+use Rattle.run_states.specs.Settling.{settled}
+use Rattle.run_states.specs.StopMoves.{with_ended, stop_holder}
+use Rattle.run_states.specs.Stops.{outcome_of_loss}
 use Rattle.run_table.specs.Step.{admission_answer, admitting, cancel_answer, cancelling, claim_answer, claiming, entered}
 use Rattle.run_table.specs.Step.{leasing, losing, lost, refused, released, report_answer, reporting, serving_nothing}
 use Rattle.run_table.specs.Step.{stepped, unchanged}
 use Rattle.run_table.specs.TableState.{Step, TableState}
 use Rattle.run_table.specs.Turns.{runner_named}
 use Rattle.table_laws.proofs.RunsStay.{IsOfCourse, arrived_stays, ended_stays, leg_stays, settled_stays, stop_stays}
+use Rattle.run_states.specs.declared.holder.Holder.TheVariants.{Run}
 
 abbrev pub IsNoRerun : Command → Type 0
 IsNoRerun (command.Rerun asked) = ⊥
@@ -33,7 +34,7 @@ module _ {X : Type 0} (read : RunState → X) (of_course : IsOfCourse read) wher
   abbrev reads : List RunState → List X
   reads runs = map read runs
 
-  -- what is read of the runs of the one table is the first of what is read of the other's
+  -- the values read from the runs of the first table are a prefix of those of the second
   abbrev pub Keeps : TableState → TableState → Type 0
   Keeps t next = (more : List X) × (reads next.runs ≡ reads t.runs ++ more)
 
@@ -51,7 +52,7 @@ module _ {X : Type 0} (read : RunState → X) (of_course : IsOfCourse read) wher
   pub entered_stays : (t : TableState) (event : Admitted) → reads (admitting t event).table.runs ≡ reads t.runs ++ read (new_run event) ∷ []
   entered_stays t event =
       let more = t.runs ++ new_run event ∷ [] in
-      settled_stays read of_course (entered t event).runs ∙ arrived_stays read of_course (Holder.a_run (length t.runs)) more
+      settled_stays read of_course (entered t event).runs ∙ arrived_stays read of_course (Run (length t.runs)) more
       ∙ map-append read t.runs (new_run event ∷ [])
 
   admits : (t : TableState) (event : Admitted) → Keeps t (admitting t event).table
@@ -69,8 +70,8 @@ module _ {X : Type 0} (read : RunState → X) (of_course : IsOfCourse read) wher
   ends : (t : TableState) (lease : ℕ) (outcome : Outcome) → reads (settled (with_ended lease outcome t.runs)) ≡ reads t.runs
   ends t lease outcome = settled_stays read of_course (with_ended lease outcome t.runs) ∙ ended_stays read of_course lease outcome t.runs
 
-  cancels : (t : TableState) (id : ℕ) → reads (settled (stop_holder (Holder.a_run (id - 1)) t.runs).runs) ≡ reads t.runs
-  cancels t id = settled_stays read of_course (stop_holder (Holder.a_run (id - 1)) t.runs).runs ∙ stop_stays read of_course (Holder.a_run (id - 1)) t.runs
+  cancels : (t : TableState) (id : ℕ) → reads (settled (stop_holder (Run (id - 1)) t.runs).runs) ≡ reads t.runs
+  cancels t id = settled_stays read of_course (stop_holder (Run (id - 1)) t.runs).runs ∙ stop_stays read of_course (Run (id - 1)) t.runs
 
   loses : (t : TableState) (name : List ℕ) → Keeps t (lost t name).table
   loses t name =
@@ -85,7 +86,7 @@ module _ {X : Type 0} (read : RunState → X) (of_course : IsOfCourse read) wher
             ]
       ]
 
-  -- a step of any command but a re-run
+  -- a step of any command except a re-run
   pub step_stays : (t : TableState) (c : Command) → IsNoRerun c → Keeps t (stepped t c).table
   step_stays t (command.Admit event) other = answered t (admission_answer t event) (admitting t event) (admits t event)
   step_stays t (command.Claim claim) other = answered t (claim_answer t claim) (claiming t claim) (claims t claim)

@@ -1,4 +1,4 @@
--- The stop of a run keeps what was decided of jobs: once all jobs of a run have settled, so have their needs.
+-- The stop of a run preserves what was decided about jobs: once all jobs of a run have finished, so have their needs.
 use Rattle.std.specs.Prelude.{◌≡◌, ℕ, zero, suc, ◌+◌, ◌<◌, ◌&&◌, List, [], ◌∷◌, map, filter, length, not, Bool, true, false}
 use Rattle.std.specs.Prelude.{Option, Some, option_map, slice_get, if◌then◌else◌, refl}
 use Rattle.std.specs.List.{enumerate_from, slice_index_or}
@@ -10,24 +10,24 @@ use Rattle.wf_value.specs.declared.outcome.JobResult.{JobResult}
 use Rattle.wf_value.specs.declared.outcome.JobResult.TheVariants as result
 use Rattle.needs_graph.specs.Ancestors.{needs_at}
 use Rattle.needs_graph.specs.JobNeeds.{JobNeeds}
-use Rattle.needs_graph.specs.Marks.{places}
+use Rattle.needs_graph.specs.JobBitmap.{places}
 use Rattle.needs_graph.specs.Needs.{is_listed, needs_of}
 use Rattle.run_plan.specs.PlanOf.{needs_listed, needs_of_planned, plan_of}
-use Rattle.workflow_runs.specs.Places.{run_at, job_at, with_run}
-use Rattle.workflow_runs.specs.Rules.{is_open, settled_as}
-use Rattle.workflow_runs.specs.Stops.{cancelled, stopped_in, stopped_run, stopped_where, told_to_stop, with_stopped_legs}
-use Rattle.workflow_runs.specs.RunState.{JobState, RunState}
-use Rattle.workflow_runs.specs.WithinRun.{may_run_in, needs_settled_in}
-use Rattle.workflow_runs.specs.Words.{all_have_results, needs_have_settled, results_so_far}
-use Rattle.workflow_runs.specs.declared.phases.JobPhase.{JobPhase}
-use Rattle.workflow_runs.specs.declared.phases.RunPhase.{RunPhase}
-use Rattle.workflow_runs.specs.declared.phases.RunPhase.TheVariants as run
-use Rattle.workflow_runs.proofs.Changed.{at_changed, holds_of_each}
-use Rattle.workflow_runs.proofs.JobKeeps.{job_in}
-use Rattle.workflow_runs.proofs.NeedsSettled.{needs_by_run}
-use Rattle.workflow_runs.proofs.Optional.{from_map}
-use Rattle.workflow_runs.proofs.RunFits.{RunsFit, job_in_run}
-use Rattle.workflow_runs.proofs.StopKeeps.{get_placed, stopped_run_settles}
+use Rattle.run_states.specs.Places.{run_at, job_at, with_run}
+use Rattle.run_states.specs.Rules.{is_open, settled_as}
+use Rattle.run_states.specs.RunState.{JobState, RunState}
+use Rattle.run_states.specs.Stops.{cancelled, stopped_in, stopped_run, stopped_where, told_to_stop, with_stopped_legs}
+use Rattle.run_states.specs.WithinRun.{may_run_in, needs_settled_in}
+use Rattle.run_states.specs.Words.{all_have_results, needs_have_settled, results_so_far}
+use Rattle.run_states.specs.declared.phases.JobPhase.{JobPhase}
+use Rattle.run_states.specs.declared.phases.RunPhase.{RunPhase}
+use Rattle.run_states.specs.declared.phases.RunPhase.TheVariants as run
+use Rattle.run_states.proofs.Changed.{at_changed, holds_of_each}
+use Rattle.run_states.proofs.JobKeeps.{job_in}
+use Rattle.run_states.proofs.NeedsSettled.{needs_by_run}
+use Rattle.run_states.proofs.Optional.{from_map}
+use Rattle.run_states.proofs.RunFits.{RunsFit, job_in_run}
+use Rattle.run_states.proofs.StopKeeps.{get_placed, stopped_run_settles}
 use Rattle.table_laws.proofs.AncestorsSettled.{has_result}
 use Rattle.table_laws.proofs.Decided.{JobDecided, Decided, decided_stays}
 
@@ -77,7 +77,7 @@ cancelled_needs x same j =
     needs_have (needs_listed plan) (results_so_far (map (settled_as result.Cancelled) x.jobs))
     (λ k below. settled_has x.jobs k (omega (arith, below, listed, same))) j
 
--- ---- the runs after the stop of one
+-- ---- the runs after one of them is stopped
 
 where_phase : (b : Bool) (y : JobState) → y.phase ≡ (stopped_where b y).phase
 where_phase b y =

@@ -1,4 +1,5 @@
--- A holder that has not begun: a run without legs, which ends with all its jobs cancelled; a leg without a lease, which ends as cancelled.
+-- A holder that has not begun: a run without legs, which ends with all its jobs cancelled, or a leg without a lease, which ends as
+-- cancelled.
 use Rattle.std.specs.Prelude.{◌≡◌, ℕ, zero, suc, List, [], ◌∷◌, ◌++◌, ◌&&◌, length, map, not, replicate, Bool, true, false, Option}
 use Rattle.std.specs.Prelude.{Some, None}
 use Rattle.std.specs.Prelude.{option_map, option_and_then, slice_get, if◌then◌else◌, refl}
@@ -10,35 +11,38 @@ use Rattle.wf_value.specs.declared.outcome.JobResult.TheVariants as result
 use Rattle.wf_value.specs.declared.outcome.Outcome.{Outcome}
 use Rattle.wf_value.specs.declared.outcome.Outcome.TheVariants as outcome
 use Rattle.run_plan.specs.Admitted.{Admitted}
-use Rattle.workflow_runs.specs.FirstOf.{changed_at}
-use Rattle.workflow_runs.specs.Groups.{holds, leg_holds, leg_waits, run_waits, waits}
-use Rattle.workflow_runs.specs.Moves.{Holder, Transition, at_each}
-use Rattle.workflow_runs.specs.Places.{LegPlace, job_at, leg_at, run_at, with_job, with_leg, with_run}
-use Rattle.workflow_runs.specs.RunConditions.{may_run_in}
-use Rattle.workflow_runs.specs.Rules.{result_at}
-use Rattle.workflow_runs.specs.SoundRuns.{LeaseFits, PhaseFits}
-use Rattle.workflow_runs.specs.StateWords.{is_live, is_open, new_leg, run_in_phase, settled_as}
-use Rattle.workflow_runs.specs.NewRun.{new_run}
-use Rattle.workflow_runs.specs.StopMoves.{stop_holder}
-use Rattle.workflow_runs.specs.Stops.{cancelled, stopped, stopped_in, stopped_phase, stopped_run, stopped_where, told_to_stop}
-use Rattle.workflow_runs.specs.Stops.{with_stopped_legs}
-use Rattle.workflow_runs.specs.RunState.{LegState, JobState, RunState}
-use Rattle.workflow_runs.specs.Words.{planned_legs}
-use Rattle.workflow_runs.specs.declared.phases.JobPhase.TheVariants as job
-use Rattle.workflow_runs.specs.declared.phases.LegPhase.{LegPhase}
-use Rattle.workflow_runs.specs.declared.phases.LegPhase.TheVariants as leg
-use Rattle.workflow_runs.specs.declared.phases.RunPhase.{RunPhase}
-use Rattle.workflow_runs.specs.declared.phases.RunPhase.TheVariants as run
-use Rattle.workflow_runs.proofs.Changed.{came}
-use Rattle.workflow_runs.proofs.Found.{before_the_end}
-use Rattle.workflow_runs.proofs.JobKeeps.{with_job_of, with_leg_of}
-use Rattle.workflow_runs.proofs.JobPhases.{no_legs}
-use Rattle.workflow_runs.proofs.LeaseReads.{place_or_another}
-use Rattle.workflow_runs.proofs.Optional.{from_and_then}
-use Rattle.workflow_runs.proofs.RunFits.{RunsFit, leases_fit}
-use Rattle.workflow_runs.proofs.StopKeeps.{get_placed, where_no_legs}
+use Rattle.run_states.specs.FirstOf.{changed_at}
+use Rattle.run_states.specs.Groups.{holds, leg_holds, leg_waits, run_waits, waits}
+use Rattle.run_states.specs.Moves.{Transition, at_each}
+use Rattle.run_states.specs.NewRun.{new_run}
+use Rattle.run_states.specs.Places.{job_at, leg_at, run_at, with_job, with_leg, with_run}
+use Rattle.run_states.specs.declared.place.LegPlace.{LegPlace}
+use Rattle.run_states.specs.Rules.{result_at}
+use Rattle.run_states.specs.RunConditions.{may_run_in}
+use Rattle.run_states.specs.RunState.{LegState, JobState, RunState}
+use Rattle.run_states.specs.SoundRuns.{LeaseFits, PhaseFits}
+use Rattle.run_states.specs.StateWords.{is_live, is_open, new_leg, run_in_phase, settled_as}
+use Rattle.run_states.specs.StopMoves.{stop_holder}
+use Rattle.run_states.specs.Stops.{cancelled, stopped, stopped_in, stopped_phase, stopped_run, stopped_where, told_to_stop}
+use Rattle.run_states.specs.Stops.{with_stopped_legs}
+use Rattle.run_states.specs.Words.{planned_legs}
+use Rattle.run_states.specs.declared.phases.JobPhase.TheVariants as job
+use Rattle.run_states.specs.declared.phases.LegPhase.{LegPhase}
+use Rattle.run_states.specs.declared.phases.LegPhase.TheVariants as leg
+use Rattle.run_states.specs.declared.phases.RunPhase.{RunPhase}
+use Rattle.run_states.specs.declared.phases.RunPhase.TheVariants as run
+use Rattle.run_states.proofs.Changed.{came}
+use Rattle.run_states.proofs.Found.{before_the_end}
+use Rattle.run_states.proofs.JobKeeps.{with_job_of, with_leg_of}
+use Rattle.run_states.proofs.JobPhases.{no_legs}
+use Rattle.run_states.proofs.LeaseReads.{place_or_another}
+use Rattle.run_states.proofs.Optional.{from_and_then}
+use Rattle.run_states.proofs.RunFits.{RunsFit, leases_fit}
+use Rattle.run_states.proofs.StopKeeps.{get_placed, where_no_legs}
+use Rattle.run_states.specs.declared.holder.Holder.{Holder}
+use Rattle.run_states.specs.declared.holder.Holder.TheVariants.{Run, Leg}
 
--- ---- what has not begun
+-- ---- holders that have not begun
 
 pub record RunUnbegun (x : RunState) : Type 0 where
   pub no_legs : (j : ℕ) (y : JobState) → slice_get x.jobs j ≡ Some y → y.legs ≡ []
@@ -48,19 +52,19 @@ pub record LegUnbegun (z : LegState) : Type 0 where
   pub no_lease : z.lease ≡ None
   pub cancelled : (o : Outcome) → z.phase ≡ leg.Ended o → o ≡ outcome.Cancelled
 
--- of what is there, if anything is
+-- of the element that exists, if there is one
 abbrev pub There : {X : Type 0} → (X → Type 0) → Option X → Type 0
 There {X} P o = (x : X) → o ≡ Some x → P x
 
 abbrev pub Unbegun : List RunState → Holder → Type 0
-Unbegun runs (Holder.a_run r) = There RunUnbegun (run_at runs r)
-Unbegun runs (Holder.a_leg p) = There LegUnbegun (leg_at runs p)
+Unbegun runs (Run r) = There RunUnbegun (run_at runs r)
+Unbegun runs (Leg p) = There LegUnbegun (leg_at runs p)
 
--- a change keeps it so of those that have not begun
+-- a change keeps each holder that has not begun so, if it holds its group neither before nor after
 abbrev pub Still : List RunState → List RunState → Type 0
 Still runs next = (h : Holder) → holds runs h ≡ false → holds next h ≡ false → Unbegun runs h → Unbegun next h
 
--- and one that never lets anything begin
+-- a change keeps each holder that has not begun so
 abbrev pub AllStill : List RunState → List RunState → Type 0
 AllStill runs next = (h : Holder) → Unbegun runs h → Unbegun next h
 
@@ -91,7 +95,7 @@ back : {X Y : Type 0} (P : Y → Type 0) (f : X → Option Y) (o : Option X) →
 back P f o all y e =
     let from = from_and_then f o y e in all from.value from.is y from.gives
 
--- ---- the leg of a job, and of a run
+-- ---- the leg of a job and of a run
 
 abbrev OfJob : ℕ → JobState → Type 0
 OfJob l y = There LegUnbegun (slice_get y.legs l)
@@ -99,20 +103,20 @@ OfJob l y = There LegUnbegun (slice_get y.legs l)
 abbrev OfRun : ℕ → ℕ → RunState → Type 0
 OfRun j l x = There (OfJob l) (slice_get x.jobs j)
 
-by_run : (runs : List RunState) (q : LegPlace) → Unbegun runs (Holder.a_leg q) → There (OfRun q.job q.leg) (run_at runs q.run)
+by_run : (runs : List RunState) (q : LegPlace) → Unbegun runs (Leg q) → There (OfRun q.job q.leg) (run_at runs q.run)
 by_run runs q all =
     through (OfJob q.leg) (λ (x : RunState). slice_get x.jobs q.job) (run_at runs q.run)
     (through LegUnbegun (λ (y : JobState). slice_get y.legs q.leg) (job_at runs q.run q.job) all)
 
-of_run : (runs : List RunState) (q : LegPlace) → There (OfRun q.job q.leg) (run_at runs q.run) → Unbegun runs (Holder.a_leg q)
+of_run : (runs : List RunState) (q : LegPlace) → There (OfRun q.job q.leg) (run_at runs q.run) → Unbegun runs (Leg q)
 of_run runs q all =
     back LegUnbegun (λ (y : JobState). slice_get y.legs q.leg) (job_at runs q.run q.job)
     (back (OfJob q.leg) (λ (x : RunState). slice_get x.jobs q.job) (run_at runs q.run) all)
 
 -- ---- a change of one run
 
--- the phase of a run that is there
-live_there : (runs : List RunState) (r : ℕ) (x : RunState) → run_at runs r ≡ Some x → holds runs (Holder.a_run r) ≡ is_live x.phase
+-- the phase of a run that exists
+live_there : (runs : List RunState) (r : ℕ) (x : RunState) → run_at runs r ≡ Some x → holds runs (Run r) ≡ is_live x.phase
 live_there runs r x at = ap (λ o. option_map_or (λ (v : RunState). is_live v.phase) o false) at
 
 pub record RunStill (runs : List RunState) (r : ℕ) (f : RunState → RunState) : Type 0 where
@@ -120,7 +124,7 @@ pub record RunStill (runs : List RunState) (r : ℕ) (f : RunState → RunState)
       → RunUnbegun (f x)
   pub of_legs : (j l : ℕ) (x : RunState) → run_at runs r ≡ Some x → OfRun j l x → OfRun j l (f x)
 
--- what is read of a run that is now there
+-- reading the changed run
 now_there : (r : ℕ) (f : RunState → RunState) (runs : List RunState) (x : RunState) → run_at runs r ≡ Some x
     → run_at (with_run r f runs) r ≡ Some (f x)
 now_there zero f [] x e = cc
@@ -129,13 +133,13 @@ now_there (suc r) f [] x e = cc
 now_there (suc r) f (y ∷ ys) x e = now_there r f ys x e
 
 pub run_still : (runs : List RunState) (r : ℕ) (f : RunState → RunState) → RunStill runs r f → Still runs (with_run r f runs)
-run_still runs r f still (Holder.a_run s) before now all =
+run_still runs r f still (Run s) before now all =
     elim (cases_eq s r) [
       | inl same ↦
           changed_there RunUnbegun RunUnbegun r f runs s
-          (λ x at un. still.of_it x at (sym (live_there runs r x at) ∙ ap (λ k. holds runs (Holder.a_run k)) (sym same) ∙ before)
+          (λ x at un. still.of_it x at (sym (live_there runs r x at) ∙ ap (λ k. holds runs (Run k)) (sym same) ∙ before)
           (sym (live_there (with_run r f runs) r (f x) (now_there r f runs x at))
-          ∙ ap (λ k. holds (with_run r f runs) (Holder.a_run k)) (sym same) ∙ now) un)
+          ∙ ap (λ k. holds (with_run r f runs) (Run k)) (sym same) ∙ now) un)
           (λ x at un. un) all
       | inr other ↦ λ y e.
           let c = came r f runs s y e in
@@ -144,24 +148,24 @@ run_still runs r f still (Holder.a_run s) before now all =
             | inr apart ↦ subst RunUnbegun (sym apart.1) (all c.old c.was)
           ]
     ]
-run_still runs r f still (Holder.a_leg q) before now all =
+run_still runs r f still (Leg q) before now all =
     of_run (with_run r f runs) q
     (changed_there (OfRun q.job q.leg) (OfRun q.job q.leg) r f runs q.run (still.of_legs q.job q.leg) (λ x at un. un) (by_run runs q all))
 
--- where no premise is wanted
+-- without any condition
 pub record RunAllStill (f : RunState → RunState) : Type 0 where
   pub of_it : (x : RunState) → RunUnbegun x → RunUnbegun (f x)
   pub of_legs : (j l : ℕ) (x : RunState) → OfRun j l x → OfRun j l (f x)
 
 pub run_all_still : (runs : List RunState) (r : ℕ) (f : RunState → RunState) → RunAllStill f → AllStill runs (with_run r f runs)
-run_all_still runs r f still (Holder.a_run s) all =
+run_all_still runs r f still (Run s) all =
     changed_there RunUnbegun RunUnbegun r f runs s (λ x at. still.of_it x) (λ x at un. un) all
-run_all_still runs r f still (Holder.a_leg q) all =
+run_all_still runs r f still (Leg q) all =
     of_run (with_run r f runs) q
     (changed_there (OfRun q.job q.leg) (OfRun q.job q.leg) r f runs q.run (λ x at. still.of_legs q.job q.leg x) (λ x at un. un)
     (by_run runs q all))
 
--- a run goes into another phase: it runs before, or afterwards
+-- a run enters another phase: it is live before or after
 pub phase_still : (runs : List RunState) (r : ℕ) (to : RunPhase)
     → ((x : RunState) → run_at runs r ≡ Some x → is_live x.phase ≡ false → is_live to ≡ false → ⊥)
     → Still runs (with_run r (run_in_phase to) runs)
@@ -270,7 +274,7 @@ stop_legs run.Ended j l x all = all
 
 -- ---- one leg
 
--- a run that has not begun, of which the legs of a job change
+-- a run that has not begun, after a change of the legs of a job
 legs_changed : (j : ℕ) (f : List LegState → List LegState) → f [] ≡ [] → (x : RunState) → RunUnbegun x
     → RunUnbegun (with_job_of j (λ y. record y { legs = f y.legs }) x)
 legs_changed j f none_stay x un =
@@ -284,7 +288,7 @@ legs_changed j f none_stay x un =
           (λ (y : JobState). y.phase ≡ job.Settled result.Cancelled) j change x.jobs k (λ y at is. is) (λ y at is. is) (un.cancelled e k));
     }
 
--- where the leg at the place stays one that has not begun
+-- if the leg at the place remains one that has not begun
 pub leg_all_still : (runs : List RunState) (p : LegPlace) (f : LegState → LegState) → ((z : LegState) → LegUnbegun z → LegUnbegun (f z))
     → AllStill runs (with_leg p f runs)
 leg_all_still runs p f so =
@@ -297,21 +301,21 @@ leg_all_still runs p f so =
     })
 
 holds_there : (runs : List RunState) (p : LegPlace) (z : LegState) → leg_at runs p ≡ Some z
-    → holds runs (Holder.a_leg p) ≡ leg_holds z.phase
+    → holds runs (Leg p) ≡ leg_holds z.phase
 holds_there runs p z at = ap (λ o. option_map_or (λ (v : LegState). leg_holds v.phase) o false) at
 
--- where the leg at the place holds its group before, or afterwards
+-- if the leg at the place holds its group before or after
 pub leg_still : (runs : List RunState) (p : LegPlace) (z : LegState) (f : LegState → LegState) → leg_at runs p ≡ Some z
     → leg_at (with_leg p f runs) p ≡ Some (f z) → ((q : LegPlace) → (q ≡ p → ⊥) → leg_at (with_leg p f runs) q ≡ leg_at runs q)
     → (leg_holds z.phase ≡ false → leg_holds (f z).phase ≡ false → ⊥) → Still runs (with_leg p f runs)
-leg_still runs p z f was now elsewhere never (Holder.a_run r) before after all =
+leg_still runs p z f was now elsewhere never (Run r) before after all =
     changed_there RunUnbegun RunUnbegun p.run (with_job_of p.job (with_leg_of p.leg f)) runs r
     (λ x at. legs_changed p.job (changed_at p.leg f) refl x) (λ x at un. un) all
-leg_still runs p z f was now elsewhere never (Holder.a_leg q) before after all =
+leg_still runs p z f was now elsewhere never (Leg q) before after all =
     elim (place_or_another q p) [
       | inl same ↦
-          absurd (never (sym (holds_there runs p z was) ∙ ap (λ k. holds runs (Holder.a_leg k)) (sym same) ∙ before)
-          (sym (holds_there (with_leg p f runs) p (f z) now) ∙ ap (λ k. holds (with_leg p f runs) (Holder.a_leg k)) (sym same) ∙ after))
+          absurd (never (sym (holds_there runs p z was) ∙ ap (λ k. holds runs (Leg k)) (sym same) ∙ before)
+          (sym (holds_there (with_leg p f runs) p (f z) now) ∙ ap (λ k. holds (with_leg p f runs) (Leg k)) (sym same) ∙ after))
       | inr other ↦ subst (There LegUnbegun) (sym (elsewhere q other)) all
     ]
 
@@ -329,17 +333,17 @@ legs_all_still runs r j =
 -- ---- a holder is stopped
 
 pub stop_all_still : (h : Holder) (runs : List RunState) → AllStill runs (stop_holder h runs).runs
-stop_all_still (Holder.a_run r) runs =
+stop_all_still (Run r) runs =
     run_all_still runs r stopped_run
     (record { of_it = (λ x. stop_unbegun x.phase x refl); of_legs = (λ j l x. stop_legs x.phase j l x) })
-stop_all_still (Holder.a_leg p) runs = leg_all_still runs p stopped leg_stopped
+stop_all_still (Leg p) runs = leg_all_still runs p stopped leg_stopped
 
 pub each_all_still : (change : Holder → List RunState → Transition) → ((h : Holder) (runs : List RunState) → AllStill runs (change h runs).runs)
     → (hs : List Holder) (runs : List RunState) → AllStill runs (at_each change hs runs).runs
 each_all_still change one [] runs h un = un
 each_all_still change one (k ∷ hs) runs h un = each_all_still change one hs (change k runs).runs h (one k runs h un)
 
--- ---- one that waits has not begun
+-- ---- a waiting holder has not begun
 
 run_waits_waiting : (phase : RunPhase) → run_waits phase ≡ true → phase ≡ run.Waiting
 run_waits_waiting run.Waiting e = refl
@@ -355,7 +359,7 @@ leg_waits_waiting leg.Stopping e = cc
 leg_waits_waiting (leg.Ended r) e = cc
 
 pub waiting_unbegun : (runs : List RunState) → RunsFit runs → (h : Holder) → waits runs h ≡ true → Unbegun runs h
-waiting_unbegun runs fit (Holder.a_run r) waiting = λ x at.
+waiting_unbegun runs fit (Run r) waiting = λ x at.
     let its : run_waits x.phase ≡ true = sym (ap (λ o. option_map_or (λ (v : RunState). run_waits v.phase) o false) at) ∙ waiting in
     let is = run_waits_waiting x.phase its in
     let fits = fit r x at in
@@ -365,7 +369,7 @@ waiting_unbegun runs fit (Holder.a_run r) waiting = λ x at.
           no_legs (planned_legs runs r j) (result_at runs r j y) y.phase y.legs (fits.jobs_fit j y there).legs_fit (unopened.1 j y there));
       cancelled = (λ e. let clash : run.Waiting ≡ run.Ended = sym is ∙ e in cc);
     }
-waiting_unbegun runs fit (Holder.a_leg p) waiting = λ z at.
+waiting_unbegun runs fit (Leg p) waiting = λ z at.
     let its : leg_waits z.phase ≡ true = sym (ap (λ o. option_map_or (λ (v : LegState). leg_waits v.phase) o false) at) ∙ waiting in
     let is = leg_waits_waiting z.phase its in
     record {
@@ -376,20 +380,20 @@ waiting_unbegun runs fit (Holder.a_leg p) waiting = λ z at.
 -- ---- a new run
 
 pub new_run_still : (runs : List RunState) (event : Admitted) (fit : RunsFit (runs ++ new_run event ∷ []))
-    → waits (runs ++ new_run event ∷ []) (Holder.a_run (length runs)) ≡ true → AllStill runs (runs ++ new_run event ∷ [])
-new_run_still runs event fit waiting (Holder.a_run r) all =
+    → waits (runs ++ new_run event ∷ []) (Run (length runs)) ≡ true → AllStill runs (runs ++ new_run event ∷ [])
+new_run_still runs event fit waiting (Run r) all =
     elim (cases_eq r (length runs)) [
       | inl same ↦
-          subst (λ (k : ℕ). Unbegun (runs ++ new_run event ∷ []) (Holder.a_run k)) (sym same)
-          (waiting_unbegun (runs ++ new_run event ∷ []) fit (Holder.a_run (length runs)) waiting)
+          subst (λ (k : ℕ). Unbegun (runs ++ new_run event ∷ []) (Run k)) (sym same)
+          (waiting_unbegun (runs ++ new_run event ∷ []) fit (Run (length runs)) waiting)
       | inr other ↦ subst (There RunUnbegun) (sym (before_the_end runs (new_run event) r other)) all
     ]
-new_run_still runs event fit waiting (Holder.a_leg q) all =
+new_run_still runs event fit waiting (Leg q) all =
     let next = runs ++ new_run event ∷ [] in
     of_run next q
     (elim (cases_eq q.run (length runs)) [
       | inl same ↦ λ x at y is z e.
-          let no_legs = (waiting_unbegun next fit (Holder.a_run (length runs)) waiting x (ap (run_at next) (sym same)
+          let no_legs = (waiting_unbegun next fit (Run (length runs)) waiting x (ap (run_at next) (sym same)
           ∙ at)).no_legs q.job y is in
           let past : slice_get [] q.leg ≡ Some z = subst (λ (ls : List LegState). slice_get ls q.leg ≡ Some z) no_legs e in cc
       | inr other ↦ subst (There (OfRun q.job q.leg)) (sym (before_the_end runs (new_run event) q.run other)) (by_run runs q all)

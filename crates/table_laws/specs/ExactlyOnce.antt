@@ -1,6 +1,6 @@
--- What is carried out once, though it is asked again: the delivery of an event, by its id, and a runner's numbered command, by its number.
--- GitHub Docs, "Best practices for using webhooks": a redelivery has the id of the delivery (X-GitHub-Delivery). That it makes no second
--- run, and the numbers of runners, are own.
+-- What is carried out once even if it is requested again: the delivery of an event, by its id, and a runner's numbered command, by its
+-- number. GitHub Docs, "Best practices for using webhooks": a redelivery has the id of the delivery (X-GitHub-Delivery). This project
+-- defines that a redelivery makes no second run, and the numbers of runners' commands.
 use Rattle.std.specs.Prelude.{◌≡◌, ℕ, ◌≤◌, List}
 use Rattle.std.specs.List.{AllByRecursion}
 use Rattle.wf_value.specs.declared.refusal.Refusal.{Refusal}
@@ -15,7 +15,7 @@ HasTurn (command.Claim claim) runner number = (claim.runner ≡ runner) × (clai
 HasTurn (command.Done report) runner number = (report.runner ≡ runner) × (report.number ≡ number)
 HasTurn _ runner number = ⊥
 
--- none of them is a command of this runner with a later number
+-- none of the commands is of this runner with a later number
 abbrev pub HaveNoLaterTurn : List ℕ → ℕ → List Command → Type 0
 HaveNoLaterTurn runner number commands = AllByRecursion (λ c. (n : ℕ) → HasTurn c runner n → n ≤ number) commands
 

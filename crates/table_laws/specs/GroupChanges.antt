@@ -1,18 +1,19 @@
--- One concurrency group: who holds it, each single change of that, and the moves that the change makes. GitHub Docs,
--- "Control the concurrency of workflows and jobs".
+-- One concurrency group: its state, each single change of the state, and the moves that the change makes. GitHub Docs, "Control the
+-- concurrency of workflows and jobs".
 use Rattle.std.specs.Prelude.{◌≡◌, List, [], ◌∷◌, ◌++◌, map, option_to_list, Bool, true, false, ◌&&◌, ◌||◌, not}
 use Rattle.std.specs.Prelude.{Option, Some, None, if◌then◌else◌}
 use Rattle.std.specs.List.{list_any}
 use Rattle.std.specs.Option.{option_map_or}
 use Rattle.wf_value.specs.declared.outcome.Outcome.{Outcome}
 use Rattle.wf_value.specs.declared.outcome.Outcome.TheVariants.{Cancelled}
-use Rattle.workflow_runs.specs.GroupWords.{has_arrived, holder_of, is_pending, is_running, is_the, latest, same_holder, was_stopped}
-use Rattle.workflow_runs.specs.Moves.{Holder, Move}
-use Rattle.workflow_runs.specs.GroupState.{GroupState}
+use Rattle.run_states.specs.GroupState.{GroupState}
+use Rattle.run_states.specs.GroupWords.{has_arrived, holder_of, is_pending, is_running, is_the, latest, same_holder, was_stopped}
+use Rattle.run_states.specs.Moves.{Move}
 use Rattle.table_laws.specs.GroupLaw.{cancelled_end}
+use Rattle.run_states.specs.declared.holder.Holder.{Holder}
 
--- The state is what the moves say: the running holder has started and not ended, the pending one is the latest
--- arrival and has neither started nor ended, and there are no others.
+-- The state agrees with the moves: the running holder has started and not ended, the pending holder is the latest arrival and has neither
+-- started nor ended, and there are no others.
 pub record Matches (g : GroupState) (moves : List Move) : Type 0 where
   pub running : (h : Holder) → is_running h moves ≡ is_the g.running h
   pub stopping : (h : Holder) → g.running ≡ Some h → was_stopped h moves ≡ g.stopping
@@ -23,22 +24,22 @@ pub record Matches (g : GroupState) (moves : List Move) : Type 0 where
 -- ---- the changes
 
 pub data Change : Type 0 where
-  -- a newcomer comes to the group
+  -- a newcomer arrives in the group
   arrival : Holder → Change
   -- the pending holder starts
   beginning : Holder → Change
-  -- the running holder is told to stop
+  -- the running holder is asked to stop
   stop_request : Holder → Change
   -- the running holder ends
   ending : Outcome → Holder → Change
-  -- the pending holder is told to stop, and so ends
+  -- the pending holder is asked to stop, and so ends
   withdrawal : Holder → Change
 
--- no move is the holder's
+-- no move is of the holder
 abbrev pub is_new : Holder → List Move → Bool
 is_new h moves = not (list_any (λ m. same_holder h (holder_of m)) moves)
 
--- when a change may be, after these moves
+-- when a change is possible, after these moves
 abbrev pub MayBe : GroupState → List Move → Change → Type 0
 MayBe g moves (Change.arrival h) = is_new h moves ≡ true
 MayBe g moves (Change.beginning h) = (g.running ≡ None) × (g.pending ≡ Some h)
@@ -46,7 +47,7 @@ MayBe g moves (Change.stop_request h) = (g.running ≡ Some h) × (g.stopping �
 MayBe g moves (Change.ending r h) = g.running ≡ Some h
 MayBe g moves (Change.withdrawal h) = g.pending ≡ Some h
 
--- who is told to stop at an arrival
+-- the holder that an arrival asks to stop
 abbrev pub stopped_at_arrival : Bool → GroupState → Option Holder
 stopped_at_arrival cancels g = if cancels && not g.stopping then g.running else None
 
@@ -59,7 +60,7 @@ moves_of cancels g (Change.stop_request h) = Move.stop h ∷ []
 moves_of cancels g (Change.ending r h) = Move.end_with r h ∷ []
 moves_of cancels g (Change.withdrawal h) = Move.stop h ∷ Move.end_with Cancelled h ∷ []
 
--- who holds the group after it
+-- the state of the group after the change
 abbrev pub changed : (Holder → Bool) → GroupState → Change → GroupState
 changed cancels g (Change.arrival h) = record g { stopping = g.stopping || cancels h; pending = Some h }
 changed cancels g (Change.beginning h) = record { running = Some h; stopping = false; pending = None }
@@ -81,16 +82,16 @@ abbrev pub after_all : (Holder → Bool) → GroupState → List Change → Grou
 after_all cancels g [] = g
 after_all cancels g (c ∷ cs) = after_all cancels (changed cancels g c) cs
 
--- ---- where a list of moves begins
+-- ---- the base moves
 
--- The moves of the holders that a group has already: the running one has arrived, has started, and may have been told
--- to stop, and then the pending one has arrived.
+-- The moves of the holders that a group already has: the running holder has arrived, has started, and may have been asked to stop; then the
+-- pending holder has arrived.
 abbrev pub running_moves : Bool → Holder → List Move
 running_moves stopping h = Move.arrive h ∷ Move.start h ∷ (if stopping then Move.stop h ∷ [] else [])
 
 abbrev pub base_moves : GroupState → List Move
 base_moves g = option_map_or (running_moves g.stopping) g.running [] ++ map (λ h. Move.arrive h) (option_to_list g.pending)
 
--- the holders that a group has already ask for no cancelling
+-- the holders that a group already has do not count as asking for cancellation
 abbrev pub beyond_base : (Holder → Bool) → GroupState → Holder → Bool
 beyond_base cancels g h = cancels h && not (has_arrived h (base_moves g))

@@ -1,18 +1,19 @@
--- The law of a group as a test that computes: slow and plain, move by move.
+-- The law of a group as an executable test, simple and slow, move by move.
 use Rattle.std.specs.Prelude.{List, [], ◌∷◌, ◌++◌, map, Bool, true, false, ◌&&◌, ◌||◌, not, is_some, Option, Some, None}
 use Rattle.std.specs.List.{list_all}
 use Rattle.wf_value.specs.declared.outcome.Outcome.{Outcome}
 use Rattle.wf_value.specs.declared.outcome.Outcome.TheVariants.{Success, Failure, Cancelled}
-use Rattle.workflow_runs.specs.GroupWords.{arrival_of, has_ended, has_started, holder_of, is_running, is_the, latest, next_displaced}
-use Rattle.workflow_runs.specs.GroupWords.{same_holder, was_stopped}
-use Rattle.workflow_runs.specs.Moves.{Holder, Move}
+use Rattle.run_states.specs.GroupWords.{arrival_of, has_ended, has_started, holder_of, is_running, is_the, latest, next_displaced}
+use Rattle.run_states.specs.GroupWords.{same_holder, was_stopped}
+use Rattle.run_states.specs.Moves.{Move}
+use Rattle.run_states.specs.declared.holder.Holder.{Holder}
 
 abbrev pub is_cancelled : Outcome → Bool
 is_cancelled Success = false
 is_cancelled Failure = false
 is_cancelled Cancelled = true
 
--- the moves begin with the end of the holder as cancelled
+-- the first of the moves is the end of the holder as cancelled
 abbrev pub begins_with_end : Holder → List Move → Bool
 begins_with_end h [] = false
 begins_with_end h (Move.arrive k ∷ moves) = false
@@ -27,7 +28,7 @@ begins_with_stop h (Move.start k ∷ moves) = false
 begins_with_stop h (Move.stop k ∷ moves) = same_holder h k
 begins_with_stop h (Move.end_with r k ∷ moves) = false
 
--- what follows an arrival: the end of the displaced one, if any, and then the stop of the holder
+-- after an arrival: the end of the displaced holder, if any, and then the stop of the holder
 abbrev pub ends_displaced : Option Holder → List Move → Bool
 ends_displaced None after = true
 ends_displaced (Some h) after = begins_with_end h after

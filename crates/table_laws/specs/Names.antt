@@ -1,18 +1,19 @@
--- How the holders of groups are named over many commands: with the attempt of their run, so that what begins in one attempt is another holder
--- than what ended in the one before it.
+-- The names of the holders of groups over many commands. A name includes the attempt of the holder's run, so what begins in one attempt is
+-- a different holder from what ended in the attempt before.
 use Rattle.std.specs.Prelude.{◌≡◌, ℕ, List}
 use Rattle.std.specs.Option.{option_map_or}
-use Rattle.workflow_runs.specs.Holders.{run_of}
-use Rattle.workflow_runs.specs.Moves.{Holder, Move}
-use Rattle.workflow_runs.specs.Places.{run_at}
-use Rattle.workflow_runs.specs.RunState.{RunState}
+use Rattle.run_states.specs.Holders.{run_of}
+use Rattle.run_states.specs.Moves.{Move}
+use Rattle.run_states.specs.Places.{run_at}
+use Rattle.run_states.specs.RunState.{RunState}
+use Rattle.run_states.specs.declared.holder.Holder.{Holder}
 
--- Names, whichever they are: those of two attempts, or of two holders, differ.
+-- Any names such that two attempts, or two holders, have different names.
 pub record Names : Type 0 where
   pub name : ℕ → Holder → Holder
   pub differ : (a b : ℕ) (h k : Holder) → name a h ≡ name b k → (a ≡ b) × (h ≡ k)
 
--- the attempt at which the run of a holder is: the first where there is no run yet
+-- the attempt of a holder's run; the first if there is no run yet
 abbrev pub attempt_of : List RunState → Holder → ℕ
 attempt_of runs h = option_map_or (λ x. x.attempt) (run_at runs (run_of h)) 1
 

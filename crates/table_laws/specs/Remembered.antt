@@ -1,7 +1,7 @@
--- What a table remembers of what it was asked: which run the delivery of an event made, the attempt at which a run is, and a runner's last
--- command with its reply. GitHub Docs, "Best practices for using webhooks": a redelivery has the id of the delivery (X-GitHub-Delivery).
--- "Contexts reference", github.run_attempt: it grows by 1 with each re-run. That a delivery makes no second run, and a re-run no second attempt,
--- and what is kept of a runner, are own.
+-- What a table remembers: which run the delivery of an event made, the attempt of each run, and a runner's last command with its reply.
+-- GitHub Docs, "Best practices for using webhooks": a redelivery has the id of the delivery (X-GitHub-Delivery). "Contexts reference",
+-- github.run_attempt: it grows by 1 with each re-run. This project defines that a delivery makes no second run, that a repeated re-run
+-- makes no second attempt, and what is kept about a runner.
 use Rattle.std.specs.Prelude.{◌≡◌, ℕ, ◌+◌, ◌-◌, ◌<◌, List, [], ◌∷◌, Option, Some, option_map}
 use Rattle.std.specs.List.{position}
 use Rattle.run_plan.specs.LastCommand.{kept_reply}
@@ -11,8 +11,8 @@ use Rattle.run_plan.specs.declared.command.Command.TheVariants as command
 use Rattle.run_plan.specs.declared.last_command.LastCommand.{LastCommand}
 use Rattle.run_plan.specs.declared.last_command.LastCommand.TheVariants as last
 use Rattle.run_plan.specs.declared.reply.Reply.{Reply}
-use Rattle.workflow_runs.specs.NewRun.{is_delivered_as}
-use Rattle.workflow_runs.specs.Places.{run_at}
+use Rattle.run_states.specs.NewRun.{is_delivered_as}
+use Rattle.run_states.specs.Places.{run_at}
 use Rattle.run_table.specs.TableState.{RunnerState, TableState}
 use Rattle.run_table.specs.Turns.{runner_named}
 use Rattle.table_laws.specs.ExactlyOnce.{HasTurn, IsRefused}
@@ -23,26 +23,26 @@ use Rattle.table_laws.specs.ExactlyOnce.{HasTurn, IsRefused}
 abbrev pub run_of_delivery : TableState → List ℕ → Option ℕ
 run_of_delivery t delivery = option_map (λ i. i + 1) (position (is_delivered_as delivery) t.runs)
 
--- The table knows the delivery as this run.
+-- The table knows that the delivery made this run.
 abbrev pub KnowsDelivery : TableState → List ℕ → ℕ → Type 0
 KnowsDelivery t delivery run = run_of_delivery t delivery ≡ Some run
 
 -- ---- an attempt
 
--- the attempt at which a run is; ids count from 1
+-- the attempt of a run; ids count from 1
 abbrev pub attempt_of_run : TableState → ℕ → Option ℕ
 attempt_of_run t run = option_map (λ x. x.attempt) (run_at t.runs (run - 1))
 
--- The table knows this attempt as the present one of the run.
+-- The table knows that this is the present attempt of the run.
 abbrev pub KnowsAttempt : TableState → ℕ → ℕ → Type 0
 KnowsAttempt t run attempt = attempt_of_run t run ≡ Some attempt
 
--- This command, with this reply, began no attempt of the run, but perhaps this one: if it asked for another attempt of it, it was refused.
+-- This command, with this reply, began no attempt of the run other than `attempt`: if it asked for another one, it was refused.
 abbrev pub IsNoOtherAttempt : ℕ → ℕ → Command → Reply → Type 0
 IsNoOtherAttempt run attempt c given =
     (asked : Attempt) → c ≡ command.Rerun asked → asked.run - 1 ≡ run - 1 → (asked.attempt ≡ attempt → ⊥) → IsRefused given
 
--- none of these commands did, each with its reply
+-- each of these commands, with its reply, began no other attempt of the run
 abbrev pub AreNoOtherAttempts : ℕ → ℕ → List Command → List Reply → Type 0
 AreNoOtherAttempts run attempt [] given = Unit {0}
 AreNoOtherAttempts run attempt (c ∷ cs) [] = Unit {0}
@@ -50,12 +50,12 @@ AreNoOtherAttempts run attempt (c ∷ cs) (y ∷ ys) = IsNoOtherAttempt run atte
 
 -- ---- a runner's last command
 
--- the numbered command that is kept of a runner
+-- the numbered command that is kept for a runner
 abbrev pub kept_command : LastCommand → Command
 kept_command (last.Claim claim given) = command.Claim claim
 kept_command (last.Done report) = command.Done report
 
--- The runner's last command is this one, with the runner's number, and this is the reply that is kept for it.
+-- The runner's last command is this one, with the runner's number, and this reply is kept for it.
 pub record LastCommandIs (t : TableState) (name : List ℕ) (c : Command) (reply : Reply) : Type 0 where
   pub runner : RunnerState
   pub known : runner_named t.runners name ≡ Some runner
@@ -69,7 +69,7 @@ pub record LastCommandIs (t : TableState) (name : List ℕ) (c : Command) (reply
 abbrev pub IsNoLaterTurn : List ℕ → ℕ → Command → Reply → Type 0
 IsNoLaterTurn runner number c reply = (n : ℕ) → HasTurn c runner n → number < n → IsRefused reply
 
--- none of these commands, each with its reply
+-- each of these commands, with its reply, was not carried out for the runner with a later number
 abbrev pub AreNoLaterTurns : List ℕ → ℕ → List Command → List Reply → Type 0
 AreNoLaterTurns runner number [] replies = Unit {0}
 AreNoLaterTurns runner number (c ∷ cs) [] = Unit {0}

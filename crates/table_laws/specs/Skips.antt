@@ -1,15 +1,14 @@
--- Which jobs are skipped in the tables that commands lead to from the empty one. GitHub Docs, "Workflow
--- syntax for GitHub Actions": jobs.<job_id>.needs, jobs.<job_id>.if.
+-- Which jobs are skipped in the tables that commands reach from the empty one. GitHub Docs, "Workflow syntax for GitHub Actions":
+-- jobs.<job_id>.needs, jobs.<job_id>.if.
 use Rattle.std.specs.Prelude.{◌≡◌, ℕ, List, true, false, Some}
 use Rattle.wf_value.specs.declared.outcome.JobResult.TheVariants as result
 use Rattle.needs_graph.specs.Conditions.{condition_value}
-use Rattle.workflow_runs.specs.Places.{job_at}
-use Rattle.workflow_runs.specs.RunState.{JobState, RunState}
-use Rattle.workflow_runs.specs.Words.{ancestor_results, condition_of, needs_have_settled}
-use Rattle.workflow_runs.specs.declared.phases.JobPhase.TheVariants as job
+use Rattle.run_states.specs.Places.{job_at}
+use Rattle.run_states.specs.RunState.{JobState, RunState}
+use Rattle.run_states.specs.Words.{ancestor_results, condition_of, needs_have_settled}
+use Rattle.run_states.specs.declared.phases.JobPhase.TheVariants as job
 
--- a job that settled as skipped has all its needs settled, and its condition is false for the results of its
--- ancestors, in a run that is not stopping
+-- all needs of a skipped job have finished, and its condition is false for the results of its ancestors in a run that is not stopping
 abbrev pub SkipsAreDue : List RunState → Type 0
 SkipsAreDue runs =
     (r j : ℕ) (x : JobState) → job_at runs r j ≡ Some x → x.phase ≡ job.Settled result.Skipped

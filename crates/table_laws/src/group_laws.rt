@@ -1,17 +1,18 @@
-//! The law of a concurrency group: what follows from it, over any list of moves that keeps it, and that each single
-//! change of a group keeps it.
+//! The law of a concurrency group: what follows from it for any list of moves that satisfies it, and that each single change of a group
+//! preserves it.
 
 ghost use Rattle.std.specs.Prelude.{◌≡◌, ◌⊎◌, ◌∷◌, [], ◌++◌, List, Bool, true, false, Some};
-ghost use Rattle.workflow_runs.specs.GroupState.{GroupState};
-ghost use Rattle.workflow_runs.specs.GroupWords.{has_arrived, has_ended, has_started, is_pending, is_running, is_the};
-ghost use Rattle.workflow_runs.specs.GroupWords.{latest, next_displaced, was_stopped};
-ghost use Rattle.workflow_runs.specs.Moves.{Holder, Move};
+ghost use Rattle.run_states.specs.GroupState.{GroupState};
+ghost use Rattle.run_states.specs.GroupWords.{has_arrived, has_ended, has_started, is_pending, is_running, is_the};
+ghost use Rattle.run_states.specs.GroupWords.{latest, next_displaced, was_stopped};
+ghost use Rattle.run_states.specs.Moves.{Move};
 ghost use Rattle.wf_value.specs.declared.outcome.Outcome.{Outcome};
 ghost use Rattle.wf_value.specs.declared.outcome.Outcome.TheVariants.{Cancelled};
 ghost use Rattle.table_laws.specs.GroupChanges.{Change, Matches, MayAllBe, MayBe, after_all, base_moves};
 ghost use Rattle.table_laws.specs.GroupChanges.{beyond_base, changed, moves_of, moves_of_all};
 ghost use Rattle.table_laws.specs.GroupLaw.{BeginsWith, KeepsLaw};
 ghost use Rattle.table_laws.specs.GroupLawTest.{keeps_law};
+ghost use Rattle.run_states.specs.declared.holder.Holder.{Holder};
 
 // ---- what follows
 
@@ -27,21 +28,21 @@ pub fn at_most_one_holder_runs()
         → moves ≡ before ++ after → is_running h before ≡ true → is_running k before ≡ true → h ≡ k }
 {}
 
-/// At every moment a pending holder is the latest arrival, or its end as cancelled is the next move.
+/// At every moment a pending holder is the latest arrival, or the next move is its end as cancelled.
 pub fn a_pending_holder_is_the_latest_arrival()
     ensures { (cancels : Holder → Bool) (moves before after : List Move) (h : Holder) → KeepsLaw cancels moves
         → moves ≡ before ++ after → is_pending h before ≡ true
         → (latest before ≡ Some h) ⊎ BeginsWith (Move.end_with Cancelled h ∷ []) after }
 {}
 
-/// Two holders are pending only where the next move is the end of one of them as cancelled.
+/// Two holders are pending only if the next move is the end of one of them as cancelled.
 pub fn at_most_one_holder_is_pending()
     ensures { (cancels : Holder → Bool) (moves before after : List Move) (h k : Holder) → KeepsLaw cancels moves
         → moves ≡ before ++ after → is_pending h before ≡ true → is_pending k before ≡ true
         → ((displaced : Holder) → BeginsWith (Move.end_with Cancelled displaced ∷ []) after → ⊥) → h ≡ k }
 {}
 
-/// A holder that is displaced never starts.
+/// A displaced holder never starts.
 pub fn a_displaced_holder_never_starts()
     ensures { (cancels : Holder → Bool) (moves before after : List Move) (newcomer h : Holder) → KeepsLaw cancels moves
         → moves ≡ before ++ Move.arrive newcomer ∷ after → next_displaced before ≡ Some h → has_started h moves ≡ false }
@@ -53,8 +54,7 @@ pub fn an_end_is_final()
         → moves ≡ before ++ after → has_ended h before ≡ true → has_started h after ≡ true → ⊥ }
 {}
 
-/// A holder that ends though it has neither started nor been told to stop had arrived before the last arrival, which
-/// displaced it.
+/// A holder that ends without a start and without a stop had arrived before the last arrival, which displaced it.
 pub fn only_a_later_arrival_displaces()
     ensures { (cancels : Holder → Bool) (moves before after : List Move) (r : Outcome) (h : Holder) → KeepsLaw cancels moves
         → moves ≡ before ++ Move.end_with r h ∷ after → has_started h before ≡ false → was_stopped h before ≡ false
@@ -64,8 +64,7 @@ pub fn only_a_later_arrival_displaces()
 
 // ---- single changes
 
-/// The moves with which a list begins, those of the holders that a group has already, keep the law, and say who holds
-/// the group.
+/// The base moves, which stand for the holders that a group already has, satisfy the law and determine the state of the group.
 pub fn a_base_keeps_the_law()
     ensures law { (cancels : Holder → Bool) (g : GroupState)
         → ((h : Holder) → g.running ≡ Some h → is_the g.pending h ≡ false) → KeepsLaw (beyond_base cancels g) (base_moves g) }
@@ -73,7 +72,7 @@ pub fn a_base_keeps_the_law()
         → ((h : Holder) → g.running ≡ Some h → is_the g.pending h ≡ false) → Matches g (base_moves g) }
 {}
 
-/// Each single change of a group keeps the law, and the state after it is what the moves say.
+/// Each single change of a group preserves the law, and the moves determine the state after it.
 pub fn each_change_keeps_the_law()
     ensures law { (cancels : Holder → Bool) (g : GroupState) (moves : List Move) (c : Change) → MayBe g moves c
         → KeepsLaw cancels moves → Matches g moves → KeepsLaw cancels (moves ++ moves_of cancels g c) }
@@ -81,7 +80,7 @@ pub fn each_change_keeps_the_law()
         → Matches g moves → Matches (changed cancels g c) (moves ++ moves_of cancels g c) }
 {}
 
-/// So does any list of changes.
+/// Any list of changes does so too.
 pub fn any_changes_keep_the_law()
     ensures law { (cancels : Holder → Bool) (g : GroupState) (moves : List Move) (cs : List Change)
         → MayAllBe cancels g moves cs → KeepsLaw cancels moves → Matches g moves
@@ -93,7 +92,7 @@ pub fn any_changes_keep_the_law()
 
 // ---- the test
 
-/// The test of the law says yes exactly where the law is kept.
+/// The test of the law returns true exactly if the law holds.
 pub fn the_test_of_the_law_is_exact()
     ensures yes { (cancels : Holder → Bool) (moves : List Move) → keeps_law cancels moves ≡ true → KeepsLaw cancels moves }
     ensures only { (cancels : Holder → Bool) (moves : List Move) → KeepsLaw cancels moves → keeps_law cancels moves ≡ true }

@@ -1,4 +1,4 @@
-//! Laws of the run table: what follows of its step, whatever commands come, and the law of concurrency groups.
+//! Laws of the run table: what follows from its step for any commands, and the law of concurrency groups.
 #![tactic(auto)]
 
 pub mod group_laws;

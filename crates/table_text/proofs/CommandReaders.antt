@@ -1,4 +1,4 @@
--- What reading of commands and batches finds is what is spelled there, and nothing else.
+-- Reading of commands and batches finds exactly what is encoded.
 use Rattle.std.proofs.Common.{◌≡◌, inl, inr, ℕ, List, [], ◌∷◌, ◌++◌, refl, sym, ◌∙◌, ap, subst, arith}
 use Rattle.std.specs.Prelude.{◌==◌, ◌⊎◌, Bool, true, false, Option, Some, None, if◌then◌else◌}
 use Rattle.std.proofs.lemmas.Bool.{eqb-true}
@@ -15,7 +15,7 @@ use Rattle.run_plan.specs.declared.command.Command.{Command}
 use Rattle.run_plan.specs.declared.command.Command.TheVariants as asked
 use Rattle.table_text.specs.Format.{Format, word, text, pair}
 use Rattle.table_text.specs.Commands.{is_numbered, number, small_text, labels, is_faultless, body, outcome_byte, outcome, admit, claim}
-use Rattle.table_text.specs.Commands.{done, beat, rerun, IsSpelled, command_bytes, command, batch}
+use Rattle.table_text.specs.Commands.{done, beat, rerun, IsEncoded, command_bytes, command, batch}
 use Rattle.table_text.specs.Reading.{Reader, word_at, text_at, pair_at, parts_at}
 use Rattle.table_text.specs.ReadingCommands.{number_at, small_text_at, labels_at, body_at, result_of, result_at, admit_at, claim_at}
 use Rattle.table_text.specs.ReadingCommands.{done_at, beat_at, rerun_at, command_of, command_at, batch_at}
@@ -39,7 +39,7 @@ pub body_reads : Reads body body_at
 unfolding body_at
 body_reads = only_reads is_faultless text text_at text_reads
 
--- one of two ways
+-- one of two cases
 pub chosen : {A : Type 0} (b : Bool) (x y z : A) → (if b then x else y) ≡ z → ((b ≡ true) × (x ≡ z)) ⊎ ((b ≡ false) × (y ≡ z))
 chosen true x y z h = inl (refl, h)
 chosen false x y z h = inr (refl, h)
@@ -130,36 +130,36 @@ rerun_reads =
     (pair number number) (pair_at number_at number_at) (λ _. refl) (λ _. refl)
     (pair_reads number number number_at number_at number_reads number_reads)
 
--- what a kind of command is read as, where its byte stands before
+-- reading a command of a kind, after its byte
 kind_sound : {A : Type 0} (kind : ℕ) (format : Format A) (at : Reader A) (made : A → Command) → Reads format at
-    → ((x : A) → format.Takes x → IsSpelled (made x)) → ((x : A) → command_bytes (made x) ≡ kind ∷ format.spelling x)
+    → ((x : A) → format.Takes x → IsEncoded (made x)) → ((x : A) → command_bytes (made x) ≡ kind ∷ format.encoding x)
     → (rest : List ℕ) (found : Command × List ℕ) → AreBytes rest → parts_at made at rest ≡ Some found → Fronts command (kind ∷ rest) found
-kind_sound kind format at made reads takes spelled rest found are h =
+kind_sound kind format at made reads takes encoded rest found are h =
     let step = bind_some (at rest) (λ x. Some (made x.0, x.1)) found h in
     let x = step.0 in
     let front = reads.sound rest x are step.1 in
     subst (λ (q : Command × List ℕ). Fronts command (kind ∷ rest) q) (same_Some (made x.0, x.1) found step.2) (record {
       takes = takes x.0 front.takes;
-      split = ap (λ (l : List ℕ). kind ∷ l) front.split ∙ ap (λ (l : List ℕ). l ++ x.1) (sym (spelled x.0));
+      split = ap (λ (l : List ℕ). kind ∷ l) front.split ∙ ap (λ (l : List ℕ). l ++ x.1) (sym (encoded x.0));
       rest = front.rest;
     })
 
 kind_complete : {A : Type 0} (format : Format A) (at : Reader A) (made : A → Command) → Reads format at → (x : A) (rest : List ℕ)
     → format.Takes x
-    → parts_at made at (format.spelling x ++ rest) ≡ Some (made x, rest)
+    → parts_at made at (format.encoding x ++ rest) ≡ Some (made x, rest)
 kind_complete format at made reads x rest fits =
-    some_bind (at (format.spelling x ++ rest)) (λ y. Some (made y.0, y.1)) (x, rest) (reads.complete x rest fits)
+    some_bind (at (format.encoding x ++ rest)) (λ y. Some (made y.0, y.1)) (x, rest) (reads.complete x rest fits)
 
--- what is read where the byte is of this kind, and else as others read it
+-- reading a command if the byte is of this kind, and otherwise as the other kinds read it
 kind_or : {A : Type 0} (this : ℕ) (format : Format A) (at : Reader A) (made : A → Command) → Reads format at
-    → ((x : A) → format.Takes x → IsSpelled (made x)) → ((x : A) → command_bytes (made x) ≡ this ∷ format.spelling x)
+    → ((x : A) → format.Takes x → IsEncoded (made x)) → ((x : A) → command_bytes (made x) ≡ this ∷ format.encoding x)
     → (kind : ℕ) (rest : List ℕ) (found : Command × List ℕ) (others : Option (Command × List ℕ)) → AreBytes rest
     → (if kind == this then parts_at made at rest else others) ≡ Some found
     → (others ≡ Some found → Fronts command (kind ∷ rest) found) → Fronts command (kind ∷ rest) found
-kind_or this format at made reads takes spelled kind rest found others are h left =
+kind_or this format at made reads takes encoded kind rest found others are h left =
     elim (chosen (kind == this) (parts_at made at rest) others (Some found) h) [
       | inl is ↦ subst (λ (k : ℕ). Fronts command (k ∷ rest) found) (sym (eqb-true kind this is.0))
-          (kind_sound this format at made reads takes spelled rest found are is.1)
+          (kind_sound this format at made reads takes encoded rest found are is.1)
       | inr isnt ↦ left isnt.1
     ]
 
@@ -184,7 +184,7 @@ unfolding command_at
 command_finds [] found are h = absurd (none-some found h)
 command_finds (kind ∷ rest) found are h = kinds_sound kind rest found (AreBytes-drop 1 (kind ∷ rest) are) h
 
-command_found : (c : Command) (rest : List ℕ) → IsSpelled c → command_at (command_bytes c ++ rest) ≡ Some (c, rest)
+command_found : (c : Command) (rest : List ℕ) → IsEncoded c → command_at (command_bytes c ++ rest) ≡ Some (c, rest)
 unfolding command_at command_of
 command_found (asked.Admit event) rest fits = kind_complete admit admit_at (λ (a : Admitted). asked.Admit a) admit_reads event rest fits
 command_found (asked.Claim asks) rest fits = kind_complete claim claim_at (λ (c : Claim). asked.Claim c) claim_reads asks rest fits

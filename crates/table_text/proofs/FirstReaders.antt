@@ -1,25 +1,25 @@
--- What reading of tables in the first layout finds is what is spelled there, and nothing else.
+-- Reading of tables in the first layout finds exactly what is encoded.
 use Rattle.std.proofs.Common.{◌≡◌, inl, inr, ℕ, ◌<◌, ◌^◌, List, refl, sym, ◌∙◌, ap, subst, arith}
 use Rattle.std.specs.Prelude.{◌==◌, Bool, true, Option, Some, None, if◌then◌else◌}
 use Rattle.std.proofs.lemmas.Bool.{eqb-true}
 use Rattle.std.proofs.lemmas.Option.{same_Some, none-some}
 use Rattle.run_plan.specs.Admitted.{Admitted}
 use Rattle.run_plan.specs.SmallText.{is_runner_byte}
-use Rattle.run_table.specs.Stored.{StoredRunner, StoredTable}
-use Rattle.run_table.specs.declared.parts.LastParts.{LastParts}
-use Rattle.run_table.specs.declared.parts.StoredLease.{StoredLease}
-use Rattle.workflow_runs.specs.RunState.{JobState, RunState}
-use Rattle.workflow_runs.specs.declared.phases.RunPhase.{RunPhase}
-use Rattle.table_text.specs.declared.kept.Kept.{Kept}
-use Rattle.table_text.specs.declared.kept.Kept.TheVariants as replied
+use Rattle.stored_tables.specs.Stored.{StoredRunner, StoredTable}
+use Rattle.stored_tables.specs.declared.parts.LastParts.{LastParts}
+use Rattle.stored_tables.specs.declared.parts.StoredLease.{StoredLease}
+use Rattle.run_states.specs.RunState.{JobState, RunState}
+use Rattle.run_states.specs.declared.phases.RunPhase.{RunPhase}
+use Rattle.table_text.specs.declared.kept.StoredReply.{StoredReply}
+use Rattle.table_text.specs.declared.kept.StoredReply.TheVariants as replied
 use Rattle.table_text.specs.Commands.{admit, command, number, small_text}
 use Rattle.table_text.specs.FirstLayout.{IsFirstKept, first_kept, first_kept_parts, first_last_command, first_run, first_runner, first_table}
-use Rattle.table_text.specs.FirstLayout.{unspelled}
+use Rattle.table_text.specs.FirstLayout.{unencoded}
 use Rattle.table_text.specs.Format.{Format, byte, counted, follow, only, pair, parts, row, word}
 use Rattle.table_text.specs.Reading.{byte_at, counted_at, follow_at, items_at, pair_at}
 use Rattle.table_text.specs.ReadingCommands.{admit_at, command_at, number_at, small_text_at}
 use Rattle.table_text.specs.ReadingFirst.{first_course_at, first_kept_at, first_kept_of, first_last_at, first_run_at, first_runner_at}
-use Rattle.table_text.specs.ReadingFirst.{first_runners_at, first_runs_at, first_table_at, unspelled_at, with_lease, without_lease}
+use Rattle.table_text.specs.ReadingFirst.{first_runners_at, first_runs_at, first_table_at, unencoded_at, with_lease, without_lease}
 use Rattle.table_text.specs.ReadingTables.{flag_at, job_at, last_lease_at, last_of, lease_at, run_phase_at}
 use Rattle.table_text.specs.Tables.{flag_byte, is_last_lease, job, jobs_planned, last_parts, lease, names_rise, run_byte}
 use Rattle.table_text.proofs.CommandReaders.{admit_reads, chosen, command_reads, number_reads, small_text_reads}
@@ -27,28 +27,28 @@ use Rattle.table_text.proofs.FormReaders.{byte_reads, follow_reads, row_reads}
 use Rattle.table_text.proofs.Readers.{Fronts, Reads, counted_reads, only_reads, pair_reads, parts_reads, some_reads, these_read}
 use Rattle.table_text.proofs.TableReaders.{flag_reads, job_reads, last_back_of, last_lease_reads, last_there, lease_reads, run_phase_reads}
 
-unspelled_reads : {A : Type 0} (x : A) → Reads (unspelled x) (unspelled_at x)
-unspelled_reads {A} x = record {
+unencoded_reads : {A : Type 0} (x : A) → Reads (unencoded x) (unencoded_at x)
+unencoded_reads {A} x = record {
   sound = λ bytes found are h.
-      subst (λ (q : A × List ℕ). Fronts (unspelled x) bytes q) (same_Some (x, bytes) found h)
+      subst (λ (q : A × List ℕ). Fronts (unencoded x) bytes q) (same_Some (x, bytes) found h)
       (record { takes = refl; split = refl; rest = are });
   complete = λ y rest takes. ap (λ (z : A). Some (z, rest)) (sym takes);
 }
 
 -- ---- runs
 
--- the format of what stands behind an event, and of that behind an attempt that is not spelled
+-- the format after an event, and the format after an attempt that is not encoded
 abbrev state : Admitted → Format (RunPhase × (Bool × List JobState))
 state a = pair (parts run_byte byte) (pair (parts flag_byte byte) (row (jobs_planned a) job))
 
 abbrev course : Admitted → Format (ℕ × (RunPhase × (Bool × List JobState)))
-course a = pair (unspelled 1) (state a)
+course a = pair (unencoded 1) (state a)
 
 course_reads : (a : Admitted) → Reads (course a) (first_course_at a)
 unfolding first_course_at
 course_reads a =
-    pair_reads (unspelled 1) (state a) (unspelled_at 1) (pair_at run_phase_at (pair_at flag_at (items_at job_at (jobs_planned a))))
-    (unspelled_reads 1)
+    pair_reads (unencoded 1) (state a) (unencoded_at 1) (pair_at run_phase_at (pair_at flag_at (items_at job_at (jobs_planned a))))
+    (unencoded_reads 1)
     (pair_reads (parts run_byte byte) (pair (parts flag_byte byte) (row (jobs_planned a) job)) run_phase_at
     (pair_at flag_at (items_at job_at (jobs_planned a)))
     run_phase_reads
@@ -66,8 +66,8 @@ first_run_reads =
 
 -- ---- runners
 
--- what is kept has its parts
-kept_there : (k : Kept) → IsFirstKept k → (pair byte lease).Takes (first_kept_parts k) × (first_kept_of (first_kept_parts k) ≡ Some k)
+-- a kept reply is found from its parts
+kept_there : (k : StoredReply) → IsFirstKept k → (pair byte lease).Takes (first_kept_parts k) × (first_kept_of (first_kept_parts k) ≡ Some k)
 kept_there replied.Nothing takes = ((omega arith, tt), refl)
 kept_there (replied.Leased l) takes =
     let none : None ≡ l.place = sym takes.1 in
@@ -75,19 +75,19 @@ kept_there (replied.Leased l) takes =
     ((omega arith, takes.0), ap (λ (x : StoredLease). Some (replied.Leased x)) same)
 kept_there replied.Done takes = ((omega arith, tt), refl)
 
-bare : (k : Kept) (l : Option ℕ) (found : Kept) → without_lease k l ≡ Some found → (k ≡ found) × (l ≡ None)
+bare : (k : StoredReply) (l : Option ℕ) (found : StoredReply) → without_lease k l ≡ Some found → (k ≡ found) × (l ≡ None)
 bare k None found h = (same_Some k found h, refl)
 bare k (Some n) found h = absurd (none-some found h)
 
-abbrev leased : ℕ → Kept
+abbrev leased : ℕ → StoredReply
 leased n = replied.Leased (record { lease = n; place = None })
 
-with_one : (l : Option ℕ) (found : Kept) → with_lease l ≡ Some found → (n : ℕ) × (l ≡ Some n) × (leased n ≡ found)
+with_one : (l : Option ℕ) (found : StoredReply) → with_lease l ≡ Some found → (n : ℕ) × (l ≡ Some n) × (leased n ≡ found)
 with_one None found h = absurd (none-some found h)
 with_one (Some n) found h = (n, refl, same_Some (leased n) found h)
 
--- and what has the parts of one is kept
-back : (b c : ℕ) (l m : Option ℕ) (of k : Kept) → lease.Takes l → (b == c) ≡ true → first_kept_parts of ≡ (c, m) → l ≡ m
+-- and a reply with the parts of one is it
+back : (b c : ℕ) (l m : Option ℕ) (of k : StoredReply) → lease.Takes l → (b == c) ≡ true → first_kept_parts of ≡ (c, m) → l ≡ m
     → (lease.Takes m → IsFirstKept of) → of ≡ k
     → IsFirstKept k × (first_kept_parts k ≡ (b, l))
 back b c l m of k takes is parts same kept found = (
@@ -95,11 +95,11 @@ back b c l m of k takes is parts same kept found = (
   ap first_kept_parts (sym found) ∙ parts ∙ ap (λ n. (n, m)) (sym (eqb-true b c is)) ∙ ap (λ (o : Option ℕ). (b, o)) (sym same),
 )
 
-kept_back : (a : ℕ × Option ℕ) (k : Kept) → (pair byte lease).Takes a → first_kept_of a ≡ Some k
+kept_back : (a : ℕ × Option ℕ) (k : StoredReply) → (pair byte lease).Takes a → first_kept_of a ≡ Some k
     → IsFirstKept k × (first_kept_parts k ≡ a)
 kept_back (b, l) k takes h =
-    let third : Option Kept = if b == 2 then without_lease replied.Done l else None in
-    let second : Option Kept = if b == 1 then with_lease l else third in
+    let third : Option StoredReply = if b == 2 then without_lease replied.Done l else None in
+    let second : Option StoredReply = if b == 1 then with_lease l else third in
     elim (chosen (b == 0) (without_lease replied.Nothing l) second (Some k) h) [
       | inl zero ↦ (let by = bare replied.Nothing l k zero.1 in
           back b 0 l None replied.Nothing k takes.1 zero.0 refl by.1 (λ _. tt) by.0)

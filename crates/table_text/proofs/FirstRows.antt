@@ -1,19 +1,19 @@
--- Worked tables of the first layout and their bytes, by computation.
+-- Examples, by computation: tables of the first layout and their bytes.
 use Rattle.std.specs.Prelude.{◌≡◌, ℕ, List, [], ◌∷◌, ◌++◌, codes, length, true, false, Option, Some, None, refl}
 use Rattle.wf_value.specs.declared.outcome.Outcome.TheVariants as outcome
 use Rattle.run_plan.specs.declared.command.Command.TheVariants as asked
-use Rattle.run_table.specs.Stored.{StoredRunner, StoredTable}
-use Rattle.run_table.specs.declared.parts.LastParts.TheVariants as last
-use Rattle.run_table.specs.declared.parts.StoredLease.{StoredLease}
-use Rattle.workflow_runs.specs.RunState.{RunState}
-use Rattle.workflow_runs.specs.declared.phases.JobPhase.TheVariants as job_phase
-use Rattle.workflow_runs.specs.declared.phases.LegPhase.TheVariants as leg_phase
-use Rattle.workflow_runs.specs.declared.phases.RunPhase.TheVariants as run_phase
+use Rattle.stored_tables.specs.Stored.{StoredRunner, StoredTable}
+use Rattle.stored_tables.specs.declared.parts.LastParts.TheVariants as last
+use Rattle.stored_tables.specs.declared.parts.StoredLease.{StoredLease}
+use Rattle.run_states.specs.RunState.{RunState}
+use Rattle.run_states.specs.declared.phases.JobPhase.TheVariants as job_phase
+use Rattle.run_states.specs.declared.phases.LegPhase.TheVariants as leg_phase
+use Rattle.run_states.specs.declared.phases.RunPhase.TheVariants as run_phase
 use Rattle.table_text.specs.FirstLayout.{first_runner, first_table, is_in_first_layout}
 use Rattle.table_text.specs.Format.{text_bytes, word_bytes}
 
--- without runs and runners: twelve zero bytes, as in the second layout
-empty_bytes : first_table.spelling (record { last_lease = 0; runs = []; runners = [] })
+-- without runs or runners: twelve zero bytes, as in the second layout
+empty_bytes : first_table.encoding (record { last_lease = 0; runs = []; runners = [] })
     ≡ 0 ∷ 0 ∷ 0 ∷ 0 ∷ 0 ∷ 0 ∷ 0 ∷ 0 ∷ 0 ∷ 0 ∷ 0 ∷ 0 ∷ []
 unfolding word_bytes
 empty_bytes = refl
@@ -35,19 +35,19 @@ only_run = record {
 abbrev admitted : StoredTable
 admitted = record { last_lease = 0; runs = only_run ∷ []; runners = [] }
 
--- behind the body stand the phase, the flag and the job
-admitted_bytes : first_table.spelling admitted
+-- the phase, the flag and the job follow the body
+admitted_bytes : first_table.encoding admitted
     ≡ (0 ∷ 0 ∷ 0 ∷ 0 ∷ 0 ∷ 0 ∷ 0 ∷ 1 ∷ 0 ∷ 0 ∷ 0 ∷ 2 ∷ 100 ∷ 49 ∷ 0 ∷ 0 ∷ 0 ∷ 4 ∷ 112 ∷ 117 ∷ 115 ∷ 104 ∷ 0 ∷ 0 ∷ 0 ∷ 81 ∷ [])
     ++ only_run.admitted.body
     ++ (1 ∷ 0 ∷ 1 ∷ 0 ∷ 0 ∷ 0 ∷ 1 ∷ 2 ∷ 0 ∷ 0 ∷ 0 ∷ 0 ∷ 0 ∷ 0 ∷ 0 ∷ 0 ∷ [])
 unfolding text_bytes word_bytes
 admitted_bytes = refl
 
-admitted_length : length (first_table.spelling admitted) ≡ 123
+admitted_length : length (first_table.encoding admitted) ≡ 123
 unfolding text_bytes word_bytes
 admitted_length = refl
 
--- a runner that was given lease 258 by its third command and has it
+-- a runner that got lease 258 with its third command and holds it
 abbrev leased_runner : StoredRunner
 leased_runner = record {
   name = codes "r1";
@@ -56,7 +56,7 @@ leased_runner = record {
   holds = Some 258;
 }
 
-leased_runner_bytes : first_runner.spelling leased_runner
+leased_runner_bytes : first_runner.encoding leased_runner
     ≡ 0 ∷ 0 ∷ 0 ∷ 2 ∷ 114 ∷ 49 ∷ 0 ∷ 0 ∷ 0 ∷ 3
     ∷ 2 ∷ 0 ∷ 0 ∷ 0 ∷ 2 ∷ 114 ∷ 49 ∷ 0 ∷ 0 ∷ 0 ∷ 3 ∷ 0 ∷ 0 ∷ 0 ∷ 1 ∷ 0 ∷ 0 ∷ 0 ∷ 1 ∷ 120
     ∷ 1 ∷ 0 ∷ 0 ∷ 1 ∷ 2
@@ -64,7 +64,7 @@ leased_runner_bytes : first_runner.spelling leased_runner
 unfolding text_bytes word_bytes
 leased_runner_bytes = refl
 
--- one that found nothing: a lease of 0 stands behind the byte of its reply
+-- a runner that got nothing: a lease of 0 follows the byte of its reply
 abbrev idle_runner : StoredRunner
 idle_runner = record {
   name = codes "r";
@@ -73,7 +73,7 @@ idle_runner = record {
   holds = None;
 }
 
-idle_runner_bytes : first_runner.spelling idle_runner
+idle_runner_bytes : first_runner.encoding idle_runner
     ≡ 0 ∷ 0 ∷ 0 ∷ 1 ∷ 114 ∷ 0 ∷ 0 ∷ 0 ∷ 1
     ∷ 2 ∷ 0 ∷ 0 ∷ 0 ∷ 1 ∷ 114 ∷ 0 ∷ 0 ∷ 0 ∷ 1 ∷ 0 ∷ 0 ∷ 0 ∷ 1 ∷ 0 ∷ 0 ∷ 0 ∷ 1 ∷ 120
     ∷ 0 ∷ 0 ∷ 0 ∷ 0 ∷ 0
@@ -81,7 +81,7 @@ idle_runner_bytes : first_runner.spelling idle_runner
 unfolding text_bytes word_bytes
 idle_runner_bytes = refl
 
--- one that has reported, and holds another lease
+-- a runner that has reported, and holds another lease
 abbrev reporting_runner : StoredRunner
 reporting_runner = record {
   name = codes "r1";
@@ -90,7 +90,7 @@ reporting_runner = record {
   holds = Some 7;
 }
 
-reporting_runner_bytes : first_runner.spelling reporting_runner
+reporting_runner_bytes : first_runner.encoding reporting_runner
     ≡ 0 ∷ 0 ∷ 0 ∷ 2 ∷ 114 ∷ 49 ∷ 0 ∷ 0 ∷ 0 ∷ 2
     ∷ 3 ∷ 0 ∷ 0 ∷ 0 ∷ 2 ∷ 114 ∷ 49 ∷ 0 ∷ 0 ∷ 0 ∷ 2 ∷ 0 ∷ 0 ∷ 0 ∷ 1 ∷ 2
     ∷ 2 ∷ 0 ∷ 0 ∷ 0 ∷ 0
@@ -98,7 +98,7 @@ reporting_runner_bytes : first_runner.spelling reporting_runner
 unfolding text_bytes word_bytes
 reporting_runner_bytes = refl
 
--- a look is a command of the first layout, and what asks for an attempt is none
+-- a look is a command of the first layout, and a re-run is not
 a_look_is_one : is_in_first_layout (asked.Look 1) ≡ true
 a_look_is_one = refl
 

@@ -1,4 +1,5 @@
--- What finds one byte, a value that is there, values that go by those before them, and a row of them.
+-- Readers of one byte, of a value that is there, of values whose format depends on those before, and of a row of
+-- values.
 use Rattle.std.proofs.Common.{◌≡◌, ℕ, List, [], ◌∷◌, ◌++◌, refl, sym, ◌∙◌, ap, subst, append_assoc}
 use Rattle.std.specs.Prelude.{Option, None, Some}
 use Rattle.std.proofs.lemmas.Option.{same_Some, none-some}
@@ -22,10 +23,10 @@ unfolding byte_at
 byte_reads = record { sound = byte_sound; complete = λ b rest fits. refl }
 
 present_found : {A : Type 0} (format : Format A) (at : Reader A) → Reads format at → (o : Option A) (rest : List ℕ)
-    → (present format).Takes o → present_at at ((present format).spelling o ++ rest) ≡ Some (o, rest)
+    → (present format).Takes o → present_at at ((present format).encoding o ++ rest) ≡ Some (o, rest)
 present_found format at reads None rest takes = absurd takes
 present_found format at reads (Some x) rest takes =
-    some_bind (at (format.spelling x ++ rest)) (λ a. Some (Some a.0, a.1)) (x, rest) (reads.complete x rest takes)
+    some_bind (at (format.encoding x ++ rest)) (λ a. Some (Some a.0, a.1)) (x, rest) (reads.complete x rest takes)
 
 pub present_reads : {A : Type 0} (format : Format A) (at : Reader A) → Reads format at → Reads (present format) (present_at at)
 present_reads {A} format at reads = record {
@@ -55,14 +56,14 @@ follow_reads {A} {B} first second first_at second_at one other = record {
       subst (λ (q : (A × B) × List ℕ). Fronts (follow first second) bytes q) (same_Some ((a.0, b.0), b.1) found next.2) (record {
         takes = (front.takes, behind.takes);
         split = front.split
-            ∙ ap (λ (l : List ℕ). first.spelling a.0 ++ l) behind.split
-            ∙ sym (append_assoc (first.spelling a.0) ((second a.0).spelling b.0) b.1);
+            ∙ ap (λ (l : List ℕ). first.encoding a.0 ++ l) behind.split
+            ∙ sym (append_assoc (first.encoding a.0) ((second a.0).encoding b.0) b.1);
         rest = behind.rest;
       });
   complete = λ p rest fits.
-      let behind : List ℕ = (second p.0).spelling p.1 ++ rest in
-      ap (follow_at first_at second_at) (append_assoc (first.spelling p.0) ((second p.0).spelling p.1) rest)
-      ∙ some_bind (first_at (first.spelling p.0 ++ behind)) (λ a. second_at a.0 a.1 >>= (λ b. Some ((a.0, b.0), b.1))) (p.0, behind)
+      let behind : List ℕ = (second p.0).encoding p.1 ++ rest in
+      ap (follow_at first_at second_at) (append_assoc (first.encoding p.0) ((second p.0).encoding p.1) rest)
+      ∙ some_bind (first_at (first.encoding p.0 ++ behind)) (λ a. second_at a.0 a.1 >>= (λ b. Some ((a.0, b.0), b.1))) (p.0, behind)
       (one.complete p.0 behind fits.0)
       ∙ some_bind (second_at p.0 behind) (λ b. Some ((p.0, b.0), b.1)) (p.1, rest) ((other p.0).complete p.1 rest fits.1);
 }
@@ -77,5 +78,5 @@ row_reads {A} n format at reads = record {
         rest = items.rest;
       };
   complete = λ xs rest fits.
-      ap (λ k. items_at at k ((row n format).spelling xs ++ rest)) (sym fits.0) ∙ items_complete format at reads xs rest fits.1;
+      ap (λ k. items_at at k ((row n format).encoding xs ++ rest)) (sym fits.0) ∙ items_complete format at reads xs rest fits.1;
 }

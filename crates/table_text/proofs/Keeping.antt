@@ -1,14 +1,14 @@
--- Bytes that stand at the front still, behind a write that ended with an error.
+-- Bytes that are still a prefix after a write that failed.
 use Rattle.std.proofs.Common.{append_assoc, ◌≡◌, ◌++◌, ◌∙◌, ℕ, List, ap, drop, length, sym, take}
 use Rattle.std.proofs.Math.Seq.{take-length, take-append_seam}
 use Rattle.std.proofs.lemmas.List.{take-append-drop}
 use Rattle.table_text.specs.Writing.{Keeps}
 
--- none were appended
+-- nothing was appended
 pub unchanged : (before after : List ℕ) → after ≡ before → Keeps before after
 unchanged before after same = ap (take (length before)) same ∙ take-length before
 
--- some were, and then more, not all
+-- a part was appended, and then more, but not all
 pub longer : (before more middle after : List ℕ) → middle ≡ before ++ more → Keeps middle after → Keeps before after
 longer before more middle after grown kept =
     let rest = drop (length middle) after in

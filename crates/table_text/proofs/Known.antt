@@ -1,4 +1,4 @@
--- What texts and numbers of a form are known to be.
+-- Facts about texts and numbers of a form.
 use Rattle.std.proofs.Common.{◌≡◌, inl, inr, ◌++◌, ℕ, zero, suc, ◌+◌, ◌<◌, ◌≤◌, ◌^◌, List, [], ◌∷◌, length, take, get_or, refl, sym, ◌∙◌}
 use Rattle.std.proofs.Common.{ap, subst, arith}
 use Rattle.std.specs.Prelude.{Bool, true, false, ◌&&◌, ◌≢◌, ◌⊎◌, Some, None, Ok, Err, nat_le, if◌then◌else◌}
@@ -19,13 +19,13 @@ use Rattle.run_plan.specs.Admitted.{Admitted}
 use Rattle.run_plan.specs.PlanOf.{faults_of, plan_faults}
 use Rattle.run_plan.specs.SmallText.{is_of_short_length, is_short, is_label_byte, are_labels}
 use Rattle.table_text.specs.declared.decode_error.DecodeError.{DecodeError}
-use Rattle.table_text.specs.declared.decode_error.DecodeError.TheVariants.{NoMemory, NoSpelling}
+use Rattle.table_text.specs.declared.decode_error.DecodeError.TheVariants.{NoMemory, NoEncoding}
 use Rattle.table_text.specs.Commands.{is_numbered, are_none, is_faultless, small_text, labels}
 use Rattle.table_text.specs.Reading.{◌>>=◌, Fails, kept, text_at, items_at}
 use Rattle.table_text.specs.ReadingCommands.{small_text_at}
 use Rattle.table_text.proofs.Readers.{bind_some}
 
--- a short text is one that a length can tell
+-- a length can hold the size of a short text
 pub short_fits : (kind : ℕ → Bool) (t : List ℕ) → is_short kind t ≡ true → length t < 2 ^ 32
 short_fits kind t h =
     let parts = and_parts (is_of_short_length t) (list_all kind t) h in
@@ -111,7 +111,7 @@ all_more P xs i d below all one =
     let next : suc i ≡ i + 1 = omega arith in
     subst (λ (n : ℕ). AllByRecursion P (take n xs)) next (all_taken P xs i d below all one)
 
--- each has its bytes behind those before it
+-- the bytes of each follow those before it
 pub bytes_more : {X : Type 0} (f : X → List ℕ) (old mid new : List ℕ) (xs : List X) (i : ℕ) (d y : X) → i < length xs → y ≡ get_or xs i d
     → mid ≡ old ++ flat_map f (take i xs) → new ≡ mid ++ f y → new ≡ old ++ flat_map f (take (i + 1) xs)
 bytes_more {X} f old mid new xs i d y below one was is =
@@ -123,7 +123,7 @@ bytes_more {X} f old mid new xs i d y below one was is =
 
 -- ---- bodies
 
--- what begins with a value is not empty
+-- a list that begins with a value is not empty
 begun : {X : Type 0} (x : X) (fs gs : List X) → fs ≡ x ∷ [] → fs ++ gs ≡ [] → ⊥
 begun x [] gs is h = cc
 begun x (f ∷ fs) gs is h = cc
@@ -134,14 +134,14 @@ long_body b long h =
     begun (Numbered TooLong) (event_faults b) (plan_faults (event_of b).workflow)
     (ap (λ t. if t then required NotJson event_faults_in (json_of b) else fault TooLong) long) h
 
--- it has 65,536 bytes at most
+-- it has at most 65,536 bytes
 pub short_body : (b : List ℕ) → faults_of b ≡ [] → length b ≤ 65536
 short_body b h = elim (cases_Bool (nat_le (length b) 65536)) [
   | inl short ↦ leb-true (length b) 65536 short
   | inr long ↦ absurd (long_body b long h)
 ]
 
--- a body in which nothing is wrong is one that a length can tell
+-- a length can hold the size of a body without faults
 pub faultless_fits : (b : List ℕ) → faults_of b ≡ [] → (length b < 2 ^ 32) × (is_faultless b ≡ true)
 unfolding is_faultless
 faultless_fits b h =
@@ -156,7 +156,7 @@ refused_some : {X : Type 0} (fs : List Refusal) (x : X) (r : Refusal) → unless
 refused_some [] x r h = absurd (cc)
 refused_some (f ∷ fs) x r h = refl
 
--- what preparing gives is an event with a body that passes
+-- a successful preparation gives an event whose body passes
 pub kept_body : (b items d e : List ℕ) (z : Admitted) → items ≡ b
     → unless_faulty {X = Admitted} (faults_of items) (record { delivery = d; event = e; body = items }) ≡ Ok z
     → kept is_faultless b ≡ Some z.body
@@ -175,13 +175,13 @@ same_event b items d e z is h =
     let by = given_none (faults_of items) x z h in
     sym by.1 ∙ ap (λ (l : List ℕ). record { delivery = d; event = e; body = l }) is
 
--- and where it refuses for another cause than memory, the body does not
+-- and if it refuses for another reason than memory, the body does not pass
 pub fails_kept : (b items d e : List ℕ) (r : Refusal) (why : DecodeError) → items ≡ b
     → (r ≡ no_memory) ⊎ (unless_faulty {X = Admitted} (faults_of items) (record { delivery = d; event = e; body = items }) ≡ Err r)
-    → (why ≡ NoSpelling → refusal_number r ≢ 50) → Fails why (kept is_faultless b)
+    → (why ≡ NoEncoding → refusal_number r ≢ 50) → Fails why (kept is_faultless b)
 unfolding is_faultless
 fails_kept b items d e r NoMemory is gives other = tt
-fails_kept b items d e r NoSpelling is (inl memory) other = absurd (other refl (ap refusal_number memory))
-fails_kept b items d e r NoSpelling is (inr refused) other =
+fails_kept b items d e r NoEncoding is (inl memory) other = absurd (other refl (ap refusal_number memory))
+fails_kept b items d e r NoEncoding is (inr refused) other =
     let x : Admitted = record { delivery = d; event = e; body = items } in
     ap (λ t. if t then Some b else None) (ap (λ (l : List ℕ). are_none (faults_of l)) (sym is) ∙ refused_some (faults_of items) x r refused)

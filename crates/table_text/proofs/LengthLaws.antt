@@ -1,4 +1,4 @@
--- The length of a spelling is the sum over its fields.
+-- The length of an encoding is the sum over its fields.
 use Rattle.std.proofs.Common.{◌≡◌, ℕ, suc, ◌+◌, ◌<◌, List, [], ◌∷◌, ◌++◌, length, take, get_or, refl, sym, ◌∙◌, ap, arith}
 use Rattle.std.proofs.Common.{length-append}
 use Rattle.std.specs.Prelude.{flat_map, sum_by}
@@ -20,7 +20,7 @@ pub length_text : (t : List ℕ) → length (text_bytes t) ≡ text_length t
 unfolding text_bytes
 length_text t = length-append (word_bytes (length t)) t ∙ ap (λ n. n + length t) (length_word (length t))
 
--- two parts, one behind the other
+-- two parts, one after the other
 pub length_two : (a b : List ℕ) (m n : ℕ) → length a ≡ m → length b ≡ n → length (a ++ b) ≡ m + n
 length_two a b m n one two = length-append a b ∙ ap (λ k. k + length b) one ∙ ap (λ k. m + k) two
 
@@ -29,7 +29,7 @@ sum_same f g [] same = refl
 sum_same f g (x ∷ xs) same =
     sum_by-cons f x xs ∙ ap (λ k. k + sum_by f xs) (same x) ∙ ap (λ k. g x + k) (sum_same f g xs same) ∙ sym (sum_by-cons g x xs)
 
--- the sum so far, and what is counted of one value more
+-- the sum so far, plus the count of one more value
 pub sum_more : {X : Type 0} (f : X → ℕ) (xs : List X) (i : ℕ) (d x : X) (total more : ℕ) → i < length xs → x ≡ get_or xs i d
     → total ≡ sum_by f (take i xs)
     → more ≡ f x → total + more ≡ sum_by f (take (i + 1) xs)
@@ -37,25 +37,25 @@ sum_more f xs i d x total more below is so_far one =
     let next : sum_by f (take (i + 1) xs) ≡ sum_by f (take i xs) + f (get_or xs i d) = sum_by_more f xs i d below in
     ap (λ n. n + more) so_far ∙ ap (λ n. sum_by f (take i xs) + n) (one ∙ ap f is) ∙ sym next
 
--- values of one format behind their count
+-- values of one format after their count
 pub length_counted : {X : Type 0} (f : X → List ℕ) (g : X → ℕ) (xs : List X) → ((x : X) → length (f x) ≡ g x)
     → length (word_bytes (length xs) ++ flat_map f xs) ≡ 4 + sum_by g xs
 length_counted f g xs same =
     length_two (word_bytes (length xs)) (flat_map f xs) 4 (sum_by g xs) (length_word (length xs))
     (length-flat_map f xs ∙ sum_same (λ x. length (f x)) g xs same)
 
-pub length_labels : (texts : List (List ℕ)) → length (labels.spelling texts) ≡ texts_length texts
+pub length_labels : (texts : List (List ℕ)) → length (labels.encoding texts) ≡ texts_length texts
 length_labels texts = length_counted text_bytes text_length texts length_text
 
--- the byte that stands before others
+-- the byte before others
 pub behind_one : (bytes : List ℕ) {n : ℕ} → length bytes ≡ n → suc (length bytes) ≡ 1 + n
 behind_one bytes h = omega (arith, h)
 
 length_outcome : (r : Outcome) → length (outcome_byte r ∷ []) ≡ 1
 length_outcome r = refl
 
--- what stands behind the byte of an admission
-pub length_admit : (event : Admitted) → length (admit.spelling event) ≡ fields_length (asked.Admit event)
+-- the bytes after the kind byte of an admission
+pub length_admit : (event : Admitted) → length (admit.encoding event) ≡ fields_length (asked.Admit event)
 length_admit event =
     length_two (text_bytes event.delivery) (text_bytes event.event ++ text_bytes event.body) (text_length event.delivery)
     (text_length event.event + text_length event.body) (length_text event.delivery)
@@ -67,9 +67,9 @@ pub length_command : (c : Command) → length_of command c ≡ command_length c
 length_command (asked.Admit event) = behind_one _ (length_admit event)
 length_command (asked.Claim asks) =
     behind_one _
-    (length_two (text_bytes asks.runner) (word_bytes asks.number ++ labels.spelling asks.labels) (text_length asks.runner)
+    (length_two (text_bytes asks.runner) (word_bytes asks.number ++ labels.encoding asks.labels) (text_length asks.runner)
     (4 + texts_length asks.labels) (length_text asks.runner)
-    (length_two (word_bytes asks.number) (labels.spelling asks.labels) 4 (texts_length asks.labels) (length_word asks.number)
+    (length_two (word_bytes asks.number) (labels.encoding asks.labels) 4 (texts_length asks.labels) (length_word asks.number)
     (length_labels asks.labels))
     ∙ omega arith)
 length_command (asked.Done report) =

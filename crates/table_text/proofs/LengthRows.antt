@@ -1,4 +1,4 @@
--- The lengths of worked spellings, by computation.
+-- Examples, by computation: the lengths of encodings.
 use Rattle.std.specs.Prelude.{◌≡◌, ℕ, [], ◌∷◌, codes, refl}
 use Rattle.wf_value.specs.declared.outcome.Outcome.TheVariants as ended
 use Rattle.run_plan.specs.declared.command.Command.{Command}

@@ -1,8 +1,8 @@
--- Reading values one behind the other, as a loop does.
+-- Reading consecutive values, as a loop does.
 use Rattle.std.proofs.Common.{◌≡◌, ℕ, suc, ◌-◌, ◌+◌, ◌≤◌, ◌<◌, List, [], ◌∷◌, ◌++◌, sym, ◌∙◌, arith}
 use Rattle.std.specs.Prelude.{Option, Some}
 use Rattle.table_text.specs.declared.decode_error.DecodeError.{DecodeError}
-use Rattle.table_text.specs.declared.decode_error.DecodeError.TheVariants.{NoMemory, NoSpelling}
+use Rattle.table_text.specs.declared.decode_error.DecodeError.TheVariants.{NoMemory, NoEncoding}
 use Rattle.table_text.specs.Reading.{Reader, Fails, items_at, with_front}
 use Rattle.table_text.proofs.Readers.{front_all, front_none, front_more}
 
@@ -18,7 +18,7 @@ pub ends : {A : Type 0} (at : Reader A) (e : DecodeError) (front : List A) (coun
     → i < count
     → Fails e (at bytes) → with_front front (items_at at (count - i) bytes) ≡ total → Fails e total
 ends at NoMemory front count i bytes total below h so_far = tt
-ends at NoSpelling front count i bytes total below h so_far =
+ends at NoEncoding front count i bytes total below h so_far =
     let k : count - i ≡ suc (count - (i + 1)) = omega arith in
     sym so_far ∙ front_none at front (count - i) (count - (i + 1)) bytes k h
 

@@ -1,4 +1,4 @@
--- The forms that readers are made of find what the forms of formats spell, and nothing else.
+-- The building blocks of readers find exactly what those of formats encode.
 use Rattle.std.proofs.Common.{◌≡◌, ℕ, zero, suc, ◌<◌, ◌≤◌, ◌^◌, List, [], ◌∷◌, ◌++◌, length, take, drop, refl, sym, ◌∙◌, ap, subst, arith}
 use Rattle.std.proofs.Common.{append_assoc, append-nil, length-append, take-append-drop}
 use Rattle.std.specs.Prelude.{Bool, IsTrue, true, false, ◌&&◌, Option, Some, None, flat_map, nat_lt, nat_le, if◌then◌else◌}
@@ -8,23 +8,23 @@ use Rattle.std.proofs.lemmas.Bool.{and_parts, le-leb, le-ltb, leb-true, ltb-fals
 use Rattle.std.proofs.lemmas.List.{take_at, drop_at, length-take}
 use Rattle.std.proofs.lemmas.Nat.{from_be_bytes-to_be_bytes_4}
 use Rattle.std.proofs.lemmas.Option.{same_Some, none-some, cond_some, some_pair_parts}
-use Rattle.table_text.specs.Format.{Format, NoneBeginsAnother, HasOneSpelling, StandsAtFront, word, word_bytes, text, text_bytes, only}
+use Rattle.table_text.specs.Format.{Format, NoneBeginsAnother, HasOneEncoding, StandsAtFront, word, word_bytes, text, text_bytes, only}
 use Rattle.table_text.specs.Format.{pair, parts, counted}
 use Rattle.table_text.specs.Reading.{◌>>=◌, Reader, word_at, bytes_at, text_at, kept, only_at, pair_at, parts_at, items_at, with_front}
 use Rattle.table_text.specs.Reading.{counted_at, some_at}
 use Rattle.wf_value.proofs.Bytes.{AreBytes, AreBytes-drop, spell_number, number_below}
-use Rattle.run_table.proofs.GroupsOfTable.{given_if}
+use Rattle.stored_tables.proofs.GroupsOfTable.{given_if}
 
--- The bytes are a spelling of what was found, and then the bytes behind it.
+-- The bytes are an encoding of what was found, followed by the remaining bytes.
 pub record Fronts {A : Type 0} (format : Format A) (bytes : List ℕ) (found : A × List ℕ) : Type 0 where
   pub takes : format.Takes found.0
-  pub split : bytes ≡ format.spelling found.0 ++ found.1
+  pub split : bytes ≡ format.encoding found.0 ++ found.1
   pub rest : AreBytes found.1
 
--- What is found is spelled there, and what is spelled is found.
+-- What is found is encoded there, and what is encoded is found.
 pub record Reads {A : Type 0} (format : Format A) (at : Reader A) : Type 0 where
   pub sound : (bytes : List ℕ) (found : A × List ℕ) → AreBytes bytes → at bytes ≡ Some found → Fronts format bytes found
-  pub complete : (x : A) (rest : List ℕ) → format.Takes x → at (format.spelling x ++ rest) ≡ Some (x, rest)
+  pub complete : (x : A) (rest : List ℕ) → format.Takes x → at (format.encoding x ++ rest) ≡ Some (x, rest)
 
 pub bind_some : {A B : Type 0} (o : Option A) (f : A → Option B) (y : B) → (o >>= f) ≡ Some y → (x : A) × (o ≡ Some x) × (f x ≡ Some y)
 bind_some None f y h = absurd (none-some y h)
@@ -60,7 +60,7 @@ word_reads = record {
       ∙ ap (λ (l : List ℕ). Some (n, l)) behind;
 }
 
--- so many bytes, for which nothing but the count is asked
+-- exactly `n` bytes, of any value
 pub bytes_sound : (n : ℕ) (bytes : List ℕ) (found : List ℕ × List ℕ) → bytes_at n bytes ≡ Some found → (length found.0 ≡ n)
     × (bytes ≡ found.0 ++ found.1) × (found.1 ≡ drop n bytes)
 bytes_sound n bytes found h =
@@ -100,11 +100,11 @@ text_reads = record {
       ∙ bytes_complete t rest;
 }
 
--- these values, of each the parts that a format spells
+-- these values, encoded as their parts in a format
 abbrev pub these : {A B : Type 0} → (B → Type 0) → (B → A) → Format A → Format B
-these Takes parts_of format = record { Takes = Takes; spelling = λ b. format.spelling (parts_of b) }
+these Takes parts_of format = record { Takes = Takes; encoding = λ b. format.encoding (parts_of b) }
 
--- where each of these values is found from its parts, and no other has them
+-- if each of these values is found from its parts, and no other value has them
 pub these_read : {A B : Type 0} (Takes : B → Type 0) (parts_of : B → A) (whole_of : A → Option B) (format : Format A) (at : Reader A)
     → ((b : B) → Takes b → format.Takes (parts_of b) × (whole_of (parts_of b) ≡ Some b))
     → ((a : A) (b : B) → format.Takes a → whole_of a ≡ Some b → Takes b × (parts_of b ≡ a)) → Reads format at
@@ -119,17 +119,17 @@ these_read {A} {B} Takes parts_of whole_of format at there back reads = record {
       let is = back a.0 b front.takes next.1 in
       subst (λ (q : B × List ℕ). Fronts (these Takes parts_of format) bytes q) (same_Some (b, a.1) found next.2) (record {
         takes = is.0;
-        split = front.split ∙ ap (λ x. format.spelling x ++ a.1) (sym is.1);
+        split = front.split ∙ ap (λ x. format.encoding x ++ a.1) (sym is.1);
         rest = front.rest;
       });
   complete = λ b rest takes.
       let fits = there b takes in
-      some_bind (at (format.spelling (parts_of b) ++ rest)) (λ a. whole_of a.0 >>= (λ c. Some (c, a.1))) (parts_of b, rest)
+      some_bind (at (format.encoding (parts_of b) ++ rest)) (λ a. whole_of a.0 >>= (λ c. Some (c, a.1))) (parts_of b, rest)
       (reads.complete (parts_of b) rest fits.0)
       ∙ some_bind (whole_of (parts_of b)) (λ c. Some (c, rest)) b fits.1;
 }
 
--- where each value is found from its parts
+-- if each value is found from its parts
 pub some_reads : {A B : Type 0} (parts_of : B → A) (whole_of : A → Option B) (format : Format A) (at : Reader A)
     → ((b : B) → whole_of (parts_of b) ≡ Some b)
     → ((a : A) (b : B) → whole_of a ≡ Some b → parts_of b ≡ a) → Reads format at → Reads (parts parts_of format) (some_at whole_of at)
@@ -167,23 +167,23 @@ pair_reads {A} {B} first second first_at second_at one other = record {
       subst (λ (q : (A × B) × List ℕ). Fronts (pair first second) bytes q) (same_Some ((a.0, b.0), b.1) found next.2) (record {
         takes = (front.takes, behind.takes);
         split = front.split
-            ∙ ap (λ (l : List ℕ). first.spelling a.0 ++ l) behind.split
-            ∙ sym (append_assoc (first.spelling a.0) (second.spelling b.0) b.1);
+            ∙ ap (λ (l : List ℕ). first.encoding a.0 ++ l) behind.split
+            ∙ sym (append_assoc (first.encoding a.0) (second.encoding b.0) b.1);
         rest = behind.rest;
       });
   complete = λ p rest fits.
-      ap (pair_at first_at second_at) (append_assoc (first.spelling p.0) (second.spelling p.1) rest)
-      ∙ some_bind (first_at (first.spelling p.0 ++ (second.spelling p.1 ++ rest))) (λ a. second_at a.1 >>= (λ b. Some ((a.0, b.0), b.1)))
-      (p.0, second.spelling p.1 ++ rest)
-      (one.complete p.0 (second.spelling p.1 ++ rest) fits.0)
-      ∙ some_bind (second_at (second.spelling p.1 ++ rest)) (λ b. Some ((p.0, b.0), b.1)) (p.1, rest) (other.complete p.1 rest fits.1);
+      ap (pair_at first_at second_at) (append_assoc (first.encoding p.0) (second.encoding p.1) rest)
+      ∙ some_bind (first_at (first.encoding p.0 ++ (second.encoding p.1 ++ rest))) (λ a. second_at a.1 >>= (λ b. Some ((a.0, b.0), b.1)))
+      (p.0, second.encoding p.1 ++ rest)
+      (one.complete p.0 (second.encoding p.1 ++ rest) fits.0)
+      ∙ some_bind (second_at (second.encoding p.1 ++ rest)) (λ b. Some ((p.0, b.0), b.1)) (p.1, rest) (other.complete p.1 rest fits.1);
 }
 
--- one behind the other, so many
+-- exactly `n` values, one after another
 pub record Items {A : Type 0} (format : Format A) (n : ℕ) (bytes : List ℕ) (found : List A × List ℕ) : Type 0 where
   pub many : length found.0 ≡ n
   pub takes : AllByRecursion format.Takes found.0
-  pub split : bytes ≡ flat_map format.spelling found.0 ++ found.1
+  pub split : bytes ≡ flat_map format.encoding found.0 ++ found.1
   pub rest : AreBytes found.1
 
 pub items_sound : {A : Type 0} (format : Format A) (at : Reader A) → Reads format at → (n : ℕ) (bytes : List ℕ) (found : List A × List ℕ)
@@ -207,21 +207,21 @@ items_sound {A} format at reads (suc n) bytes found are h =
       many = ap suc behind.many;
       takes = (front.takes, behind.takes);
       split = front.split
-          ∙ ap (λ (l : List ℕ). format.spelling x.0 ++ l) behind.split
-          ∙ sym (append_assoc (format.spelling x.0) (flat_map format.spelling xs.0) xs.1);
+          ∙ ap (λ (l : List ℕ). format.encoding x.0 ++ l) behind.split
+          ∙ sym (append_assoc (format.encoding x.0) (flat_map format.encoding xs.0) xs.1);
       rest = behind.rest;
     })
 
 pub items_complete : {A : Type 0} (format : Format A) (at : Reader A) → Reads format at → (xs : List A) (rest : List ℕ)
     → AllByRecursion format.Takes xs
-    → items_at at (length xs) (flat_map format.spelling xs ++ rest) ≡ Some (xs, rest)
+    → items_at at (length xs) (flat_map format.encoding xs ++ rest) ≡ Some (xs, rest)
 items_complete format at reads [] rest fits = refl
 items_complete format at reads (x ∷ xs) rest fits =
-    ap (items_at at (suc (length xs))) (append_assoc (format.spelling x) (flat_map format.spelling xs) rest)
-    ∙ some_bind (at (format.spelling x ++ (flat_map format.spelling xs ++ rest)))
+    ap (items_at at (suc (length xs))) (append_assoc (format.encoding x) (flat_map format.encoding xs) rest)
+    ∙ some_bind (at (format.encoding x ++ (flat_map format.encoding xs ++ rest)))
     (λ y. items_at at (length xs) y.1 >>= (λ ys. Some (y.0 ∷ ys.0, ys.1)))
-    (x, flat_map format.spelling xs ++ rest) (reads.complete x (flat_map format.spelling xs ++ rest) fits.0)
-    ∙ some_bind (items_at at (length xs) (flat_map format.spelling xs ++ rest)) (λ ys. Some (x ∷ ys.0, ys.1)) (xs, rest)
+    (x, flat_map format.encoding xs ++ rest) (reads.complete x (flat_map format.encoding xs ++ rest) fits.0)
+    ∙ some_bind (items_at at (length xs) (flat_map format.encoding xs ++ rest)) (λ ys. Some (x ∷ ys.0, ys.1)) (xs, rest)
     (items_complete format at reads xs rest fits.1)
 
 -- a test that was passed
@@ -242,21 +242,21 @@ counted_reads least most format at small reads = record {
         takes = (subst (λ (k : ℕ). least ≤ k) (sym items.many) low, subst (λ (k : ℕ). k ≤ most) (sym items.many) high, items.takes);
         split = front.split
             ∙ ap (λ (l : List ℕ). word_bytes n.0 ++ l) items.split
-            ∙ sym (append_assoc (word_bytes n.0) (flat_map format.spelling found.0) found.1)
-            ∙ ap (λ (k : ℕ). (word_bytes k ++ flat_map format.spelling found.0) ++ found.1) (sym items.many);
+            ∙ sym (append_assoc (word_bytes n.0) (flat_map format.encoding found.0) found.1)
+            ∙ ap (λ (k : ℕ). (word_bytes k ++ flat_map format.encoding found.0) ++ found.1) (sym items.many);
         rest = items.rest;
       };
   complete = λ xs rest fits.
       let n : ℕ = length xs in
-      let behind : List ℕ = flat_map format.spelling xs ++ rest in
+      let behind : List ℕ = flat_map format.encoding xs ++ rest in
       let short : length xs < 2 ^ 32 = omega (arith, fits.1) in
       let passes : (nat_le least (length xs) && nat_le (length xs) most) ≡ true =
       ap (λ b. b && nat_le (length xs) most) (le-leb least (length xs) fits.0) ∙ le-leb (length xs) most fits.1 in
-      ap (counted_at least most at) (append_assoc (word_bytes (length xs)) (flat_map format.spelling xs) rest)
-      ∙ some_bind (word_at (word_bytes (length xs) ++ (flat_map format.spelling xs ++ rest)))
-      (λ n. if nat_le least n.0 && nat_le n.0 most then items_at at n.0 n.1 else None) (length xs, flat_map format.spelling xs ++ rest)
-      (word_reads.complete (length xs) (flat_map format.spelling xs ++ rest) short)
-      ∙ ap (λ b. if b then items_at at (length xs) (flat_map format.spelling xs ++ rest) else None) passes
+      ap (counted_at least most at) (append_assoc (word_bytes (length xs)) (flat_map format.encoding xs) rest)
+      ∙ some_bind (word_at (word_bytes (length xs) ++ (flat_map format.encoding xs ++ rest)))
+      (λ n. if nat_le least n.0 && nat_le n.0 most then items_at at n.0 n.1 else None) (length xs, flat_map format.encoding xs ++ rest)
+      (word_reads.complete (length xs) (flat_map format.encoding xs ++ rest) short)
+      ∙ ap (λ b. if b then items_at at (length xs) (flat_map format.encoding xs ++ rest) else None) passes
       ∙ items_complete format at reads xs rest fits.2;
 }
 
@@ -288,18 +288,18 @@ front_more {A} at front n k bytes x behind is h =
 
 -- ---- laws of formats
 
--- no spelling begins another where a reader finds what is spelled
+-- no encoding is a proper prefix of another if a reader finds what is encoded
 pub none_begins : {A : Type 0} (format : Format A) (at : Reader A) → Reads format at → NoneBeginsAnother format
 none_begins {A} format at reads a b more other x y one two same =
     let found : at (a ++ more) ≡ Some (x, more) = ap (λ (l : List ℕ). at (l ++ more)) one.1 ∙ reads.complete x more one.0 in
     let again : at (b ++ other) ≡ Some (y, other) = ap (λ (l : List ℕ). at (l ++ other)) two.1 ∙ reads.complete y other two.0 in
     let parts = some_pair_parts x y more other (sym found ∙ ap at same ∙ again) in
-    (one.1 ∙ ap format.spelling parts.0 ∙ sym two.1, parts.0)
+    (one.1 ∙ ap format.encoding parts.0 ∙ sym two.1, parts.0)
 
-pub one_spelling : {A : Type 0} (format : Format A) → HasOneSpelling format
-one_spelling format x takes = (format.spelling x, (takes, refl), λ other spelled. spelled.1)
+pub one_encoding : {A : Type 0} (format : Format A) → HasOneEncoding format
+one_encoding format x takes = (format.encoding x, (takes, refl), λ other encoded. encoded.1)
 
--- what was found stands at the front
+-- what was found is at the front
 pub found_at_front : {A : Type 0} (format : Format A) (at : Reader A) → Reads format at → (bytes : List ℕ) (found : A × List ℕ)
     → AreBytes bytes → at bytes ≡ Some found
     → StandsAtFront format bytes (Some found)
@@ -307,7 +307,7 @@ found_at_front format at reads bytes found are h =
     let front = reads.sound bytes found are h in
     (front.takes, front.split)
 
--- and where nothing was found nothing does
+-- and if nothing was found, nothing is
 pub none_at_front : {A : Type 0} (format : Format A) (at : Reader A) → Reads format at → (bytes : List ℕ) → at bytes ≡ None
     → StandsAtFront format bytes None
 none_at_front format at reads bytes h x rest opens =

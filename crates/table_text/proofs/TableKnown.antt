@@ -1,4 +1,4 @@
--- What is known of the parts of a table that is written.
+-- Facts about the parts of a table that is written.
 use Rattle.std.proofs.Common.{◌≡◌, ℕ, zero, suc, ◌≤◌, ◌<◌, List, [], ◌∷◌, length, get_or, ◌++◌, ◌^◌, refl, sym, ◌∙◌, ap, ap₂, arith}
 use Rattle.std.proofs.Common.{append_assoc}
 use Rattle.std.specs.Prelude.{◌&&◌, Bool, true, false, not, map, flat_map, nat_le, Option, Some, None, slice_get, option_and_then}
@@ -20,22 +20,23 @@ use Rattle.run_plan.specs.declared.planned.PlannedJob.{PlannedJob}
 use Rattle.run_plan.specs.declared.reply.Lease.{Lease}
 use Rattle.run_plan.proofs.FewJobs.{few_jobs}
 use Rattle.run_plan.proofs.FewLegs.{few_planned}
-use Rattle.workflow_runs.specs.Places.{job_at, plan_at}
+use Rattle.run_states.specs.Places.{job_at, plan_at}
 use Rattle.run_table.specs.Sound.{IsOfALeg, IsSound, KeptIsOfALeg}
-use Rattle.run_table.specs.Stored.{IsStorable, stored_runner, stored_table}
+use Rattle.run_table.specs.Storable.{IsStorable}
+use Rattle.stored_tables.specs.Stored.{stored_runner, stored_table}
 use Rattle.run_table.specs.TableState.{RunnerState, TableState}
-use Rattle.workflow_runs.specs.RunState.{LegState, JobState, RunState}
+use Rattle.run_states.specs.RunState.{LegState, JobState, RunState}
 use Rattle.run_table.specs.Turns.{names_rise}
-use Rattle.workflow_runs.specs.declared.phases.LegPhase.{LegPhase}
-use Rattle.workflow_runs.specs.declared.phases.LegPhase.TheVariants as leg_phase
-use Rattle.workflow_runs.specs.declared.phases.RunPhase.{RunPhase}
-use Rattle.workflow_runs.specs.declared.phases.RunPhase.TheVariants as run_phase
+use Rattle.run_states.specs.declared.phases.LegPhase.{LegPhase}
+use Rattle.run_states.specs.declared.phases.LegPhase.TheVariants as leg_phase
+use Rattle.run_states.specs.declared.phases.RunPhase.{RunPhase}
+use Rattle.run_states.specs.declared.phases.RunPhase.TheVariants as run_phase
 use Rattle.table_text.specs.Commands.{admit, are_none, is_faultless}
 use Rattle.table_text.specs.Tables.{IsLease, flag_byte, is_attempt, job, leg, leg_byte, run, run_byte, runner, table}
 use Rattle.table_text.specs.Format.{only, word, word_bytes}
 use Rattle.table_text.specs.Writing.{HasByte, JobHasBytes, KeptHasBytes, RunHasBytes}
 use Rattle.run_table.proofs.RunnerPut.{all_from_each}
-use Rattle.workflow_runs.proofs.Found.{each_at}
+use Rattle.run_states.proofs.Found.{each_at}
 
 leg_byte_fits : (p : LegPhase) → leg_byte p < 256
 leg_byte_fits leg_phase.New = omega arith
@@ -94,7 +95,7 @@ runs_have_bytes runs s =
       s.attempts_are_given r x at,
     ))
 
--- ---- the leases that are kept of a table have bytes
+-- ---- the kept leases of a table have bytes
 
 no_fault : (fs : List Refusal) → are_none fs ≡ true → fs ≡ []
 no_fault [] h = refl
@@ -106,9 +107,9 @@ planned_place : (o : Option PlannedJob) (l : ℕ) → l < option_map_or (λ (pla
 planned_place None l h = absurd (omega (arith, h))
 planned_place (Some planned) l h = (planned, refl, h)
 
--- its job and its leg are of the plan of a body without a fault
+-- its job and its leg are in the plan of a body without faults
 of_a_leg_fits : (runs : List RunState) → AllByRecursion run.Takes runs → (most : ℕ) (kept : KeptLease) → IsOfALeg most runs kept
-    → (kept.job < 2 ^ 32) × (kept.told.leg < 2 ^ 32)
+    → (kept.job < 2 ^ 32) × (kept.lease_reply.leg < 2 ^ 32)
 unfolding is_faultless
 of_a_leg_fits runs takes most kept of =
     let body : List ℕ = of.run.admitted.body in
@@ -121,7 +122,7 @@ of_a_leg_fits runs takes most kept of =
     let few_jobs_there = few_jobs body faultless in
     let below = slice_get_within (plan_of body) of.place.job at.0 in_plan in
     let few_legs = few_planned body of.place.job at.0 in_plan in
-    let leg : kept.told.leg ≡ of.place.leg = ap (λ (t : Lease). t.leg) of.tells in
+    let leg : kept.lease_reply.leg ≡ of.place.leg = ap (λ (t : Lease). t.leg) of.tells in
     (omega (arith, of.job_is, below, few_jobs_there), omega (arith, leg, at.2, few_legs))
 
 kept_has_bytes : (runs : List RunState) → AllByRecursion run.Takes runs → (most : ℕ) (x : LastCommand) → KeptIsOfALeg most runs x
@@ -136,7 +137,7 @@ runners_have_bytes t s takes =
     all_from_each (λ (r : RunnerState). KeptHasBytes r.last) t.runners (λ k x at.
     kept_has_bytes t.runs takes t.last_lease x.last (s.kept_leases_are_of_legs k x at))
 
--- ---- one part behind another
+-- ---- one part after another
 
 front_bytes : (old a b c d event event' jobs jobs' : List ℕ) (x x' y y' : ℕ) → a ≡ old ++ event → b ≡ a ++ x ∷ [] → c ≡ b ++ y ∷ []
     → d ≡ c ++ jobs
@@ -175,24 +176,24 @@ five_parts old a b c d e l n rs m qs one two three four five =
 
 pub table_bytes : (t : TableState) (old a b c d e : List ℕ) (lease : ℕ) (runs : List RunState) (runners : List RunnerState)
     → a ≡ old ++ word_bytes lease
-    → b ≡ a ++ word_bytes (length runs) → c ≡ b ++ flat_map run.spelling runs → d ≡ c ++ word_bytes (length runners)
-    → e ≡ d ++ flat_map (λ (r : RunnerState). runner.spelling (stored_runner r)) runners → lease ≡ t.last_lease → runs ≡ t.runs
+    → b ≡ a ++ word_bytes (length runs) → c ≡ b ++ flat_map run.encoding runs → d ≡ c ++ word_bytes (length runners)
+    → e ≡ d ++ flat_map (λ (r : RunnerState). runner.encoding (stored_runner r)) runners → lease ≡ t.last_lease → runs ≡ t.runs
     → runners ≡ t.runners
-    → e ≡ old ++ table.spelling (stored_table t)
+    → e ≡ old ++ table.encoding (stored_table t)
 table_bytes t old a b c d e lease runs runners one two three four five same_lease same_runs same_runners =
-    five_parts old a b c d e (word_bytes lease) (word_bytes (length runs)) (flat_map run.spelling runs) (word_bytes (length runners))
-    (flat_map (λ (r : RunnerState). runner.spelling (stored_runner r)) runners) one two three four five
-    ∙ ap (λ n. old ++ (word_bytes n ++ ((word_bytes (length runs) ++ flat_map run.spelling runs)
-    ++ (word_bytes (length runners) ++ flat_map (λ (r : RunnerState). runner.spelling (stored_runner r)) runners)))) same_lease
-    ∙ ap (λ (rs : List RunState). old ++ (word_bytes t.last_lease ++ ((word_bytes (length rs) ++ flat_map run.spelling rs)
-    ++ (word_bytes (length runners) ++ flat_map (λ (r : RunnerState). runner.spelling (stored_runner r)) runners)))) same_runs
-    ∙ ap (λ (qs : List RunnerState). old ++ (word_bytes t.last_lease ++ ((word_bytes (length t.runs) ++ flat_map run.spelling t.runs)
-    ++ (word_bytes (length qs) ++ flat_map (λ (r : RunnerState). runner.spelling (stored_runner r)) qs)))) same_runners
-    ∙ ap (λ n. old ++ (word_bytes t.last_lease ++ ((word_bytes (length t.runs) ++ flat_map run.spelling t.runs)
-    ++ (word_bytes n ++ flat_map (λ (r : RunnerState). runner.spelling (stored_runner r)) t.runners))))
+    five_parts old a b c d e (word_bytes lease) (word_bytes (length runs)) (flat_map run.encoding runs) (word_bytes (length runners))
+    (flat_map (λ (r : RunnerState). runner.encoding (stored_runner r)) runners) one two three four five
+    ∙ ap (λ n. old ++ (word_bytes n ++ ((word_bytes (length runs) ++ flat_map run.encoding runs)
+    ++ (word_bytes (length runners) ++ flat_map (λ (r : RunnerState). runner.encoding (stored_runner r)) runners)))) same_lease
+    ∙ ap (λ (rs : List RunState). old ++ (word_bytes t.last_lease ++ ((word_bytes (length rs) ++ flat_map run.encoding rs)
+    ++ (word_bytes (length runners) ++ flat_map (λ (r : RunnerState). runner.encoding (stored_runner r)) runners)))) same_runs
+    ∙ ap (λ (qs : List RunnerState). old ++ (word_bytes t.last_lease ++ ((word_bytes (length t.runs) ++ flat_map run.encoding t.runs)
+    ++ (word_bytes (length qs) ++ flat_map (λ (r : RunnerState). runner.encoding (stored_runner r)) qs)))) same_runners
+    ∙ ap (λ n. old ++ (word_bytes t.last_lease ++ ((word_bytes (length t.runs) ++ flat_map run.encoding t.runs)
+    ++ (word_bytes n ++ flat_map (λ (r : RunnerState). runner.encoding (stored_runner r)) t.runners))))
     (sym (length-map t.runners stored_runner))
-    ∙ ap (λ (l : List ℕ). old ++ (word_bytes t.last_lease ++ ((word_bytes (length t.runs) ++ flat_map run.spelling t.runs)
-    ++ (word_bytes (length (map stored_runner t.runners)) ++ l)))) (sym (flat_map-map runner.spelling stored_runner t.runners))
+    ∙ ap (λ (l : List ℕ). old ++ (word_bytes t.last_lease ++ ((word_bytes (length t.runs) ++ flat_map run.encoding t.runs)
+    ++ (word_bytes (length (map stored_runner t.runners)) ++ l)))) (sym (flat_map-map runner.encoding stored_runner t.runners))
 
 pub table_takes : (t : TableState) → t.last_lease ≤ 999999999 → length t.runs ≤ 100000 → AllByRecursion run.Takes t.runs
     → length t.runners ≤ 4294967295

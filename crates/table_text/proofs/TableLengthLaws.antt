@@ -1,38 +1,38 @@
--- The length of a table's spelling is the sum over its fields.
+-- The length of a table's encoding is the sum over its fields.
 use Rattle.std.proofs.Common.{◌≡◌, ℕ, ◌+◌, ◌*◌, List, [], ◌∷◌, ◌++◌, length, refl, sym, ◌∙◌, ap, arith}
 use Rattle.std.specs.Prelude.{flat_map, map, sum_by, Option, Some, None}
 use Rattle.std.specs.Option.{option_map_or}
 use Rattle.std.proofs.lemmas.List.Concat.{length-flat_map}
 use Rattle.std.proofs.lemmas.List.Sums.{sum_by-cons}
 use Rattle.run_plan.specs.declared.command.Command.TheVariants as asked
-use Rattle.run_table.specs.Stored.{StoredRunner, StoredTable}
-use Rattle.workflow_runs.specs.RunState.{LegState, JobState, RunState}
-use Rattle.run_table.specs.declared.parts.LastParts.{LastParts}
-use Rattle.run_table.specs.declared.parts.LastParts.TheVariants as last
-use Rattle.run_table.specs.declared.parts.StoredLease.{StoredLease}
-use Rattle.run_table.specs.declared.parts.StoredPlace.{StoredPlace}
+use Rattle.stored_tables.specs.Stored.{StoredRunner, StoredTable}
+use Rattle.run_states.specs.RunState.{LegState, JobState, RunState}
+use Rattle.stored_tables.specs.declared.parts.LastParts.{LastParts}
+use Rattle.stored_tables.specs.declared.parts.LastParts.TheVariants as last
+use Rattle.stored_tables.specs.declared.parts.StoredLease.{StoredLease}
+use Rattle.stored_tables.specs.declared.parts.StoredPlace.{StoredPlace}
 use Rattle.table_text.specs.Commands.{admit, command_bytes}
 use Rattle.table_text.specs.Format.{present, text_bytes, word_bytes}
 use Rattle.table_text.specs.Lengths.{command_length, fields_length, length_of, text_length}
 use Rattle.table_text.specs.TableLengths.{job_length, last_length, lease_length, run_length, runner_length, table_length}
 use Rattle.table_text.specs.Tables.{flag_byte, job, kept, kept_lease, last_command, lease, leg, place, run, run_byte, runner, table}
-use Rattle.table_text.specs.declared.kept.Kept.TheVariants as replied
+use Rattle.table_text.specs.declared.kept.StoredReply.TheVariants as replied
 use Rattle.table_text.proofs.LengthLaws.{behind_one, length_admit, length_command, length_counted, length_text, length_two, length_word}
 use Rattle.table_text.proofs.LengthLaws.{sum_same}
 
 length_leg : (l : LegState) → length_of leg l ≡ 5
-length_leg l = behind_one (lease.spelling l.lease) (length_lease l.lease) ∙ omega arith
+length_leg l = behind_one (lease.encoding l.lease) (length_lease l.lease) ∙ omega arith
   where
-    length_lease : (o : Option ℕ) → length (lease.spelling o) ≡ 4
+    length_lease : (o : Option ℕ) → length (lease.encoding o) ≡ 4
     length_lease o = length_word _
 
--- the same sum over what is seen of the values
+-- the same sum over the values seen through a view
 pub sum_seen : {X Y : Type 0} (f : Y → ℕ) (g : X → Y) (xs : List X) → sum_by f (map g xs) ≡ sum_by (λ x. f (g x)) xs
 sum_seen f g [] = refl
 sum_seen f g (x ∷ xs) =
     sum_by-cons f (g x) (map g xs) ∙ ap (λ n. f (g x) + n) (sum_seen f g xs) ∙ sym (sum_by-cons (λ x. f (g x)) x xs)
 
--- each of the legs has five
+-- each of the legs has five bytes
 five_each : (legs : List LegState) → sum_by (λ (l : LegState). 5) legs ≡ 5 * length legs
 five_each [] = refl
 five_each (l ∷ ls) =
@@ -42,20 +42,20 @@ five_each (l ∷ ls) =
 
 length_job : (j : JobState) → length_of job j ≡ job_length j
 length_job j =
-    let legs = length_counted leg.spelling (λ (l : LegState). 5) j.legs length_leg in
+    let legs = length_counted leg.encoding (λ (l : LegState). 5) j.legs length_leg in
     let five = five_each j.legs in
-    behind_one (word_bytes (length j.legs) ++ flat_map leg.spelling j.legs) legs ∙ omega (arith, five)
+    behind_one (word_bytes (length j.legs) ++ flat_map leg.encoding j.legs) legs ∙ omega (arith, five)
 
 length_run : (r : RunState) → length_of run r ≡ run_length r
 length_run r =
-    let jobs : length (flat_map job.spelling r.jobs) ≡ sum_by job_length r.jobs =
-    length-flat_map job.spelling r.jobs ∙ sum_same (λ j. length (job.spelling j)) job_length r.jobs length_job in
-    length_two (admit.spelling r.admitted) (word_bytes r.attempt ++ run_byte r.phase ∷ flag_byte r.stopping ∷ flat_map job.spelling r.jobs)
+    let jobs : length (flat_map job.encoding r.jobs) ≡ sum_by job_length r.jobs =
+    length-flat_map job.encoding r.jobs ∙ sum_same (λ j. length (job.encoding j)) job_length r.jobs length_job in
+    length_two (admit.encoding r.admitted) (word_bytes r.attempt ++ run_byte r.phase ∷ flag_byte r.stopping ∷ flat_map job.encoding r.jobs)
     (fields_length (asked.Admit r.admitted))
     (4 + (1 + (1 + sum_by job_length r.jobs))) (length_admit r.admitted)
-    (length_two (word_bytes r.attempt) (run_byte r.phase ∷ flag_byte r.stopping ∷ flat_map job.spelling r.jobs) 4
+    (length_two (word_bytes r.attempt) (run_byte r.phase ∷ flag_byte r.stopping ∷ flat_map job.encoding r.jobs) 4
     (1 + (1 + sum_by job_length r.jobs)) (length_word r.attempt)
-    (behind_one (flag_byte r.stopping ∷ flat_map job.spelling r.jobs) (behind_one (flat_map job.spelling r.jobs) jobs)))
+    (behind_one (flag_byte r.stopping ∷ flat_map job.encoding r.jobs) (behind_one (flat_map job.encoding r.jobs) jobs)))
     ∙ omega arith
 
 length_place : (o : Option StoredPlace) → length_of (present place) o ≡ option_map_or (λ _. 16) o 0
@@ -67,38 +67,38 @@ length_place (Some p) =
 
 length_kept_lease : (l : StoredLease) → length_of kept_lease l ≡ lease_length l
 length_kept_lease l =
-    length_two (word_bytes l.lease) ((present place).spelling l.place) 4 (option_map_or (λ _. 16) l.place 0) (length_word l.lease)
+    length_two (word_bytes l.lease) ((present place).encoding l.place) 4 (option_map_or (λ _. 16) l.place 0) (length_word l.lease)
     (length_place l.place)
 
 length_last : (l : LastParts) → length_of last_command l ≡ last_length l
 length_last (last.Claim claim None) =
-    length_two (command_bytes (asked.Claim claim)) (kept.spelling replied.Nothing) (command_length (asked.Claim claim)) 1
+    length_two (command_bytes (asked.Claim claim)) (kept.encoding replied.Nothing) (command_length (asked.Claim claim)) 1
     (length_command (asked.Claim claim)) refl
 length_last (last.Claim claim (Some l)) =
-    length_two (command_bytes (asked.Claim claim)) (kept.spelling (replied.Leased l)) (command_length (asked.Claim claim))
+    length_two (command_bytes (asked.Claim claim)) (kept.encoding (replied.Leased l)) (command_length (asked.Claim claim))
     (1 + lease_length l)
-    (length_command (asked.Claim claim)) (behind_one (kept_lease.spelling l) (length_kept_lease l))
+    (length_command (asked.Claim claim)) (behind_one (kept_lease.encoding l) (length_kept_lease l))
     ∙ omega arith
 length_last (last.Done report) =
-    length_two (command_bytes (asked.Done report)) (kept.spelling replied.Done) (command_length (asked.Done report)) 1
+    length_two (command_bytes (asked.Done report)) (kept.encoding replied.Done) (command_length (asked.Done report)) 1
     (length_command (asked.Done report)) refl
 
 length_runner : (r : StoredRunner) → length_of runner r ≡ runner_length r
 length_runner r =
-    length_two (text_bytes r.name) (word_bytes r.number ++ (last_command.spelling r.last ++ lease.spelling r.holds)) (text_length r.name)
+    length_two (text_bytes r.name) (word_bytes r.number ++ (last_command.encoding r.last ++ lease.encoding r.holds)) (text_length r.name)
     (4 + (last_length r.last + 4)) (length_text r.name)
-    (length_two (word_bytes r.number) (last_command.spelling r.last ++ lease.spelling r.holds) 4 (last_length r.last + 4)
+    (length_two (word_bytes r.number) (last_command.encoding r.last ++ lease.encoding r.holds) 4 (last_length r.last + 4)
     (length_word r.number)
-    (length_two (last_command.spelling r.last) (lease.spelling r.holds) (last_length r.last) 4 (length_last r.last) (length_word _)))
+    (length_two (last_command.encoding r.last) (lease.encoding r.holds) (last_length r.last) 4 (length_last r.last) (length_word _)))
     ∙ omega arith
 
 pub length_table : (t : StoredTable) → length_of table t ≡ table_length t
 length_table t =
-    let runs = length_counted run.spelling run_length t.runs length_run in
-    let runners = length_counted runner.spelling runner_length t.runners length_runner in
+    let runs = length_counted run.encoding run_length t.runs length_run in
+    let runners = length_counted runner.encoding runner_length t.runners length_runner in
     length_two (word_bytes t.last_lease) _ 4 ((4 + sum_by run_length t.runs) + (4 + sum_by runner_length t.runners))
     (length_word t.last_lease)
-    (length_two (word_bytes (length t.runs) ++ flat_map run.spelling t.runs)
-    (word_bytes (length t.runners) ++ flat_map runner.spelling t.runners)
+    (length_two (word_bytes (length t.runs) ++ flat_map run.encoding t.runs)
+    (word_bytes (length t.runners) ++ flat_map runner.encoding t.runners)
     (4 + sum_by run_length t.runs) (4 + sum_by runner_length t.runners) runs runners)
     ∙ omega arith

@@ -1,4 +1,4 @@
--- What reading of tables finds is what is spelled there, and nothing else.
+-- Reading of tables finds exactly what is encoded.
 use Rattle.std.proofs.Common.{◌≡◌, inl, inr, ℕ, ◌≤◌, ◌<◌, ◌^◌, List, [], ◌∷◌, ◌++◌, refl, sym, ◌∙◌, ap, subst, arith}
 use Rattle.std.specs.Prelude.{◌==◌, Bool, true, false, not, nat_le, Option, Some, None, if◌then◌else◌}
 use Rattle.std.proofs.lemmas.Bool.{and_parts, cases_Bool, eqb-true, leb-true}
@@ -11,18 +11,18 @@ use Rattle.run_plan.specs.declared.command.Claim.{Claim}
 use Rattle.run_plan.specs.declared.command.Done.{Done}
 use Rattle.run_plan.specs.declared.command.Command.{Command}
 use Rattle.run_plan.specs.declared.command.Command.TheVariants as asked
-use Rattle.run_table.specs.Stored.{StoredRunner, StoredTable, is_new}
-use Rattle.workflow_runs.specs.RunState.{LegState, JobState, RunState}
-use Rattle.run_table.specs.declared.parts.LastParts.{LastParts}
-use Rattle.run_table.specs.declared.parts.LastParts.TheVariants as last
-use Rattle.run_table.specs.declared.parts.StoredLease.{StoredLease}
-use Rattle.run_table.specs.declared.parts.StoredPlace.{StoredPlace}
-use Rattle.workflow_runs.specs.declared.phases.JobPhase.{JobPhase}
-use Rattle.workflow_runs.specs.declared.phases.JobPhase.TheVariants as job_phase
-use Rattle.workflow_runs.specs.declared.phases.LegPhase.{LegPhase}
-use Rattle.workflow_runs.specs.declared.phases.LegPhase.TheVariants as leg_phase
-use Rattle.workflow_runs.specs.declared.phases.RunPhase.{RunPhase}
-use Rattle.workflow_runs.specs.declared.phases.RunPhase.TheVariants as run_phase
+use Rattle.stored_tables.specs.Stored.{StoredRunner, StoredTable, is_new}
+use Rattle.run_states.specs.RunState.{LegState, JobState, RunState}
+use Rattle.stored_tables.specs.declared.parts.LastParts.{LastParts}
+use Rattle.stored_tables.specs.declared.parts.LastParts.TheVariants as last
+use Rattle.stored_tables.specs.declared.parts.StoredLease.{StoredLease}
+use Rattle.stored_tables.specs.declared.parts.StoredPlace.{StoredPlace}
+use Rattle.run_states.specs.declared.phases.JobPhase.{JobPhase}
+use Rattle.run_states.specs.declared.phases.JobPhase.TheVariants as job_phase
+use Rattle.run_states.specs.declared.phases.LegPhase.{LegPhase}
+use Rattle.run_states.specs.declared.phases.LegPhase.TheVariants as leg_phase
+use Rattle.run_states.specs.declared.phases.RunPhase.{RunPhase}
+use Rattle.run_states.specs.declared.phases.RunPhase.TheVariants as run_phase
 use Rattle.table_text.specs.Commands.{admit, command, is_numbered, number, small_text}
 use Rattle.table_text.specs.Format.{Format, byte, counted, follow, only, pair, parts, present, row, word}
 use Rattle.table_text.specs.Reading.{byte_at, counted_at, follow_at, items_at, pair_at, parts_at, present_at, some_at, word_at}
@@ -34,14 +34,14 @@ use Rattle.table_text.specs.ReadingTables.{run_phases, runner_at, runners_at, ru
 use Rattle.table_text.specs.Tables.{IsKept, IsLease, flag_byte, is_attempt, is_last_lease, job, job_byte, jobs_planned, kept, kept_bytes}
 use Rattle.table_text.specs.Tables.{kept_lease, last_command, last_parts, lease, lease_word, leg, leg_byte, names_rise, place, run}
 use Rattle.table_text.specs.Tables.{run_byte, runner, table}
-use Rattle.table_text.specs.declared.kept.Kept.{Kept}
-use Rattle.table_text.specs.declared.kept.Kept.TheVariants as replied
+use Rattle.table_text.specs.declared.kept.StoredReply.{StoredReply}
+use Rattle.table_text.specs.declared.kept.StoredReply.TheVariants as replied
 use Rattle.table_text.proofs.CommandReaders.{admit_reads, chosen, command_reads, number_reads, small_text_reads}
 use Rattle.wf_value.proofs.Bytes.{AreBytes, AreBytes-drop}
 use Rattle.table_text.proofs.FormReaders.{byte_reads, follow_reads, present_reads, row_reads}
 use Rattle.table_text.proofs.Readers.{Fronts, Reads, bind_some, counted_reads, only_reads, pair_reads, parts_reads, some_bind, some_reads}
 use Rattle.table_text.proofs.Readers.{these_read, word_reads}
-use Rattle.workflow_runs.proofs.Found.{find_passes}
+use Rattle.run_states.proofs.Found.{find_passes}
 
 -- ---- leases
 
@@ -153,11 +153,11 @@ pub attempt_reads : Reads (only is_attempt word) attempt_at
 unfolding attempt_at
 attempt_reads = only_reads is_attempt word word_at word_reads
 
--- the format of what stands behind an attempt
+-- the format after an attempt
 abbrev state : Admitted → Format (RunPhase × (Bool × List JobState))
 state a = pair (parts run_byte byte) (pair (parts flag_byte byte) (row (jobs_planned a) job))
 
--- the format of what stands behind an event
+-- the format after an event
 abbrev course : Admitted → Format (ℕ × (RunPhase × (Bool × List JobState)))
 course a = pair (only is_attempt word) (state a)
 
@@ -201,34 +201,34 @@ kept_lease_reads =
     (pair_reads number (present place) number_at (present_at place_at) number_reads (present_reads place place_at place_reads))
 
 -- a reply without a lease is one byte
-bare : (reply b : ℕ) (k : Kept) (rest : List ℕ) (found : Kept × List ℕ) → IsKept k → kept_bytes k ≡ b ∷ [] → AreBytes rest
+bare : (reply b : ℕ) (k : StoredReply) (rest : List ℕ) (found : StoredReply × List ℕ) → IsKept k → kept_bytes k ≡ b ∷ [] → AreBytes rest
     → (reply == b) ≡ true → Some (k, rest) ≡ Some found → Fronts kept (reply ∷ rest) found
-bare reply b k rest found takes spelled are is h =
-    subst (λ (q : Kept × List ℕ). Fronts kept (reply ∷ rest) q) (same_Some (k, rest) found h) (record {
+bare reply b k rest found takes encoded are is h =
+    subst (λ (q : StoredReply × List ℕ). Fronts kept (reply ∷ rest) q) (same_Some (k, rest) found h) (record {
       takes = takes;
-      split = ap (λ (n : ℕ). n ∷ rest) (eqb-true reply b is) ∙ ap (λ (l : List ℕ). l ++ rest) (sym spelled);
+      split = ap (λ (n : ℕ). n ∷ rest) (eqb-true reply b is) ∙ ap (λ (l : List ℕ). l ++ rest) (sym encoded);
       rest = are;
     })
 
-with_one : (reply : ℕ) (rest : List ℕ) (found : Kept × List ℕ) → AreBytes rest → (reply == 1) ≡ true
+with_one : (reply : ℕ) (rest : List ℕ) (found : StoredReply × List ℕ) → AreBytes rest → (reply == 1) ≡ true
     → parts_at (λ (l : StoredLease). replied.Leased l) kept_lease_at rest ≡ Some found → Fronts kept (reply ∷ rest) found
 with_one reply rest found are is h =
     let step = bind_some (kept_lease_at rest) (λ l. Some (replied.Leased l.0, l.1)) found h in
     let l = step.0 in
     let front = kept_lease_reads.sound rest l are step.1 in
-    subst (λ (q : Kept × List ℕ). Fronts kept (reply ∷ rest) q) (same_Some (replied.Leased l.0, l.1) found step.2) (record {
+    subst (λ (q : StoredReply × List ℕ). Fronts kept (reply ∷ rest) q) (same_Some (replied.Leased l.0, l.1) found step.2) (record {
       takes = front.takes;
       split = ap (λ (n : ℕ). n ∷ rest) (eqb-true reply 1 is) ∙ ap (λ (t : List ℕ). 1 ∷ t) front.split;
       rest = front.rest;
     })
 
-kept_behind : (reply : ℕ) (rest : List ℕ) (found : Kept × List ℕ) → AreBytes rest → kept_of reply rest ≡ Some found
+kept_behind : (reply : ℕ) (rest : List ℕ) (found : StoredReply × List ℕ) → AreBytes rest → kept_of reply rest ≡ Some found
     → Fronts kept (reply ∷ rest) found
 unfolding kept_of
 kept_behind reply rest found are h =
-    let third : Option (Kept × List ℕ) = if reply == 2 then Some (replied.Done, rest) else None in
-    let one : Option (Kept × List ℕ) = parts_at (λ (l : StoredLease). replied.Leased l) kept_lease_at rest in
-    let second : Option (Kept × List ℕ) = if reply == 1 then one else third in
+    let third : Option (StoredReply × List ℕ) = if reply == 2 then Some (replied.Done, rest) else None in
+    let one : Option (StoredReply × List ℕ) = parts_at (λ (l : StoredLease). replied.Leased l) kept_lease_at rest in
+    let second : Option (StoredReply × List ℕ) = if reply == 1 then one else third in
     elim (chosen (reply == 0) (Some (replied.Nothing, rest)) second (Some found) h) [
       | inl zero ↦ bare reply 0 replied.Nothing rest found tt refl are zero.0 zero.1
       | inr more ↦ elim (chosen (reply == 1) one third (Some found) more.1) [
@@ -240,16 +240,16 @@ kept_behind reply rest found are h =
       ]
     ]
 
-kept_finds : (bytes : List ℕ) (found : Kept × List ℕ) → AreBytes bytes → kept_at bytes ≡ Some found → Fronts kept bytes found
+kept_finds : (bytes : List ℕ) (found : StoredReply × List ℕ) → AreBytes bytes → kept_at bytes ≡ Some found → Fronts kept bytes found
 unfolding kept_at
 kept_finds [] found are h = absurd (none-some found h)
 kept_finds (reply ∷ rest) found are h = kept_behind reply rest found (AreBytes-drop 1 (reply ∷ rest) are) h
 
-kept_found : (k : Kept) (rest : List ℕ) → IsKept k → kept_at (kept_bytes k ++ rest) ≡ Some (k, rest)
+kept_found : (k : StoredReply) (rest : List ℕ) → IsKept k → kept_at (kept_bytes k ++ rest) ≡ Some (k, rest)
 unfolding kept_at kept_of
 kept_found replied.Nothing rest takes = refl
 kept_found (replied.Leased l) rest takes =
-    some_bind (kept_lease_at (kept_lease.spelling l ++ rest)) (λ x. Some (replied.Leased x.0, x.1)) (l, rest)
+    some_bind (kept_lease_at (kept_lease.encoding l ++ rest)) (λ x. Some (replied.Leased x.0, x.1)) (l, rest)
     (kept_lease_reads.complete l rest takes)
 kept_found replied.Done rest takes = refl
 
@@ -261,17 +261,17 @@ last_there (last.Claim claim None) = refl
 last_there (last.Claim claim (Some l)) = refl
 last_there (last.Done report) = refl
 
-claim_back : (claim : Claim) (k : Kept) (l : LastParts) → claim_with claim k ≡ Some l → last_parts l ≡ (asked.Claim claim, k)
+claim_back : (claim : Claim) (k : StoredReply) (l : LastParts) → claim_with claim k ≡ Some l → last_parts l ≡ (asked.Claim claim, k)
 claim_back claim replied.Nothing l h = ap last_parts (sym (same_Some (last.Claim claim None) l h))
 claim_back claim (replied.Leased given) l h = ap last_parts (sym (same_Some (last.Claim claim (Some given)) l h))
 claim_back claim replied.Done l h = absurd (none-some l h)
 
-report_back : (report : Done) (k : Kept) (l : LastParts) → report_with report k ≡ Some l → last_parts l ≡ (asked.Done report, k)
+report_back : (report : Done) (k : StoredReply) (l : LastParts) → report_with report k ≡ Some l → last_parts l ≡ (asked.Done report, k)
 report_back report replied.Nothing l h = absurd (none-some l h)
 report_back report (replied.Leased given) l h = absurd (none-some l h)
 report_back report replied.Done l h = ap last_parts (sym (same_Some (last.Done report) l h))
 
-pub last_back_of : (c : Command) (k : Kept) (l : LastParts) → last_with c k ≡ Some l → last_parts l ≡ (c, k)
+pub last_back_of : (c : Command) (k : StoredReply) (l : LastParts) → last_with c k ≡ Some l → last_parts l ≡ (c, k)
 last_back_of (asked.Admit event) k l h = absurd (none-some l h)
 last_back_of (asked.Claim claim) k l h = claim_back claim k l h
 last_back_of (asked.Done report) k l h = report_back report k l h

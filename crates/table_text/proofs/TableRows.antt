@@ -1,26 +1,26 @@
--- Worked tables, their bytes and their lengths, by computation.
+-- Examples, by computation: tables, their bytes and their lengths.
 use Rattle.std.specs.Prelude.{◌≡◌, ℕ, List, [], ◌∷◌, ◌++◌, codes, true, false, Option, Some, None, refl}
 use Rattle.wf_value.specs.declared.outcome.JobResult.TheVariants as result
 use Rattle.wf_value.specs.declared.outcome.Outcome.TheVariants as outcome
-use Rattle.run_table.specs.Stored.{StoredRunner, StoredTable}
-use Rattle.workflow_runs.specs.RunState.{LegState, JobState, RunState}
-use Rattle.run_table.specs.declared.parts.LastParts.TheVariants as last
-use Rattle.run_table.specs.declared.parts.StoredLease.{StoredLease}
-use Rattle.workflow_runs.specs.declared.phases.JobPhase.{JobPhase}
-use Rattle.workflow_runs.specs.declared.phases.JobPhase.TheVariants as job_phase
-use Rattle.workflow_runs.specs.declared.phases.LegPhase.{LegPhase}
-use Rattle.workflow_runs.specs.declared.phases.LegPhase.TheVariants as leg_phase
-use Rattle.workflow_runs.specs.declared.phases.RunPhase.{RunPhase}
-use Rattle.workflow_runs.specs.declared.phases.RunPhase.TheVariants as run_phase
+use Rattle.stored_tables.specs.Stored.{StoredRunner, StoredTable}
+use Rattle.run_states.specs.RunState.{LegState, JobState, RunState}
+use Rattle.stored_tables.specs.declared.parts.LastParts.TheVariants as last
+use Rattle.stored_tables.specs.declared.parts.StoredLease.{StoredLease}
+use Rattle.run_states.specs.declared.phases.JobPhase.{JobPhase}
+use Rattle.run_states.specs.declared.phases.JobPhase.TheVariants as job_phase
+use Rattle.run_states.specs.declared.phases.LegPhase.{LegPhase}
+use Rattle.run_states.specs.declared.phases.LegPhase.TheVariants as leg_phase
+use Rattle.run_states.specs.declared.phases.RunPhase.{RunPhase}
+use Rattle.run_states.specs.declared.phases.RunPhase.TheVariants as run_phase
 use Rattle.table_text.specs.Format.{text_bytes, word_bytes}
 use Rattle.table_text.specs.TableLengths.{table_length}
 use Rattle.table_text.specs.Tables.{is_attempt, job, names_rise, runner, run, table}
 
--- without runs and runners: twelve zero bytes
+-- without runs or runners: twelve zero bytes
 abbrev empty : StoredTable
 empty = record { last_lease = 0; runs = []; runners = [] }
 
-empty_bytes : table.spelling empty ≡ 0 ∷ 0 ∷ 0 ∷ 0 ∷ 0 ∷ 0 ∷ 0 ∷ 0 ∷ 0 ∷ 0 ∷ 0 ∷ 0 ∷ []
+empty_bytes : table.encoding empty ≡ 0 ∷ 0 ∷ 0 ∷ 0 ∷ 0 ∷ 0 ∷ 0 ∷ 0 ∷ 0 ∷ 0 ∷ 0 ∷ 0 ∷ []
 unfolding word_bytes
 empty_bytes = refl
 
@@ -45,7 +45,7 @@ after_the_first_admission : table_length admitted ≡ 127
 after_the_first_admission = refl
 
 -- the ready leg has no lease, which is 0
-admitted_bytes : table.spelling admitted
+admitted_bytes : table.encoding admitted
     ≡ (0 ∷ 0 ∷ 0 ∷ 0 ∷ 0 ∷ 0 ∷ 0 ∷ 1 ∷ 0 ∷ 0 ∷ 0 ∷ 2 ∷ 100 ∷ 49 ∷ 0 ∷ 0 ∷ 0 ∷ 4 ∷ 112 ∷ 117 ∷ 115 ∷ 104 ∷ 0 ∷ 0 ∷ 0 ∷ 81 ∷ [])
     ++ first_run.admitted.body
     ++ (0 ∷ 0 ∷ 0 ∷ 1 ∷ 1 ∷ 0 ∷ 1 ∷ 0 ∷ 0 ∷ 0 ∷ 1 ∷ 2 ∷ 0 ∷ 0 ∷ 0 ∷ 0 ∷ 0 ∷ 0 ∷ 0 ∷ 0 ∷ [])
@@ -58,7 +58,7 @@ claimed_run = record first_run {
   jobs = record { phase = job_phase.Open; legs = record { phase = leg_phase.Running; lease = Some 1 } ∷ [] } ∷ [];
 }
 
--- a lease that is kept, of a leg in an attempt of a run
+-- a kept lease, of a leg in an attempt of a run
 abbrev kept_at_place : ℕ → ℕ → ℕ → ℕ → ℕ → StoredLease
 kept_at_place lease run attempt job leg =
     record { lease = lease; place = Some (record { run = run; attempt = attempt; job = job; leg = leg }) }
@@ -78,7 +78,7 @@ claimed = record { last_lease = 1; runs = claimed_run ∷ []; runners = first_ru
 after_the_first_claim : table_length claimed ≡ 186
 after_the_first_claim = refl
 
-claimed_bytes : table.spelling claimed
+claimed_bytes : table.encoding claimed
     ≡ (0 ∷ 0 ∷ 0 ∷ 1 ∷ 0 ∷ 0 ∷ 0 ∷ 1 ∷ 0 ∷ 0 ∷ 0 ∷ 2 ∷ 100 ∷ 49 ∷ 0 ∷ 0 ∷ 0 ∷ 4 ∷ 112 ∷ 117 ∷ 115 ∷ 104 ∷ 0 ∷ 0 ∷ 0 ∷ 81 ∷ [])
     ++ first_run.admitted.body
     ++ (0 ∷ 0 ∷ 0 ∷ 1 ∷ 1 ∷ 0 ∷ 1 ∷ 0 ∷ 0 ∷ 0 ∷ 1 ∷ 3 ∷ 0 ∷ 0 ∷ 0 ∷ 1 ∷ 0 ∷ 0 ∷ 0 ∷ 1 ∷ 0 ∷ 0 ∷ 0 ∷ 2 ∷ 114 ∷ 49 ∷ 0 ∷ 0 ∷ 0 ∷ 1
@@ -87,7 +87,7 @@ claimed_bytes : table.spelling claimed
 unfolding text_bytes word_bytes
 claimed_bytes = refl
 
--- a stopping run of no event that counts here, at the last attempt, with one job settled and one open
+-- a stopping run of an arbitrary event, at the last attempt, with one finished and one open job
 abbrev stopping_run : RunState
 stopping_run = record {
   admitted = record { delivery = codes "d"; event = codes "e"; body = codes "b" };
@@ -100,7 +100,7 @@ stopping_run = record {
       ∷ record { phase = job_phase.Blocked; legs = [] } ∷ [];
 }
 
-stopping_run_bytes : run.spelling stopping_run
+stopping_run_bytes : run.encoding stopping_run
     ≡ 0 ∷ 0 ∷ 0 ∷ 1 ∷ 100 ∷ 0 ∷ 0 ∷ 0 ∷ 1 ∷ 101 ∷ 0 ∷ 0 ∷ 0 ∷ 1 ∷ 98 ∷ 0 ∷ 0 ∷ 3 ∷ 232 ∷ 1 ∷ 1
     ∷ 3 ∷ 0 ∷ 0 ∷ 0 ∷ 1 ∷ 6 ∷ 0 ∷ 0 ∷ 0 ∷ 1
     ∷ 1 ∷ 0 ∷ 0 ∷ 0 ∷ 1 ∷ 4 ∷ 0 ∷ 0 ∷ 1 ∷ 2
@@ -108,7 +108,7 @@ stopping_run_bytes : run.spelling stopping_run
 unfolding text_bytes word_bytes
 stopping_run_bytes = refl
 
--- a leg in each phase that has a byte, some with the highest lease
+-- a leg in each phase that has a byte, some with the largest lease
 abbrev leg_in : LegPhase → Option ℕ → LegState
 leg_in phase lease = record { phase = phase; lease = lease }
 
@@ -121,7 +121,7 @@ job_of_all_phases = record {
       ∷ leg_in (leg_phase.Ended outcome.Cancelled) (Some 4) ∷ leg_in (leg_phase.Ended outcome.Cancelled) None ∷ [];
 }
 
-bytes_of_all_leg_phases : job.spelling job_of_all_phases
+bytes_of_all_leg_phases : job.encoding job_of_all_phases
     ≡ 4 ∷ 0 ∷ 0 ∷ 0 ∷ 8
     ∷ 1 ∷ 0 ∷ 0 ∷ 0 ∷ 0 ∷ 2 ∷ 0 ∷ 0 ∷ 0 ∷ 0 ∷ 3 ∷ 0 ∷ 0 ∷ 0 ∷ 1 ∷ 4 ∷ 0 ∷ 0 ∷ 0 ∷ 2
     ∷ 5 ∷ 59 ∷ 154 ∷ 201 ∷ 255 ∷ 6 ∷ 0 ∷ 0 ∷ 0 ∷ 3 ∷ 7 ∷ 0 ∷ 0 ∷ 0 ∷ 4 ∷ 7 ∷ 0 ∷ 0 ∷ 0 ∷ 0 ∷ []
@@ -142,26 +142,26 @@ run_in phase = record stopping_run {
       ∷ job_in (job_phase.Settled result.Cancelled) ∷ job_in (job_phase.Settled result.Skipped) ∷ [];
 }
 
--- what stands before the run's phase, and behind its stop flag
+-- the bytes before the run's phase, and those after its stop flag
 abbrev before_phase : List ℕ
 before_phase = 0 ∷ 0 ∷ 0 ∷ 1 ∷ 100 ∷ 0 ∷ 0 ∷ 0 ∷ 1 ∷ 101 ∷ 0 ∷ 0 ∷ 0 ∷ 1 ∷ 98 ∷ 0 ∷ 0 ∷ 3 ∷ 232 ∷ []
 
 abbrev six_jobs : List ℕ
 six_jobs = 0 ∷ 0 ∷ 0 ∷ 0 ∷ 0 ∷ 1 ∷ 0 ∷ 0 ∷ 0 ∷ 0 ∷ 2 ∷ 0 ∷ 0 ∷ 0 ∷ 0 ∷ 3 ∷ 0 ∷ 0 ∷ 0 ∷ 0 ∷ 4 ∷ 0 ∷ 0 ∷ 0 ∷ 0 ∷ 5 ∷ 0 ∷ 0 ∷ 0 ∷ 0 ∷ []
 
-waiting_run_bytes : run.spelling (run_in run_phase.Waiting) ≡ before_phase ++ 0 ∷ 0 ∷ six_jobs
+waiting_run_bytes : run.encoding (run_in run_phase.Waiting) ≡ before_phase ++ 0 ∷ 0 ∷ six_jobs
 unfolding text_bytes word_bytes
 waiting_run_bytes = refl
 
-live_run_bytes : run.spelling (run_in run_phase.Live) ≡ before_phase ++ 1 ∷ 0 ∷ six_jobs
+live_run_bytes : run.encoding (run_in run_phase.Live) ≡ before_phase ++ 1 ∷ 0 ∷ six_jobs
 unfolding text_bytes word_bytes
 live_run_bytes = refl
 
-ended_run_bytes : run.spelling (run_in run_phase.Ended) ≡ before_phase ++ 2 ∷ 0 ∷ six_jobs
+ended_run_bytes : run.encoding (run_in run_phase.Ended) ≡ before_phase ++ 2 ∷ 0 ∷ six_jobs
 unfolding text_bytes word_bytes
 ended_run_bytes = refl
 
--- before the first and behind the last there is none
+-- there is none before the first or after the last
 no_attempt_zero : is_attempt 0 ≡ false
 no_attempt_zero = refl
 
@@ -174,7 +174,8 @@ the_last_attempt = refl
 none_behind_the_last : is_attempt 1001 ≡ false
 none_behind_the_last = refl
 
--- a runner that was given lease 2 by its third command and has it: leg 255 of the second job of run 258, in its second attempt
+-- a runner that got lease 2 with its third command and holds it: leg 255 of the second job of run 258, in its second
+-- attempt
 abbrev leased_runner : StoredRunner
 leased_runner = record {
   name = codes "r1";
@@ -183,7 +184,7 @@ leased_runner = record {
   holds = Some 2;
 }
 
-leased_runner_bytes : runner.spelling leased_runner
+leased_runner_bytes : runner.encoding leased_runner
     ≡ 0 ∷ 0 ∷ 0 ∷ 2 ∷ 114 ∷ 49 ∷ 0 ∷ 0 ∷ 0 ∷ 3
     ∷ 2 ∷ 0 ∷ 0 ∷ 0 ∷ 2 ∷ 114 ∷ 49 ∷ 0 ∷ 0 ∷ 0 ∷ 3 ∷ 0 ∷ 0 ∷ 0 ∷ 1 ∷ 0 ∷ 0 ∷ 0 ∷ 1 ∷ 120
     ∷ 1 ∷ 0 ∷ 0 ∷ 0 ∷ 2 ∷ 0 ∷ 0 ∷ 1 ∷ 2 ∷ 0 ∷ 0 ∷ 0 ∷ 2 ∷ 0 ∷ 0 ∷ 0 ∷ 1 ∷ 0 ∷ 0 ∷ 0 ∷ 255
@@ -191,7 +192,7 @@ leased_runner_bytes : runner.spelling leased_runner
 unfolding text_bytes word_bytes
 leased_runner_bytes = refl
 
--- one that found nothing
+-- a runner that got nothing
 abbrev idle_runner : StoredRunner
 idle_runner = record {
   name = codes "r";
@@ -200,7 +201,7 @@ idle_runner = record {
   holds = None;
 }
 
-idle_runner_bytes : runner.spelling idle_runner
+idle_runner_bytes : runner.encoding idle_runner
     ≡ 0 ∷ 0 ∷ 0 ∷ 1 ∷ 114 ∷ 0 ∷ 0 ∷ 0 ∷ 1
     ∷ 2 ∷ 0 ∷ 0 ∷ 0 ∷ 1 ∷ 114 ∷ 0 ∷ 0 ∷ 0 ∷ 1 ∷ 0 ∷ 0 ∷ 0 ∷ 1 ∷ 0 ∷ 0 ∷ 0 ∷ 1 ∷ 120
     ∷ 0
@@ -208,7 +209,7 @@ idle_runner_bytes : runner.spelling idle_runner
 unfolding text_bytes word_bytes
 idle_runner_bytes = refl
 
--- one that has reported
+-- a runner that has reported
 abbrev reporting_runner : StoredRunner
 reporting_runner = record {
   name = codes "r1";
@@ -217,7 +218,7 @@ reporting_runner = record {
   holds = None;
 }
 
-reporting_runner_bytes : runner.spelling reporting_runner
+reporting_runner_bytes : runner.encoding reporting_runner
     ≡ 0 ∷ 0 ∷ 0 ∷ 2 ∷ 114 ∷ 49 ∷ 0 ∷ 0 ∷ 0 ∷ 2
     ∷ 3 ∷ 0 ∷ 0 ∷ 0 ∷ 2 ∷ 114 ∷ 49 ∷ 0 ∷ 0 ∷ 0 ∷ 2 ∷ 0 ∷ 0 ∷ 0 ∷ 1 ∷ 2
     ∷ 2
@@ -226,12 +227,12 @@ unfolding text_bytes word_bytes
 reporting_runner_bytes = refl
 
 -- the last lease, no run, and two runners
-two_runners_bytes : table.spelling (record { last_lease = 258; runs = []; runners = idle_runner ∷ leased_runner ∷ [] })
-    ≡ (0 ∷ 0 ∷ 1 ∷ 2 ∷ 0 ∷ 0 ∷ 0 ∷ 0 ∷ 0 ∷ 0 ∷ 0 ∷ 2 ∷ []) ++ runner.spelling idle_runner ++ runner.spelling leased_runner
+two_runners_bytes : table.encoding (record { last_lease = 258; runs = []; runners = idle_runner ∷ leased_runner ∷ [] })
+    ≡ (0 ∷ 0 ∷ 1 ∷ 2 ∷ 0 ∷ 0 ∷ 0 ∷ 0 ∷ 0 ∷ 0 ∷ 0 ∷ 2 ∷ []) ++ runner.encoding idle_runner ++ runner.encoding leased_runner
 unfolding text_bytes word_bytes
 two_runners_bytes = refl
 
--- `r` stands before `r1`, and no name stands twice
+-- `r` comes before `r1`, and no name occurs twice
 idle_before_leased : names_rise (idle_runner ∷ leased_runner ∷ []) ≡ true
 idle_before_leased = refl
 

@@ -1,4 +1,5 @@
--- Whole tables of the first layout are spelled by what it stores of them, which tells sound ones apart; and a batch of it is one of the second.
+-- Whole tables of the first layout are encoded as what it stores of them, which distinguishes sound ones; and a batch
+-- of it is a batch of the second layout.
 use Rattle.std.proofs.Common.{◌≡◌, List, [], ◌∷◌, ℕ, suc, ◌++◌, ◌-◌, refl, sym, ◌∙◌, ap, ap₂, subst, arith}
 use Rattle.std.specs.Prelude.{◌≢◌, true, false, Option, None, Some, map, option_map, slice_get}
 use Rattle.std.specs.List.{AllByRecursion, list_all}
@@ -10,18 +11,18 @@ use Rattle.run_plan.specs.declared.last_command.ClaimReply.TheVariants as given
 use Rattle.run_plan.specs.declared.last_command.KeptLease.{KeptLease}
 use Rattle.run_plan.specs.declared.last_command.LastCommand.{LastCommand}
 use Rattle.run_plan.specs.declared.last_command.LastCommand.TheVariants as last
-use Rattle.workflow_runs.specs.Places.{run_at}
-use Rattle.workflow_runs.specs.RunState.{RunState}
-use Rattle.workflow_runs.proofs.Found.{each_at}
+use Rattle.run_states.specs.Places.{run_at}
+use Rattle.run_states.specs.RunState.{RunState}
+use Rattle.run_states.proofs.Found.{each_at}
 use Rattle.run_table.specs.Sound.{IsOfALeg, IsSound, KeptIsOfALeg}
-use Rattle.run_table.specs.Stored.{StoredRunner, StoredTable}
-use Rattle.run_table.specs.TableOf.{AreRunnersAs, IsLastAs, IsNoTable, IsPlacedAs, IsRunnerAs, IsStoredAs}
+use Rattle.stored_tables.specs.Stored.{StoredRunner, StoredTable}
+use Rattle.stored_tables.specs.TableOf.{AreRunnersAs, IsLastAs, IsNoTable, IsPlacedAs, IsRunnerAs, IsStoredAs}
 use Rattle.run_table.specs.TableState.{RunnerState, TableState}
-use Rattle.run_table.specs.declared.parts.LastParts.{LastParts}
-use Rattle.run_table.specs.declared.parts.LastParts.TheVariants as stored
-use Rattle.run_table.specs.declared.parts.StoredLease.{StoredLease}
-use Rattle.run_table.specs.declared.parts.StoredPlace.{StoredPlace}
-use Rattle.run_table.proofs.StoredOnce.{run_told, same_runners}
+use Rattle.stored_tables.specs.declared.parts.LastParts.{LastParts}
+use Rattle.stored_tables.specs.declared.parts.LastParts.TheVariants as stored
+use Rattle.stored_tables.specs.declared.parts.StoredLease.{StoredLease}
+use Rattle.stored_tables.specs.declared.parts.StoredPlace.{StoredPlace}
+use Rattle.stored_tables.proofs.StoredOnce.{run_told, same_runners}
 use Rattle.table_text.specs.Commands.{batch}
 use Rattle.table_text.specs.FirstLayout.{first_batch, first_last_command, first_run, first_runner, first_table, is_in_first_layout}
 use Rattle.table_text.specs.Format.{NoneBeginsAnother, OpensWith, StandsAtFront}
@@ -37,11 +38,11 @@ use Rattle.table_text.proofs.Readers.{none_begins}
 abbrev AreFirst : List RunState → Type 0
 AreFirst runs = AllByRecursion first_run.Takes runs
 
--- a lease that is kept is one of the attempt at which its run is
+-- a kept lease is of its run's current attempt
 placed : (most : ℕ) (runs : List RunState) (kept : KeptLease) → AreFirst runs → IsOfALeg most runs kept → IsPlacedAs runs None kept
 placed most runs kept first of =
     let attempts : RunState → ℕ = λ (x : RunState). x.attempt in
-    let r : kept.told.run - 1 ≡ of.place.run = omega (arith, run_told most runs kept of) in
+    let r : kept.lease_reply.run - 1 ≡ of.place.run = omega (arith, run_told most runs kept of) in
     let one : of.run.attempt ≡ 1 = (each_at first_run.Takes runs of.place.run of.run first of.run_is).1.0 in
     let present : kept.attempt ≡ of.run.attempt = omega (arith, one, of.attempt.0, of.attempt.1) in
     present ∙ sym (ap (λ k. option_map_or attempts (run_at runs k) 0) r ∙ ap (λ o. option_map_or attempts o 0) of.run_is)
@@ -84,10 +85,10 @@ last_again most runs (stored.Claim claim None) (last.Claim other given.Nothing) 
 last_again most runs (stored.Claim claim None) (last.Claim other (given.Lease kept)) takes is = absurd is.1
 last_again most runs (stored.Claim claim (Some parts)) (last.Claim other given.Nothing) takes is = absurd is.1
 last_again most runs (stored.Claim claim (Some parts)) (last.Claim other (given.Lease kept)) takes is =
-    let lease : kept.told.lease ≡ parts.lease = is.1.lease in
+    let lease : kept.lease_reply.lease ≡ parts.lease = is.1.lease in
     let nowhere : Option StoredPlace = None in
     let place : nowhere ≡ parts.place = sym takes.1.1 in
-    let both : record { lease = kept.told.lease; place = nowhere } ≡ parts = λ i. record { lease = lease i; place = place i } in
+    let both : record { lease = kept.lease_reply.lease; place = nowhere } ≡ parts = λ i. record { lease = lease i; place = place i } in
     ap₂ (λ c (s : StoredLease). stored.Claim c (Some s)) is.0 both
 last_again most runs (stored.Claim claim parts) (last.Done report) takes is = absurd is
 last_again most runs (stored.Done report) (last.Claim claim reply) takes is = absurd is
@@ -115,7 +116,7 @@ first_stored_again parts t takes is =
 
 -- ---- one table
 
--- sound tables of which the same is stored are one
+-- sound tables with the same stored parts are equal
 one_stored : (one two : TableState) → whole_first_table.Takes one → whole_first_table.Takes two
     → first_stored_table one ≡ first_stored_table two → one ≡ two
 one_stored one two first second same =
@@ -138,7 +139,7 @@ first_begins_none a b more other x y one two same =
     (two.0.1, two.1) same in
     (stored.0, one_stored x y one.0 two.0 stored.1)
 
--- ---- from the parts that stand at the front of bytes
+-- ---- from the parts at the front of bytes
 
 pub none_without_first_parts : (bytes : List ℕ) → StandsAtFront first_table bytes None → StandsAtFront whole_first_table bytes None
 none_without_first_parts bytes none t rest opens = none (first_stored_table t) rest (opens.0.1, opens.1)
@@ -146,9 +147,9 @@ none_without_first_parts bytes none t rest opens = none (first_stored_table t) r
 pub none_of_first_parts : (bytes rest : List ℕ) (parts : StoredTable) → OpensWith first_table bytes parts rest → IsNoTable parts
     → StandsAtFront whole_first_table bytes None
 none_of_first_parts bytes rest parts opens none t other again =
-    let same : first_table.spelling (first_stored_table t) ++ other ≡ first_table.spelling parts ++ rest = sym again.1 ∙ opens.1 in
-    let one = none_begins first_table first_table_at first_table_reads (first_table.spelling (first_stored_table t))
-    (first_table.spelling parts) other rest (first_stored_table t) parts
+    let same : first_table.encoding (first_stored_table t) ++ other ≡ first_table.encoding parts ++ rest = sym again.1 ∙ opens.1 in
+    let one = none_begins first_table first_table_at first_table_reads (first_table.encoding (first_stored_table t))
+    (first_table.encoding parts) other rest (first_stored_table t) parts
     (again.0.1, refl) (opens.0, refl) same in
     none t (subst (λ (s : StoredTable). IsStoredAs s t) one.1 (first_is_stored t again.0.0 again.0.1.1.0.2))
 
@@ -157,7 +158,7 @@ pub one_of_first_parts : (bytes rest : List ℕ) (parts : StoredTable) (t : Tabl
 one_of_first_parts bytes rest parts t opens is =
     let same : first_stored_table t ≡ parts = first_stored_again parts t opens.0.1.1.0.2 is in (
       (is.is_sound, subst first_table.Takes (sym same) opens.0),
-      opens.1 ∙ ap (λ (s : StoredTable). first_table.spelling s ++ rest) (sym same),
+      opens.1 ∙ ap (λ (s : StoredTable). first_table.encoding s ++ rest) (sym same),
     )
 
 -- ---- batches
@@ -168,8 +169,8 @@ none_without_batch bytes none commands rest opens = none commands rest (opens.0.
 pub none_of_batch : (bytes rest : List ℕ) (commands : List Command) → OpensWith batch bytes commands rest
     → list_all is_in_first_layout commands ≡ false → StandsAtFront first_batch bytes None
 none_of_batch bytes rest commands opens not others behind again =
-    let same : batch.spelling others ++ behind ≡ batch.spelling commands ++ rest = sym again.1 ∙ opens.1 in
-    let one = none_begins batch batch_at batch_reads (batch.spelling others) (batch.spelling commands) behind rest others commands
+    let same : batch.encoding others ++ behind ≡ batch.encoding commands ++ rest = sym again.1 ∙ opens.1 in
+    let one = none_begins batch batch_at batch_reads (batch.encoding others) (batch.encoding commands) behind rest others commands
     (again.0.0, refl) (opens.0, refl) same in
     let is : list_all is_in_first_layout others ≡ true = again.0.1 in
     let no : list_all is_in_first_layout others ≡ false = ap (λ cs. list_all is_in_first_layout cs) one.1 ∙ not in

@@ -1,18 +1,18 @@
--- Whole tables are spelled by what is stored of them, which tells sound ones apart.
+-- Whole tables are encoded as their stored parts, which distinguish sound ones.
 use Rattle.std.proofs.Common.{◌≡◌, List, ℕ, ◌++◌, refl, sym, ◌∙◌, ap, subst}
 use Rattle.std.specs.Prelude.{true, is_some, Option, None, Some}
 use Rattle.std.specs.List.{AllByRecursion}
 use Rattle.run_table.specs.Sound.{IsSound}
-use Rattle.run_table.specs.Stored.{StoredRunner, StoredTable, stored_table}
-use Rattle.run_table.specs.TableOf.{AreRunnersAs, IsNoTable, IsStoredAs}
+use Rattle.stored_tables.specs.Stored.{StoredRunner, StoredTable, stored_table}
+use Rattle.stored_tables.specs.TableOf.{AreRunnersAs, IsNoTable, IsStoredAs}
 use Rattle.run_table.specs.TableState.{TableState}
-use Rattle.run_table.specs.declared.parts.LastParts.{LastParts}
-use Rattle.run_table.specs.declared.parts.LastParts.TheVariants as last
-use Rattle.run_table.specs.declared.parts.StoredPlace.{StoredPlace}
-use Rattle.workflow_runs.specs.RunState.{RunState}
-use Rattle.workflow_runs.proofs.Found.{each_at}
-use Rattle.run_table.proofs.StoredOnce.{same_runners}
-use Rattle.run_table.proofs.StoredParts.{HasPlace, HavePlaces, is_stored, stored_again}
+use Rattle.stored_tables.specs.declared.parts.LastParts.{LastParts}
+use Rattle.stored_tables.specs.declared.parts.LastParts.TheVariants as last
+use Rattle.stored_tables.specs.declared.parts.StoredPlace.{StoredPlace}
+use Rattle.run_states.specs.RunState.{RunState}
+use Rattle.run_states.proofs.Found.{each_at}
+use Rattle.stored_tables.proofs.StoredOnce.{same_runners}
+use Rattle.stored_tables.proofs.StoredParts.{HasPlace, HavePlaces, is_stored, stored_again}
 use Rattle.table_text.specs.Format.{NoneBeginsAnother, OpensWith, StandsAtFront, present}
 use Rattle.table_text.specs.ReadingTables.{table_at}
 use Rattle.table_text.specs.Tables.{last_command, place, runner, table}
@@ -20,7 +20,7 @@ use Rattle.table_text.specs.WholeTables.{whole_table}
 use Rattle.table_text.proofs.Readers.{none_begins}
 use Rattle.table_text.proofs.TableReaders.{table_reads}
 
--- sound tables of which the same is stored are one
+-- sound tables with the same stored parts are equal
 one_stored : (one two : TableState) → IsSound one → IsSound two → stored_table one ≡ stored_table two → one ≡ two
 one_stored one two first second same =
     let again : IsStoredAs (stored_table one) two = subst (λ (s : StoredTable). IsStoredAs s two) (sym same) (is_stored two second) in
@@ -40,7 +40,7 @@ whole_begins_none a b more other x y one two same =
     (two.0.1, two.1) same in
     (stored.0, one_stored x y one.0.0 two.0.0 stored.1)
 
--- ---- from the parts that stand at the front of bytes
+-- ---- from the parts at the front of bytes
 
 pub none_without_parts : (bytes : List ℕ) → StandsAtFront table bytes None → StandsAtFront whole_table bytes None
 none_without_parts bytes none t rest opens = none (stored_table t) rest (opens.0.1, opens.1)
@@ -48,13 +48,13 @@ none_without_parts bytes none t rest opens = none (stored_table t) rest (opens.0
 pub none_of_parts : (bytes rest : List ℕ) (parts : StoredTable) → OpensWith table bytes parts rest → IsNoTable parts
     → StandsAtFront whole_table bytes None
 none_of_parts bytes rest parts opens none t other again =
-    let same : table.spelling (stored_table t) ++ other ≡ table.spelling parts ++ rest = sym again.1 ∙ opens.1 in
-    let one = none_begins table table_at table_reads (table.spelling (stored_table t)) (table.spelling parts) other rest
+    let same : table.encoding (stored_table t) ++ other ≡ table.encoding parts ++ rest = sym again.1 ∙ opens.1 in
+    let one = none_begins table table_at table_reads (table.encoding (stored_table t)) (table.encoding parts) other rest
     (stored_table t) parts
     (again.0.1, refl) (opens.0, refl) same in
     none t (subst (λ (s : StoredTable). IsStoredAs s t) one.1 (is_stored t again.0.0))
 
--- and the table of the parts is the one that stands there: where a lease is kept, its place is
+-- and the table of the parts is the one that is encoded there: every kept lease has its place
 has_place : (o : Option StoredPlace) → (present place).Takes o → is_some o ≡ true
 has_place None takes = absurd takes
 has_place (Some p) takes = refl
@@ -72,5 +72,5 @@ pub one_of_parts : (bytes rest : List ℕ) (parts : StoredTable) (t : TableState
 one_of_parts bytes rest parts t opens is =
     let same : stored_table t ≡ parts = stored_again parts t (have_places parts.runners opens.0.1.1.0.2) is in (
       (is.is_sound, subst table.Takes (sym same) opens.0),
-      opens.1 ∙ ap (λ (s : StoredTable). table.spelling s ++ rest) (sym same),
+      opens.1 ∙ ap (λ (s : StoredTable). table.encoding s ++ rest) (sym same),
     )

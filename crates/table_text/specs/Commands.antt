@@ -1,4 +1,4 @@
--- The spellings of commands and of batches of them. Own: there is no public source.
+-- The encodings of commands and of batches.
 use Rattle.std.specs.Prelude.{ℕ, List, [], ◌∷◌, ◌&&◌, Bool, true, false, nat_le}
 use Rattle.wf_value.specs.declared.outcome.Outcome.{Outcome}
 use Rattle.wf_value.specs.declared.outcome.Outcome.TheVariants as ended
@@ -32,7 +32,7 @@ abbrev pub are_none : {X : Type 0} → List X → Bool
 are_none [] = true
 are_none (x ∷ xs) = false
 
--- a body in which nothing is wrong
+-- a body without faults
 unfoldable pub is_faultless : List ℕ → Bool
 is_faultless bytes = are_none (faults_of bytes)
 
@@ -45,9 +45,9 @@ outcome_byte ended.Failure = 2
 outcome_byte ended.Cancelled = 3
 
 abbrev pub outcome : Format Outcome
-outcome = record { Takes = λ (_ : Outcome). Unit {0}; spelling = λ r. outcome_byte r ∷ [] }
+outcome = record { Takes = λ (_ : Outcome). Unit {0}; encoding = λ r. outcome_byte r ∷ [] }
 
--- ---- what stands behind the byte that says which command it is
+-- ---- the bytes after the one for the command's kind
 
 -- the delivery, the event's name and the body
 abbrev pub admit : Format Admitted
@@ -73,18 +73,18 @@ rerun = parts (λ (a : Attempt). (a.run, a.attempt)) (pair number number)
 
 -- ---- commands and batches
 
-abbrev pub IsSpelled : Command → Type 0
-IsSpelled (asked.Admit event) = admit.Takes event
-IsSpelled (asked.Claim asks) = claim.Takes asks
-IsSpelled (asked.Done report) = done.Takes report
-IsSpelled (asked.Beat asks) = beat.Takes asks
-IsSpelled (asked.Cancel run) = number.Takes run
-IsSpelled (asked.Lost runner) = (small_text is_runner_byte).Takes runner
-IsSpelled (asked.Look run) = number.Takes run
-IsSpelled (asked.Fetch run) = number.Takes run
-IsSpelled (asked.Rerun asks) = rerun.Takes asks
+abbrev pub IsEncoded : Command → Type 0
+IsEncoded (asked.Admit event) = admit.Takes event
+IsEncoded (asked.Claim asks) = claim.Takes asks
+IsEncoded (asked.Done report) = done.Takes report
+IsEncoded (asked.Beat asks) = beat.Takes asks
+IsEncoded (asked.Cancel run) = number.Takes run
+IsEncoded (asked.Lost runner) = (small_text is_runner_byte).Takes runner
+IsEncoded (asked.Look run) = number.Takes run
+IsEncoded (asked.Fetch run) = number.Takes run
+IsEncoded (asked.Rerun asks) = rerun.Takes asks
 
--- the byte that says which command it is
+-- the byte for the command's kind
 abbrev pub kind_of : Command → ℕ
 kind_of (asked.Admit event) = 1
 kind_of (asked.Claim asks) = 2
@@ -96,24 +96,24 @@ kind_of (asked.Look run) = 7
 kind_of (asked.Fetch run) = 8
 kind_of (asked.Rerun asks) = 9
 
--- what stands behind it
+-- the bytes after it
 abbrev pub fields_of : Command → List ℕ
-fields_of (asked.Admit event) = admit.spelling event
-fields_of (asked.Claim asks) = claim.spelling asks
-fields_of (asked.Done report) = done.spelling report
-fields_of (asked.Beat asks) = beat.spelling asks
-fields_of (asked.Cancel run) = number.spelling run
-fields_of (asked.Lost runner) = (small_text is_runner_byte).spelling runner
-fields_of (asked.Look run) = number.spelling run
-fields_of (asked.Fetch run) = number.spelling run
-fields_of (asked.Rerun asks) = rerun.spelling asks
+fields_of (asked.Admit event) = admit.encoding event
+fields_of (asked.Claim asks) = claim.encoding asks
+fields_of (asked.Done report) = done.encoding report
+fields_of (asked.Beat asks) = beat.encoding asks
+fields_of (asked.Cancel run) = number.encoding run
+fields_of (asked.Lost runner) = (small_text is_runner_byte).encoding runner
+fields_of (asked.Look run) = number.encoding run
+fields_of (asked.Fetch run) = number.encoding run
+fields_of (asked.Rerun asks) = rerun.encoding asks
 
 abbrev pub command_bytes : Command → List ℕ
 command_bytes c = kind_of c ∷ fields_of c
 
 abbrev pub command : Format Command
-command = record { Takes = IsSpelled; spelling = command_bytes }
+command = record { Takes = IsEncoded; encoding = command_bytes }
 
--- from one command on, as many as a count can tell
+-- at least one command, and at most as many as a count can hold
 abbrev pub batch : Format (List Command)
 batch = counted 1 4294967295 command

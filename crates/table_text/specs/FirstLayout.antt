@@ -1,49 +1,50 @@
--- The spelling of a table and of a batch in the first layout of an area, where it differs from that of the second: the attempt of a run is
--- not spelled, and is 1; the place of a lease that is kept is not spelled; behind the byte of each kept reply stands a lease, 0 where none was
--- given; and no command asks for an attempt. It is read, and nothing is written in it. Own: there is no public source.
+-- The encoding of a table and of a batch in the first layout of an area, where it differs from the second layout. The
+-- attempt of a run is not encoded and is 1. The place of a kept lease is not encoded. A lease follows the byte of each
+-- kept reply, 0 for none. No command asks for an attempt. This layout is read, and nothing is written in it. This is
+-- defined by this project.
 use Rattle.std.specs.Prelude.{◌≡◌, ℕ, List, [], Bool, true, false, Option, Some, None}
 use Rattle.std.specs.List.{list_all}
 use Rattle.run_plan.specs.SmallText.{is_runner_byte}
 use Rattle.run_plan.specs.declared.command.Command.{Command}
 use Rattle.run_plan.specs.declared.command.Command.TheVariants as asked
-use Rattle.run_table.specs.Stored.{StoredRunner, StoredTable}
-use Rattle.run_table.specs.declared.parts.LastParts.{LastParts}
-use Rattle.workflow_runs.specs.RunState.{RunState}
-use Rattle.table_text.specs.declared.kept.Kept.{Kept}
-use Rattle.table_text.specs.declared.kept.Kept.TheVariants as replied
+use Rattle.stored_tables.specs.Stored.{StoredRunner, StoredTable}
+use Rattle.stored_tables.specs.declared.parts.LastParts.{LastParts}
+use Rattle.run_states.specs.RunState.{RunState}
+use Rattle.table_text.specs.declared.kept.StoredReply.{StoredReply}
+use Rattle.table_text.specs.declared.kept.StoredReply.TheVariants as replied
 use Rattle.table_text.specs.Commands.{admit, batch, command, number, small_text}
 use Rattle.table_text.specs.Format.{Format, byte, counted, follow, only, pair, parts, row, word}
 use Rattle.table_text.specs.Tables.{flag_byte, is_last_lease, job, jobs_planned, last_parts, lease, names_rise, run_byte}
 
--- a value that is not spelled, since it is always this one
-abbrev pub unspelled : {A : Type 0} → A → Format A
-unspelled {A} x = record { Takes = λ (y : A). y ≡ x; spelling = λ _. [] }
+-- a value that is not encoded, since it is always this one
+abbrev pub unencoded : {A : Type 0} → A → Format A
+unencoded {A} x = record { Takes = λ (y : A). y ≡ x; encoding = λ _. [] }
 
 -- ---- runs
 
 -- what was admitted, the phase, the stop flag and the jobs of the plan; the attempt is 1
 abbrev pub first_run : Format RunState
 first_run = parts (λ (r : RunState). (r.admitted, (r.attempt, (r.phase, (r.stopping, r.jobs)))))
-    (follow admit (λ a. pair (unspelled 1) (pair (parts run_byte byte) (pair (parts flag_byte byte) (row (jobs_planned a) job)))))
+    (follow admit (λ a. pair (unencoded 1) (pair (parts run_byte byte) (pair (parts flag_byte byte) (row (jobs_planned a) job)))))
 
 -- ---- runners
 
--- What is kept of a reply: a lease stands without its place.
-abbrev pub IsFirstKept : Kept → Type 0
+-- A kept reply. A lease has no place.
+abbrev pub IsFirstKept : StoredReply → Type 0
 IsFirstKept replied.Nothing = Unit {0}
 IsFirstKept (replied.Leased l) = number.Takes l.lease × (l.place ≡ None)
 IsFirstKept replied.Done = Unit {0}
 
--- Its byte, and its lease.
-abbrev pub first_kept_parts : Kept → ℕ × Option ℕ
+-- Its byte and its lease.
+abbrev pub first_kept_parts : StoredReply → ℕ × Option ℕ
 first_kept_parts replied.Nothing = (0, None)
 first_kept_parts (replied.Leased l) = (1, Some l.lease)
 first_kept_parts replied.Done = (2, None)
 
-abbrev pub first_kept : Format Kept
-first_kept = record { Takes = IsFirstKept; spelling = λ k. (pair byte lease).spelling (first_kept_parts k) }
+abbrev pub first_kept : Format StoredReply
+first_kept = record { Takes = IsFirstKept; encoding = λ k. (pair byte lease).encoding (first_kept_parts k) }
 
--- the command, and what is kept of its reply
+-- the command and its kept reply
 abbrev pub first_last_command : Format LastParts
 first_last_command = parts last_parts (pair command first_kept)
 
@@ -61,7 +62,7 @@ first_table = parts (λ (t : StoredTable). (t.last_lease, (t.runs, t.runners)))
 
 -- ---- batches
 
--- The first layout has each command but the one that asks for an attempt.
+-- The first layout has every command except the one that asks for an attempt.
 abbrev pub is_in_first_layout : Command → Bool
 is_in_first_layout (asked.Admit event) = true
 is_in_first_layout (asked.Claim asks) = true

@@ -1,18 +1,18 @@
--- How many bytes a value is spelled in, as a sum over its fields. Own: there is no public source.
+-- The number of bytes in an encoding, as a sum over the fields.
 use Rattle.std.specs.Prelude.{ℕ, ◌+◌, List, length, sum_by}
 use Rattle.run_plan.specs.declared.command.Command.{Command}
 use Rattle.run_plan.specs.declared.command.Command.TheVariants as asked
 use Rattle.table_text.specs.Format.{Format}
 
--- the bytes of the spelling, counted
+-- the number of bytes in the encoding
 abbrev pub length_of : {A : Type 0} → Format A → A → ℕ
-length_of format x = length (format.spelling x)
+length_of format x = length (format.encoding x)
 
--- four bytes tell the length of a text
+-- four bytes for the length of a text
 abbrev pub text_length : List ℕ → ℕ
 text_length t = 4 + length t
 
--- four bytes tell the count, and then each text
+-- four bytes for the count, then each text
 abbrev pub texts_length : List (List ℕ) → ℕ
 texts_length texts = 4 + sum_by text_length texts
 
@@ -28,10 +28,10 @@ fields_length (asked.Look run) = 4
 fields_length (asked.Fetch run) = 4
 fields_length (asked.Rerun asks) = 4 + 4
 
--- one byte says which command it is
+-- one byte for the command's kind
 abbrev pub command_length : Command → ℕ
 command_length c = 1 + fields_length c
 
--- four bytes tell the count, and then each command
+-- four bytes for the count, then each command
 abbrev pub batch_length : List Command → ℕ
 batch_length commands = 4 + sum_by command_length commands

@@ -1,13 +1,13 @@
--- Reading as a function: the value at the front of bytes and the bytes behind it, where there is one.
+-- Reading as a function: the value at the front of bytes and the bytes after it, if there is one.
 use Rattle.std.specs.Prelude.{◌≡◌, ℕ, zero, suc, ◌∷◌, List, [], ◌++◌, length, take, drop, nat_lt, nat_le, ◌&&◌, if◌then◌else◌, Bool, Option}
 use Rattle.std.specs.Prelude.{Some, None, Result, Ok, Err}
 use Rattle.std.specs.Int.{from_be_bytes, w32}
 use Rattle.table_text.specs.declared.decode_error.DecodeError.{DecodeError}
-use Rattle.table_text.specs.declared.decode_error.DecodeError.TheVariants.{NoMemory, NoSpelling}
+use Rattle.table_text.specs.declared.decode_error.DecodeError.TheVariants.{NoMemory, NoEncoding}
 
--- What a call found, seen by view, is what reading finds, unless memory was refused.
+-- What a call found, seen through a view, is what reading finds, unless memory ran out.
 abbrev pub Fails : {Y : Type 0} → DecodeError → Option Y → Type 0
-Fails NoSpelling found = found ≡ None
+Fails NoEncoding found = found ≡ None
 Fails NoMemory found = Unit {0}
 
 abbrev pub Finds : {X Y : Type 0} → (X → Y) → Result X DecodeError → Option Y → Type 0
@@ -19,7 +19,7 @@ abbrev pub ◌>>=◌ : {A B : Type 0} → Option A → (A → Option B) → Opti
 None >>= f = None
 (Some x) >>= f = f x
 
--- what finds a value at the front of bytes
+-- a function that finds a value at the front of bytes
 abbrev pub Reader : Type 0 → Type 0
 Reader A = List ℕ → Option (A × List ℕ)
 
@@ -32,7 +32,7 @@ bytes_at n bytes = if nat_lt (length bytes) n then None else Some (take n bytes,
 unfoldable pub text_at : Reader (List ℕ)
 text_at bytes = word_at bytes >>= (λ n. bytes_at n.0 n.1)
 
--- the value, where it passes a test
+-- the value, if it passes a test
 abbrev pub kept : {A : Type 0} → (A → Bool) → A → Option A
 kept test x = if test x then Some x else None
 
@@ -49,7 +49,7 @@ abbrev pub items_at : {A : Type 0} → Reader A → ℕ → Reader (List A)
 items_at item zero bytes = Some ([], bytes)
 items_at item (suc n) bytes = item bytes >>= (λ x. items_at item n x.1 >>= (λ xs. Some (x.0 ∷ xs.0, xs.1)))
 
--- values that were found, and those that reading finds behind them
+-- values that were found, followed by those that reading finds after them
 abbrev pub with_front : {A : Type 0} → List A → Option (List A × List ℕ) → Option (List A × List ℕ)
 with_front front None = None
 with_front front (Some xs) = Some (front ++ xs.0, xs.1)
@@ -61,7 +61,7 @@ unfoldable pub byte_at : Reader ℕ
 byte_at [] = None
 byte_at (b ∷ rest) = Some (b, rest)
 
--- what has these parts, where something has
+-- the value with these parts, if there is one
 abbrev pub some_at : {A B : Type 0} → (A → Option B) → Reader A → Reader B
 some_at whole_of at bytes = at bytes >>= (λ a. whole_of a.0 >>= (λ b. Some (b, a.1)))
 

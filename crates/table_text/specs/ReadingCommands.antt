@@ -51,7 +51,7 @@ beat_at bytes = parts_at (λ (p : List ℕ × ℕ). record { runner = p.0; lease
 unfoldable pub rerun_at : Reader Attempt
 rerun_at bytes = parts_at (λ (p : ℕ × ℕ). record { run = p.0; attempt = p.1 }) (pair_at number_at number_at) bytes
 
--- what stands behind the byte that says which command it is
+-- the bytes after the one for the command's kind
 unfoldable pub command_of : ℕ → Reader Command
 command_of kind rest =
     if kind == 1 then parts_at (λ (a : Admitted). asked.Admit a) admit_at rest

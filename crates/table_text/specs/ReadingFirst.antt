@@ -1,27 +1,27 @@
--- Reading of a table in the first layout as a function, where it differs from that in the second.
+-- Reading of a table in the first layout as a function, where it differs from the second layout.
 use Rattle.std.specs.Prelude.{ℕ, ◌==◌, List, Bool, if◌then◌else◌, Option, Some, None}
 use Rattle.run_plan.specs.Admitted.{Admitted}
 use Rattle.run_plan.specs.SmallText.{is_runner_byte}
-use Rattle.run_table.specs.Stored.{StoredRunner, StoredTable}
-use Rattle.run_table.specs.declared.parts.LastParts.{LastParts}
-use Rattle.workflow_runs.specs.RunState.{JobState, RunState}
-use Rattle.workflow_runs.specs.declared.phases.RunPhase.{RunPhase}
-use Rattle.table_text.specs.declared.kept.Kept.{Kept}
-use Rattle.table_text.specs.declared.kept.Kept.TheVariants as replied
+use Rattle.stored_tables.specs.Stored.{StoredRunner, StoredTable}
+use Rattle.stored_tables.specs.declared.parts.LastParts.{LastParts}
+use Rattle.run_states.specs.RunState.{JobState, RunState}
+use Rattle.run_states.specs.declared.phases.RunPhase.{RunPhase}
+use Rattle.table_text.specs.declared.kept.StoredReply.{StoredReply}
+use Rattle.table_text.specs.declared.kept.StoredReply.TheVariants as replied
 use Rattle.table_text.specs.Reading.{Reader, byte_at, counted_at, follow_at, items_at, only_at, pair_at, parts_at, some_at}
 use Rattle.table_text.specs.ReadingCommands.{admit_at, command_at, number_at, small_text_at}
 use Rattle.table_text.specs.ReadingTables.{flag_at, job_at, last_lease_at, last_of, lease_at, run_phase_at}
 use Rattle.table_text.specs.Tables.{jobs_planned, names_rise}
 
--- what is not spelled
-abbrev pub unspelled_at : {A : Type 0} → A → Reader A
-unspelled_at x bytes = Some (x, bytes)
+-- what is not encoded
+abbrev pub unencoded_at : {A : Type 0} → A → Reader A
+unencoded_at x bytes = Some (x, bytes)
 
 -- ---- runs
 
--- the phase, the stop flag and the jobs that the plan has, of the first attempt
+-- the phase, the stop flag and the jobs of the plan, at the first attempt
 unfoldable pub first_course_at : Admitted → Reader (ℕ × (RunPhase × (Bool × List JobState)))
-first_course_at a bytes = pair_at (unspelled_at 1) (pair_at run_phase_at (pair_at flag_at (items_at job_at (jobs_planned a)))) bytes
+first_course_at a bytes = pair_at (unencoded_at 1) (pair_at run_phase_at (pair_at flag_at (items_at job_at (jobs_planned a)))) bytes
 
 unfoldable pub first_run_at : Reader RunState
 first_run_at bytes =
@@ -31,22 +31,22 @@ first_run_at bytes =
 
 -- ---- runners
 
-abbrev pub without_lease : Kept → Option ℕ → Option Kept
+abbrev pub without_lease : StoredReply → Option ℕ → Option StoredReply
 without_lease kept None = Some kept
 without_lease kept (Some n) = None
 
-abbrev pub with_lease : Option ℕ → Option Kept
+abbrev pub with_lease : Option ℕ → Option StoredReply
 with_lease None = None
 with_lease (Some n) = Some (replied.Leased (record { lease = n; place = None }))
 
--- what is kept of a reply that has this byte and this lease
-abbrev pub first_kept_of : ℕ × Option ℕ → Option Kept
+-- the kept reply with this byte and this lease
+abbrev pub first_kept_of : ℕ × Option ℕ → Option StoredReply
 first_kept_of p =
     if p.0 == 0 then without_lease replied.Nothing p.1
     else (if p.0 == 1 then with_lease p.1
     else (if p.0 == 2 then without_lease replied.Done p.1 else None))
 
-unfoldable pub first_kept_at : Reader Kept
+unfoldable pub first_kept_at : Reader StoredReply
 first_kept_at bytes = some_at first_kept_of (pair_at byte_at lease_at) bytes
 
 unfoldable pub first_last_at : Reader LastParts

@@ -8,30 +8,30 @@ use Rattle.run_plan.specs.declared.command.Claim.{Claim}
 use Rattle.run_plan.specs.declared.command.Done.{Done}
 use Rattle.run_plan.specs.declared.command.Command.{Command}
 use Rattle.run_plan.specs.declared.command.Command.TheVariants as asked
-use Rattle.run_table.specs.Stored.{StoredRunner, StoredTable, is_new}
-use Rattle.workflow_runs.specs.RunState.{LegState, JobState, RunState}
-use Rattle.run_table.specs.declared.parts.LastParts.{LastParts}
-use Rattle.run_table.specs.declared.parts.LastParts.TheVariants as last
-use Rattle.run_table.specs.declared.parts.StoredLease.{StoredLease}
-use Rattle.run_table.specs.declared.parts.StoredPlace.{StoredPlace}
-use Rattle.workflow_runs.specs.declared.phases.JobPhase.{JobPhase}
-use Rattle.workflow_runs.specs.declared.phases.JobPhase.TheVariants as job_phase
-use Rattle.workflow_runs.specs.declared.phases.LegPhase.{LegPhase}
-use Rattle.workflow_runs.specs.declared.phases.LegPhase.TheVariants as leg_phase
-use Rattle.workflow_runs.specs.declared.phases.RunPhase.{RunPhase}
-use Rattle.workflow_runs.specs.declared.phases.RunPhase.TheVariants as run_phase
-use Rattle.table_text.specs.declared.kept.Kept.{Kept}
-use Rattle.table_text.specs.declared.kept.Kept.TheVariants as replied
+use Rattle.stored_tables.specs.Stored.{StoredRunner, StoredTable, is_new}
+use Rattle.run_states.specs.RunState.{LegState, JobState, RunState}
+use Rattle.stored_tables.specs.declared.parts.LastParts.{LastParts}
+use Rattle.stored_tables.specs.declared.parts.LastParts.TheVariants as last
+use Rattle.stored_tables.specs.declared.parts.StoredLease.{StoredLease}
+use Rattle.stored_tables.specs.declared.parts.StoredPlace.{StoredPlace}
+use Rattle.run_states.specs.declared.phases.JobPhase.{JobPhase}
+use Rattle.run_states.specs.declared.phases.JobPhase.TheVariants as job_phase
+use Rattle.run_states.specs.declared.phases.LegPhase.{LegPhase}
+use Rattle.run_states.specs.declared.phases.LegPhase.TheVariants as leg_phase
+use Rattle.run_states.specs.declared.phases.RunPhase.{RunPhase}
+use Rattle.run_states.specs.declared.phases.RunPhase.TheVariants as run_phase
+use Rattle.table_text.specs.declared.kept.StoredReply.{StoredReply}
+use Rattle.table_text.specs.declared.kept.StoredReply.TheVariants as replied
 use Rattle.table_text.specs.Commands.{is_numbered}
 use Rattle.table_text.specs.Reading.{Reader, byte_at, counted_at, follow_at, items_at, only_at, pair_at, parts_at, present_at, some_at, word_at}
 use Rattle.table_text.specs.ReadingCommands.{admit_at, command_at, number_at, small_text_at}
 use Rattle.table_text.specs.Tables.{flag_byte, is_attempt, is_last_lease, job_byte, jobs_planned, leg_byte, names_rise, run_byte}
 
--- 0 is none
+-- 0 means none
 abbrev pub lease_told : ℕ → Option ℕ
 lease_told n = if n == 0 then None else Some n
 
--- and other numbers are leases up to 999,999,999
+-- other numbers are leases up to 999,999,999
 abbrev pub lease_of : ℕ → Option (Option ℕ)
 lease_of n = if n == 0 then Some None else (if is_numbered n then Some (Some n) else None)
 
@@ -81,7 +81,7 @@ job_at bytes = parts_at (λ (p : JobPhase × List LegState). record { phase = p.
 unfoldable pub attempt_at : Reader ℕ
 attempt_at bytes = only_at is_attempt word_at bytes
 
--- the attempt, the phase, the stop flag and the jobs that the plan has
+-- the attempt, the phase, the stop flag and the jobs of the plan
 unfoldable pub course_at : Admitted → Reader (ℕ × (RunPhase × (Bool × List JobState)))
 course_at a bytes = pair_at attempt_at (pair_at run_phase_at (pair_at flag_at (items_at job_at (jobs_planned a)))) bytes
 
@@ -102,28 +102,28 @@ unfoldable pub kept_lease_at : Reader StoredLease
 kept_lease_at bytes =
     parts_at (λ (p : ℕ × Option StoredPlace). record { lease = p.0; place = p.1 }) (pair_at number_at (present_at place_at)) bytes
 
--- what stands behind the byte of a kept reply
-unfoldable pub kept_of : ℕ → Reader Kept
+-- the bytes after the byte of a kept reply
+unfoldable pub kept_of : ℕ → Reader StoredReply
 kept_of reply rest =
     if reply == 0 then Some (replied.Nothing, rest)
     else (if reply == 1 then parts_at (λ (l : StoredLease). replied.Leased l) kept_lease_at rest
     else (if reply == 2 then Some (replied.Done, rest) else None))
 
-unfoldable pub kept_at : Reader Kept
+unfoldable pub kept_at : Reader StoredReply
 kept_at [] = None
 kept_at (reply ∷ rest) = kept_of reply rest
 
-abbrev pub claim_with : Claim → Kept → Option LastParts
+abbrev pub claim_with : Claim → StoredReply → Option LastParts
 claim_with claim replied.Nothing = Some (last.Claim claim None)
 claim_with claim (replied.Leased l) = Some (last.Claim claim (Some l))
 claim_with claim replied.Done = None
 
-abbrev pub report_with : Done → Kept → Option LastParts
+abbrev pub report_with : Done → StoredReply → Option LastParts
 report_with report replied.Nothing = None
 report_with report (replied.Leased l) = None
 report_with report replied.Done = Some (last.Done report)
 
-abbrev pub last_with : Command → Kept → Option LastParts
+abbrev pub last_with : Command → StoredReply → Option LastParts
 last_with (asked.Admit event) kept = None
 last_with (asked.Claim claim) kept = claim_with claim kept
 last_with (asked.Done report) kept = report_with report kept
@@ -134,7 +134,7 @@ last_with (asked.Look run) kept = None
 last_with (asked.Fetch run) kept = None
 last_with (asked.Rerun asks) kept = None
 
-abbrev pub last_of : Command × Kept → Option LastParts
+abbrev pub last_of : Command × StoredReply → Option LastParts
 last_of p = last_with p.0 p.1
 
 unfoldable pub last_at : Reader LastParts

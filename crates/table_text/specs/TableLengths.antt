@@ -1,15 +1,15 @@
--- How many bytes a table is spelled in, as a sum over its fields. Own: there is no public source.
+-- The number of bytes in a table's encoding, as a sum over the fields.
 use Rattle.std.specs.Prelude.{ℕ, ◌+◌, ◌*◌, length, sum_by, Some, None}
 use Rattle.std.specs.Option.{option_map_or}
 use Rattle.run_plan.specs.declared.command.Command.TheVariants as asked
-use Rattle.run_table.specs.Stored.{StoredRunner, StoredTable}
-use Rattle.workflow_runs.specs.RunState.{JobState, RunState}
-use Rattle.run_table.specs.declared.parts.LastParts.{LastParts}
-use Rattle.run_table.specs.declared.parts.LastParts.TheVariants as last
-use Rattle.run_table.specs.declared.parts.StoredLease.{StoredLease}
+use Rattle.stored_tables.specs.Stored.{StoredRunner, StoredTable}
+use Rattle.run_states.specs.RunState.{JobState, RunState}
+use Rattle.stored_tables.specs.declared.parts.LastParts.{LastParts}
+use Rattle.stored_tables.specs.declared.parts.LastParts.TheVariants as last
+use Rattle.stored_tables.specs.declared.parts.StoredLease.{StoredLease}
 use Rattle.table_text.specs.Lengths.{command_length, fields_length, text_length}
 
--- a phase, the count of the legs, and of each leg its phase and its lease
+-- a phase, the number of legs, and for each leg its phase and its lease
 abbrev pub job_length : JobState → ℕ
 job_length j = 1 + 4 + 5 * length j.legs
 
@@ -21,7 +21,7 @@ run_length r = fields_length (asked.Admit r.admitted) + 4 + 1 + 1 + sum_by job_l
 abbrev pub lease_length : StoredLease → ℕ
 lease_length l = 4 + option_map_or (λ _. 16) l.place 0
 
--- a command, a byte for its reply, and the lease where that is one
+-- a command, a byte for its reply, and the lease if there is one
 abbrev pub last_length : LastParts → ℕ
 last_length (last.Claim claim None) = command_length (asked.Claim claim) + 1
 last_length (last.Claim claim (Some l)) = command_length (asked.Claim claim) + 1 + lease_length l

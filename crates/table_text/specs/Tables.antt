@@ -1,5 +1,5 @@
--- The spelling of a table, field by field. The bytes of a run say how many jobs it has only through their body, whose plan
--- has so many. Own: there is no public source.
+-- The encoding of a table, field by field. The bytes of a run do not contain the number of its jobs: it follows from
+-- the body's plan. This is defined by this project.
 use Rattle.std.specs.Prelude.{ℕ, List, [], ◌∷◌, length, ◌&&◌, Bool, true, false, not, nat_le, Option, Some, None}
 use Rattle.wf_value.specs.Names.{rises_by}
 use Rattle.wf_value.specs.declared.outcome.JobResult.TheVariants as result
@@ -9,26 +9,26 @@ use Rattle.run_plan.specs.PlanOf.{plan_of}
 use Rattle.run_plan.specs.SmallText.{is_runner_byte}
 use Rattle.run_plan.specs.declared.command.Command.{Command}
 use Rattle.run_plan.specs.declared.command.Command.TheVariants as asked
-use Rattle.run_table.specs.Stored.{StoredRunner, StoredTable, is_new}
-use Rattle.workflow_runs.specs.RunState.{LegState, JobState, RunState}
-use Rattle.run_table.specs.declared.parts.LastParts.{LastParts}
-use Rattle.run_table.specs.declared.parts.LastParts.TheVariants as last
-use Rattle.run_table.specs.declared.parts.StoredLease.{StoredLease}
-use Rattle.run_table.specs.declared.parts.StoredPlace.{StoredPlace}
-use Rattle.workflow_runs.specs.declared.phases.JobPhase.{JobPhase}
-use Rattle.workflow_runs.specs.declared.phases.JobPhase.TheVariants as job_phase
-use Rattle.workflow_runs.specs.declared.phases.LegPhase.{LegPhase}
-use Rattle.workflow_runs.specs.declared.phases.LegPhase.TheVariants as leg_phase
-use Rattle.workflow_runs.specs.declared.phases.RunPhase.{RunPhase}
-use Rattle.workflow_runs.specs.declared.phases.RunPhase.TheVariants as run_phase
-use Rattle.table_text.specs.declared.kept.Kept.{Kept}
-use Rattle.table_text.specs.declared.kept.Kept.TheVariants as replied
+use Rattle.stored_tables.specs.Stored.{StoredRunner, StoredTable, is_new}
+use Rattle.run_states.specs.RunState.{LegState, JobState, RunState}
+use Rattle.stored_tables.specs.declared.parts.LastParts.{LastParts}
+use Rattle.stored_tables.specs.declared.parts.LastParts.TheVariants as last
+use Rattle.stored_tables.specs.declared.parts.StoredLease.{StoredLease}
+use Rattle.stored_tables.specs.declared.parts.StoredPlace.{StoredPlace}
+use Rattle.run_states.specs.declared.phases.JobPhase.{JobPhase}
+use Rattle.run_states.specs.declared.phases.JobPhase.TheVariants as job_phase
+use Rattle.run_states.specs.declared.phases.LegPhase.{LegPhase}
+use Rattle.run_states.specs.declared.phases.LegPhase.TheVariants as leg_phase
+use Rattle.run_states.specs.declared.phases.RunPhase.{RunPhase}
+use Rattle.run_states.specs.declared.phases.RunPhase.TheVariants as run_phase
+use Rattle.table_text.specs.declared.kept.StoredReply.{StoredReply}
+use Rattle.table_text.specs.declared.kept.StoredReply.TheVariants as replied
 use Rattle.table_text.specs.Commands.{admit, command, number, small_text}
 use Rattle.table_text.specs.Format.{Format, byte, counted, follow, only, pair, parts, present, row, word, word_bytes}
 
 -- ---- leases
 
--- 0 stands for none
+-- 0 means none
 abbrev pub lease_word : Option ℕ → ℕ
 lease_word None = 0
 lease_word (Some n) = n
@@ -38,11 +38,11 @@ IsLease None = Unit {0}
 IsLease (Some n) = number.Takes n
 
 abbrev pub lease : Format (Option ℕ)
-lease = record { Takes = IsLease; spelling = λ l. word_bytes (lease_word l) }
+lease = record { Takes = IsLease; encoding = λ l. word_bytes (lease_word l) }
 
 -- ---- runs
 
--- a new leg stands in no table that has settled, and its byte is not read
+-- no table at a fixpoint has a new leg, and its byte is not read
 abbrev pub leg_byte : LegPhase → ℕ
 leg_byte leg_phase.New = 0
 leg_byte leg_phase.Waiting = 1
@@ -82,7 +82,7 @@ job = parts (λ (j : JobState). (j.phase, j.legs)) (pair (parts job_byte byte) (
 abbrev pub is_attempt : ℕ → Bool
 is_attempt n = nat_le 1 n && nat_le n 1000
 
--- how many jobs the plan of an admitted body has
+-- the number of jobs in the plan of an admitted body
 abbrev pub jobs_planned : Admitted → ℕ
 jobs_planned a = length (plan_of a.body)
 
@@ -93,31 +93,31 @@ run = parts (λ (r : RunState). (r.admitted, (r.attempt, (r.phase, (r.stopping, 
 
 -- ---- runners
 
--- the place of a leg in an attempt: the run's id, the attempt, the place of the job, and the leg's number
+-- the place of a leg in an attempt: the run's id, the attempt, the job's index, and the leg's number
 abbrev pub place : Format StoredPlace
 place = parts (λ (p : StoredPlace). (p.run, (p.attempt, (p.job, p.leg)))) (pair number (pair number (pair word word)))
 
--- a lease that is kept, with the place of its leg
+-- a kept lease with the place of its leg
 abbrev pub kept_lease : Format StoredLease
 kept_lease = parts (λ (l : StoredLease). (l.lease, l.place)) (pair number (present place))
 
--- What is kept of the reply to a last command: nothing to a claim, a lease, or ok to a report.
-abbrev pub IsKept : Kept → Type 0
+-- The kept reply to a last command: nothing or a lease for a claim, ok for a report.
+abbrev pub IsKept : StoredReply → Type 0
 IsKept replied.Nothing = Unit {0}
 IsKept (replied.Leased l) = kept_lease.Takes l
 IsKept replied.Done = Unit {0}
 
--- Its byte, and the lease where it is one.
-abbrev pub kept_bytes : Kept → List ℕ
+-- Its byte, and the lease if there is one.
+abbrev pub kept_bytes : StoredReply → List ℕ
 kept_bytes replied.Nothing = 0 ∷ []
-kept_bytes (replied.Leased l) = 1 ∷ kept_lease.spelling l
+kept_bytes (replied.Leased l) = 1 ∷ kept_lease.encoding l
 kept_bytes replied.Done = 2 ∷ []
 
-abbrev pub kept : Format Kept
-kept = record { Takes = IsKept; spelling = kept_bytes }
+abbrev pub kept : Format StoredReply
+kept = record { Takes = IsKept; encoding = kept_bytes }
 
--- the command, and what is kept of its reply
-abbrev pub last_parts : LastParts → Command × Kept
+-- the command and its kept reply
+abbrev pub last_parts : LastParts → Command × StoredReply
 last_parts (last.Claim claim None) = (asked.Claim claim, replied.Nothing)
 last_parts (last.Claim claim (Some l)) = (asked.Claim claim, replied.Leased l)
 last_parts (last.Done report) = (asked.Done report, replied.Done)
@@ -136,7 +136,7 @@ runner = parts (λ (r : StoredRunner). (r.name, (r.number, (r.last, r.holds))))
 abbrev pub is_last_lease : ℕ → Bool
 is_last_lease n = nat_le n 999999999
 
--- each name is above the one before it, by their bytes
+-- names strictly increase in byte order
 abbrev pub names_rise : List StoredRunner → Bool
 names_rise runners = rises_by (λ r. r.name) runners
 

@@ -1,20 +1,21 @@
--- The spelling of a whole table in the first layout: of a sound one whose runs are all at their first attempt, the spelling of what that layout
--- stores of it. A lease that is kept is stored by its number alone: the leg that has it is its place. Own: there is no public source.
+-- The encoding of a whole table in the first layout: a sound table whose runs are all at their first attempt is encoded
+-- as what that layout stores of it. A kept lease is stored as its number alone: its place is the leg that has it. This
+-- is defined by this project.
 use Rattle.std.specs.Prelude.{map, Some, None}
 use Rattle.run_plan.specs.declared.last_command.ClaimReply.TheVariants as given
 use Rattle.run_plan.specs.declared.last_command.LastCommand.{LastCommand}
 use Rattle.run_plan.specs.declared.last_command.LastCommand.TheVariants as last
 use Rattle.run_table.specs.Sound.{IsSound}
-use Rattle.run_table.specs.Stored.{StoredRunner, StoredTable}
+use Rattle.stored_tables.specs.Stored.{StoredRunner, StoredTable}
 use Rattle.run_table.specs.TableState.{RunnerState, TableState}
-use Rattle.run_table.specs.declared.parts.LastParts.{LastParts}
-use Rattle.run_table.specs.declared.parts.LastParts.TheVariants as stored
+use Rattle.stored_tables.specs.declared.parts.LastParts.{LastParts}
+use Rattle.stored_tables.specs.declared.parts.LastParts.TheVariants as stored
 use Rattle.table_text.specs.FirstLayout.{first_table}
 use Rattle.table_text.specs.Format.{Format}
 
 abbrev pub first_stored_last : LastCommand → LastParts
 first_stored_last (last.Claim claim given.Nothing) = stored.Claim claim None
-first_stored_last (last.Claim claim (given.Lease kept)) = stored.Claim claim (Some (record { lease = kept.told.lease; place = None }))
+first_stored_last (last.Claim claim (given.Lease kept)) = stored.Claim claim (Some (record { lease = kept.lease_reply.lease; place = None }))
 first_stored_last (last.Done report) = stored.Done report
 
 abbrev pub first_stored_runner : RunnerState → StoredRunner
@@ -26,5 +27,5 @@ first_stored_table t = record { last_lease = t.last_lease; runs = t.runs; runner
 abbrev pub whole_first_table : Format TableState
 whole_first_table = record {
   Takes = λ t. IsSound t × first_table.Takes (first_stored_table t);
-  spelling = λ t. first_table.spelling (first_stored_table t);
+  encoding = λ t. first_table.encoding (first_stored_table t);
 }

@@ -2,7 +2,7 @@ ghost use Rattle.std.specs.Prelude.{◌≡◌, ◌≢◌, IfOk};
 ghost use Rattle.wf_value.specs.RefusalText.{refusal_number};
 ghost use Rattle.run_plan.specs.declared.command.Attempt.{Attempt};
 ghost use Rattle.run_plan.specs.declared.command.Command.TheVariants as asked;
-ghost use Rattle.table_text.specs.declared.decode_error.DecodeError.TheVariants.{NoSpelling};
+ghost use Rattle.table_text.specs.declared.decode_error.DecodeError.TheVariants.{NoEncoding};
 ghost use Rattle.table_text.specs.Commands.{is_faultless};
 ghost use Rattle.table_text.specs.Reading.{Finds, kept, parts_at};
 ghost use Rattle.table_text.specs.ReadingCommands.{admit_at, rerun_at, batch_at, beat_at, claim_at, command_at, command_of, done_at};
@@ -18,17 +18,17 @@ use run_plan::{
 use std::alloc::Global;
 use wf_value::{Code, Refusal};
 
-/// Why a body was refused: for want of memory, or since it is none.
+/// The error for a refused body: out of memory, or not a valid body.
 fn why(refusal: &Refusal) -> DecodeError
-    ensures { result ≡ NoSpelling → refusal_number refusal.now ≢ 50 }
+    ensures { result ≡ NoEncoding → refusal_number refusal.now ≢ 50 }
 {
     if refusal.number() == Code::NoMemory.number() {
         return DecodeError::NoMemory;
     }
-    DecodeError::NoSpelling
+    DecodeError::NoEncoding
 }
 
-/// The event of a body, where nothing is wrong with it.
+/// The event of a body, if the body has no faults.
 fn prepared_of(
     alloc: Global,
     event: EventName,
@@ -101,7 +101,8 @@ fn beat_at(alloc: Global, bytes: &[u8]) -> Result<(Beat, &[u8]), DecodeError>
     Ok((beat, rest))
 }
 
-/// The command itself, since its attempt is copied.
+/// A re-run at the front of the bytes, and the bytes after it. It returns the whole command because an `Attempt` is
+/// copied.
 #[tactic(auto, unfolding(crate::specs::ReadingCommands::rerun_at))]
 fn rerun_at(bytes: &[u8]) -> Result<(Command, &[u8]), DecodeError>
     ensures { Finds (λ f. (f.0, f.1.now)) result (parts_at (λ (a : Attempt). asked.Rerun a) rerun_at bytes.now) }
@@ -115,7 +116,7 @@ fn rerun_at(bytes: &[u8]) -> Result<(Command, &[u8]), DecodeError>
     Ok((Command::Rerun(asks), rest))
 }
 
-/// The command of a kind, and what stands behind it.
+/// The command of a kind at the front of the bytes, and the bytes after it.
 #[tactic(auto, unfolding(crate::specs::ReadingCommands::command_of))]
 fn command_of(alloc: Global, kind: u8, bytes: &[u8]) -> Result<(Command, &[u8]), DecodeError>
     ensures { Finds (λ f. (f.0, f.1.now)) result (command_of kind bytes.now) }
@@ -154,17 +155,17 @@ fn command_of(alloc: Global, kind: u8, bytes: &[u8]) -> Result<(Command, &[u8]),
             Ok((Command::Fetch(Number::new(run)), rest))
         }
         9 => rerun_at(bytes),
-        _ => Err(DecodeError::NoSpelling),
+        _ => Err(DecodeError::NoEncoding),
     }
 }
 
-/// The command at the front, and what stands behind it.
+/// The command at the front of the bytes, and the bytes after it.
 #[tactic(auto, unfolding(crate::specs::ReadingCommands::command_at))]
 pub(crate) fn command_at(alloc: Global, bytes: &[u8]) -> Result<(Command, &[u8]), DecodeError>
     ensures { Finds (λ f. (f.0, f.1.now)) result (command_at bytes.now) }
 {
     match bytes {
-        [] => Err(DecodeError::NoSpelling),
+        [] => Err(DecodeError::NoEncoding),
         [kind, rest @ ..] => command_of(alloc, *kind, rest),
     }
 }
@@ -177,14 +178,14 @@ impl ReadAt for Command {
     }
 }
 
-/// The commands behind their count, and what stands behind them.
+/// The counted commands at the front of the bytes, and the bytes after them.
 #[tactic(auto, unfolding(crate::specs::ReadingCommands::batch_at))]
 pub(crate) fn batch_at(alloc: Global, bytes: &[u8]) -> Result<(Vec<Command>, &[u8]), DecodeError>
     ensures { Finds (λ f. (f.0.items, f.1.now)) result (batch_at bytes.now) }
 {
     let (count, rest) = word_at(bytes)?;
     if !is_within(count, u32::MAX) {
-        return Err(DecodeError::NoSpelling);
+        return Err(DecodeError::NoEncoding);
     }
     list_at(alloc, count as usize, rest)
 }

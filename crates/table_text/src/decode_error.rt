@@ -3,10 +3,10 @@ use std::alloc::{AllocError, AllocFailed};
 /// Why no value was read.
 #[derive(Drop)]
 pub(crate) enum DecodeError {
-    /// Memory was refused, and nothing is known.
+    /// Out of memory. This says nothing about the bytes.
     NoMemory,
-    /// No front of the bytes is a spelling.
-    NoSpelling,
+    /// No prefix of the bytes is an encoding.
+    NoEncoding,
 }
 
 impl From<AllocError> for DecodeError {

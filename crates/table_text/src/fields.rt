@@ -12,20 +12,20 @@ use run_plan::{Form, Labels, Number, SmallText};
 use std::alloc::Global;
 use wf_value::Outcome;
 
-/// The highest number of a command, and of a lease.
+/// The largest number of a command and of a lease.
 pub(crate) const MOST: u32 = 999_999_999;
 
-/// How many labels a runner has at most.
-const MOST_LABELS: u32 = 16;
+/// The largest number of labels that a runner has.
+const MAX_LABELS: u32 = 16;
 
-/// Whether it is 1 at least, and so much at most.
+/// Whether the value is at least 1 and at most `most`.
 pub(crate) fn is_within(value: u32, most: u32) -> bool
     ensures { result ≡ (nat_le 1 value && nat_le value most) }
 {
     1 <= value && value <= most
 }
 
-/// The number, where it is one of a command.
+/// The value, if it is a command's number.
 fn numbered(value: u32) -> Result<u32, DecodeError>
     ensures gives { Finds (λ n. n) result (kept is_numbered value) }
     ensures range { IfOk result (λ n. (1 ≤ n) × (n ≤ 999999999)) }
@@ -33,10 +33,10 @@ fn numbered(value: u32) -> Result<u32, DecodeError>
     if 1 <= value && value <= MOST {
         return Ok(value);
     }
-    Err(DecodeError::NoSpelling)
+    Err(DecodeError::NoEncoding)
 }
 
-/// The number of a command at the front, and what stands behind it.
+/// The command's number at the front of the bytes, and the bytes after it.
 #[tactic(auto, unfolding(crate::specs::ReadingCommands::number_at))]
 pub(crate) fn number_at(bytes: &[u8]) -> Result<(u32, &[u8]), DecodeError>
     ensures gives { Finds (λ f. (f.0, f.1.now)) result (number_at bytes.now) }
@@ -47,7 +47,7 @@ pub(crate) fn number_at(bytes: &[u8]) -> Result<(u32, &[u8]), DecodeError>
     Ok((value, rest))
 }
 
-/// The number, where it is 0 or that of a lease.
+/// The value, if it is 0 or a lease's number.
 fn lease_number(value: u32) -> Result<u32, DecodeError>
     ensures gives { Finds (λ n. lease_told n) result (lease_of value) }
     ensures most { IfOk result (λ n. n ≤ 999999999) }
@@ -58,10 +58,10 @@ fn lease_number(value: u32) -> Result<u32, DecodeError>
     if is_within(value, MOST) {
         return Ok(value);
     }
-    Err(DecodeError::NoSpelling)
+    Err(DecodeError::NoEncoding)
 }
 
-/// The number of the lease at the front, 0 where there is none, and what stands behind it.
+/// The lease's number at the front of the bytes, 0 for none, and the bytes after it.
 #[tactic(auto, unfolding(crate::specs::ReadingTables::lease_at))]
 pub(crate) fn lease_at(bytes: &[u8]) -> Result<(u32, &[u8]), DecodeError>
     ensures gives { Finds (λ f. (lease_told f.0, f.1.now)) result (lease_at bytes.now) }
@@ -72,7 +72,7 @@ pub(crate) fn lease_at(bytes: &[u8]) -> Result<(u32, &[u8]), DecodeError>
     Ok((lease, rest))
 }
 
-/// The lease of this number, where there is one.
+/// The lease with this number; `None` for 0.
 pub(crate) fn lease_told(value: u32) -> Option<Number>
     requires { value ≤ 999999999 }
     ensures { result ≡ lease_told value }
@@ -83,18 +83,18 @@ pub(crate) fn lease_told(value: u32) -> Option<Number>
     Some(Number::new(value))
 }
 
-/// The text, where it is of the form.
+/// The text, if it has the form.
 fn small_text_of<F: Form>(alloc: Global, text: &[u8]) -> Result<SmallText<F>, DecodeError>
     ensures { Finds (λ t. t) result (short_text_of F.allows text.now) }
 {
     match SmallText::of(alloc, text) {
         Ok(Some(small)) => Ok(small),
-        Ok(None) => Err(DecodeError::NoSpelling),
+        Ok(None) => Err(DecodeError::NoEncoding),
         Err(_) => Err(DecodeError::NoMemory),
     }
 }
 
-/// The text at the front that is of a form, and what stands behind it.
+/// The text of a form at the front of the bytes, and the bytes after it.
 #[tactic(auto, unfolding(crate::specs::ReadingCommands::small_text_at))]
 pub(crate) fn small_text_at<F: Form>(
     alloc: Global,
@@ -115,20 +115,20 @@ impl<F: Form> ReadAt for SmallText<F> {
     }
 }
 
-/// The labels behind their count, and what stands behind them.
+/// The counted labels at the front of the bytes, and the bytes after them.
 #[tactic(auto, unfolding(crate::specs::ReadingCommands::labels_at))]
 pub(crate) fn labels_at(alloc: Global, bytes: &[u8]) -> Result<(Labels, &[u8]), DecodeError>
     ensures { Finds (λ f. (f.0, f.1.now)) result (labels_at bytes.now) }
 {
     let (count, rest) = word_at(bytes)?;
-    if !is_within(count, MOST_LABELS) {
-        return Err(DecodeError::NoSpelling);
+    if !is_within(count, MAX_LABELS) {
+        return Err(DecodeError::NoEncoding);
     }
     let (labels, rest) = list_at(alloc, count as usize, rest)?;
     Ok((Labels::new(labels), rest))
 }
 
-/// The result that a byte stands for.
+/// The result that a byte encodes.
 fn result_of(byte: u8) -> Result<Outcome, DecodeError>
     ensures { Finds (λ r. r) result (result_of byte) }
 {
@@ -136,17 +136,17 @@ fn result_of(byte: u8) -> Result<Outcome, DecodeError>
         1 => Ok(Outcome::Success),
         2 => Ok(Outcome::Failure),
         3 => Ok(Outcome::Cancelled),
-        _ => Err(DecodeError::NoSpelling),
+        _ => Err(DecodeError::NoEncoding),
     }
 }
 
-/// The result at the front, and what stands behind it.
+/// The result at the front of the bytes, and the bytes after it.
 #[tactic(auto, unfolding(crate::specs::ReadingCommands::result_at))]
 pub(crate) fn result_at(bytes: &[u8]) -> Result<(Outcome, &[u8]), DecodeError>
     ensures { Finds (λ f. (f.0, f.1.now)) result (result_at bytes.now) }
 {
     match bytes {
-        [] => Err(DecodeError::NoSpelling),
+        [] => Err(DecodeError::NoEncoding),
         [byte, rest @ ..] => {
             let outcome = result_of(*byte)?;
             Ok((outcome, rest))

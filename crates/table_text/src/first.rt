@@ -1,5 +1,5 @@
-//! Texts of the first layout of an area: a table whose runs have no attempts and whose kept leases have no places, and batches without the
-//! command that asks for an attempt. They are read, and not written.
+//! Reads the encodings of the first layout of an area: tables whose runs have no attempts and whose kept leases have no
+//! places, and batches without the command that asks for an attempt. Nothing writes this layout.
 
 ghost use Rattle.std.specs.Prelude.{◌≡◌, IfErr, IfOk};
 ghost use Rattle.std.specs.List.{list_all};
@@ -18,27 +18,28 @@ mod tables;
 use crate::decode_error::DecodeError;
 use crate::read::read_batch;
 use run_plan::Command;
-use run_table::{Parts, Table};
+use run_table::Table;
 use std::alloc::Global;
+use stored_tables::TableParts;
 use tables::first_table_at;
 use wf_value::{Code, Refusal};
 
-/// The parts of the table that is spelled in the first layout at the front of the bytes, and the bytes behind it, or `None` where no front
-/// of them spells one. Where memory is refused the answer is 50, and nothing is known.
-fn read_first_parts(alloc: Global, bytes: &[u8]) -> Result<Option<(Parts, &[u8])>, Refusal>
+/// The parts of the table whose encoding in the first layout is a prefix of the bytes, and the bytes after it; `None`
+/// if no prefix encodes a table. The only error is 50, out of memory, which says nothing about the bytes.
+fn read_first_parts(alloc: Global, bytes: &[u8]) -> Result<Option<(TableParts, &[u8])>, Refusal>
     ensures front { IfOk result (λ found. StandsAtFront first_table bytes.now (option_map (λ f. (f.0, f.1.now)) found)) }
     ensures refused { IfErr result (λ e. e ≡ no_memory) }
 {
     match first_table_at(alloc, bytes) {
         Ok(found) => Ok(Some(found)),
-        Err(DecodeError::NoSpelling) => Ok(None),
+        Err(DecodeError::NoEncoding) => Ok(None),
         Err(DecodeError::NoMemory) => Err(Refusal::Numbered(Code::NoMemory)),
     }
 }
 
-/// The sound table that is spelled in the first layout at the front of the bytes, and the bytes behind it, or `None` where no front of
-/// them spells one. Each attempt is 1, and each lease that is kept is that of the leg that has it. Where memory is refused the answer is 50,
-/// and nothing is known.
+/// The sound table whose encoding in the first layout is a prefix of the bytes, and the bytes after it; `None` if no
+/// prefix encodes one. Each attempt is 1, and each kept lease is that of the leg that has it. The only error is 50, out
+/// of memory, which says nothing about the bytes.
 pub fn read_first_table(alloc: Global, bytes: &[u8]) -> Result<Option<(Table, &[u8])>, Refusal>
     ensures front { IfOk result (λ found. StandsAtFront whole_first_table bytes.now (option_map (λ f. (f.0, f.1.now)) found)) }
     ensures refused { IfErr result (λ e. e ≡ no_memory) }
@@ -46,13 +47,14 @@ pub fn read_first_table(alloc: Global, bytes: &[u8]) -> Result<Option<(Table, &[
     let Some((parts, rest)) = read_first_parts(alloc, bytes)? else {
         return Ok(None);
     };
-    match Table::of(alloc, &parts)? {
+    match parts.table(alloc)? {
         Some(table) => Ok(Some((table, rest))),
         None => Ok(None),
     }
 }
 
-/// Whether the first layout has a spelling of the command: of each but the one that asks for an attempt.
+/// Whether the first layout has an encoding of the command. It has one of every command except the one that asks for an
+/// attempt.
 pub fn is_in_first_layout(command: &Command) -> bool
     ensures { result ≡ is_in_first_layout command.now }
 {
@@ -69,8 +71,8 @@ fn are_in_first_layout(commands: &[Command]) -> bool
     commands.iter().all(is_in_first_layout)
 }
 
-/// The batch that is spelled in the first layout at the front of the bytes, and the bytes behind it, or `None` where no front of them spells
-/// one. Where memory is refused the answer is 50, and nothing is known.
+/// The batch whose encoding in the first layout is a prefix of the bytes, and the bytes after it; `None` if no prefix
+/// encodes one. The only error is 50, out of memory, which says nothing about the bytes.
 #[tactic(auto, using(crate::proofs::WholeFirstTables::none_without_batch, crate::proofs::WholeFirstTables::none_of_batch, crate::proofs::WholeFirstTables::one_of_batch))]
 pub fn read_first_batch(
     alloc: Global,

@@ -2,41 +2,41 @@ ghost use Rattle.table_text.specs.Reading.{Finds, byte_at, bytes_at, text_at, wo
 
 use crate::decode_error::DecodeError;
 
-/// The byte at the front, and what stands behind it.
+/// The first byte, and the bytes after it.
 #[tactic(auto, unfolding(crate::specs::Reading::byte_at))]
 pub(crate) fn byte_at(bytes: &[u8]) -> Result<(u8, &[u8]), DecodeError>
     ensures { Finds (λ f. (f.0, f.1.now)) result (byte_at bytes.now) }
 {
     match bytes {
-        [] => Err(DecodeError::NoSpelling),
+        [] => Err(DecodeError::NoEncoding),
         [byte, rest @ ..] => Ok((*byte, rest)),
     }
 }
 
-/// The number in the first four bytes, and what stands behind it.
+/// The number in the first four bytes, and the bytes after it.
 #[tactic(auto, unfolding(crate::specs::Reading::word_at))]
 pub(crate) fn word_at(bytes: &[u8]) -> Result<(u32, &[u8]), DecodeError>
     ensures { Finds (λ f. (f.0, f.1.now)) result (word_at bytes.now) }
 {
     if bytes.len() < 4 {
-        return Err(DecodeError::NoSpelling);
+        return Err(DecodeError::NoEncoding);
     }
     let (front, rest) = bytes.split_at(4);
     let number = u32::from_be_bytes([front[0], front[1], front[2], front[3]]);
     Ok((number, rest))
 }
 
-/// The first bytes, so many of them, and what stands behind them.
+/// The first `count` bytes, and the bytes after them.
 fn bytes_at(bytes: &[u8], count: usize) -> Result<(&[u8], &[u8]), DecodeError>
     ensures { Finds (λ f. (f.0.now, f.1.now)) result (bytes_at count bytes.now) }
 {
     if bytes.len() < count {
-        return Err(DecodeError::NoSpelling);
+        return Err(DecodeError::NoEncoding);
     }
     Ok(bytes.split_at(count))
 }
 
-/// The bytes behind their length, and what stands behind them.
+/// The bytes that follow their length, and the bytes after them.
 #[tactic(auto, unfolding(crate::specs::Reading::text_at))]
 pub(crate) fn text_at(bytes: &[u8]) -> Result<(&[u8], &[u8]), DecodeError>
     ensures { Finds (λ f. (f.0.now, f.1.now)) result (text_at bytes.now) }

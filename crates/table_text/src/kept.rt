@@ -1,4 +1,4 @@
-//! What is kept of the reply to a last command, at the front of bytes.
+//! The kept reply to a last command, at the front of bytes.
 
 ghost use Rattle.table_text.specs.Reading.{Finds};
 ghost use Rattle.table_text.specs.ReadingTables.{kept_at, kept_lease_at, kept_of, place_at};
@@ -7,20 +7,20 @@ use crate::decode_error::DecodeError;
 use crate::fields::number_at;
 use crate::front::word_at;
 use run_plan::Number;
-use run_table::{StoredLease, StoredPlace};
+use stored_tables::{StoredLease, StoredPlace};
 
-/// What is kept of a reply.
+/// A kept reply.
 #[derive(Drop)]
-pub(crate) enum Kept {
-    /// A claim was given nothing.
+pub(crate) enum StoredReply {
+    /// A claim got nothing.
     Nothing,
-    /// A claim was given a lease.
+    /// A claim got a lease.
     Leased(StoredLease),
-    /// A report was taken.
+    /// A report was accepted.
     Done,
 }
 
-/// The place of a leg in an attempt of its run, and what stands behind it.
+/// The place of a leg in an attempt of its run, and the bytes after it.
 #[tactic(auto, unfolding(crate::specs::ReadingTables::place_at))]
 fn place_at(bytes: &[u8]) -> Result<(StoredPlace, &[u8]), DecodeError>
     ensures { Finds (λ f. (f.0, f.1.now)) result (place_at bytes.now) }
@@ -38,7 +38,7 @@ fn place_at(bytes: &[u8]) -> Result<(StoredPlace, &[u8]), DecodeError>
     Ok((place, rest))
 }
 
-/// A lease that is kept, with its place, and what stands behind it.
+/// A kept lease with its place, and the bytes after it.
 #[tactic(auto, unfolding(crate::specs::ReadingTables::kept_lease_at))]
 fn kept_lease_at(bytes: &[u8]) -> Result<(StoredLease, &[u8]), DecodeError>
     ensures { Finds (λ f. (f.0, f.1.now)) result (kept_lease_at bytes.now) }
@@ -56,29 +56,29 @@ fn kept_lease_at(bytes: &[u8]) -> Result<(StoredLease, &[u8]), DecodeError>
     }
 }
 
-/// What is kept of a reply of this byte, and what stands behind it.
+/// The kept reply whose first byte is `reply`, and the bytes after it.
 #[tactic(auto, unfolding(crate::specs::ReadingTables::kept_of))]
-fn kept_of(reply: u8, bytes: &[u8]) -> Result<(Kept, &[u8]), DecodeError>
+fn kept_of(reply: u8, bytes: &[u8]) -> Result<(StoredReply, &[u8]), DecodeError>
     ensures { Finds (λ f. (f.0, f.1.now)) result (kept_of reply bytes.now) }
 {
     match reply {
-        0 => Ok((Kept::Nothing, bytes)),
+        0 => Ok((StoredReply::Nothing, bytes)),
         1 => match kept_lease_at(bytes) {
-            Ok((lease, rest)) => Ok((Kept::Leased(lease), rest)),
+            Ok((lease, rest)) => Ok((StoredReply::Leased(lease), rest)),
             Err(why) => Err(why),
         },
-        2 => Ok((Kept::Done, bytes)),
-        _ => Err(DecodeError::NoSpelling),
+        2 => Ok((StoredReply::Done, bytes)),
+        _ => Err(DecodeError::NoEncoding),
     }
 }
 
-/// What is kept of a reply, at the front, and what stands behind it.
+/// The kept reply at the front of the bytes, and the bytes after it.
 #[tactic(auto, unfolding(crate::specs::ReadingTables::kept_at))]
-pub(crate) fn kept_at(bytes: &[u8]) -> Result<(Kept, &[u8]), DecodeError>
+pub(crate) fn kept_at(bytes: &[u8]) -> Result<(StoredReply, &[u8]), DecodeError>
     ensures { Finds (λ f. (f.0, f.1.now)) result (kept_at bytes.now) }
 {
     match bytes {
-        [] => Err(DecodeError::NoSpelling),
+        [] => Err(DecodeError::NoEncoding),
         [reply, rest @ ..] => kept_of(*reply, rest),
     }
 }

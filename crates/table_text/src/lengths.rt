@@ -1,4 +1,4 @@
-//! How many bytes a spelling has, before it is written.
+//! The length of an encoding in bytes, before it is written.
 
 ghost use Rattle.std.specs.Prelude.{◌≡◌, [], ◌≤◌, ◌*◌, length, sum_by};
 ghost use Rattle.run_plan.specs.PlanOf.{faults_of};
@@ -8,7 +8,7 @@ ghost use Rattle.table_text.specs.Lengths.{command_length, fields_length, length
 
 use run_plan::{Beat, Claim, Command, Done, Form, Label, Labels, Prepared, SmallText};
 
-/// The bytes of a number, of a length and of a count.
+/// The bytes of a number, a length or a count.
 pub(crate) const WORD: u64 = 4;
 
 pub(crate) fn small_text_length<F: Form>(text: &SmallText<F>) -> u64
@@ -18,7 +18,7 @@ pub(crate) fn small_text_length<F: Form>(text: &SmallText<F>) -> u64
     WORD + text.as_str().len() as u64
 }
 
-/// The bytes of each label, and the length before each.
+/// The bytes of each label and of the length before it.
 fn label_list_length(list: &[Label]) -> u64
     requires { length list.now ≤ 16 }
     ensures length { result ≡ sum_by text_length list.now }
@@ -76,7 +76,7 @@ fn beat_length(asks: &Beat) -> u64
     small_text_length(&asks.runner) + WORD
 }
 
-/// The bytes behind the one that says which command it is.
+/// The bytes after the one for the command's kind.
 fn fields_length(asked: &Command) -> u64
     ensures length { result ≡ fields_length asked.now }
     ensures most { result ≤ 65676 }
@@ -92,7 +92,7 @@ fn fields_length(asked: &Command) -> u64
     }
 }
 
-/// How many bytes the spelling of a command has: 65,677 at most.
+/// The number of bytes in the encoding of a command: at most 65,677.
 pub fn command_length(asked: &Command) -> u64
     ensures length { result ≡ length_of command asked.now }
     ensures most { result ≤ 65677 }
@@ -100,7 +100,7 @@ pub fn command_length(asked: &Command) -> u64
     1 + fields_length(asked)
 }
 
-/// How many bytes the spelling of a batch has.
+/// The number of bytes in the encoding of a batch.
 #[tactic(auto, using(crate::proofs::LengthLaws::length_batch))]
 pub fn batch_length(commands: &[Command]) -> u64
     requires { length commands.now ≤ 4294967295 }
@@ -109,7 +109,7 @@ pub fn batch_length(commands: &[Command]) -> u64
     WORD + commands_length(commands)
 }
 
-/// The bytes of each command.
+/// The bytes of all the commands.
 fn commands_length(commands: &[Command]) -> u64
     requires { length commands.now ≤ 4294967295 }
     ensures length { result ≡ sum_by command_length commands.now }

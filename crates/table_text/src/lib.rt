@@ -1,4 +1,4 @@
-//! The stored bytes of commands, of batches of them and of tables: written, read, and their lengths.
+//! The stored bytes of commands, batches and tables: writing, reading, and their lengths.
 #![tactic(auto)]
 
 mod command_at;

@@ -1,4 +1,4 @@
-//! Values one behind the other at the front of bytes.
+//! Consecutive values at the front of bytes.
 
 ghost use Rattle.std.specs.Prelude.{ℕ, List, Option};
 ghost use Rattle.table_text.specs.Reading.{Finds, items_at};
@@ -6,16 +6,16 @@ ghost use Rattle.table_text.specs.Reading.{Finds, items_at};
 use crate::decode_error::DecodeError;
 use std::alloc::Global;
 
-/// What is read from the front of bytes.
+/// A type that can be read from the front of bytes.
 pub(crate) trait ReadAt: Drop {
     ghost stands_at: { List ℕ → Option (Self × List ℕ) };
 
-    /// The value at the front, and what stands behind it.
+    /// The value at the front of the bytes, and the bytes after it.
     fn read_at(alloc: Global, bytes: &[u8]) -> Result<(Self, &[u8]), DecodeError>
         ensures { Finds (λ f. (f.0, f.1.now)) result (stands_at bytes.now) };
 }
 
-/// So many values, one behind the other, and what stands behind them.
+/// `count` consecutive values, and the bytes after them.
 pub(crate) fn list_at<T: ReadAt>(
     alloc: Global,
     count: usize,

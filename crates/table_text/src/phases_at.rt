@@ -1,7 +1,7 @@
-//! Phases and flags at the front of bytes, each in one byte.
+//! Phases and flags at the front of bytes, one byte each.
 
 ghost use Rattle.std.specs.Prelude.{not};
-ghost use Rattle.run_table.specs.Stored.{is_new};
+ghost use Rattle.stored_tables.specs.Stored.{is_new};
 ghost use Rattle.table_text.specs.Reading.{Finds, kept};
 ghost use Rattle.table_text.specs.ReadingTables.{flag_at, flags, job_phase_at, job_phases, leg_phase_at, leg_phases, of_byte, run_phase_at};
 ghost use Rattle.table_text.specs.ReadingTables.{run_phases};
@@ -9,10 +9,10 @@ ghost use Rattle.table_text.specs.Tables.{flag_byte, job_byte, leg_byte, run_byt
 
 use crate::decode_error::DecodeError;
 use crate::front::byte_at;
+use run_states::{JobPhase, LegPhase, RunPhase};
 use wf_value::{JobResult, Outcome};
-use workflow_runs::{JobPhase, LegPhase, RunPhase};
 
-/// The phase that a byte stands for.
+/// The phase that a byte encodes.
 fn leg_phase_of(byte: u8) -> Result<LegPhase, DecodeError>
     ensures { Finds (λ p. p) result (of_byte leg_byte leg_phases byte) }
 {
@@ -25,16 +25,16 @@ fn leg_phase_of(byte: u8) -> Result<LegPhase, DecodeError>
         5 => Ok(LegPhase::Ended(Outcome::Success)),
         6 => Ok(LegPhase::Ended(Outcome::Failure)),
         7 => Ok(LegPhase::Ended(Outcome::Cancelled)),
-        _ => Err(DecodeError::NoSpelling),
+        _ => Err(DecodeError::NoEncoding),
     }
 }
 
-/// The phase, where it is not that of a new leg, which is not stored.
+/// The phase, if it is not that of a new leg, which is never stored.
 fn old_phase(phase: LegPhase) -> Result<LegPhase, DecodeError>
     ensures { Finds (λ p. p) result (kept (λ p. not (is_new p)) phase) }
 {
     match phase {
-        LegPhase::New => Err(DecodeError::NoSpelling),
+        LegPhase::New => Err(DecodeError::NoEncoding),
         old => Ok(old),
     }
 }
@@ -49,7 +49,7 @@ fn job_phase_of(byte: u8) -> Result<JobPhase, DecodeError>
         3 => Ok(JobPhase::Settled(JobResult::Failure)),
         4 => Ok(JobPhase::Settled(JobResult::Cancelled)),
         5 => Ok(JobPhase::Settled(JobResult::Skipped)),
-        _ => Err(DecodeError::NoSpelling),
+        _ => Err(DecodeError::NoEncoding),
     }
 }
 
@@ -60,7 +60,7 @@ fn run_phase_of(byte: u8) -> Result<RunPhase, DecodeError>
         0 => Ok(RunPhase::Waiting),
         1 => Ok(RunPhase::Live),
         2 => Ok(RunPhase::Ended),
-        _ => Err(DecodeError::NoSpelling),
+        _ => Err(DecodeError::NoEncoding),
     }
 }
 
@@ -70,7 +70,7 @@ fn flag_of(byte: u8) -> Result<bool, DecodeError>
     match byte {
         0 => Ok(false),
         1 => Ok(true),
-        _ => Err(DecodeError::NoSpelling),
+        _ => Err(DecodeError::NoEncoding),
     }
 }
 

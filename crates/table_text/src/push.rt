@@ -1,7 +1,7 @@
 #![tactic(auto, using(crate::proofs::Keeping::unchanged, crate::proofs::Keeping::longer))]
 
 ghost use Rattle.std.specs.Prelude.{◌≡◌, [], ◌∷◌, ◌++◌, ◌<◌, ◌^◌, length, OnErr, OnOk};
-ghost use Rattle.table_text.specs.Commands.{IsSpelled, admit, beat, body, claim, command_bytes, done, fields_of, kind_of, labels};
+ghost use Rattle.table_text.specs.Commands.{IsEncoded, admit, beat, body, claim, command_bytes, done, fields_of, kind_of, labels};
 ghost use Rattle.table_text.specs.Commands.{number, outcome_byte, rerun, small_text};
 ghost use Rattle.table_text.specs.Format.{text_bytes, word_bytes};
 ghost use Rattle.table_text.specs.Writing.{Keeps};
@@ -11,7 +11,7 @@ use run_plan::{Attempt, Beat, Claim, Command, Done, Form, Labels, Number, Prepar
 use std::alloc::AllocError;
 use wf_value::Outcome;
 
-/// Appends a number in four bytes.
+/// Appends a number as four bytes.
 #[tactic(auto, using(crate::proofs::Keeping::unchanged, crate::proofs::Keeping::longer), unfolding(crate::specs::Format::word_bytes))]
 pub(crate) fn push_word(out: &mut Vec<u8>, value: u32) -> Result<(), AllocError>
     ensures bytes { OnOk result (out.new.items ≡ out.old.items ++ word_bytes value) }
@@ -20,7 +20,7 @@ pub(crate) fn push_word(out: &mut Vec<u8>, value: u32) -> Result<(), AllocError>
     out.extend_from_slice(&value.to_be_bytes())
 }
 
-/// Appends bytes behind their length.
+/// Appends the length of a text and its bytes.
 #[tactic(auto, using(crate::proofs::Keeping::unchanged, crate::proofs::Keeping::longer), unfolding(crate::specs::Format::text_bytes))]
 fn push_text(out: &mut Vec<u8>, text: &[u8]) -> Result<(), AllocError>
     requires { length text.now < 2 ^ 32 }
@@ -55,7 +55,7 @@ impl<F: Form> Push for SmallText<F> {
 
     ghost takes = { (small_text F.allows).Takes };
 
-    ghost spelling = { text_bytes };
+    ghost encoding = { text_bytes };
 
     fn push_to(&self, out: &mut Vec<u8>) -> Result<(), AllocError> {
         push_small_text(out, self)
@@ -64,7 +64,7 @@ impl<F: Form> Push for SmallText<F> {
 
 fn push_labels(out: &mut Vec<u8>, value: &Labels) -> Result<(), AllocError>
     ensures takes { labels.Takes value.now }
-    ensures bytes { OnOk result (out.new.items ≡ out.old.items ++ labels.spelling value.now) }
+    ensures bytes { OnOk result (out.new.items ≡ out.old.items ++ labels.encoding value.now) }
     ensures kept { OnErr result (Keeps out.old.items out.new.items) }
 {
     let list = value.as_slice();
@@ -84,7 +84,7 @@ fn push_outcome(out: &mut Vec<u8>, value: Outcome) -> Result<(), AllocError>
     }
 }
 
-/// Appends the admitted bytes.
+/// Appends the length of the admitted body and its bytes.
 fn push_body(out: &mut Vec<u8>, event: &Prepared) -> Result<(), AllocError>
     ensures takes { body.Takes event.now.body }
     ensures bytes { OnOk result (out.new.items ≡ out.old.items ++ text_bytes event.now.body) }
@@ -95,7 +95,7 @@ fn push_body(out: &mut Vec<u8>, event: &Prepared) -> Result<(), AllocError>
 
 pub(crate) fn push_admit(out: &mut Vec<u8>, event: &Prepared) -> Result<(), AllocError>
     ensures takes { OnOk result (admit.Takes event.now) }
-    ensures bytes { OnOk result (out.new.items ≡ out.old.items ++ admit.spelling event.now) }
+    ensures bytes { OnOk result (out.new.items ≡ out.old.items ++ admit.encoding event.now) }
     ensures kept { OnErr result (Keeps out.old.items out.new.items) }
 {
     push_small_text(out, event.delivery())?;
@@ -106,7 +106,7 @@ pub(crate) fn push_admit(out: &mut Vec<u8>, event: &Prepared) -> Result<(), Allo
 
 pub(crate) fn push_claim(out: &mut Vec<u8>, asks: &Claim) -> Result<(), AllocError>
     ensures takes { OnOk result (claim.Takes asks.now) }
-    ensures bytes { OnOk result (out.new.items ≡ out.old.items ++ claim.spelling asks.now) }
+    ensures bytes { OnOk result (out.new.items ≡ out.old.items ++ claim.encoding asks.now) }
     ensures kept { OnErr result (Keeps out.old.items out.new.items) }
 {
     push_small_text(out, &asks.runner)?;
@@ -117,7 +117,7 @@ pub(crate) fn push_claim(out: &mut Vec<u8>, asks: &Claim) -> Result<(), AllocErr
 
 pub(crate) fn push_done(out: &mut Vec<u8>, report: &Done) -> Result<(), AllocError>
     ensures takes { OnOk result (done.Takes report.now) }
-    ensures bytes { OnOk result (out.new.items ≡ out.old.items ++ done.spelling report.now) }
+    ensures bytes { OnOk result (out.new.items ≡ out.old.items ++ done.encoding report.now) }
     ensures kept { OnErr result (Keeps out.old.items out.new.items) }
 {
     push_small_text(out, &report.runner)?;
@@ -129,7 +129,7 @@ pub(crate) fn push_done(out: &mut Vec<u8>, report: &Done) -> Result<(), AllocErr
 
 fn push_beat(out: &mut Vec<u8>, asks: &Beat) -> Result<(), AllocError>
     ensures takes { OnOk result (beat.Takes asks.now) }
-    ensures bytes { OnOk result (out.new.items ≡ out.old.items ++ beat.spelling asks.now) }
+    ensures bytes { OnOk result (out.new.items ≡ out.old.items ++ beat.encoding asks.now) }
     ensures kept { OnErr result (Keeps out.old.items out.new.items) }
 {
     push_small_text(out, &asks.runner)?;
@@ -139,7 +139,7 @@ fn push_beat(out: &mut Vec<u8>, asks: &Beat) -> Result<(), AllocError>
 
 fn push_rerun(out: &mut Vec<u8>, asks: Attempt) -> Result<(), AllocError>
     ensures takes { OnOk result (rerun.Takes asks) }
-    ensures bytes { OnOk result (out.new.items ≡ out.old.items ++ rerun.spelling asks) }
+    ensures bytes { OnOk result (out.new.items ≡ out.old.items ++ rerun.encoding asks) }
     ensures kept { OnErr result (Keeps out.old.items out.new.items) }
 {
     push_number(out, asks.run)?;
@@ -147,7 +147,7 @@ fn push_rerun(out: &mut Vec<u8>, asks: Attempt) -> Result<(), AllocError>
     Ok(())
 }
 
-/// Appends the byte that says which command it is.
+/// Appends the byte for the command's kind.
 fn push_kind(out: &mut Vec<u8>, asked: &Command) -> Result<(), AllocError>
     ensures bytes { OnOk result (out.new.items ≡ out.old.items ++ kind_of asked.now ∷ []) }
     ensures kept { OnErr result (Keeps out.old.items out.new.items) }
@@ -165,9 +165,9 @@ fn push_kind(out: &mut Vec<u8>, asked: &Command) -> Result<(), AllocError>
     }
 }
 
-/// Appends what stands behind that byte.
+/// Appends the bytes after that one.
 fn push_fields(out: &mut Vec<u8>, asked: &Command) -> Result<(), AllocError>
-    ensures takes { OnOk result (IsSpelled asked.now) }
+    ensures takes { OnOk result (IsEncoded asked.now) }
     ensures bytes { OnOk result (out.new.items ≡ out.old.items ++ fields_of asked.now) }
     ensures kept { OnErr result (Keeps out.old.items out.new.items) }
 {
@@ -182,9 +182,9 @@ fn push_fields(out: &mut Vec<u8>, asked: &Command) -> Result<(), AllocError>
     }
 }
 
-/// Appends the spelling of a command.
+/// Appends the encoding of a command.
 pub(crate) fn push_command(out: &mut Vec<u8>, asked: &Command) -> Result<(), AllocError>
-    ensures takes { OnOk result (IsSpelled asked.now) }
+    ensures takes { OnOk result (IsEncoded asked.now) }
     ensures bytes { OnOk result (out.new.items ≡ out.old.items ++ command_bytes asked.now) }
     ensures kept { OnErr result (Keeps out.old.items out.new.items) }
 {
@@ -195,9 +195,9 @@ pub(crate) fn push_command(out: &mut Vec<u8>, asked: &Command) -> Result<(), All
 impl Push for Command {
     ghost can_push = { λ asked. Unit {0} };
 
-    ghost takes = { IsSpelled };
+    ghost takes = { IsEncoded };
 
-    ghost spelling = { command_bytes };
+    ghost encoding = { command_bytes };
 
     fn push_to(&self, out: &mut Vec<u8>) -> Result<(), AllocError> {
         push_command(out, self)

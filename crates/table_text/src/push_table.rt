@@ -1,11 +1,11 @@
-//! The parts of a table's spelling, each appended to bytes.
+//! Appends the parts of a table's encoding to bytes.
 #![tactic(auto, using(crate::proofs::Keeping::unchanged, crate::proofs::Keeping::longer))]
 
 ghost use Rattle.std.specs.Prelude.{◌≡◌, [], ◌∷◌, ◌++◌, ◌<◌, ◌≤◌, ◌^◌, length, OnErr, OnOk};
 ghost use Rattle.run_plan.specs.declared.last_command.LastCommand.TheVariants as last;
-ghost use Rattle.run_table.specs.Stored.{is_new, stored_last, stored_lease, stored_runner, stored_table};
+ghost use Rattle.stored_tables.specs.Stored.{is_new, stored_last, stored_lease, stored_runner, stored_table};
 ghost use Rattle.run_table.specs.TableState.{RunnerState};
-ghost use Rattle.workflow_runs.specs.RunState.{JobState, RunState};
+ghost use Rattle.run_states.specs.RunState.{JobState, RunState};
 ghost use Rattle.table_text.specs.Format.{word_bytes};
 ghost use Rattle.table_text.specs.Tables.{flag_byte, job, job_byte, kept_lease, last_command, lease, leg, leg_byte, run, run_byte, runner};
 ghost use Rattle.table_text.specs.Tables.{table};
@@ -14,10 +14,10 @@ ghost use Rattle.table_text.specs.Writing.{HasByte, JobHasBytes, Keeps, KeptHasB
 use crate::push::{push_admit, push_claim, push_done, push_number, push_small_text, push_word};
 use crate::push_list::{Push, push_list};
 use run_plan::{Claim, ClaimReply, Done, KeptLease, LastCommand, Number};
+use run_states::{Job, JobPhase, Leg, LegPhase, Run, RunPhase};
 use run_table::{Runner, Table};
 use std::alloc::AllocError;
 use wf_value::{JobResult, Outcome};
-use workflow_runs::{Job, JobPhase, Leg, LegPhase, Run, RunPhase};
 
 fn push_byte(out: &mut Vec<u8>, value: u8) -> Result<(), AllocError>
     ensures bytes { OnOk result (out.new.items ≡ out.old.items ++ value ∷ []) }
@@ -70,10 +70,10 @@ fn flag_byte(flag: bool) -> u8
     if flag { 1 } else { 0 }
 }
 
-/// Appends a lease, 0 where there is none.
+/// Appends a lease, 0 for none.
 fn push_lease(out: &mut Vec<u8>, value: Option<Number>) -> Result<(), AllocError>
     ensures takes { lease.Takes value }
-    ensures bytes { OnOk result (out.new.items ≡ out.old.items ++ lease.spelling value) }
+    ensures bytes { OnOk result (out.new.items ≡ out.old.items ++ lease.encoding value) }
     ensures kept { OnErr result (Keeps out.old.items out.new.items) }
 {
     match value {
@@ -89,7 +89,7 @@ impl Push for Leg {
 
     ghost takes = { leg.Takes };
 
-    ghost spelling = { leg.spelling };
+    ghost encoding = { leg.encoding };
 
     fn push_to(&self, out: &mut Vec<u8>) -> Result<(), AllocError> {
         push_byte(out, leg_byte(self.phase))?;
@@ -103,7 +103,7 @@ impl Push for Job {
 
     ghost takes = { λ j. job.Takes j.state };
 
-    ghost spelling = { λ j. job.spelling j.state };
+    ghost encoding = { λ j. job.encoding j.state };
 
     fn push_to(&self, out: &mut Vec<u8>) -> Result<(), AllocError> {
         let legs = self.legs();
@@ -119,7 +119,7 @@ impl Push for Run {
 
     ghost takes = { run.Takes };
 
-    ghost spelling = { run.spelling };
+    ghost encoding = { run.encoding };
 
     fn push_to(&self, out: &mut Vec<u8>) -> Result<(), AllocError> {
         push_admit(out, self.prepared())?;
@@ -133,19 +133,19 @@ impl Push for Run {
 
 // ---- runners
 
-/// Appends a lease that is kept, with the place of its leg.
+/// Appends a kept lease with the place of its leg.
 fn push_kept_lease(out: &mut Vec<u8>, kept: &KeptLease) -> Result<(), AllocError>
     requires job { kept.now.job < 2 ^ 32 }
-    requires leg { kept.now.told.leg < 2 ^ 32 }
+    requires leg { kept.now.lease_reply.leg < 2 ^ 32 }
     ensures takes { OnOk result (kept_lease.Takes (stored_lease kept.now)) }
-    ensures bytes { OnOk result (out.new.items ≡ out.old.items ++ kept_lease.spelling (stored_lease kept.now)) }
+    ensures bytes { OnOk result (out.new.items ≡ out.old.items ++ kept_lease.encoding (stored_lease kept.now)) }
     ensures kept { OnErr result (Keeps out.old.items out.new.items) }
 {
-    push_number(out, kept.told.lease)?;
-    push_number(out, kept.told.run)?;
+    push_number(out, kept.lease_reply.lease)?;
+    push_number(out, kept.lease_reply.run)?;
     push_number(out, kept.attempt)?;
     push_word(out, kept.job as u32)?;
-    push_word(out, kept.told.leg as u32)?;
+    push_word(out, kept.lease_reply.leg as u32)?;
     Ok(())
 }
 
@@ -153,7 +153,7 @@ fn push_last_claim(out: &mut Vec<u8>, claim: &Claim, reply: &ClaimReply) -> Resu
     requires { KeptHasBytes (last.Claim claim.now reply.now) }
     ensures takes { OnOk result (last_command.Takes (stored_last (last.Claim claim.now reply.now))) }
     ensures bytes { OnOk result
-        (out.new.items ≡ out.old.items ++ last_command.spelling (stored_last (last.Claim claim.now reply.now))) }
+        (out.new.items ≡ out.old.items ++ last_command.encoding (stored_last (last.Claim claim.now reply.now))) }
     ensures kept { OnErr result (Keeps out.old.items out.new.items) }
 {
     push_byte(out, 2)?;
@@ -169,7 +169,7 @@ fn push_last_claim(out: &mut Vec<u8>, claim: &Claim, reply: &ClaimReply) -> Resu
 
 fn push_last_report(out: &mut Vec<u8>, report: &Done) -> Result<(), AllocError>
     ensures takes { OnOk result (last_command.Takes (stored_last (last.Done report.now))) }
-    ensures bytes { OnOk result (out.new.items ≡ out.old.items ++ last_command.spelling (stored_last (last.Done report.now))) }
+    ensures bytes { OnOk result (out.new.items ≡ out.old.items ++ last_command.encoding (stored_last (last.Done report.now))) }
     ensures kept { OnErr result (Keeps out.old.items out.new.items) }
 {
     push_byte(out, 3)?;
@@ -180,7 +180,7 @@ fn push_last_report(out: &mut Vec<u8>, report: &Done) -> Result<(), AllocError>
 fn push_last(out: &mut Vec<u8>, value: &LastCommand) -> Result<(), AllocError>
     requires { KeptHasBytes value.now }
     ensures takes { OnOk result (last_command.Takes (stored_last value.now)) }
-    ensures bytes { OnOk result (out.new.items ≡ out.old.items ++ last_command.spelling (stored_last value.now)) }
+    ensures bytes { OnOk result (out.new.items ≡ out.old.items ++ last_command.encoding (stored_last value.now)) }
     ensures kept { OnErr result (Keeps out.old.items out.new.items) }
 {
     match value {
@@ -194,7 +194,7 @@ impl Push for Runner {
 
     ghost takes = { λ r. runner.Takes (stored_runner r) };
 
-    ghost spelling = { λ r. runner.spelling (stored_runner r) };
+    ghost encoding = { λ r. runner.encoding (stored_runner r) };
 
     fn push_to(&self, out: &mut Vec<u8>) -> Result<(), AllocError> {
         push_small_text(out, &self.name)?;
@@ -207,11 +207,11 @@ impl Push for Runner {
 
 // ---- tables
 
-/// Appends the spelling of a table.
+/// Appends the encoding of a table.
 pub(crate) fn push_table(out: &mut Vec<u8>, value: &Table) -> Result<(), AllocError>
     requires { length value.now.runners ≤ 4294967295 }
     ensures takes { OnOk result (table.Takes (stored_table value.now)) }
-    ensures bytes { OnOk result (out.new.items ≡ out.old.items ++ table.spelling (stored_table value.now)) }
+    ensures bytes { OnOk result (out.new.items ≡ out.old.items ++ table.encoding (stored_table value.now)) }
     ensures kept { OnErr result (Keeps out.old.items out.new.items) }
 {
     let runs = value.runs();

@@ -10,51 +10,52 @@ use crate::command_at::{batch_at, command_at};
 use crate::decode_error::DecodeError;
 use crate::table_at::table_at;
 use run_plan::Command;
-use run_table::{Parts, Table};
+use run_table::Table;
 use std::alloc::Global;
+use stored_tables::TableParts;
 use wf_value::{Code, Refusal};
 
-/// The command that is spelled at the front of the bytes, and the bytes behind it, or `None` where no front of them spells one. Where
-/// memory is refused the answer is 50, and nothing is known.
+/// The command whose encoding is a prefix of the bytes, and the bytes after it; `None` if no prefix encodes one. The
+/// only error is 50, out of memory, which says nothing about the bytes.
 pub fn read_command(alloc: Global, bytes: &[u8]) -> Result<Option<(Command, &[u8])>, Refusal>
     ensures front { IfOk result (λ found. StandsAtFront command bytes.now (option_map (λ f. (f.0, f.1.now)) found)) }
     ensures refused { IfErr result (λ e. e ≡ no_memory) }
 {
     match command_at(alloc, bytes) {
         Ok(found) => Ok(Some(found)),
-        Err(DecodeError::NoSpelling) => Ok(None),
+        Err(DecodeError::NoEncoding) => Ok(None),
         Err(DecodeError::NoMemory) => Err(Refusal::Numbered(Code::NoMemory)),
     }
 }
 
-/// The batch that is spelled at the front of the bytes, and the bytes behind it, or `None` where no front of them spells one. Where
-/// memory is refused the answer is 50, and nothing is known.
+/// The batch whose encoding is a prefix of the bytes, and the bytes after it; `None` if no prefix encodes one. The only
+/// error is 50, out of memory, which says nothing about the bytes.
 pub fn read_batch(alloc: Global, bytes: &[u8]) -> Result<Option<(Vec<Command>, &[u8])>, Refusal>
     ensures front { IfOk result (λ found. StandsAtFront batch bytes.now (option_map (λ f. (f.0.items, f.1.now)) found)) }
     ensures refused { IfErr result (λ e. e ≡ no_memory) }
 {
     match batch_at(alloc, bytes) {
         Ok(found) => Ok(Some(found)),
-        Err(DecodeError::NoSpelling) => Ok(None),
+        Err(DecodeError::NoEncoding) => Ok(None),
         Err(DecodeError::NoMemory) => Err(Refusal::Numbered(Code::NoMemory)),
     }
 }
 
-/// The parts of the table that is spelled at the front of the bytes, and the bytes behind it, or `None` where no front of them spells
-/// a table. Where memory is refused the answer is 50, and nothing is known.
-pub fn read_parts(alloc: Global, bytes: &[u8]) -> Result<Option<(Parts, &[u8])>, Refusal>
+/// The parts of the table whose encoding is a prefix of the bytes, and the bytes after it; `None` if no prefix encodes
+/// a table. The only error is 50, out of memory, which says nothing about the bytes.
+pub fn read_parts(alloc: Global, bytes: &[u8]) -> Result<Option<(TableParts, &[u8])>, Refusal>
     ensures front { IfOk result (λ found. StandsAtFront table bytes.now (option_map (λ f. (f.0, f.1.now)) found)) }
     ensures refused { IfErr result (λ e. e ≡ no_memory) }
 {
     match table_at(alloc, bytes) {
         Ok(found) => Ok(Some(found)),
-        Err(DecodeError::NoSpelling) => Ok(None),
+        Err(DecodeError::NoEncoding) => Ok(None),
         Err(DecodeError::NoMemory) => Err(Refusal::Numbered(Code::NoMemory)),
     }
 }
 
-/// The sound table that is spelled at the front of the bytes, and the bytes behind it, or `None` where no front of them spells one.
-/// Where memory is refused the answer is 50, and nothing is known.
+/// The sound table whose encoding is a prefix of the bytes, and the bytes after it; `None` if no prefix encodes one.
+/// The only error is 50, out of memory, which says nothing about the bytes.
 pub fn read_table(alloc: Global, bytes: &[u8]) -> Result<Option<(Table, &[u8])>, Refusal>
     ensures front { IfOk result (λ found. StandsAtFront whole_table bytes.now (option_map (λ f. (f.0, f.1.now)) found)) }
     ensures refused { IfErr result (λ e. e ≡ no_memory) }
@@ -62,7 +63,7 @@ pub fn read_table(alloc: Global, bytes: &[u8]) -> Result<Option<(Table, &[u8])>,
     let Some((parts, rest)) = read_parts(alloc, bytes)? else {
         return Ok(None);
     };
-    match Table::of(alloc, &parts)? {
+    match parts.table(alloc)? {
         Some(table) => Ok(Some((table, rest))),
         None => Ok(None),
     }

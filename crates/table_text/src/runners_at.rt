@@ -8,45 +8,45 @@ use crate::command_at::command_at;
 use crate::decode_error::DecodeError;
 use crate::fields::{lease_at, lease_told, number_at, small_text_at};
 use crate::front::word_at;
-use crate::kept::{Kept, kept_at};
+use crate::kept::{StoredReply, kept_at};
 use crate::list_at::{ReadAt, list_at};
 use run_plan::{Claim, Command, Done, Number, RunnerForm};
-use run_table::{LastParts, RunnerParts, do_names_rise};
 use std::alloc::Global;
+use stored_tables::{LastParts, RunnerParts, do_names_rise};
 
-/// A claim with what is kept of its reply.
-fn claim_with(claim: Claim, kept: Kept) -> Result<LastParts, DecodeError>
+/// A claim with its kept reply.
+fn claim_with(claim: Claim, kept: StoredReply) -> Result<LastParts, DecodeError>
     ensures { Finds (λ l. l) result (claim_with claim kept) }
 {
     match kept {
-        Kept::Nothing => Ok(LastParts::Claim(claim, None)),
-        Kept::Leased(lease) => Ok(LastParts::Claim(claim, Some(lease))),
-        Kept::Done => Err(DecodeError::NoSpelling),
+        StoredReply::Nothing => Ok(LastParts::Claim(claim, None)),
+        StoredReply::Leased(lease) => Ok(LastParts::Claim(claim, Some(lease))),
+        StoredReply::Done => Err(DecodeError::NoEncoding),
     }
 }
 
-/// A report with what is kept of its reply.
-fn report_with(report: Done, kept: Kept) -> Result<LastParts, DecodeError>
+/// A report with its kept reply.
+fn report_with(report: Done, kept: StoredReply) -> Result<LastParts, DecodeError>
     ensures { Finds (λ l. l) result (report_with report kept) }
 {
     match kept {
-        Kept::Done => Ok(LastParts::Done(report)),
-        Kept::Nothing | Kept::Leased(_) => Err(DecodeError::NoSpelling),
+        StoredReply::Done => Ok(LastParts::Done(report)),
+        StoredReply::Nothing | StoredReply::Leased(_) => Err(DecodeError::NoEncoding),
     }
 }
 
-/// A claim or a report with what is kept of its reply.
-pub(crate) fn last_with(command: Command, kept: Kept) -> Result<LastParts, DecodeError>
+/// A claim or a report with its kept reply.
+pub(crate) fn last_with(command: Command, kept: StoredReply) -> Result<LastParts, DecodeError>
     ensures { Finds (λ l. l) result (last_with command kept) }
 {
     match command {
         Command::Claim(claim) => claim_with(claim, kept),
         Command::Done(report) => report_with(report, kept),
-        _ => Err(DecodeError::NoSpelling),
+        _ => Err(DecodeError::NoEncoding),
     }
 }
 
-/// The last command of a runner, with what is kept of its reply.
+/// The last command of a runner with its kept reply.
 #[tactic(auto, unfolding(crate::specs::ReadingTables::last_at))]
 fn last_at(alloc: Global, bytes: &[u8]) -> Result<(LastParts, &[u8]), DecodeError>
     ensures { Finds (λ f. (f.0, f.1.now)) result (last_at bytes.now) }
@@ -80,17 +80,17 @@ impl ReadAt for RunnerParts {
     }
 }
 
-/// The runners, where they stand in the order of their names.
+/// The runners, if they are in the order of their names.
 pub(crate) fn rising(runners: Vec<RunnerParts>) -> Result<Vec<RunnerParts>, DecodeError>
     ensures { Finds (λ r. r.items) result (kept names_rise runners.items) }
 {
     if do_names_rise(&runners) {
         return Ok(runners);
     }
-    Err(DecodeError::NoSpelling)
+    Err(DecodeError::NoEncoding)
 }
 
-/// The runners behind their count, and what stands behind them.
+/// The counted runners, and the bytes after them.
 #[tactic(auto, unfolding(crate::specs::ReadingTables::runners_at))]
 pub(crate) fn runners_at(
     alloc: Global,

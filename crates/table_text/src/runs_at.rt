@@ -12,15 +12,15 @@ use crate::front::word_at;
 use crate::list_at::{ReadAt, list_at};
 use crate::phases_at::{flag_at, job_phase_at, leg_phase_at, run_phase_at};
 use run_plan::{Number, Prepared};
+use run_states::{JobParts, Leg, LegPhase, RunParts};
 use std::alloc::Global;
 use wf_value::Sequence;
-use workflow_runs::runs::MOST_RUNS;
-use workflow_runs::{JobParts, Leg, LegPhase, RunParts};
+use workflow_runs::runs::MAX_RUNS;
 
-/// The last attempt of a run.
-const MOST_ATTEMPTS: u32 = 1000;
+/// The largest attempt number of a run.
+const MAX_ATTEMPTS: u32 = 1000;
 
-/// The leg at the front, its phase and the number of its lease, 0 where it has none, and what stands behind it.
+/// The leg at the front of the bytes: its phase, the number of its lease, 0 for none, and the bytes after it.
 #[tactic(auto, unfolding(crate::specs::ReadingTables::leg_at))]
 fn leg_parts_at(bytes: &[u8]) -> Result<(LegPhase, u32, &[u8]), DecodeError>
     ensures gives { Finds (λ f. (record { phase = f.0; lease = lease_told f.1 }, f.2.now)) result (leg_at bytes.now) }
@@ -57,18 +57,18 @@ impl ReadAt for JobParts {
     }
 }
 
-/// The number, where it is one of an attempt.
+/// The value, if it is an attempt number.
 fn attempt_of(value: u32) -> Result<u32, DecodeError>
     ensures gives { Finds (λ n. n) result (kept is_attempt value) }
     ensures range { IfOk result (λ n. (1 ≤ n) × (n ≤ 1000)) }
 {
-    if 1 <= value && value <= MOST_ATTEMPTS {
+    if 1 <= value && value <= MAX_ATTEMPTS {
         return Ok(value);
     }
-    Err(DecodeError::NoSpelling)
+    Err(DecodeError::NoEncoding)
 }
 
-/// The attempt at the front, and what stands behind it.
+/// The attempt number at the front of the bytes, and the bytes after it.
 #[tactic(auto, unfolding(crate::specs::ReadingTables::attempt_at))]
 fn attempt_at(bytes: &[u8]) -> Result<(u32, &[u8]), DecodeError>
     ensures gives { Finds (λ f. (f.0, f.1.now)) result (attempt_at bytes.now) }
@@ -79,7 +79,7 @@ fn attempt_at(bytes: &[u8]) -> Result<(u32, &[u8]), DecodeError>
     Ok((attempt, rest))
 }
 
-/// As many jobs as the plan has.
+/// The jobs of a run, as many as its plan has, and the bytes after them.
 pub(crate) fn planned_jobs_at<'a>(
     alloc: Global,
     prepared: &Prepared,
@@ -112,14 +112,14 @@ impl ReadAt for RunParts {
     }
 }
 
-/// The runs behind their count, and what stands behind them.
+/// The counted runs, and the bytes after them.
 #[tactic(auto, unfolding(crate::specs::ReadingTables::runs_at))]
 pub(crate) fn runs_at(alloc: Global, bytes: &[u8]) -> Result<(Vec<RunParts>, &[u8]), DecodeError>
     ensures { Finds (λ f. (f.0.items, f.1.now)) result (runs_at bytes.now) }
 {
     let (count, rest) = word_at(bytes)?;
-    if count > MOST_RUNS {
-        return Err(DecodeError::NoSpelling);
+    if count > MAX_RUNS {
+        return Err(DecodeError::NoEncoding);
     }
     list_at(alloc, count as usize, rest)
 }

@@ -1,4 +1,4 @@
-//! A table in parts, at the front of bytes.
+//! The parts of a table, at the front of bytes.
 
 ghost use Rattle.table_text.specs.Reading.{Finds, kept};
 ghost use Rattle.table_text.specs.ReadingTables.{last_lease_at, table_at};
@@ -9,18 +9,18 @@ use crate::fields::MOST;
 use crate::front::word_at;
 use crate::runners_at::runners_at;
 use crate::runs_at::runs_at;
-use run_table::Parts;
 use std::alloc::Global;
+use stored_tables::TableParts;
 use wf_value::Sequence;
 
-/// The lease, where it is one that a table may have given last.
+/// The value, if a table may have it as its last lease.
 fn last_lease_of(value: u32) -> Result<u32, DecodeError>
     ensures { Finds (λ n. n) result (kept is_last_lease value) }
 {
     if value <= MOST {
         return Ok(value);
     }
-    Err(DecodeError::NoSpelling)
+    Err(DecodeError::NoEncoding)
 }
 
 #[tactic(auto, unfolding(crate::specs::ReadingTables::last_lease_at))]
@@ -32,15 +32,15 @@ pub(crate) fn last_lease_at(bytes: &[u8]) -> Result<(u32, &[u8]), DecodeError>
     Ok((lease, rest))
 }
 
-/// The parts of a table at the front, and what stands behind them.
+/// The parts of a table at the front of the bytes, and the bytes after them.
 #[tactic(auto, unfolding(crate::specs::ReadingTables::table_at))]
-pub(crate) fn table_at(alloc: Global, bytes: &[u8]) -> Result<(Parts, &[u8]), DecodeError>
+pub(crate) fn table_at(alloc: Global, bytes: &[u8]) -> Result<(TableParts, &[u8]), DecodeError>
     ensures { Finds (λ f. (f.0, f.1.now)) result (table_at bytes.now) }
 {
     let (last_lease, rest) = last_lease_at(bytes)?;
     let (runs, rest) = runs_at(alloc, rest)?;
     let (runners, rest) = runners_at(alloc, rest)?;
-    let parts = Parts {
+    let parts = TableParts {
         last_lease,
         runs: Sequence::new(runs),
         runners: Sequence::new(runners),

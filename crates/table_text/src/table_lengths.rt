@@ -1,8 +1,8 @@
-//! How many bytes the spelling of a table has, before it is written.
+//! The length of a table's encoding in bytes, before it is written.
 
 ghost use Rattle.std.specs.Prelude.{◌≡◌, ◌≤◌, ◌*◌, length, sum_by};
 ghost use Rattle.std.specs.List.{AllByRecursion};
-ghost use Rattle.run_table.specs.Stored.{stored_last, stored_runner, stored_table};
+ghost use Rattle.stored_tables.specs.Stored.{stored_last, stored_runner, stored_table};
 ghost use Rattle.table_text.specs.Lengths.{length_of};
 ghost use Rattle.table_text.specs.TableLengths.{job_length, last_length, run_length, runner_length};
 ghost use Rattle.table_text.specs.Tables.{table};
@@ -10,16 +10,16 @@ ghost use Rattle.table_text.specs.Writing.{JobHasBytes, RunHasBytes};
 
 use crate::lengths::{WORD, admit_length, claim_length, done_length, small_text_length};
 use run_plan::{ClaimReply, LastCommand};
+use run_states::{Job, Run};
 use run_table::{Runner, Table};
-use workflow_runs::{Job, Run};
 
-/// The byte of a phase, of a flag and of a kept reply.
+/// The byte of a phase, a flag or a kept reply.
 const BYTE: u64 = 1;
 
-/// A lease that is kept, and the run, the attempt, the job and the leg of its place.
+/// The bytes of a kept lease, and of the run, the attempt, the job and the leg of its place.
 const LEASE: u64 = 20;
 
-/// The bytes of a job: of each leg its phase and its lease.
+/// The bytes of a job. Each leg has its phase and its lease.
 fn job_length(value: &Job) -> u64
     requires { JobHasBytes value.now.state }
     ensures length { result ≡ job_length value.now.state }
@@ -28,7 +28,7 @@ fn job_length(value: &Job) -> u64
     BYTE + WORD + (BYTE + WORD) * value.legs().len() as u64
 }
 
-/// The bytes of each job.
+/// The bytes of all the jobs.
 fn job_list_length(list: &[Job]) -> u64
     requires few { length list.now ≤ 256 }
     requires each { AllByRecursion (λ j. JobHasBytes j.state) list.now }
@@ -50,7 +50,7 @@ fn run_length(value: &Run) -> u64
     admit_length(value.prepared()) + WORD + BYTE + BYTE + job_list_length(value.jobs())
 }
 
-/// The bytes of each run.
+/// The bytes of all the runs.
 fn run_list_length(list: &[Run]) -> u64
     requires few { length list.now ≤ 100000 }
     requires each { AllByRecursion RunHasBytes list.now }
@@ -64,7 +64,7 @@ fn run_list_length(list: &[Run]) -> u64
     total
 }
 
-/// The bytes of a last command, and of what is kept of its reply.
+/// The bytes of a last command and of its kept reply.
 fn last_length(value: &LastCommand) -> u64
     ensures length { result ≡ last_length (stored_last value.now) }
     ensures most { result ≤ 1186 }
@@ -86,7 +86,7 @@ fn runner_length(value: &Runner) -> u64
     small_text_length(&value.name) + WORD + last_length(&value.last) + WORD
 }
 
-/// The bytes of each runner.
+/// The bytes of all the runners.
 fn runner_list_length(list: &[Runner]) -> u64
     requires { length list.now ≤ 4294967295 }
     ensures length { result ≡ sum_by (λ r. runner_length (stored_runner r)) list.now }
@@ -99,7 +99,7 @@ fn runner_list_length(list: &[Runner]) -> u64
     total
 }
 
-/// How many bytes the spelling of a table has. It takes no memory.
+/// The number of bytes in the encoding of a table. It takes no memory.
 pub fn table_length(stored: &Table) -> u64
     requires { length stored.now.runners ≤ 4294967295 }
     ensures { result ≡ length_of table (stored_table stored.now) }

@@ -2,9 +2,9 @@
 
 ghost use Rattle.std.specs.Prelude.{◌≡◌, ◌≤◌, ◌++◌, IfErr, IsOk, OnErr, OnOk, length, take};
 ghost use Rattle.std.specs.List.{AllByRecursion};
-ghost use Rattle.run_table.specs.Stored.{stored_table};
+ghost use Rattle.stored_tables.specs.Stored.{stored_table};
 ghost use Rattle.wf_value.specs.Gives.{no_memory};
-ghost use Rattle.table_text.specs.Commands.{IsSpelled, batch, command};
+ghost use Rattle.table_text.specs.Commands.{IsEncoded, batch, command};
 ghost use Rattle.table_text.specs.Format.{Appends};
 ghost use Rattle.table_text.specs.Tables.{table};
 ghost use Rattle.table_text.specs.Writing.{Keeps};
@@ -17,7 +17,7 @@ use run_table::Table;
 use std::alloc::AllocError;
 use wf_value::Refusal;
 
-/// Appends the spelling of a command. Where memory is refused, which is 50, the bytes are as they were.
+/// Appends the encoding of a command. The only error is 50, out of memory, which leaves the bytes unchanged.
 pub fn write_command(out: &mut Vec<u8>, asked: &Command) -> Result<(), Refusal>
     ensures ok { OnOk result (Appends command out.old.items asked.now out.new.items) }
     ensures err { OnErr result (out.new.items ≡ out.old.items) }
@@ -28,7 +28,7 @@ pub fn write_command(out: &mut Vec<u8>, asked: &Command) -> Result<(), Refusal>
     all_or_none(out, before, written)
 }
 
-/// Appends the spelling of a batch. Where memory is refused, which is 50, the bytes are as they were.
+/// Appends the encoding of a batch. The only error is 50, out of memory, which leaves the bytes unchanged.
 pub fn write_batch(out: &mut Vec<u8>, commands: &[Command]) -> Result<(), Refusal>
     requires some { 1 ≤ length commands.now }
     requires most { length commands.now ≤ 4294967295 }
@@ -41,11 +41,11 @@ pub fn write_batch(out: &mut Vec<u8>, commands: &[Command]) -> Result<(), Refusa
     all_or_none(out, before, written)
 }
 
-/// Appends their count, and each command.
+/// Appends the count and each command.
 fn push_batch(out: &mut Vec<u8>, commands: &[Command]) -> Result<(), AllocError>
     requires { length commands.now ≤ 4294967295 }
-    ensures takes { OnOk result (AllByRecursion IsSpelled commands.now) }
-    ensures bytes { OnOk result (out.new.items ≡ out.old.items ++ batch.spelling commands.now) }
+    ensures takes { OnOk result (AllByRecursion IsEncoded commands.now) }
+    ensures bytes { OnOk result (out.new.items ≡ out.old.items ++ batch.encoding commands.now) }
     ensures kept { OnErr result (Keeps out.old.items out.new.items) }
 {
     push_word(out, commands.len() as u32)?;
@@ -53,7 +53,7 @@ fn push_batch(out: &mut Vec<u8>, commands: &[Command]) -> Result<(), AllocError>
     Ok(())
 }
 
-/// Appends the spelling of a table. Where memory is refused, which is 50, the bytes are as they were.
+/// Appends the encoding of a table. The only error is 50, out of memory, which leaves the bytes unchanged.
 pub fn write_table(out: &mut Vec<u8>, stored: &Table) -> Result<(), Refusal>
     requires { length stored.now.runners ≤ 4294967295 }
     ensures ok { OnOk result (Appends table out.old.items (stored_table stored.now) out.new.items) }
@@ -65,7 +65,7 @@ pub fn write_table(out: &mut Vec<u8>, stored: &Table) -> Result<(), Refusal>
     all_or_none(out, before, written)
 }
 
-/// Takes away what was written of a value that was not written whole.
+/// Truncates the bytes to their length `before` if the value was not fully written.
 fn all_or_none(
     out: &mut Vec<u8>,
     before: usize,

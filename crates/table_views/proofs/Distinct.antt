@@ -1,4 +1,4 @@
--- The groups that stand in a list, each once, where the list gets one more at its end.
+-- The groups of a list, each once, when one is added at the end of the list.
 use Rattle.std.proofs.Common.{◌≡◌, ◌∙◌, ℕ, ◌+◌, ◌<◌, List, [], ◌∷◌, ◌++◌, length, map, take, get_or, refl, sym, ap, subst}
 use Rattle.std.specs.Prelude.{Bool, true, false, ◌||◌, not, cond, if◌then◌else◌}
 use Rattle.std.specs.List.{filter, flat_map, list_any}

@@ -1,16 +1,16 @@
--- Who of a group is found among the claims is who is found among all runs and legs.
+-- A holder of a group is found among the claims exactly if it is found among all runs and legs.
 use Rattle.std.proofs.Common.{◌≡◌, ◌∙◌, List, [], ◌∷◌, map, refl, sym, ap}
 use Rattle.std.specs.Prelude.{Bool, true, false, ◌&&◌, ◌||◌, cond, find, filter_map, Option, Some, None, option_map, if◌then◌else◌}
 use Rattle.std.specs.List.{cons_option}
 use Rattle.std.specs.Option.{option_map_or}
 use Rattle.group_name.specs.Group.{Group, same_group}
-use Rattle.workflow_runs.specs.GroupOf.{group_at}
-use Rattle.workflow_runs.specs.Groups.{holds, is_in, waits}
-use Rattle.workflow_runs.specs.Moves.{Holder}
-use Rattle.workflow_runs.specs.RunState.{RunState}
+use Rattle.run_states.specs.GroupOf.{group_at}
+use Rattle.run_states.specs.Groups.{holds, is_in, waits}
+use Rattle.run_states.specs.RunState.{RunState}
 use Rattle.table_views.specs.Claims.{claim_of}
+use Rattle.run_states.specs.declared.holder.Holder.{Holder}
 
--- what is claimed by one that is in use, or not, and has a group, or none
+-- the claim of a holder, if it is in use and has a group
 abbrev claimed : Holder → Bool → Option Group → Option (Group × Holder)
 claimed h in_use group = option_map (λ g. (g, h)) (if in_use then group else None)
 
@@ -50,7 +50,7 @@ found_of_claims runs g test (h ∷ hs) means =
     one_step g test h (waits runs h || holds runs h) (group_at runs h) (filter_map (claim_of runs) hs)
     (find (λ k. is_in runs g k && test k) hs) (means h) (found_of_claims runs g test hs means)
 
--- what is found of a list that is seen by a view
+-- what is found in a list that is seen through a view
 pub find_seen : {X Y : Type 0} (test : Y → Bool) (view : X → Y) (xs : List X)
     → find test (map view xs) ≡ option_map view (find (λ x. test (view x)) xs)
 find_seen test view [] = refl

@@ -6,15 +6,15 @@ use Rattle.std.specs.Option.{option_map_or}
 use Rattle.std.proofs.lemmas.Grind.{flat_map-append}
 use Rattle.std.proofs.lemmas.List.{take_all}
 use Rattle.group_name.specs.Group.{Group, same_group}
-use Rattle.workflow_runs.specs.Groups.{all_holders}
-use Rattle.workflow_runs.specs.Moves.{Holder}
-use Rattle.workflow_runs.specs.RunState.{RunState}
+use Rattle.run_states.specs.Groups.{all_holders}
+use Rattle.run_states.specs.RunState.{RunState}
 use Rattle.table_views.specs.Claims.{claim_of, claims_of, line_once, said}
 use Rattle.table_views.specs.GroupLines.{distinct, group_in_use, group_line, group_lines}
 use Rattle.table_views.specs.declared.claim.GroupClaim.{GroupClaim}
 use Rattle.table_views.proofs.Distinct.{distinct_more, one_unless}
+use Rattle.run_states.specs.declared.holder.Holder.{Holder}
 
--- ---- the group of a claim at a place
+-- ---- the group of the claim at an index
 
 group_at_place : (claims : List GroupClaim) (i : ℕ) (c : GroupClaim) → i < length claims → get_or claims i c ≡ c
     → slice_get (map (λ d. d.group) claims) i ≡ Some c.group
@@ -36,7 +36,7 @@ once_at line claims i c there lt is told =
     (group_at_place claims i c lt is)
     ∙ ap (λ b. if b then [] else line c.group) (any_group c.group i claims ∙ sym told)
 
--- ---- one claim more
+-- ---- adding one claim
 
 one_or_none : (line : Group → List ℕ) (g : Group) (b : Bool) → flat_map line (one_unless b g) ≡ (if b then [] else line g)
 one_or_none line g true = refl

@@ -1,8 +1,8 @@
--- Where the plan or the jobs are at their end, no job is left to show.
+-- At the end of the plan or of the jobs, no job is left to print.
 use Rattle.std.proofs.Common.{◌≡◌, ℕ, List, [], ◌∷◌, ◌++◌, length, refl, arith, sym, ap, ◌∙◌, append-nil, Result, Ok}
 use Rattle.wf_value.specs.declared.refusal.Refusal.{Refusal}
 use Rattle.run_plan.specs.declared.planned.PlannedJob.{PlannedJob}
-use Rattle.workflow_runs.specs.Cells.{JobCells, states}
+use Rattle.run_states.specs.Cells.{JobCells, states}
 use Rattle.table_views.specs.RunLines.{jobs_json}
 
 pub no_plan_left : (plan : List PlannedJob) (jobs : List JobCells) → length plan ≡ 0 → jobs_json plan (states jobs) ≡ []
@@ -14,7 +14,7 @@ no_jobs_left [] jobs e = refl
 no_jobs_left (p ∷ plan) [] e = refl
 no_jobs_left (p ∷ plan) (j ∷ jobs) e = absurd (omega (arith, e))
 
--- texts to which nothing is left to be added are all
+-- texts to which nothing is left to add are complete
 pub all_there : (texts rest all : List (List ℕ)) → rest ≡ [] → texts ++ rest ≡ all
     → ◌≡◌ {A = Result (List (List ℕ)) Refusal} (Ok all) (Ok texts)
 all_there texts rest all none e = ap Ok (sym e ∙ ap (λ r. texts ++ r) none ∙ append-nil texts)

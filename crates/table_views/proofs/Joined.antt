@@ -1,4 +1,4 @@
--- Texts joined by commas are the first, and each other one behind a comma.
+-- Texts joined by commas are the first, then each other one after a comma.
 use Rattle.std.proofs.Common.{◌≡◌, ◌≤◌, ℕ, List, [], ◌∷◌, ◌++◌, length, take, ap, sym, append_assoc}
 use Rattle.std.proofs.lemmas.List.{append-nil, take_all}
 use Rattle.std.specs.Prelude.{codes}
@@ -11,7 +11,7 @@ joined_by_commas : (x : List ℕ) (xs : List (List ℕ)) → join_with_byte 44 (
 joined_by_commas x [] = sym (append-nil x)
 joined_by_commas x (y ∷ xs) = ap (λ t. x ++ 44 ∷ t) (joined_by_commas y xs)
 
--- the first text was added, and then each other one behind a comma
+-- the first text was added, then each other one after a comma
 pub all_joined : (all others : List (List ℕ)) (x : List ℕ) (i : ℕ) (old middle new : List ℕ) → all ≡ x ∷ others
     → length others ≤ i → middle ≡ old ++ x → new ≡ middle ++ flat_map behind_comma (take i others)
     → new ≡ old ++ join_with_byte 44 all

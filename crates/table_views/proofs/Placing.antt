@@ -1,11 +1,11 @@
--- Going over a list with the place of each element, one element more at a time.
+-- Visiting a list with the index of each element, one element at a time.
 use Rattle.std.proofs.Common.{◌≡◌, ◌∙◌, ℕ, zero, suc, ◌+◌, ◌<◌, ◌≤◌, List, [], ◌∷◌, ◌++◌, length, map, take, get_or, refl, sym, ap, subst, arith}
 use Rattle.std.proofs.Common.{append_assoc, append-nil}
 use Rattle.std.proofs.lemmas.List.{take_all}
 use Rattle.std.specs.List.{flat_map, enumerate_from}
-use Rattle.workflow_runs.specs.FirstOf.{placed}
+use Rattle.run_states.specs.FirstOf.{placed}
 
--- ---- what each element with its place gives
+-- ---- what each element gives with its index
 
 more_from : {X Y : Type 0} (f : ℕ × X → List Y) (m n : ℕ) (xs : List X) (x : X) → n < length xs → get_or xs n x ≡ x
     → flat_map f (enumerate_from m (take (suc n) xs)) ≡ flat_map f (enumerate_from m (take n xs)) ++ f (m + n, x)
@@ -30,7 +30,7 @@ pub all_placed : {X Y : Type 0} (f : ℕ × X → List Y) (n : ℕ) (xs : List X
     → flat_map f (placed (take n xs)) ≡ flat_map f (placed xs)
 all_placed f n xs past = ap (λ ys. flat_map f (placed ys)) (take_all n xs past)
 
--- ---- places alone
+-- ---- indices alone
 
 map_from : {X Y : Type 0} (g : ℕ → Y) (m n : ℕ) (xs : List X) → n < length xs
     → map (λ (x : ℕ × X). g x.0) (enumerate_from m (take (suc n) xs))
@@ -55,7 +55,7 @@ pub all_places : {X Y : Type 0} (g : ℕ → Y) (n : ℕ) (xs : List X) → leng
     → map (λ (x : ℕ × X). g x.0) (placed (take n xs)) ≡ map (λ (x : ℕ × X). g x.0) (placed xs)
 all_places {X} g n xs past = ap (λ ys. map (λ (x : ℕ × X). g x.0) (placed ys)) (take_all n xs past)
 
--- ---- what was added so far, and one part more
+-- ---- what was added so far, and one more part
 
 pub added_more : {Y : Type 0} (old so_far part mid new : List Y) → mid ≡ old ++ so_far → new ≡ mid ++ part → new ≡ old ++ (so_far ++ part)
 added_more old so_far part mid new is more = more ∙ ap (λ ys. ys ++ part) is ∙ append_assoc old so_far part

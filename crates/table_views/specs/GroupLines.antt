@@ -1,16 +1,18 @@
--- The concurrency groups that somebody holds or waits for, as an operator is shown them (own): who is in progress in each, and who is
--- pending. GitHub Docs, "Control the concurrency of workflows and jobs".
+-- The concurrency groups that a run or a leg holds or waits for, as an operator sees them: which holder of each is in
+-- progress, and which is pending. GitHub Docs, "Control the concurrency of workflows and jobs". The format is defined
+-- by this project.
 use Rattle.std.specs.Prelude.{ℕ, ◌+◌, List, [], ◌∷◌, ◌++◌, ◌||◌, filter_map, flat_map, codes, decimal, not, Bool, if◌then◌else◌, Option, Some, None}
 use Rattle.std.specs.List.{filter}
 use Rattle.group_name.specs.Group.{Group, same_group}
 use Rattle.group_name.specs.Order.{name_bytes, repository_bytes}
-use Rattle.workflow_runs.specs.GroupOf.{group_at}
-use Rattle.workflow_runs.specs.Groups.{all_holders, group_state, holds, waits}
-use Rattle.workflow_runs.specs.Moves.{Holder}
-use Rattle.workflow_runs.specs.RunState.{RunState}
+use Rattle.run_states.specs.GroupOf.{group_at}
+use Rattle.run_states.specs.Groups.{all_holders, group_state, holds, waits}
+use Rattle.run_states.specs.RunState.{RunState}
 use Rattle.table_views.specs.Texts.{leg_members, leg_words, line, quoted}
 use Rattle.table_views.specs.declared.form.Form.{Form}
 use Rattle.table_views.specs.declared.form.Form.TheVariants as form
+use Rattle.run_states.specs.declared.holder.Holder.{Holder}
+use Rattle.run_states.specs.declared.holder.Holder.TheVariants.{Run, Leg}
 
 -- ---- which groups
 
@@ -18,12 +20,12 @@ use Rattle.table_views.specs.declared.form.Form.TheVariants as form
 abbrev pub group_in_use : List RunState → Holder → Option Group
 group_in_use runs h = if waits runs h || holds runs h then group_at runs h else None
 
--- each group once, where it comes first
+-- each group once, at its first occurrence
 abbrev pub distinct : List Group → List Group
 distinct [] = []
 distinct (g ∷ gs) = g ∷ filter (λ h. not (same_group g h)) (distinct gs)
 
--- in the order of all runs, and then of all legs
+-- in the order of all runs, then all legs
 abbrev pub groups_in_use : List RunState → List Group
 groups_in_use runs = distinct (filter_map (group_in_use runs) (all_holders runs))
 
@@ -32,12 +34,12 @@ groups_in_use runs = distinct (filter_map (group_in_use runs) (all_holders runs)
 abbrev pub holder_text : Form → List RunState → Option Holder → List ℕ
 holder_text form.Lines runs None = codes "-"
 holder_text form.Json runs None = codes "null"
-holder_text form.Lines runs (Some (Holder.a_run r)) = codes "run " ++ decimal (r + 1)
-holder_text form.Json runs (Some (Holder.a_run r)) = codes "{\"run\":" ++ decimal (r + 1) ++ codes "}"
-holder_text form.Lines runs (Some (Holder.a_leg p)) = codes "leg " ++ leg_words runs p
-holder_text form.Json runs (Some (Holder.a_leg p)) = codes "{" ++ leg_members runs p ++ codes "}"
+holder_text form.Lines runs (Some (Run r)) = codes "run " ++ decimal (r + 1)
+holder_text form.Json runs (Some (Run r)) = codes "{\"run\":" ++ decimal (r + 1) ++ codes "}"
+holder_text form.Lines runs (Some (Leg p)) = codes "leg " ++ leg_words runs p
+holder_text form.Json runs (Some (Leg p)) = codes "{" ++ leg_members runs p ++ codes "}"
 
--- a group by its repository, and by its name without its case
+-- a group with its repository and its case-folded name
 abbrev pub group_line : Form → List RunState → Group → List ℕ
 group_line form.Lines runs g =
     line (codes "group " ++ quoted (repository_bytes g) ++ codes " " ++ quoted (name_bytes g)

@@ -1,6 +1,6 @@
--- What is known of the places of legs (own).
+-- Bounds on the places of legs.
 use Rattle.std.specs.Prelude.{ℕ, ◌<◌, ◌^◌}
-use Rattle.workflow_runs.specs.Places.{LegPlace}
+use Rattle.run_states.specs.declared.place.LegPlace.{LegPlace}
 
 -- a place is within what a table may have
 abbrev pub IsWithin : LegPlace → Type 0

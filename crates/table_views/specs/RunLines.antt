@@ -1,12 +1,13 @@
--- A run as an operator is shown it: the view that `look` prints, or the same values as JSON (own).
+-- A run as an operator sees it: the view that `look` prints, or the same values as JSON. The format is defined by this
+-- project.
 use Rattle.std.specs.Prelude.{ℕ, List, ◌++◌, map, codes, decimal}
 use Rattle.std.specs.List.{zip}
 use Rattle.wf_value.specs.Words.{result_word}
 use Rattle.run_plan.specs.PlanOf.{plan_of}
 use Rattle.run_plan.specs.declared.planned.PlannedJob.{PlannedJob}
-use Rattle.workflow_runs.specs.RunState.{JobState, LegState}
-use Rattle.workflow_runs.specs.declared.phases.JobPhase.{JobPhase}
-use Rattle.workflow_runs.specs.declared.phases.JobPhase.TheVariants as job
+use Rattle.run_states.specs.RunState.{JobState, LegState}
+use Rattle.run_states.specs.declared.phases.JobPhase.{JobPhase}
+use Rattle.run_states.specs.declared.phases.JobPhase.TheVariants as job
 use Rattle.run_table.specs.ViewText.{Seen, conclusion_text, leg_text, seen_text, status_text}
 use Rattle.table_views.specs.Texts.{line, listed, quoted}
 use Rattle.table_views.specs.declared.form.Form.{Form}
@@ -28,7 +29,7 @@ job_json j =
 abbrev pub jobs_json : List PlannedJob → List JobState → List (List ℕ)
 jobs_json plan jobs = map job_json (zip plan jobs)
 
--- an object as far as the run's attempt
+-- the start of an object, up to the run's attempt
 abbrev pub run_start : Seen → List ℕ
 run_start seen =
     codes "{\"run\":" ++ decimal seen.id ++ codes ",\"number\":" ++ decimal seen.number ++ codes ",\"attempt\":" ++ decimal seen.run.attempt

@@ -1,8 +1,9 @@
--- The runners as an operator is shown them (own): name, last number, and the lease that each holds, with the leg that has it.
+-- The runners as an operator sees them: the name, the last number, and the lease that each holds, with the leg that has
+-- it. The format is defined by this project.
 use Rattle.std.specs.Prelude.{ℕ, List, ◌++◌, codes, decimal, flat_map, Option, Some, None, option_map, option_and_then}
-use Rattle.workflow_runs.specs.Fitting.{place_of_lease}
-use Rattle.workflow_runs.specs.Places.{LegPlace}
-use Rattle.workflow_runs.specs.RunState.{RunState}
+use Rattle.run_states.specs.Fitting.{place_of_lease}
+use Rattle.run_states.specs.declared.place.LegPlace.{LegPlace}
+use Rattle.run_states.specs.RunState.{RunState}
 use Rattle.run_table.specs.TableState.{RunnerState, TableState}
 use Rattle.table_views.specs.Texts.{leg_members, leg_words, line, quoted}
 use Rattle.table_views.specs.declared.form.Form.{Form}

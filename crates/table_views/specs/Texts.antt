@@ -1,16 +1,16 @@
--- The pieces of the lines that an operator is shown (own). A text as JSON: RFC 8259, section 7.
+-- The pieces of the lines that an operator sees. A text as JSON: RFC 8259, section 7.
 use Rattle.std.specs.Prelude.{ℕ, ◌+◌, List, [], ◌∷◌, ◌++◌, codes, decimal}
 use Rattle.std.specs.List.{join_with_byte}
 pub use Rattle.json.specs.Print.{quoted}
-use Rattle.workflow_runs.specs.Places.{LegPlace}
-use Rattle.workflow_runs.specs.RunState.{RunState}
-use Rattle.workflow_runs.specs.Words.{job_id}
+use Rattle.run_states.specs.declared.place.LegPlace.{LegPlace}
+use Rattle.run_states.specs.RunState.{RunState}
+use Rattle.run_states.specs.Words.{job_id}
 
 -- a line, with its line feed
 abbrev pub line : List ℕ → List ℕ
 line text = text ++ 10 ∷ []
 
--- texts joined by commas, between brackets
+-- texts joined by commas, in brackets
 abbrev pub listed : List (List ℕ) → List ℕ
 listed items = codes "[" ++ join_with_byte 44 items ++ codes "]"
 

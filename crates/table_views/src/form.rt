@@ -1,8 +1,8 @@
-/// How lines are written.
+/// The format of printed lines.
 #[derive(Clone, Copy)]
 pub enum Form {
-    /// As words, with a space between two.
+    /// Words, separated by single spaces.
     Lines,
-    /// As JSON objects, one in each line. RFC 8259.
+    /// JSON objects, one per line. RFC 8259.
     Json,
 }

@@ -1,34 +1,33 @@
-//! The lines of concurrency groups: who is in progress in each, and who is pending. GitHub Docs, "Control the concurrency of workflows
-//! and jobs".
+//! The lines of concurrency groups: which holder of each is in progress, and which is pending. GitHub Docs, "Control
+//! the concurrency of workflows and jobs".
 
 ghost use Rattle.std.specs.Prelude.{◌≡◌, ◌&&◌, ◌++◌, ◌<◌, ◌≤◌, [], ◌∷◌, IfOk, IfSome, None, Ok, OnOk, Some, codes, filter_map, find, length, map, option_copied, option_map, string_bytes, take};
 ghost use Rattle.std.specs.List.{All, list_any};
 ghost use Rattle.wf_value.specs.Gives.{ErrsOnlyByMemory, Gives};
 ghost use Rattle.group_name.specs.Group.{same_group};
-ghost use Rattle.workflow_runs.specs.Groups.{all_holders, holds, is_pending_in, is_running_in, waits};
-ghost use Rattle.workflow_runs.specs.Holders.{holder_in_words, run_of};
-ghost use Rattle.workflow_runs.specs.Moves.{Holder as HolderOfGroup};
-ghost use Rattle.workflow_runs.specs.Places.{leg_places};
+ghost use Rattle.run_states.specs.Groups.{all_holders, holds, is_pending_in, is_running_in, waits};
+ghost use Rattle.run_states.specs.Holders.{run_of};
+ghost use Rattle.run_states.specs.Places.{leg_places};
 ghost use Rattle.table_views.specs.Claims.{claim_of, claims_of, line_once, said};
 ghost use Rattle.table_views.specs.GroupLines.{group_in_use, group_line, group_lines, holder_text};
 ghost use Rattle.table_views.specs.Placed.{IsWithin};
 ghost use Rattle.table_views.specs.Texts.{line};
+ghost use Rattle.run_states.specs.declared.holder.Holder.TheVariants as held;
 
 use crate::claim::GroupClaim;
 use crate::form::Form;
 use crate::texts::{leg_members, leg_words, quoted};
 use group_name::GroupKey;
+use run_states::{Holder, LegPlace};
 use std::alloc::{AllocError, Global};
 use wf_value::{Refusal, Same};
-use workflow_runs::holder::Holder;
-use workflow_runs::place::LegPlace;
 use workflow_runs::runs::Runs;
 
-// ---- who holds groups, or waits for them
+// ---- runs and legs that hold groups or wait for them
 
 /// The group that a run or a leg holds or waits for.
 fn group_in_use(alloc: Global, runs: &Runs, holder: &Holder) -> Result<Option<GroupKey>, Refusal>
-    ensures { Gives (λ group. group) result (Ok (group_in_use runs.now (holder_in_words holder.now))) }
+    ensures { Gives (λ group. group) result (Ok (group_in_use runs.now holder.now)) }
 {
     if runs.waits(holder) || runs.holds(holder) {
         runs.group(alloc, holder)
@@ -43,10 +42,10 @@ fn push_claim(
     claims: &mut Vec<GroupClaim>,
     holder: Holder,
 ) -> Result<(), Refusal>
-    requires { run_of (holder_in_words holder) < 100000 }
+    requires { run_of holder < 100000 }
     ensures err { ErrsOnlyByMemory result }
     ensures added { OnOk result (map said claims.new.items
-        ≡ map said claims.old.items ++ filter_map (claim_of runs.now) (holder_in_words holder ∷ [])) }
+        ≡ map said claims.old.items ++ filter_map (claim_of runs.now) (holder ∷ [])) }
 {
     if let Some(group) = group_in_use(alloc, runs, &holder)? {
         claims.push(GroupClaim { group, holder })?;
@@ -54,7 +53,7 @@ fn push_claim(
     Ok(())
 }
 
-/// All of them, by the places of all legs: the runs, and then the legs.
+/// All claims: those of the runs, then those of the legs. `places` has the places of all legs.
 fn claims_of(alloc: Global, runs: &Runs, places: &[LegPlace]) -> Result<Vec<GroupClaim>, Refusal>
     requires all { places.now ≡ leg_places runs.now }
     requires within { All IsWithin places.now }
@@ -71,7 +70,7 @@ fn claims_of(alloc: Global, runs: &Runs, places: &[LegPlace]) -> Result<Vec<Grou
     Ok(claims)
 }
 
-// ---- who of a group
+// ---- the claims of a group
 
 /// Whether the claim is one of the group.
 fn is_of(claim: &GroupClaim, group: &GroupKey) -> bool
@@ -86,7 +85,7 @@ fn claim_in_progress<'c>(
     group: &GroupKey,
 ) -> Option<&'c GroupClaim>
     ensures { option_copied result
-        ≡ find (λ c. same_group group.now c.group && holds runs.now (holder_in_words c.holder)) claims.now }
+        ≡ find (λ c. same_group group.now c.group && holds runs.now c.holder) claims.now }
 {
     claims
         .iter()
@@ -99,7 +98,7 @@ fn pending_claim<'c>(
     group: &GroupKey,
 ) -> Option<&'c GroupClaim>
     ensures { option_copied result
-        ≡ find (λ c. same_group group.now c.group && waits runs.now (holder_in_words c.holder)) claims.now }
+        ≡ find (λ c. same_group group.now c.group && waits runs.now c.holder) claims.now }
 {
     claims
         .iter()
@@ -109,8 +108,8 @@ fn pending_claim<'c>(
 /// The holder of a group that is in progress.
 fn running(runs: &Runs, claims: &[GroupClaim], group: &GroupKey) -> Option<Holder>
     requires { map said claims.now ≡ claims_of runs.now }
-    ensures holder { option_map holder_in_words result ≡ find (is_running_in runs.now group.now) (all_holders runs.now) }
-    ensures within { IfSome result (λ h. run_of (holder_in_words h) < 100000) }
+    ensures holder { result ≡ find (is_running_in runs.now group.now) (all_holders runs.now) }
+    ensures within { IfSome result (λ h. run_of h < 100000) }
 {
     match claim_in_progress(runs, claims, group) {
         Some(claim) => Some(claim.holder),
@@ -118,11 +117,11 @@ fn running(runs: &Runs, claims: &[GroupClaim], group: &GroupKey) -> Option<Holde
     }
 }
 
-/// The one that is pending.
+/// The holder of a group that is pending.
 fn pending(runs: &Runs, claims: &[GroupClaim], group: &GroupKey) -> Option<Holder>
     requires { map said claims.now ≡ claims_of runs.now }
-    ensures holder { option_map holder_in_words result ≡ find (is_pending_in runs.now group.now) (all_holders runs.now) }
-    ensures within { IfSome result (λ h. run_of (holder_in_words h) < 100000) }
+    ensures holder { result ≡ find (is_pending_in runs.now group.now) (all_holders runs.now) }
+    ensures within { IfSome result (λ h. run_of h < 100000) }
 {
     match pending_claim(runs, claims, group) {
         Some(claim) => Some(claim.holder),
@@ -134,7 +133,7 @@ fn pending(runs: &Runs, claims: &[GroupClaim], group: &GroupKey) -> Option<Holde
 
 fn text_of_leg(alloc: Global, form: Form, runs: &Runs, place: LegPlace) -> Result<String, Refusal>
     requires { place.run < 100000 }
-    ensures { Gives string_bytes result (Ok (holder_text form runs.now (Some (HolderOfGroup.a_leg place)))) }
+    ensures { Gives string_bytes result (Ok (holder_text form runs.now (Some (held.Leg place)))) }
 {
     match form {
         Form::Lines => {
@@ -150,7 +149,7 @@ fn text_of_leg(alloc: Global, form: Form, runs: &Runs, place: LegPlace) -> Resul
 
 fn text_of_run(alloc: Global, form: Form, place: usize) -> Result<String, Refusal>
     requires { place < 100000 }
-    ensures { Gives string_bytes result (Ok (holder_text form [] (Some (HolderOfGroup.a_run place)))) }
+    ensures { Gives string_bytes result (Ok (holder_text form [] (Some (held.Run place)))) }
 {
     let run = place + 1;
     match form {
@@ -175,8 +174,8 @@ fn text_of_holder(
     runs: &Runs,
     holder: &Holder,
 ) -> Result<String, Refusal>
-    requires { run_of (holder_in_words holder.now) < 100000 }
-    ensures { Gives string_bytes result (Ok (holder_text form runs.now (Some (holder_in_words holder.now)))) }
+    requires { run_of holder.now < 100000 }
+    ensures { Gives string_bytes result (Ok (holder_text form runs.now (Some holder.now))) }
 {
     match holder {
         Holder::Run(r) => text_of_run(alloc, form, *r),
@@ -190,8 +189,8 @@ fn holder_text(
     runs: &Runs,
     holder: Option<Holder>,
 ) -> Result<String, Refusal>
-    requires { IfSome holder (λ h. run_of (holder_in_words h) < 100000) }
-    ensures { Gives string_bytes result (Ok (holder_text form runs.now (option_map holder_in_words holder))) }
+    requires { IfSome holder (λ h. run_of h < 100000) }
+    ensures { Gives string_bytes result (Ok (holder_text form runs.now (holder))) }
 {
     match holder {
         Some(holder) => text_of_holder(alloc, form, runs, &holder),
@@ -227,7 +226,7 @@ fn group_object(
     )
 }
 
-/// The line of a group: its repository, its name without its case, who is in progress, and who is pending.
+/// The line of a group: its repository, its case-folded name, the holder in progress, and the pending one.
 fn group_line(
     alloc: Global,
     form: Form,
@@ -250,7 +249,7 @@ fn group_line(
     }
 }
 
-/// Whether one of the first so many claims is of the group.
+/// Whether one of the first `count` claims is of the group.
 fn has_group(claims: &[GroupClaim], count: usize, group: &GroupKey) -> bool
     requires { count ≤ length claims.now }
     ensures { result ≡ list_any (λ c. same_group c.group group.now) (take count claims.now) }
@@ -258,7 +257,7 @@ fn has_group(claims: &[GroupClaim], count: usize, group: &GroupKey) -> bool
     claims[..count].iter().any(|claim| claim.group.same(group))
 }
 
-/// The line of the group of a claim, or nothing where a claim before it has the group.
+/// The line of the group of a claim, or nothing if an earlier claim has the same group.
 fn line_at(
     alloc: Global,
     form: Form,
@@ -294,7 +293,7 @@ fn lines_of(
     Ok(text)
 }
 
-/// A line for each group that somebody holds or waits for, by the places of all legs.
+/// A line for each group that a run or a leg holds or waits for. `places` has the places of all legs.
 pub(crate) fn groups_text(
     alloc: Global,
     form: Form,

@@ -1,4 +1,4 @@
-//! The lines that an operator is shown of a table: its runs, its runners and its queue, as text or as JSON.
+//! The lines that an operator sees of a table: its runs, its runners and its queue, as text or as JSON.
 #![tactic(auto)]
 
 mod claim;

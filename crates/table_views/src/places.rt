@@ -1,26 +1,21 @@
-//! All legs of a table, and all that may hold a concurrency group.
+//! All legs of a table, and all runs and legs that may hold a concurrency group.
 
 ghost use Rattle.std.specs.Prelude.{◌≡◌, ◌++◌, ◌<◌, ◌≤◌, ◌^◌, IfOk, OnOk, false, length, map};
 ghost use Rattle.std.specs.List.{All};
 ghost use Rattle.std.specs.Option.{option_map_or};
 ghost use Rattle.wf_value.specs.Gives.{Gives};
-ghost use Rattle.workflow_runs.specs.Cells.{states};
-ghost use Rattle.workflow_runs.specs.Fitting.{place_of_lease};
-ghost use Rattle.workflow_runs.specs.Groups.{all_holders};
-ghost use Rattle.workflow_runs.specs.Holders.{holder_in_words};
-ghost use Rattle.workflow_runs.specs.Places.{leg_places, leg_places_of_job, leg_places_of_run};
+ghost use Rattle.run_states.specs.Cells.{states};
+ghost use Rattle.run_states.specs.Fitting.{place_of_lease};
+ghost use Rattle.run_states.specs.Groups.{all_holders};
+ghost use Rattle.run_states.specs.Places.{leg_places, leg_places_of_job, leg_places_of_run};
 ghost use Rattle.table_views.specs.Placed.{IsWithin};
 
 use run_plan::Number;
+use run_states::{Holder, Job, Leg, LegPlace, Run};
 use std::alloc::{AllocError, Global};
-use workflow_runs::holder::Holder;
-use workflow_runs::job::Job;
-use workflow_runs::leg::Leg;
-use workflow_runs::place::LegPlace;
-use workflow_runs::run::Run;
 use workflow_runs::runs::Runs;
 
-/// Adds the places of the legs of a job.
+/// Adds the places of a job's legs.
 fn push_legs_of_job(
     places: &mut Vec<LegPlace>,
     r: usize,

@@ -1,11 +1,11 @@
-//! The lines of the queue: of the legs that are ready, and then of the concurrency groups.
+//! The lines of the queue: those of the ready legs, then those of the concurrency groups.
 
 ghost use Rattle.std.specs.Prelude.{◌≡◌, ◌<◌, ◌^◌, Ok, false, map, string_bytes};
 ghost use Rattle.std.specs.List.{All};
 ghost use Rattle.std.specs.Option.{option_map_or};
 ghost use Rattle.wf_value.specs.Gives.{Gives};
-ghost use Rattle.workflow_runs.specs.Fitting.{is_ready};
-ghost use Rattle.workflow_runs.specs.Places.{leg_at, leg_places};
+ghost use Rattle.run_states.specs.Fitting.{is_ready};
+ghost use Rattle.run_states.specs.Places.{leg_at, leg_places};
 ghost use Rattle.table_views.specs.Placed.{IsWithin};
 ghost use Rattle.table_views.specs.QueueLines.{is_ready_at, labels_json, queue_lines, ready_line, ready_lines};
 ghost use Rattle.table_views.specs.Texts.{quoted};
@@ -14,11 +14,10 @@ use crate::form::Form;
 use crate::groups::groups_text;
 use crate::places::leg_places;
 use crate::texts::{leg_members, leg_words, listed, quoted};
+use run_states::{LegPhase, LegPlace};
 use run_table::Table;
 use std::alloc::Global;
 use wf_value::{Chars, Refusal};
-use workflow_runs::phases::LegPhase;
-use workflow_runs::place::LegPlace;
 use workflow_runs::runs::Runs;
 
 fn is_ready(phase: LegPhase) -> bool
@@ -51,7 +50,7 @@ fn quoted_each(alloc: Global, texts: &[Chars]) -> Result<Vec<Chars>, Refusal>
     Ok(all)
 }
 
-/// The labels that a leg asks for.
+/// The labels that a leg requires.
 fn labels_json(alloc: Global, runs: &Runs, place: LegPlace) -> Result<String, Refusal>
     requires { place.leg < 2 ^ 63 }
     ensures { Gives string_bytes result (Ok (labels_json runs.now place)) }
@@ -78,7 +77,7 @@ fn ready_line(alloc: Global, form: Form, runs: &Runs, place: LegPlace) -> Result
     }
 }
 
-/// A line for each leg that is ready, by the places of all legs.
+/// A line for each ready leg. `places` has the places of all legs.
 fn ready_text(
     alloc: Global,
     form: Form,

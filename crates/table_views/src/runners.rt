@@ -4,8 +4,8 @@ ghost use Rattle.std.specs.Prelude.{◌≡◌, ◌++◌, ◌<◌, [], IfOk, IfSo
 ghost use Rattle.std.specs.List.{All};
 ghost use Rattle.std.specs.Option.{option_map_or};
 ghost use Rattle.wf_value.specs.Gives.{Gives};
-ghost use Rattle.workflow_runs.specs.Fitting.{has_lease, place_of_lease};
-ghost use Rattle.workflow_runs.specs.Places.{leg_at, leg_places};
+ghost use Rattle.run_states.specs.Fitting.{has_lease, place_of_lease};
+ghost use Rattle.run_states.specs.Places.{leg_at, leg_places};
 ghost use Rattle.table_views.specs.Placed.{IsWithin};
 ghost use Rattle.table_views.specs.RunnerLines.{held_leg, lease_text, runner_line, runner_lines};
 ghost use Rattle.table_views.specs.Texts.{line};
@@ -14,11 +14,10 @@ use crate::form::Form;
 use crate::places::leg_places;
 use crate::texts::{leg_members, leg_words, quoted};
 use run_plan::Number;
+use run_states::{Leg, LegPlace};
 use run_table::{Runner, Table};
 use std::alloc::{AllocError, Global};
 use wf_value::{Chars, Refusal};
-use workflow_runs::leg::Leg;
-use workflow_runs::place::LegPlace;
 use workflow_runs::runs::Runs;
 
 fn has_lease(leg: &Leg, lease: Number) -> bool
@@ -39,7 +38,7 @@ fn has_lease_at(runs: &Runs, place: LegPlace, lease: Number) -> bool
     }
 }
 
-/// The first of these places whose leg has a lease.
+/// The first of these places whose leg has the lease.
 fn first_with_lease<'p>(runs: &Runs, places: &'p [LegPlace], lease: Number) -> Option<&'p LegPlace>
     requires { All IsWithin places.now }
     ensures found { option_copied result ≡ find (λ p. option_map_or (has_lease lease) (leg_at runs.now p) false) places.now }
@@ -50,7 +49,7 @@ fn first_with_lease<'p>(runs: &Runs, places: &'p [LegPlace], lease: Number) -> O
         .find(|place| has_lease_at(runs, **place, lease))
 }
 
-/// The leg that has a lease, by the places of all legs.
+/// The leg that has a lease. `places` has the places of all legs.
 fn place_of_lease(runs: &Runs, places: &[LegPlace], lease: Number) -> Option<LegPlace>
     requires all { places.now ≡ leg_places runs.now }
     requires within { All IsWithin places.now }
@@ -97,7 +96,7 @@ fn no_lease_text(alloc: Global, form: Form) -> Result<String, Refusal>
     Ok(String::from_str(alloc, word)?)
 }
 
-/// What a runner holds.
+/// The lease that a runner holds, if any.
 fn lease_text(
     alloc: Global,
     form: Form,

@@ -2,19 +2,17 @@
 
 ghost use Rattle.std.specs.Prelude.{◌≡◌, ◌++◌, IfOk, Ok, codes, decimal, map, string_bytes};
 ghost use Rattle.wf_value.specs.Gives.{Gives};
-ghost use Rattle.workflow_runs.specs.Cells.{states};
+ghost use Rattle.run_states.specs.Cells.{states};
 ghost use Rattle.run_table.specs.ViewText.{seen_text};
 ghost use Rattle.table_views.specs.RunLines.{job_json, jobs_json, leg_json, run_json, run_line, run_start, state_text};
 
 use crate::form::Form;
 use crate::texts::{listed, quoted};
 use run_plan::PlannedJob;
+use run_states::{Job, JobPhase, Leg};
 use run_table::{RunView, conclusion_word, leg_word, status_word};
 use std::alloc::{AllocError, Global};
 use wf_value::{Chars, Refusal};
-use workflow_runs::job::Job;
-use workflow_runs::leg::Leg;
-use workflow_runs::phases::JobPhase;
 
 fn state_word(phase: JobPhase) -> &'static str
     ensures { result.now ≡ state_text phase }
@@ -59,7 +57,7 @@ fn jobs_json(alloc: Global, plan: &[PlannedJob], jobs: &[Job]) -> Result<Vec<Cha
     Ok(texts)
 }
 
-/// An object as far as the run's attempt.
+/// The start of a JSON object, up to the run's attempt.
 fn run_start(alloc: Global, view: &RunView<'_>) -> Result<String, Refusal>
     ensures { Gives string_bytes result (Ok (run_start view.now)) }
 {

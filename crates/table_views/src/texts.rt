@@ -6,9 +6,9 @@ ghost use Rattle.wf_value.specs.Gives.{Gives};
 ghost use Rattle.table_views.specs.Texts.{leg_members, leg_words, listed, quoted};
 
 use json::Writer;
+use run_states::LegPlace;
 use std::alloc::{AllocError, Global};
 use wf_value::{Chars, Refusal};
-use workflow_runs::place::LegPlace;
 use workflow_runs::runs::Runs;
 
 /// A text as JSON. RFC 8259, section 7.
@@ -26,7 +26,7 @@ fn written(alloc: Global, text: &str) -> Result<String, AllocError>
     Ok(String::from_utf8(writer.into_inner()).unwrap())
 }
 
-/// Texts joined by commas, between brackets.
+/// Texts joined by commas, in brackets.
 pub(crate) fn listed(alloc: Global, items: &[Chars]) -> Result<String, Refusal>
     ensures { Gives string_bytes result (Ok (listed items.now)) }
 {

@@ -1,4 +1,4 @@
-//! Commands, made of their words. Words that make none are refused 75.
+//! Commands, made of their words. Words that do not form a command are refused with 75.
 
 use run_plan::{
     Attempt, Beat, Claim, Command, DeliveryId, Done, EventName, Labels, Number, Prepared,
@@ -7,8 +7,7 @@ use run_plan::{
 use std::alloc::Global;
 use wf_value::{Code, Outcome, Refusal};
 
-/// A command in words: the delivery and the body of a `push`, or what a runner sends, or a runner, or a run, or an attempt of
-/// a run.
+/// A command in words: the delivery and the body of a `push`, what a runner sends, a runner, a run, or an attempt of a run.
 #[derive(Drop)]
 pub enum Words<'a> {
     Admit(&'a str, &'a str),
@@ -22,8 +21,8 @@ pub enum Words<'a> {
     Rerun(&'a str, &'a str),
 }
 
-/// A value that has to be there.
-pub fn there<T: Drop>(found: Option<T>) -> Result<T, Refusal> {
+/// A value that must be present.
+pub fn present<T: Drop>(found: Option<T>) -> Result<T, Refusal> {
     match found {
         Some(value) => Ok(value),
         None => Err(Refusal::Numbered(Code::Line)),
@@ -31,26 +30,26 @@ pub fn there<T: Drop>(found: Option<T>) -> Result<T, Refusal> {
 }
 
 pub fn number(text: &str) -> Result<Number, Refusal> {
-    there(Number::of(text.as_bytes()))
+    present(Number::of(text.as_bytes()))
 }
 
 pub fn labels(alloc: Global, text: &str) -> Result<Labels, Refusal> {
-    there(Labels::of(alloc, text.as_bytes())?)
+    present(Labels::of(alloc, text.as_bytes())?)
 }
 
 fn runner(alloc: Global, text: &str) -> Result<RunnerName, Refusal> {
-    there(RunnerName::of(alloc, text.as_bytes())?)
+    present(RunnerName::of(alloc, text.as_bytes())?)
 }
 
 fn delivery(alloc: Global, text: &str) -> Result<DeliveryId, Refusal> {
-    there(DeliveryId::of(alloc, text.as_bytes())?)
+    present(DeliveryId::of(alloc, text.as_bytes())?)
 }
 
 fn event(alloc: Global, text: &str) -> Result<EventName, Refusal> {
-    there(EventName::of(alloc, text.as_bytes())?)
+    present(EventName::of(alloc, text.as_bytes())?)
 }
 
-/// The event of this name, with its delivery's id and its body.
+/// The event with this name, delivery id and body.
 pub fn prepared(alloc: Global, id: &str, name: &str, body: &str) -> Result<Prepared, Refusal> {
     let event = event(alloc, name)?;
     let delivery = delivery(alloc, id)?;
@@ -63,10 +62,10 @@ pub fn shared_body(alloc: Global, body: &str) -> Result<SharedBody, Refusal> {
     SharedBody::of(&prepared(alloc, "d1", "push", body)?)
 }
 
-pub fn claim(alloc: Global, name: &str, count: &str, asked: &str) -> Result<Claim, Refusal> {
+pub fn claim(alloc: Global, name: &str, count: &str, label_list: &str) -> Result<Claim, Refusal> {
     let number = number(count)?;
     let runner = runner(alloc, name)?;
-    let labels = labels(alloc, asked)?;
+    let labels = labels(alloc, label_list)?;
     Ok(Claim {
         runner,
         number,
@@ -104,10 +103,10 @@ pub fn attempt(run: &str, attempt: &str) -> Result<Attempt, Refusal> {
     })
 }
 
-/// What a runner sends, or that it is lost.
+/// The command of what a runner sends, or that the runner is lost.
 fn command_of_runner(alloc: Global, words: &Words<'_>) -> Result<Command, Refusal> {
     match words {
-        Words::Claim(name, count, asked) => Ok(Command::Claim(claim(alloc, name, count, asked)?)),
+        Words::Claim(name, count, labels) => Ok(Command::Claim(claim(alloc, name, count, labels)?)),
         Words::Done(name, count, lease, outcome) => {
             Ok(Command::Done(done(alloc, name, count, lease, *outcome)?))
         }
@@ -123,7 +122,7 @@ pub fn command_of(alloc: Global, words: &Words<'_>) -> Result<Command, Refusal> 
         Words::Cancel(run) => Ok(Command::Cancel(number(run)?)),
         Words::Look(run) => Ok(Command::Look(number(run)?)),
         Words::Fetch(run) => Ok(Command::Fetch(number(run)?)),
-        Words::Rerun(run, asked) => Ok(Command::Rerun(attempt(run, asked)?)),
+        Words::Rerun(run, next) => Ok(Command::Rerun(attempt(run, next)?)),
         words => command_of_runner(alloc, words),
     }
 }

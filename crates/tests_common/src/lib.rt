@@ -1,6 +1,6 @@
-//! What the tests of several crates are given: values and commands, made of what a constant can have. It asserts nothing, since only a test may.
+//! What the tests of several crates share: values and commands, made of constants. It asserts nothing, since only a test may.
 #![tactic(auto)]
 
 pub mod commands;
-pub mod given;
+pub mod long_texts;
 pub mod values;

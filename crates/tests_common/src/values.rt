@@ -1,27 +1,27 @@
-//! Values of the tests, made of what a constant can have. A value that can't be is refused 75.
+//! Values of the tests, made of constants. An invalid value is refused with 75.
 
 use std::alloc::Global;
 use wf_value::{Chars, Code, Combo, Refusal, Same, Scalar, TryCopy};
 
 /// A scalar.
 #[derive(Clone, Copy)]
-pub enum Given {
+pub enum Literal {
     Null,
     Truth(bool),
     Whole(i64),
     Text(&'static str),
 }
 
-pub fn scalar(alloc: Global, given: &Given) -> Result<Scalar, Refusal> {
+pub fn scalar(alloc: Global, given: &Literal) -> Result<Scalar, Refusal> {
     match given {
-        Given::Null => Ok(Scalar::Null),
-        Given::Truth(truth) => Ok(Scalar::Truth(*truth)),
-        Given::Whole(whole) => Ok(Scalar::Whole(*whole)),
-        Given::Text(text) => Ok(Scalar::Text(Chars::from_str(alloc, text)?)),
+        Literal::Null => Ok(Scalar::Null),
+        Literal::Truth(truth) => Ok(Scalar::Truth(*truth)),
+        Literal::Whole(whole) => Ok(Scalar::Whole(*whole)),
+        Literal::Text(text) => Ok(Scalar::Text(Chars::from_str(alloc, text)?)),
     }
 }
 
-pub fn scalars(alloc: Global, given: &[Given]) -> Result<Vec<Scalar>, Refusal> {
+pub fn scalars(alloc: Global, given: &[Literal]) -> Result<Vec<Scalar>, Refusal> {
     let mut scalars = Vec::new(alloc);
     for one in given {
         scalars.push(scalar(alloc, one)?)?;
@@ -37,12 +37,12 @@ pub fn texts(alloc: Global, given: &[&str]) -> Result<Vec<Chars>, Refusal> {
     Ok(texts)
 }
 
-fn pair(alloc: Global, name: &str, given: &Given) -> Result<(Chars, Scalar), Refusal> {
+fn pair(alloc: Global, name: &str, given: &Literal) -> Result<(Chars, Scalar), Refusal> {
     let value = scalar(alloc, given)?;
     Ok((Chars::from_str(alloc, name)?, value))
 }
 
-pub fn pairs(alloc: Global, given: &[(&str, Given)]) -> Result<Vec<(Chars, Scalar)>, Refusal> {
+pub fn pairs(alloc: Global, given: &[(&str, Literal)]) -> Result<Vec<(Chars, Scalar)>, Refusal> {
     let mut pairs = Vec::new(alloc);
     for (name, value) in given {
         pairs.push(pair(alloc, name, value)?)?;
@@ -50,8 +50,8 @@ pub fn pairs(alloc: Global, given: &[(&str, Given)]) -> Result<Vec<(Chars, Scala
     Ok(pairs)
 }
 
-/// Names that do not rise are refused.
-pub fn combo(alloc: Global, given: &[(&str, Given)]) -> Result<Combo, Refusal> {
+/// Names that do not increase are refused.
+pub fn combo(alloc: Global, given: &[(&str, Literal)]) -> Result<Combo, Refusal> {
     let pairs = pairs(alloc, given)?;
     if Combo::names_rise(pairs.as_slice()) {
         Ok(Combo::from_pairs(pairs))
@@ -60,19 +60,22 @@ pub fn combo(alloc: Global, given: &[(&str, Given)]) -> Result<Combo, Refusal> {
     }
 }
 
-/// Whether the value is the same as the one at its place, and as no other.
-fn is_at<T: Same>(value: &T, values: &[T], place: usize) -> bool {
+/// Whether the value is the same as the one at this index, and differs from all others.
+fn is_only_at<T: Same>(value: &T, values: &[T], index: usize) -> bool {
     values
         .iter()
         .enumerate()
-        .all(|(other, one)| value.same(one) == (other == place))
+        .all(|(other, one)| value.same(one) == (other == index))
 }
 
-/// Whether no two of the values are the same, and each is the same as its copy.
-pub fn are_apart<T: Same + TryCopy + Drop>(alloc: Global, values: &[T]) -> Result<bool, Refusal> {
-    for (place, value) in values.iter().enumerate() {
+/// Whether all values differ, and each is the same as its copy.
+pub fn are_distinct<T: Same + TryCopy + Drop>(
+    alloc: Global,
+    values: &[T],
+) -> Result<bool, Refusal> {
+    for (index, value) in values.iter().enumerate() {
         let copy = value.copy(alloc)?;
-        if !is_at(value, values, place) || !is_at(&copy, values, place) {
+        if !is_only_at(value, values, index) || !is_only_at(&copy, values, index) {
             return Ok(false);
         }
     }

@@ -15,14 +15,14 @@ use std::sync::ledger::Ledger;
 use std::time::Clock;
 use tests_common::commands::Words;
 
-/// The first area of a file that an earlier program made: open, of version 1, generation 1, and the text of the empty table.
-const FRONT: [u8; 18] = [0xA5, 1, 0, 0, 0, 0, 0, 0, 0, 1, 0, 0, 0, 0, 0, 0, 0, 12];
+/// The first area of a file made by an earlier program: open, of version 1 and generation 1, and the text of the empty table.
+const HEADER: [u8; 18] = [0xA5, 1, 0, 0, 0, 0, 0, 0, 0, 1, 0, 0, 0, 0, 0, 0, 0, 12];
 
-fn of_the_first_layout(rt: &impl Abort, alloc: Global) -> Store<MemoryDisk>
+fn store_of_the_first_layout(rt: &impl Abort, alloc: Global) -> Store<MemoryDisk>
     ensures { result.history ≡ [] }
 {
     let mut bytes = Vec::new(alloc);
-    bytes.extend_from_slice(&FRONT).expect(rt, "memory");
+    bytes.extend_from_slice(&HEADER).expect(rt, "memory");
     bytes.resize(8_192, 0).expect(rt, "memory");
     let disk = MemoryDisk::from_slice(alloc, &bytes).expect(rt, "a disk");
     holds!(rt; disk.faults() < u64::MAX);
@@ -32,19 +32,19 @@ fn of_the_first_layout(rt: &impl Abort, alloc: Global) -> Store<MemoryDisk>
     }
 }
 
-/// A re-run that is refused is no entry of its seat.
+/// A refused re-run is not an entry of its seat.
 const SUBMITTED: &[(Words<'static>, &str)] = &[
     (Words::Admit("d1", BUILD), "created 1"),
     (Words::Rerun("1", "2"), "refused 57"),
     (Words::Look("1"), "run 1 1 queued - build:open(ready)"),
 ];
 
-fn submits<E: Named, T: Ledger, R: Wait + Clock + Abort>(rt: &R, alloc: Global, ledgers: Ledgers)
+fn submit_all<E: Named, T: Ledger, R: Wait + Clock + Abort>(rt: &R, alloc: Global, ledgers: Ledgers)
     requires entries { (ledgers.entries.name ≡ E.name) × (E.parts ≡ 64) }
     requires replies { (ledgers.replies.name ≡ T.name) × (T.parts ≡ 64) }
     requires history { ledgers.history.seen.book ≡ E.book }
 {
-    let desk: Desk<MemoryDisk, E, T> = Desk::new(of_the_first_layout(rt, alloc), ledgers);
+    let desk: Desk<MemoryDisk, E, T> = Desk::new(store_of_the_first_layout(rt, alloc), ledgers);
     let mut seat = seat_of(rt, &desk, 0);
     for row in SUBMITTED {
         submit(rt, alloc, &desk, &mut seat, row);
@@ -56,6 +56,6 @@ fn submits<E: Named, T: Ledger, R: Wait + Clock + Abort>(rt: &R, alloc: Global, 
 }
 
 #[test]
-fn rerun_at_a_store_of_the_first_layout_is_refused(rt: HostRuntime) {
-    submits::<Brand, Brand, HostRuntime>(&rt, rt.alloc(), Ledgers::new());
+fn a_rerun_is_refused_over_the_first_layout(rt: HostRuntime) {
+    submit_all::<Brand, Brand, HostRuntime>(&rt, rt.alloc(), Ledgers::new());
 }

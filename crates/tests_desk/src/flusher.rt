@@ -3,7 +3,7 @@ ghost use Rattle.std.specs.Prelude.{◌≡◌, []};
 
 use crate::holds::holds;
 use crate::lines::{Session, session, settled};
-use crate::stores::{command, expect_answer, made_in_memory};
+use crate::stores::{command, expect_answer, store_in_memory};
 use act_desk::{Desk, Free, Ledgers, Named, Pending, Seat, Settled, flusher, serve_all};
 use act_disk::MemoryDisk;
 use act_sessions::{Ending, Transcript};
@@ -17,12 +17,12 @@ use std::thread::Threads;
 use std::time::Clock;
 use tests_common::commands::Words;
 
-/// The gate of an area that is open, and where the second one's is in areas of 4,096 bytes.
+/// The byte of an open area gate, and the offset of the second area's gate with areas of 4,096 bytes.
 const OPEN: u8 = 0xA5;
 
 const SECOND: usize = 4_096;
 
-/// What a session asks of a run that is not there, as a line, and what it is answered.
+/// A line that fetches a run that does not exist, and the answer to it.
 const FETCH: &str = "FETCH 9\n";
 
 const REFUSED: &str = "refused 40\n";
@@ -37,7 +37,7 @@ fn enter<E: Named, T: Ledger>(
     desk.enter(rt, alloc, seat, look).expect(rt, "entered")
 }
 
-/// Enters a look-up of a run that is not there, and covers it.
+/// Enters a look-up of a run that does not exist, and covers it.
 fn look<E: Named, T: Ledger>(
     rt: &(impl Wait + Clock + Abort),
     alloc: Global,
@@ -49,8 +49,8 @@ fn look<E: Named, T: Ledger>(
     expect_answer(rt, alloc, &answer, "refused 40");
 }
 
-/// A seat that makes so many look-ups.
-fn looked<E: Named, T: Ledger>(
+/// A seat that makes `count` look-ups.
+fn seat_after_looks<E: Named, T: Ledger>(
     rt: &(impl Wait + Clock + Abort),
     alloc: Global,
     desk: &Desk<MemoryDisk, E, T>,
@@ -63,8 +63,8 @@ fn looked<E: Named, T: Ledger>(
     seat
 }
 
-/// How many checkpoints a flusher finishes that is told to stop from the start.
-fn flushed<E: Named, T: Ledger>(
+/// How many checkpoints a flusher finishes if its stop is requested from the start.
+fn checkpoints_made<E: Named, T: Ledger>(
     rt: &(impl Wait + Clock + Abort),
     alloc: Global,
     desk: &Desk<MemoryDisk, E, T>,
@@ -72,7 +72,7 @@ fn flushed<E: Named, T: Ledger>(
     flusher(rt, alloc, desk, &Mutex::new(true)).expect(rt, "no fault")
 }
 
-/// That the gate of the second area is open, or that it is not.
+/// Checks whether the gate of the second area is open.
 fn expect_second(rt: &impl Abort, store: Store<MemoryDisk>, open: bool) {
     let disk = store.into_disk();
     let bytes = disk.bytes();
@@ -80,8 +80,8 @@ fn expect_second(rt: &impl Abort, store: Store<MemoryDisk>, open: bool) {
     holds!(rt; (bytes[SECOND] == OPEN) == open);
 }
 
-/// A full area: a flusher that may begin one checkpoint finishes it, and the next one finds room.
-fn stops_at_once<E: Named, T: Ledger, R: Wait + Clock + Abort>(
+/// A full area: a flusher that may begin one checkpoint finishes it, and the next flusher finds space.
+fn finish_one_checkpoint<E: Named, T: Ledger, R: Wait + Clock + Abort>(
     rt: &R,
     alloc: Global,
     ledgers: Ledgers,
@@ -90,10 +90,10 @@ fn stops_at_once<E: Named, T: Ledger, R: Wait + Clock + Abort>(
     requires replies { (ledgers.replies.name ≡ T.name) × (T.parts ≡ 64) }
     requires history { ledgers.history.seen.book ≡ E.book }
 {
-    let desk: Desk<MemoryDisk, E, T> = Desk::new(made_in_memory(rt, alloc), ledgers);
-    let seat = looked(rt, alloc, &desk, 282);
-    holds!(rt; flushed(rt, alloc, &desk) == 1);
-    holds!(rt; flushed(rt, alloc, &desk) == 0);
+    let desk: Desk<MemoryDisk, E, T> = Desk::new(store_in_memory(rt, alloc), ledgers);
+    let seat = seat_after_looks(rt, alloc, &desk, 282);
+    holds!(rt; checkpoints_made(rt, alloc, &desk) == 1);
+    holds!(rt; checkpoints_made(rt, alloc, &desk) == 0);
     holds!(rt; desk.give_back(seat) == (282, 282));
     let store = desk.into_store();
     holds!(rt; store.entries() == 282 && store.covered() == 282);
@@ -102,11 +102,12 @@ fn stops_at_once<E: Named, T: Ledger, R: Wait + Clock + Abort>(
 
 #[test]
 fn a_flusher_finishes_one_checkpoint_of_a_full_area(rt: HostRuntime) {
-    stops_at_once::<Brand, Brand, HostRuntime>(&rt, rt.alloc(), Ledgers::new());
+    finish_one_checkpoint::<Brand, Brand, HostRuntime>(&rt, rt.alloc(), Ledgers::new());
 }
 
-/// More than half of the area is left: no checkpoint is begun. 144 look-ups leave 2,044 bytes of 4,096 for the next record, 143 leave 2,058.
-fn begins_at_half<E: Named, T: Ledger, R: Wait + Clock + Abort>(
+/// No checkpoint is begun while more than half of the area is left. 144 look-ups leave 2,044 bytes of 4,096 for the next record, 143 leave
+/// 2,058.
+fn start_at_half<E: Named, T: Ledger, R: Wait + Clock + Abort>(
     rt: &R,
     alloc: Global,
     ledgers: Ledgers,
@@ -115,22 +116,22 @@ fn begins_at_half<E: Named, T: Ledger, R: Wait + Clock + Abort>(
     requires replies { (ledgers.replies.name ≡ T.name) × (T.parts ≡ 64) }
     requires history { ledgers.history.seen.book ≡ E.book }
 {
-    let desk: Desk<MemoryDisk, E, T> = Desk::new(made_in_memory(rt, alloc), ledgers);
-    let mut seat = looked(rt, alloc, &desk, 143);
-    holds!(rt; flushed(rt, alloc, &desk) == 0);
+    let desk: Desk<MemoryDisk, E, T> = Desk::new(store_in_memory(rt, alloc), ledgers);
+    let mut seat = seat_after_looks(rt, alloc, &desk, 143);
+    holds!(rt; checkpoints_made(rt, alloc, &desk) == 0);
     look(rt, alloc, &desk, &mut seat);
-    holds!(rt; flushed(rt, alloc, &desk) == 1);
+    holds!(rt; checkpoints_made(rt, alloc, &desk) == 1);
     holds!(rt; desk.give_back(seat) == (144, 144));
     let _store = desk.into_store();
 }
 
 #[test]
-fn a_flusher_begins_at_half_of_the_area(rt: HostRuntime) {
-    begins_at_half::<Brand, Brand, HostRuntime>(&rt, rt.alloc(), Ledgers::new());
+fn a_flusher_starts_once_half_of_the_area_is_used(rt: HostRuntime) {
+    start_at_half::<Brand, Brand, HostRuntime>(&rt, rt.alloc(), Ledgers::new());
 }
 
-/// A checkpoint covers an entry that waits for its reply, which is then given without a call of the disk.
-fn covers_what_waits<E: Named, T: Ledger, R: Wait + Clock + Abort>(
+/// A checkpoint covers an entry whose reply is withheld. The reply is then released without a disk call.
+fn cover_pending<E: Named, T: Ledger, R: Wait + Clock + Abort>(
     rt: &R,
     alloc: Global,
     ledgers: Ledgers,
@@ -139,10 +140,10 @@ fn covers_what_waits<E: Named, T: Ledger, R: Wait + Clock + Abort>(
     requires replies { (ledgers.replies.name ≡ T.name) × (T.parts ≡ 64) }
     requires history { ledgers.history.seen.book ≡ E.book }
 {
-    let desk: Desk<MemoryDisk, E, T> = Desk::new(made_in_memory(rt, alloc), ledgers);
-    let mut seat = looked(rt, alloc, &desk, 150);
+    let desk: Desk<MemoryDisk, E, T> = Desk::new(store_in_memory(rt, alloc), ledgers);
+    let mut seat = seat_after_looks(rt, alloc, &desk, 150);
     let pending = enter(rt, alloc, &desk, &mut seat);
-    holds!(rt; flushed(rt, alloc, &desk) == 1);
+    holds!(rt; checkpoints_made(rt, alloc, &desk) == 1);
     let answer = desk.cover(rt, &mut seat, pending);
     expect_answer(rt, alloc, &answer, "refused 40");
     holds!(rt; desk.give_back(seat) == (151, 151));
@@ -151,19 +152,19 @@ fn covers_what_waits<E: Named, T: Ledger, R: Wait + Clock + Abort>(
     store.into_disk()
 }
 
-/// The calls of the making, of 150 commits of four calls each, and of the checkpoint: its slice, its last record with a sync, its gate, and a
-/// sync. The other gate was closed.
+/// The disk calls are those of the creation, of 150 commits with four calls each, and of the checkpoint: its slice, its last record with a
+/// sync, its gate, and a sync. The other gate was closed already.
 #[test]
-fn a_flusher_covers_what_waits(rt: HostRuntime) {
+fn a_checkpoint_covers_pending_entries(rt: HostRuntime) {
     let alloc = rt.alloc();
-    let made = made_in_memory(&rt, alloc).into_disk().calls().len();
-    let disk = covers_what_waits::<Brand, Brand, HostRuntime>(&rt, alloc, Ledgers::new());
+    let init_calls = store_in_memory(&rt, alloc).into_disk().calls().len();
+    let disk = cover_pending::<Brand, Brand, HostRuntime>(&rt, alloc, Ledgers::new());
     let calls = disk.calls().len();
-    holds!(rt; made <= calls);
-    holds!(rt; calls - made == 150 * 4 + 1 + 4);
+    holds!(rt; init_calls <= calls);
+    holds!(rt; calls - init_calls == 150 * 4 + 1 + 4);
 }
 
-/// So many lines that ask for a run which is not there.
+/// `count` lines that fetch a run that does not exist.
 fn fetches(rt: &impl Abort, alloc: Global, count: u64) -> Vec<u8> {
     let mut bytes = Vec::new(alloc);
     for _ in 0..count {
@@ -174,7 +175,7 @@ fn fetches(rt: &impl Abort, alloc: Global, count: u64) -> Vec<u8> {
     bytes
 }
 
-/// So many sessions, each of these lines.
+/// `count` sessions, each with these lines.
 fn sessions<'a>(rt: &impl Abort, alloc: Global, count: u64, lines: &'a [u8]) -> Vec<Session<'a>> {
     let mut works = Vec::new(alloc);
     for _ in 0..count {
@@ -183,7 +184,7 @@ fn sessions<'a>(rt: &impl Abort, alloc: Global, count: u64, lines: &'a [u8]) -> 
     works
 }
 
-/// That a session has ended, with so many answers, each that there is no such run.
+/// Checks that a session has ended with `count` answers, each of them that there is no such run.
 fn expect_refused(rt: &impl Abort, alloc: Global, transcript: &Transcript, count: u64) {
     holds!(rt; transcript.ending == Ending::Done);
     holds!(rt; transcript.asked.len() as u64 == count);
@@ -193,7 +194,7 @@ fn expect_refused(rt: &impl Abort, alloc: Global, transcript: &Transcript, count
     }
 }
 
-/// That each of so many sessions, of so many lines each, is answered whole. It gives the settled store.
+/// Checks that `count` sessions with `lines` lines each are answered completely. Returns the settled store.
 fn serve<R: Threads + Wait + Clock + Abort + Sync>(
     rt: &R,
     alloc: Global,
@@ -214,26 +215,26 @@ fn serve<R: Threads + Wait + Clock + Abort + Sync>(
     store
 }
 
-/// A service begins a checkpoint beside its sessions, and finishes it before it settles.
+/// A service begins a checkpoint beside its sessions, and finishes it before it returns.
 #[test]
-fn a_service_has_a_flusher(rt: HostRuntime) {
+fn a_service_makes_checkpoints(rt: HostRuntime) {
     let alloc = rt.alloc();
-    let store = serve(&rt, alloc, made_in_memory(&rt, alloc), 1, 200);
+    let store = serve(&rt, alloc, store_in_memory(&rt, alloc), 1, 200);
     holds!(rt; store.entries() == 200 && store.covered() == 200);
     expect_second(&rt, store, true);
 }
 
-/// Sessions and a flusher at one desk: all are answered, whoever covers what.
+/// Sessions and a flusher at one desk: all commands are answered, whether a commit or a checkpoint covers them.
 #[test]
-fn sessions_share_a_desk_with_a_flusher(rt: HostRuntime) {
+fn sessions_are_answered_beside_a_flusher(rt: HostRuntime) {
     let alloc = rt.alloc();
-    let store = serve(&rt, alloc, made_in_memory(&rt, alloc), 8, 34);
+    let store = serve(&rt, alloc, store_in_memory(&rt, alloc), 8, 34);
     holds!(rt; store.entries() == 272 && store.covered() == 272);
     let _disk = store.into_disk();
 }
 
-/// A settled store whose history begins anew.
-fn turned_over(rt: &impl Abort, store: Store<MemoryDisk>) -> Store<MemoryDisk>
+/// The store with a new history.
+fn after_turn_over(rt: &impl Abort, store: Store<MemoryDisk>) -> Store<MemoryDisk>
     ensures { result.history ≡ [] }
 {
     let mut store = store;
@@ -243,14 +244,14 @@ fn turned_over(rt: &impl Abort, store: Store<MemoryDisk>) -> Store<MemoryDisk>
     }
 }
 
-/// A settled store turns over: its history is empty, and it is served again. The area goes on: the entries of both services reach its half once, in
-/// the second one, and never its end, so one checkpoint is made, whatever the flusher gets.
+/// The store turns over: its history is empty, and it is served again. The area continues: the entries of both services reach its half
+/// once, during the second service, and never its end. So one checkpoint is made, whatever the flusher's timing.
 #[test]
-fn a_settled_store_is_served_again(rt: HostRuntime) {
+fn a_store_is_served_again_after_a_turn_over(rt: HostRuntime) {
     let alloc = rt.alloc();
-    let store = serve(&rt, alloc, made_in_memory(&rt, alloc), 2, 70);
+    let store = serve(&rt, alloc, store_in_memory(&rt, alloc), 2, 70);
     holds!(rt; store.entries() == 140);
-    let store = turned_over(&rt, store);
+    let store = after_turn_over(&rt, store);
     holds!(rt; store.entries() == 0 && store.covered() == 0);
     let store = serve(&rt, alloc, store, 2, 70);
     holds!(rt; store.entries() == 140 && store.covered() == 140);

@@ -1,16 +1,16 @@
-//! Gates that hold sessions until others have come.
+//! Gates that hold sessions until others have arrived.
 
 use act_desk::Gate;
 use std::sync::atomic::{AtomicU64, Ordering};
 use std::thread;
 use std::time::{Clock, Duration};
 
-/// How often a session that waits looks, a millisecond apart.
-const MOST_TURNS: u64 = 20_000;
+/// How often a waiting session checks, a millisecond apart.
+const MAX_CHECKS: u64 = 20_000;
 
-/// Waits until a count has come to a number, and says whether it has.
-fn waits<R: Clock>(rt: &R, count: &AtomicU64, least: u64) -> bool {
-    for _ in 0..MOST_TURNS {
+/// Waits until a counter reaches a number, and returns whether it did.
+fn reaches<R: Clock>(rt: &R, count: &AtomicU64, least: u64) -> bool {
+    for _ in 0..MAX_CHECKS {
         if count.load(Ordering::SeqCst) >= least {
             return true;
         }
@@ -19,39 +19,39 @@ fn waits<R: Clock>(rt: &R, count: &AtomicU64, least: u64) -> bool {
     false
 }
 
-/// Holds the first call of each session until all sessions have come, and that of session 0 until session 1 was answered too, where that is
-/// wanted.
+/// Holds the first call of each session until all sessions have arrived. With `second_first` it also holds that of session 0 until session 1
+/// was answered.
 #[derive(Drop)]
 pub struct Meeting<'a, R: Clock> {
     rt: &'a R,
     sessions: u64,
-    in_turn: bool,
-    come: AtomicU64,
+    second_first: bool,
+    arrived: AtomicU64,
     answered: AtomicU64,
-    /// How many have waited in vain.
-    late: AtomicU64,
+    /// How many waits timed out.
+    timeouts: AtomicU64,
 }
 
 impl<'a, R: Clock> Meeting<'a, R> {
-    pub fn new(rt: &'a R, sessions: u64, in_turn: bool) -> Self {
+    pub fn new(rt: &'a R, sessions: u64, second_first: bool) -> Self {
         Meeting {
             rt,
             sessions,
-            in_turn,
-            come: AtomicU64::new(0),
+            second_first,
+            arrived: AtomicU64::new(0),
             answered: AtomicU64::new(0),
-            late: AtomicU64::new(0),
+            timeouts: AtomicU64::new(0),
         }
     }
 
-    /// Whether nobody waited in vain.
-    pub fn was_held(&self) -> bool {
-        self.late.load(Ordering::SeqCst) == 0
+    /// Whether no wait timed out.
+    pub fn is_in_time(&self) -> bool {
+        self.timeouts.load(Ordering::SeqCst) == 0
     }
 
     fn expect(&self, count: &AtomicU64, least: u64) {
-        if !waits(self.rt, count, least) {
-            self.late.fetch_add(1, Ordering::SeqCst);
+        if !reaches(self.rt, count, least) {
+            self.timeouts.fetch_add(1, Ordering::SeqCst);
         }
     }
 }
@@ -61,9 +61,9 @@ impl<'a, R: Clock> Gate for Meeting<'a, R> {
         if call > 0 {
             return;
         }
-        self.come.fetch_add(1, Ordering::SeqCst);
-        self.expect(&self.come, self.sessions);
-        if self.in_turn && session == 0 {
+        self.arrived.fetch_add(1, Ordering::SeqCst);
+        self.expect(&self.arrived, self.sessions);
+        if self.second_first && session == 0 {
             self.expect(&self.answered, 1);
         }
     }

@@ -1,4 +1,4 @@
-//! Tests of the desk: seats that share a store, and sessions in threads. Nothing stands on this crate.
+//! Tests of the desk: seats that share a store, and sessions in threads. No other crate depends on this one.
 #![tactic(auto)]
 
 #[cfg(test)]

@@ -16,7 +16,7 @@ pub fn session(alloc: Global, lines: &[u8]) -> Session<'_> {
     }
 }
 
-/// What sessions that settled leave.
+/// The store and transcripts of sessions that were served without a fault.
 pub fn settled<'a, D: Disk>(
     rt: &impl Abort,
     served: Result<Settled<D>, Fault<D, Session<'a>>>,

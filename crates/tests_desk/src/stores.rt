@@ -1,4 +1,4 @@
-//! Stores of the tests, and what they are asked.
+//! Stores of the tests, and the commands submitted to them.
 ghost use Rattle.std.specs.Prelude.{◌≡◌, []};
 
 use crate::holds::{expect_text, holds};
@@ -10,19 +10,19 @@ use std::process::Abort;
 use tests_common::commands::{Words, command_of};
 use wf_value::Refusal;
 
-/// The body of an event of one job, `build`.
+/// The body of an event with one job, `build`.
 pub const BUILD: &str =
     "{\"repo\":\"o/r\",\"path\":\"ci.json\",\"workflow\":{\"jobs\":{\"build\":{\"runs-on\":\"linux\"}}}}";
 
-/// A new store on a disk, in areas of 4,096 bytes.
-pub fn made<D: Disk>(rt: &impl Abort, alloc: Global, disk: D) -> Store<D>
+/// A new store on a disk, with areas of 4,096 bytes.
+pub fn new_store<D: Disk>(rt: &impl Abort, alloc: Global, disk: D) -> Store<D>
     ensures { result.history ≡ [] }
 {
-    made_of(rt, alloc, disk, 4_096)
+    new_store_of(rt, alloc, disk, 4_096)
 }
 
-/// A new store on a disk, in areas of so many bytes.
-pub fn made_of<D: Disk>(rt: &impl Abort, alloc: Global, disk: D, area: u64) -> Store<D>
+/// A new store on a disk, with areas of `area` bytes.
+pub fn new_store_of<D: Disk>(rt: &impl Abort, alloc: Global, disk: D, area: u64) -> Store<D>
     ensures { result.history ≡ [] }
 {
     holds!(rt; disk.faults() < u64::MAX);
@@ -34,17 +34,17 @@ pub fn made_of<D: Disk>(rt: &impl Abort, alloc: Global, disk: D, area: u64) -> S
 }
 
 /// A new store in memory.
-pub fn made_in_memory(rt: &impl Abort, alloc: Global) -> Store<MemoryDisk>
+pub fn store_in_memory(rt: &impl Abort, alloc: Global) -> Store<MemoryDisk>
     ensures { result.history ≡ [] }
 {
-    made(rt, alloc, MemoryDisk::new(alloc))
+    new_store(rt, alloc, MemoryDisk::new(alloc))
 }
 
 pub fn command(rt: &impl Abort, alloc: Global, words: &Words<'_>) -> Command {
     command_of(alloc, words).expect(rt, "a command")
 }
 
-/// That an answer prints so.
+/// Checks how an answer prints.
 pub fn expect_answer(rt: &impl Abort, alloc: Global, answer: &Result<Reply, Refusal>, want: &str) {
     let text = match answer {
         Ok(reply) => reply.text(alloc),
@@ -53,16 +53,16 @@ pub fn expect_answer(rt: &impl Abort, alloc: Global, answer: &Result<Reply, Refu
     expect_text(rt, text.expect(rt, "memory").as_str(), want);
 }
 
-/// That the entry at a place is of a seat, with a reply that prints so.
+/// Checks that the entry at a position belongs to a seat, and how its reply prints.
 pub fn expect_entry<D: Disk>(
     rt: &impl Abort,
     alloc: Global,
     store: &Store<D>,
-    place: u64,
+    index: u64,
     (seat, want): (u64, &str),
 ) {
-    let entry = store.entry(place).expect(rt, "an entry");
-    holds!(rt; entry.seat == seat, place);
+    let entry = store.entry(index).expect(rt, "an entry");
+    holds!(rt; entry.seat == seat, index);
     let text = entry.reply.text(alloc).expect(rt, "memory");
     expect_text(rt, text.as_str(), want);
 }

@@ -1,6 +1,6 @@
-//! A disk in memory: the images of a stop inside each call, worked out by hand, and a growth that is refused.
+//! An in-memory disk: the images of a crash inside each call, worked out by hand, and an extension that runs out of memory.
 
-use crate::asks::{Ask, Row, play};
+use crate::disk_calls::{DiskCall, Row, play};
 use crate::holds::{expect_bytes, holds};
 use act_disk::{Fill, MemoryDisk};
 use std::alloc::Global;
@@ -10,20 +10,20 @@ const FIRST: &[u8] = &[1, 2, 3, 4, 5, 6];
 
 const SYNCED: &[u8] = &[1, 11, 12, 13, 5, 21, 22];
 
-/// Two writes, the second past the end, a sync, two writes, the second behind a hole, and a sync.
+/// Two writes, the second past the end, a sync, two writes, the second after a hole, and a sync.
 const WRITTEN: &[Row] = &[
-    (Ask::Write(1, &[11, 12, 13]), true, 0, 6),
-    (Ask::Write(5, &[21, 22]), true, 0, 7),
-    (Ask::Sync, true, 0, 7),
-    (Ask::Write(0, &[31]), true, 0, 7),
-    (Ask::Write(8, &[41, 42, 43]), true, 0, 11),
-    (Ask::Sync, true, 0, 11),
+    (DiskCall::Write(1, &[11, 12, 13]), true, 0, 6),
+    (DiskCall::Write(5, &[21, 22]), true, 0, 7),
+    (DiskCall::Sync, true, 0, 7),
+    (DiskCall::Write(0, &[31]), true, 0, 7),
+    (DiskCall::Write(8, &[41, 42, 43]), true, 0, 11),
+    (DiskCall::Sync, true, 0, 11),
 ];
 
-/// A call of a disk, a fill, and the image of a stop inside the call.
+/// A disk call, a fill, and the image of a crash inside the call.
 type ImageRow = (u64, Fill, &'static [u8]);
 
-/// The images of `WRITTEN` by hand.
+/// The images of `WRITTEN`, worked out by hand.
 const IMAGES: &[ImageRow] = &[
     (0, Fill::Old, FIRST),
     (0, Fill::New, &[1, 11, 12, 13, 5, 6]),
@@ -68,7 +68,7 @@ fn expect_image(rt: &impl Abort, alloc: Global, disk: &MemoryDisk, row: &ImageRo
 }
 
 #[test]
-fn images_are_those_by_hand(rt: HostRuntime) {
+fn crash_images_are_those_worked_out_by_hand(rt: HostRuntime) {
     let mut disk = MemoryDisk::from_slice(rt.alloc(), FIRST).expect(&rt, "a disk");
     play(&rt, &mut disk, WRITTEN);
     for row in IMAGES {
@@ -76,17 +76,17 @@ fn images_are_those_by_hand(rt: HostRuntime) {
     }
 }
 
-/// Writes that no memory holds, and one that it holds.
+/// Writes that do not fit in memory, and one that does.
 const GROWN: &[Row] = &[
-    (Ask::Write(u64::MAX, b"yz"), false, 1, 4),
-    (Ask::Write(1 << 62, b"z"), false, 2, 4),
-    (Ask::Read(0, b"abcd"), true, 2, 4),
-    (Ask::Write(3, b"z"), true, 2, 4),
-    (Ask::Read(0, b"abcz"), true, 2, 4),
+    (DiskCall::Write(u64::MAX, b"yz"), false, 1, 4),
+    (DiskCall::Write(1 << 62, b"z"), false, 2, 4),
+    (DiskCall::Read(0, b"abcd"), true, 2, 4),
+    (DiskCall::Write(3, b"z"), true, 2, 4),
+    (DiskCall::Read(0, b"abcz"), true, 2, 4),
 ];
 
 #[test]
-fn a_growth_that_is_refused_fails(rt: HostRuntime) {
+fn a_write_fails_if_memory_runs_out(rt: HostRuntime) {
     let mut disk = MemoryDisk::from_slice(rt.alloc(), b"abcd").expect(&rt, "a disk");
     play(&rt, &mut disk, GROWN);
     holds!(rt; disk.calls().len() == 1);

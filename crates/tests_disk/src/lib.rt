@@ -1,11 +1,11 @@
-//! Tests of the disks and of the journal on them: images of a stop and areas that are worked out by hand, files of the system, and calls that
-//! fail. Nothing stands on this crate.
+//! Tests of the disks and of the journal on them: images of a crash and areas worked out by hand, system files, and failing calls. No
+//! other crate depends on this one.
 #![tactic(auto)]
 
 #[cfg(test)]
 mod areas;
 #[cfg(test)]
-mod asks;
+mod disk_calls;
 #[cfg(test)]
 mod holds;
 #[cfg(test)]

@@ -1,6 +1,6 @@
-//! Disks over files of the system.
+//! Disks over system files.
 
-use crate::asks::{Ask, Row, play};
+use crate::disk_calls::{DiskCall, Row, play};
 use crate::holds::{expect_bytes, holds};
 use act_disk::{Disk, Empty, FileDisk, HostFile};
 use std::alloc::Global;
@@ -9,15 +9,15 @@ use std::fs::Files;
 use std::process::Abort;
 use wf_value::{Code, Refusal};
 
-/// A disk over a file of the system.
+/// A disk over a system file.
 type RealDisk = FileDisk<HostFile<Empty>>;
 
-/// 61, for a disk that can't be opened.
+/// Checks that opening a disk was refused with 61.
 fn expect_61(rt: &impl Abort, opened: Result<RealDisk, Refusal>) {
     holds!(rt; matches!(opened, Err(Refusal::Numbered(Code::StreamFailed))));
 }
 
-/// Makes the calls of a disk that was opened, with this length.
+/// Makes the calls on an opened disk of this length.
 fn play_opened(rt: &impl Abort, opened: Result<RealDisk, Refusal>, len: u64, rows: &[Row]) {
     let mut disk = opened.expect(rt, "a disk");
     holds!(rt; disk.len() == len);
@@ -25,7 +25,7 @@ fn play_opened(rt: &impl Abort, opened: Result<RealDisk, Refusal>, len: u64, row
     play(rt, &mut disk, rows);
 }
 
-/// A folder of this name with nothing in it.
+/// Creates an empty folder with this name.
 fn make_folder<R: Abort + Alloc + Files>(rt: &R, folder: &str) {
     let _ = fs::remove_dir_all(rt, folder);
     fs::create_dir(rt, folder).expect(rt, "a folder");
@@ -45,23 +45,23 @@ const FOLDER: &str = "act_disk_test";
 const PATH: &str = "act_disk_test/disk";
 
 const CREATED: &[Row] = &[
-    (Ask::Write(0, b"abcdef"), true, 0, 6),
-    (Ask::Sync, true, 0, 6),
-    (Ask::Write(2, b"XY"), true, 0, 6),
-    (Ask::Sync, true, 0, 6),
-    (Ask::Write(8, b"z"), true, 0, 9),
-    (Ask::Sync, true, 0, 9),
+    (DiskCall::Write(0, b"abcdef"), true, 0, 6),
+    (DiskCall::Sync, true, 0, 6),
+    (DiskCall::Write(2, b"XY"), true, 0, 6),
+    (DiskCall::Sync, true, 0, 6),
+    (DiskCall::Write(8, b"z"), true, 0, 9),
+    (DiskCall::Sync, true, 0, 9),
 ];
 
 const CREATED_AGAIN: &[Row] = &[
-    (Ask::Read(1, b"bXYe"), true, 0, 9),
-    (Ask::Write(11, b""), true, 0, 11),
+    (DiskCall::Read(1, b"bXYe"), true, 0, 9),
+    (DiskCall::Write(11, b""), true, 0, 11),
 ];
 
-const OPENED: &[Row] = &[(Ask::Read(7, b"\0z\0\0"), true, 0, 11)];
+const OPENED: &[Row] = &[(DiskCall::Read(7, b"\0z\0\0"), true, 0, 11)];
 
 #[test]
-fn file_keeps_what_was_written(rt: HostRuntime) {
+fn a_file_keeps_what_was_written(rt: HostRuntime) {
     make_folder(&rt, FOLDER);
     expect_61(&rt, RealDisk::open(&rt, PATH));
     play_opened(&rt, RealDisk::create(&rt, PATH), 0, CREATED);
@@ -75,37 +75,37 @@ const FAULT_FOLDER: &str = "act_disk_fault_test";
 
 const FAULT_PATH: &str = "act_disk_fault_test/disk";
 
-/// No file is so long as the second write would make it.
+/// No file can be as long as the second write would make it.
 const WRITTEN_TOO_FAR: &[Row] = &[
-    (Ask::Write(0, b"abcd"), true, 0, 4),
-    (Ask::Write((1 << 63) - 1, b"yz"), false, 1, 4),
-    (Ask::Write(0, b"x"), false, 2, 4),
-    (Ask::Read(0, b"abcd"), false, 3, 4),
+    (DiskCall::Write(0, b"abcd"), true, 0, 4),
+    (DiskCall::Write((1 << 63) - 1, b"yz"), false, 1, 4),
+    (DiskCall::Write(0, b"x"), false, 2, 4),
+    (DiskCall::Read(0, b"abcd"), false, 3, 4),
 ];
 
-/// Another program has cut the file: a read fails, and no more than that.
-const CUT: &[Row] = &[
-    (Ask::Read(0, b"abcd"), false, 1, 4),
-    (Ask::Write(0, b"wxyz"), true, 1, 4),
-    (Ask::Read(0, b"wxyz"), true, 1, 4),
+/// Another program has truncated the file: one read fails, and nothing else.
+const TRUNCATED: &[Row] = &[
+    (DiskCall::Read(0, b"abcd"), false, 1, 4),
+    (DiskCall::Write(0, b"wxyz"), true, 1, 4),
+    (DiskCall::Read(0, b"wxyz"), true, 1, 4),
 ];
 
 #[test]
-fn file_fails_from_a_failed_write_on(rt: HostRuntime) {
+fn a_file_refuses_all_calls_after_a_failed_write(rt: HostRuntime) {
     make_folder(&rt, FAULT_FOLDER);
     play_opened(&rt, RealDisk::create(&rt, FAULT_PATH), 0, WRITTEN_TOO_FAR);
     expect_file(&rt, FAULT_PATH, b"abcd");
     let opened = RealDisk::open(&rt, FAULT_PATH);
     fs::write(&rt, FAULT_PATH, b"ab".as_slice()).expect(&rt, "a file");
-    play_opened(&rt, opened, 4, CUT);
+    play_opened(&rt, opened, 4, TRUNCATED);
     remove_folder(&rt, FAULT_FOLDER);
 }
 
-/// A folder, a path below a file, and a file that nobody may write.
+/// A folder, a path below a file, and a file that cannot be written.
 const NO_FILES: &[&str] = &["/tmp", "/dev/null/disk", "/proc/sys/kernel/osrelease"];
 
 #[test]
-fn file_that_cannot_be_opened_is_61(rt: HostRuntime) {
+fn a_file_that_cannot_be_opened_is_refused_with_61(rt: HostRuntime) {
     for path in NO_FILES {
         expect_61(&rt, RealDisk::open(&rt, path));
         expect_61(&rt, RealDisk::create(&rt, path));

@@ -1,4 +1,4 @@
-//! Disks can be handed to another thread, and stand behind a lock that threads share.
+//! Disks can be moved to another thread, and shared by threads behind a lock.
 
 use act_disk::{Disk, Empty, FileDisk, FuseDisk, HostFile, MemoryDisk, ScriptedFile};
 use std::sync::Mutex;
@@ -11,7 +11,7 @@ fn share<D: Disk + Send + Drop>(disk: D) {
     shared(&Mutex::new(disk));
 }
 
-/// A disk that there is none of. Its type is what is asked for.
+/// Checks only the type of the disk: there may be no disk.
 fn is_shared<D: Disk + Send + Drop, E: Drop>(opened: Result<D, E>) -> bool {
     match opened {
         Ok(disk) => {
@@ -23,7 +23,7 @@ fn is_shared<D: Disk + Send + Drop, E: Drop>(opened: Result<D, E>) -> bool {
 }
 
 #[test]
-fn disks_can_be_sent(rt: HostRuntime) {
+fn disks_can_move_between_threads(rt: HostRuntime) {
     let alloc = rt.alloc();
     share(MemoryDisk::new(alloc));
     share(FuseDisk::once(MemoryDisk::new(alloc), 0));

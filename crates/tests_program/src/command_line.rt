@@ -1,26 +1,26 @@
 //! The command line, over a process of the tests.
 
-use crate::first::{FIRST, FIRST_ANSWERS, MATRIX, MATRIX_LINES};
+use crate::first_script::{FIRST, FIRST_ANSWERS, MATRIX, MATRIX_LINES};
 use crate::holds::holds;
 use crate::process::{Page, Process};
 use acts_cli::run;
-use acts_ops::MOST_BYTES;
+use acts_ops::MAX_BYTES;
 use std::alloc::Global;
 use std::net::{Net, TcpListener, TcpStream};
 use std::process::{Abort, ExitCode};
 use std::sync::Wait;
 use std::thread::Threads;
 use std::time::Clock;
-use tests_common::given::spelled;
+use tests_common::long_texts::repeated;
 
-/// The status, and what is printed on standard output and on standard error, where `None` stands for any
-/// text but the empty one.
-type Ended<'a> = (u8, Option<&'a str>, Option<&'a str>);
+/// The exit status, and what is printed on standard output and on standard error. `None` is any text except the empty
+/// one.
+type Exit<'a> = (u8, Option<&'a str>, Option<&'a str>);
 
-/// Runs `acts` with these words and this input, with room for so many bytes on standard output.
+/// Runs `acts` with these words and this input. Standard output has room for `room` bytes.
 fn expect<
     S: Abort + Threads + Wait + Clock + Sync + Net<Listener = TcpListener, Stream = TcpStream>,
->(rt: &S, alloc: Global, words: &[&str], input: &str, room: usize, ended: Ended<'_>) {
+>(rt: &S, alloc: Global, words: &[&str], input: &str, room: usize, exit: Exit<'_>) {
     let process = Process {
         alloc,
         words,
@@ -28,15 +28,15 @@ fn expect<
         out: Page::new(alloc, room),
         err: Page::new(alloc, 10_000),
     };
-    let (status, out, err) = ended;
+    let (status, out, err) = exit;
     holds!(rt; run(&process, rt) == ExitCode::from(status), status);
     let Process {
         out: printed,
-        err: told,
+        err: errors,
         ..
     } = process;
     holds!(rt; is_as_wanted(printed, out), status);
-    holds!(rt; is_as_wanted(told, err), status);
+    holds!(rt; is_as_wanted(errors, err), status);
 }
 
 fn is_as_wanted(page: Page, want: Option<&str>) -> bool {
@@ -58,12 +58,12 @@ const LINT: &[&str] = &["acts", "lint"];
 /// A workflow with a fault in its name and one in its job.
 const FAULTY: &str = "{\"name\":5,\"jobs\":{\"build\":{\"runs-on\":[\"x\",5]}}}";
 
-const ITS_FAULTS: &str = concat!(
+const FAULTS_FOUND: &str = concat!(
     "11 name: of the wrong kind, or missing\n",
     "11 jobs.build.runs-on[1]: of the wrong kind, or missing\n",
 );
 
-/// The most that each number may be.
+/// The largest hook port and number of sessions, and the smallest runner port.
 const SERVE: &[&str] = &[
     "acts",
     "serve",
@@ -76,7 +76,7 @@ const SERVE: &[&str] = &[
     "32",
 ];
 
-/// The same for the last round.
+/// The largest number of rounds.
 const ROUNDS: &[&str] = &[
     "acts",
     "serve",
@@ -91,19 +91,19 @@ const ROUNDS: &[&str] = &[
     "18446744073709551615",
 ];
 
-/// A refusal's number is explained with an input that gets it.
+/// The explanation of a refusal's number, with an input that gets it.
 const EXPLAINED: &str = concat!(
     "refused 15: a job has no \"runs-on\", or an empty list there.\n",
     "What gets it: the workflow {\"jobs\":{\"a\":{}}}.\n",
     "What helps: name one label at least, as \"runs-on\":\"linux\".\n",
 );
 
-/// Words, the room on standard output, and how that ends over the first script: with 0 where all is well
-/// and after a help text, and else with 1.
-const ROWS: &[(&[&str], usize, Ended<'static>)] = &[
+/// Words, the room on standard output, and the result over the first script. The status is 0 on success and after a
+/// help text, and 1 otherwise.
+const ROWS: &[(&[&str], usize, Exit<'static>)] = &[
     (PLAY, 10_000, (0, Some(FIRST_ANSWERS), Some(""))),
     (HELP, 10_000, (0, None, Some(""))),
-    (HELP, 0, FULL),
+    (HELP, 0, REFUSED_61),
     (
         &["acts", "--version"],
         10_000,
@@ -114,22 +114,22 @@ const ROWS: &[(&[&str], usize, Ended<'static>)] = &[
         10_000,
         (0, Some(EXPLAINED), Some("")),
     ),
-    (&["acts", "init", "store", "4096"], 10_000, FULL),
-    (&["acts", "init", "store", "1073741824"], 10_000, FULL),
-    (&["acts", "show", "store"], 10_000, FULL),
+    (&["acts", "init", "store", "4096"], 10_000, REFUSED_61),
+    (&["acts", "init", "store", "1073741824"], 10_000, REFUSED_61),
+    (&["acts", "show", "store"], 10_000, REFUSED_61),
     (
         &["acts", "show", "store", "999999999", "--json"],
         10_000,
-        FULL,
+        REFUSED_61,
     ),
-    (&["acts", "runners", "store"], 10_000, FULL),
-    (&["acts", "queue", "--json", "store"], 10_000, FULL),
-    (SERVE, 10_000, FULL),
-    (ROUNDS, 10_000, FULL),
+    (&["acts", "runners", "store"], 10_000, REFUSED_61),
+    (&["acts", "queue", "--json", "store"], 10_000, REFUSED_61),
+    (SERVE, 10_000, REFUSED_61),
+    (ROUNDS, 10_000, REFUSED_61),
 ];
 
 /// Words that are no command line of `acts`.
-const FAULTS: &[&[&str]] = &[
+const USAGE_ERRORS: &[&[&str]] = &[
     &["acts"],
     &["acts", "serve"],
     &["acts", "play", "script"],
@@ -212,30 +212,31 @@ const FAULTS: &[&[&str]] = &[
     ],
 ];
 
-/// 1 after a refusal, which stands on standard error: of a page that is full, and of a file that can't be opened, as none can here.
-const FULL: Ended<'static> = (1, Some(""), Some("acts: refused 61\n"));
+/// Status 1 after a refusal, which is printed on standard error: output that does not fit on a page, or a file that
+/// cannot be opened, as none can be here.
+const REFUSED_61: Exit<'static> = (1, Some(""), Some("acts: refused 61\n"));
 
-/// 2 after a fault of the command line.
-const FAULT: Ended<'static> = (2, Some(""), None);
+/// Status 2 after a usage error.
+const USAGE_ERROR: Exit<'static> = (2, Some(""), None);
 
 #[test]
-fn ends_with_its_status(rt: HostRuntime) {
-    for &(words, room, ended) in ROWS {
-        expect(&rt, rt.alloc(), words, FIRST, room, ended);
+fn a_command_exits_with_its_status(rt: HostRuntime) {
+    for &(words, room, exit) in ROWS {
+        expect(&rt, rt.alloc(), words, FIRST, room, exit);
     }
 }
 
 #[test]
-fn ends_a_fault_of_the_words_with_2(rt: HostRuntime) {
-    for words in FAULTS {
-        expect(&rt, rt.alloc(), words, "look 1\n", 10_000, FAULT);
+fn a_command_line_error_exits_with_2(rt: HostRuntime) {
+    for words in USAGE_ERRORS {
+        expect(&rt, rt.alloc(), words, "look 1\n", 10_000, USAGE_ERROR);
     }
 }
 
-/// A workflow, the room on standard output, and how its check ends.
-const CHECKS: &[(&str, usize, Ended<'static>)] = &[
+/// A workflow, the room on standard output, and the result of its check.
+const CHECKS: &[(&str, usize, Exit<'static>)] = &[
     (MATRIX, 10_000, (0, Some(MATRIX_LINES), Some(""))),
-    (MATRIX, 10, FULL),
+    (MATRIX, 10, REFUSED_61),
     ("[", 10_000, (1, Some(""), Some("acts: refused 10\n"))),
     (
         "{\"jobs\":{\"a\":{\"runs-on\":\"x\",\"strategy\":{\"matrix\":{}}}}}",
@@ -245,27 +246,27 @@ const CHECKS: &[(&str, usize, Ended<'static>)] = &[
 ];
 
 #[test]
-fn ends_a_check_with_its_status(rt: HostRuntime) {
-    for &(workflow, room, ended) in CHECKS {
-        expect(&rt, rt.alloc(), CHECK, workflow, room, ended);
+fn a_check_exits_with_its_status(rt: HostRuntime) {
+    for &(workflow, room, exit) in CHECKS {
+        expect(&rt, rt.alloc(), CHECK, workflow, room, exit);
     }
 }
 
-/// A workflow that is linted, the room on standard output, and how that ends: with 1 where there is a fault.
-const LINTS: &[(&str, usize, Ended<'static>)] = &[
+/// A workflow to lint, the room on standard output, and the result: status 1 if there is a fault.
+const LINTS: &[(&str, usize, Exit<'static>)] = &[
     (MATRIX, 0, (0, Some(""), Some(""))),
-    (FAULTY, 10_000, (1, Some(ITS_FAULTS), Some(""))),
-    (FAULTY, 0, FULL),
+    (FAULTY, 10_000, (1, Some(FAULTS_FOUND), Some(""))),
+    (FAULTY, 0, REFUSED_61),
 ];
 
 #[test]
-fn ends_a_lint_with_its_status(rt: HostRuntime) {
-    for &(workflow, room, ended) in LINTS {
-        expect(&rt, rt.alloc(), LINT, workflow, room, ended);
+fn a_lint_exits_with_its_status(rt: HostRuntime) {
+    for &(workflow, room, exit) in LINTS {
+        expect(&rt, rt.alloc(), LINT, workflow, room, exit);
     }
 }
 
-/// The numbers that can be met.
+/// The numbers of the refusals that a user can meet.
 const NUMBERS: &[&str] = &[
     "10", "11", "12", "13", "14", "15", "16", "17", "18", "19", "20", "21", "22", "23", "24", "25",
     "26", "40", "41", "42", "43", "44", "45", "46", "47", "48", "49", "50", "51", "52", "53", "54",
@@ -273,24 +274,24 @@ const NUMBERS: &[&str] = &[
 ];
 
 #[test]
-fn explains_each_number_that_is_met(rt: HostRuntime) {
+fn each_refusal_number_is_explained(rt: HostRuntime) {
     for &number in NUMBERS {
         let words = ["acts", "explain", number];
         expect(&rt, rt.alloc(), &words, FIRST, 10_000, (0, None, Some("")));
-        expect(&rt, rt.alloc(), &words, FIRST, 10, FULL);
+        expect(&rt, rt.alloc(), &words, FIRST, 10, REFUSED_61);
     }
 }
 
 #[test]
-fn ends_with_a_full_standard_output(rt: HostRuntime) {
+fn a_full_standard_output_is_refused_with_61(rt: HostRuntime) {
     for room in 0..FIRST_ANSWERS.len() {
-        expect(&rt, rt.alloc(), PLAY, FIRST, room, FULL);
+        expect(&rt, rt.alloc(), PLAY, FIRST, room, REFUSED_61);
     }
 }
 
 #[test]
-fn ends_with_a_script_that_is_too_long(rt: HostRuntime) {
-    let long = spelled(rt.alloc(), &[("\n", MOST_BYTES + 1)]).expect(&rt, "a script");
-    let ended = (1, Some(""), Some("acts: refused 76\n"));
-    expect(&rt, rt.alloc(), PLAY, long.as_str(), 10_000, ended);
+fn a_script_that_is_too_long_is_refused_with_76(rt: HostRuntime) {
+    let long = repeated(rt.alloc(), &[("\n", MAX_BYTES + 1)]).expect(&rt, "a script");
+    let exit = (1, Some(""), Some("acts: refused 76\n"));
+    expect(&rt, rt.alloc(), PLAY, long.as_str(), 10_000, exit);
 }

@@ -1,11 +1,11 @@
-//! Tests of what the commands do over streams and disks that fail, of inputs too long to be rows, and of the command line. Nothing stands on
-//! this crate.
+//! Tests of the commands over streams and disks that fail, of inputs too long to be rows, and of the command line. No
+//! crate depends on this one.
 #![tactic(auto)]
 
 #[cfg(test)]
 mod command_line;
 #[cfg(test)]
-mod first;
+mod first_script;
 #[cfg(test)]
 mod holds;
 #[cfg(test)]

@@ -1,4 +1,4 @@
-//! A process of the tests: its words, its input, and where it prints.
+//! A process of the tests: its words, its input and its output.
 
 use std::alloc::{Allocator, Global};
 use std::cell::RefCell;
@@ -9,18 +9,18 @@ use std::io;
 use std::io::{BufRead, ErrorKind, Lines};
 use std::rt::Env;
 
-/// Where texts are printed, up to a number of bytes.
+/// An output for texts that takes up to a number of bytes.
 #[derive(Drop)]
 pub struct Page {
     text: RefCell<Vec<u8>>,
-    most: usize,
+    capacity: usize,
 }
 
 impl Page {
-    pub fn new(alloc: Global, most: usize) -> Self {
+    pub fn new(alloc: Global, capacity: usize) -> Self {
         Page {
             text: RefCell::new(Vec::new(alloc)),
-            most,
+            capacity,
         }
     }
 
@@ -28,14 +28,14 @@ impl Page {
         let Ok(mut text) = self.text.try_borrow_mut() else {
             return Err(io::Error::from(ErrorKind::Other));
         };
-        if text.len() >= self.most || bytes.len() > self.most - text.len() {
+        if text.len() >= self.capacity || bytes.len() > self.capacity - text.len() {
             return Err(io::Error::from(ErrorKind::StorageFull));
         }
         text.extend_from_slice(bytes)?;
         Ok(())
     }
 
-    /// Prints a value, and `end` behind it.
+    /// Prints a value followed by `end`.
     fn show<D: Display + Drop>(&self, alloc: Global, value: D, end: &str) -> io::Result<()> {
         let text = format!(in alloc; "{value}{end}")?;
         self.print(text.as_bytes())
@@ -126,7 +126,7 @@ impl<'a> Eprint for Process<'a> {
     }
 }
 
-/// There is no file.
+/// The error of a file that does not exist.
 fn none<T: Drop>() -> io::Result<T> {
     Err(io::Error::from(ErrorKind::NotFound))
 }

@@ -1,4 +1,4 @@
-//! What is made and shown of disks.
+//! Making and showing stores on disks.
 
 use crate::holds::holds;
 use act_disk::{Disk, Fill, FuseDisk, MemoryDisk};
@@ -11,13 +11,13 @@ use tests_common::commands::{Words, command_of};
 use wf_value::Refusal;
 
 /// The least length of an area.
-const LEAST: u64 = 4_096;
+const MIN_AREA: u64 = 4_096;
 
-/// The body of an event of one job.
+/// The body of an event with one job.
 const BUILD: &str =
     "{\"repo\":\"o/r\",\"path\":\"ci.json\",\"workflow\":{\"jobs\":{\"build\":{\"runs-on\":\"linux\"}}}}";
 
-/// The number of the refusal with which a call ended, and 0 where it ended well.
+/// The number of a call's refusal, or 0 if it succeeded.
 fn number_of(ended: Result<(), Refusal>) -> u64 {
     match ended {
         Ok(()) => 0,
@@ -25,8 +25,8 @@ fn number_of(ended: Result<(), Refusal>) -> u64 {
     }
 }
 
-/// A making prints this, and ends with this number.
-fn expect_making<D: Disk + Drop>(
+/// Expects making a store to print this and to end with this number.
+fn expect_init<D: Disk + Drop>(
     rt: &impl Abort,
     alloc: Global,
     disk: D,
@@ -35,28 +35,28 @@ fn expect_making<D: Disk + Drop>(
 ) {
     holds!(rt; disk.faults() < u64::MAX);
     let mut text = Vec::new(alloc);
-    let (_, ended) = run_init(alloc, disk, LEAST, &mut text);
+    let (_, ended) = run_init(alloc, disk, MIN_AREA, &mut text);
     holds!(rt; number_of(ended) == number, number);
     holds!(rt; text.as_slice() == printed.as_bytes(), number);
 }
 
-/// A store is made on an empty disk alone, and where each of the six calls of the device is done.
+/// A store is made only on an empty disk, and only if each of the six disk calls succeeds.
 #[test]
-fn makes_a_store(rt: HostRuntime) {
+fn a_store_is_made_only_on_an_empty_disk(rt: HostRuntime) {
     let alloc = rt.alloc();
-    expect_making(&rt, alloc, MemoryDisk::new(alloc), 0, "made\n");
+    expect_init(&rt, alloc, MemoryDisk::new(alloc), 0, "made\n");
     let full = MemoryDisk::from_slice(alloc, &[0]).expect(&rt, "a disk");
-    expect_making(&rt, alloc, full, 55, "");
+    expect_init(&rt, alloc, full, 55, "");
     for call in 0..6 {
         let disk = FuseDisk::once(MemoryDisk::new(alloc), call);
-        expect_making(&rt, alloc, disk, 51, "");
+        expect_init(&rt, alloc, disk, 51, "");
     }
-    let spared = FuseDisk::once(MemoryDisk::new(alloc), 6);
-    expect_making(&rt, alloc, spared, 0, "made\n");
+    let unharmed = FuseDisk::once(MemoryDisk::new(alloc), 6);
+    expect_init(&rt, alloc, unharmed, 0, "made\n");
 }
 
-/// A showing of the runs prints this, and ends with this number.
-fn expect_showing<D: Disk + Drop>(
+/// Expects showing the runs to print this and to end with this number.
+fn expect_runs<D: Disk + Drop>(
     rt: &impl Abort,
     alloc: Global,
     disk: D,
@@ -66,11 +66,11 @@ fn expect_showing<D: Disk + Drop>(
     expect_view(rt, alloc, disk, (Shown::Runs, Form::Lines, number, printed));
 }
 
-/// What is shown, and how, with the number with which that ends, and what it prints.
+/// What is shown, in which format, the number with which that ends, and the output.
 type View<'a> = (Shown, Form, u64, &'a str);
 
-/// How a run is shown, with the number with which that ends, and what it prints.
-type Seen<'a> = (Form, u64, &'a str);
+/// The format of a run, the number with which showing it ends, and the output.
+type RunView<'a> = (Form, u64, &'a str);
 
 fn expect_view<D: Disk + Drop>(rt: &impl Abort, alloc: Global, disk: D, view: View<'_>) {
     let (what, form, number, printed) = view;
@@ -82,23 +82,23 @@ fn expect_view<D: Disk + Drop>(rt: &impl Abort, alloc: Global, disk: D, view: Vi
 }
 
 /// Applies commands, and commits once.
-fn enter(
+fn commit_all(
     alloc: Global,
     store: &mut Store<MemoryDisk>,
-    asked: &[Words<'_>],
+    commands: &[Words<'_>],
 ) -> Result<u64, Refusal> {
-    for words in asked {
+    for words in commands {
         let _receipt = store.apply(alloc, 0, command_of(alloc, words)?)?;
     }
     store.commit()
 }
 
-/// The disk of a new store on which these commands were committed at once.
-fn disk_after(rt: &impl Abort, alloc: Global, asked: &[Words<'_>]) -> MemoryDisk {
-    match Store::init(alloc, MemoryDisk::new(alloc), LEAST) {
+/// The disk of a new store after one commit of these commands.
+fn disk_after(rt: &impl Abort, alloc: Global, commands: &[Words<'_>]) -> MemoryDisk {
+    match Store::init(alloc, MemoryDisk::new(alloc), MIN_AREA) {
         Ok(mut store) => {
-            let covered = enter(alloc, &mut store, asked).expect(rt, "a commit");
-            holds!(rt; covered == asked.len() as u64);
+            let covered = commit_all(alloc, &mut store, commands).expect(rt, "a commit");
+            holds!(rt; covered == commands.len() as u64);
             store.into_disk()
         }
         Err((_, refusal)) => panic!(rt; "not made: {refusal}"),
@@ -109,7 +109,7 @@ const ONE_RUN: &[Words<'static>] = &[Words::Admit("d1", BUILD)];
 
 const QUEUED: &str = "run 1 1 queued - build:open(ready)\n";
 
-const ASKED_OF_TWO: &[Words<'static>] = &[
+const TWO_ADMISSIONS: &[Words<'static>] = &[
     Words::Admit("d1", BUILD),
     Words::Cancel("1"),
     Words::Admit("d2", BUILD),
@@ -124,13 +124,13 @@ const TWO_RUNS: &str = concat!(
 #[test]
 fn shows_the_runs_of_a_store(rt: HostRuntime) {
     let alloc = rt.alloc();
-    expect_showing(&rt, alloc, disk_after(&rt, alloc, &[]), 0, "");
-    expect_showing(&rt, alloc, disk_after(&rt, alloc, ONE_RUN), 0, QUEUED);
-    let two = disk_after(&rt, alloc, ASKED_OF_TWO);
-    expect_showing(&rt, alloc, two, 0, TWO_RUNS);
+    expect_runs(&rt, alloc, disk_after(&rt, alloc, &[]), 0, "");
+    expect_runs(&rt, alloc, disk_after(&rt, alloc, ONE_RUN), 0, QUEUED);
+    let two = disk_after(&rt, alloc, TWO_ADMISSIONS);
+    expect_runs(&rt, alloc, two, 0, TWO_RUNS);
 }
 
-/// Two legs, of which the second asks for a label with a quotation mark in it, in a group of the run.
+/// Two legs in a group of the run. The second leg requires a label with a quotation mark in it.
 const GROUPED: &str = concat!(
     "{\"repo\":\"o/r\",\"path\":\"ci.json\",\"workflow\":{\"concurrency\":\"Deploy\",",
     "\"jobs\":{\"a\":{\"runs-on\":[\"linux\",\"${{ matrix.os }}\"],\"strategy\":{\"matrix\":{\"os\":[\"x64\",\"a\\\"b\"]}}}}}}",
@@ -142,7 +142,7 @@ const LOCKED: &str = concat!(
     "\"jobs\":{\"b\":{\"runs-on\":\"linux\",\"concurrency\":\"lock\",\"strategy\":{\"matrix\":{\"n\":[1,2]}}}}}}",
 );
 
-const AT_WORK: &[Words<'static>] = &[
+const BUSY: &[Words<'static>] = &[
     Words::Admit("d1", BUILD),
     Words::Admit("d2", GROUPED),
     Words::Admit("d3", GROUPED),
@@ -191,20 +191,20 @@ const THIRD_AS_JSON: &str = concat!(
 );
 
 #[test]
-fn shows_what_is_at_work(rt: HostRuntime) {
+fn shows_the_runners_and_the_queue(rt: HostRuntime) {
     let alloc = rt.alloc();
-    let disk = disk_after(&rt, alloc, AT_WORK);
+    let disk = disk_after(&rt, alloc, BUSY);
     expect_view(&rt, alloc, disk, (Shown::Runners, Form::Lines, 0, RUNNERS));
-    let disk = disk_after(&rt, alloc, AT_WORK);
+    let disk = disk_after(&rt, alloc, BUSY);
     expect_view(
         &rt,
         alloc,
         disk,
         (Shown::Runners, Form::Json, 0, RUNNERS_AS_JSON),
     );
-    let disk = disk_after(&rt, alloc, AT_WORK);
+    let disk = disk_after(&rt, alloc, BUSY);
     expect_view(&rt, alloc, disk, (Shown::Queue, Form::Lines, 0, QUEUE));
-    let disk = disk_after(&rt, alloc, AT_WORK);
+    let disk = disk_after(&rt, alloc, BUSY);
     expect_view(
         &rt,
         alloc,
@@ -213,13 +213,13 @@ fn shows_what_is_at_work(rt: HostRuntime) {
     );
 }
 
-/// The runs of a store, by their numbers.
+/// Expects the views of runs, by their ids.
 fn expect_run<D: Disk + Drop>(
     rt: &impl Abort,
     alloc: Global,
     disk: D,
     run: Number,
-    view: Seen<'_>,
+    view: RunView<'_>,
 ) {
     let (form, number, printed) = view;
     expect_view(rt, alloc, disk, (Shown::Run(run), form, number, printed));
@@ -228,9 +228,9 @@ fn expect_run<D: Disk + Drop>(
 #[test]
 fn shows_a_run(rt: HostRuntime) {
     let alloc = rt.alloc();
-    let disk = disk_after(&rt, alloc, AT_WORK);
+    let disk = disk_after(&rt, alloc, BUSY);
     expect_run(&rt, alloc, disk, Number::new(2), (Form::Lines, 0, SECOND));
-    let disk = disk_after(&rt, alloc, AT_WORK);
+    let disk = disk_after(&rt, alloc, BUSY);
     expect_run(
         &rt,
         alloc,
@@ -238,7 +238,7 @@ fn shows_a_run(rt: HostRuntime) {
         Number::new(2),
         (Form::Json, 0, SECOND_AS_JSON),
     );
-    let disk = disk_after(&rt, alloc, AT_WORK);
+    let disk = disk_after(&rt, alloc, BUSY);
     expect_run(
         &rt,
         alloc,
@@ -246,11 +246,11 @@ fn shows_a_run(rt: HostRuntime) {
         Number::new(3),
         (Form::Json, 0, THIRD_AS_JSON),
     );
-    let disk = disk_after(&rt, alloc, AT_WORK);
+    let disk = disk_after(&rt, alloc, BUSY);
     expect_run(&rt, alloc, disk, Number::new(5), (Form::Lines, 40, ""));
 }
 
-/// Of an empty table there is nothing to show.
+/// An empty table has nothing to show.
 #[test]
 fn shows_nothing_of_an_empty_store(rt: HostRuntime) {
     let alloc = rt.alloc();
@@ -262,22 +262,23 @@ fn shows_nothing_of_an_empty_store(rt: HostRuntime) {
     expect_run(&rt, alloc, disk, Number::new(1), (Form::Json, 40, ""));
 }
 
-/// The bytes of a new store that are no zeros: an open gate, version 2, generation 1, and the length of the empty table's text.
-const FRONT: &[(usize, u8)] = &[(0, 0xA5), (1, 2), (9, 1), (17, 12)];
+/// The bytes of a new store that are not zero: an open gate, version 2, generation 1, and the length of the empty
+/// table's text.
+const HEADER: &[(usize, u8)] = &[(0, 0xA5), (1, 2), (9, 1), (17, 12)];
 
-fn set(bytes: &mut [u8], place: usize, byte: u8) {
-    if let Some(there) = bytes.get_mut(place) {
-        *there = byte;
+fn set(bytes: &mut [u8], offset: usize, byte: u8) {
+    if let Some(old) = bytes.get_mut(offset) {
+        *old = byte;
     }
 }
 
-/// The disk of a new store, of which a byte is another one.
-fn disk_with(alloc: Global, place: usize, byte: u8) -> Result<MemoryDisk, Refusal> {
+/// The disk of a new store with one byte changed.
+fn disk_with(alloc: Global, offset: usize, byte: u8) -> Result<MemoryDisk, Refusal> {
     let mut bytes = vec![in alloc; 0; 8_192]?;
-    for &(at, value) in FRONT {
+    for &(at, value) in HEADER {
         set(&mut bytes, at, value);
     }
-    set(&mut bytes, place, byte);
+    set(&mut bytes, offset, byte);
     MemoryDisk::from_slice(alloc, &bytes)
 }
 
@@ -286,9 +287,9 @@ fn zeros(alloc: Global) -> Result<MemoryDisk, Refusal> {
     MemoryDisk::from_slice(alloc, &bytes)
 }
 
-/// A byte of a new store that is another one, and the number with which its showing ends: the area's gate, its layout, of which the first
-/// spells an empty table too and there is no third, a last lease out of range, and the gate of the first record, which is closed by any
-/// byte but one, and by that opens a record without a batch.
+/// A changed byte of a new store, its value, and the number with which showing the store ends. The bytes are the area's
+/// gate, its layout (the first encodes an empty table too, and there is no third), a last lease out of range, and the
+/// gate of the first record. Only one value opens that gate, and the record then has no batch.
 const BYTES: &[(usize, u8, u64)] = &[
     (0, 0, 53),
     (1, 1, 0),
@@ -299,31 +300,32 @@ const BYTES: &[(usize, u8, u64)] = &[
 ];
 
 #[test]
-fn refuses_to_show_what_is_no_store(rt: HostRuntime) {
+fn a_disk_without_a_store_is_not_shown(rt: HostRuntime) {
     let alloc = rt.alloc();
-    expect_showing(&rt, alloc, zeros(alloc).expect(&rt, "a disk"), 53, "");
-    expect_showing(&rt, alloc, MemoryDisk::new(alloc), 53, "");
-    for &(place, byte, number) in BYTES {
-        let disk = disk_with(alloc, place, byte).expect(&rt, "a disk");
-        expect_showing(&rt, alloc, disk, number, "");
+    expect_runs(&rt, alloc, zeros(alloc).expect(&rt, "a disk"), 53, "");
+    expect_runs(&rt, alloc, MemoryDisk::new(alloc), 53, "");
+    for &(offset, byte, number) in BYTES {
+        let disk = disk_with(alloc, offset, byte).expect(&rt, "a disk");
+        expect_runs(&rt, alloc, disk, number, "");
     }
 }
 
-/// The device fails in the opening: at its sync, at the read of each area's gate, and at the read of the area that stands.
+/// The device fails while the store is opened: at its sync, at the read of each area's gate, and at the read of the
+/// area that is open.
 #[test]
-fn tells_that_the_device_fails_in_a_showing(rt: HostRuntime) {
+fn showing_is_refused_with_51_if_the_disk_fails(rt: HostRuntime) {
     let alloc = rt.alloc();
     for call in 0..4 {
         let disk = FuseDisk::once(disk_after(&rt, alloc, ONE_RUN), call);
-        expect_showing(&rt, alloc, disk, 51, "");
+        expect_runs(&rt, alloc, disk, 51, "");
     }
-    let spared = FuseDisk::once(disk_after(&rt, alloc, ONE_RUN), 4);
-    expect_showing(&rt, alloc, spared, 0, QUEUED);
+    let unharmed = FuseDisk::once(disk_after(&rt, alloc, ONE_RUN), 4);
+    expect_runs(&rt, alloc, unharmed, 0, QUEUED);
 }
 
-/// A stop inside a call of the first commit, how it fills what was not synced, and what is shown then: inside the write of the record and
-/// its sync no run; inside the write of the gate and its sync none, or run 1.
-const STOPS: &[(u64, Fill, &str)] = &[
+/// A crash inside a call of the first commit, how it fills what was not synced, and what is shown then: no run inside
+/// the write of the record and its sync, and none or run 1 inside the write of the gate and its sync.
+const CRASHES: &[(u64, Fill, &str)] = &[
     (6, Fill::Old, ""),
     (6, Fill::New, ""),
     (7, Fill::Old, ""),
@@ -335,13 +337,13 @@ const STOPS: &[(u64, Fill, &str)] = &[
 ];
 
 #[test]
-fn shows_what_a_stop_leaves(rt: HostRuntime) {
+fn shows_what_a_crash_leaves(rt: HostRuntime) {
     let alloc = rt.alloc();
     let disk = disk_after(&rt, alloc, ONE_RUN);
     holds!(rt; disk.calls().len() == 10);
-    for &(call, fill, shown) in STOPS {
+    for &(call, fill, shown) in CRASHES {
         let image = disk.image(alloc, call, fill).expect(&rt, "an image");
-        expect_showing(&rt, alloc, image, 0, shown);
+        expect_runs(&rt, alloc, image, 0, shown);
     }
-    expect_showing(&rt, alloc, disk, 0, QUEUED);
+    expect_runs(&rt, alloc, disk, 0, QUEUED);
 }

@@ -1,6 +1,6 @@
 //! Readers and writers that fail at each byte.
 
-use crate::first::{Call, FIRST, FIRST_ANSWERS, MATRIX, MATRIX_LINES, number_of};
+use crate::first_script::{Call, FIRST, FIRST_ANSWERS, MATRIX, MATRIX_LINES, number_of};
 use crate::holds::holds;
 use std::alloc::Global;
 use std::io;
@@ -26,13 +26,13 @@ impl Read for FailingReader<'_> {
     }
 }
 
-/// A writer that fails after a number of bytes. One that holds bytes back, as a buffer before a full disk,
-/// takes them all and fails once it is flushed.
+/// A writer that fails after a number of bytes. If it is buffered, like output to a full disk, it takes
+/// all bytes and fails when it is flushed.
 #[derive(Drop)]
 struct FailingWriter {
     bytes: Vec<u8>,
     left: usize,
-    holds_back: bool,
+    is_buffered: bool,
 }
 
 impl Write for FailingWriter {
@@ -47,63 +47,63 @@ impl Write for FailingWriter {
     }
 
     fn flush(&mut self) -> io::Result<()> {
-        if self.holds_back {
+        if self.is_buffered {
             return Err(io::Error::from(ErrorKind::BrokenPipe));
         }
         Ok(())
     }
 }
 
-/// What is done, with what, and what is printed then.
-type Given = (Call, &'static str, &'static str);
+/// The command, its input, and its output.
+type Case = (Call, &'static str, &'static str);
 
-const GIVEN: &[Given] = &[
+const CASES: &[Case] = &[
     (Call::Play, FIRST, FIRST_ANSWERS),
     (Call::Check, MATRIX, MATRIX_LINES),
 ];
 
-/// A reader that fails after so many bytes ends it with 61, and nothing is printed.
-fn fails_with_reader(alloc: Global, given: &Given, left: usize) -> bool {
+/// Whether a reader that fails after `left` bytes ends the command with 61, and nothing is printed.
+fn fails_with_reader(alloc: Global, case: &Case, left: usize) -> bool {
     let mut reader = FailingReader {
-        bytes: given.1.as_bytes(),
+        bytes: case.1.as_bytes(),
         left,
     };
     let mut printed = Vec::new(alloc);
-    number_of(alloc, given.0, &mut reader, &mut printed) == 61 && printed.is_empty()
+    number_of(alloc, case.0, &mut reader, &mut printed) == 61 && printed.is_empty()
 }
 
-/// A writer that fails so ends it with 61, with these bytes written.
+/// Whether a writer that fails this way ends the command with 61, with exactly these bytes written.
 fn fails_with_writer(
     alloc: Global,
-    given: &Given,
+    case: &Case,
     left: usize,
-    holds_back: bool,
+    is_buffered: bool,
     want: &[u8],
 ) -> bool {
-    let mut reader = given.1.as_bytes();
+    let mut reader = case.1.as_bytes();
     let mut writer = FailingWriter {
         bytes: Vec::new(alloc),
         left,
-        holds_back,
+        is_buffered,
     };
-    let number = number_of(alloc, given.0, &mut reader, &mut writer);
+    let number = number_of(alloc, case.0, &mut reader, &mut writer);
     number == 61 && writer.bytes.as_slice() == want
 }
 
-fn expect_failing(rt: &impl Abort, alloc: Global, given: &Given) {
-    let want = given.2.as_bytes();
-    for left in 0..=given.1.len() {
-        holds!(rt; fails_with_reader(alloc, given, left), left);
+fn expect_failing(rt: &impl Abort, alloc: Global, case: &Case) {
+    let want = case.2.as_bytes();
+    for left in 0..=case.1.len() {
+        holds!(rt; fails_with_reader(alloc, case, left), left);
     }
     for left in 0..want.len() {
-        holds!(rt; fails_with_writer(alloc, given, left, false, &want[..left]), left);
+        holds!(rt; fails_with_writer(alloc, case, left, false, &want[..left]), left);
     }
-    holds!(rt; fails_with_writer(alloc, given, usize::MAX, true, want));
+    holds!(rt; fails_with_writer(alloc, case, usize::MAX, true, want));
 }
 
 #[test]
-fn streams_fail_at_each_byte(rt: HostRuntime) {
-    for given in GIVEN {
-        expect_failing(&rt, rt.alloc(), given);
+fn a_stream_that_fails_at_any_byte_is_refused_with_61(rt: HostRuntime) {
+    for case in CASES {
+        expect_failing(&rt, rt.alloc(), case);
     }
 }

@@ -6,7 +6,7 @@ use std::alloc::Global;
 use wf_expr::{BoundTemplate, NeedResults, Needs};
 use wf_value::{Chars, JobResult, Refusal, TryCopy};
 
-/// A path of three names is that of a need, whose number is the length of its second name.
+/// Every path of three names is that of a need, whose index is the length of the second name.
 struct ByLength;
 
 impl Needs for ByLength {
@@ -23,7 +23,7 @@ impl Needs for ByLength {
     }
 }
 
-/// The results of the needs 1 and 2, as far as they have one.
+/// The results of the needs 1 and 2, if they have one.
 #[derive(Clone, Copy)]
 struct Ended {
     one: Option<JobResult>,
@@ -44,7 +44,7 @@ impl NeedResults for Ended {
     }
 }
 
-/// What is bound of a text as a job's template in the context of the rows, copied.
+/// A copy of a text as a job's template, bound in the context of the rows.
 fn bound_of(alloc: Global, text: &str) -> Result<BoundTemplate, Refusal> {
     let context = example(alloc)?;
     let bound = template_of(alloc, text)?.bind(alloc, &context, &ByLength)?;
@@ -71,7 +71,7 @@ const BOTH: Ended = Ended {
     two: Some(JobResult::Success),
 };
 
-/// A template, results, and the text that it has by them.
+/// A template, results, and its text for these results.
 const ROWS: &[(&str, Ended, &str)] = &[
     ("", NONE, ""),
     ("plain", BOTH, "plain"),
@@ -117,7 +117,7 @@ const ROWS: &[(&str, Ended, &str)] = &[
     ),
 ];
 
-/// Whether the text of a template by its results is this one, which a template that needs none has too.
+/// Whether a template has this text for the results, compared with a template without needs.
 fn has_text(alloc: Global, text: &str, ended: &Ended, want: &str) -> Result<bool, Refusal> {
     let (bound, plain) = (bound_of(alloc, text)?, bound_of(alloc, want)?);
     let is_known = bound.has_text(ended) != want.is_empty();
@@ -125,7 +125,7 @@ fn has_text(alloc: Global, text: &str, ended: &Ended, want: &str) -> Result<bool
 }
 
 #[test]
-fn templates_have_their_texts_by_results(rt: HostRuntime) {
+fn the_text_of_a_bound_template_depends_on_results(rt: HostRuntime) {
     for (text, ended, want) in ROWS {
         let as_wanted = has_text(rt.alloc(), text, ended, want).expect(&rt, text);
         holds!(rt; as_wanted, text);
@@ -141,7 +141,7 @@ const COMPARED: &[(&str, &str, Ended, bool)] = &[
     ("abd", "abc", NONE, false),
 ];
 
-/// Whether two templates have the same text by these results.
+/// Whether two templates have the same text for these results.
 fn is_same(alloc: Global, text: &str, other: &str, ended: &Ended) -> Result<bool, Refusal> {
     let (bound, other) = (bound_of(alloc, text)?, bound_of(alloc, other)?);
     Ok(bound.is_same_text(ended, &other, ended))

@@ -1,4 +1,4 @@
-//! The groups of a book and who is listed in them. A group's name is compared without its case, and a repository has groups of its own.
+//! The groups of a book and their holders. Group names are case-insensitive, and each repository has its own groups.
 
 use crate::holds::holds;
 use group_book::{Book, Slot};
@@ -52,7 +52,7 @@ fn names_of_one_group_have_one_number(rt: HostRuntime) {
     find_all(&rt, alloc, &book.copy(alloc).expect(&rt, "memory"));
 }
 
-/// Whether the slot has these holders in its places, and no others.
+/// Whether the slot has exactly these holders in its places, in order.
 fn has_just(slot: &Slot<usize>, want: &[usize]) -> bool {
     let mut count = 0;
     for place in slot.places() {
@@ -78,13 +78,13 @@ fn a_slot_has_three_places(rt: HostRuntime) {
     holds!(rt; has_just(&again, &[7, 10, 9]) && !again.is_crowded());
 }
 
-/// Whether the slot of a number has these holders in its places, and no others.
+/// Whether the slot with this number has exactly these holders in its places, in order.
 fn lists_just(book: &Book<usize>, number: usize, want: &[usize]) -> bool {
     number < book.len() && has_just(&book.slot(number), want)
 }
 
 #[test]
-fn a_slot_is_put_at_one_number(rt: HostRuntime) {
+fn putting_a_slot_changes_no_other_slot(rt: HostRuntime) {
     let alloc = rt.alloc();
     let mut book = Book::new(alloc);
     enter_all(&rt, alloc, &mut book);

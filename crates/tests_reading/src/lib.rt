@@ -1,4 +1,4 @@
-//! Tests of what a body and its texts are read as: values, templates and names of groups. Nothing stands on this crate.
+//! Tests of reading a body and its texts: values, templates and names of groups. No crate depends on this one.
 #![tactic(auto)]
 
 #[cfg(test)]

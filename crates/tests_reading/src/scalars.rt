@@ -1,21 +1,21 @@
-//! Scalars and refusals: their copies, and what they print.
+//! Scalars and refusals: their copies and their printed texts.
 
 use crate::holds::{expect_text, holds};
 use std::alloc::Global;
 use std::process::Abort;
-use tests_common::values::{Given, are_apart, combo, scalar, scalars, texts};
+use tests_common::values::{Literal, are_distinct, combo, scalar, scalars, texts};
 use wf_value::{Chars, Code, Combo, Refusal, Sequence};
 
-const ALIKE: &[Given] = &[
-    Given::Null,
-    Given::Truth(true),
-    Given::Whole(1),
-    Given::Text("1"),
-    Given::Text("true"),
-    Given::Text(""),
+const ALIKE: &[Literal] = &[
+    Literal::Null,
+    Literal::Truth(true),
+    Literal::Whole(1),
+    Literal::Text("1"),
+    Literal::Text("true"),
+    Literal::Text(""),
 ];
 
-/// Lists, of which no two are the same.
+/// Lists that all differ.
 const LISTS: &[&[&str]] = &[&[], &["a"], &["a", "b"], &["b", "a"], &["a", "b", ""]];
 
 fn lists(alloc: Global) -> Result<Vec<Sequence<Chars>>, Refusal> {
@@ -26,10 +26,10 @@ fn lists(alloc: Global) -> Result<Vec<Sequence<Chars>>, Refusal> {
     Ok(lists)
 }
 
-/// Combinations, of which no two are the same.
+/// Combinations that all differ.
 fn combos(alloc: Global) -> Result<Vec<Combo>, Refusal> {
-    let one = combo(alloc, &[("a", Given::Null)])?;
-    let two = combo(alloc, &[("a", Given::Null), ("b", Given::Null)])?;
+    let one = combo(alloc, &[("a", Literal::Null)])?;
+    let two = combo(alloc, &[("a", Literal::Null), ("b", Literal::Null)])?;
     Ok(vec![in alloc; Combo::new(alloc), one, two]?)
 }
 
@@ -37,7 +37,7 @@ fn cycle(alloc: Global, ids: &[&str]) -> Result<Refusal, Refusal> {
     Ok(Refusal::Cycle(Sequence::new(texts(alloc, ids)?)))
 }
 
-/// Refusals, of which no two are the same.
+/// Refusals that all differ.
 fn refusals(alloc: Global) -> Result<Vec<Refusal>, Refusal> {
     let one = cycle(alloc, &["a"])?;
     let two = cycle(alloc, &["a", "b"])?;
@@ -45,32 +45,32 @@ fn refusals(alloc: Global) -> Result<Vec<Refusal>, Refusal> {
     Ok(vec![in alloc; numbered, one, two, Refusal::Turn(0), Refusal::Turn(1)]?)
 }
 
-fn are_all_apart(alloc: Global) -> Result<bool, Refusal> {
-    let scalars = are_apart(alloc, scalars(alloc, ALIKE)?.as_slice())?;
-    let lists = are_apart(alloc, lists(alloc)?.as_slice())?;
-    let combos = are_apart(alloc, combos(alloc)?.as_slice())?;
-    let refusals = are_apart(alloc, refusals(alloc)?.as_slice())?;
+fn are_all_distinct(alloc: Global) -> Result<bool, Refusal> {
+    let scalars = are_distinct(alloc, scalars(alloc, ALIKE)?.as_slice())?;
+    let lists = are_distinct(alloc, lists(alloc)?.as_slice())?;
+    let combos = are_distinct(alloc, combos(alloc)?.as_slice())?;
+    let refusals = are_distinct(alloc, refusals(alloc)?.as_slice())?;
     Ok(scalars && lists && combos && refusals)
 }
 
 #[test]
-fn values_are_copied_and_told_apart(rt: HostRuntime) {
-    let apart = are_all_apart(rt.alloc()).expect(&rt, "memory");
-    holds!(rt; apart);
+fn a_value_equals_its_copy_and_no_other_value(rt: HostRuntime) {
+    let distinct = are_all_distinct(rt.alloc()).expect(&rt, "memory");
+    holds!(rt; distinct);
 }
 
-/// A scalar, and its text.
-const PRINTED: &[(Given, &str)] = &[
-    (Given::Null, ""),
-    (Given::Truth(false), "false"),
-    (Given::Truth(true), "true"),
-    (Given::Whole(0), "0"),
-    (Given::Whole(i64::MIN), "-9223372036854775808"),
-    (Given::Whole(i64::MAX), "9223372036854775807"),
-    (Given::Text("0"), "0"),
+/// A scalar and its text.
+const PRINTED: &[(Literal, &str)] = &[
+    (Literal::Null, ""),
+    (Literal::Truth(false), "false"),
+    (Literal::Truth(true), "true"),
+    (Literal::Whole(0), "0"),
+    (Literal::Whole(i64::MIN), "-9223372036854775808"),
+    (Literal::Whole(i64::MAX), "9223372036854775807"),
+    (Literal::Text("0"), "0"),
 ];
 
-fn text_of(alloc: Global, given: &Given) -> Result<Chars, Refusal> {
+fn text_of(alloc: Global, given: &Literal) -> Result<Chars, Refusal> {
     scalar(alloc, given)?.text(alloc)
 }
 
@@ -82,7 +82,7 @@ fn scalars_print(rt: HostRuntime) {
     }
 }
 
-/// A refusal prints what it carries, as a text and as a value.
+/// A refusal prints what it carries, both as a text and by `Display`.
 fn expect_printed(rt: &impl Abort, alloc: Global, refusal: &Refusal, printed: &str) {
     let text = refusal.text(alloc).expect(rt, "a text");
     expect_text(rt, text.as_str(), printed);

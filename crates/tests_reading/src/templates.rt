@@ -3,11 +3,11 @@
 use crate::holds::holds;
 use std::alloc::Global;
 use std::process::Abort;
-use tests_common::values::{Given, scalar};
-use wf_expr::{Over, Place, Properties, Template, is_flag_set};
+use tests_common::values::{Literal, scalar};
+use wf_expr::{ContextSite, Over, Properties, Template, is_flag_set};
 use wf_value::{Chars, Refusal, Same, Scalar, TryCopy};
 
-/// The path of the names, of which `.` stands between each two.
+/// The path of names that are separated by `.`.
 fn path_of(alloc: Global, names: &str) -> Result<Vec<Chars>, Refusal> {
     let mut path = Vec::new(alloc);
     for name in names.split('.') {
@@ -20,14 +20,14 @@ fn insert(
     alloc: Global,
     properties: &mut Properties,
     names: &str,
-    given: &Given,
+    given: &Literal,
 ) -> Result<(), Refusal> {
     let path = path_of(alloc, names)?;
     properties.insert(alloc, path.as_slice(), scalar(alloc, given)?)
 }
 
-/// The properties at these paths, set in turn.
-fn properties(alloc: Global, rows: &[(&str, Given)]) -> Result<Properties, Refusal> {
+/// Properties with these values, set in order.
+fn properties(alloc: Global, rows: &[(&str, Literal)]) -> Result<Properties, Refusal> {
     let mut properties = Properties::new(alloc);
     for (names, given) in rows {
         insert(alloc, &mut properties, names, given)?;
@@ -36,27 +36,27 @@ fn properties(alloc: Global, rows: &[(&str, Given)]) -> Result<Properties, Refus
 }
 
 /// The context of the rows.
-const EXAMPLE: &[(&str, Given)] = &[
-    ("github.workflow", Given::Text("ci.json")),
-    ("github.run_id", Given::Text("1")),
-    ("inputs.none", Given::Null),
-    ("inputs.no", Given::Truth(false)),
-    ("inputs.yes", Given::Truth(true)),
-    ("inputs.empty", Given::Text("")),
-    ("inputs.zero", Given::Whole(0)),
-    ("inputs.most", Given::Whole(i64::MAX)),
-    ("inputs.least", Given::Whole(i64::MIN)),
-    ("inputs.a-b_C9", Given::Whole(7)),
+const EXAMPLE: &[(&str, Literal)] = &[
+    ("github.workflow", Literal::Text("ci.json")),
+    ("github.run_id", Literal::Text("1")),
+    ("inputs.none", Literal::Null),
+    ("inputs.no", Literal::Truth(false)),
+    ("inputs.yes", Literal::Truth(true)),
+    ("inputs.empty", Literal::Text("")),
+    ("inputs.zero", Literal::Whole(0)),
+    ("inputs.most", Literal::Whole(i64::MAX)),
+    ("inputs.least", Literal::Whole(i64::MIN)),
+    ("inputs.a-b_C9", Literal::Whole(7)),
 ];
 
-/// The properties that are the context of the rows.
+/// The properties of `EXAMPLE`.
 pub fn example(alloc: Global) -> Result<Properties, Refusal> {
     properties(alloc, EXAMPLE)
 }
 
 /// The text as a job's template.
 pub fn template_of(alloc: Global, text: &str) -> Result<Template, Refusal> {
-    Template::parse(alloc, text, Place::Job)
+    Template::parse(alloc, text, ContextSite::Job)
 }
 
 /// The value of the text as a job's template.
@@ -65,64 +65,64 @@ fn value_of(alloc: Global, text: &str) -> Result<Scalar, Refusal> {
     template_of(alloc, text)?.eval(alloc, &context)
 }
 
-/// Whether that is the value of the text as a job's template.
-fn has_value(alloc: Global, text: &str, want: &Given) -> Result<bool, Refusal> {
+/// Whether the text as a job's template has this value.
+fn has_value(alloc: Global, text: &str, want: &Literal) -> Result<bool, Refusal> {
     Ok(value_of(alloc, text)?.same(&scalar(alloc, want)?))
 }
 
 /// Templates of several pieces, and their values.
-const JOINED: &[(&str, Given)] = &[
-    ("", Given::Text("")),
-    ("plain", Given::Text("plain")),
+const JOINED: &[(&str, Literal)] = &[
+    ("", Literal::Text("")),
+    ("plain", Literal::Text("plain")),
     (
         "${{ github.workflow }}-${{ github.head_ref || github.run_id }}",
-        Given::Text("ci.json-1"),
+        Literal::Text("ci.json-1"),
     ),
-    ("${{ 'it''s' }}", Given::Text("it's")),
-    ("${{ '''' }}", Given::Text("'")),
-    ("${{ '' }}.", Given::Text(".")),
-    ("${{ '}}' }}", Given::Text("}}")),
-    ("${{ '${{' }}", Given::Text("${{")),
-    ("${{ '|| a.b' || 'x' }}", Given::Text("|| a.b")),
-    ("$${{ github.run_id }}", Given::Text("$1")),
-    ("${${{ github.run_id }}$", Given::Text("${1$")),
-    ("$$ ${ {{ }}", Given::Text("$$ ${ {{ }}")),
-    ("a$", Given::Text("a$")),
-    ("a${", Given::Text("a${")),
-    ("${{github.run_id}}${{github.run_id}}", Given::Text("11")),
-    ("${{  github  .  run_id  ||  'x'  }}", Given::Text("1")),
-    ("${{github.none||'x'||'y'}}", Given::Text("x")),
-    ("${{ github.event.x }}", Given::Text("")),
-    ("${{ needs.a.result }}", Given::Text("")),
-    ("é${{ 'ü' }}ß", Given::Text("éüß")),
+    ("${{ 'it''s' }}", Literal::Text("it's")),
+    ("${{ '''' }}", Literal::Text("'")),
+    ("${{ '' }}.", Literal::Text(".")),
+    ("${{ '}}' }}", Literal::Text("}}")),
+    ("${{ '${{' }}", Literal::Text("${{")),
+    ("${{ '|| a.b' || 'x' }}", Literal::Text("|| a.b")),
+    ("$${{ github.run_id }}", Literal::Text("$1")),
+    ("${${{ github.run_id }}$", Literal::Text("${1$")),
+    ("$$ ${ {{ }}", Literal::Text("$$ ${ {{ }}")),
+    ("a$", Literal::Text("a$")),
+    ("a${", Literal::Text("a${")),
+    ("${{github.run_id}}${{github.run_id}}", Literal::Text("11")),
+    ("${{  github  .  run_id  ||  'x'  }}", Literal::Text("1")),
+    ("${{github.none||'x'||'y'}}", Literal::Text("x")),
+    ("${{ github.event.x }}", Literal::Text("")),
+    ("${{ needs.a.result }}", Literal::Text("")),
+    ("é${{ 'ü' }}ß", Literal::Text("éüß")),
     (
         "<${{ inputs.none }}${{ inputs.no }}${{ inputs.yes }}>",
-        Given::Text("<falsetrue>"),
+        Literal::Text("<falsetrue>"),
     ),
     (
         "${{ inputs.most }},${{ inputs.least }}",
-        Given::Text("9223372036854775807,-9223372036854775808"),
+        Literal::Text("9223372036854775807,-9223372036854775808"),
     ),
-    ("${{ inputs.a-b_C9 }}.", Given::Text("7.")),
+    ("${{ inputs.a-b_C9 }}.", Literal::Text("7.")),
 ];
 
 /// Templates of one expression, whose value keeps its kind.
-const KEPT: &[(&str, Given)] = &[
-    ("${{ inputs.most }}", Given::Whole(i64::MAX)),
-    ("${{ inputs.zero }}", Given::Whole(0)),
-    ("${{ inputs.none }}", Given::Null),
-    ("${{ inputs.zero || inputs.none }}", Given::Null),
-    ("${{ inputs.none || inputs.no }}", Given::Truth(false)),
+const KEPT: &[(&str, Literal)] = &[
+    ("${{ inputs.most }}", Literal::Whole(i64::MAX)),
+    ("${{ inputs.zero }}", Literal::Whole(0)),
+    ("${{ inputs.none }}", Literal::Null),
+    ("${{ inputs.zero || inputs.none }}", Literal::Null),
+    ("${{ inputs.none || inputs.no }}", Literal::Truth(false)),
     (
         "${{ inputs.zero || inputs.empty || inputs.no || inputs.none || inputs.a-b_C9 }}",
-        Given::Whole(7),
+        Literal::Whole(7),
     ),
-    ("${{ inputs.yes || inputs.most }}", Given::Truth(true)),
-    ("${{ inputs.none || inputs.zero }}", Given::Whole(0)),
-    ("${{ inputs.missing || inputs.no }}", Given::Truth(false)),
-    ("${{ inputs.missing }}", Given::Text("")),
-    ("${{ '0' || 'x' }}", Given::Text("0")),
-    (" ${{ inputs.zero }}", Given::Text(" 0")),
+    ("${{ inputs.yes || inputs.most }}", Literal::Truth(true)),
+    ("${{ inputs.none || inputs.zero }}", Literal::Whole(0)),
+    ("${{ inputs.missing || inputs.no }}", Literal::Truth(false)),
+    ("${{ inputs.missing }}", Literal::Text("")),
+    ("${{ '0' || 'x' }}", Literal::Text("0")),
+    (" ${{ inputs.zero }}", Literal::Text(" 0")),
 ];
 
 #[test]
@@ -135,9 +135,9 @@ fn templates_have_their_values(rt: HostRuntime) {
     }
 }
 
-const UPPER: &[(&str, Given)] = &[
-    ("matrix.os", Given::Text("linux")),
-    ("github.run_id", Given::Null),
+const UPPER: &[(&str, Literal)] = &[
+    ("matrix.os", Literal::Text("linux")),
+    ("github.run_id", Literal::Null),
 ];
 
 const OVER: &[(&str, &str)] = &[
@@ -146,7 +146,7 @@ const OVER: &[(&str, &str)] = &[
     ("${{ matrix.x || inputs.most }}", "9223372036854775807"),
 ];
 
-/// Whether the text of the template is this one, in an upper layer over the context of the rows.
+/// Whether the template has this text, in an upper context on top of that of the rows.
 fn is_text_over(alloc: Global, text: &str, want: &str) -> Result<bool, Refusal> {
     let (upper, lower) = (properties(alloc, UPPER)?, example(alloc)?);
     let layers = Over {
@@ -157,14 +157,14 @@ fn is_text_over(alloc: Global, text: &str, want: &str) -> Result<bool, Refusal> 
 }
 
 #[test]
-fn layers_are_looked_up_from_the_upper_down(rt: HostRuntime) {
+fn the_upper_layer_is_looked_up_first(rt: HostRuntime) {
     for (text, want) in OVER {
         let is_text = is_text_over(rt.alloc(), text, want).expect(&rt, text);
         holds!(rt; is_text, text);
     }
 }
 
-/// A template, another text, whether that is its text, and whether it is but for letter case.
+/// A template, another text, whether that is its text, and whether it is up to ASCII case.
 const COMPARED: &[(&str, &str, bool, bool)] = &[
     ("Linux", "Linux", true, true),
     ("Linux", "linux", false, true),

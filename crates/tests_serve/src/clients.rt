@@ -1,4 +1,4 @@
-//! What clients send, and what they read.
+//! What clients send and read.
 
 use std::io;
 use std::io::{Read, Write};
@@ -13,7 +13,7 @@ pub const POST: &str =
 pub const CREATED: &str =
     "HTTP/1.1 201 Created\r\nContent-Type: text/plain\r\nContent-Length: 10\r\n\r\ncreated 1\n";
 
-/// Sends a text, and says whether this very answer comes back.
+/// Sends a text. Returns whether exactly this answer comes back.
 pub fn is_answered(stream: &TcpStream, text: &[&str], answer: &str) -> io::Result<bool> {
     let mut out = stream;
     for piece in text {

@@ -1,5 +1,5 @@
-//! The end of a session: whatever a client has sent behind it, the client reads the last answers, and then the end of the stream; and one
-//! that does not close holds no seat.
+//! The end of a session. Whatever a client has sent after it, the client reads the last answers and then the end of the
+//! stream. A client that does not close holds no seat.
 
 use crate::clients::{BODY, POST};
 use crate::service::serve;
@@ -9,11 +9,11 @@ use std::net::{Net, SocketAddr, TcpListener, TcpStream};
 use std::test::Fail;
 use std::{io, thread};
 
-/// What a client sends that ends its session, and all that it is answered.
-type Last<'a> = (&'a [&'a str], &'a str);
+/// What a client sends that ends its session, and the whole answer.
+type LastExchange<'a> = (&'a [&'a str], &'a str);
 
-/// An event that closes, a body that is too long, and a head that is none.
-const HOOKS: &[Last<'static>] = &[
+/// An event whose request closes the connection, a body that is too long, and an invalid head.
+const HOOKS: &[LastExchange<'static>] = &[
     (
         &[
             "POST /events HTTP/1.1\r\nX-GitHub-Delivery: d1\r\nX-GitHub-Event: push\r\nConnection: close\r\nContent-Length: 81\r\n\r\n",
@@ -37,32 +37,33 @@ const HOOKS: &[Last<'static>] = &[
 
 const LINE: &str = "FETCH 9\n";
 
-/// Three lines; what is sent behind them is a line that is too long.
-const RUNNERS: &[Last<'static>] = &[(
+/// Three lines. What is sent after them is a line that is too long.
+const RUNNERS: &[LastExchange<'static>] = &[(
     &[LINE, LINE, LINE],
     "refused 40\nrefused 40\nrefused 40\nrefused 75\n",
 )];
 
-/// What is sent over and over behind the end of a session.
-const BEHIND: &[u8] = &[b'x'; 16_384];
+/// What is sent repeatedly after the end of a session.
+const EXTRA: &[u8] = &[b'x'; 16_384];
 
-/// Sends a text that ends its session, and 262,144 bytes behind it.
+/// Sends a text that ends its session, and 262,144 bytes after it.
 fn send_on(stream: &mut TcpStream, text: &[&str]) -> io::Result<()> {
     for piece in text {
         stream.write_all(piece.as_bytes())?;
     }
     for _ in 0..16 {
-        stream.write_all(BEHIND)?;
+        stream.write_all(EXTRA)?;
     }
     Ok(())
 }
 
-/// A stream that was sent on, whose client was given this very answer and then the end of it, and no reset.
+/// The stream after the text and more was sent on it, if the client got exactly this answer and then the end of the
+/// stream, without a reset.
 fn answered<R: Net<Stream = TcpStream>>(
     rt: &R,
     alloc: Global,
     to: SocketAddr,
-    (text, answer): &Last<'_>,
+    (text, answer): &LastExchange<'_>,
 ) -> io::Result<Option<TcpStream>> {
     let mut stream = TcpStream::connect(rt, to)?;
     send_on(&mut stream, text)?;
@@ -71,16 +72,16 @@ fn answered<R: Net<Stream = TcpStream>>(
     Ok((given.as_slice() == answer.as_bytes()).then_some(stream))
 }
 
-/// How many rounds are served.
+/// The number of rounds.
 const ROUNDS: usize = 24;
 
-/// A stream in each round, with one of the texts after the other: how many were answered so, and how many of these could be sent on
-/// behind their end.
-fn visits<R: Net<Stream = TcpStream>>(
+/// Opens a stream in each round and sends the texts in turn. Returns the number of streams that got their answer, and
+/// the number of these on which more could be sent after the end.
+fn run_clients<R: Net<Stream = TcpStream>>(
     rt: &R,
     alloc: Global,
     to: SocketAddr,
-    texts: &[Last<'_>],
+    texts: &[LastExchange<'_>],
 ) -> (usize, usize) {
     let (mut all, mut sent_on) = (0_usize, 0_usize);
     for last in texts.iter().cycle().take(ROUNDS) {
@@ -92,10 +93,10 @@ fn visits<R: Net<Stream = TcpStream>>(
     (all, sent_on)
 }
 
-/// Each client is given its last answers. Of those that send on half at least have to be read: one that is kept from a processor for a
-/// quarter of a second is let go.
+/// Each client gets its last answers. At least half of those that send more must be read: the service closes a client
+/// that gets no processor for a quarter of a second.
 #[test]
-fn last_answers_are_read(rt: HostRuntime) -> Result<(), Fail> {
+fn clients_read_their_last_answers(rt: HostRuntime) -> Result<(), Fail> {
     let alloc: Global = rt.alloc();
     let hooks = TcpListener::bind(&rt, "127.0.0.1:0")?;
     let runners = TcpListener::bind(&rt, "127.0.0.1:0")?;
@@ -104,8 +105,8 @@ fn last_answers_are_read(rt: HostRuntime) -> Result<(), Fail> {
     let mut out: Vec<u8> = Vec::new(alloc);
     let rt = &rt;
     let ended = thread::scope(thread::scope_env(), rt, |scope| {
-        let one = scope.spawn(|| visits(rt, alloc, to_hooks, HOOKS));
-        let two = scope.spawn(|| visits(rt, alloc, to_runners, RUNNERS));
+        let one = scope.spawn(|| run_clients(rt, alloc, to_hooks, HOOKS));
+        let two = scope.spawn(|| run_clients(rt, alloc, to_runners, RUNNERS));
         let served = serve(rt, alloc, &hooks, &runners, ROUNDS as u64, &mut out);
         let one = one.map_or((0, 0), |handle| handle.join(rt));
         let two = two.map_or((0, 0), |handle| handle.join(rt));
@@ -120,15 +121,16 @@ fn last_answers_are_read(rt: HostRuntime) -> Result<(), Fail> {
     Ok(())
 }
 
-/// A stream on which a line is sent that does not end: whether the service ends it within 67,108,864 bytes.
+/// Sends a line without an end. Returns whether the service ends the stream within 67,108,864 bytes.
 fn is_cut_off<R: Net<Stream = TcpStream>>(rt: &R, to: SocketAddr) -> io::Result<bool> {
     let mut stream = TcpStream::connect(rt, to)?;
-    Ok((0..4096).any(|_| stream.write_all(BEHIND).is_err()))
+    Ok((0..4096).any(|_| stream.write_all(EXTRA).is_err()))
 }
 
-/// The one client reads to the end of its stream, and closes it only once the service has ended; the other one sends for as long as it can.
+/// One client reads to the end of its stream, and closes it only once the service has ended. The other sends for as
+/// long as it can.
 #[test]
-fn clients_that_stay_hold_no_seat(rt: HostRuntime) -> Result<(), Fail> {
+fn clients_that_do_not_close_hold_no_seat(rt: HostRuntime) -> Result<(), Fail> {
     let alloc: Global = rt.alloc();
     let hooks = TcpListener::bind(&rt, "127.0.0.1:0")?;
     let runners = TcpListener::bind(&rt, "127.0.0.1:0")?;

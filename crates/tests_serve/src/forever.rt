@@ -1,7 +1,8 @@
-//! A service that goes on, with one seat on each port: the clients of a port share it, and their sessions go on over its histories.
+//! A service without end, with one seat on each port: the clients of a port share it, and their sessions continue over
+//! its histories.
 
 use crate::clients::{BODY, CREATED, POST, is_answered};
-use crate::service::{Lines, go_on};
+use crate::service::{Lines, serve_until_output_fails};
 use acts_serve::Limits;
 use std::alloc::Global;
 use std::io::{Read, Write};
@@ -10,8 +11,8 @@ use std::test::Fail;
 use std::time::Duration;
 use std::{io, thread};
 
-/// How long a client waits for an answer, in seconds, at most.
-const PATIENCE: u64 = 20;
+/// How long a client waits at most for an answer, in seconds.
+const TIMEOUT: u64 = 20;
 
 const LOOK: &str = "GET /runs/1 HTTP/1.1\r\n\r\n";
 
@@ -29,7 +30,7 @@ struct Ports {
     runners: SocketAddr,
 }
 
-/// Listeners on free ports, and where they are.
+/// Listeners on free ports, and their addresses.
 fn listeners<R: Net<Listener = TcpListener, Stream = TcpStream>>(
     rt: &R,
 ) -> io::Result<(TcpListener, TcpListener, Ports)> {
@@ -42,7 +43,7 @@ fn listeners<R: Net<Listener = TcpListener, Stream = TcpStream>>(
     Ok((hooks, runners, ports))
 }
 
-/// A history of so many commands, in which nobody is let go.
+/// A history of so many commands, in which no client is closed for silence.
 fn limits(commands: u64) -> Limits {
     Limits {
         commands,
@@ -50,10 +51,10 @@ fn limits(commands: u64) -> Limits {
     }
 }
 
-/// A client that waits for an answer for a bounded time.
+/// A client that waits for an answer for a limited time.
 fn client<R: Net<Stream = TcpStream>>(rt: &R, to: SocketAddr) -> io::Result<TcpStream> {
     let stream = TcpStream::connect(rt, to)?;
-    stream.set_read_timeout(Some(Duration::from_secs(PATIENCE)))?;
+    stream.set_read_timeout(Some(Duration::from_secs(TIMEOUT)))?;
     Ok(stream)
 }
 
@@ -62,7 +63,7 @@ fn send(stream: &TcpStream, text: &str) -> io::Result<()> {
     stream.write_all(text.as_bytes())
 }
 
-/// Clients of each port that say nothing, or half a request, beside others on the same seat.
+/// Clients of each port that send nothing, or half a request, beside others on the same seat.
 fn silent_clients<R: Net<Stream = TcpStream>>(rt: &R, ports: Ports) -> io::Result<bool> {
     let silent = client(rt, ports.runners)?;
     let half = client(rt, ports.hooks)?;
@@ -72,19 +73,19 @@ fn silent_clients<R: Net<Stream = TcpStream>>(rt: &R, ports: Ports) -> io::Resul
     let leased = is_answered(&runner, &["CLAIM r1 1 linux\n"], "lease 1 1 build 0 {}\n")?;
     let ended = is_answered(&runner, &["DONE r1 2 1 success\n"], "ok\n")?;
     let seen = is_answered(&half, &["TP/1.1\r\n\r\n"], SEEN)?;
-    let spoke = is_answered(&silent, &[FETCH], UNKNOWN)?;
-    Ok(created && leased && ended && seen && spoke)
+    let fetched = is_answered(&silent, &[FETCH], UNKNOWN)?;
+    Ok(created && leased && ended && seen && fetched)
 }
 
 #[test]
-fn a_client_that_says_nothing_lends_its_seat(rt: HostRuntime) -> Result<(), Fail> {
+fn an_idle_client_lends_its_seat(rt: HostRuntime) -> Result<(), Fail> {
     let alloc: Global = rt.alloc();
     let mut out = Lines::new(alloc, 1);
     let (hooks, runners, ports) = listeners(&rt)?;
     let rt = &rt;
     let ended = thread::scope(thread::scope_env(), rt, |scope| {
         let playing = scope.spawn(|| silent_clients(rt, ports));
-        let refused = go_on(rt, alloc, &hooks, &runners, limits(5), &mut out);
+        let refused = serve_until_output_fails(rt, alloc, &hooks, &runners, limits(5), &mut out);
         let answered = playing.is_ok_and(|handle| handle.join(rt).unwrap_or(false));
         (answered, refused)
     });
@@ -93,8 +94,8 @@ fn a_client_that_says_nothing_lends_its_seat(rt: HostRuntime) -> Result<(), Fail
     Ok(())
 }
 
-/// Two clients over three histories of two commands each: half a request is held from the first history to the second one, and in the third
-/// two requests come at once.
+/// Two clients over three histories of two commands each. Half a request is kept from the first history to the second,
+/// and in the third two requests come at once.
 fn over_histories<R: Net<Stream = TcpStream>>(rt: &R, ports: Ports) -> io::Result<bool> {
     let hook = client(rt, ports.hooks)?;
     let runner = client(rt, ports.runners)?;
@@ -108,14 +109,14 @@ fn over_histories<R: Net<Stream = TcpStream>>(rt: &R, ports: Ports) -> io::Resul
 }
 
 #[test]
-fn a_session_goes_on_over_histories(rt: HostRuntime) -> Result<(), Fail> {
+fn a_session_continues_over_histories(rt: HostRuntime) -> Result<(), Fail> {
     let alloc: Global = rt.alloc();
     let mut out = Lines::new(alloc, 3);
     let (hooks, runners, ports) = listeners(&rt)?;
     let rt = &rt;
     let ended = thread::scope(thread::scope_env(), rt, |scope| {
         let playing = scope.spawn(|| over_histories(rt, ports));
-        let refused = go_on(rt, alloc, &hooks, &runners, limits(2), &mut out);
+        let refused = serve_until_output_fails(rt, alloc, &hooks, &runners, limits(2), &mut out);
         let answered = playing.is_ok_and(|handle| handle.join(rt).unwrap_or(false));
         (answered, refused)
     });
@@ -127,7 +128,7 @@ fn a_session_goes_on_over_histories(rt: HostRuntime) -> Result<(), Fail> {
     Ok(())
 }
 
-/// Sends a text, and goes once an answer has come, without reading it.
+/// Sends a text, and closes the stream once an answer has come, without reading it.
 fn reset_by<R: Net<Stream = TcpStream>>(rt: &R, to: SocketAddr, text: &str) -> io::Result<()> {
     let stream = client(rt, to)?;
     send(&stream, text)?;
@@ -135,24 +136,25 @@ fn reset_by<R: Net<Stream = TcpStream>>(rt: &R, to: SocketAddr, text: &str) -> i
     Ok(())
 }
 
-/// A client of each port that goes while an answer lies unread, and in the midst of its next request: the system resets such a stream.
+/// A client of each port that leaves with an unread answer, in the middle of its next request. The system resets such a
+/// stream.
 fn reset_clients<R: Net<Stream = TcpStream>>(rt: &R, ports: Ports) -> io::Result<bool> {
     reset_by(rt, ports.runners, "FETCH 9\nFETCH")?;
     reset_by(rt, ports.hooks, "GET /runs/9 HTTP/1.1\r\n\r\nGET")?;
     let created = is_answered(&client(rt, ports.hooks)?, &[POST, BODY], CREATED)?;
-    let spoke = is_answered(&client(rt, ports.runners)?, &[FETCH], UNKNOWN)?;
-    Ok(created && spoke)
+    let fetched = is_answered(&client(rt, ports.runners)?, &[FETCH], UNKNOWN)?;
+    Ok(created && fetched)
 }
 
 #[test]
-fn a_client_that_resets_its_stream_ends_nothing_else(rt: HostRuntime) -> Result<(), Fail> {
+fn a_client_that_resets_its_stream_ends_only_its_session(rt: HostRuntime) -> Result<(), Fail> {
     let alloc: Global = rt.alloc();
     let mut out = Lines::new(alloc, 1);
     let (hooks, runners, ports) = listeners(&rt)?;
     let rt = &rt;
     let ended = thread::scope(thread::scope_env(), rt, |scope| {
         let playing = scope.spawn(|| reset_clients(rt, ports));
-        let refused = go_on(rt, alloc, &hooks, &runners, limits(4), &mut out);
+        let refused = serve_until_output_fails(rt, alloc, &hooks, &runners, limits(4), &mut out);
         let answered = playing.is_ok_and(|handle| handle.join(rt).unwrap_or(false));
         (answered, refused)
     });
@@ -160,23 +162,23 @@ fn a_client_that_resets_its_stream_ends_nothing_else(rt: HostRuntime) -> Result<
     Ok(())
 }
 
-/// Whether the service has ended the stream, and written nothing more to it.
-fn is_let_go(stream: &TcpStream) -> io::Result<bool> {
+/// Whether the service has ended the stream and written nothing more to it.
+fn is_disconnected(stream: &TcpStream) -> io::Result<bool> {
     let mut stream = stream;
     Ok(stream.read(&mut [0u8; 1])? == 0)
 }
 
-/// A client that has said nothing for too long, and one that comes then.
+/// A client that has been silent for too long, and one that comes after it.
 fn idle_clients<R: Net<Stream = TcpStream>>(rt: &R, ports: Ports) -> io::Result<bool> {
     let runner = client(rt, ports.runners)?;
-    let spoke = is_answered(&runner, &[FETCH, "FETCH"], UNKNOWN)?;
-    let gone = is_let_go(&runner)? && is_let_go(&client(rt, ports.hooks)?)?;
+    let fetched = is_answered(&runner, &[FETCH, "FETCH"], UNKNOWN)?;
+    let gone = is_disconnected(&runner)? && is_disconnected(&client(rt, ports.hooks)?)?;
     let created = is_answered(&client(rt, ports.hooks)?, &[POST, BODY], CREATED)?;
-    Ok(spoke && gone && created)
+    Ok(fetched && gone && created)
 }
 
 #[test]
-fn a_client_that_says_nothing_for_too_long_is_let_go(rt: HostRuntime) -> Result<(), Fail> {
+fn an_idle_client_is_disconnected_in_time(rt: HostRuntime) -> Result<(), Fail> {
     let alloc: Global = rt.alloc();
     let limits = Limits {
         commands: 2,
@@ -187,7 +189,7 @@ fn a_client_that_says_nothing_for_too_long_is_let_go(rt: HostRuntime) -> Result<
     let rt = &rt;
     let ended = thread::scope(thread::scope_env(), rt, |scope| {
         let playing = scope.spawn(|| idle_clients(rt, ports));
-        let refused = go_on(rt, alloc, &hooks, &runners, limits, &mut out);
+        let refused = serve_until_output_fails(rt, alloc, &hooks, &runners, limits, &mut out);
         let answered = playing.is_ok_and(|handle| handle.join(rt).unwrap_or(false));
         (answered, refused)
     });

@@ -1,4 +1,4 @@
-//! One client of each port, in threads of the test's own process, that take turns.
+//! One client of each port, in threads of the test's process, which work alternately.
 
 use crate::clients::{BODY, CREATED, POST, is_answered};
 use act_disk::MemoryDisk;
@@ -23,12 +23,12 @@ fn hook<R: Net<Stream = TcpStream> + Wait>(
     rt: &R,
     to: SocketAddr,
     next: &Sender<u8>,
-    turn: &Receiver<u8>,
+    signal: &Receiver<u8>,
 ) -> io::Result<bool> {
     let stream = TcpStream::connect(rt, to)?;
     let created = is_answered(&stream, &[POST, BODY], CREATED)?;
     let _ = next.send(rt, 1);
-    let _ = turn.recv(rt);
+    let _ = signal.recv(rt);
     let seen = is_answered(&stream, &[LOOK], SEEN)?;
     Ok(created && seen)
 }
@@ -38,10 +38,10 @@ fn runner<R: Net<Stream = TcpStream> + Wait>(
     rt: &R,
     to: SocketAddr,
     next: &Sender<u8>,
-    turn: &Receiver<u8>,
+    signal: &Receiver<u8>,
 ) -> io::Result<bool> {
     let stream = TcpStream::connect(rt, to)?;
-    let _ = turn.recv(rt);
+    let _ = signal.recv(rt);
     let leased = is_answered(&stream, &["CLAIM r1 1 linux\n"], "lease 1 1 build 0 {}\n")?;
     let ended = is_answered(&stream, &["DONE r1 2 1 success\n"], "ok\n")?;
     drop(stream);
@@ -49,7 +49,7 @@ fn runner<R: Net<Stream = TcpStream> + Wait>(
     Ok(leased && ended)
 }
 
-/// Serves a new store, and hands on how many entries it has then.
+/// Serves a new store, and returns the number of its entries.
 fn serve<R: Threads + Wait + Clock + Sync>(
     rt: &R,
     alloc: Global,
@@ -70,13 +70,13 @@ fn serves_one_client_on_each_port(rt: HostRuntime) -> Result<(), Fail> {
     let runners = TcpListener::bind(&rt, "127.0.0.1:0")?;
     let to_hooks = hooks.local_addr()?;
     let to_runners = runners.local_addr()?;
-    let (to_runner, runner_turn) = crossbeam_channel::bounded(alloc, 1)?;
-    let (to_hook, hook_turn) = crossbeam_channel::bounded(alloc, 1)?;
+    let (to_runner, runner_signal) = crossbeam_channel::bounded(alloc, 1)?;
+    let (to_hook, hook_signal) = crossbeam_channel::bounded(alloc, 1)?;
     let mut out: Vec<u8> = Vec::new(alloc);
     let rt = &rt;
     let ended = thread::scope(thread::scope_env(), rt, |scope| {
-        let one = scope.spawn(|| hook(rt, to_hooks, &to_runner, &hook_turn));
-        let two = scope.spawn(|| runner(rt, to_runners, &to_hook, &runner_turn));
+        let one = scope.spawn(|| hook(rt, to_hooks, &to_runner, &hook_signal));
+        let two = scope.spawn(|| runner(rt, to_runners, &to_hook, &runner_signal));
         let served = serve(rt, alloc, &hooks, &runners, &mut out);
         let one = one.is_ok_and(|handle| handle.join(rt).unwrap_or(false));
         let two = two.is_ok_and(|handle| handle.join(rt).unwrap_or(false));

@@ -1,4 +1,5 @@
-//! Rounds of sessions over loopback: each goes on at the table that the one before has left, and a stream that failed ends none.
+//! Rounds of sessions over loopback. Each continues from the table that the one before has left, and a failed stream
+//! ends no round.
 
 use crate::clients::{BODY, CREATED, POST, is_answered};
 use crate::service::serve;
@@ -8,8 +9,8 @@ use std::net::{Net, SocketAddr, TcpListener, TcpStream};
 use std::test::Fail;
 use std::{io, thread};
 
-/// One stream for each of two texts, one after the other, and whether each was answered so.
-fn visits<R: Net<Stream = TcpStream>>(
+/// Opens one stream for each text, one after another. Returns whether each got its answer.
+fn run_clients<R: Net<Stream = TcpStream>>(
     rt: &R,
     to: SocketAddr,
     rounds: &[(&[&str], &str)],
@@ -32,7 +33,7 @@ const THREE_HOOKS: &[(&[&str], &str)] = &[
     (&[POST, BODY], CREATED),
 ];
 
-/// What is asked of a run that is not there, and then the leg of the first round's run.
+/// A fetch of a run that does not exist, then a claim of the leg of the first round's run.
 const RUNNER: &[(&[&str], &str)] = &[
     (&["FETCH 9\n"], "refused 40\n"),
     (&["CLAIM r1 1 linux\n"], "lease 1 1 build 0 {}\n"),
@@ -48,8 +49,8 @@ fn serves_two_rounds(rt: HostRuntime) -> Result<(), Fail> {
     let mut out: Vec<u8> = Vec::new(alloc);
     let rt = &rt;
     let ended = thread::scope(thread::scope_env(), rt, |scope| {
-        let one = scope.spawn(|| visits(rt, to_hooks, HOOK));
-        let two = scope.spawn(|| visits(rt, to_runners, RUNNER));
+        let one = scope.spawn(|| run_clients(rt, to_hooks, HOOK));
+        let two = scope.spawn(|| run_clients(rt, to_runners, RUNNER));
         let served = serve(rt, alloc, &hooks, &runners, 2, &mut out);
         let one = one.is_ok_and(|handle| handle.join(rt).unwrap_or(false));
         let two = two.is_ok_and(|handle| handle.join(rt).unwrap_or(false));
@@ -60,17 +61,20 @@ fn serves_two_rounds(rt: HostRuntime) -> Result<(), Fail> {
     Ok(())
 }
 
-/// A stream that is reset once it was answered, and then one that is not.
-fn visits_after_a_reset<R: Net<Stream = TcpStream>>(rt: &R, to: SocketAddr) -> io::Result<bool> {
+/// A stream that is reset after its answer, and then one that is not.
+fn run_clients_after_a_reset<R: Net<Stream = TcpStream>>(
+    rt: &R,
+    to: SocketAddr,
+) -> io::Result<bool> {
     let mut reset = TcpStream::connect(rt, to)?;
     reset.write_all(b"FETCH 9\nFETCH")?;
     reset.peek(&mut [0u8; 1])?;
     drop(reset);
-    visits(rt, to, RUNNER)
+    run_clients(rt, to, RUNNER)
 }
 
 #[test]
-fn a_stream_that_failed_ends_no_round(rt: HostRuntime) -> Result<(), Fail> {
+fn a_failed_stream_does_not_end_its_round(rt: HostRuntime) -> Result<(), Fail> {
     let alloc: Global = rt.alloc();
     let hooks = TcpListener::bind(&rt, "127.0.0.1:0")?;
     let runners = TcpListener::bind(&rt, "127.0.0.1:0")?;
@@ -79,8 +83,8 @@ fn a_stream_that_failed_ends_no_round(rt: HostRuntime) -> Result<(), Fail> {
     let mut out: Vec<u8> = Vec::new(alloc);
     let rt = &rt;
     let ended = thread::scope(thread::scope_env(), rt, |scope| {
-        let one = scope.spawn(|| visits(rt, to_hooks, THREE_HOOKS));
-        let two = scope.spawn(|| visits_after_a_reset(rt, to_runners));
+        let one = scope.spawn(|| run_clients(rt, to_hooks, THREE_HOOKS));
+        let two = scope.spawn(|| run_clients_after_a_reset(rt, to_runners));
         let served = serve(rt, alloc, &hooks, &runners, 3, &mut out);
         let one = one.is_ok_and(|handle| handle.join(rt).unwrap_or(false));
         let two = two.is_ok_and(|handle| handle.join(rt).unwrap_or(false));

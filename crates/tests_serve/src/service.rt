@@ -1,4 +1,5 @@
-//! A service over a new store in memory, with one session on each port in each round, or one seat for all clients of a port.
+//! A service over a new store in memory, with one session on each port in each round, or one seat for all clients of a
+//! port.
 
 use act_disk::MemoryDisk;
 use act_store::Store;
@@ -11,7 +12,7 @@ use std::sync::Wait;
 use std::thread::Threads;
 use std::time::Clock;
 
-/// Serves so many rounds, and tells how many entries the last one has.
+/// Serves these rounds, and returns the number of entries of the last one.
 pub fn serve<R: Threads + Wait + Clock + Sync>(
     rt: &R,
     alloc: Global,
@@ -27,7 +28,7 @@ pub fn serve<R: Threads + Wait + Clock + Sync>(
     Some(settled.entries())
 }
 
-/// An output that takes so many lines, and then fails: that ends a service which goes on.
+/// An output that accepts a number of lines and then fails, which ends a service without end.
 #[derive(Drop)]
 pub struct Lines {
     pub text: Vec<u8>,
@@ -60,8 +61,9 @@ impl Write for Lines {
     }
 }
 
-/// Goes on serving with one seat on each port, until the output fails, and tells by which refusal it ended.
-pub fn go_on<R: Threads + Wait + Clock + Sync + Net>(
+/// Serves without end, with one seat on each port, until the output fails. Returns the number of the refusal that ended
+/// it.
+pub fn serve_until_output_fails<R: Threads + Wait + Clock + Sync + Net>(
     rt: &R,
     alloc: Global,
     hooks: &TcpListener,

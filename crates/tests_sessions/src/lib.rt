@@ -1,4 +1,4 @@
-//! The tests of sessions, over fakes and over a store that nobody else asks. Nothing stands on this crate.
+//! Tests of sessions, over fakes and over a store that no one else uses. No other crate depends on this one.
 #![tactic(auto)]
 
 #[cfg(test)]

@@ -1,46 +1,47 @@
-//! What stands for the service in the sessions of runners.
+//! A fake service for runner sessions.
 ghost use Rattle.std.specs.Prelude.{Ok};
 ghost use Rattle.wf_value.specs.Gives.{Gives};
 
 use crate::webhook_rows::BODY;
-use act_sessions::{Answer, Asked};
+use act_sessions::{Answer, LoggedExchange};
 use run_plan::{BoxedLease, Claim, Command, Lease, Number, Reply};
 use std::alloc::Global;
 use tests_common::commands::shared_body;
 use wf_value::{Chars, Code, Combo, Refusal, TryCopy};
 
-/// Answers by what it is asked alone, and lists that.
+/// Answers from the command alone, and lists the commands.
 #[derive(Drop)]
 pub struct Service {
     alloc: Global,
-    asked: Vec<Asked>,
+    exchanges: Vec<LoggedExchange>,
 }
 
 impl Service {
     pub fn new(alloc: Global) -> Self {
         Service {
             alloc,
-            asked: Vec::new(alloc),
+            exchanges: Vec::new(alloc),
         }
     }
 
-    /// How often it was asked.
+    /// How many commands were submitted to it.
     pub fn count(&self) -> usize {
-        self.asked.len()
+        self.exchanges.len()
     }
 }
 
 impl Answer for Service {
-    ghost use Rattle.act_sessions.specs.Told.{told_in};
+    ghost use Rattle.act_sessions.specs.Exchange.{exchanges_in};
 
-    ghost asked = { λ service. told_in service.asked.items };
+    ghost asked = { λ service. exchanges_in service.exchanges.items };
 
     fn ask(&mut self, command: Command) -> Result<Reply, Refusal> {
-        self.asked.reserve(1)?;
+        self.exchanges.reserve(1)?;
         let answer = answer_to(self.alloc, &command);
-        let told = copied(self.alloc, &answer)?;
-        self.asked.push_reserved(Asked { command, answer });
-        told
+        let copy = copied(self.alloc, &answer)?;
+        self.exchanges
+            .push_reserved(LoggedExchange { command, answer });
+        copy
     }
 }
 
@@ -53,8 +54,7 @@ fn copied(alloc: Global, answer: &Result<Reply, Refusal>) -> Result<Result<Reply
     }
 }
 
-/// What a table would answer of which nothing is known but what the rows ask for. A run that is fetched by the number of a refusal is refused
-/// with that.
+/// The answers that the rows expect, without a table. A fetch of a run whose id is a refusal number is refused with that number.
 fn answer_to(alloc: Global, command: &Command) -> Result<Reply, Refusal> {
     match command {
         Command::Claim(claim) => answer_to_claim(alloc, claim),

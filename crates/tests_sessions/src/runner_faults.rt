@@ -1,4 +1,4 @@
-//! Sessions of runners whose reader or writer fails at each byte.
+//! Runner sessions whose reader or writer fails at each byte.
 
 use crate::runner_fake::Service;
 use crate::runner_rows::{ANSWERS, LINES};
@@ -8,10 +8,10 @@ use runner_sessions::Session;
 use std::alloc::Global;
 use std::process::Abort;
 
-/// Where each answer begins, and how many commands were asked once it is due: a faulty line asks none.
+/// Where each answer begins, and how many commands are submitted by then. A faulty line submits none.
 const ANSWERED: [(usize, usize); 5] = [(0, 1), (21, 2), (32, 3), (38, 3), (49, 4)];
 
-/// Where each line ends, where its answer ends, and how many commands were asked by then.
+/// Where each line ends, where its answer ends, and how many commands are submitted by then.
 const ENDS: [(usize, usize, usize); 5] = [
     (17, 21, 1),
     (34, 32, 2),
@@ -20,7 +20,7 @@ const ENDS: [(usize, usize, usize); 5] = [
     (70, 52, 4),
 ];
 
-/// A session that broke: its transcript, what was written, and how often the service was asked.
+/// A session that broke: its transcript, what was written, and how many commands the service got.
 fn broken(
     rt: &impl Abort,
     alloc: Global,
@@ -40,61 +40,61 @@ fn broken(
     }
 }
 
-/// That a transcript holds what was asked and counts what was written.
-fn expect_held(rt: &impl Abort, transcript: &Transcript, written: &[u8], asked: usize) {
-    assert!(rt; transcript.asked.len() == asked);
+/// Checks that a transcript lists what was submitted and counts what was written.
+fn expect_logged(rt: &impl Abort, transcript: &Transcript, written: &[u8], submitted: usize) {
+    assert!(rt; transcript.asked.len() == submitted);
     assert!(rt; transcript.written == written.len() as u64);
 }
 
-/// How many bytes of the answers are written, and how many commands asked, once so many bytes of the lines were read.
-fn due(given: usize) -> (usize, usize) {
-    let mut due = (0, 0);
-    for (read, written, asked) in ENDS {
+/// How many bytes of the answers are written, and how many commands submitted, once `given` bytes of the lines were read.
+fn expected_by(given: usize) -> (usize, usize) {
+    let mut expected = (0, 0);
+    for (read, written, submitted) in ENDS {
         if read <= given {
-            due = (written, asked);
+            expected = (written, submitted);
         }
     }
-    due
+    expected
 }
 
 #[test]
-fn fails_with_its_reader_of_lines(rt: HostRuntime) {
+fn a_runner_session_fails_with_its_reader(rt: HostRuntime) {
     for given in 0..=LINES.len() {
         let reader = Pieces::failing(LINES.as_bytes(), 9, given);
-        let (transcript, written, asked) = broken(&rt, rt.alloc(), reader, usize::MAX);
-        let (length, count) = due(given);
-        assert!(rt; asked == count, "{given}");
+        let (transcript, written, submitted) = broken(&rt, rt.alloc(), reader, usize::MAX);
+        let (length, count) = expected_by(given);
+        assert!(rt; submitted == count, "{given}");
         assert!(rt;
             ANSWERS.as_bytes().starts_with(written.as_slice()),
             "{given}"
         );
         assert!(rt; written.len() == length, "{given}");
-        expect_held(&rt, &transcript, written.as_slice(), asked);
+        expect_logged(&rt, &transcript, written.as_slice(), submitted);
     }
 }
 
-/// How many commands were asked before the answer that so many bytes begin, or cut.
-fn asked_by(taken: usize) -> usize {
-    let mut asked = 0;
+/// How many commands are submitted by the time a writer fails after `taken` bytes.
+fn submitted_by(taken: usize) -> usize {
+    let mut submitted = 0;
     for (begins, count) in ANSWERED {
         if begins <= taken {
-            asked = count;
+            submitted = count;
         }
     }
-    asked
+    submitted
 }
 
 #[test]
-fn fails_with_its_writer_of_lines(rt: HostRuntime) {
+fn a_runner_session_fails_with_its_writer(rt: HostRuntime) {
     for taken in 0..ANSWERS.len() {
         let reader = Pieces::new(LINES.as_bytes(), 9);
-        let (transcript, written, asked) = broken(&rt, rt.alloc(), reader, taken);
-        assert!(rt; asked == asked_by(taken), "{taken}");
+        let (transcript, written, submitted) = broken(&rt, rt.alloc(), reader, taken);
+        assert!(rt; submitted == submitted_by(taken), "{taken}");
         assert!(rt;
             ANSWERS.as_bytes().starts_with(written.as_slice()),
             "{taken}"
         );
         assert!(rt; written.len() == taken, "{taken}");
-        expect_held(&rt, &transcript, written.as_slice(), asked);
+        expect_logged(&rt, &transcript, written.as_slice(), submitted);
     }
 }

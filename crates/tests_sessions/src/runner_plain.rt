@@ -1,7 +1,7 @@
-//! A session of runner lines as a plain program over all of its bytes, without a buffer and without pieces; and sessions that write the same.
+//! A session of runner lines as a plain program over all of its bytes, without a buffer or pieces, and sessions that write the same.
 
 use crate::runner_fake::Service;
-use crate::runner_rows::{LONG, ROWS, expect_answered, spelled};
+use crate::runner_rows::{LONG, ROWS, expect_answered, repeated};
 use crate::webhook_fakes::Pieces;
 use act_sessions::Answer;
 use run_plan::{Command, Reply};
@@ -11,11 +11,11 @@ use tests_common::commands::{Words, command_of};
 use wf_value::{Code, Outcome, Refusal};
 
 /// The most bytes of a line with its line feed, and the most lines.
-const MOST_LINE: usize = 512;
+const MAX_LINE: usize = 512;
 
-const MOST_LINES: usize = 1_024;
+const MAX_LINES: usize = 1_024;
 
-/// The answers after which a session ends.
+/// The answers that end a session.
 const LAST: [u64; 8] = [46, 47, 48, 50, 51, 52, 57, 60];
 
 fn outcome_of(word: &str) -> Result<Outcome, Refusal> {
@@ -27,7 +27,7 @@ fn outcome_of(word: &str) -> Result<Outcome, Refusal> {
     }
 }
 
-/// The command of a line; another is refused 75.
+/// The command of a line; any other line is refused with 75.
 fn command_in(alloc: Global, line: &str) -> Result<Command, Refusal> {
     let mut words = line.split(' ');
     let first = (words.next(), words.next(), words.next());
@@ -52,7 +52,7 @@ fn command_in(alloc: Global, line: &str) -> Result<Command, Refusal> {
     }
 }
 
-/// What a line is answered.
+/// The answer to a line.
 fn answer_to(alloc: Global, line: &[u8], service: &mut Service) -> Result<Reply, Refusal> {
     match str::from_utf8(line) {
         Ok(text) => service.ask(command_in(alloc, text.strip_suffix('\r').unwrap_or(text))?),
@@ -82,24 +82,24 @@ fn is_last(answer: &Result<Reply, Refusal>) -> bool {
     }
 }
 
-/// The first line and what is behind it, where it is short enough.
+/// The first line and the bytes after it, if the line is short enough.
 fn first_line(bytes: &[u8]) -> Option<(&[u8], &[u8])> {
     match bytes.iter().position(|byte| *byte == b'\n') {
-        Some(place) if place < MOST_LINE && place < bytes.len() => {
-            Some((&bytes[..place], &bytes[place + 1..]))
+        Some(index) if index < MAX_LINE && index < bytes.len() => {
+            Some((&bytes[..index], &bytes[index + 1..]))
         }
         _ => None,
     }
 }
 
-/// What a session writes over all of its bytes, and how many commands it asks.
+/// What a session writes over all of its bytes, and how many commands it submits.
 fn written_over(alloc: Global, input: &[u8]) -> Result<(Vec<u8>, usize), Refusal> {
     let mut service = Service::new(alloc);
     let mut written = Vec::new(alloc);
     let mut rest = input;
-    for _ in 0..MOST_LINES {
-        let Some((line, behind)) = first_line(rest) else {
-            if rest.len() >= MOST_LINE {
+    for _ in 0..MAX_LINES {
+        let Some((line, following)) = first_line(rest) else {
+            if rest.len() >= MAX_LINE {
                 written.extend_from_slice(b"refused 75\n")?;
             }
             break;
@@ -109,30 +109,30 @@ fn written_over(alloc: Global, input: &[u8]) -> Result<(Vec<u8>, usize), Refusal
         if is_last(&answer) {
             break;
         }
-        rest = behind;
+        rest = following;
     }
     Ok((written, service.count()))
 }
 
-/// That sessions over the bytes do what the plain program does, whatever the pieces.
+/// Checks that sessions over the bytes do what the plain program does, whatever the pieces.
 fn expect_plain(rt: &impl Abort, alloc: Global, input: &[u8]) {
-    let (written, asked) = written_over(alloc, input).expect(rt, "memory");
+    let (written, submitted) = written_over(alloc, input).expect(rt, "memory");
     for piece in [3, 100_000] {
         let reader = Pieces::new(input, piece);
-        expect_answered(rt, alloc, reader, written.as_slice(), asked);
+        expect_answered(rt, alloc, reader, written.as_slice(), submitted);
     }
 }
 
 #[test]
-fn answers_lines_as_the_plain_program(rt: HostRuntime) {
+fn lines_are_answered_as_by_the_plain_program(rt: HostRuntime) {
     for &(one, _, _) in ROWS {
         for &(other, _, _) in ROWS {
-            let input = spelled(&rt, rt.alloc(), &[(one, 1), (other, 1)]);
+            let input = repeated(&rt, rt.alloc(), &[(one, 1), (other, 1)]);
             expect_plain(&rt, rt.alloc(), input.as_slice());
         }
     }
     for &(pieces, _, _) in LONG {
-        let input = spelled(&rt, rt.alloc(), pieces);
+        let input = repeated(&rt, rt.alloc(), pieces);
         expect_plain(&rt, rt.alloc(), input.as_slice());
     }
 }

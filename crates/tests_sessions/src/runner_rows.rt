@@ -1,4 +1,4 @@
-//! Lines of runners, and the lines that answer them.
+//! Runner lines, and the lines that answer them.
 
 use crate::runner_fake::Service;
 use crate::webhook_fakes::Pieces;
@@ -14,7 +14,7 @@ pub const LINES: &str =
 
 pub const ANSWERS: &str = "lease 1 1 build 0 {}\nrefused 42\ngo on\nrefused 75\nok\n";
 
-/// Lines, what answers them, and how many commands they ask.
+/// Lines, their answers, and how many commands they submit.
 pub const ROWS: &[(&str, &str, usize)] = &[
     ("", "", 0),
     (LINES, ANSWERS, 4),
@@ -32,7 +32,7 @@ pub const ROWS: &[(&str, &str, usize)] = &[
     // One carriage return is dropped, and empty lines are lines.
     ("FETCH 9\r\nFETCH 9\r\r\n", "refused 40\nrefused 75\n", 1),
     ("\n\r\n", "refused 75\nrefused 75\n", 0),
-    // What is no line of a runner: the session goes on behind it.
+    // Text that is not a runner line: the session continues after it.
     (
         "fetch 9\nLOOK 1\nFETCH 9\n",
         "refused 75\nrefused 75\nrefused 40\n",
@@ -66,13 +66,13 @@ pub const ROWS: &[(&str, &str, usize)] = &[
     ("FETCH 60\nFETCH 9\n", "refused 60\n", 1),
 ];
 
-/// Holds a session over the fake, and compares what was written, asked and counted.
+/// Runs a session over the fake, and compares what was written, submitted and counted.
 pub fn expect_answered<R: Read + Drop>(
     rt: &impl Abort,
     alloc: Global,
     reader: R,
     output: &[u8],
-    asked: usize,
+    submitted: usize,
 ) {
     let mut reader = reader;
     let mut written = Vec::new(alloc);
@@ -87,26 +87,26 @@ pub fn expect_answered<R: Read + Drop>(
         written,
         output
     );
-    expect_told(rt, &transcript, output.len(), asked);
-    assert!(rt; service.count() == asked);
+    expect_transcript(rt, &transcript, output.len(), submitted);
+    assert!(rt; service.count() == submitted);
 }
 
-/// That a session ended well, and counts what it wrote and asked.
-fn expect_told(rt: &impl Abort, transcript: &Transcript, written: usize, asked: usize) {
+/// Checks that a session ended well, and counts what it wrote and submitted.
+fn expect_transcript(rt: &impl Abort, transcript: &Transcript, written: usize, submitted: usize) {
     assert!(rt; transcript.ending == Ending::Done);
     assert!(rt; transcript.written == written as u64);
-    assert!(rt; transcript.asked.len() == asked);
+    assert!(rt; transcript.asked.len() == submitted);
 }
 
 /// How many bytes a reader gives at a time.
 const PIECES: [usize; 3] = [1, 7, 100_000];
 
 #[test]
-fn answers_lines_in_any_pieces(rt: HostRuntime) {
+fn lines_are_answered_in_any_pieces(rt: HostRuntime) {
     for piece in PIECES {
-        for &(input, output, asked) in ROWS {
+        for &(input, output, submitted) in ROWS {
             let reader = Pieces::new(input.as_bytes(), piece);
-            expect_answered(&rt, rt.alloc(), reader, output.as_bytes(), asked);
+            expect_answered(&rt, rt.alloc(), reader, output.as_bytes(), submitted);
         }
     }
     for cut in 1..=LINES.len() {
@@ -115,14 +115,14 @@ fn answers_lines_in_any_pieces(rt: HostRuntime) {
     }
 }
 
-/// The pieces of an input, each with how often it stands there, and the same of what answers it; and how many commands it asks.
+/// The pieces of an input, each with its number of repetitions, the same for the answer, and how many commands the input submits.
 pub type Long = (
     &'static [(&'static str, usize)],
     &'static [(&'static str, usize)],
     usize,
 );
 
-/// A comma, and a label as long as it may be.
+/// A comma and a label of the greatest length.
 const SIXTY_FOUR: &str = ",bbbbbbbbbbbbbbbbbbbbbbbbbbbbbbbbbbbbbbbbbbbbbbbbbbbbbbbbbbbbbbbb";
 
 pub const LONG: &[Long] = &[
@@ -175,8 +175,8 @@ pub const LONG: &[Long] = &[
     ),
 ];
 
-/// The pieces in a row, each so many times.
-pub fn spelled(rt: &impl Abort, alloc: Global, pieces: &[(&str, usize)]) -> Vec<u8> {
+/// The repeated pieces in a row.
+pub fn repeated(rt: &impl Abort, alloc: Global, pieces: &[(&str, usize)]) -> Vec<u8> {
     let mut bytes = Vec::new(alloc);
     for &(piece, times) in pieces {
         for _ in 0..times {
@@ -202,15 +202,15 @@ impl Read for Endless {
 }
 
 #[test]
-fn bounds_a_session_of_lines(rt: HostRuntime) {
-    for &(input, output, asked) in LONG {
-        let input = spelled(&rt, rt.alloc(), input);
-        let output = spelled(&rt, rt.alloc(), output);
+fn a_runner_session_is_bounded(rt: HostRuntime) {
+    for &(input, output, submitted) in LONG {
+        let input = repeated(&rt, rt.alloc(), input);
+        let output = repeated(&rt, rt.alloc(), output);
         for piece in [5, 100_000] {
             let reader = Pieces::new(input.as_slice(), piece);
-            expect_answered(&rt, rt.alloc(), reader, output.as_slice(), asked);
+            expect_answered(&rt, rt.alloc(), reader, output.as_slice(), submitted);
         }
     }
-    let output = spelled(&rt, rt.alloc(), &[("refused 75\n", 1_024)]);
+    let output = repeated(&rt, rt.alloc(), &[("refused 75\n", 1_024)]);
     expect_answered(&rt, rt.alloc(), Endless, output.as_slice(), 0);
 }

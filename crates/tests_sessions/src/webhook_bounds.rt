@@ -1,11 +1,11 @@
-//! The longest heads, bodies and sessions, and what is a byte, a field or a request longer.
+//! The longest heads, bodies and sessions, and inputs that are a byte, a field or a request longer.
 
 use crate::webhook_fakes::Pieces;
 use crate::webhook_rows::{BAD_HEAD, LOOK, NO_PATH, SEEN, SEEN_AT_LAST, expect_answered};
 use std::alloc::Global;
 use std::process::Abort;
 
-/// The pieces of an input, each with how often it stands there, and the same of what answers it; and how many commands it asks.
+/// The pieces of an input, each with its number of repetitions, the same for the answer, and how many commands the input submits.
 pub type Long = (
     &'static [(&'static str, usize)],
     &'static [(&'static str, usize)],
@@ -73,8 +73,8 @@ pub const LONG: &[Long] = &[
     (&[(LOOK, 65)], &[(SEEN, 63), (SEEN_AT_LAST, 1)], 64),
 ];
 
-/// The pieces in a row, each so many times.
-pub fn spelled(rt: &impl Abort, alloc: Global, pieces: &[(&str, usize)]) -> Vec<u8> {
+/// The repeated pieces in a row.
+pub fn repeated(rt: &impl Abort, alloc: Global, pieces: &[(&str, usize)]) -> Vec<u8> {
     let mut bytes = Vec::new(alloc);
     for &(piece, times) in pieces {
         for _ in 0..times {
@@ -87,13 +87,13 @@ pub fn spelled(rt: &impl Abort, alloc: Global, pieces: &[(&str, usize)]) -> Vec<
 }
 
 #[test]
-fn bounds_a_session(rt: HostRuntime) {
-    for &(input, output, asked) in LONG {
-        let input = spelled(&rt, rt.alloc(), input);
-        let output = spelled(&rt, rt.alloc(), output);
+fn a_webhook_session_is_bounded(rt: HostRuntime) {
+    for &(input, output, submitted) in LONG {
+        let input = repeated(&rt, rt.alloc(), input);
+        let output = repeated(&rt, rt.alloc(), output);
         for piece in [1_000, 100_000] {
             let reader = Pieces::new(input.as_slice(), piece);
-            expect_answered(&rt, rt.alloc(), reader, output.as_slice(), asked);
+            expect_answered(&rt, rt.alloc(), reader, output.as_slice(), submitted);
         }
     }
 }

@@ -1,9 +1,9 @@
-//! What stands for a sender and for the service.
+//! Fakes of a sender and of the service.
 ghost use Rattle.std.specs.Prelude.{Ok};
 ghost use Rattle.wf_value.specs.Gives.{Gives};
 
 use crate::webhook_rows::BODY;
-use act_sessions::{Answer, Asked};
+use act_sessions::{Answer, LoggedExchange};
 use run_plan::{Attempt, Command, Reply};
 use std::alloc::Global;
 use std::io;
@@ -11,7 +11,7 @@ use std::io::{ErrorKind, Read, Write};
 use tests_common::commands::shared_body;
 use wf_value::{Chars, Code, Refusal, TryCopy};
 
-/// Gives pieces of so many bytes at most, the first of another length, and fails once so many were given.
+/// Gives pieces of at most `piece` bytes, the first one of another length, and fails once `left` bytes were given.
 #[derive(Drop)]
 pub struct Pieces<'a> {
     bytes: &'a [u8],
@@ -25,7 +25,7 @@ impl<'a> Pieces<'a> {
         Self::failing(bytes, piece, usize::MAX)
     }
 
-    /// Two pieces, the first of so many bytes.
+    /// Two pieces, the first one of this length.
     pub fn cut(bytes: &'a [u8], first: usize) -> Self {
         Pieces {
             bytes,
@@ -58,7 +58,7 @@ impl Read for Pieces<'_> {
     }
 }
 
-/// Takes so many bytes, and then fails.
+/// Accepts `left` bytes, and then fails.
 #[derive(Drop)]
 pub struct Bounded {
     pub bytes: Vec<u8>,
@@ -90,38 +90,39 @@ impl Write for Bounded {
     }
 }
 
-/// Answers by what it is asked alone, and lists that.
+/// Answers from the command alone, and lists the commands.
 #[derive(Drop)]
 pub struct Fake {
     alloc: Global,
-    asked: Vec<Asked>,
+    exchanges: Vec<LoggedExchange>,
 }
 
 impl Fake {
     pub fn new(alloc: Global) -> Self {
         Fake {
             alloc,
-            asked: Vec::new(alloc),
+            exchanges: Vec::new(alloc),
         }
     }
 
-    /// How often it was asked.
+    /// How many commands were submitted to it.
     pub fn count(&self) -> usize {
-        self.asked.len()
+        self.exchanges.len()
     }
 }
 
 impl Answer for Fake {
-    ghost use Rattle.act_sessions.specs.Told.{told_in};
+    ghost use Rattle.act_sessions.specs.Exchange.{exchanges_in};
 
-    ghost asked = { λ fake. told_in fake.asked.items };
+    ghost asked = { λ fake. exchanges_in fake.exchanges.items };
 
     fn ask(&mut self, command: Command) -> Result<Reply, Refusal> {
-        self.asked.reserve(1)?;
+        self.exchanges.reserve(1)?;
         let answer = answer_to(self.alloc, &command);
-        let told = copied(self.alloc, &answer)?;
-        self.asked.push_reserved(Asked { command, answer });
-        told
+        let copy = copied(self.alloc, &answer)?;
+        self.exchanges
+            .push_reserved(LoggedExchange { command, answer });
+        copy
     }
 }
 
@@ -134,7 +135,7 @@ fn copied(alloc: Global, answer: &Result<Reply, Refusal>) -> Result<Result<Reply
     }
 }
 
-/// What a table would answer of which nothing is known but what the rows ask for.
+/// The answers that the rows expect, without a table.
 fn answer_to(alloc: Global, command: &Command) -> Result<Reply, Refusal> {
     match command {
         Command::Admit(_) => Ok(Reply::Created(run_plan::Number::new(1))),
@@ -150,7 +151,7 @@ fn answer_to(alloc: Global, command: &Command) -> Result<Reply, Refusal> {
     }
 }
 
-/// A run of the number of a refusal is refused with that.
+/// A run whose id is a refusal number is refused with that number.
 fn answer_to_cancel(run: u32) -> Result<Reply, Refusal> {
     match run {
         1 => Ok(Reply::Ok),
@@ -163,7 +164,7 @@ fn answer_to_cancel(run: u32) -> Result<Reply, Refusal> {
     }
 }
 
-/// The same of a run that is run again.
+/// The same for a re-run.
 fn answer_to_rerun(attempt: Attempt) -> Result<Reply, Refusal> {
     match attempt.run.get() {
         1 => Ok(Reply::Again(attempt)),

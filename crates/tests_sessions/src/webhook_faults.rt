@@ -9,7 +9,7 @@ use std::alloc::Global;
 use std::process::Abort;
 use webhook_sessions::Session;
 
-/// The two worked requests and what answers them.
+/// The two example requests and their answers.
 pub const INPUT: &str = concat!(
     "POST /events HTTP/1.1\r\n",
     "Host: x\r\n",
@@ -26,7 +26,7 @@ pub const OUTPUT: &str = concat!(
     "HTTP/1.1 200 OK\r\nContent-Type: text/plain\r\nContent-Length: 35\r\n\r\nrun 1 1 queued - build:open(ready)\n",
 );
 
-/// A session that broke: its transcript, what was written, and how often the fake was asked.
+/// A session that broke: its transcript, what was written, and how many commands the fake got.
 fn broken(
     rt: &impl Abort,
     alloc: Global,
@@ -46,17 +46,17 @@ fn broken(
     }
 }
 
-/// That a transcript holds what was asked and counts what was written.
-fn expect_held(rt: &impl Abort, transcript: &Transcript, written: &[u8], asked: usize) {
-    assert!(rt; transcript.asked.len() == asked);
+/// Checks that a transcript lists what was submitted and counts what was written.
+fn expect_logged(rt: &impl Abort, transcript: &Transcript, written: &[u8], submitted: usize) {
+    assert!(rt; transcript.asked.len() == submitted);
     assert!(rt; transcript.written == written.len() as u64);
 }
 
 #[test]
-fn fails_with_its_reader(rt: HostRuntime) {
+fn a_webhook_session_fails_with_its_reader(rt: HostRuntime) {
     for given in 0..=INPUT.len() {
         let reader = Pieces::failing(INPUT.as_bytes(), 50, given);
-        let (transcript, written, asked) = broken(&rt, rt.alloc(), reader, usize::MAX);
+        let (transcript, written, submitted) = broken(&rt, rt.alloc(), reader, usize::MAX);
         let wanted = if given < EVENT.len() {
             (0, "")
         } else if given < INPUT.len() {
@@ -65,30 +65,30 @@ fn fails_with_its_reader(rt: HostRuntime) {
             (2, OUTPUT)
         };
         assert!(rt;
-            asked == wanted.0 && written.as_slice() == wanted.1.as_bytes(),
+            submitted == wanted.0 && written.as_slice() == wanted.1.as_bytes(),
             "{given}"
         );
-        expect_held(&rt, &transcript, written.as_slice(), asked);
+        expect_logged(&rt, &transcript, written.as_slice(), submitted);
     }
 }
 
 #[test]
-fn fails_with_its_writer(rt: HostRuntime) {
+fn a_webhook_session_fails_with_its_writer(rt: HostRuntime) {
     let output = OUTPUT.as_bytes();
     for taken in 0..output.len() {
         let reader = Pieces::new(INPUT.as_bytes(), 50);
-        let (transcript, written, asked) = broken(&rt, rt.alloc(), reader, taken);
+        let (transcript, written, submitted) = broken(&rt, rt.alloc(), reader, taken);
         let wanted = if taken < CREATED.len() { 1 } else { 2 };
         assert!(rt;
-            asked == wanted && written.as_slice() == &output[..taken],
+            submitted == wanted && written.as_slice() == &output[..taken],
             "{taken}"
         );
-        expect_held(&rt, &transcript, written.as_slice(), asked);
+        expect_logged(&rt, &transcript, written.as_slice(), submitted);
     }
 }
 
-/// Each worked request by itself: its bytes, its answer, and how many commands it asks.
-const WORKED: &[(&str, &str, usize)] = &[
+/// Each example request by itself: its bytes, its answer, and how many commands it submits.
+const EXAMPLES: &[(&str, &str, usize)] = &[
     (EVENT, CREATED, 1),
     (
         concat!(
@@ -109,33 +109,33 @@ const WORKED: &[(&str, &str, usize)] = &[
     ("POST /runs/9/cancel HTTP/1.1\r\n\r\n", NO_RUN, 1),
 ];
 
-/// That nothing is asked or written where the reader fails within a request.
-fn expect_unasked(rt: &impl Abort, alloc: Global, input: &str) {
+/// Checks that nothing is submitted or written if the reader fails inside a request.
+fn expect_nothing_submitted(rt: &impl Abort, alloc: Global, input: &str) {
     for given in 0..input.len() {
         let reader = Pieces::failing(input.as_bytes(), 50, given);
         let (transcript, written, count) = broken(rt, alloc, reader, usize::MAX);
         assert!(rt; count == 0 && written.is_empty(), "{given}");
-        expect_held(rt, &transcript, written.as_slice(), 0);
+        expect_logged(rt, &transcript, written.as_slice(), 0);
     }
 }
 
-/// That a front of the answer is written where the writer fails within it, and that the command was asked once.
-fn expect_front(rt: &impl Abort, alloc: Global, input: &str, output: &[u8], asked: usize) {
+/// Checks that a prefix of the answer is written if the writer fails inside it, and that the command was submitted once.
+fn expect_prefix(rt: &impl Abort, alloc: Global, input: &str, output: &[u8], submitted: usize) {
     for taken in 0..output.len() {
         let reader = Pieces::new(input.as_bytes(), 50);
         let (transcript, written, count) = broken(rt, alloc, reader, taken);
         assert!(rt;
-            count == asked && written.as_slice() == &output[..taken],
+            count == submitted && written.as_slice() == &output[..taken],
             "{taken}"
         );
-        expect_held(rt, &transcript, written.as_slice(), asked);
+        expect_logged(rt, &transcript, written.as_slice(), submitted);
     }
 }
 
 #[test]
-fn fails_within_each_worked_request(rt: HostRuntime) {
-    for &(input, output, asked) in WORKED {
-        expect_unasked(&rt, rt.alloc(), input);
-        expect_front(&rt, rt.alloc(), input, output.as_bytes(), asked);
+fn a_webhook_session_fails_inside_each_example_request(rt: HostRuntime) {
+    for &(input, output, submitted) in EXAMPLES {
+        expect_nothing_submitted(&rt, rt.alloc(), input);
+        expect_prefix(&rt, rt.alloc(), input, output.as_bytes(), submitted);
     }
 }

@@ -1,4 +1,4 @@
-//! Webhook sessions over a store that nobody else asks.
+//! Webhook sessions over a store that no one else uses.
 
 use crate::webhook_fakes::{Bounded, Pieces};
 use crate::webhook_rows::{CREATED, EVENT};
@@ -10,19 +10,19 @@ use std::alloc::Global;
 use std::process::Abort;
 use webhook_sessions::Session;
 
-type Lone = Alone<MemoryDisk>;
+type LoneStore = Alone<MemoryDisk>;
 
-fn empty_store(rt: &impl Abort, alloc: Global) -> Lone {
+fn empty_store(rt: &impl Abort, alloc: Global) -> LoneStore {
     match Store::init(alloc, MemoryDisk::new(alloc), 65_536) {
         Ok(store) => Alone::new(alloc, store),
         Err(_) => panic!(rt; "a store is made"),
     }
 }
 
-/// Holds a session over a store, with a writer that takes so many bytes, and gives what was written.
-fn held(
+/// Runs a session over a store, with a writer that accepts `taken` bytes, and returns what was written.
+fn run_session(
     alloc: Global,
-    alone: &mut Lone,
+    alone: &mut LoneStore,
     input: &str,
     taken: usize,
 ) -> (Result<Transcript, SessionFault>, Vec<u8>) {
@@ -32,7 +32,7 @@ fn held(
     (ended, writer.bytes)
 }
 
-/// An event, and then a look, a body, a wrong method, no path and no run.
+/// An event, then a look-up, a body, a wrong method, an unknown path and an unknown run.
 const REQUESTS: &str = concat!(
     "POST /events HTTP/1.1\r\n",
     "Host: x\r\n",
@@ -59,16 +59,16 @@ const ANSWERS: &str = concat!(
 );
 
 #[test]
-fn answers_from_a_store(rt: HostRuntime) {
+fn requests_are_answered_from_a_store(rt: HostRuntime) {
     let mut alone = empty_store(&rt, rt.alloc());
-    let (ended, written) = held(rt.alloc(), &mut alone, REQUESTS, usize::MAX);
+    let (ended, written) = run_session(rt.alloc(), &mut alone, REQUESTS, usize::MAX);
     assert!(rt; ended.is_ok());
     assert!(rt; written.as_slice() == ANSWERS.as_bytes(), "{written:?}");
-    // The wrong method and the path that names nothing were not asked.
+    // The wrong method and the unknown path submitted no command.
     assert!(rt; alone.into_store().entries() == 4);
 }
 
-/// That the writer failed after what was written, with one command asked.
+/// Checks that the writer failed after seven bytes, with one command submitted.
 fn expect_broken(rt: &impl Abort, ended: Result<Transcript, SessionFault>) {
     match ended {
         Ok(_) => panic!(rt; "the writer fails"),
@@ -80,16 +80,16 @@ fn expect_broken(rt: &impl Abort, ended: Result<Transcript, SessionFault>) {
 }
 
 #[test]
-fn answers_an_event_again_whose_answer_was_lost(rt: HostRuntime) {
+fn an_event_is_answered_again_if_its_answer_was_lost(rt: HostRuntime) {
     let mut alone = empty_store(&rt, rt.alloc());
-    let (ended, written) = held(rt.alloc(), &mut alone, EVENT, 7);
+    let (ended, written) = run_session(rt.alloc(), &mut alone, EVENT, 7);
     assert!(rt; written.as_slice() == b"HTTP/1.".as_slice());
     expect_broken(&rt, ended);
     let store = alone.into_store();
     assert!(rt; store.entries() == 1 && store.covered() == 1);
 
     let mut again = Alone::new(rt.alloc(), store);
-    let (ended, written) = held(rt.alloc(), &mut again, EVENT, usize::MAX);
+    let (ended, written) = run_session(rt.alloc(), &mut again, EVENT, usize::MAX);
     assert!(rt; ended.is_ok() && written.as_slice() == CREATED.as_bytes());
     let store = again.into_store();
     assert!(rt; store.entries() == 2 && store.covered() == 2);

@@ -1,6 +1,6 @@
-//! A session of HTTP/1.1 as a plain program over all of its bytes, without a buffer and without pieces; and sessions that write the same.
+//! An HTTP/1.1 session as a plain program over all of its bytes, without a buffer or pieces, and sessions that write the same.
 
-use crate::webhook_bounds::{LONG, spelled};
+use crate::webhook_bounds::{LONG, repeated};
 use crate::webhook_fakes::{Fake, Pieces};
 use crate::webhook_rows::{ROWS, expect_answered};
 use act_sessions::Answer;
@@ -11,14 +11,14 @@ use std::process::Abort;
 use tests_common::commands::{Words, command_of};
 use wf_value::{Code, Refusal};
 
-/// The most bytes of a head, of a body, and the most requests.
-const MOST_HEAD: usize = 8_192;
+/// The most bytes of a head and of a body, and the most requests.
+const MAX_HEAD: usize = 8_192;
 
-const MOST_BODY: usize = 65_536;
+const MAX_BODY: usize = 65_536;
 
-const MOST_REQUESTS: usize = 64;
+const MAX_REQUESTS: usize = 64;
 
-/// A request for which nothing is asked.
+/// A request for which no command is submitted.
 #[derive(Drop)]
 struct Fault {
     status: u16,
@@ -44,7 +44,7 @@ impl From<Refusal> for Fault {
     }
 }
 
-/// The one value of a name: `None` where there is none, and a fault where there are more.
+/// The only value of a name: `None` if there is none, and a fault if there are more.
 fn one_value<'b>(
     fields: &[Header<'b>],
     name: &str,
@@ -75,7 +75,7 @@ fn number_in(text: &[u8]) -> Option<usize> {
     str::from_utf8(text).ok()?.parse::<usize>().ok()
 }
 
-/// How long the body is that a head states, if it does.
+/// The body length that a head states, if it does.
 fn stated_length(fields: &[Header<'_>]) -> Result<Option<usize>, Fault> {
     if is_there(fields, "transfer-encoding") {
         return Err(fault_of(411, Code::ContentLength));
@@ -85,17 +85,17 @@ fn stated_length(fields: &[Header<'_>]) -> Result<Option<usize>, Fault> {
     };
     match number_in(text) {
         None => Err(fault_of(400, Code::ContentLength)),
-        Some(length) if length > MOST_BODY => Err(fault_of(413, Code::TooLong)),
+        Some(length) if length > MAX_BODY => Err(fault_of(413, Code::TooLong)),
         Some(length) => Ok(Some(length)),
     }
 }
 
-/// What has to be there, and of its form.
+/// A value that has to be present and of its form.
 fn of_form<T: Drop>(found: Option<T>) -> Result<T, Fault> {
     found.ok_or(fault_of(400, Code::EventHeader))
 }
 
-/// The delivery and the event's name of a head.
+/// The delivery id and the event name of a head.
 fn event_headers(alloc: Global, fields: &[Header<'_>]) -> Result<(DeliveryId, EventName), Fault> {
     let delivery = of_form(one_value(fields, "x-github-delivery", Code::EventHeader)?)?;
     let delivery = of_form(DeliveryId::of(alloc, delivery)?)?;
@@ -103,7 +103,7 @@ fn event_headers(alloc: Global, fields: &[Header<'_>]) -> Result<(DeliveryId, Ev
     Ok((delivery, of_form(EventName::of(alloc, event)?)?))
 }
 
-/// How long the body is that is read.
+/// The length of the body to read.
 fn body_length(alloc: Global, head: &Request<'_, '_>) -> Result<usize, Fault> {
     let stated = stated_length(head.headers)?;
     if head.method != Some("POST") || head.path != Some("/events") {
@@ -114,7 +114,7 @@ fn body_length(alloc: Global, head: &Request<'_, '_>) -> Result<usize, Fault> {
     Ok(length)
 }
 
-/// The method of a path, and the words of its command, which the path of events has not.
+/// The method of a path, and the words of its command. The path of events has no words.
 fn path_of(target: &str) -> Option<(&'static str, Option<Words<'_>>)> {
     let mut parts = target.split('/');
     let first = (parts.next(), parts.next(), parts.next());
@@ -201,19 +201,19 @@ fn lists_close(value: &[u8]) -> bool {
         .any(|word| word.trim_ascii().eq_ignore_ascii_case(b"close"))
 }
 
-/// An answer: its status, the kind of its content, the method that it allows, and the content.
+/// An answer: its status, its content type, the method that it allows, and the content.
 #[derive(Drop)]
-struct Said {
+struct PlainAnswer {
     status: u16,
     kind: &'static str,
     allow: Option<&'static str>,
     content: Vec<u8>,
 }
 
-fn refused(alloc: Global, fault: Fault) -> Result<Said, Refusal> {
+fn refusal_answer(alloc: Global, fault: Fault) -> Result<PlainAnswer, Refusal> {
     let mut text = fault.refusal.text(alloc)?.into_string();
     text.push_str("\n")?;
-    Ok(Said {
+    Ok(PlainAnswer {
         status: fault.status,
         kind: "text/plain",
         allow: fault.allow,
@@ -229,9 +229,9 @@ fn status_of_refusal(number: u64) -> u16 {
     }
 }
 
-fn replied(alloc: Global, reply: &Reply) -> Result<Said, Refusal> {
+fn reply_answer(alloc: Global, reply: &Reply) -> Result<PlainAnswer, Refusal> {
     if let Reply::Body(body) = reply {
-        return Ok(Said {
+        return Ok(PlainAnswer {
             status: 200,
             kind: "application/json",
             allow: None,
@@ -246,7 +246,7 @@ fn replied(alloc: Global, reply: &Reply) -> Result<Said, Refusal> {
     };
     let mut text = reply.text(alloc)?.into_string();
     text.push_str("\n")?;
-    Ok(Said {
+    Ok(PlainAnswer {
         status,
         kind: "text/plain",
         allow: None,
@@ -254,10 +254,10 @@ fn replied(alloc: Global, reply: &Reply) -> Result<Said, Refusal> {
     })
 }
 
-fn asked(alloc: Global, fake: &mut Fake, command: Command) -> Result<Said, Refusal> {
+fn submit(alloc: Global, fake: &mut Fake, command: Command) -> Result<PlainAnswer, Refusal> {
     match fake.ask(command) {
-        Ok(reply) => replied(alloc, &reply),
-        Err(refusal) => refused(
+        Ok(reply) => reply_answer(alloc, &reply),
+        Err(refusal) => refusal_answer(
             alloc,
             Fault {
                 status: status_of_refusal(refusal.number()),
@@ -284,13 +284,18 @@ fn phrase_of(status: u16) -> &'static str {
     }
 }
 
-fn push_said(alloc: Global, written: &mut Vec<u8>, said: &Said, last: bool) -> Result<(), Refusal> {
-    let (status, phrase) = (said.status, phrase_of(said.status));
-    let (kind, length) = (said.kind, said.content.len());
+fn push_answer(
+    alloc: Global,
+    written: &mut Vec<u8>,
+    answer: &PlainAnswer,
+    last: bool,
+) -> Result<(), Refusal> {
+    let (status, phrase) = (answer.status, phrase_of(answer.status));
+    let (kind, length) = (answer.kind, answer.content.len());
     let mut head = format!(in alloc;
         "HTTP/1.1 {status} {phrase}\r\nContent-Type: {kind}\r\nContent-Length: {length}\r\n"
     )?;
-    if let Some(method) = said.allow {
+    if let Some(method) = answer.allow {
         head.push_str("Allow: ")?;
         head.push_str(method)?;
         head.push_str("\r\n")?;
@@ -301,90 +306,94 @@ fn push_said(alloc: Global, written: &mut Vec<u8>, said: &Said, last: bool) -> R
         "\r\n"
     })?;
     written.extend_from_slice(head.as_bytes())?;
-    written.extend_from_slice(said.content.as_slice())?;
+    written.extend_from_slice(answer.content.as_slice())?;
     Ok(())
 }
 
-/// What a whole head is answered with the bytes behind it, whether that ends the session, and what is behind the request; nothing where its
-/// body is not whole.
+/// The answer to a whole head and the bytes after it, whether it ends the session, and the bytes after the request. `None` if the body is
+/// incomplete.
 fn answer_to<'a>(
     alloc: Global,
     head: &Request<'_, '_>,
     after: &'a [u8],
     fake: &mut Fake,
-) -> Result<Option<(Said, bool, &'a [u8])>, Refusal> {
+) -> Result<Option<(PlainAnswer, bool, &'a [u8])>, Refusal> {
     let length = match body_length(alloc, head) {
         Ok(length) => length,
-        Err(fault) => return Ok(Some((refused(alloc, fault)?, true, after))),
+        Err(fault) => return Ok(Some((refusal_answer(alloc, fault)?, true, after))),
     };
     if after.len() < length {
         return Ok(None);
     }
-    let (body, behind) = after.split_at(length);
-    let said = match command_in(alloc, head, body) {
-        Ok(command) => asked(alloc, fake, command)?,
-        Err(fault) => refused(alloc, fault)?,
+    let (body, following) = after.split_at(length);
+    let answer = match command_in(alloc, head, body) {
+        Ok(command) => submit(alloc, fake, command)?,
+        Err(fault) => refusal_answer(alloc, fault)?,
     };
-    let closes = said.status == 503 || wants_close(head);
-    Ok(Some((said, closes, behind)))
+    let closes = answer.status == 503 || wants_close(head);
+    Ok(Some((answer, closes, following)))
 }
 
-/// The same of the bytes that begin with a head.
+/// The same for bytes that begin with a head.
 fn first_answer<'a>(
     alloc: Global,
     bytes: &'a [u8],
     fake: &mut Fake,
-) -> Result<Option<(Said, bool, &'a [u8])>, Refusal> {
-    let front = &bytes[..bytes.len().min(MOST_HEAD)];
+) -> Result<Option<(PlainAnswer, bool, &'a [u8])>, Refusal> {
+    let prefix = &bytes[..bytes.len().min(MAX_HEAD)];
     let mut fields = [EMPTY_HEADER; 64];
     let mut head = Request::new(&mut fields);
-    match head.parse(front) {
+    match head.parse(prefix) {
         Ok(Status::Complete(length)) => {
             answer_to(alloc, &head, bytes.get(length..).unwrap_or(&[]), fake)
         }
-        Ok(Status::Partial) if bytes.len() < MOST_HEAD => Ok(None),
-        _ => Ok(Some((refused(alloc, fault_of(400, Code::Head))?, true, bytes))),
+        Ok(Status::Partial) if bytes.len() < MAX_HEAD => Ok(None),
+        _ => Ok(Some((
+            refusal_answer(alloc, fault_of(400, Code::Head))?,
+            true,
+            bytes,
+        ))),
     }
 }
 
-/// What a session writes over all of its bytes, and how many commands it asks.
+/// What a session writes over all of its bytes, and how many commands it submits.
 fn written_over(alloc: Global, input: &[u8]) -> Result<(Vec<u8>, usize), Refusal> {
     let mut fake = Fake::new(alloc);
     let mut written = Vec::new(alloc);
     let mut rest = input;
-    for count in 1..=MOST_REQUESTS {
-        let Some((said, closes, behind)) = first_answer(alloc, rest, &mut fake)? else {
+    for count in 1..=MAX_REQUESTS {
+        let Some((answer, closes, following)) = first_answer(alloc, rest, &mut fake)? else {
             break;
         };
-        let last = closes || count == MOST_REQUESTS;
-        push_said(alloc, &mut written, &said, last)?;
+        let last = closes || count == MAX_REQUESTS;
+        push_answer(alloc, &mut written, &answer, last)?;
         if last {
             break;
         }
-        rest = behind;
+        rest = following;
     }
     Ok((written, fake.count()))
 }
 
-/// That sessions over the bytes do what the plain program does, whatever the pieces.
+/// Checks that sessions over the bytes do what the plain program does, whatever the pieces.
 fn expect_plain(rt: &impl Abort, alloc: Global, input: &[u8]) {
-    let (written, asked) = written_over(alloc, input).expect(rt, "memory");
+    let (written, submitted) = written_over(alloc, input).expect(rt, "memory");
     for piece in [11, 100_000] {
         let reader = Pieces::new(input, piece);
-        expect_answered(rt, alloc, reader, written.as_slice(), asked);
+        expect_answered(rt, alloc, reader, written.as_slice(), submitted);
     }
 }
 
 #[test]
-fn answers_requests_as_the_plain_program(rt: HostRuntime) {
+fn requests_are_answered_as_by_the_plain_program(rt: HostRuntime) {
     for &(one, _, _) in ROWS {
         for &(other, _, _) in ROWS {
-            let input = spelled(&rt, rt.alloc(), &[(one, 1), (other, 1)]);
+            let input = repeated(&rt, rt.alloc(), &[(one, 1), (other, 1)]);
             expect_plain(&rt, rt.alloc(), input.as_slice());
         }
     }
     for &(pieces, _, _) in LONG {
-        let input = spelled(&rt, rt.alloc(), pieces);
+        let input = repeated(&rt, rt.alloc(), pieces);
         expect_plain(&rt, rt.alloc(), input.as_slice());
     }
 }

@@ -62,7 +62,7 @@ const TAKEN: &str = concat!(
     "ok\n",
 );
 
-/// An answer of `refused N`, of two digits, with which the session goes on, or with which it ends.
+/// An answer `refused N` with a number of two digits, and perhaps one more header line.
 macro_rules! refused {
     ($status:literal, $number:literal) => {
         concat!(
@@ -96,14 +96,14 @@ pub const TOO_LONG: &str = refused!("413 Payload Too Large", "24", "Connection: 
 
 const EVENT_HEADER: &str = refused!("400 Bad Request", "74", "Connection: close");
 
-/// The lines of a posted event, whose body is the bytes behind them.
+/// A posted event: its header lines, and the bytes after them as its body.
 macro_rules! event {
     ($lines:literal, $body:literal) => {
         concat!("POST /events HTTP/1.1\r\n", $lines, "\r\n", $body)
     };
 }
 
-/// Requests, what answers them, and how many commands they ask.
+/// Requests, their answers, and how many commands they submit.
 pub const ROWS: &[(&str, &str, usize)] = &[
     ("", "", 0),
     (EVENT, CREATED, 1),
@@ -155,7 +155,7 @@ pub const ROWS: &[(&str, &str, usize)] = &[
         ),
         2,
     ),
-    // A body that nothing asks for is read and dropped.
+    // A body that is not needed is read and dropped.
     (
         concat!(
             "POST /nowhere HTTP/1.1\r\nContent-Length: 24\r\n\r\n",
@@ -169,7 +169,7 @@ pub const ROWS: &[(&str, &str, usize)] = &[
         SEEN,
         1,
     ),
-    // Empty lines before a head, line feeds alone, and names in any case.
+    // Empty lines before a head, bare line feeds, and names in any case.
     ("\r\n\nGET /runs/1 HTTP/1.1\nhost:x\n\n", SEEN, 1),
     (
         event!(
@@ -179,7 +179,7 @@ pub const ROWS: &[(&str, &str, usize)] = &[
         refused!("422 Unprocessable Entity", "11"),
         0,
     ),
-    // What ends a session: behind it nothing is answered.
+    // Requests that end a session: nothing after them is answered.
     (
         concat!(
             "GET /runs/1 HTTP/1.0\r\n\r\n",
@@ -217,7 +217,7 @@ pub const ROWS: &[(&str, &str, usize)] = &[
         refused!("404 Not Found", "72", "Connection: close"),
         0,
     ),
-    // Methods compare with case, and each path has its own.
+    // Methods are case-sensitive, and each path has its own.
     ("get /runs/1 HTTP/1.1\r\n\r\n", GET_ALONE, 0),
     ("HEAD /runs/1/body HTTP/1.1\r\n\r\n", GET_ALONE, 0),
     ("PUT /events HTTP/1.1\r\n\r\n", POST_ALONE, 0),
@@ -252,7 +252,7 @@ pub const ROWS: &[(&str, &str, usize)] = &[
     ("POST /events/ HTTP/1.1\r\n\r\n", NO_PATH, 0),
     ("POST /runners/a%2Fb/lost HTTP/1.1\r\n\r\n", NO_PATH, 0),
     ("POST /runners//lost HTTP/1.1\r\n\r\n", NO_PATH, 0),
-    // What is refused before the body is read.
+    // Requests refused before the body is read.
     ("\0GET /runs/1 HTTP/1.1\r\n\r\n", BAD_HEAD, 0),
     ("GET /runs/1 HTTP/1.2\r\n\r\n", BAD_HEAD, 0),
     (
@@ -403,13 +403,13 @@ pub const ROWS: &[(&str, &str, usize)] = &[
     ),
 ];
 
-/// Holds a session over the fake, and compares what was written, asked and counted.
+/// Runs a session over the fake, and compares what was written, submitted and counted.
 pub fn expect_answered(
     rt: &impl Abort,
     alloc: Global,
     reader: Pieces<'_>,
     output: &[u8],
-    asked: usize,
+    submitted: usize,
 ) {
     let mut reader = reader;
     let mut written = Vec::new(alloc);
@@ -424,40 +424,40 @@ pub fn expect_answered(
         written,
         output
     );
-    expect_told(rt, &transcript, output.len(), asked);
+    expect_transcript(rt, &transcript, output.len(), submitted);
     assert!(rt;
-        fake.count() == asked,
-        "{} were asked in place of {asked}",
+        fake.count() == submitted,
+        "{} were submitted in place of {submitted}",
         fake.count()
     );
 }
 
-/// That a session ended well, and counts what it wrote and asked.
-fn expect_told(rt: &impl Abort, transcript: &Transcript, written: usize, asked: usize) {
+/// Checks that a session ended well, and counts what it wrote and submitted.
+fn expect_transcript(rt: &impl Abort, transcript: &Transcript, written: usize, submitted: usize) {
     assert!(rt;
         transcript.ending == Ending::Done,
         "{:?}",
         transcript.ending
     );
     assert!(rt; transcript.written == written as u64);
-    assert!(rt; transcript.asked.len() == asked);
+    assert!(rt; transcript.asked.len() == submitted);
 }
 
 /// How many bytes a reader gives at a time.
 const PIECES: [usize; 3] = [1, 7, 100_000];
 
 #[test]
-fn answers_in_any_pieces(rt: HostRuntime) {
+fn requests_are_answered_in_any_pieces(rt: HostRuntime) {
     for piece in PIECES {
-        for &(input, output, asked) in ROWS {
+        for &(input, output, submitted) in ROWS {
             let reader = Pieces::new(input.as_bytes(), piece);
-            expect_answered(&rt, rt.alloc(), reader, output.as_bytes(), asked);
+            expect_answered(&rt, rt.alloc(), reader, output.as_bytes(), submitted);
         }
     }
 }
 
 #[test]
-fn answers_an_event_that_is_cut(rt: HostRuntime) {
+fn an_event_in_two_pieces_is_answered(rt: HostRuntime) {
     for cut in 1..=EVENT.len() {
         let reader = Pieces::cut(EVENT.as_bytes(), cut);
         expect_answered(&rt, rt.alloc(), reader, CREATED.as_bytes(), 1);

@@ -1,5 +1,5 @@
-//! Sessions as works, whose answers have to reach the writer that they were given; and sessions whose input ends inside a request, which is no
-//! failure.
+//! Sessions as works, whose answers have to reach the writer that they were given; and sessions whose input ends inside a request, which
+//! is not a failure.
 
 use crate::runner_fake::Service;
 use crate::runner_rows::{ANSWERS, LINES};
@@ -12,17 +12,17 @@ use std::alloc::Global;
 use std::process::Abort;
 use webhook_sessions::Hook;
 
-/// That a session ended well, after so many commands and with these bytes written.
-fn expect_well(
+/// Checks that a session ended well, after `submitted` commands and with these bytes written.
+fn expect_done(
     rt: &impl Abort,
     ended: Result<Transcript, SessionFault>,
     written: &[u8],
-    (asked, output): (usize, &str),
+    (submitted, output): (usize, &str),
 ) {
     match ended {
         Ok(transcript) => {
             assert!(rt; transcript.ending == Ending::Done);
-            assert!(rt; transcript.asked.len() == asked);
+            assert!(rt; transcript.asked.len() == submitted);
             assert!(rt; transcript.written == output.len() as u64);
         }
         Err(fault) => panic!(rt; "ended with {}", fault.refusal()),
@@ -30,7 +30,7 @@ fn expect_well(
     assert!(rt; written == output.as_bytes());
 }
 
-/// That so many bytes of a sender are answered so.
+/// Checks the answer to the first `given` bytes of a sender.
 fn expect_hook(rt: &impl Abort, alloc: Global, given: usize, wanted: (usize, &str)) {
     let mut output = Vec::new(alloc);
     let mut fake = Fake::new(alloc);
@@ -41,10 +41,10 @@ fn expect_hook(rt: &impl Abort, alloc: Global, given: usize, wanted: (usize, &st
         writer: &mut output,
     };
     let ended = hook.work(alloc, &mut fake);
-    expect_well(rt, ended, output.as_slice(), wanted);
+    expect_done(rt, ended, output.as_slice(), wanted);
 }
 
-/// That so many bytes of a runner are answered so.
+/// Checks the answer to the first `given` bytes of a runner.
 fn expect_lines(rt: &impl Abort, alloc: Global, given: usize, wanted: (usize, &str)) {
     let mut output = Vec::new(alloc);
     let mut service = Service::new(alloc);
@@ -55,11 +55,11 @@ fn expect_lines(rt: &impl Abort, alloc: Global, given: usize, wanted: (usize, &s
         writer: &mut output,
     };
     let ended = lines.work(alloc, &mut service);
-    expect_well(rt, ended, output.as_slice(), wanted);
+    expect_done(rt, ended, output.as_slice(), wanted);
 }
 
 #[test]
-fn a_hook_answers_to_its_writer(rt: HostRuntime) {
+fn requests_are_answered_to_their_writer(rt: HostRuntime) {
     expect_hook(&rt, rt.alloc(), INPUT.len(), (2, OUTPUT));
 }
 
@@ -68,9 +68,9 @@ fn lines_are_answered_to_their_writer(rt: HostRuntime) {
     expect_lines(&rt, rt.alloc(), LINES.len(), (4, ANSWERS));
 }
 
-/// Whatever is there of the second request, the first is answered, and the session has ended well.
+/// However much of the second request has arrived, the first one is answered, and the session ends well.
 #[test]
-fn a_hook_ends_inside_a_request(rt: HostRuntime) {
+fn a_webhook_session_may_end_inside_a_request(rt: HostRuntime) {
     for given in 0..INPUT.len() {
         let wanted = if given < EVENT.len() {
             (0, "")
@@ -81,9 +81,9 @@ fn a_hook_ends_inside_a_request(rt: HostRuntime) {
     }
 }
 
-/// Inside the first line, and inside the second.
+/// The input ends inside the first line, and inside the second.
 #[test]
-fn lines_end_inside_a_line(rt: HostRuntime) {
+fn a_runner_session_may_end_inside_a_line(rt: HostRuntime) {
     for given in 0..17 {
         expect_lines(&rt, rt.alloc(), given, (0, ""));
     }

@@ -1,47 +1,58 @@
-//! Each call of the disk fails in turn, by itself, and with all after it: 51, then 52, and what is covered opens.
+//! Each disk call fails in turn, alone and together with all after it: the answer is 51, then 52, and the disk opens to
+//! what is covered.
 
 use crate::holds::holds;
-use crate::script::{SCRIPT, Span, expect_either, tables};
-use crate::stores::{Ask, LEAST, asked, made, try_make, try_open};
+use crate::script::{SCRIPT, Span, expect_covered_or_all, tables};
+use crate::stores::{MIN_AREA, TestStep, answer_to, new_store, try_init, try_open};
 use act_disk::{Disk, FuseDisk, MemoryDisk};
 use act_store::{Played, Store};
 use std::alloc::Global;
 use std::process::Abort;
 use tests_common::commands::Words;
 
-/// A disk of which a call fails.
+/// A disk with a failing call.
 type Fused = FuseDisk<MemoryDisk>;
 
-/// The number of a refused step, and 0 where it is not refused, or by the table alone.
-fn number_of<D: Disk>(rt: &impl Abort, alloc: Global, store: &mut Store<D>, ask: &Ask) -> u64 {
-    match asked(alloc, store, ask) {
+/// The number of a step's refusal, or 0 if the step is not refused, or only by the table.
+fn number_of<D: Disk>(
+    rt: &impl Abort,
+    alloc: Global,
+    store: &mut Store<D>,
+    step: &TestStep,
+) -> u64 {
+    match answer_to(alloc, store, step) {
         Ok(Played::Refused(refusal)) => refusal.number(),
         Ok(_) => 0,
         Err(refusal) => panic!(rt; "{refusal}"),
     }
 }
 
-/// Plays the script up to a step that is refused with 51, and says whether one is.
+/// Plays the script up to a step that is refused with 51. Returns whether there is one.
 fn plays_to_fault(rt: &impl Abort, alloc: Global, store: &mut Store<Fused>) -> bool {
-    for ask in SCRIPT {
-        if number_of(rt, alloc, store, ask) == 51 {
+    for step in SCRIPT {
+        if number_of(rt, alloc, store, step) == 51 {
             return true;
         }
     }
     false
 }
 
-/// A store that has failed refuses all with 52, and has its entries still.
+/// Expects a failed store to refuse everything with 52 and to keep its entries.
 fn expect_failed(rt: &impl Abort, alloc: Global, store: &mut Store<Fused>) {
     let (from, to) = (store.covered(), store.entries());
-    holds!(rt; number_of(rt, alloc, store, &Ask::Apply(Words::Look("1"))) == 52);
-    for ask in [Ask::Commit, Ask::Begin, Ask::Slice, Ask::Finish] {
-        holds!(rt; number_of(rt, alloc, store, &ask) == 52);
+    holds!(rt; number_of(rt, alloc, store, &TestStep::Apply(Words::Look("1"))) == 52);
+    for step in [
+        TestStep::Commit,
+        TestStep::Begin,
+        TestStep::Slice,
+        TestStep::Finish,
+    ] {
+        holds!(rt; number_of(rt, alloc, store, &step) == 52);
     }
     holds!(rt; store.covered() == from && store.entries() == to);
 }
 
-/// Plays the script over a fuse. Says whether a call failed, what the disk inside has to open to, and gives the disk.
+/// Plays the script over a fuse. Returns whether a call failed, what the disk inside must open to, and the disk.
 fn played(rt: &impl Abort, alloc: Global, disk: Fused) -> (bool, Span, Fused) {
     match try_open(rt, alloc, disk) {
         Ok(mut store) => {
@@ -59,40 +70,40 @@ fn played(rt: &impl Abort, alloc: Global, disk: Fused) -> (bool, Span, Fused) {
     }
 }
 
-/// Plays the script over a fuse, and opens the disk inside. Says whether a call failed.
+/// Plays the script over a fuse, and opens the disk inside. Returns whether a call failed.
 fn fails(rt: &impl Abort, alloc: Global, disk: Fused, tables: &[String]) -> bool {
     let (failed, span, disk) = played(rt, alloc, disk);
     holds!(rt; disk.faults() == if failed { 1 } else { 0 });
-    expect_either(rt, alloc, disk.into_inner(), tables, span);
+    expect_covered_or_all(rt, alloc, disk.into_inner(), tables, span);
     failed
 }
 
 /// The disk of a new store.
 fn fresh(rt: &impl Abort, alloc: Global) -> MemoryDisk {
-    made(rt, alloc, LEAST).into_disk()
+    new_store(rt, alloc, MIN_AREA).into_disk()
 }
 
-/// More calls than opening and the script make.
-const MOST: u64 = 40;
+/// More calls than opening a store and the script make.
+const MAX_CALLS: u64 = 40;
 
 #[test]
-fn faults_leave_what_was_covered_or_all(rt: HostRuntime) {
+fn a_disk_fault_leaves_the_covered_entries_or_all(rt: HostRuntime) {
     let alloc = rt.alloc();
     let tables = tables(&rt, alloc, SCRIPT);
-    for call in 0..=MOST {
+    for call in 0..=MAX_CALLS {
         let once = FuseDisk::once(fresh(&rt, alloc), call);
         let from = FuseDisk::from(fresh(&rt, alloc), call);
         let failed = fails(&rt, alloc, once, tables.as_slice());
         holds!(rt; fails(&rt, alloc, from, tables.as_slice()) == failed, call);
         holds!(rt; failed || call > 0, "the first call");
-        holds!(rt; !failed || call < MOST, "a call behind the last");
+        holds!(rt; !failed || call < MAX_CALLS, "a call after the last");
     }
 }
 
-/// The number with which the making is refused where a call fails, and 0 where it is not. The disk is given back.
-fn number_of_making(rt: &impl Abort, alloc: Global, call: u64) -> u64 {
+/// The number with which making a store is refused if a call fails, or 0 if it is not refused. The disk is returned.
+fn number_of_init(rt: &impl Abort, alloc: Global, call: u64) -> u64 {
     let disk = FuseDisk::once(MemoryDisk::new(alloc), call);
-    match try_make(rt, alloc, disk, LEAST) {
+    match try_init(rt, alloc, disk, MIN_AREA) {
         Ok(store) => {
             let _disk = store.into_disk();
             0
@@ -105,9 +116,9 @@ fn number_of_making(rt: &impl Abort, alloc: Global, call: u64) -> u64 {
 }
 
 #[test]
-fn faults_of_the_making_are_told(rt: HostRuntime) {
+fn a_disk_fault_during_init_is_refused_with_51(rt: HostRuntime) {
     for call in 0..6 {
-        holds!(rt; number_of_making(&rt, rt.alloc(), call) == 51, call);
+        holds!(rt; number_of_init(&rt, rt.alloc(), call) == 51, call);
     }
-    holds!(rt; number_of_making(&rt, rt.alloc(), 6) == 0);
+    holds!(rt; number_of_init(&rt, rt.alloc(), 6) == 0);
 }

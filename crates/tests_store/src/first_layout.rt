@@ -1,21 +1,22 @@
-//! Files of the first layout, made byte by byte from the format: they open, take commands, and a checkpoint leaves the second layout.
+//! Files of the first layout, made byte by byte from the format. They open and accept commands, and a checkpoint leaves
+//! the second layout.
 
 use crate::holds::holds;
-use crate::openings::lay;
-use crate::stores::{Ask, Row, close, is_answered, number_of_opening, opened, play};
+use crate::openings::overwrite;
+use crate::stores::{Row, TestStep, close, is_answered, number_of_opening, open_store, play};
 use act_disk::{Fill, MemoryDisk};
 use std::alloc::Global;
 use std::process::Abort;
 use tests_common::commands::Words;
 use wf_value::{Outcome, Refusal};
 
-/// Pieces of a file of two areas of 4,096 bytes, by their offsets; all other bytes are zeros.
+/// Pieces of a file with two areas of 4,096 bytes, by their offsets. All other bytes are zeros.
 type Pieces = &'static [(usize, &'static [u8])];
 
 fn disk_of(alloc: Global, pieces: Pieces) -> Result<MemoryDisk, Refusal> {
     let mut bytes = vec![in alloc; 0; 8_192]?;
     for (at, piece) in pieces {
-        lay(&mut bytes, *at, piece);
+        overwrite(&mut bytes, *at, piece);
     }
     MemoryDisk::from_slice(alloc, &bytes)
 }
@@ -24,7 +25,8 @@ fn disk_of(alloc: Global, pieces: Pieces) -> Result<MemoryDisk, Refusal> {
 const BODY: &[u8] =
     b"{\"repo\":\"o/r\",\"path\":\"ci.json\",\"workflow\":{\"jobs\":{\"build\":{\"runs-on\":\"linux\"}}}}";
 
-/// The first area: open, of the first layout, of generation 1, with the text of the empty table, and a record of one admission.
+/// The first area: open, of the first layout, of generation 1, with the text of the empty table and a record of one
+/// admission.
 const ADMITTED: Pieces = &[
     (
         0,
@@ -35,56 +37,56 @@ const ADMITTED: Pieces = &[
     (58, BODY),
 ];
 
-const LOOK: Ask = Ask::Apply(Words::Look("1"));
+const LOOK: TestStep = TestStep::Apply(Words::Look("1"));
 
 const READY: &str = "run 1 1 queued - build:open(ready)";
 
-/// A re-run is refused until the checkpoint is finished; all other commands are taken.
-const BROUGHT_UP: &[Row] = &[
-    (Ask::Apply(Words::Rerun("1", "2")), "refused 57", 0, 0),
+/// A re-run is refused until the checkpoint is finished. All other commands are accepted.
+const UPGRADED: &[Row] = &[
+    (TestStep::Apply(Words::Rerun("1", "2")), "refused 57", 0, 0),
     (LOOK, READY, 1, 0),
-    (Ask::Commit, "covered 1", 1, 1),
-    (Ask::Begin, "begun 144", 1, 1),
-    (Ask::Apply(Words::Rerun("1", "2")), "refused 57", 1, 1),
-    (Ask::Slice, "left 0", 1, 1),
-    (Ask::Finish, "checked 1", 1, 1),
-    (Ask::Apply(Words::Rerun("1", "2")), "refused 49", 2, 1),
+    (TestStep::Commit, "covered 1", 1, 1),
+    (TestStep::Begin, "begun 144", 1, 1),
+    (TestStep::Apply(Words::Rerun("1", "2")), "refused 57", 1, 1),
+    (TestStep::Slice, "left 0", 1, 1),
+    (TestStep::Finish, "checked 1", 1, 1),
+    (TestStep::Apply(Words::Rerun("1", "2")), "refused 49", 2, 1),
 ];
 
 #[test]
-fn checkpoint_leaves_the_first_layout(rt: HostRuntime) {
+fn a_checkpoint_upgrades_the_first_layout(rt: HostRuntime) {
     let alloc = rt.alloc();
     let disk = disk_of(alloc, ADMITTED).expect(&rt, "a disk");
-    let mut store = opened(&rt, alloc, disk);
-    play(&rt, alloc, &mut store, BROUGHT_UP);
+    let mut store = open_store(&rt, alloc, disk);
+    play(&rt, alloc, &mut store, UPGRADED);
     let disk = store.into_disk();
     holds!(rt; disk.bytes().get(0..2) == Some(&[0xA5, 1]));
     holds!(rt; disk.bytes().get(4_096..4_098) == Some(&[0xA5, 2]));
-    let mut store = opened(&rt, alloc, disk);
+    let mut store = open_store(&rt, alloc, disk);
     play(&rt, alloc, &mut store, &[(LOOK, READY, 1, 0)]);
     close(store);
 }
 
-/// A sync opens the file, a commit has four calls, the slice one, and the finish four.
+/// Opening the file makes one sync, a commit four calls, the slice one, and the finish four.
 const CALLS: usize = 10;
 
 const FILLS: &[Fill] = &[Fill::Old, Fill::New, Fill::Half, Fill::Gates];
 
-/// Opens what a stop inside a call leaves, and looks at its run.
+/// Opens the image of a crash inside a call, and looks at its run.
 fn expect_run(rt: &impl Abort, alloc: Global, disk: &MemoryDisk, call: u64, fill: Fill) {
     holds!(rt; (call as usize) < disk.calls().len());
     let image = disk.image(alloc, call, fill).expect(rt, "an image");
-    let mut store = opened(rt, alloc, image);
+    let mut store = open_store(rt, alloc, image);
     holds!(rt; is_answered(alloc, &mut store, &LOOK, READY).expect(rt, "memory"), call);
     close(store);
 }
 
 #[test]
-fn stops_on_the_way_out_of_the_first_layout_lose_nothing(rt: HostRuntime) {
+fn a_crash_during_the_upgrade_loses_nothing(rt: HostRuntime) {
     let alloc = rt.alloc();
     let disk = disk_of(alloc, ADMITTED).expect(&rt, "a disk");
-    let mut store = opened(&rt, alloc, disk);
-    play(&rt, alloc, &mut store, BROUGHT_UP);
+    let mut store = open_store(&rt, alloc, disk);
+    play(&rt, alloc, &mut store, UPGRADED);
     let disk = store.into_disk();
     holds!(rt; disk.calls().len() == CALLS);
     for call in 0..CALLS as u64 {
@@ -94,8 +96,8 @@ fn stops_on_the_way_out_of_the_first_layout_lose_nothing(rt: HostRuntime) {
     }
 }
 
-/// A text of 123 bytes: a live run whose job is open, with a leg that is ready.
-const OF_A_RUN: Pieces = &[
+/// A text of 123 bytes: a live run whose job is open and has a ready leg.
+const ONE_RUN: Pieces = &[
     (
         0,
         &[0xA5, 1, 0, 0, 0, 0, 0, 0, 0, 1, 0, 0, 0, 0, 0, 0, 0, 123],
@@ -107,16 +109,16 @@ const OF_A_RUN: Pieces = &[
 ];
 
 #[test]
-fn text_of_the_first_layout_is_read(rt: HostRuntime) {
-    let disk = disk_of(rt.alloc(), OF_A_RUN).expect(&rt, "a disk");
-    let mut store = opened(&rt, rt.alloc(), disk);
+fn a_table_in_the_first_layout_is_read(rt: HostRuntime) {
+    let disk = disk_of(rt.alloc(), ONE_RUN).expect(&rt, "a disk");
+    let mut store = open_store(&rt, rt.alloc(), disk);
     play(&rt, rt.alloc(), &mut store, &[(LOOK, READY, 1, 0)]);
     close(store);
 }
 
-/// A text of 166 bytes: the same run with its leg running under lease 1, and a runner that has it. It claimed with number 1 and the label
-/// `linux`, and was given lease 1.
-const OF_A_RUNNER: Pieces = &[
+/// A text of 166 bytes: the same run with its leg running under lease 1, and the runner that holds it. The runner
+/// claimed with number 1 and the label `linux`, and was granted lease 1.
+const ONE_RUNNER: Pieces = &[
     (
         0,
         &[0xA5, 1, 0, 0, 0, 0, 0, 0, 0, 1, 0, 0, 0, 0, 0, 0, 0, 166],
@@ -133,45 +135,45 @@ const OF_A_RUNNER: Pieces = &[
     (175, &[1, 0, 0, 0, 1, 0, 0, 0, 1]),
 ];
 
-/// The kept lease is given again, the runner reports, and the checkpoint writes 17 bytes and a text of 158: the run has 115, and the runner
-/// 31.
-const GONE_ON: &[Row] = &[
+/// The kept lease is sent again, the runner reports, and the checkpoint writes 17 bytes and a text of 158, of which the
+/// run has 115 and the runner 31.
+const CONTINUED: &[Row] = &[
     (
-        Ask::Apply(Words::Claim("r1", "1", "linux")),
+        TestStep::Apply(Words::Claim("r1", "1", "linux")),
         "lease 1 1 build 0 {}",
         1,
         0,
     ),
     (
-        Ask::Apply(Words::Claim("r1", "2", "linux")),
+        TestStep::Apply(Words::Claim("r1", "2", "linux")),
         "refused 42",
         2,
         0,
     ),
     (
-        Ask::Apply(Words::Done("r1", "2", "1", Outcome::Success)),
+        TestStep::Apply(Words::Done("r1", "2", "1", Outcome::Success)),
         "ok",
         3,
         0,
     ),
-    (Ask::Begin, "begun 175", 3, 0),
-    (Ask::Slice, "left 0", 3, 0),
-    (Ask::Finish, "checked 3", 3, 3),
-    (Ask::Apply(Words::Rerun("1", "2")), "again 1 2", 4, 3),
-    (Ask::Commit, "covered 4", 4, 4),
+    (TestStep::Begin, "begun 175", 3, 0),
+    (TestStep::Slice, "left 0", 3, 0),
+    (TestStep::Finish, "checked 3", 3, 3),
+    (TestStep::Apply(Words::Rerun("1", "2")), "again 1 2", 4, 3),
+    (TestStep::Commit, "covered 4", 4, 4),
 ];
 
 /// The report's reply is kept, and the run is at its second attempt.
 const OPENED_AGAIN: &[Row] = &[
     (
-        Ask::Apply(Words::Done("r1", "2", "1", Outcome::Success)),
+        TestStep::Apply(Words::Done("r1", "2", "1", Outcome::Success)),
         "ok",
         1,
         0,
     ),
     (LOOK, "run 1 1.2 queued - build:open(ready)", 2, 0),
     (
-        Ask::Apply(Words::Claim("r1", "3", "linux")),
+        TestStep::Apply(Words::Claim("r1", "3", "linux")),
         "lease 2 1 build 0 {}",
         3,
         0,
@@ -179,18 +181,18 @@ const OPENED_AGAIN: &[Row] = &[
 ];
 
 #[test]
-fn runner_of_the_first_layout_goes_on(rt: HostRuntime) {
+fn a_runner_of_the_first_layout_continues(rt: HostRuntime) {
     let alloc = rt.alloc();
-    let disk = disk_of(alloc, OF_A_RUNNER).expect(&rt, "a disk");
-    let mut store = opened(&rt, alloc, disk);
-    play(&rt, alloc, &mut store, GONE_ON);
-    let mut store = opened(&rt, alloc, store.into_disk());
+    let disk = disk_of(alloc, ONE_RUNNER).expect(&rt, "a disk");
+    let mut store = open_store(&rt, alloc, disk);
+    play(&rt, alloc, &mut store, CONTINUED);
+    let mut store = open_store(&rt, alloc, store.into_disk());
     play(&rt, alloc, &mut store, OPENED_AGAIN);
     close(store);
 }
 
-/// The text of the same run in the second layout, 127 bytes: an attempt stands behind its body.
-const OF_AN_ATTEMPT: Pieces = &[
+/// The text of the same run in the second layout, 127 bytes: an attempt follows its body.
+const IN_THE_SECOND_LAYOUT: Pieces = &[
     (
         0,
         &[0xA5, 2, 0, 0, 0, 0, 0, 0, 0, 1, 0, 0, 0, 0, 0, 0, 0, 127],
@@ -201,17 +203,21 @@ const OF_AN_ATTEMPT: Pieces = &[
     (125, &[0, 0, 0, 1, 1, 0, 1, 0, 0, 0, 1, 2]),
 ];
 
-/// Files, with the byte of the other layout.
-const EXCHANGED: &[(Pieces, u8)] = &[(OF_A_RUN, 2), (OF_A_RUNNER, 2), (OF_AN_ATTEMPT, 1)];
+/// Files, each with the byte of the other layout.
+const WITH_THE_OTHER_LAYOUT: &[(Pieces, u8)] = &[
+    (ONE_RUN, 2),
+    (ONE_RUNNER, 2),
+    (IN_THE_SECOND_LAYOUT, 1),
+];
 
 #[test]
-fn texts_are_not_read_in_the_other_layout(rt: HostRuntime) {
+fn a_table_is_not_read_in_the_other_layout(rt: HostRuntime) {
     let alloc = rt.alloc();
-    for (place, (pieces, byte)) in EXCHANGED.iter().enumerate() {
+    for (index, (pieces, byte)) in WITH_THE_OTHER_LAYOUT.iter().enumerate() {
         let disk = disk_of(alloc, pieces).expect(&rt, "a disk");
         let mut bytes = disk.bytes().to_vec(alloc).expect(&rt, "memory");
-        lay(&mut bytes, 1, &[*byte]);
+        overwrite(&mut bytes, 1, &[*byte]);
         let disk = MemoryDisk::from_slice(alloc, &bytes).expect(&rt, "a disk");
-        holds!(rt; number_of_opening(&rt, alloc, disk) == 54, place);
+        holds!(rt; number_of_opening(&rt, alloc, disk) == 54, index);
     }
 }

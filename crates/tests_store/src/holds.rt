@@ -1,23 +1,23 @@
-//! What the tests ask for: one call for each condition, which is cheaper to prove than a branch to a panic at each place.
+//! The conditions of tests, one call each. A call is cheaper to prove than a branch to a panic at each place.
 ghost use Rattle.std.specs.Prelude.{◌≡◌, true};
 
 use std::fmt::Display;
 use std::process::Abort;
 use wf_value::{Code, Refusal};
 
-/// Ends the test where a condition does not hold at a place, as a row of a table, and says which.
+/// Ends the test if a condition does not hold at a place, such as a row of a table, and prints both.
 pub fn expect_so_at<R: Abort, D: Display + Drop>(rt: &R, is_so: bool, condition: &str, place: D)
     ensures { is_so ≡ true }
 {
     assert!(rt; is_so, "not so: {condition}, at {place}");
 }
 
-/// That a text is the one that is wanted.
+/// Expects this text.
 pub fn expect_text<R: Abort>(rt: &R, text: &str, want: &str) {
     assert!(rt; text == want, "{text}\nin place of\n{want}");
 }
 
-/// That the first answer is Ok, or that memory was refused, and that the second is Ok.
+/// Expects the first answer to be `Ok` or out of memory, and the second to be `Ok`.
 pub fn expect_twice<R: Abort>(rt: &R, first: Result<(), Refusal>, second: Result<(), Refusal>) {
     assert!(rt;
         matches!(first, Ok(()) | Err(Refusal::Numbered(Code::NoMemory))),
@@ -26,7 +26,7 @@ pub fn expect_twice<R: Abort>(rt: &R, first: Result<(), Refusal>, second: Result
     assert!(rt; second.is_ok(), "refused again");
 }
 
-/// That a condition holds, at a place where one is given: `holds!(rt; a < b)`, `holds!(rt; a < b, row)`.
+/// Expects a condition to hold, optionally at a place: `holds!(rt; a < b)`, `holds!(rt; a < b, row)`.
 macro_rules! holds {
     ($rt:expr; $condition:expr $(,)?) => {
         $crate::holds::expect_so_at(&$rt, $condition, stringify!($condition), "one place")

@@ -1,11 +1,13 @@
-//! Tests of stores over disks: their bytes, which are worked out by hand, and what opens of what a stop, a fault or want of memory leaves.
-//! Nothing stands on this crate.
+//! Tests of stores over disks: their bytes, worked out by hand, and what opens after a crash, a fault or running out of
+//! memory. No crate depends on this one.
 #![tactic(auto)]
 
 #[cfg(test)]
 mod bounds;
 #[cfg(test)]
 mod checkpoints;
+#[cfg(test)]
+mod crashes;
 #[cfg(test)]
 mod events;
 #[cfg(test)]
@@ -27,8 +29,6 @@ mod reruns;
 #[cfg(test)]
 mod script;
 #[cfg(test)]
-mod stops;
-#[cfg(test)]
 mod stores;
 #[cfg(test)]
-mod texts;
+mod table_texts;

@@ -1,8 +1,8 @@
-//! Memory may be refused once, at any allocation: the answer is 50, nothing has changed, and asked again the call is done.
+//! Memory may run out once, at any allocation: the answer is 50, nothing has changed, and a second call succeeds.
 
 use crate::events::BUILD;
 use crate::holds::{expect_text, expect_twice, holds};
-use crate::stores::{LEAST, close, made, opened, try_open};
+use crate::stores::{MIN_AREA, close, new_store, open_store, try_open};
 use act_disk::{Disk, MemoryDisk};
 use act_store::{Receipt, Store};
 use std::alloc::Global;
@@ -11,7 +11,7 @@ use tests_common::commands::{Words, command_of};
 use wf_value::{Chars, Refusal};
 
 /// Commands, and the printed replies.
-const ASKED: &[(Words<'static>, &str)] = &[
+const COMMANDS: &[(Words<'static>, &str)] = &[
     (Words::Admit("d1", BUILD), "created 1"),
     (Words::Claim("r1", "1", "linux"), "lease 1 1 build 0 {}"),
     (Words::Claim("r1", "1", "linux"), "lease 1 1 build 0 {}"),
@@ -33,8 +33,8 @@ fn apply(
     store.apply(alloc, 7, command)
 }
 
-/// Asks, and asks again where memory was refused.
-fn asked_again(
+/// Applies a command, and applies it again if memory ran out.
+fn apply_or_retry(
     rt: &impl Abort,
     alloc: Global,
     store: &mut Store<MemoryDisk>,
@@ -51,8 +51,8 @@ fn asked_again(
     }
 }
 
-/// Opens a disk, and opens it again where memory was refused.
-fn opened_again(
+/// Opens a disk, and opens it again if memory ran out.
+fn open_or_retry(
     rt: &impl Abort,
     alloc: Global,
     disk: MemoryDisk,
@@ -62,19 +62,19 @@ fn opened_again(
         Ok(store) => Ok(store),
         Err((disk, refusal)) => {
             holds!(rt; refusal.number() == 50 && disk.faults() == 0);
-            Ok(opened(rt, alloc, disk))
+            Ok(open_store(rt, alloc, disk))
         }
     }
 }
 
-/// The printed reply to what is asked, and asked again where memory was refused.
+/// The printed reply to a command, applied again if memory ran out.
 fn reply_to(
     rt: &impl Abort,
     alloc: Global,
     store: &mut Store<MemoryDisk>,
     words: &Words<'_>,
 ) -> Result<Chars, Refusal> {
-    let receipt = asked_again(rt, alloc, store, words)?;
+    let receipt = apply_or_retry(rt, alloc, store, words)?;
     holds!(rt; receipt.place == store.entries());
     receipt.reply.text(alloc)
 }
@@ -90,13 +90,13 @@ fn expect_reply(
     Ok(())
 }
 
-/// Asks all, and commits.
+/// Applies all commands, and commits.
 fn plays_over(
     rt: &impl Abort,
     alloc: Global,
     store: &mut Store<MemoryDisk>,
 ) -> Result<(), Refusal> {
-    for row in ASKED {
+    for row in COMMANDS {
         expect_reply(rt, alloc, store, row)?;
     }
     let covered = store.commit()?;
@@ -104,16 +104,16 @@ fn plays_over(
     Ok(())
 }
 
-/// What was committed stands in the store that opens.
+/// Expects what was committed to be in the store that opens.
 fn opens_to_the_last(rt: &impl Abort, alloc: Global, disk: MemoryDisk) -> Result<(), Refusal> {
-    let mut again = opened_again(rt, alloc, disk)?;
+    let mut again = open_or_retry(rt, alloc, disk)?;
     let replied = expect_reply(rt, alloc, &mut again, &LAST);
     close(again);
     replied
 }
 
 fn plays(rt: &impl Abort, alloc: Global) -> Result<(), Refusal> {
-    let mut store = made(rt, alloc, LEAST);
+    let mut store = new_store(rt, alloc, MIN_AREA);
     let played = plays_over(rt, alloc, &mut store);
     let disk = store.into_disk();
     played?;
@@ -121,6 +121,6 @@ fn plays(rt: &impl Abort, alloc: Global) -> Result<(), Refusal> {
 }
 
 #[test]
-fn asked_again_after_a_refusal_of_memory(rt: HostRuntime) {
+fn a_call_succeeds_when_repeated_after_out_of_memory(rt: HostRuntime) {
     expect_twice(&rt, plays(&rt, rt.alloc()), plays(&rt, rt.alloc()));
 }

@@ -1,8 +1,10 @@
-//! Scripts whose answers are worked out by hand, and what opens of their disks.
+//! Scripts with answers worked out by hand, and what opens from their disks.
 
 use crate::events::{BUILD, BUILD_ELSEWHERE};
 use crate::holds::holds;
-use crate::stores::{Ask, LEAST, Row, close, made, opened, play, steps_of, text_of, try_make};
+use crate::stores::{
+    MIN_AREA, Row, TestStep, close, new_store, open_store, play, steps_of, text_of, try_init,
+};
 use act_disk::{Disk, FuseDisk, MemoryDisk};
 use act_store::{Played, Store};
 use std::alloc::Global;
@@ -12,96 +14,106 @@ use wf_value::{Outcome, Refusal};
 
 /// A run is made and leased. Nothing is pending at the first commit and at the last.
 const FIRST: &[Row] = &[
-    (Ask::Commit, "covered 0", 0, 0),
-    (Ask::Apply(Words::Look("1")), "refused 40", 1, 0),
-    (Ask::Apply(Words::Admit("d1", BUILD)), "created 1", 2, 0),
-    (Ask::Commit, "covered 2", 2, 2),
+    (TestStep::Commit, "covered 0", 0, 0),
+    (TestStep::Apply(Words::Look("1")), "refused 40", 1, 0),
     (
-        Ask::Apply(Words::Claim("r1", "2", "linux")),
+        TestStep::Apply(Words::Admit("d1", BUILD)),
+        "created 1",
+        2,
+        0,
+    ),
+    (TestStep::Commit, "covered 2", 2, 2),
+    (
+        TestStep::Apply(Words::Claim("r1", "2", "linux")),
         "refused 43 0",
         3,
         2,
     ),
     (
-        Ask::Apply(Words::Claim("r1", "1", "linux")),
+        TestStep::Apply(Words::Claim("r1", "1", "linux")),
         "lease 1 1 build 0 {}",
         4,
         2,
     ),
-    (Ask::Apply(Words::Beat("r1", "1")), "go on", 5, 2),
-    (Ask::Commit, "covered 5", 5, 5),
-    (Ask::Commit, "covered 5", 5, 5),
+    (TestStep::Apply(Words::Beat("r1", "1")), "go on", 5, 2),
+    (TestStep::Commit, "covered 5", 5, 5),
+    (TestStep::Commit, "covered 5", 5, 5),
 ];
 
-/// After an opening: the delivery has its run and no second one, and the runner's last number has the reply that was kept. An entry
-/// stays behind that is not covered.
+/// After an opening: the delivery has its run and makes no second one, and the runner's last number gets the kept
+/// reply. One entry stays uncovered.
 const AGAIN: &[Row] = &[
-    (Ask::Apply(Words::Admit("d1", BUILD)), "created 1", 1, 0),
     (
-        Ask::Apply(Words::Admit("d1", BUILD_ELSEWHERE)),
+        TestStep::Apply(Words::Admit("d1", BUILD)),
+        "created 1",
+        1,
+        0,
+    ),
+    (
+        TestStep::Apply(Words::Admit("d1", BUILD_ELSEWHERE)),
         "created 1",
         2,
         0,
     ),
-    (Ask::Apply(Words::Look("2")), "refused 40", 3, 0),
+    (TestStep::Apply(Words::Look("2")), "refused 40", 3, 0),
     (
-        Ask::Apply(Words::Claim("r1", "1", "linux")),
+        TestStep::Apply(Words::Claim("r1", "1", "linux")),
         "lease 1 1 build 0 {}",
         4,
         0,
     ),
     (
-        Ask::Apply(Words::Claim("r1", "1", "gpu")),
+        TestStep::Apply(Words::Claim("r1", "1", "gpu")),
         "refused 43 1",
         5,
         0,
     ),
-    (Ask::Commit, "covered 5", 5, 5),
+    (TestStep::Commit, "covered 5", 5, 5),
     (
-        Ask::Apply(Words::Done("r1", "2", "1", Outcome::Success)),
+        TestStep::Apply(Words::Done("r1", "2", "1", Outcome::Success)),
         "ok",
         6,
         5,
     ),
 ];
 
-/// The report was not covered, so it counts for nothing.
+/// The report was not covered, so it has no effect.
 const AFTER_THAT: &[Row] = &[
     (
-        Ask::Apply(Words::Look("1")),
+        TestStep::Apply(Words::Look("1")),
         "run 1 1 in_progress - build:open(running)",
         1,
         0,
     ),
     (
-        Ask::Apply(Words::Done("r1", "2", "1", Outcome::Failure)),
+        TestStep::Apply(Words::Done("r1", "2", "1", Outcome::Failure)),
         "ok",
         2,
         0,
     ),
     (
-        Ask::Apply(Words::Done("r1", "2", "1", Outcome::Failure)),
+        TestStep::Apply(Words::Done("r1", "2", "1", Outcome::Failure)),
         "ok",
         3,
         0,
     ),
     (
-        Ask::Apply(Words::Look("1")),
+        TestStep::Apply(Words::Look("1")),
         "run 1 1 completed failure build:failure(failure)",
         4,
         0,
     ),
-    (Ask::Commit, "covered 4", 4, 4),
+    (TestStep::Commit, "covered 4", 4, 4),
 ];
 
 /// Each is played over what the one before it left.
 const PLAYS: &[&[Row]] = &[FIRST, AGAIN, AFTER_THAT];
 
 #[test]
-fn what_is_covered_opens_again(rt: HostRuntime) {
-    let mut disk = made(&rt, rt.alloc(), LEAST).into_disk();
+fn covered_entries_survive_reopening(rt: HostRuntime) {
+    let mut disk = new_store(&rt, rt.alloc(), MIN_AREA).into_disk();
     for &rows in PLAYS {
-        let mut store = opened(&rt, rt.alloc(), disk);
+        let mut store = open_store(&rt, rt.alloc(), disk);
         play(&rt, rt.alloc(), &mut store, rows);
         disk = store.into_disk();
     }
@@ -118,7 +130,7 @@ fn are_answers(alloc: Global, answers: &[Played], rows: &[Row]) -> Result<bool, 
     Ok(answers.len() == rows.len())
 }
 
-/// Whether the steps of the rows are answered so, all in one call.
+/// Whether the steps of the rows get these answers, all in one call.
 fn plays_at_once<D: Disk>(
     alloc: Global,
     store: &mut Store<D>,
@@ -131,38 +143,49 @@ fn plays_at_once<D: Disk>(
 
 #[test]
 fn steps_are_played_in_one_call(rt: HostRuntime) {
-    let mut store = made(&rt, rt.alloc(), LEAST);
+    let mut store = new_store(&rt, rt.alloc(), MIN_AREA);
     let as_wanted = plays_at_once(rt.alloc(), &mut store, FIRST).expect(&rt, "memory");
     close(store);
     holds!(rt; as_wanted);
 }
 
-/// The sync behind the record of the second commit fails, and nothing after it is entered or covered.
+/// The sync after the record of the second commit fails, and nothing after it is entered or covered.
 const FAILING: &[Row] = &[
-    (Ask::Apply(Words::Admit("d1", BUILD)), "created 1", 1, 0),
-    (Ask::Commit, "covered 1", 1, 1),
     (
-        Ask::Apply(Words::Claim("r1", "1", "linux")),
+        TestStep::Apply(Words::Admit("d1", BUILD)),
+        "created 1",
+        1,
+        0,
+    ),
+    (TestStep::Commit, "covered 1", 1, 1),
+    (
+        TestStep::Apply(Words::Claim("r1", "1", "linux")),
         "lease 1 1 build 0 {}",
         2,
         1,
     ),
-    (Ask::Commit, "refused 51", 2, 1),
-    (Ask::Apply(Words::Look("1")), "refused 52", 2, 1),
-    (Ask::Commit, "refused 52", 2, 1),
+    (TestStep::Commit, "refused 51", 2, 1),
+    (TestStep::Apply(Words::Look("1")), "refused 52", 2, 1),
+    (TestStep::Commit, "refused 52", 2, 1),
 ];
 
-/// A disk whose call 11 fails: six calls make the store, four are of the first commit, and the next two write the record and sync it.
+/// A disk whose call 11 fails: six calls make the store, four are the first commit's, and the next two write the record
+/// and sync it.
 fn fused(rt: &impl Abort, alloc: Global) -> Store<FuseDisk<MemoryDisk>> {
-    match try_make(rt, alloc, FuseDisk::once(MemoryDisk::new(alloc), 11), LEAST) {
+    match try_init(
+        rt,
+        alloc,
+        FuseDisk::once(MemoryDisk::new(alloc), 11),
+        MIN_AREA,
+    ) {
         Ok(store) => store,
         Err((_, refusal)) => panic!(rt; "not made: {refusal}"),
     }
 }
 
-/// The record's gate is closed still, so that the claim is not there.
+/// The record's gate is still closed, so the claim is not there.
 const AFTER_THE_FAULT: &[Row] = &[(
-    Ask::Apply(Words::Look("1")),
+    TestStep::Apply(Words::Look("1")),
     "run 1 1 queued - build:open(ready)",
     1,
     0,
@@ -172,7 +195,7 @@ const AFTER_THE_FAULT: &[Row] = &[(
 fn steps_after_a_fault_are_refused(rt: HostRuntime) {
     let mut store = fused(&rt, rt.alloc());
     play(&rt, rt.alloc(), &mut store, FAILING);
-    let mut again = opened(&rt, rt.alloc(), store.into_disk().into_inner());
+    let mut again = open_store(&rt, rt.alloc(), store.into_disk().into_inner());
     play(&rt, rt.alloc(), &mut again, AFTER_THE_FAULT);
     close(again);
 }

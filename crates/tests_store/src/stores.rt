@@ -1,4 +1,4 @@
-//! Stores that are made, opened and asked.
+//! Making, opening and using stores.
 
 use crate::holds::holds;
 use act_disk::{Disk, MemoryDisk};
@@ -9,11 +9,11 @@ use tests_common::commands::{Words, command_of};
 use wf_value::{Chars, Refusal};
 
 /// The least length of an area.
-pub const LEAST: u64 = 4_096;
+pub const MIN_AREA: u64 = 4_096;
 
-/// What a store is asked.
+/// A step of a test's script.
 #[derive(Drop)]
-pub enum Ask {
+pub enum TestStep {
     Apply(Words<'static>),
     Commit,
     Begin,
@@ -21,22 +21,22 @@ pub enum Ask {
     Finish,
 }
 
-/// What a store is asked and the printed answer, and then how many entries it has and how many of them are covered.
-pub type Row = (Ask, &'static str, u64, u64);
+/// A step and its printed answer, then the number of entries and how many of them are covered.
+pub type Row = (TestStep, &'static str, u64, u64);
 
-/// A new store on a disk, or the disk and why none is made.
-pub fn try_make<D: Disk>(
+/// A new store on a disk, or the disk and the refusal.
+pub fn try_init<D: Disk>(
     rt: &impl Abort,
     alloc: Global,
     disk: D,
     area: u64,
 ) -> Result<Store<D>, (D, Refusal)> {
     holds!(rt; disk.faults() < u64::MAX);
-    holds!(rt; LEAST <= area && area <= 1_073_741_824);
+    holds!(rt; MIN_AREA <= area && area <= 1_073_741_824);
     Store::init(alloc, disk, area)
 }
 
-/// The store of a disk, or the disk and why it does not open.
+/// The store on a disk, or the disk and the refusal.
 pub fn try_open<D: Disk>(
     rt: &impl Abort,
     alloc: Global,
@@ -47,27 +47,27 @@ pub fn try_open<D: Disk>(
 }
 
 /// A new store in memory.
-pub fn made(rt: &impl Abort, alloc: Global, area: u64) -> Store<MemoryDisk> {
-    match try_make(rt, alloc, MemoryDisk::new(alloc), area) {
+pub fn new_store(rt: &impl Abort, alloc: Global, area: u64) -> Store<MemoryDisk> {
+    match try_init(rt, alloc, MemoryDisk::new(alloc), area) {
         Ok(store) => store,
         Err((_, refusal)) => panic!(rt; "not made: {refusal}"),
     }
 }
 
-/// The store of a disk that opens.
-pub fn opened(rt: &impl Abort, alloc: Global, disk: MemoryDisk) -> Store<MemoryDisk> {
+/// The store on a disk that opens.
+pub fn open_store(rt: &impl Abort, alloc: Global, disk: MemoryDisk) -> Store<MemoryDisk> {
     match try_open(rt, alloc, disk) {
         Ok(store) => store,
         Err((_, refusal)) => panic!(rt; "not opened: {refusal}"),
     }
 }
 
-/// Closes a store. Its disk is not needed any more.
+/// Closes a store and drops its disk.
 pub fn close(store: Store<MemoryDisk>) {
     let _disk = store.into_disk();
 }
 
-/// The number with which a disk is refused, and 0 where it opens.
+/// The number with which a disk is refused, or 0 if it opens.
 pub fn number_of_opening(rt: &impl Abort, alloc: Global, disk: MemoryDisk) -> u64 {
     match try_open(rt, alloc, disk) {
         Ok(store) => {
@@ -78,36 +78,40 @@ pub fn number_of_opening(rt: &impl Abort, alloc: Global, disk: MemoryDisk) -> u6
     }
 }
 
-fn step_of(alloc: Global, ask: &Ask) -> Result<Step, Refusal> {
-    match ask {
-        Ask::Apply(words) => Ok(Step::Apply(command_of(alloc, words)?)),
-        Ask::Commit => Ok(Step::Commit),
-        Ask::Begin => Ok(Step::Begin),
-        Ask::Slice => Ok(Step::Slice),
-        Ask::Finish => Ok(Step::Finish),
+fn step_of(alloc: Global, step: &TestStep) -> Result<Step, Refusal> {
+    match step {
+        TestStep::Apply(words) => Ok(Step::Apply(command_of(alloc, words)?)),
+        TestStep::Commit => Ok(Step::Commit),
+        TestStep::Begin => Ok(Step::Begin),
+        TestStep::Slice => Ok(Step::Slice),
+        TestStep::Finish => Ok(Step::Finish),
     }
 }
 
-/// What a store answers.
-pub fn asked<D: Disk>(alloc: Global, store: &mut Store<D>, ask: &Ask) -> Result<Played, Refusal> {
-    let step = step_of(alloc, ask)?;
+/// The answer of a store.
+pub fn answer_to<D: Disk>(
+    alloc: Global,
+    store: &mut Store<D>,
+    step: &TestStep,
+) -> Result<Played, Refusal> {
+    let step = step_of(alloc, step)?;
     Ok(take(alloc, store, step))
 }
 
-/// What the count in an answer is printed behind.
-fn counted_as(ask: &Ask) -> &'static str {
-    match ask {
-        Ask::Apply(_) => "",
-        Ask::Commit => "covered",
-        Ask::Begin => "begun",
-        Ask::Slice => "left",
-        Ask::Finish => "checked",
+/// The word that precedes the count in an answer.
+fn counted_as(step: &TestStep) -> &'static str {
+    match step {
+        TestStep::Apply(_) => "",
+        TestStep::Commit => "covered",
+        TestStep::Begin => "begun",
+        TestStep::Slice => "left",
+        TestStep::Finish => "checked",
     }
 }
 
 /// The text of an answer.
-pub fn text_of(alloc: Global, ask: &Ask, answer: &Played) -> Result<Chars, Refusal> {
-    let word = counted_as(ask);
+pub fn text_of(alloc: Global, step: &TestStep, answer: &Played) -> Result<Chars, Refusal> {
+    let word = counted_as(step);
     match answer {
         Played::Replied(reply) => reply.text(alloc),
         Played::Count(count) => Ok(Chars::new(format!(in alloc; "{word} {count}")?)),
@@ -115,23 +119,23 @@ pub fn text_of(alloc: Global, ask: &Ask, answer: &Played) -> Result<Chars, Refus
     }
 }
 
-/// Whether a store answers so.
+/// Whether a store gives this answer.
 pub fn is_answered<D: Disk>(
     alloc: Global,
     store: &mut Store<D>,
-    ask: &Ask,
+    step: &TestStep,
     want: &str,
 ) -> Result<bool, Refusal> {
-    let answer = asked(alloc, store, ask)?;
-    Ok(text_of(alloc, ask, &answer)?.as_str() == want)
+    let answer = answer_to(alloc, store, step)?;
+    Ok(text_of(alloc, step, &answer)?.as_str() == want)
 }
 
-/// Asks a store in turn, and compares each answer.
+/// Takes the steps of the rows, and compares each answer.
 pub fn play<D: Disk>(rt: &impl Abort, alloc: Global, store: &mut Store<D>, rows: &[Row]) {
-    for (place, (ask, want, entries, count)) in rows.iter().enumerate() {
-        let as_wanted = is_answered(alloc, store, ask, want).expect(rt, "memory");
-        holds!(rt; as_wanted, place);
-        holds!(rt; store.entries() == *entries && store.covered() == *count, place);
+    for (index, (step, want, entries, count)) in rows.iter().enumerate() {
+        let as_wanted = is_answered(alloc, store, step, want).expect(rt, "memory");
+        holds!(rt; as_wanted, index);
+        holds!(rt; store.entries() == *entries && store.covered() == *count, index);
     }
 }
 

@@ -5,22 +5,22 @@ use run_plan::Command;
 use run_table::Table;
 use std::alloc::Global;
 use tests_common::commands::{Words, command_of, prepared};
-use tests_common::values::are_apart;
+use tests_common::values::are_distinct;
 use wf_value::{Outcome, Refusal, TryCopy};
 
-/// The body of an event of one job, `build`.
+/// The body of an event with one job, `build`.
 const BUILD: &str =
     "{\"repo\":\"o/r\",\"path\":\"ci.json\",\"workflow\":{\"jobs\":{\"build\":{\"runs-on\":\"linux\"}}}}";
 
-/// The same of another path.
+/// The same with another path.
 const BUILD_ELSEWHERE: &str =
     "{\"repo\":\"o/r\",\"path\":\"cd.json\",\"workflow\":{\"jobs\":{\"build\":{\"runs-on\":\"linux\"}}}}";
 
-/// The same of another label.
+/// The same with another label.
 const OTHER_BODY: &str =
     "{\"repo\":\"o/r\",\"path\":\"ci.json\",\"workflow\":{\"jobs\":{\"build\":{\"runs-on\":\"gpu\"}}}}";
 
-/// Deliveries, events and bodies, of which no two are the same.
+/// Deliveries, events and bodies, all different.
 const EVENTS: &[(&str, &str, &str)] = &[
     ("d1", "push", BUILD),
     ("d2", "push", BUILD),
@@ -28,7 +28,7 @@ const EVENTS: &[(&str, &str, &str)] = &[
     ("d1", "push", OTHER_BODY),
 ];
 
-/// Other commands, of which no two are the same.
+/// Other commands, all different.
 const COMMANDS: &[Words<'static>] = &[
     Words::Claim("r1", "1", "linux,x64"),
     Words::Claim("r2", "1", "linux,x64"),
@@ -66,20 +66,20 @@ fn commands(alloc: Global) -> Result<Vec<Command>, Refusal> {
     Ok(commands)
 }
 
-fn are_commands_apart(alloc: Global) -> Result<bool, Refusal> {
-    are_apart(alloc, commands(alloc)?.as_slice())
+fn are_commands_distinct(alloc: Global) -> Result<bool, Refusal> {
+    are_distinct(alloc, commands(alloc)?.as_slice())
 }
 
 #[test]
-fn commands_are_copied_and_told_apart(rt: HostRuntime) {
-    let apart = are_commands_apart(rt.alloc()).expect(&rt, "memory");
-    holds!(rt; apart);
+fn a_command_equals_its_copy_and_no_other_command(rt: HostRuntime) {
+    let distinct = are_commands_distinct(rt.alloc()).expect(&rt, "memory");
+    holds!(rt; distinct);
 }
 
 /// A command, and the printed reply.
 type Row = (Words<'static>, &'static str);
 
-/// Runs of two workflows, the third the second of its own, each of whose legs a runner has.
+/// Runs of two workflows. The third run is the second of its workflow, and a runner holds each leg.
 const LEASED: &[Row] = &[
     (Words::Admit("d1", BUILD), "created 1"),
     (Words::Claim("r1", "1", "linux"), "lease 1 1 build 0 {}"),
@@ -89,9 +89,9 @@ const LEASED: &[Row] = &[
     (Words::Claim("r3", "1", "linux"), "lease 3 3 build 0 {}"),
 ];
 
-/// Runs, a runner's number, its last command with the reply, the lease that it holds, and the last
-/// lease of all.
-const GONE_ON: &[Row] = &[
+/// Commands that test the runs, a runner's number, its last command with the reply, the lease that it holds, and the
+/// last lease of all.
+const CONTINUED: &[Row] = &[
     (Words::Claim("r1", "1", "linux"), "lease 1 1 build 0 {}"),
     (Words::Claim("r1", "1", "gpu"), "refused 43 1"),
     (Words::Claim("r1", "2", "linux"), "refused 42"),
@@ -105,31 +105,31 @@ const GONE_ON: &[Row] = &[
     ),
 ];
 
-/// Whether a table answers a command so.
-fn is_answered(alloc: Global, table: &mut Table, row: &Row) -> Result<bool, Refusal> {
+/// Whether a table gives this reply to a command.
+fn gives_reply(alloc: Global, table: &mut Table, row: &Row) -> Result<bool, Refusal> {
     let command = command_of(alloc, &row.0)?;
     let text = table.step(alloc, &command)?.text(alloc)?;
     Ok(text.as_str() == row.1)
 }
 
-/// Whether a table answers commands so, in turn.
-fn plays(alloc: Global, table: &mut Table, rows: &[Row]) -> Result<bool, Refusal> {
+/// Whether a table gives these replies to commands, in order.
+fn gives_replies(alloc: Global, table: &mut Table, rows: &[Row]) -> Result<bool, Refusal> {
     for row in rows {
-        if !is_answered(alloc, table, row)? {
+        if !gives_reply(alloc, table, row)? {
             return Ok(false);
         }
     }
     Ok(true)
 }
 
-/// The copy goes on from what the table was, twice: each by itself.
+/// A copy continues from the table's state, and so does a second one, independently.
 #[test]
-fn copies_of_a_table_go_on(rt: HostRuntime) {
+fn copies_of_a_table_continue_independently(rt: HostRuntime) {
     let alloc = rt.alloc();
     let mut table = Table::new(alloc);
-    holds!(rt; plays(alloc, &mut table, LEASED).expect(&rt, "memory"));
+    holds!(rt; gives_replies(alloc, &mut table, LEASED).expect(&rt, "memory"));
     for copy in 0..2 {
         let mut copied = table.copy(alloc).expect(&rt, "a copy");
-        holds!(rt; plays(alloc, &mut copied, GONE_ON).expect(&rt, "memory"), copy);
+        holds!(rt; gives_replies(alloc, &mut copied, CONTINUED).expect(&rt, "memory"), copy);
     }
 }

@@ -1,13 +1,14 @@
-//! Whether parts make a table, by who waits for a group and who holds it. GitHub Docs, "Control the concurrency of workflows and jobs": of
-//! a group at most one is in progress and at most one is pending, and its name is compared without its case. A repository has its own.
+//! Whether parts make a table, depending on which runs wait for a group and which hold it. GitHub Docs, "Control the
+//! concurrency of workflows and jobs": in a group, at most one is in progress and at most one is pending, and names are
+//! compared ignoring case. Each repository has groups of its own.
 
 use crate::holds::holds;
 use run_plan::Number;
-use run_table::{Parts, Table};
+use run_states::{JobParts, JobPhase, Leg, LegPhase, RunParts, RunPhase};
 use std::alloc::Global;
+use stored_tables::TableParts;
 use tests_common::commands::prepared;
 use wf_value::{Refusal, Sequence};
-use workflow_runs::{JobParts, JobPhase, Leg, LegPhase, RunParts, RunPhase};
 
 const UPPER: &str =
     "{\"repo\":\"o/r\",\"path\":\"ci.json\",\"workflow\":{\"concurrency\":\"Deploy\",\"jobs\":{\"go\":{\"runs-on\":\"linux\"}}}}";
@@ -21,7 +22,7 @@ const ELSEWHERE: &str =
 const UNGROUPED: &str =
     "{\"repo\":\"o/r\",\"path\":\"ci.json\",\"workflow\":{\"jobs\":{\"go\":{\"runs-on\":\"linux\"}}}}";
 
-/// A run: its delivery, its body, and whether it waits. One that does not is live, and its leg is ready.
+/// A run: its delivery, its body, and whether it waits. Otherwise it is live, and its leg is ready.
 type Run = (&'static str, &'static str, bool);
 
 /// Runs, and whether there is a table of them.
@@ -30,7 +31,7 @@ type Row = (&'static [Run], bool);
 const ROWS: &[Row] = &[
     // one holds the group and one waits for it
     (&[("d1", UPPER, false), ("d2", LOWER, true)], true),
-    // two wait, whose names differ in case
+    // two wait, with names that differ in case
     (
         &[
             ("d1", UPPER, false),
@@ -51,7 +52,7 @@ const ROWS: &[Row] = &[
         ],
         true,
     ),
-    // one waits though nobody holds its group
+    // one waits although no run holds its group
     (&[("d1", UPPER, true)], false),
     (&[("d1", ELSEWHERE, false), ("d2", LOWER, true)], false),
     // any number of runs without a group are live
@@ -92,12 +93,12 @@ fn run_parts(alloc: Global, run: &Run) -> Result<RunParts, Refusal> {
     })
 }
 
-fn parts(alloc: Global, runs: &[Run]) -> Result<Parts, Refusal> {
+fn parts(alloc: Global, runs: &[Run]) -> Result<TableParts, Refusal> {
     let mut all = Vec::new(alloc);
     for run in runs {
         all.push(run_parts(alloc, run)?)?;
     }
-    Ok(Parts {
+    Ok(TableParts {
         last_lease: 0,
         runs: Sequence::new(all),
         runners: Sequence::new(Vec::new(alloc)),
@@ -107,11 +108,11 @@ fn parts(alloc: Global, runs: &[Run]) -> Result<Parts, Refusal> {
 /// Whether there is a table of these runs.
 fn is_table(alloc: Global, runs: &[Run]) -> Result<bool, Refusal> {
     let parts = parts(alloc, runs)?;
-    Ok(Table::of(alloc, &parts)?.is_some())
+    Ok(parts.table(alloc)?.is_some())
 }
 
 #[test]
-fn parts_make_a_table_by_who_holds_a_group(rt: HostRuntime) {
+fn parts_make_a_table_only_with_valid_group_holders(rt: HostRuntime) {
     for (row, &(runs, want)) in ROWS.iter().enumerate() {
         let is_table = is_table(rt.alloc(), runs).expect(&rt, "memory");
         holds!(rt; is_table == want, row);

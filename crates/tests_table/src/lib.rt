@@ -1,7 +1,9 @@
-//! Tests of commands, of tables and of their stored bytes. Each scenario of `memory` runs twice: the first time an allocation may be refused,
-//! and then the answer is 50. Nothing stands on this crate.
+//! Tests of commands, tables and their stored bytes. Tests that need memory run twice: the first
+//! time an allocation may fail, and the answer is then 50. No crate depends on this one.
 #![tactic(auto)]
 
+#[cfg(test)]
+mod command_encodings;
 #[cfg(test)]
 mod copies;
 #[cfg(test)]
@@ -9,8 +11,6 @@ mod group_parts;
 #[cfg(test)]
 mod holds;
 #[cfg(test)]
-mod looked;
+mod rule_tries;
 #[cfg(test)]
-mod spellings;
-#[cfg(test)]
-mod stored_tables;
+mod table_encodings;

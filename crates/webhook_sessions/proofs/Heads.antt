@@ -1,4 +1,4 @@
--- What the code finds at the front of some bytes is a request of the definition.
+-- What the code finds at the start of some bytes is a request of the definition.
 use Rattle.std.proofs.Common.{◌≡◌, ◌⊎◌, ℕ, ◌<◌, ◌≤◌, Bool, true, false, List, [], ◌∷◌, ◌++◌, length, take, drop, map, refl, sym, ap, subst, ◌∙◌, inl, inr, append_assoc, length-take, length-drop, arith}
 use Rattle.std.specs.Prelude.{min, codes, cond, nat_le, Option, Some, None, Result, Ok, Err, ⊤}
 use Rattle.std.proofs.lemmas.Bool.Decides.{nat_tests}
@@ -11,16 +11,18 @@ use Rattle.httparse.specs.Spans.{RequestOverflows, IsRequestAt, IsRequestWithin,
 use Rattle.httparse.proofs.GrammarLemmas.{ReadsRequest-append}
 use Rattle.http1.specs.Fields.{values_named}
 use Rattle.wf_value.specs.declared.refusal.Refusal.{Refusal}
-use Rattle.act_sessions.specs.declared.request.Found.{Found}
+use Rattle.wf_reader.specs.Body.{most_body}
+use Rattle.run_plan.specs.Decimal.{is_decimal}
+use Rattle.act_sessions.specs.declared.request.FoundRequest.{FoundRequest}
 use Rattle.act_sessions.specs.Rules.{IsNext}
 use Rattle.webhook_sessions.specs.declared.fault.Fault.{Fault}
 use Rattle.webhook_sessions.specs.declared.fault.Fault.TheVariants.{BadHead}
 use Rattle.webhook_sessions.specs.Asking.{body_length, length_wanted, request_after, unread, with_body, posts_event}
 use Rattle.webhook_sessions.specs.EventHeaders.{event_headers}
-use Rattle.webhook_sessions.specs.Found.{IsFound}
+use Rattle.webhook_sessions.specs.FoundRequest.{IsFound}
 use Rattle.webhook_sessions.specs.Heading.{Heading, heading_of}
 use Rattle.webhook_sessions.specs.Hooks.{BeginsWith, HookReads, hooks}
-use Rattle.webhook_sessions.specs.Length.{just, is_length, stated_by, stated_length, unless_coded}
+use Rattle.webhook_sessions.specs.Length.{just, stated_by, stated_length, unless_coded}
 
 -- ---- no head
 
@@ -34,7 +36,7 @@ pub bad_for_good : (bytes front rest : List ℕ) → bytes ≡ front ++ rest →
 bad_for_good bytes front rest e never =
     inl (inl (λ more h left reads. never (rest ++ more) h left (subst (λ b. ReadsRequest b h left) (ap (λ b. b ++ more) e ∙ append_assoc front rest more) reads)), refl, refl)
 
--- ---- a body that is not whole is short
+-- ---- an incomplete body is short
 
 chosen : {A : Type 0} (b : Bool) (x y z : A) → cond b x y ≡ z → ((b ≡ true) × (x ≡ z)) ⊎ ((b ≡ false) × (y ≡ z))
 chosen true x y z e = inl (refl, e)
@@ -47,25 +49,25 @@ over : (m n : ℕ) → nat_le m n ≡ false → n < m
 over m n h = grind (arith, nat_tests)
 
 abbrev IsSmall : Result ℕ Fault → Type 0
-IsSmall (Ok n) = n ≤ 65536
+IsSmall (Ok n) = n ≤ most_body
 IsSmall (Err f) = ⊤
 
 abbrev IsSmallIfStated : Result (Option ℕ) Fault → Type 0
-IsSmallIfStated (Ok (Some n)) = n ≤ 65536
+IsSmallIfStated (Ok (Some n)) = n ≤ most_body
 IsSmallIfStated (Ok None) = ⊤
 IsSmallIfStated (Err f) = ⊤
 
-small_if : (n : ℕ) (within : Bool) (f : Fault) → nat_le n 65536 ≡ within → IsSmallIfStated (just (cond within (Ok n) (Err f)))
-small_if n true f h = at_most n 65536 h
+small_if : (n : ℕ) (within : Bool) (f : Fault) → nat_le n most_body ≡ within → IsSmallIfStated (just (cond within (Ok n) (Err f)))
+small_if n true f h = at_most n most_body h
 small_if n false f h = tt
 
-length_small : (digits : Bool) (n : ℕ) (f g : Fault) → IsSmallIfStated (just (cond digits (cond (nat_le n 65536) (Ok n) (Err f)) (Err g)))
-length_small true n f g = small_if n (nat_le n 65536) f refl
+length_small : (digits : Bool) (n : ℕ) (f g : Fault) → IsSmallIfStated (just (cond digits (cond (nat_le n most_body) (Ok n) (Err f)) (Err g)))
+length_small true n f g = small_if n (nat_le n most_body) f refl
 length_small false n f g = tt
 
 stated_small : (values : List (List ℕ)) → IsSmallIfStated (stated_by values)
 stated_small [] = tt
-stated_small (v ∷ []) = length_small (is_length v) _ _ _
+stated_small (v ∷ []) = length_small (is_decimal v) _ _ _
 stated_small (v ∷ w ∷ vs) = tt
 
 uncoded_small : (codings : List (List ℕ)) (stated : Result (Option ℕ) Fault) → IsSmallIfStated stated → IsSmallIfStated (unless_coded codings stated)
@@ -90,7 +92,7 @@ body_small head =
 some_is_none : {A : Type 0} (x : A) → Some x ≡ None → ⊥
 some_is_none x e = cc
 
-short_by : (head : Heading) (after : List ℕ) (r : Result ℕ Fault) → IsSmall r → with_body head after r ≡ None → length after < 65536
+short_by : (head : Heading) (after : List ℕ) (r : Result ℕ Fault) → IsSmall r → with_body head after r ≡ None → length after < most_body
 short_by head after (Err f) small e = absurd (some_is_none _ e)
 short_by head after (Ok n) small e =
     elim (chosen (nat_le n (length after)) _ None None e) [
@@ -100,9 +102,9 @@ short_by head after (Ok n) small e =
 
 -- ---- a whole head
 
--- what is found behind a head of so many bytes
+-- what the code finds after a head of n bytes
 pub next_by : (bytes : List ℕ) (h : RequestHead) (n : ℕ) → n ≤ 8192 → n ≤ length bytes → BeginsWith bytes h (drop n bytes)
-    → (found : Result (Option (Found Fault)) Refusal) → IsFound (request_after (heading_of h) (drop n bytes)) n (drop n bytes) found → IsNext hooks bytes found
+    → (found : Result (Option (FoundRequest Fault)) Refusal) → IsFound (request_after (heading_of h) (drop n bytes)) n (drop n bytes) found → IsNext hooks bytes found
 next_by bytes h n most within head (Ok None) none =
     let after = drop n bytes in
     let short = short_by (heading_of h) after (body_length (heading_of h)) (body_small (heading_of h)) none in
@@ -114,7 +116,7 @@ next_by bytes h n most within head (Ok (Some found)) (k, long, fits, is) =
     (omega arith, inr (h, drop n bytes, head, is ∙ ap (λ r. Some (found.request, r)) behind))
 next_by bytes h n most within head (Err e) memory = memory
 
--- a head that was found in the front of the bytes
+-- a head that the code finds in the first bytes
 pub head_found : (bytes front rest : List ℕ) (headers : List HeaderSpan) (s : RequestSpans) (h : RequestHead) → bytes ≡ front ++ rest → length front ≤ 8192
     → length headers ≡ 64 → IsRequestWithin front headers s → IsRequestAt front headers s h → BeginsWith bytes h (drop s.len bytes)
 head_found bytes front rest headers s h e short room within at =
@@ -129,7 +131,7 @@ head_found bytes front rest headers s h e short room within at =
       short = let len = at.len in omega arith;
     }
 
--- its parts are those that were found
+-- the parts of the head are those that were found
 pub heading_found : (front : List ℕ) (headers : List HeaderSpan) (s : RequestSpans) (h : RequestHead) → IsRequestAt front headers s h
     → record { method = span_bytes front s.method; target = span_bytes front s.path; minor = s.version; fields = map (header_bytes front) (take s.headers headers) } ≡ heading_of h
 heading_found front headers s h at = rw (at.method, at.path, at.version, at.fields) refl

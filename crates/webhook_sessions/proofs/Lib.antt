@@ -1,5 +1,4 @@
 -- Lemmas.
 pub mod NamedValues
-pub mod Lengths
 pub mod Heads
 pub mod Targets

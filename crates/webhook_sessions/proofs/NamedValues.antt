@@ -1,4 +1,4 @@
--- The values of the fields of a name, one field after the other.
+-- The values of the fields with one name, field by field.
 use Rattle.std.proofs.Common.{◌≡◌, ℕ, ◌+◌, ◌<◌, true, false, List, [], ◌∷◌, ◌++◌, length, take, map, get_or, ap, ◌∙◌, append-nil}
 use Rattle.std.specs.Prelude.{cond}
 use Rattle.std.proofs.lemmas.List.{map-append, take_more}
@@ -7,7 +7,7 @@ use Rattle.httparse.specs.declared.spans.HeaderSpan.{HeaderSpan}
 use Rattle.httparse.specs.Spans.{header_bytes}
 use Rattle.http1.specs.Fields.{Header, is_named, values_named}
 
--- the values among the first fields
+-- the values among the first n fields
 abbrev pub values_before : List ℕ → List ℕ → List HeaderSpan → ℕ → List (List ℕ)
 values_before name front spans n = values_named name (map (header_bytes front) (take n spans))
 

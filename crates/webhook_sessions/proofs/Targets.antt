@@ -1,4 +1,4 @@
--- A target names a path exactly where it is spelled as that path is.
+-- A target names a path exactly if it is encoded as that path is.
 use Rattle.std.specs.Prelude.{◌≡◌, ℕ, ◌+◌, ◌-◌, ◌&&◌, Bool, true, false, List, [], ◌∷◌, ◌++◌, length, take, drop, cond, codes, nat_le, nat_lt, not, slice_index, ◌==◌, Option, Some, None, option_map, option_and_then, refl}
 use Rattle.std.specs.List.{list_all, position, position_or_len}
 use Rattle.std.specs.Option.{option_map_or}
@@ -24,7 +24,7 @@ found : {X : Type 0} (test : Bool) (x y : X) → found_if test x ≡ Some y → 
 found true x y e = (refl, same_some x y e)
 found false x y e = absurd (none_is_some y e)
 
--- ---- a target of which a path is read is its spelling
+-- ---- a target that is parsed as a path is the encoding of that path
 
 front_is : (front bytes rest : List ℕ) → after_front front bytes ≡ Some rest → bytes ≡ front ++ rest
 front_is front bytes rest e =
@@ -44,7 +44,7 @@ mapped : {X : Type 0} (f : X → Path) (o : Option X) (p : Path) → option_map 
 mapped f None p e = absurd (none_is_some p e)
 mapped f (Some x) p e = (x, refl, same_some (f x) p e)
 
--- what stands before a slash and all from it on are the bytes
+-- the bytes before a slash and those from it on are all the bytes
 parts_are : (bytes : List ℕ) (place : Option ℕ) (parts : List ℕ × List ℕ)
     → option_map (λ n. (take n bytes, drop n bytes)) place ≡ Some parts → bytes ≡ parts.0 ++ parts.1
 parts_are bytes None parts e = absurd (none_is_some parts e)
@@ -110,7 +110,7 @@ path_is target false None None p other r n e = absurd (none_is_some p e)
 pub target_of_path : (target : List ℕ) (p : Path) → path_of target ≡ Some p → IsTargetOf p target
 target_of_path target p e = path_is target _ _ _ p refl refl refl e
 
--- ---- and of the spelling the path is read
+-- ---- the encoding of a path is parsed as that path
 
 digits_of : (text : List ℕ) (n : ℕ) → number_of text ≡ Some n → list_all is_ascii_digit text ≡ true
 digits_of text n e =
@@ -118,7 +118,7 @@ digits_of text n e =
     let outer = and_parts (nat_le 1 (length text) && nat_le (length text) 9 && list_all is_ascii_digit text) (not (slice_index text 0 == 48)) test in
     (and_parts (nat_le 1 (length text) && nat_le (length text) 9) (list_all is_ascii_digit text) outer.0).1
 
--- a digit is no slash, so the first slash stands behind the digits
+-- a digit is not a slash, so the first slash follows the digits
 no_slash_is_a_digit : (b : ℕ) → is_ascii_digit b ≡ true → (b == 47) ≡ false
 no_slash_is_a_digit b digit =
     elim (cases_Bool (b == 47)) [

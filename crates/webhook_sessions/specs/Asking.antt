@@ -1,4 +1,4 @@
--- What a request asks for, by its head and its body, or why it is refused: the checks in their order.
+-- What a request demands, by its head and its body, or why it is refused. The checks are in order.
 use Rattle.std.specs.Prelude.{ℕ, Bool, true, false, ◌||◌, ◌&&◌, ◌==◌, nat_le, List, length, take, drop, codes, Option, Some, None, unwrap_or, Result, Ok, Err, if◌then◌else◌}
 use Rattle.std.specs.Str.{bytes_eq}
 use Rattle.wf_value.specs.declared.refusal.Refusal.{Refusal}
@@ -25,7 +25,7 @@ use Rattle.webhook_sessions.specs.Paths.{path_of, method_of}
 abbrev pub posts_event : Heading → Bool
 posts_event head = bytes_eq head.method (codes "POST") && bytes_eq head.target (codes "/events")
 
--- without a length there is no body; but an event has to state one, and then carry its headers
+-- without a stated length there is no body; an event has to state a length and carry its headers
 abbrev pub length_wanted : Bool → Result (Option ℕ) Fault → Result (List ℕ × List ℕ) Fault → Result ℕ Fault
 length_wanted posts (Err fault) headers = Err fault
 length_wanted false (Ok stated) headers = Ok (unwrap_or stated 0)
@@ -33,11 +33,11 @@ length_wanted true (Ok None) headers = Err NoLength
 length_wanted true (Ok (Some n)) (Err fault) = Err fault
 length_wanted true (Ok (Some n)) (Ok found) = Ok n
 
--- how long the body is that is to be read
+-- the length of the body to read
 abbrev pub body_length : Heading → Result ℕ Fault
 body_length head = length_wanted (posts_event head) (stated_length head.fields) (event_headers head.fields)
 
--- ---- once it is read
+-- ---- once the body is read
 
 abbrev pub admission_or_fault : Admitted → Result Admitted Refusal → Demand Fault
 admission_or_fault event (Ok admitted) = demand.Command (command.Admit admitted)
@@ -75,7 +75,7 @@ wants_close head = (head.minor == 0) || lists_close head.fields
 abbrev pub whole : Heading → List ℕ → Request Fault
 whole head body = record { demand = demand_of head body; closes = wants_close head }
 
--- a request that is refused before its body is read: what follows is not known, and the session ends
+-- a request that is refused before its body is read; the next bytes cannot be framed, so the session ends
 abbrev pub unread : Fault → Request Fault
 unread fault = record { demand = demand.Fault fault; closes = true }
 
@@ -83,6 +83,6 @@ abbrev pub with_body : Heading → List ℕ → Result ℕ Fault → Option (Req
 with_body head after (Err fault) = Some (unread fault, after)
 with_body head after (Ok n) = if nat_le n (length after) then Some (whole head (take n after), drop n after) else None
 
--- the request of a head and the bytes behind it, and what is behind the request; none where its body is not whole
+-- the request of a head and the bytes after it, and the bytes after the request; `None` if the body is incomplete
 abbrev pub request_after : Heading → List ℕ → Option (Request Fault × List ℕ)
 request_after head after = with_body head after (body_length head)

@@ -1,4 +1,4 @@
--- What is read of the head of a request: RFC 9112, sections 3 and 5.
+-- What is read from the head of a request: RFC 9112, sections 3 and 5.
 use Rattle.std.specs.Prelude.{ℕ, List, map, refl}
 use Rattle.std.specs.Coded.{Coded, code_by, coded_ℕ, coded_list, coded×}
 use Rattle.http1.specs.Fields.{Header}

@@ -1,4 +1,4 @@
--- Bytes behind a request change nothing of it, and no bytes are two requests.
+-- Bytes after a request do not change it, and bytes are read as at most one request.
 use Rattle.std.specs.Prelude.{◌≡◌, ◌⊎◌, ℕ, ◌+◌, ◌-◌, ◌≤◌, Bool, true, false, List, [], ◌++◌, length, take, cond, nat_le, Option, Some, None, Result, Ok, Err, refl}
 use Rattle.std.proofs.Common.{sym, ap, subst, ◌∙◌, inl, inr, append_assoc, append-nil, length-append, arith}
 use Rattle.std.proofs.lemmas.List.{take-append-le}
@@ -35,7 +35,7 @@ at_most m n h = grind (arith, nat_tests)
 is_at_most : (m n : ℕ) → m ≤ n → nat_le m n ≡ true
 is_at_most m n h = grind (arith, nat_tests)
 
--- a request, with more behind it
+-- a request with more bytes after it
 abbrev followed : List ℕ → Option (Request Fault × List ℕ) → Option (Request Fault × List ℕ)
 followed more None = None
 followed more (Some x) = Some (x.0, x.1 ++ more)
@@ -92,7 +92,7 @@ reads_one bytes rest other r s (inr (h, after, head, found)) (inr (k, behind, fr
 pub hooks_one : IsOne hooks
 hooks_one = reads_one
 
--- what waits is no head that is whole, so it is no request with a head
+-- bytes that wait contain no whole head, so they are not a request with a head
 waits_for_one : (bytes rest : List ℕ) (r : Request Fault) → HookWaits bytes → HookReads bytes r rest → r ≡ unread BadHead
 waits_for_one bytes rest r waits (inl (bad, is, e)) = is
 waits_for_one bytes rest r (inl (none, may, short)) (inr (h, after, head, found)) = absurd (none h after head.reads)

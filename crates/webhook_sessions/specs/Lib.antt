@@ -7,5 +7,5 @@ pub mod Asking
 pub mod Statuses
 pub mod Answers
 pub mod Hooks
-pub mod Found
+pub mod FoundRequest
 pub mod Laws

@@ -1,4 +1,4 @@
--- What the target of a request names (own). It has to match exactly: with a query it is another one.
+-- What the target of a request names. It has to match exactly: a query makes it another target. This is defined by this project.
 use Rattle.std.specs.Prelude.{◌≡◌, ℕ, ◌-◌, ◌==◌, List, ◌++◌, take, drop, length, codes, Option, Some, None, option_map, option_and_then, if◌then◌else◌}
 use Rattle.std.specs.List.{position}
 use Rattle.std.specs.Option.{option_map_or}
@@ -7,34 +7,34 @@ use Rattle.run_plan.specs.SmallText.{found_if, number_of, runner_name_of}
 use Rattle.webhook_sessions.specs.declared.path.Path.{Path}
 use Rattle.webhook_sessions.specs.declared.path.Path.TheVariants.{Events, Run, Body, Cancel, Attempt, Lost}
 
--- what follows a front of the bytes, where they begin with it
+-- the bytes after a prefix, if they begin with it
 abbrev pub after_front : List ℕ → List ℕ → Option (List ℕ)
 after_front front bytes = found_if (bytes_eq (take (length front) bytes) front) (drop (length front) bytes)
 
--- what stands before an end of the bytes, where they end with it
+-- the bytes before a suffix, if they end with it
 abbrev pub before_end : List ℕ → List ℕ → Option (List ℕ)
 before_end end bytes =
     let place = length bytes - length end in
     found_if (bytes_eq (drop place bytes) end) (take place bytes)
 
--- what stands before the first slash, and all from it on
+-- the bytes before the first slash, and those from it on
 abbrev pub at_slash : List ℕ → Option (List ℕ × List ℕ)
 at_slash bytes = option_map (λ n. (take n bytes, drop n bytes)) (position (λ b. b == 47) bytes)
 
--- behind `/runs/RUN`: `/body`, `/cancel` or `/attempts/`ATTEMPT
+-- after `/runs/RUN`: `/body`, `/cancel` or `/attempts/`ATTEMPT
 abbrev pub part_of_run : ℕ → List ℕ → Option Path
 part_of_run run rest =
     if bytes_eq rest (codes "/body") then Some (Body run)
     else (if bytes_eq rest (codes "/cancel") then Some (Cancel run)
     else option_map (λ attempt. Attempt (record { run = run; attempt = attempt })) (option_and_then number_of (after_front (codes "/attempts/") rest)))
 
--- behind `/runs/`: RUN, or RUN and what is named of that run
+-- after `/runs/`: RUN, or RUN and a part of that run
 abbrev pub run_path : List ℕ → Option Path
 run_path rest =
     option_map_or (λ parts. option_and_then (λ run. part_of_run run parts.1) (number_of parts.0)) (at_slash rest)
     (option_map Run (number_of rest))
 
--- behind `/runners/`: NAME`/lost`
+-- after `/runners/`: NAME`/lost`
 abbrev pub runner_path : List ℕ → Option Path
 runner_path rest = option_map_or (λ name. option_map Lost (runner_name_of name)) (before_end (codes "/lost") rest) None
 
@@ -43,7 +43,7 @@ path_of target =
     if bytes_eq target (codes "/events") then Some Events
     else option_map_or run_path (after_front (codes "/runs/") target) (option_map_or runner_path (after_front (codes "/runners/") target) None)
 
--- the target that a path has
+-- the target of a path
 abbrev pub IsTargetOf : Path → List ℕ → Type 0
 IsTargetOf Events target = target ≡ codes "/events"
 IsTargetOf (Run run) target = (text : List ℕ) × (number_of text ≡ Some run) × (target ≡ codes "/runs/" ++ text)
@@ -54,7 +54,7 @@ IsTargetOf (Attempt a) target =
     × (target ≡ codes "/runs/" ++ run ++ (codes "/attempts/" ++ attempt))
 IsTargetOf (Lost runner) target = (text : List ℕ) × (runner_name_of text ≡ Some runner) × (target ≡ codes "/runners/" ++ text ++ codes "/lost")
 
--- the method that a path is asked by: RFC 9110, section 9
+-- the method of a path: RFC 9110, section 9
 abbrev pub method_of : Path → List ℕ
 method_of Events = codes "POST"
 method_of (Run run) = codes "GET"

@@ -39,15 +39,15 @@ fault_allows fault = None
 
 -- ---- an answer
 
--- no such run and no such runner
+-- no such run or runner
 abbrev pub is_missing : Refusal → Bool
 is_missing e = (refusal_number e == 40) || (refusal_number e == 45)
 
--- what ends a session is 503; what else is refused does not go with what the table holds
+-- a refusal that ends a session is 503; any other one conflicts with the state of the table
 abbrev pub refusal_status : Refusal → ℕ
 refusal_status e = if is_missing e then 404 else (if ends_by e then 503 else 409)
 
--- no request asks for what is answered with a lease or with a word to a runner
+-- no request is answered with a lease or another reply that only a runner gets
 abbrev pub reply_status : Reply → ℕ
 reply_status (reply.Created run) = 201
 reply_status (reply.Again a) = 201

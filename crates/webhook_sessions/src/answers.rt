@@ -1,7 +1,7 @@
 ghost use Rattle.std.specs.Prelude.{◌≡◌, ◌++◌, ◌∷◌, [], codes, length, option_copied, option_map, string_bytes, IfOk, Ok, OnOk};
 ghost use Rattle.http.specs.StatusCode.{status_text};
 ghost use Rattle.wf_value.specs.Gives.{Gives};
-ghost use Rattle.webhook_sessions.specs.Answers.{allow_line, answer_text, close_line, fault_text, kind_line, refused, reply_content, reply_kind, response, size_line, starved_text};
+ghost use Rattle.webhook_sessions.specs.Answers.{allow_line, answer_text, close_line, fault_text, kind_line, refused, reply_content, reply_kind, response, size_line, out_of_memory_text};
 
 use crate::fault::Fault;
 use crate::statuses::{fault_allows, fault_refusal, fault_status, refusal_status, reply_status};
@@ -13,7 +13,7 @@ use wf_value::{Chars, Refusal};
 
 const PLAIN: &str = "text/plain";
 
-/// The status and its phrase.
+/// The status and its reason phrase.
 fn push_status(text: &mut String, status: StatusCode) -> Result<(), AllocError>
     ensures { OnOk result (string_bytes text.new ≡ string_bytes text.old ++ status_text status) }
 {
@@ -104,7 +104,7 @@ fn reply_kind(reply: &Reply) -> &'static str
     }
 }
 
-/// What is told of a reply: an admitted body alone, and else its text and a line feed.
+/// The content for a reply: an admitted body alone, otherwise the reply's text and a line feed.
 fn reply_content(alloc: Global, reply: &Reply) -> Result<String, Refusal>
     ensures { Gives (λ text. string_bytes text) result (Ok (reply_content reply.now)) }
 {
@@ -156,9 +156,9 @@ pub fn fault_text(alloc: Global, last: bool, fault: &Fault) -> Result<Vec<u8>, R
     )
 }
 
-/// What is written where memory is wanting outside a command. It takes none itself.
-pub fn starved_text() -> &'static [u8]
-    ensures { result.now ≡ starved_text }
+/// The out-of-memory response outside a command. It takes no memory.
+pub fn out_of_memory_text() -> &'static [u8]
+    ensures { result.now ≡ out_of_memory_text }
 {
     b"HTTP/1.1 503 Service Unavailable\r\nContent-Type: text/plain\r\nContent-Length: 11\r\nConnection: close\r\n\r\nrefused 50\n"
 }

@@ -35,7 +35,7 @@ fn prepared(
     }
 }
 
-/// What a posted event asks for.
+/// What a posted event demands.
 fn admission(alloc: Global, fields: &Fields<'_>, body: &[u8]) -> Result<Demand<Fault>, Refusal>
     ensures { Gives (λ d. d) result (Ok (admission (event_headers fields.now) body.now)) }
 {
@@ -49,7 +49,7 @@ fn admission(alloc: Global, fields: &Fields<'_>, body: &[u8]) -> Result<Demand<F
     }
 }
 
-/// What a path asks for by its method.
+/// What a path demands by its method.
 fn command_at(
     alloc: Global,
     path: Path,
@@ -68,7 +68,7 @@ fn command_at(
     }
 }
 
-/// What a request asks for, by its head and its body.
+/// What a request demands, by its head and its body.
 pub fn demand_of(alloc: Global, head: &Head<'_>, body: &[u8]) -> Result<Demand<Fault>, Refusal>
     ensures { Gives (λ d. d) result (Ok (demand_of head.now body.now)) }
 {

@@ -9,14 +9,14 @@ use crate::fields::Fields;
 use crate::occurrence::Occurrence;
 use run_plan::{DeliveryForm, EventForm, Form, SmallText};
 
-/// The delivery and the event's name that stand in a head.
+/// The delivery id and the event name in a head.
 #[derive(Clone, Copy)]
 pub struct EventHeaders<'a> {
     pub delivery: &'a [u8],
     pub event: &'a [u8],
 }
 
-/// The value of the one field of a name, which is a small text of a form.
+/// The value of the only field with this name, which is a small text of the form.
 fn one_of_form<'a, F: Form>(fields: &Fields<'a>, name: &[u8]) -> Result<&'a [u8], Fault>
     ensures value { result_map_both (λ v. v.now) (λ e. e) result ≡ one_of_form F.allows (values_named name.now fields.now) }
     ensures form { IfOk result (λ v. IsTrue (is_short F.allows v.now)) }
@@ -27,7 +27,7 @@ fn one_of_form<'a, F: Form>(fields: &Fields<'a>, name: &[u8]) -> Result<&'a [u8]
     }
 }
 
-/// The delivery and the event's name in the fields of a head.
+/// The delivery id and the event name in the fields of a head.
 pub fn event_headers<'a>(fields: &Fields<'a>) -> Result<EventHeaders<'a>, Fault>
     ensures values { result_map_both (λ h. (h.delivery.now, h.event.now)) (λ e. e) result ≡ event_headers fields.now }
     ensures delivery { IfOk result (λ h. IsTrue (is_short is_delivery_byte h.delivery.now)) }

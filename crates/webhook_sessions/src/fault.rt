@@ -4,23 +4,23 @@ use http::{Method, StatusCode};
 use std::alloc::Global;
 use wf_value::{Code, Refusal};
 
-/// Why nothing is asked for a request.
+/// Why no command is submitted for a request.
 #[derive(Drop)]
 pub enum Fault {
-    /// No head of at most 8,192 bytes and 64 fields stands at the front of the bytes: 400, 70.
+    /// The bytes begin with no head of at most 8,192 bytes and 64 fields: 400, 70.
     BadHead,
     /// The body comes in a transfer coding, or an event states no length: 411, 71.
     NoLength,
-    /// `Content-Length` stands there twice, or is not one to nine digits: 400, 71.
+    /// `Content-Length` is repeated, or is not one to nine digits: 400, 71.
     BadLength,
     /// The body is over 65,536 bytes: 413, 24.
     TooLong,
-    /// The delivery or the event's name is missing, repeated or not of its form: 400, 74.
+    /// The delivery id or the event name is missing, repeated or malformed: 400, 74.
     EventHeader,
     /// The target names nothing: 404, 72.
     NoPath,
-    /// The path is asked by another method, this one: 405, 73.
+    /// The path has another method, this one: 405, 73.
     WrongMethod(Method),
-    /// The body can't be admitted: 422, with its first fault.
+    /// The body cannot be admitted: 422, with its first fault.
     Unprocessable(Refusal),
 }

@@ -8,7 +8,7 @@ use http1::text::eq_ignore_case;
 use httparse::spans::HeaderSpan;
 use std::marker::Model;
 
-/// The fields of a head: their names and values within the bytes that it stands in.
+/// The fields of a head: names and values as slices of the bytes of the head.
 #[derive(Drop)]
 pub struct Fields<'a> {
     front: &'a [u8],
@@ -37,7 +37,7 @@ impl<'a> Fields<'a> {
         Fields { front, spans }
     }
 
-    /// How often a field of this name stands there, and its value. Names are compared without ASCII case.
+    /// How often a field with this name occurs, and its value. Names are compared without ASCII case.
     pub fn named(&self, name: &[u8]) -> Occurrence<'a>
         ensures { OccursAs (values_named name.now self.now) result }
     {

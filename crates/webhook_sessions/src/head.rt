@@ -8,7 +8,7 @@ use crate::length::stated_length;
 use httparse::spans::{HeaderSpan, RequestSpans};
 use std::marker::Model;
 
-/// The head of a request, within the bytes that it stands in.
+/// The head of a request, as slices of its bytes.
 #[derive(Drop)]
 pub struct Head<'a> {
     method: &'a [u8],
@@ -69,7 +69,7 @@ impl<'a> Head<'a> {
         &self.fields
     }
 
-    /// Whether the sender wants the session to end with this request: by HTTP/1.0, or by what it lists in `Connection`.
+    /// Whether the sender wants the session to end with this request: it uses HTTP/1.0, or lists `close` in `Connection`.
     pub fn wants_close(&self) -> bool
         ensures { result ≡ wants_close self.now }
     {
@@ -82,7 +82,7 @@ impl<'a> Head<'a> {
         self.method == b"POST".as_slice() && self.target == b"/events".as_slice()
     }
 
-    /// How long the body is that is to be read, or why the request is refused before it is.
+    /// The length of the body to read, or why the request is refused before that.
     pub fn body_length(&self) -> Result<usize, Fault>
         ensures { result ≡ body_length self.now }
     {

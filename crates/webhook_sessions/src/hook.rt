@@ -3,7 +3,7 @@ use act_sessions::{Answer, SessionFault, Transcript, Work};
 use std::alloc::Global;
 use std::io::{Read, Write};
 
-/// A session of HTTP/1.1 that is still to be held over a reader and a writer.
+/// An HTTP/1.1 session still to be run, over a reader and a writer.
 #[derive(Drop)]
 pub struct Hook<R, W> {
     pub reader: R,

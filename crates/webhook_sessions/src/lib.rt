@@ -1,4 +1,4 @@
-//! Sessions of HTTP/1.1: what a sender's bytes ask for, and the bytes that answer it.
+//! HTTP/1.1 sessions: what a sender's bytes demand, and the bytes that answer them.
 #![tactic(auto)]
 
 mod answers;

@@ -1,7 +1,7 @@
 ghost use Rattle.std.specs.Prelude.{ℕ, List, [], ◌∷◌, ◌++◌};
 ghost use Rattle.webhook_sessions.specs.Fields.{OccursAs};
 
-/// How often a field stands in a head, with its value where it stands there once.
+/// How often a field occurs in a head, with its value if it occurs once.
 #[derive(Clone, Copy)]
 pub enum Occurrence<'a> {
     Missing,
@@ -9,7 +9,7 @@ pub enum Occurrence<'a> {
     Repeated,
 }
 
-/// How often a field occurs that stood there so often, with one more of a value.
+/// The occurrence after one more field with this value.
 pub fn once_more<'a>(found: Occurrence<'a>, value: &'a [u8]) -> Occurrence<'a>
     ensures { (values : List (List ℕ)) → OccursAs values found.entry → OccursAs (values ++ value.now ∷ []) result }
 {

@@ -26,7 +26,7 @@ pub enum Path {
 }
 
 impl Path {
-    /// The path that a target is, or `None` where it is none.
+    /// The path of a target, or `None` if it names nothing.
     pub fn of(alloc: Global, target: &[u8]) -> Result<Option<Path>, Refusal>
         ensures { Gives (λ p. p) result (Ok (path_of target.now)) }
     {
@@ -42,7 +42,7 @@ impl Path {
         }
     }
 
-    /// The method that the path is asked by.
+    /// The method of the path.
     pub fn method(&self) -> Method
         ensures { result ≡ method_of self.now }
     {
@@ -53,14 +53,14 @@ impl Path {
     }
 }
 
-/// What follows a front of the bytes, where they begin with it.
+/// The bytes after a prefix, if they begin with it.
 fn after_front<'a>(front: &[u8], bytes: &'a [u8]) -> Option<&'a [u8]>
     ensures { option_map (λ rest. rest.now) result ≡ after_front front.now bytes.now }
 {
     bytes.strip_prefix(front)
 }
 
-/// What stands before an end of the bytes, where they end with it.
+/// The bytes before a suffix, if they end with it.
 fn before_end<'a>(end: &[u8], bytes: &'a [u8]) -> Option<&'a [u8]>
     ensures { option_map (λ rest. rest.now) result ≡ before_end end.now bytes.now }
 {
@@ -73,7 +73,7 @@ fn place_of_slash(bytes: &[u8]) -> Option<usize>
     bytes.iter().position(|b| *b == b'/')
 }
 
-/// What stands before the first slash, and all from it on.
+/// The bytes before the first slash, and those from it on.
 fn at_slash(bytes: &[u8]) -> Option<(&[u8], &[u8])>
     ensures { option_map (λ p. (p.0.now, p.1.now)) result ≡ at_slash bytes.now }
 {
@@ -83,7 +83,7 @@ fn at_slash(bytes: &[u8]) -> Option<(&[u8], &[u8])>
     }
 }
 
-/// What is named of a run, by what stands behind its number.
+/// A part of a run, from the bytes after its number.
 fn part_of_run(run: Number, rest: &[u8]) -> Option<Path>
     ensures { result ≡ part_of_run run rest.now }
 {

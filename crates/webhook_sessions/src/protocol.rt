@@ -1,16 +1,16 @@
 ghost use Rattle.std.proofs.Common.{rules};
 
-use crate::answers::{answer_text, fault_text, starved_text};
+use crate::answers::{answer_text, fault_text, out_of_memory_text};
 use crate::fault::Fault;
-use crate::length::MOST_BODY;
-use crate::request::{MOST_HEAD, next_request};
-use act_sessions::{Found, Protocol};
+use crate::request::{MAX_HEAD, next_request};
+use act_sessions::{FoundRequest, Protocol};
 use run_plan::Reply;
 use std::alloc::Global;
+use wf_reader::MAX_BODY;
 use wf_value::Refusal;
 
 /// How many requests a session takes.
-const MOST_REQUESTS: u64 = 64;
+const MAX_REQUESTS: u64 = 64;
 
 /// How a sender's bytes are read and answered: HTTP/1.1.
 pub struct Hooks;
@@ -24,14 +24,14 @@ impl Protocol for Hooks {
     ghost rules = { hooks };
 
     fn most() -> u64 {
-        MOST_REQUESTS
+        MAX_REQUESTS
     }
 
     fn limit() -> usize {
-        MOST_HEAD + MOST_BODY
+        MAX_HEAD + MAX_BODY
     }
 
-    fn next(alloc: Global, bytes: &[u8]) -> Result<Option<Found<Fault>>, Refusal> {
+    fn next(alloc: Global, bytes: &[u8]) -> Result<Option<FoundRequest<Fault>>, Refusal> {
         next_request(alloc, bytes)
     }
 
@@ -47,8 +47,8 @@ impl Protocol for Hooks {
         fault_text(alloc, last, fault)
     }
 
-    fn starved() -> Option<&'static [u8]> {
-        Some(starved_text())
+    fn out_of_memory_response() -> Option<&'static [u8]> {
+        Some(out_of_memory_text())
     }
 
     ghost steady = { hooks_steady };

@@ -36,7 +36,7 @@ pub fn fault_refusal(alloc: Global, fault: &Fault) -> Result<Refusal, Refusal>
     }
 }
 
-/// The method that a path allows, where another one was asked by.
+/// The method that a path allows, if another one was used.
 pub fn fault_allows(fault: &Fault) -> Option<&Method>
     ensures { option_copied result ≡ fault_allows fault.now }
 {

@@ -1,4 +1,4 @@
--- A template that was bound has the text of its value.
+-- A bound template has the text of the template's value.
 use Rattle.std.proofs.Common.{◌≡◌, ℕ, Bool, true, false, cond, List, [], ◌∷◌, ◌++◌, refl, ap, ap₂, sym, ◌∙◌}
 use Rattle.std.specs.Prelude.{Option, None, Some, map, filter_map, find, unwrap_or}
 use Rattle.std.proofs.Math.Path.{fun_ext}
@@ -22,7 +22,7 @@ use Rattle.wf_expr.specs.declared.piece.Piece.{Piece}
 use Rattle.wf_expr.specs.declared.piece.Piece.TheVariants.{Plain, Braced}
 use Rattle.wf_expr.proofs.ComparisonLemmas.{value-text}
 
--- the first true value of a longer list
+-- the first truthy value of a list with one more value in front
 first-step : (other v : Scalar) (vs : List Scalar) → first_true other (v ∷ vs) ≡ cond (is_truthy v) v (first_true v vs)
 first-step other v vs =
     elim (is_truthy v) as (λ b. unwrap_or (cond b (Some v) (find is_truthy vs)) (last_or v vs) ≡ cond b v (first_true v vs)) [
@@ -30,7 +30,7 @@ first-step other v vs =
       | false ↦ refl
     ]
 
--- what an operand gives by the results, and what is known of it: the same, or it is a need, of which nothing is known
+-- an operand's value with the results and its known value: they are equal, or the operand is a need and its known value is empty
 abbrev Stands : Results → Scalar → Scalar → Option ℕ → Type 0
 Stands results v w None = v ≡ w
 Stands results v w (Some need) = (v ≡ unwrap_or (result_value (results need)) (Text [])) × (w ≡ Text [])
@@ -47,9 +47,9 @@ stands : (known : Values) (need_of : NeedOf) (results : Results) (operand : Oper
 stands known need_of results (Quoted text) = refl
 stands known need_of results (Reference path) = reference-stands known need_of results path (need_of path) refl
 
--- ---- one operand more
+-- ---- one more operand
 
--- the values of operands by the results, and what is known of them, lead to the same text where these needs are asked
+-- the values of the operands with the results, and their known values together with these needs, give the same text
 abbrev LeadAlike : Results → List ℕ → List Scalar → List Scalar → Type 0
 LeadAlike results needs vs ws = (u : Scalar)
     → scalar_text (first_true u vs) ≡ option_map_or result_word (first_result results needs) (scalar_text (first_true u ws))
@@ -94,7 +94,7 @@ asked-if : (need_of : NeedOf) (o : Operand) (os : List Operand) (b : Bool)
 asked-if need_of o os true = refl
 asked-if need_of o os false = refl
 
--- the needs that one operand more asks
+-- the needs that one more operand looks up
 pub asked-step : (known : Values) (need_of : NeedOf) (o : Operand) (os : List Operand)
     → asked_needs known need_of (o ∷ os)
     ≡ cond (is_truthy (operand_value (with_results known need_of no_results) o)) []
@@ -133,7 +133,7 @@ bound-value known need_of pieces results values has =
     ap (λ v. scalar_text (template_value v pieces)) (fun_ext has)
     ∙ (value-text (with_results known need_of results) pieces ∙ pieces-text known need_of results pieces)
 
--- by any results, the text of a template's value is that of what was bound
+-- for any results, the text of a template's value is that of the bound template
 pub text-when-bound : (known : Values) (need_of : NeedOf) (pieces : List Piece) (bound : List BoundPiece)
     → bound_of known need_of pieces ≡ bound → (results : Results) (values : Values) → HasResults known need_of results values
     → scalar_text (template_value values pieces) ≡ bound_text results bound

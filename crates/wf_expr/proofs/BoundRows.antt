@@ -1,5 +1,5 @@
--- What is bound of templates, worked through from the definitions alone: an operand that is known to be true ends a choice, one
--- that is known to be false is passed over, and the last one stands where no other is true.
+-- Examples of binding, computed from the definitions alone. An operand that is known to be truthy ends a choice, a known falsy one
+-- is skipped, and the last one is used if no other is truthy.
 use Rattle.std.proofs.Common.{◌≡◌, ◌==◌, ℕ, List, [], ◌∷◌, refl, false}
 use Rattle.std.specs.Prelude.{Option, codes, find}
 use Rattle.std.specs.Cmp.Lexicographic.{pointwise}
@@ -15,7 +15,7 @@ use Rattle.wf_expr.specs.declared.piece.Operand.TheVariants.{Quoted, Reference}
 use Rattle.wf_expr.specs.declared.piece.Piece.{Piece}
 use Rattle.wf_expr.specs.declared.piece.Piece.TheVariants.{Plain, Braced}
 
--- what these paths alone have
+-- the values of the listed keys
 abbrev of_list : {X : Type 0} → List (List (List ℕ) × X) → List (List ℕ) → Option X
 of_list entries path = option_map (λ e. e.1) (find (λ e. pointwise bytes_eq e.0 path) entries)
 
@@ -64,7 +64,7 @@ row-pieces : bound_of known need_of deploy
     ≡ record { needs = []; otherwise = codes "deploy-" } ∷ record { needs = 5 ∷ []; otherwise = codes "x" } ∷ []
 row-pieces = refl
 
--- a has failed, and b was skipped; or b has no result yet
+-- a failed and b was skipped; then b without a result
 abbrev both : Results
 both = of_numbers ((3, Failure) ∷ (5, Skipped) ∷ [])
 

@@ -1,4 +1,4 @@
--- Texts compared with or without case, front after front.
+-- Comparing texts with or without case, one prefix after another.
 use Rattle.std.proofs.Common.{◌≡◌, ◌↔◌, ℕ, List, [], ◌∷◌, ◌++◌, length, refl, ap, sym, ◌∙◌}
 use Rattle.std.proofs.Common.{append-nil}
 use Rattle.std.specs.Prelude.{Some, None}
@@ -44,11 +44,11 @@ same-front case front text head rest is h s more = (
       ∙ (ap (λ r. folded case head ++ r) e ∙ (sym (folded-append case head rest) ∙ ap (folded case) (sym is)))),
 )
 
--- the texts of pieces, one after another
+-- W holds if and only if the texts of the pieces make up the text
 abbrev pub IsLeft : {X : Type 0} → Case → (X → List ℕ) → List X → List ℕ → Type 0 → Type 0
 IsLeft case text_of pieces text W = (folded case (flat_map text_of pieces) ≡ folded case text) ↔ W
 
--- the text of the value is that of the pieces, of a sole one too
+-- the text of the value is that of the pieces, also for a single piece
 pub value-text : (values : Values) (pieces : List Piece) → scalar_text (template_value values pieces) ≡ flat_map (piece_text values) pieces
 value-text values [] = refl
 value-text values (Plain text ∷ ps) = refl

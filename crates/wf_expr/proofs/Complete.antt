@@ -1,4 +1,4 @@
--- What is spelled as a template is read as that template.
+-- A text that the grammar accepts as a template parses to that template.
 use Rattle.std.proofs.Common.{◌≡◌, ◌≢◌, ◌⊎◌, ℕ, Bool, true, false, cond, eqb, IsTrue, List, [], ◌∷◌, ◌++◌, refl, ap, sym, ◌∙◌, inl, inr}
 use Rattle.std.proofs.Common.{append_assoc, append-nil, eqb-true, eq-eqb, lit<, length, arith}
 use Rattle.std.specs.Prelude.{Some, codes}
@@ -24,7 +24,7 @@ run-some : (r s : Reader) (c : ℕ) (cs : List ℕ) → taken r c ≡ Some s →
 unfolding run
 run-some r s c cs e = ap (option_and_then (λ next. run next cs)) e
 
--- two states that take the character alike
+-- two states in which the character has the same effect
 run-alike : (r s : Reader) (c : ℕ) (cs : List ℕ) → taken r c ≡ taken s c → run r (c ∷ cs) ≡ run s (c ∷ cs)
 unfolding run
 run-alike r s c cs e = ap (option_and_then (λ next. run next cs)) e
@@ -34,7 +34,7 @@ spaces-read r [] x stays h = refl
 spaces-read r (c ∷ s) x stays h =
     ap (λ d. run r (d ∷ (s ++ x))) h.0 ∙ (run-some r r 32 (s ++ x) stays ∙ spaces-read r s x stays h.1)
 
--- a character of names is none that a name does not hold
+-- a character that starts a name differs from one that does not
 begins-other : (c d : ℕ) (b : Bool) → eqb c d ≡ b → begins_name d ≡ false → begins_name c ≡ true → b ≡ false
 begins-other c d false e n h = refl
 begins-other c d true e n h = let same : c ≡ d = eqb-true c d e in sym h ∙ (ap begins_name same ∙ n)
@@ -73,7 +73,7 @@ operand-due-name ps os (c ∷ cs) x h =
     ∙ (cond-false (eqb c 39) _ _ (begins-not-quote c h.0) ∙ cond-true (begins_name c) _ _ h.0))
     ∙ letters-read ps os [] (encode_utf8 c) cs x h.1
 
--- no name goes on with these
+-- no name continues with these characters
 abbrev StopsName : List ℕ → Type 0
 StopsName [] = Unit {0}
 StopsName (c ∷ cs) = continues_name c ≡ false
@@ -136,7 +136,7 @@ Stops-name x h =
     let stop : continues_name h.mark ≡ false = elim h.marked [ inl e ↦ ap continues_name e | inr e ↦ ap continues_name e ] in
     rw h.whole (spaces-stop h.before h.mark h.rest h.spaces stop)
 
--- behind spaces or none, a mark ends a name and an operand alike
+-- after optional spaces, `|` or `}` ends a name and an operand alike
 mark-after_name : (ps : List Piece) (os : List Operand) (names : List (List ℕ)) (c : ℕ) (x : List ℕ) → (c ≡ 124) ⊎ (c ≡ 125)
     → run (AfterName ps os names) (c ∷ x) ≡ run (AfterOperand ps (os ++ Reference names ∷ [])) (c ∷ x)
 mark-after_name ps os names c x (inl e) =
@@ -177,7 +177,7 @@ quote-ends ps os w x h =
     ∙ (quote-ends-behind ps os w h.before h.mark h.rest h.spaces h.marked
     ∙ ap (run (AfterOperand ps (os ++ Quoted w ∷ []))) (sym h.whole))
 
--- the characters of a quoted text, and its last quote
+-- the characters of a quoted text, and its closing quote
 quoted-char : (ps : List Piece) (os : List Operand) (w : List ℕ) (c : ℕ) (cs x : List ℕ) (b : Bool) → eqb c 39 ≡ b
     → ((v : List ℕ) → run (InQuoted ps os v) (doubled cs ++ 39 ∷ x) ≡ run (AfterQuote ps os (v ++ encode_utf8_all cs)) x)
     → run (InQuoted ps os w) (cond b (39 ∷ 39 ∷ doubled cs) (c ∷ doubled cs) ++ 39 ∷ x)
@@ -256,7 +256,7 @@ braced-assoc : (before inner more after x : List ℕ)
     → (before ++ (inner ++ (more ++ (after ++ 125 ∷ 125 ∷ [])))) ++ x ≡ before ++ (inner ++ (more ++ (after ++ (125 ∷ (125 ∷ x)))))
 braced-assoc before inner more after x = simp append_assoc
 
--- behind a `${{` an operand is due
+-- after `${{` an operand is expected
 pub opening-read : (ps : List Piece) (w x : List ℕ)
     → run (InText ps w) (36 ∷ (123 ∷ (123 ∷ x))) ≡ run (OperandDue (ps ++ plain_piece w) []) x
 opening-read ps w x =
@@ -283,12 +283,12 @@ braced-read ps w text x o os h =
     ∙ (run-some (AfterOperand qs (o ∷ os)) (AfterClose qs (o ∷ os)) 125 (125 ∷ x) refl
     ∙ run-some (AfterClose qs (o ∷ os)) (InText (qs ++ Braced (o ∷ os) ∷ []) []) 125 x refl))))))
 
--- the end, or the `$` of a piece
+-- the end of the text, or the `$` of a piece
 abbrev pub MayEndText : List ℕ → Type 0
 MayEndText [] = Unit {0}
 MayEndText (c ∷ cs) = c ≡ 36
 
--- text that does not go on as an opening
+-- the text does not start with `{`
 abbrev NotBrace : List ℕ → Type 0
 NotBrace [] = Unit {0}
 NotBrace (c ∷ cs) = eqb c 123 ≡ false
@@ -311,7 +311,7 @@ not_brace-append (c ∷ cs) x h e = h
 no_opening-tail : (c : ℕ) (cs : List ℕ) → HoldsNoOpening (c ∷ cs) → HoldsNoOpening cs
 no_opening-tail c cs h before after e = h (c ∷ before) after (ap (λ t. c ∷ t) e)
 
--- the text goes on from a word that holds what came before
+-- plain text is appended to the current word
 abbrev pub ReadsPlain : List ℕ → List ℕ → Type 0
 ReadsPlain cs x = (ps : List Piece) (w : List ℕ) → run (InText ps w) (cs ++ x) ≡ run (InText ps (w ++ encode_utf8_all cs)) x
 
@@ -388,7 +388,7 @@ pub plain_piece-some : (cs : List ℕ) → cs ≢ [] → plain_piece (encode_utf
 plain_piece-some [] h = absurd (h refl)
 plain_piece-some (c ∷ cs) h = plain_piece-append (encode_utf8 c) (encode_utf8_all cs) (encode-some c)
 
--- a text of which the rest begins with `${{` or is none
+-- a text whose template is empty or begins with a braced piece is empty or begins with `$`
 braced-begins : (text : List ℕ) (T : List Piece) → BeginsBraced T → SpellsPieces text T → MayEndText text
 braced-begins text [] b h = rw h tt
 braced-begins text (Plain v ∷ T) b h = absurd b

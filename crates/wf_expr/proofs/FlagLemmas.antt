@@ -1,4 +1,4 @@
--- A flag is set by the text `true`: no whole number has that text.
+-- Only the text `true` sets a flag, since no integer prints as that text.
 use Rattle.std.proofs.Common.{◌≡◌, ◌↔◌, ℕ, ◌%◌, ◌/◌, ◌==◌, ◌<◌, true, false, cond, List, [], ◌∷◌, refl, ap, subst}
 use Rattle.std.proofs.Common.{arith, inl, inr, codes, zero, suc}
 use Rattle.std.proofs.lemmas.Nat.{mod_below}
@@ -10,7 +10,7 @@ use Rattle.wf_value.specs.declared.scalar.Scalar.{Scalar}
 use Rattle.wf_value.specs.declared.scalar.Scalar.TheVariants.{Null, Truth, Whole, Text}
 use Rattle.wf_expr.specs.FlagValue.{SetsFlag}
 
--- no byte past that of 9
+-- no byte is above that of `9`
 abbrev AreLow : List ℕ → Type 0
 AreLow = AllByRecursion (λ c. c < 58)
 
@@ -38,7 +38,7 @@ whole-low (negsuc n) = (omega arith, decimal-low _)
 not-whole : (n : ℤ) → signed_decimal n ≡ codes "true" → ⊥
 not-whole n e = let low = subst AreLow e (whole-low n) in omega (arith, low.0)
 
--- a value sets a flag exactly where its text is `true`
+-- a value sets a flag if and only if its text is `true`
 pub flag-text : (value : Scalar) → SetsFlag value ↔ (scalar_text value ≡ codes "true")
 flag-text Null = (λ s. elim s [ inl e ↦ cc | inr e ↦ cc ], λ e. cc)
 flag-text (Truth true) = (λ s. refl, λ e. inl refl)

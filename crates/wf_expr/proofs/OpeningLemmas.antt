@@ -1,4 +1,4 @@
--- What stands before the first `${{` of a text, read whole.
+-- The text before the first `${{` is parsed as a whole.
 use Rattle.std.proofs.Common.{◌≡◌, ℕ, ◌+◌, ◌≤◌, ◌<◌, List, [], ◌∷◌, ◌++◌, length, take, drop, get_or, refl, ap, sym, ◌∙◌, subst, arith}
 use Rattle.std.proofs.Common.{append_assoc, append-nil, lit<, length-append, take_at, Bor}
 use Rattle.std.specs.Prelude.{Option, Some, None, codes}
@@ -13,7 +13,7 @@ use Rattle.wf_expr.specs.Reading.{run, plain_piece, pieces_of}
 use Rattle.wf_expr.specs.declared.reader.Reader.TheVariants.{InText, OperandDue}
 use Rattle.wf_expr.proofs.Complete.{opening-read, plain-read}
 
--- no `${{` begins before the place n
+-- no `${{` begins before position n
 abbrev LacksOpenings : List ℕ → ℕ → Type 0
 LacksOpenings text n = (i : ℕ) → i < n → LacksTextAt (codes "${{") text i
 
@@ -40,7 +40,7 @@ front-no_opening text front rest split u lacks before after e =
     (ap (drop (length b)) (split ∙ (ap (λ t. t ++ rest) whole ∙ append_assoc b (36 ∷ (123 ∷ (123 ∷ a))) rest))
     ∙ drop-append_seam b (36 ∷ (123 ∷ (123 ∷ (a ++ rest)))))
 
--- text without a `${{`
+-- a text without `${{`
 plain-text : (text : List ℕ) → IsUtf8 text → HoldsNoOpening (chars text) → pieces_of text ≡ Some (plain_piece text)
 unfolding run
 plain-text text u h =
@@ -53,7 +53,7 @@ unfolding chars
 chars-opening [] = refl
 chars-opening (b ∷ bs) = refl
 
--- and text before a `${{`
+-- text before a `${{`
 front-text : (front rest : List ℕ) → IsUtf8 front → HoldsNoOpening (chars front)
     → pieces_of (front ++ (36 ∷ (123 ∷ (123 ∷ rest)))) ≡ run (OperandDue (plain_piece front) []) (chars rest)
 front-text front rest u h =
@@ -62,7 +62,7 @@ front-text front rest u h =
     ∙ (opening-read [] (encode_utf8_all (chars front)) (chars rest)
     ∙ ap (λ w. run (OperandDue (plain_piece w) []) (chars rest)) (encodes-chars front u)))
 
--- a text is cut before an ASCII character
+-- a prefix that ends before an ASCII character is UTF-8
 front-utf8 : (text front rest : List ℕ) (c : ℕ) → c < 128 → text ≡ front ++ (c ∷ rest) → IsUtf8 text → IsUtf8 front
 front-utf8 text front rest c low whole u =
     let at : get_or text (length front) 0 ≡ c = ap (λ t. get_or t (length front) 0) whole ∙ get_or-append_seam front c rest 0 in
@@ -70,7 +70,7 @@ front-utf8 text front rest c low whole u =
     let cut = IsCharBoundary-before_ascii text (length front) within (omega (arith, at, low)) in
     subst IsUtf8 (ap (take (length front)) whole ∙ take_at front (c ∷ rest) (length front) refl) (IsUtf8-take text (length front) u cut)
 
--- what `split_once` at `${{` says of the pieces
+-- the pieces of a text, from the result of `split_once` at `${{`
 pub split-pieces : (text : List ℕ) (r : Option (Bor (List ℕ) × Bor (List ℕ))) → IsUtf8 text
     → MatchOption r (FindsText (codes "${{") text None) (λ x. (i : ℕ) × (j : ℕ) × FindsText (codes "${{") text (Some (i, j))
     × (x.0.now ≡ take i text) × (x.1.now ≡ drop j text) × (i ≤ j) × (length x.0.now ≡ i) × (length x.1.now + j ≡ length text))

@@ -1,4 +1,4 @@
--- Trees of properties: what a change at one name does to the paths.
+-- Trees of properties: how a change at one name affects the paths.
 use Rattle.std.proofs.Common.{◌≡◌, ◌≢◌, ◌⊎◌, ℕ, ◌+◌, ◌-◌, ◌<◌, ◌≤◌, Bool, true, false, cond, List, [], ◌∷◌, length, get_or, take, drop}
 use Rattle.std.proofs.Common.{refl, ap, sym, inl, inr, ◌∙◌, arith}
 use Rattle.std.specs.Prelude.{Option, Some, None, Result, Ok, Err, OnOk, OnErr}
@@ -20,19 +20,19 @@ use Rattle.wf_expr.specs.declared.properties.Properties.TheOpen.{Properties-F}
 use Rattle.wf_expr.specs.declared.properties.Properties.TheViews.{out-Properties, roll-Properties, out-roll-Properties}
 use Rattle.wf_expr.proofs.NameLemmas.{same_name-self}
 
--- the tree at a name, and what it gives a path
+-- the inner tree at a name, and its value for a path
 abbrev pub inner_at : Properties → List ℕ → Option Properties
 inner_at tree name = get_by_text (out-Properties tree).inner name
 
 abbrev pub given : Option Properties → List (List ℕ) → Option Scalar
 given inner path = option_and_then (λ t. value_at t path) inner
 
--- after is before with another tree at a name
+-- after is before with another inner tree at a name
 pub record ChangesAt (after before : Properties) (name : List ℕ) (inner : Option Properties) : Type 0 where
   pub itself : (out-Properties after).value ≡ (out-Properties before).value
   pub found : (n : List ℕ) → inner_at after n ≡ update bytes_eq (inner_at before) name inner n
 
--- the parts of a tree
+-- the fields of a tree
 abbrev pub Parts : Type 0
 Parts = Properties-F Properties
 
@@ -67,7 +67,7 @@ miss after before name inner h first path n =
           (h.found first ∙ ap (λ b. cond b inner (inner_at before first)) e.1)
     ]
 
--- the names of a path behind the first
+-- the names of a path after the first
 abbrev pub rest : List (List ℕ) → List (List ℕ)
 rest path = take (length path - 1) (drop 1 path)
 
@@ -83,7 +83,7 @@ pub behind-others : (after before : Properties) (name : List ℕ) (inner : Optio
 behind-others after before name inner h [] n = h.itself
 behind-others after before name inner h (first ∷ p) n = miss after before name inner h first p (λ e. n (p, ap (λ m. m ∷ p) e))
 
--- those that do
+-- the paths that begin with the name
 differ-within : (after before : Properties) (name : List ℕ) (more : List (List ℕ)) → DifferBehind name after before
     → ((p : List (List ℕ)) → p ≢ more → value_at after (name ∷ p) ≡ value_at before (name ∷ p)) → DifferAt (name ∷ more) after before
 differ-within after before name more others within [] n = others [] (λ b. let e = b.1 in cc)
@@ -95,7 +95,7 @@ differ-within after before name more others within (first ∷ p) n =
           (first ∷ p) (λ b. let whole = b.1 in let f : first ≡ name = cc in e.0 f)
     ]
 
--- a change of the tree at a name
+-- a changed inner tree at a name
 pub changed-others : (after before new old : Properties) (name : List ℕ) (more : List (List ℕ)) → ChangesAt after before name (Some new)
     → inner_at before name ≡ Some old → DifferAt more new old → DifferAt (name ∷ more) after before
 changed-others after before new old name more h was d =
@@ -114,14 +114,14 @@ changed-same after before new old name h was s (first ∷ p) =
           (Some new) h first p e.0
     ]
 
--- a tree of one path put at a name at which there was none
+-- a tree of one path, added at a name that had no inner tree
 pub nested-others : (after before new : Properties) (name : List ℕ) (more : List (List ℕ)) → DifferBehind name after before
     → ((p : List (List ℕ)) → value_at after (name ∷ p) ≡ value_at new p) → ((p : List (List ℕ)) → p ≢ more → value_at new p ≡ None)
     → inner_at before name ≡ None → DifferAt (name ∷ more) after before
 nested-others after before new name more others within alone none =
     differ-within after before name more others (λ p n. within p ∙ (alone p n ∙ ap (λ t. given t p) (sym none)))
 
--- the same look-ups, and so the same values
+-- equal look-ups give equal values
 pub same-found : (after before : Properties) → (out-Properties after).value ≡ (out-Properties before).value
     → ((n : List ℕ) → inner_at after n ≡ inner_at before n) → AreSame after before
 same-found after before itself found [] = itself
@@ -132,7 +132,7 @@ pub no-names : (tree : Properties) → (out-Properties tree).value ≡ None → 
 no-names tree itself none [] = itself
 no-names tree itself none (first ∷ p) = ap (λ t. given t p) (none first)
 
--- what holds on success, from what a call ensures there
+-- an implication carries over to the success case
 pub on-ok : {T E P Q : Type 0} (r : Result T E) → OnOk r P → (P → Q) → OnOk r Q
 on-ok (Ok x) p f = f p
 on-ok (Err e) p f = tt
@@ -145,7 +145,7 @@ pub on-ok-both : {T E : Type 0} (P Q R : Type 0) (r : Result T E) → OnOk r P �
 on-ok-both P Q R (Ok x) p q f = f p q
 on-ok-both P Q R (Err e) p q f = tt
 
--- one name further
+-- one step down the tree
 pub descend : (tree inner : Properties) (path : List (List ℕ)) (i : ℕ) (name : List ℕ) (whole : Option Scalar) → i < length path
     → name ≡ get_or path i name → inner_at tree name ≡ Some inner → value_at tree (drop i path) ≡ whole
     → value_at inner (drop (i + 1) path) ≡ whole
@@ -153,7 +153,7 @@ descend tree inner path i name whole h e at so_far =
     sym (ap (λ t. given t (drop (i + 1) path)) at)
     ∙ (ap (λ n. given (inner_at tree n) (drop (i + 1) path)) e ∙ (sym (at_drop_more (value_at tree) path i name h) ∙ so_far))
 
--- a tree of parts whose inner trees are those of another
+-- two trees with the same inner trees
 pub alike : (parts : Parts) (before : Properties) → parts.inner.entries ≡ (out-Properties before).inner.entries → (n : List ℕ)
     → inner_at (roll-Properties parts) n ≡ inner_at before n
 alike parts before same n =
@@ -165,7 +165,7 @@ pub kept : (parts : Parts) (before : Properties) → parts.value ≡ (out-Proper
 kept parts before itself same =
     same-found (roll-Properties parts) before (ap (λ r. r.value) (out-roll-Properties parts) ∙ itself) (alike parts before same)
 
--- the path of no name
+-- the empty path
 pub set-itself : (parts : Parts) (path : List (List ℕ)) → length path < 1 → value_at (roll-Properties parts) path ≡ parts.value
 set-itself parts [] h = ap (λ r. r.value) (out-roll-Properties parts)
 set-itself parts (n ∷ ns) h = absurd (omega arith)
@@ -188,7 +188,7 @@ alone-others parts [] h none [] n = absurd (n refl)
 alone-others parts [] h none (first ∷ p) n = ap (λ t. given t p) (empty-within parts none first)
 alone-others parts (m ∷ ms) h none p n = absurd (omega arith)
 
--- a tree of one path behind a name
+-- a tree of one path under a name
 pub made-others : (after before new : Properties) (name : List ℕ) (more path : List (List ℕ)) → path ≡ name ∷ more
     → ((p : List (List ℕ)) → value_at before p ≡ None) → DifferBehind name after before
     → ((p : List (List ℕ)) → value_at after (name ∷ p) ≡ value_at new p) → ((p : List (List ℕ)) → p ≢ more → value_at new p ≡ None)

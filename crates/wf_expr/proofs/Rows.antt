@@ -1,4 +1,4 @@
--- Rows of the documentation and of the issue, computed from the definitions alone.
+-- Examples, among them those of the documentation, computed from the definitions alone.
 use Rattle.std.proofs.Common.{◌≡◌, ℕ, List, [], ◌∷◌, refl, false}
 use Rattle.std.specs.Prelude.{Result, Ok, Err, codes, find, map}
 use Rattle.std.specs.Cmp.Lexicographic.{pointwise}
@@ -14,8 +14,8 @@ use Rattle.wf_expr.specs.Letters.{begins_name, continues_name}
 use Rattle.wf_expr.specs.Parsing.{template_of}
 use Rattle.wf_expr.specs.Reading.{run}
 use Rattle.wf_expr.specs.TemplateValue.{template_value}
-use Rattle.wf_expr.specs.declared.place.Place.{Place}
-use Rattle.wf_expr.specs.declared.place.Place.TheVariants.{Workflow, Job}
+use Rattle.wf_expr.specs.declared.place.ContextSite.{ContextSite}
+use Rattle.wf_expr.specs.declared.place.ContextSite.TheVariants.{Workflow, Job}
 use Rattle.wf_expr.specs.declared.piece.Operand.TheVariants.{Quoted, Reference}
 use Rattle.wf_expr.specs.declared.piece.Piece.{Piece}
 use Rattle.wf_expr.specs.declared.piece.Piece.TheVariants.{Plain, Braced}
@@ -27,12 +27,12 @@ run_name =
     ∷ Braced (Reference (codes "github" ∷ codes "head_ref" ∷ []) ∷ Reference (codes "github" ∷ codes "run_id" ∷ []) ∷ [])
     ∷ []
 
--- each text, its place, and what it is read as
-abbrev texts : List (List ℕ × Place × Result (List Piece) Refusal)
+-- each text, its place, and the result of parsing it
+abbrev texts : List (List ℕ × ContextSite × Result (List Piece) Refusal)
 texts =
     (codes "${{ github.workflow }}-${{ github.head_ref || github.run_id }}", Workflow, Ok run_name)
     ∷ (codes "${{ 'it''s' }}", Workflow, Ok (Braced (Quoted (codes "it's") ∷ []) ∷ []))
-    -- an opening in quotes
+    -- `${{` in quotes
     ∷ (codes "$${{ '${{ }}' }}", Workflow, Ok (Plain (codes "$") ∷ Braced (Quoted (codes "${{ }}") ∷ []) ∷ []))
     ∷ (codes "${{github . ref}}", Workflow, Ok (Braced (Reference (codes "github" ∷ codes "ref" ∷ []) ∷ []) ∷ []))
     ∷ ([], Workflow, Ok [])
@@ -48,7 +48,7 @@ rows-read : map (λ row. template_of row.0 row.1) texts ≡ map (λ row. row.2) 
 unfolding run chars encode begins_name continues_name
 rows-read = refl
 
--- the values of these paths alone
+-- the values of the listed paths
 abbrev of_list : List (List (List ℕ) × Scalar) → Values
 of_list entries path = option_map (λ e. e.1) (find (λ e. pointwise bytes_eq e.0 path) entries)
 
@@ -60,7 +60,7 @@ row-value = refl
 abbrev falses : Values
 falses = of_list ((codes "inputs" ∷ codes "none" ∷ [], Null) ∷ (codes "inputs" ∷ codes "no" ∷ [], Truth false) ∷ [])
 
--- the last where none is true, and the value itself where the piece stands alone
+-- the last value if none is truthy; the value itself if the piece is the whole template
 row-last : template_value falses
     (Braced (Reference (codes "inputs" ∷ codes "none" ∷ []) ∷ Reference (codes "inputs" ∷ codes "no" ∷ []) ∷ []) ∷ []) ≡ Truth false
 row-last = refl

@@ -1,4 +1,4 @@
--- A reading, a character at a time.
+-- Parsing one character at a time.
 use Rattle.std.proofs.Common.{◌≡◌, ℕ, ◌+◌, ◌<◌, List, [], ◌∷◌, ◌++◌, length, get_or, drop, refl, ap, sym, ◌∙◌, arith}
 use Rattle.std.specs.Prelude.{Option, Some, None, Ok, Err}
 use Rattle.std.specs.Option.{option_and_then}
@@ -15,7 +15,7 @@ needed-none : {X : Type 0} (o : Option X) (e : Refusal) → needed o ≡ Err e �
 needed-none None e h = (refl, cc)
 needed-none (Some y) e h = cc
 
--- a character, and the rest
+-- one character, followed by the rest
 run-turn : (r : Reader) (cs : List ℕ) (n c : ℕ) → (n < length cs) × (c ≡ get_or cs n c)
     → run r (drop n cs) ≡ option_and_then (λ s. run s (drop (n + 1) cs)) (taken r c)
 unfolding run

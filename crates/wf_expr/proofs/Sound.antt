@@ -1,4 +1,5 @@
--- What is read as a template is spelled so. From the last character back: what each state goes on with.
+-- A text that parses to a template is accepted by the grammar as that template. The proof goes backwards from the last character:
+-- it says what must follow each state.
 use Rattle.std.proofs.Common.{◌≡◌, ◌≢◌, ℕ, Bool, true, false, cond, eqb, List, [], ◌∷◌, ◌++◌, refl, ap, sym, ◌∙◌, append_assoc, append-nil}
 use Rattle.std.proofs.Common.{eqb-true, subst, lit<}
 use Rattle.std.specs.Prelude.{Some, None, codes}
@@ -20,7 +21,7 @@ use Rattle.wf_expr.proofs.Complete.{plain_piece-some}
 use Rattle.wf_expr.proofs.States.{FromText, FromAfterOperand, FromOperand, FromAfterName, FromNameDue, FromName, FromQuoted, Completes}
 use Rattle.wf_expr.proofs.States.{Rest, next, no_opening-cons, no_opening-nil, step-in_text, brace-back, step-after_dollar}
 
--- one space more in front
+-- one more space in front
 space-operands : (ps : List Piece) (os more_os : List Operand) (more after rest text : List ℕ) (pieces T : List Piece)
     → SpellsMore more more_os → AreSpaces after → SpellsPieces rest pieces → text ≡ more ++ (after ++ (125 ∷ (125 ∷ rest)))
     → T ≡ ps ++ (Braced (os ++ more_os) ∷ pieces) → FromAfterOperand ps os (32 ∷ text) T
@@ -124,7 +125,7 @@ ends-operand : (ps : List Piece) (os : List Operand) (c : ℕ) (text : List ℕ)
     → next (after_operand ps os c) text ≡ Some T → FromAfterOperand ps os (c ∷ text) T
 ends-operand ps os c text T ih h = step-after_operand ps os c text T ih (eqb c 32) (eqb c 124) (eqb c 125) refl refl refl h
 
--- a dot, and what a name is due for
+-- a dot, where a name is expected next
 dot-after_name : (ps : List Piece) (os : List Operand) (names : List (List ℕ)) (text : List ℕ) (T : List Piece)
     → FromNameDue ps os names text T → FromAfterName ps os names (46 ∷ text) T
 dot-after_name ps os names text T f =
@@ -204,7 +205,7 @@ step-in_name ps os names w c text T ih false e h =
       goes_on = subst P (sym (append-nil w)) (ends-name ps os (names ++ w ∷ []) c text T ih h);
     }
 
--- the begin of a name
+-- the first character of a name
 begin-name : (ps : List Piece) (os : List Operand) (names : List (List ℕ)) (c : ℕ) (text : List ℕ) (T : List Piece) → begins_name c ≡ true
     → FromName ps os names (encode_utf8 c) text T → FromNameDue ps os names (c ∷ text) T
 begin-name ps os names c text T e f = record {
@@ -235,7 +236,7 @@ step-name_due ps os names c text T ih true t e f h =
 step-name_due ps os names c text T ih false true e f h = begin-name ps os names c text T f (ih (InName ps os names (encode_utf8 c)) h)
 step-name_due ps os names c text T ih false false e f h = none-not T (FromNameDue ps os names (c ∷ text) T) h
 
--- a reference, as an operand
+-- a reference as an operand
 reference-operand : (ps : List Piece) (os : List Operand) (text : List ℕ) (T : List Piece) → FromNameDue ps os [] text T
     → FromOperand ps os text T
 reference-operand ps os text T f =
@@ -324,7 +325,7 @@ step-after_quote ps os w c text T ih false e h =
       goes_on = subst P (sym (append-nil w)) (ends-operand ps (os ++ Quoted w ∷ []) c text T ih h);
     }
 
--- a joined operand, behind its `||`
+-- a joined operand after `||`
 step-after_bar : (ps : List Piece) (os : List Operand) (c : ℕ) (text : List ℕ) (T : List Piece) → Rest text T → (b : Bool) → eqb c 124 ≡ b
     → next (cond b (Some (OperandDue ps os)) None) text ≡ Some T → FromAfterOperand ps os (124 ∷ (c ∷ text)) T
 step-after_bar ps os c text T ih true e h =
@@ -356,7 +357,7 @@ step-after_bar ps os c text T ih true e h =
     }
 step-after_bar ps os c text T ih false e h = none-not T (FromAfterOperand ps os (124 ∷ (c ∷ text)) T) h
 
--- the pieces that begin with no word
+-- the pieces of a text that follows an empty word
 record Pieces (ps : List Piece) (text : List ℕ) (T : List Piece) : Type 0 where
   pieces : List Piece
   spelled : SpellsPieces text pieces
@@ -401,7 +402,7 @@ step-after_close ps os c text T ih true e h =
     }
 step-after_close ps os c text T ih false e h = none-not T (FromAfterOperand ps os (125 ∷ (c ∷ text)) T) h
 
--- a piece in braces, behind its `${{`
+-- a braced piece after `${{`
 open-braced : (ps : List Piece) (w text : List ℕ) (T : List Piece) → FromOperand (ps ++ plain_piece w) [] text T
     → FromText ps w (36 ∷ (123 ∷ (123 ∷ text))) T
 open-braced ps w text T k =
@@ -505,7 +506,7 @@ unfolding run
 sound [] T r h = sound-end r T h
 sound (c ∷ text) T r h = sound-step r c text T (sound text T) h
 
--- what is read is spelled so
+-- the grammar accepts what parses
 pub read-spells : (text : List ℕ) (T : List Piece) → run (InText [] []) text ≡ Some T → SpellsPieces text T
 read-spells text T h =
     let f = pieces-from_text [] text T (sound text T (InText [] []) h) in

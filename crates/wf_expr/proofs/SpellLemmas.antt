@@ -1,4 +1,4 @@
--- The text of a template and what is read of it.
+-- The text of a template and the result of parsing it.
 use Rattle.std.proofs.Common.{◌≡◌, ℕ, List, [], ap}
 use Rattle.std.specs.Prelude.{Option, Some, None, Ok}
 use Rattle.std.specs.Str.{chars}

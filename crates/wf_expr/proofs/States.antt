@@ -1,4 +1,4 @@
--- What the text behind each state of a reading is, and text that holds no piece.
+-- What the text after each parser state consists of, and text that contains no piece.
 use Rattle.std.proofs.Common.{◌≡◌, ◌≢◌, ℕ, Bool, true, false, cond, eqb, IsTrue, List, [], ◌∷◌, ◌++◌, refl, ap, sym, ◌∙◌, append_assoc}
 use Rattle.std.proofs.Common.{eqb-true, eq-eqb, subst, lit<}
 use Rattle.std.specs.Prelude.{Option, Some, codes}
@@ -81,7 +81,7 @@ pub record FromQuoted (ps : List Piece) (os : List Operand) (w text : List ℕ) 
   pub whole : text ≡ doubled inner ++ (39 ∷ rest)
   pub goes_on : FromAfterOperand ps (os ++ Quoted (w ++ encode_utf8_all inner) ∷ []) rest T
 
--- what the text behind a state is, where it is read as T
+-- the text after a state, if the whole parses as T
 abbrev pub Completes : Reader → List ℕ → List Piece → Type 0
 Completes (InText ps w) text T = FromText ps w text T
 Completes (AfterDollar ps w) text T = FromText ps w (36 ∷ text) T
@@ -102,7 +102,7 @@ Rest text T = (r : Reader) → run r text ≡ Some T → Completes r text T
 abbrev pub next : Option Reader → List ℕ → Option (List Piece)
 next o text = option_and_then (λ r. run r text) o
 
--- text without an opening, with one character more
+-- one more character before text without `${{`
 pub no_opening-cons : (c : ℕ) (cs : List ℕ) → ((after : List ℕ) → c ∷ cs ≢ 36 ∷ 123 ∷ 123 ∷ after) → HoldsNoOpening cs
     → HoldsNoOpening (c ∷ cs)
 no_opening-cons c cs here there [] after e = here after e
@@ -132,7 +132,7 @@ step-in_text ps w c text T ih false e h =
       made = f.made ∙ ap (λ v. ps ++ (plain_piece v ++ f.more)) (append_assoc w (encode_utf8 c) (encode_utf8_all f.plain));
     }
 
--- a `$` that begins no piece
+-- a `$` that does not begin a piece
 pub dollar-back : (ps : List Piece) (w : List ℕ) (c : ℕ) (text : List ℕ) (T : List Piece) → eqb c 123 ≡ false
     → FromText ps (w ++ codes "$") (c ∷ text) T → FromText ps w (36 ∷ (c ∷ text)) T
 dollar-back ps w c text T n f = record {

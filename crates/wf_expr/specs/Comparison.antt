@@ -5,16 +5,16 @@ use Rattle.std.specs.Option.{MatchOption}
 use Rattle.wf_expr.specs.declared.case.Case.{Case}
 use Rattle.wf_expr.specs.declared.case.Case.TheVariants.{Sensitive, Insensitive}
 
--- the text with small letters for the large ones of ASCII
+-- the text with ASCII capital letters in lower case
 abbrev pub lowered : List ℕ → List ℕ
 lowered = map to_ascii_lowercase
 
--- what is compared of a text
+-- the form of a text in which it is compared
 abbrev pub folded : Case → List ℕ → List ℕ
 folded Sensitive text = text
 folded Insensitive text = lowered text
 
--- what is left of a text behind its front: nothing where it begins with another
+-- the rest of a text after a prefix; None if the text does not begin with the prefix
 abbrev pub IsBehind : Case → List ℕ → List ℕ → Option (List ℕ) → Type 0
 IsBehind case front text rest =
     (more : List ℕ) → (folded case (front ++ more) ≡ folded case text)

@@ -1,5 +1,5 @@
--- Which characters spell which template. GitHub Docs, "Evaluate expressions in workflows and actions"
--- (About expressions, Literals, Operators) and "Contexts reference" (About contexts).
+-- The grammar of templates. GitHub Docs, "Evaluate expressions in workflows and actions" (About expressions, Literals, Operators)
+-- and "Contexts reference" (About contexts).
 use Rattle.std.specs.Prelude.{◌≡◌, ◌≢◌, ℕ, List, [], ◌∷◌, ◌++◌, IsTrue, ◌==◌, if◌then◌else◌}
 use Rattle.std.specs.List.{AllByRecursion}
 use Rattle.std.specs.Str.{encode_utf8_all}
@@ -13,12 +13,12 @@ use Rattle.wf_expr.specs.declared.piece.Piece.TheVariants.{Plain, Braced}
 abbrev pub AreSpaces : List ℕ → Type 0
 AreSpaces = AllByRecursion (λ c. c ≡ 32)
 
--- a letter or `_`, and then letters, digits, `-` and `_`
+-- a letter or `_`, followed by letters, digits, `-` and `_`
 abbrev pub IsName : List ℕ → Type 0
 IsName [] = ⊥
 IsName (c ∷ cs) = IsTrue (begins_name c) × AllByRecursion (λ d. IsTrue (continues_name d)) cs
 
--- a dot and a name, with spaces before each of them
+-- a dot and a name, each after optional spaces
 pub record SpellsDotted (text name : List ℕ) : Type 0 where
   pub before : List ℕ
   pub between : List ℕ
@@ -29,12 +29,12 @@ pub record SpellsDotted (text name : List ℕ) : Type 0 where
   pub named : name ≡ encode_utf8_all letters
   pub whole : text ≡ before ++ 46 ∷ (between ++ letters)
 
--- dotted names, one after another
+-- a sequence of dotted names
 abbrev pub SpellsNames : List ℕ → List (List ℕ) → Type 0
 SpellsNames text [] = text ≡ []
 SpellsNames text (n ∷ ns) = (first rest : List ℕ) × (text ≡ first ++ rest) × SpellsDotted first n × SpellsNames rest ns
 
--- the name of a context, and dotted names
+-- the name of a context, followed by dotted names
 pub record SpellsReference (text name : List ℕ) (names : List (List ℕ)) : Type 0 where
   pub letters : List ℕ
   pub rest : List ℕ
@@ -43,12 +43,12 @@ pub record SpellsReference (text name : List ℕ) (names : List (List ℕ)) : Ty
   pub dotted : SpellsNames rest names
   pub whole : text ≡ letters ++ rest
 
--- each `'` twice
+-- the text with each `'` doubled
 abbrev pub doubled : List ℕ → List ℕ
 doubled [] = []
 doubled (c ∷ cs) = if c == 39 then 39 ∷ 39 ∷ doubled cs else c ∷ doubled cs
 
--- a text in single quotes, with each of its own doubled
+-- a text in single quotes, with each inner quote doubled
 pub record SpellsQuoted (text value : List ℕ) : Type 0 where
   pub inner : List ℕ
   pub valued : value ≡ encode_utf8_all inner
@@ -59,7 +59,7 @@ SpellsOperand text (Quoted value) = SpellsQuoted text value
 SpellsOperand text (Reference []) = ⊥
 SpellsOperand text (Reference (n ∷ ns)) = SpellsReference text n ns
 
--- `||` and an operand, with spaces before each of them
+-- `||` and an operand, each after optional spaces
 pub record SpellsJoined (text : List ℕ) (operand : Operand) : Type 0 where
   pub before : List ℕ
   pub between : List ℕ
@@ -69,12 +69,12 @@ pub record SpellsJoined (text : List ℕ) (operand : Operand) : Type 0 where
   pub is_operand : SpellsOperand inner operand
   pub whole : text ≡ before ++ 124 ∷ 124 ∷ (between ++ inner)
 
--- joined operands, one after another
+-- a sequence of joined operands
 abbrev pub SpellsMore : List ℕ → List Operand → Type 0
 SpellsMore text [] = text ≡ []
 SpellsMore text (o ∷ os) = (first rest : List ℕ) × (text ≡ first ++ rest) × SpellsJoined first o × SpellsMore rest os
 
--- `${{`, one or more operands joined by `||`, and `}}`, with spaces between these
+-- `${{`, one or more operands joined by `||`, and `}}`, with optional spaces between them
 pub record SpellsBraced (text : List ℕ) (operand : Operand) (operands : List Operand) : Type 0 where
   pub before : List ℕ
   pub inner : List ℕ
@@ -86,11 +86,11 @@ pub record SpellsBraced (text : List ℕ) (operand : Operand) (operands : List O
   pub are_more : SpellsMore more operands
   pub whole : text ≡ 36 ∷ 123 ∷ 123 ∷ (before ++ (inner ++ (more ++ (after ++ 125 ∷ 125 ∷ []))))
 
--- characters in which no `${{` stands
+-- the characters contain no `${{`
 abbrev pub HoldsNoOpening : List ℕ → Type 0
 HoldsNoOpening cs = (before after : List ℕ) → cs ≢ before ++ 36 ∷ 123 ∷ 123 ∷ after
 
--- some text as it stands, without a `${{`
+-- non-empty plain text without `${{`
 pub record SpellsPlain (text value : List ℕ) : Type 0 where
   pub some : text ≢ []
   pub no_opening : HoldsNoOpening text
@@ -101,7 +101,7 @@ SpellsPiece text (Plain value) = SpellsPlain text value
 SpellsPiece text (Braced []) = ⊥
 SpellsPiece text (Braced (o ∷ os)) = SpellsBraced text o os
 
--- text as it stands is one piece as far as it goes: none follows another
+-- plain text is a single piece: no plain piece follows another
 abbrev pub BeginsBraced : List Piece → Type 0
 BeginsBraced [] = Unit {0}
 BeginsBraced (Plain value ∷ ps) = ⊥
@@ -111,7 +111,7 @@ abbrev pub MayFollow : Piece → List Piece → Type 0
 MayFollow (Plain value) ps = BeginsBraced ps
 MayFollow (Braced os) ps = Unit {0}
 
--- pieces, one after another
+-- a sequence of pieces
 abbrev pub SpellsPieces : List ℕ → List Piece → Type 0
 SpellsPieces text [] = text ≡ []
 SpellsPieces text (p ∷ ps) =

@@ -6,6 +6,6 @@ use Rattle.std.specs.Char.{is_ascii_alphabetic, is_ascii_digit}
 unfoldable pub begins_name : ℕ → Bool
 begins_name c = is_ascii_alphabetic c || c == 95
 
--- one of these, a digit, or `-`
+-- one of those, a digit, or `-`
 unfoldable pub continues_name : ℕ → Bool
 continues_name c = begins_name c || is_ascii_digit c || c == 45

@@ -1,21 +1,21 @@
--- What parsing a text for a place gives, in the words of the grammar.
+-- The outcome of parsing a text for a place, in terms of the grammar.
 use Rattle.std.specs.Prelude.{◌≡◌, ◌⊎◌, ℕ, List, Result, Ok, Err}
 use Rattle.wf_value.specs.declared.refusal.Refusal.{Refusal}
 use Rattle.wf_expr.specs.Faults.{wrong_expression, wrong_place}
 use Rattle.wf_expr.specs.Profile.{Spells, AllowedIn}
 use Rattle.wf_expr.specs.declared.piece.Piece.{Piece}
-use Rattle.wf_expr.specs.declared.place.Place.{Place}
+use Rattle.wf_expr.specs.declared.place.ContextSite.{ContextSite}
 
--- the text spells no template
+-- the text is not a template
 abbrev pub SpellsNone : List ℕ → Type 0
 SpellsNone text = (t : List Piece) → ¬ (Spells text t)
 
--- it spells one with a context that the place does not allow
-abbrev pub SpellsElsewhere : List ℕ → Place → Type 0
+-- the text is a template with a context that the place does not allow
+abbrev pub SpellsElsewhere : List ℕ → ContextSite → Type 0
 SpellsElsewhere text place = (t : List Piece) × Spells text t × (¬ (AllowedIn place t))
 
--- the template that the text spells, where the place allows its contexts; 17 where it spells none; and 18
--- where it spells one whose contexts the place does not allow
-abbrev pub IsOutcome : List ℕ → Place → Result (List Piece) Refusal → Type 0
+-- the template, if the text is one and the place allows its contexts; 17 if the text is not a template; 18 if it is a template with
+-- a context that the place does not allow
+abbrev pub IsOutcome : List ℕ → ContextSite → Result (List Piece) Refusal → Type 0
 IsOutcome text place (Ok t) = Spells text t × AllowedIn place t
 IsOutcome text place (Err e) = ((e ≡ wrong_expression) × SpellsNone text) ⊎ ((e ≡ wrong_place) × SpellsElsewhere text place)

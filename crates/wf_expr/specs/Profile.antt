@@ -1,20 +1,19 @@
--- Which contexts and paths a template may use. GitHub Docs, "Contexts reference" (About contexts, Context
--- availability).
+-- The contexts and paths that a template may use. GitHub Docs, "Contexts reference" (About contexts, Context availability).
 use Rattle.std.specs.Prelude.{◌≡◌, ◌⊎◌, ◌≤◌, ℕ, List, [], ◌∷◌, Bool, true, false, codes, All, sum_by, count_by}
 use Rattle.std.specs.Str.{chars}
 use Rattle.wf_expr.specs.Grammar.{SpellsPieces}
-use Rattle.wf_expr.specs.declared.place.Place.{Place}
-use Rattle.wf_expr.specs.declared.place.Place.TheVariants.{Workflow, Job}
+use Rattle.wf_expr.specs.declared.place.ContextSite.{ContextSite}
+use Rattle.wf_expr.specs.declared.place.ContextSite.TheVariants.{Workflow, Job}
 use Rattle.wf_expr.specs.declared.piece.Operand.{Operand}
 use Rattle.wf_expr.specs.declared.piece.Operand.TheVariants.{Quoted, Reference}
 use Rattle.wf_expr.specs.declared.piece.Piece.{Piece}
 use Rattle.wf_expr.specs.declared.piece.Piece.TheVariants.{Plain, Braced}
 
--- the contexts that each place may use
+-- the contexts that every place may use
 abbrev pub IsShared : List ℕ → Type 0
 IsShared name = (name ≡ codes "github") ⊎ (name ≡ codes "inputs") ⊎ (name ≡ codes "vars")
 
--- whether the context has paths with these names behind the first: `needs` has `needs.ID.result` alone
+-- whether the context has paths with these names after the first two; `needs` has only `needs.ID.result`
 abbrev pub IsInContext : List ℕ → List (List ℕ) → Type 0
 IsInContext context names =
     IsShared context
@@ -22,19 +21,19 @@ IsInContext context names =
     ⊎ (context ≡ codes "matrix")
     ⊎ ((context ≡ codes "needs") × (names ≡ codes "result" ∷ []))
 
--- one of the six contexts, and one or more names
+-- one of the six contexts, followed by one or more names
 abbrev pub InProfile : List (List ℕ) → Type 0
 InProfile [] = ⊥
 InProfile (context ∷ []) = ⊥
 InProfile (context ∷ name ∷ names) = IsInContext context names
 
 -- a job may use all six contexts
-abbrev pub IsAllowed : Place → List (List ℕ) → Type 0
+abbrev pub IsAllowed : ContextSite → List (List ℕ) → Type 0
 IsAllowed Job path = Unit {0}
 IsAllowed Workflow [] = ⊥
 IsAllowed Workflow (context ∷ names) = IsShared context
 
--- what holds of each reference of an operand and of a piece
+-- the property holds for every reference of an operand or of a piece
 abbrev pub OfReference : (List (List ℕ) → Type 0) → Operand → Type 0
 OfReference P (Quoted text) = Unit {0}
 OfReference P (Reference path) = P path
@@ -43,7 +42,7 @@ abbrev pub OfReferences : (List (List ℕ) → Type 0) → Piece → Type 0
 OfReferences P (Plain text) = Unit {0}
 OfReferences P (Braced operands) = All (OfReference P) operands
 
--- how many references there are
+-- the number of references
 abbrev pub is_reference : Operand → Bool
 is_reference (Quoted text) = false
 is_reference (Reference path) = true
@@ -52,16 +51,16 @@ abbrev pub reference_count : Piece → ℕ
 reference_count (Plain text) = 0
 reference_count (Braced operands) = count_by is_reference operands
 
--- each reference is in the profile, and there are 32 of them at most
+-- each reference is in the profile, and there are at most 32
 pub record IsInProfile (pieces : List Piece) : Type 0 where
   pub each : All (OfReferences InProfile) pieces
   pub few : sum_by reference_count pieces ≤ 32
 
--- the text is that of the template
+-- the text is the source of the template
 pub record Spells (text : List ℕ) (pieces : List Piece) : Type 0 where
   pub grammar : SpellsPieces (chars text) pieces
   pub profile : IsInProfile pieces
 
--- each context is allowed in the place
-abbrev pub AllowedIn : Place → List Piece → Type 0
+-- the place allows each context
+abbrev pub AllowedIn : ContextSite → List Piece → Type 0
 AllowedIn place = All (OfReferences (IsAllowed place))

@@ -1,5 +1,4 @@
--- Reading a template from the left, a character at a time. What it reads and what it refuses is the
--- grammar's (`Grammar`).
+-- Parsing a template from left to right, one character at a time. The module `Grammar` defines which texts it accepts.
 use Rattle.std.specs.Prelude.{ℕ, List, [], ◌∷◌, ◌++◌, Option, Some, None, Result, Ok, Err, ◌==◌, if◌then◌else◌, codes}
 use Rattle.std.specs.Char.{encode_utf8}
 use Rattle.std.specs.Option.{option_and_then}
@@ -15,12 +14,12 @@ use Rattle.wf_expr.specs.declared.reader.Reader.{Reader}
 use Rattle.wf_expr.specs.declared.reader.Reader.TheVariants.{InText, AfterDollar, AfterBrace, OperandDue, InName, AfterName}
 use Rattle.wf_expr.specs.declared.reader.Reader.TheVariants.{NameDue, InQuoted, AfterQuote, AfterOperand, AfterBar, AfterClose}
 
--- 17 where there is nothing
+-- 17 for None
 abbrev pub needed : {X : Type 0} → Option X → Result X Refusal
 needed None = Err wrong_expression
 needed (Some x) = Ok x
 
--- text as it stands is a piece where there is some
+-- plain text is a piece unless it is empty
 abbrev pub plain_piece : List ℕ → List Piece
 plain_piece [] = []
 plain_piece (b ∷ bs) = Plain (b ∷ bs) ∷ []
@@ -41,7 +40,7 @@ after_name ps os names c =
     else if c == 46 then Some (NameDue ps os names)
     else after_operand ps (os ++ Reference names ∷ []) c
 
--- what one more character makes of it, or nothing where no template goes on so
+-- the state after one more character, or None if no template continues this way
 abbrev pub taken : Reader → ℕ → Option Reader
 taken (InText ps word) c = Some (in_text ps word c)
 taken (AfterDollar ps word) c = if c == 123 then Some (AfterBrace ps word) else Some (in_text ps (word ++ codes "$") c)
@@ -63,7 +62,7 @@ taken (AfterOperand ps os) c = after_operand ps os c
 taken (AfterBar ps os) c = if c == 124 then Some (OperandDue ps os) else None
 taken (AfterClose ps os) c = if c == 125 then Some (InText (ps ++ Braced os ∷ []) []) else None
 
--- the pieces at the end of the text, or nothing inside a `${{`
+-- the pieces at the end of the text, or None inside a `${{`
 abbrev pub ended : Reader → Option (List Piece)
 ended (InText ps word) = Some (ps ++ plain_piece word)
 ended (AfterDollar ps word) = Some (ps ++ plain_piece (word ++ codes "$"))
@@ -78,7 +77,7 @@ ended (AfterOperand ps os) = None
 ended (AfterBar ps os) = None
 ended (AfterClose ps os) = None
 
--- the pieces after these characters too
+-- the pieces after all of these characters
 unfoldable pub run : Reader → List ℕ → Option (List Piece)
 run r [] = ended r
 run r (c ∷ cs) = option_and_then (λ next. run next cs) (taken r c)

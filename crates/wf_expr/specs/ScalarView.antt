@@ -1,4 +1,4 @@
--- The scalar that a view of one shows.
+-- The scalar that a view shows.
 use Rattle.wf_value.specs.declared.scalar.Scalar.{Scalar}
 use Rattle.wf_value.specs.declared.scalar.Scalar.TheVariants as scalar
 use Rattle.wf_expr.specs.declared.scalar_view.ScalarView.{ScalarView}

@@ -1,5 +1,4 @@
--- The value of a template over a context. GitHub Docs, "Evaluate expressions in workflows and actions"
--- (Literals, Operators).
+-- The value of a template in a context. GitHub Docs, "Evaluate expressions in workflows and actions" (Literals, Operators).
 use Rattle.std.specs.Prelude.{ℕ, List, [], ◌∷◌, find, map, unwrap_or}
 use Rattle.std.specs.List.{flat_map}
 use Rattle.wf_value.specs.declared.scalar.Scalar.{Scalar}
@@ -11,17 +10,17 @@ use Rattle.wf_expr.specs.declared.piece.Operand.TheVariants.{Quoted, Reference}
 use Rattle.wf_expr.specs.declared.piece.Piece.{Piece}
 use Rattle.wf_expr.specs.declared.piece.Piece.TheVariants.{Plain, Braced}
 
--- a quoted text, or the context's value of the path, which is the empty text where it has none
+-- a quoted text, or the context's value of the path, or the empty text if it has none
 abbrev pub operand_value : Values → Operand → Scalar
 operand_value values (Quoted text) = Text text
 operand_value values (Reference path) = unwrap_or (values path) (Text [])
 
--- the last value, or the other where there is none
+-- the last value, or the other if there is none
 abbrev pub last_or : Scalar → List Scalar → Scalar
 last_or other [] = other
 last_or other (v ∷ vs) = last_or v vs
 
--- `||`: the first true value, else the last
+-- `||`: the first truthy value, else the last one
 abbrev pub first_true : Scalar → List Scalar → Scalar
 first_true other values = unwrap_or (find is_truthy values) (last_or other values)
 
@@ -32,7 +31,7 @@ abbrev pub piece_text : Values → Piece → List ℕ
 piece_text values (Plain text) = text
 piece_text values (Braced operands) = scalar_text (expression_value values operands)
 
--- an expression alone gives its value, and any other template the text of its pieces
+-- an expression on its own has its value; any other template has the text of its pieces
 abbrev pub template_value : Values → List Piece → Scalar
 template_value values (Braced operands ∷ []) = expression_value values operands
 template_value values pieces = Text (flat_map (piece_text values) pieces)

@@ -17,7 +17,7 @@ use crate::value::{operand_value, push_piece};
 use std::alloc::Global;
 use wf_value::{Chars, Refusal, Sequence};
 
-/// A context as long as no need has a result.
+/// The context before any need has a result.
 #[derive(Drop)]
 struct Known<'a, C, N> {
     context: &'a C,
@@ -37,7 +37,7 @@ impl<'a, C: Context, N: Needs> Context for Known<'a, C, N> {
     }
 }
 
-/// The need whose result an operand gives, if it gives one.
+/// The need whose result the operand gives, if any.
 fn need_of_operand<N: Needs>(operand: &Operand, needs: &N) -> Option<usize>
     ensures { result ≡ need_of_operand (N.need_of needs.now) operand.now }
 {
@@ -47,7 +47,7 @@ fn need_of_operand<N: Needs>(operand: &Operand, needs: &N) -> Option<usize>
     }
 }
 
-/// The needs that the operands ask in turn, as far as no known value before them is true.
+/// The needs that the operands look up, in order, up to the first operand whose known value is truthy.
 fn asked_needs<'a, C: Context, N: Needs>(
     alloc: Global,
     operands: &'a [Operand],
@@ -115,8 +115,8 @@ fn bound_pieces<'a, C: Context, N: Needs>(
 }
 
 impl Template {
-    /// The template with all looked up but the results of needs, of which the context is not asked:
-    /// by these the text of its value is that of what was bound. Its `Err` is 50 alone.
+    /// Looks up everything except the results of needs; the context is not asked for those. For any results, the bound template has
+    /// the same text as the value of this template. Its only `Err` is 50 (out of memory).
     pub fn bind<C: Context, N: Needs>(
         &self,
         alloc: Global,
@@ -134,7 +134,7 @@ impl Template {
     }
 }
 
-/// A value sets a flag exactly where its text is `true`.
+/// A value sets a flag if and only if its text is `true`.
 pub fn flag_is_set_by_the_text_true()
     ensures { (value : Scalar) → SetsFlag value ↔ (scalar_text value ≡ codes "true") }
 {}

@@ -10,8 +10,8 @@ use std::alloc::Global;
 use std::marker::Model;
 use wf_value::{Chars, JobResult, Refusal, Sequence, TryCopy};
 
-/// A piece of a template that was bound: the needs whose results it asks for in turn, by their
-/// numbers, and the text that stands where none of them has a result.
+/// A piece of a bound template: the indices of the needs whose results it looks up, in order, and the text if none of them has a
+/// result.
 #[derive(Drop)]
 pub struct BoundPiece {
     pub needs: Sequence<usize>,
@@ -31,7 +31,7 @@ fn first_result<R: NeedResults>(needs: &[usize], results: &R) -> Option<JobResul
 }
 
 impl BoundPiece {
-    /// The text of the piece by the results.
+    /// The text of the piece for the given results.
     pub(crate) fn text<R: NeedResults>(&self, results: &R) -> &str
         ensures { result.now ≡ bound_piece_text (R.result_of results.now) self.now }
     {
@@ -51,8 +51,8 @@ impl TryCopy for BoundPiece {
     }
 }
 
-/// A template in which all but the results of needs has been looked up, so that its text is known
-/// by them without memory. A contract sees the list of its pieces.
+/// A template in which everything except the results of needs is looked up. Given the results, its text is known without memory. In
+/// contracts it is the list of its pieces.
 #[derive(Drop)]
 pub struct BoundTemplate {
     pieces: Sequence<BoundPiece>,
@@ -68,7 +68,7 @@ impl Model for BoundTemplate {
 }
 
 impl BoundTemplate {
-    /// The template of a `Vec`, which is moved and not copied.
+    /// Moves a `Vec` into a template, without copying it.
     pub fn new(pieces: Vec<BoundPiece>) -> Self
         ensures { result ≡ pieces.items }
     {
@@ -83,14 +83,14 @@ impl BoundTemplate {
         self.pieces.as_slice()
     }
 
-    /// Whether the text by the results is not empty.
+    /// Whether the text for the given results is non-empty.
     pub fn has_text<R: NeedResults>(&self, results: &R) -> bool
         ensures { IsTrue result ↔ (bound_text (R.result_of results.now) self.now ≢ []) }
     {
         Unread::new(b"", self.pieces(), results).next().is_some()
     }
 
-    /// Whether the text by the results is that of another template by its own.
+    /// Whether two templates, each with its own results, have the same text.
     pub fn is_same_text<R: NeedResults, S: NeedResults>(
         &self,
         results: &R,
@@ -104,14 +104,14 @@ impl BoundTemplate {
         are_same(text, Unread::new(b"", other.pieces(), other_results))
     }
 
-    /// Whether the text by the results is this text, whatever the case of ASCII letters, as labels are compared. It takes no memory.
+    /// Whether the text for the given results equals `text` up to ASCII case, as labels compare. It takes no memory.
     pub fn is_text_ignoring_ascii_case<R: NeedResults>(&self, results: &R, text: &[u8]) -> bool
         ensures { IsTrue result ↔ (lowered (bound_text (R.result_of results.now) self.now) ≡ lowered text.now) }
     {
         are_bound_text(self.pieces(), results, text, Case::Insensitive)
     }
 
-    /// Whether the text by the results sets a flag: whether it is `true`.
+    /// Whether the text for the given results sets a flag, that is, whether it is `true`.
     pub fn sets_flag<R: NeedResults>(&self, results: &R) -> bool
         ensures { IsTrue result ↔ (bound_text (R.result_of results.now) self.now ≡ codes "true") }
     {

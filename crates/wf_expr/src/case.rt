@@ -1,4 +1,4 @@
-/// Whether the case of ASCII letters counts where texts are compared.
+/// Whether a comparison of texts respects or ignores ASCII case.
 #[derive(Clone, Copy)]
 pub enum Case {
     Sensitive,

@@ -25,7 +25,7 @@ fn are_alike(one: &[u8], other: &[u8], case: Case) -> bool
     }
 }
 
-/// What is left of the text behind its front, where it begins so.
+/// The rest of the text after the prefix, or `None` if the text does not begin with it.
 fn behind<'t>(text: &'t [u8], front: &[u8], case: Case) -> Option<&'t [u8]>
     ensures { IsBehind case front.now text.now (option_copied result) }
 {
@@ -68,7 +68,7 @@ fn behind_piece<'t, C: Context>(
     }
 }
 
-/// Whether the texts of the pieces, one after another, are the text.
+/// Whether the concatenated texts of the pieces equal the text.
 pub(crate) fn are_text<C: Context>(pieces: &[Piece], context: &C, text: &[u8], case: Case) -> bool
     ensures { IsTrue result ↔ (folded case (flat_map (piece_text (C.values context.now)) pieces.now) ≡ folded case text.now) }
 {
@@ -82,7 +82,7 @@ pub(crate) fn are_text<C: Context>(pieces: &[Piece], context: &C, text: &[u8], c
     rest.is_empty()
 }
 
-/// Whether the texts of bound pieces by the results, one after another, are the text.
+/// Whether the concatenated texts of the bound pieces, for the given results, equal the text.
 pub(crate) fn are_bound_text<R: NeedResults>(
     pieces: &[BoundPiece],
     results: &R,

@@ -5,8 +5,8 @@ use crate::properties::Properties;
 use crate::scalar_view::ScalarView;
 use wf_value::Chars;
 
-/// What gives the paths of references their values: a finite map from paths, which are lists of names,
-/// to scalars. GitHub Docs, "Contexts reference".
+/// A source of values for references: a finite map from paths, which are lists of names, to scalars. GitHub Docs, "Contexts
+/// reference".
 pub trait Context {
     ghost use Rattle.std.specs.Prelude.{ℕ, List, Option};
     ghost use Rattle.wf_value.specs.declared.scalar.Scalar.{Scalar};
@@ -14,7 +14,7 @@ pub trait Context {
 
     ghost values: { Self → List (List ℕ) → Option Scalar };
 
-    /// The value of a path, if it has one. It takes no memory.
+    /// The value of a path, if any. It takes no memory.
     fn value_of(&self, path: &[Chars]) -> Option<ScalarView<'_>>
         ensures { option_map shown result ≡ values self.now path.now };
 }
@@ -32,7 +32,7 @@ impl Context for Properties {
     }
 }
 
-/// A layer over another: where the upper one has no value for a path, the lower one's is looked up.
+/// One context on top of another: a path without a value in the upper one is looked up in the lower one.
 #[derive(Drop)]
 pub struct Over<'a, U, L> {
     pub upper: &'a U,

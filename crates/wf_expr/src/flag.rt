@@ -5,8 +5,8 @@ ghost use Rattle.wf_expr.specs.ScalarView.{shown};
 use crate::scalar_view::ScalarView;
 use wf_value::Scalar;
 
-/// Whether a flag, as `cancel-in-progress` or `continue-on-error`, is set by the value of its template:
-/// by the truth value true and by the text `true`, and by no other.
+/// Whether the value of a template sets a flag such as `cancel-in-progress` or `continue-on-error`. Only the boolean true and the
+/// text `true` do.
 pub fn is_flag_set(value: &Scalar) -> bool
     ensures set { IsTrue result ↔ SetsFlag value.now }
     ensures test { result ≡ sets_flag value.now }
@@ -18,7 +18,7 @@ pub fn is_flag_set(value: &Scalar) -> bool
     }
 }
 
-/// Whether a flag is set by a value whose text is borrowed.
+/// The same for a value whose text is borrowed.
 pub(crate) fn view_sets_flag(value: ScalarView<'_>) -> bool
     ensures { result ≡ sets_flag (shown value.entry) }
 {

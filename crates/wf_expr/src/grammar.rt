@@ -4,17 +4,17 @@ ghost use Rattle.wf_expr.specs.Outcome.{IsOutcome};
 ghost use Rattle.wf_expr.specs.Parsing.{template_of};
 ghost use Rattle.wf_expr.specs.Profile.{Spells};
 ghost use Rattle.wf_expr.specs.declared.piece.Piece.{Piece};
-ghost use Rattle.wf_expr.specs.declared.place.Place.{Place};
+ghost use Rattle.wf_expr.specs.declared.place.ContextSite.{ContextSite};
 
-/// A text spells one template at most.
+/// A text is the source of at most one template.
 pub fn spells_one_template()
     ensures { (text : List ℕ) (t u : List Piece) → Spells text t → Spells text u → t ≡ u }
 {}
 
-/// Each text has one outcome in each place, and `template_of` gives it: the template that the text
-/// spells, where the place allows its contexts; 17 exactly where it spells none; and 18 exactly where it
-/// spells one with a context that the place does not allow.
+/// Every text has exactly one outcome in each place, and `template_of` computes it: the template, if the text is one and the place
+/// allows its contexts; 17 if and only if the text is not a template; and 18 if and only if it is a template with a context that
+/// the place does not allow.
 pub fn template_of_is_the_grammars()
-    ensures { (text : List ℕ) (place : Place) (outcome : Result (List Piece) Refusal) →
+    ensures { (text : List ℕ) (place : ContextSite) (outcome : Result (List Piece) Refusal) →
         IsOutcome text place outcome ↔ (template_of text place ≡ outcome) }
 {}

@@ -1,7 +1,7 @@
 ghost use Rattle.std.specs.Prelude.{◌≡◌};
 ghost use Rattle.wf_expr.specs.Letters.{begins_name, continues_name};
 
-/// Whether a name may begin with the character: a letter A to Z, a to z, or `_`.
+/// Whether the character may start a name: a letter A to Z, a to z, or `_`.
 #[tactic(auto, unfolding(crate::specs::Letters::begins_name))]
 pub(crate) fn begins_name(c: char) -> bool
     ensures { result ≡ begins_name c }
@@ -9,7 +9,7 @@ pub(crate) fn begins_name(c: char) -> bool
     c.is_ascii_alphabetic() || c == '_'
 }
 
-/// Whether a name may go on with the character: as at its begin, or a digit or `-`.
+/// Whether the character may continue a name: one that may start it, a digit or `-`.
 #[tactic(auto, unfolding(crate::specs::Letters::continues_name))]
 pub(crate) fn continues_name(c: char) -> bool
     ensures { result ≡ continues_name c }

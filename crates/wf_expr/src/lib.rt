@@ -1,5 +1,5 @@
-//! Templates, which are texts with pieces `${{ .. }}`, and their values. GitHub Docs, "Evaluate
-//! expressions in workflows and actions" and "Contexts reference".
+//! Templates, which are texts with pieces `${{ .. }}`, and their values. GitHub Docs, "Evaluate expressions in workflows and
+//! actions" and "Contexts reference".
 #![tactic(auto)]
 
 mod bind;
@@ -27,7 +27,7 @@ pub use context::{Context, Over};
 pub use flag::is_flag_set;
 pub use grammar::{spells_one_template, template_of_is_the_grammars};
 pub use piece::{Operand, Piece};
-pub use place::Place;
+pub use place::ContextSite;
 pub use properties::Properties;
 pub use results::{NeedResults, Needs};
 pub use scalar_view::ScalarView;

@@ -1,15 +1,15 @@
 use std::alloc::Global;
 use wf_value::{Chars, Refusal, Sequence, TryCopy};
 
-/// An operand of an expression: a text in single quotes, or a reference, which is the list of its
-/// names, that of its context first, as `github` and `head_ref` of `github.head_ref`.
+/// An operand of an expression: a text in single quotes, or a reference. A reference is the list of its names; the first is that of
+/// its context, such as `github` in `github.head_ref`.
 #[derive(Drop)]
 pub enum Operand {
     Quoted(Chars),
     Reference(Sequence<Chars>),
 }
 
-/// A piece of a template: text as it stands, or the operands that `||` joins in `${{ }}`.
+/// A piece of a template: plain text, or the operands that `||` joins in `${{ }}`.
 #[derive(Drop)]
 pub enum Piece {
     Plain(Chars),

@@ -3,11 +3,11 @@ ghost use Rattle.wf_expr.specs.Profile.{IsShared, IsInContext, InProfile, IsAllo
 ghost use Rattle.wf_expr.specs.Profile.{IsInProfile, is_reference, reference_count};
 
 use crate::piece::{Operand, Piece};
-use crate::place::Place;
+use crate::place::ContextSite;
 use wf_value::Chars;
 
-/// How many references a template may have.
-pub(crate) const MOST_REFERENCES: usize = 32;
+/// The maximum number of references in a template.
+pub(crate) const MAX_REFERENCES: usize = 32;
 
 fn is_shared(context: &str) -> bool
     ensures { IsTrue result ↔ IsShared context.now }
@@ -15,7 +15,7 @@ fn is_shared(context: &str) -> bool
     context == "github" || context == "inputs" || context == "vars"
 }
 
-/// Whether a reference of these names is one of the profile.
+/// Whether a reference with these names belongs to the profile.
 pub(crate) fn in_profile(path: &[Chars]) -> bool
     ensures { IsTrue result ↔ InProfile path.now }
 {
@@ -25,7 +25,7 @@ pub(crate) fn in_profile(path: &[Chars]) -> bool
     }
 }
 
-/// Whether the context has paths with these names behind the first.
+/// Whether the context has paths with these names after the first two.
 fn is_in_context(context: &str, names: &[Chars]) -> bool
     ensures { IsTrue result ↔ IsInContext context.now names.now }
 {
@@ -39,7 +39,7 @@ fn is_in_context(context: &str, names: &[Chars]) -> bool
     }
 }
 
-/// Whether the one name is `result`.
+/// Whether the list is the one name `result`.
 fn is_result(names: &[Chars]) -> bool
     ensures { IsTrue result ↔ (names.now ≡ codes "result" ∷ []) }
 {
@@ -55,14 +55,14 @@ fn is_text(name: &Chars, text: &str) -> bool
     name.as_str() == text
 }
 
-/// Whether a reference of these names may stand in the place.
-pub(crate) fn is_allowed(place: Place, path: &[Chars]) -> bool
+/// Whether a reference with these names is allowed in the place.
+pub(crate) fn is_allowed(place: ContextSite, path: &[Chars]) -> bool
     ensures { IsTrue result ↔ IsAllowed place path.now }
 {
     match (place, path) {
-        (Place::Job, _) => true,
-        (Place::Workflow, []) => false,
-        (Place::Workflow, [context, ..]) => is_shared(context.as_str()),
+        (ContextSite::Job, _) => true,
+        (ContextSite::Workflow, []) => false,
+        (ContextSite::Workflow, [context, ..]) => is_shared(context.as_str()),
     }
 }
 
@@ -96,7 +96,7 @@ fn pieces_in_profile(pieces: &[Piece]) -> bool
     pieces.iter().all(|piece| piece_in_profile(piece))
 }
 
-fn operand_allowed(place: Place, operand: &Operand) -> bool
+fn operand_allowed(place: ContextSite, operand: &Operand) -> bool
     ensures { IsTrue result ↔ OfReference (IsAllowed place) operand.now }
 {
     match operand {
@@ -105,7 +105,7 @@ fn operand_allowed(place: Place, operand: &Operand) -> bool
     }
 }
 
-fn operands_allowed(place: Place, operands: &[Operand]) -> bool
+fn operands_allowed(place: ContextSite, operands: &[Operand]) -> bool
     ensures { IsTrue result ↔ All (OfReference (IsAllowed place)) operands.now }
 {
     operands
@@ -113,7 +113,7 @@ fn operands_allowed(place: Place, operands: &[Operand]) -> bool
         .all(|operand| operand_allowed(place, operand))
 }
 
-fn piece_allowed(place: Place, piece: &Piece) -> bool
+fn piece_allowed(place: ContextSite, piece: &Piece) -> bool
     ensures { IsTrue result ↔ OfReferences (IsAllowed place) piece.now }
 {
     match piece {
@@ -122,8 +122,8 @@ fn piece_allowed(place: Place, piece: &Piece) -> bool
     }
 }
 
-/// Whether the place allows each context.
-pub(crate) fn pieces_allowed(place: Place, pieces: &[Piece]) -> bool
+/// Whether the place allows every context.
+pub(crate) fn pieces_allowed(place: ContextSite, pieces: &[Piece]) -> bool
     ensures { IsTrue result ↔ AllowedIn place pieces.now }
 {
     pieces.iter().all(|piece| piece_allowed(place, piece))
@@ -147,11 +147,11 @@ fn references(piece: &Piece) -> usize
     }
 }
 
-/// Whether there are no more references than a template may have.
+/// Whether the number of references is within the limit.
 fn are_few(pieces: &[Piece]) -> bool
     ensures { IsTrue result ↔ (sum_by reference_count pieces.now ≤ 32) }
 {
-    let mut left = MOST_REFERENCES;
+    let mut left = MAX_REFERENCES;
     for piece in pieces {
         let count = references(piece);
         if left < count {
@@ -162,7 +162,7 @@ fn are_few(pieces: &[Piece]) -> bool
     true
 }
 
-/// Whether the references are those of a template.
+/// Whether the references belong to the profile and their number is within the limit.
 pub(crate) fn are_in_profile(pieces: &[Piece]) -> bool
     ensures { IsTrue result ↔ IsInProfile pieces.now }
 {

@@ -6,8 +6,7 @@ use std::alloc::Global;
 use std::collections::BTreeMap;
 use wf_value::{Chars, Refusal, Scalar};
 
-/// A tree of properties: a finite map from paths, which are lists of names, to scalars. Names that
-/// several paths begin with stand in it once.
+/// A tree of properties: a finite map from paths, which are lists of names, to scalars. Paths share the nodes of a common prefix.
 #[derive(Drop)]
 pub struct Properties {
     value: Option<Scalar>,
@@ -17,7 +16,7 @@ pub struct Properties {
 impl Properties {
     ghost use Rattle.wf_expr.specs.Properties.{value_at, AreSame, DifferAt, DifferBehind};
 
-    /// The tree in which no path has a value.
+    /// The empty tree, in which no path has a value.
     pub fn new(alloc: Global) -> Self
         ensures { (path : List (List ℕ)) → value_at result path ≡ None }
     {
@@ -27,7 +26,7 @@ impl Properties {
         }
     }
 
-    /// The value of a path, if it has one.
+    /// The value of a path, if any.
     pub fn get(&self, path: &[Chars]) -> Option<&Scalar>
         ensures { option_copied result ≡ value_at self.now path.now }
     {
@@ -41,7 +40,7 @@ impl Properties {
         tree.value.as_ref()
     }
 
-    /// Sets the value of a path, in place of the one that it had.
+    /// Sets the value of a path and replaces any earlier one. On `Err` every path keeps its value.
     pub fn insert(&mut self, alloc: Global, path: &[Chars], value: Scalar) -> Result<(), Refusal>
         ensures value { OnOk result (value_at self.new path.now ≡ Some value) }
         ensures others { OnOk result (DifferAt path.now self.new self.old) }
@@ -63,7 +62,7 @@ impl Properties {
         }
     }
 
-    /// The tree in which that path alone has a value.
+    /// The tree in which only this path has a value.
     fn of_path(alloc: Global, path: &[Chars], value: Scalar) -> Result<Self, Refusal>
         ensures value { IfOk result (λ tree. value_at tree path.now ≡ Some value) }
         ensures others { IfOk result (λ tree. (p : List (List ℕ)) → p ≢ path.now → value_at tree p ≡ None) }
@@ -83,7 +82,8 @@ impl Properties {
         }
     }
 
-    /// Sets all paths that begin with a name: each has the value that the inner tree gives the rest of it.
+    /// Replaces all paths that begin with the name: the rest of each path is looked up in the inner tree. On `Err` every path keeps
+    /// its value.
     pub fn nest(&mut self, alloc: Global, name: &Chars, inner: Properties) -> Result<(), Refusal>
         ensures within { OnOk result ((path : List (List ℕ)) → value_at self.new (name.now ∷ path) ≡ value_at inner path) }
         ensures others { OnOk result (DifferBehind name.now self.new self.old) }

@@ -10,29 +10,29 @@ use crate::piece::{Operand, Piece};
 use std::alloc::Global;
 use wf_value::{Chars, Code, Refusal, Sequence};
 
-/// How far the reading of a template has come: the pieces so far, and of the present piece its
-/// operands, the names of the present reference and the present word, as far as they go.
+/// The state of a template parser: the pieces so far and, of the current piece, its operands, the names of the current reference
+/// and the current word, as far as they are read.
 #[derive(Drop)]
 pub(crate) enum Reader {
-    /// In text as it stands.
+    /// In plain text.
     InText(Sequence<Piece>, Chars),
-    /// Behind a `$` that may begin a piece.
+    /// After a `$` that may begin a piece.
     AfterDollar(Sequence<Piece>, Chars),
-    /// Behind a `${` that may begin a piece.
+    /// After a `${` that may begin a piece.
     AfterBrace(Sequence<Piece>, Chars),
-    /// Where an operand is due.
+    /// Before an operand.
     OperandDue(Sequence<Piece>, Sequence<Operand>),
     InName(Sequence<Piece>, Sequence<Operand>, Sequence<Chars>, Chars),
     AfterName(Sequence<Piece>, Sequence<Operand>, Sequence<Chars>),
-    /// Behind a dot.
+    /// After a dot.
     NameDue(Sequence<Piece>, Sequence<Operand>, Sequence<Chars>),
     InQuoted(Sequence<Piece>, Sequence<Operand>, Chars),
-    /// Behind a quote, which ends the text or is the first of two.
+    /// After a quote, which ends the text or is the first of a doubled quote.
     AfterQuote(Sequence<Piece>, Sequence<Operand>, Chars),
     AfterOperand(Sequence<Piece>, Sequence<Operand>),
-    /// Behind the first `|` of two.
+    /// After the first `|` of two.
     AfterBar(Sequence<Piece>, Sequence<Operand>),
-    /// Behind the first `}` of two.
+    /// After the first `}` of two.
     AfterClose(Sequence<Piece>, Sequence<Operand>),
 }
 
@@ -52,7 +52,7 @@ fn with_text(word: Chars, more: &str) -> Result<Chars, Refusal>
     Ok(Chars::new(text))
 }
 
-/// The list with one more at its end. A list of one takes memory for one alone.
+/// Appends an item. A list of one item takes memory for exactly one.
 fn with<T: Drop>(list: Sequence<T>, item: T) -> Result<Sequence<T>, Refusal>
     ensures { Gives (λ l. l) result (Ok (list ++ item ∷ [])) }
 {
@@ -76,7 +76,7 @@ fn empty(alloc: Global) -> Chars
     Chars::new(String::new(alloc))
 }
 
-/// 17: the text goes on as no template does.
+/// 17: no template continues this way.
 fn fault<T>() -> Result<T, Refusal>
     ensures { result ≡ Err (Refusal.Numbered Code.Expression) }
 {
@@ -84,7 +84,7 @@ fn fault<T>() -> Result<T, Refusal>
 }
 
 impl Reader {
-    /// Takes one more character; 17 where no template goes on so.
+    /// Reads one more character; 17 if no template continues this way.
     pub(crate) fn take(self, alloc: Global, c: char) -> Result<Reader, Refusal>
         ensures { Gives (λ r. r) result (needed (taken self c)) }
     {
@@ -109,7 +109,7 @@ impl Reader {
         }
     }
 
-    /// The template at the end of the text; 17 inside a piece `${{ .. }}`.
+    /// Ends the text and gives the template; 17 inside a piece `${{ .. }}`.
     pub(crate) fn end(self) -> Result<Sequence<Piece>, Refusal>
         ensures { Gives (λ t. t) result (needed (ended self)) }
     {
@@ -122,7 +122,7 @@ impl Reader {
     }
 }
 
-/// The template with the text as one more piece, if there is some.
+/// Appends the word as a plain piece unless it is empty.
 fn with_plain(pieces: Sequence<Piece>, word: Chars) -> Result<Sequence<Piece>, Refusal>
     ensures { Gives (λ t. t) result (Ok (pieces ++ plain_piece word)) }
 {
@@ -180,7 +180,7 @@ fn operand_due(
     }
 }
 
-/// The begin of a name.
+/// Starts a name.
 fn name_from(
     alloc: Global,
     pieces: Sequence<Piece>,
@@ -303,14 +303,14 @@ fn after_close(
     }
 }
 
-/// The template of text as it stands: one piece if there is some.
+/// The template of plain text: one piece, or none if the text is empty.
 fn plain(alloc: Global, text: &str) -> Result<Sequence<Piece>, Refusal>
     ensures { Gives (λ t. t) result (Ok (plain_piece text.now)) }
 {
     with_plain(none(alloc), Chars::from_str(alloc, text)?)
 }
 
-/// What a reader makes of the rest of the text; 17 where no template goes on so.
+/// Parses the rest of the text from a state; 17 if it is not a template.
 fn read_on(alloc: Global, start: Reader, rest: &str) -> Result<Sequence<Piece>, Refusal>
     ensures { Gives (λ t. t) result (needed (run start (chars rest.now))) }
 {
@@ -321,8 +321,7 @@ fn read_on(alloc: Global, start: Reader, rest: &str) -> Result<Sequence<Piece>, 
     reader.end()
 }
 
-/// The pieces of a text; 17 where no template is spelled so. The text before the first `${{` is copied
-/// whole.
+/// Parses a text into its pieces; 17 if it is not a template. The text before the first `${{` is copied as a whole.
 pub(crate) fn read(alloc: Global, text: &str) -> Result<Sequence<Piece>, Refusal>
     ensures { Gives (λ t. t) result (needed (pieces_of text.now)) }
 {

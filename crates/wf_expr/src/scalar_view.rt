@@ -5,7 +5,7 @@ ghost use Rattle.wf_value.specs.ScalarValue.{is_truthy};
 use std::alloc::Global;
 use wf_value::{Chars, Refusal, Scalar};
 
-/// A scalar whose text stands elsewhere, so that looking at it takes no memory.
+/// A scalar with a borrowed text, so that reading it takes no memory.
 #[derive(Clone, Copy)]
 pub enum ScalarView<'a> {
     Null,
@@ -28,7 +28,7 @@ impl<'a> ScalarView<'a> {
         }
     }
 
-    /// Whether the value counts as true: `false`, `0`, the empty text and null do not.
+    /// Whether the value is truthy: `false`, `0`, the empty text and null are not.
     pub fn truthy(self) -> bool
         ensures { result ≡ is_truthy (shown self.entry) }
     {

@@ -16,7 +16,7 @@ use crate::comparison::are_text;
 use crate::context::Context;
 use crate::flag::view_sets_flag;
 use crate::piece::Piece;
-use crate::place::Place;
+use crate::place::ContextSite;
 use crate::profile::{are_in_profile, pieces_allowed};
 use crate::reader::read;
 use crate::value::{expression_value, joined};
@@ -24,7 +24,7 @@ use std::alloc::Global;
 use std::marker::Model;
 use wf_value::{Code, Refusal, Scalar, Sequence, TryCopy};
 
-/// A text with pieces `${{ .. }}`. A contract sees the list of its pieces.
+/// A text with pieces `${{ .. }}`. In contracts it is the list of its pieces.
 #[derive(Drop)]
 pub struct Template {
     pieces: Sequence<Piece>,
@@ -40,9 +40,9 @@ impl Model for Template {
 }
 
 impl Template {
-    /// The template that a text spells: 17 where it spells none, else 18 where a reference's context
-    /// is not allowed in the place, and 50 where memory was refused.
-    pub fn parse(alloc: Global, text: &str, place: Place) -> Result<Template, Refusal>
+    /// Parses a text. The `Err` is 17 if the text is not a template, else 18 if the place does not allow the context of a
+    /// reference, and 50 when out of memory.
+    pub fn parse(alloc: Global, text: &str, place: ContextSite) -> Result<Template, Refusal>
         ensures exact { Gives (λ p. p) result (template_of text.now place) }
         ensures grammar { (outcome : Result (List Piece) Refusal) → IsOutcome text.now place outcome → Gives (λ p. p) result outcome }
         ensures ok { IfOk result (λ t. Spells text.now t × AllowedIn place t) }
@@ -59,7 +59,7 @@ impl Template {
         self.pieces.as_slice()
     }
 
-    /// The value of the template in the context. Its `Err` is 50 alone.
+    /// The value of the template in the context. Its only `Err` is 50 (out of memory).
     pub fn eval<C: Context>(&self, alloc: Global, context: &C) -> Result<Scalar, Refusal>
         ensures { Gives (λ s. s) result (Ok (template_value (C.values context.now) self.now)) }
     {
@@ -69,14 +69,15 @@ impl Template {
         }
     }
 
-    /// Whether the text of the template's value in the context is this text. It takes no memory.
+    /// Whether the text of the template's value in the context equals `text`. It takes no memory.
     pub fn is_text<C: Context>(&self, context: &C, text: &[u8]) -> bool
         ensures { IsTrue result ↔ (scalar_text (template_value (C.values context.now) self.now) ≡ text.now) }
     {
         are_text(self.pieces(), context, text, Case::Sensitive)
     }
 
-    /// Whether it is this text, whatever the case of ASCII letters, as labels are compared. It takes no memory.
+    /// Whether the text of the template's value in the context equals `text` up to ASCII case, as labels compare. It takes no
+    /// memory.
     pub fn is_text_ignoring_ascii_case<C: Context>(&self, context: &C, text: &[u8]) -> bool
         ensures { IsTrue result ↔
             (lowered (scalar_text (template_value (C.values context.now) self.now)) ≡ lowered text.now) }
@@ -84,8 +85,8 @@ impl Template {
         are_text(self.pieces(), context, text, Case::Insensitive)
     }
 
-    /// Whether the template's value in the context sets a flag: whether it is the truth value true or the
-    /// text `true`. It takes no memory.
+    /// Whether the template's value in the context sets a flag, that is, whether it is the boolean true or the text `true`. It
+    /// takes no memory.
     pub fn sets_flag<C: Context>(&self, context: &C) -> bool
         ensures set { IsTrue result ↔ SetsFlag (template_value (C.values context.now) self.now) }
         ensures test { result ≡ sets_flag (template_value (C.values context.now) self.now) }
@@ -107,7 +108,7 @@ impl TryCopy for Template {
     }
 }
 
-fn parsed(alloc: Global, text: &str, place: Place) -> Result<Template, Refusal>
+fn parsed(alloc: Global, text: &str, place: ContextSite) -> Result<Template, Refusal>
     ensures { Gives (λ p. p) result (template_of text.now place) }
 {
     let pieces = read(alloc, text)?;

@@ -5,7 +5,7 @@ use crate::bound::BoundPiece;
 use crate::results::NeedResults;
 use std::marker::Model;
 
-/// The bytes that are still to be read of a bound template's text, by the results of needs. A contract sees the list of them.
+/// The unread bytes of a bound template's text for the given results. In contracts it is the list of them.
 #[derive(Drop)]
 pub(crate) struct Unread<'a, R: NeedResults> {
     text: &'a [u8],
@@ -23,7 +23,7 @@ impl<'a, R: NeedResults> Model for Unread<'a, R> {
 }
 
 impl<'a, R: NeedResults> Unread<'a, R> {
-    /// A text, and behind it that of the pieces.
+    /// The bytes of a text, followed by those of the pieces.
     pub fn new(text: &'a [u8], pieces: &'a [BoundPiece], results: &'a R) -> Self
         ensures { result ≡ text.now ++ bound_text (R.result_of results.now) pieces.now }
     {
@@ -53,7 +53,7 @@ impl<'a, R: NeedResults> Unread<'a, R> {
     }
 }
 
-/// Whether both have the same bytes left.
+/// Whether both have the same unread bytes.
 pub(crate) fn are_same<R: NeedResults, S: NeedResults>(
     mut one: Unread<'_, R>,
     mut other: Unread<'_, S>,

@@ -12,7 +12,7 @@ use itoa::Buffer;
 use std::alloc::Global;
 use wf_value::{Chars, Refusal};
 
-/// The value of an operand; of a path that the context has no value for, the empty text.
+/// The value of an operand. A path without a value in the context gives the empty text.
 pub(crate) fn operand_value<'a, C: Context>(operand: &'a Operand, context: &'a C) -> ScalarView<'a>
     ensures { shown result ≡ operand_value (C.values context.now) operand.now }
 {
@@ -25,7 +25,7 @@ pub(crate) fn operand_value<'a, C: Context>(operand: &'a Operand, context: &'a C
     }
 }
 
-/// The first true value of the operands, else the last.
+/// The first truthy value of the operands, else the last one.
 pub(crate) fn expression_value<'a, C: Context>(
     operands: &'a [Operand],
     context: &'a C,
@@ -42,7 +42,7 @@ pub(crate) fn expression_value<'a, C: Context>(
     last
 }
 
-/// Adds the text of a scalar.
+/// Appends the text of a scalar.
 fn push_scalar(text: &mut String, value: ScalarView<'_>) -> Result<(), Refusal>
     ensures ok { OnOk result (string_bytes text.new ≡ string_bytes text.old ++ scalar_text (shown value.entry)) }
     ensures memory { IfErr result (λ e. e ≡ no_memory) }
@@ -57,7 +57,7 @@ fn push_scalar(text: &mut String, value: ScalarView<'_>) -> Result<(), Refusal>
     Ok(())
 }
 
-/// Adds the text of a piece.
+/// Appends the text of a piece.
 pub(crate) fn push_piece<C: Context>(
     text: &mut String,
     piece: &Piece,
@@ -78,7 +78,7 @@ pub(crate) fn push_piece<C: Context>(
     }
 }
 
-/// The text of the pieces, one after another.
+/// The concatenated texts of the pieces.
 pub(crate) fn joined<C: Context>(
     alloc: Global,
     pieces: &[Piece],

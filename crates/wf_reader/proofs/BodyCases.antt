@@ -1,4 +1,4 @@
--- What is wrong with the text of a body.
+-- The faults of the text of a body.
 use Rattle.std.proofs.Common.{◌≡◌, ℕ, ◌≤◌, List, [], length, Bool, true, false, nat_le, Option, Some, None, unwrap_or}
 use Rattle.std.proofs.Common.{if◌then◌else◌, Ok, Err, IsUtf8, refl, ap, arith}
 use Rattle.std.specs.Str.{is_utf8}
@@ -37,7 +37,7 @@ inside check of true None v h = absurd cc
 inside check of true (Some d) v h = let same : v ≡ d = cc in ap (λ w. unless_faulty (check w) (of w)) same
 inside check of false o v h = absurd cc
 
--- where the body has a value, what is wrong with it is what is wrong inside the value
+-- if the body has a value, its faults are those inside the value
 pub inside_body : {X : Type 0} (check : Data → List Refusal) (of : Data → X) (bytes : List ℕ) (v : Data)
     → unless_faulty (body_faults (λ _. []) bytes) (body_value bytes) ≡ Ok v → unless_faulty (check v) (of v) ≡ unless_faulty
     (body_faults check bytes) (of (body_value bytes))

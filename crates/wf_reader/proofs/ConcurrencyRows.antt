@@ -1,9 +1,9 @@
--- Values of `concurrency`, worked through: each list is all that is wrong, in the order of the checks.
+-- Examples of `concurrency`, computed from the definitions: each list has all faults, in the order of the checks.
 use Rattle.std.proofs.Common.{◌≡◌, [], ◌∷◌, true, false, codes, refl}
 use Rattle.wf_value.specs.declared.code.Code.TheVariants.{Expression, PlaceOfContext, WrongKind}
 use Rattle.wf_expr.specs.declared.piece.Operand.TheVariants.{Reference}
 use Rattle.wf_expr.specs.declared.piece.Piece.TheVariants.{Plain, Braced}
-use Rattle.wf_expr.specs.declared.place.Place.TheVariants as place
+use Rattle.wf_expr.specs.declared.place.ContextSite.TheVariants as place
 use Rattle.wf_reader.specs.Body.{body_value}
 use Rattle.wf_reader.specs.Concurrency.{concurrency_faults, concurrency_in}
 use Rattle.wf_reader.proofs.OnLiterals.{FaultsAre, wf_reader_on_literals}
@@ -18,7 +18,7 @@ of_jobs : FaultsAre (λ text. concurrency_faults place.Job (body_value text)) (
     ∷ (codes "{\"cancel-in-progress\":true}", WrongKind ∷ [])
     -- other member
     ∷ (codes "{\"group\":\"g\",\"queue\":1}", WrongKind ∷ [])
-    -- a kind comes before the template of the group, wherever it stands
+    -- a wrong kind comes before a fault in the group's template, wherever it is
     ∷ (codes "{\"group\":\"${{ x }}\",\"cancel-in-progress\":null}", WrongKind ∷ Expression ∷ WrongKind ∷ [])
     -- matrix of a job
     ∷ (codes "\"${{ matrix.os }}\"", [])

@@ -1,4 +1,4 @@
--- Needs and conditions of jobs, worked through.
+-- Examples of needs and conditions of jobs.
 use Rattle.std.proofs.Common.{◌≡◌, [], ◌∷◌, ◌++◌, false, codes, Some, None, refl}
 use Rattle.serde_json.specs.Data.{null, boolean, string}
 use Rattle.wf_value.specs.declared.code.Code.TheVariants.{WrongKind}
@@ -21,22 +21,22 @@ of_texts : ValuesAre (λ text. condition_in (string text)) (
     ∷ (codes "  always() ", Some Always)
     ∷ (codes " ${{  failure() }}  ", Some Failure)
     ∷ (codes "${{success()}}", Some Success)
-    -- a tab is no space
+    -- a tab is not a space
     ∷ (9 ∷ codes "always()", None)
     ∷ (codes "${{ always()" ++ 9 ∷ codes "}}", None)
     -- a space in a word
     ∷ (codes "success( )", None)
-    -- a space behind the mark
+    -- a space after the `!`
     ∷ (codes "! cancelled()", None)
-    -- a large letter
+    -- a capital letter
     ∷ (codes "Success()", None)
     -- nothing
     ∷ ([], None)
     -- empty braces
     ∷ (codes "${{ }}", None)
-    -- braces that share
+    -- braces that overlap
     ∷ (codes "${{}", None)
-    -- braces left open
+    -- unclosed braces
     ∷ (codes "${{ true", None)
     -- braces twice
     ∷ (codes "${{ ${{ true }} }}", None)
@@ -66,7 +66,7 @@ of_lists = refl
 faults_of_lists : FaultsAre (λ text. needs_faults (body_value text)) (
     (codes "[]", [])
     ∷ (codes "null", WrongKind ∷ [])
-    -- one for each that is no text
+    -- one fault for each value that is not a text
     ∷ (codes "[\"a\",1,[]]", WrongKind ∷ WrongKind ∷ [])
     ∷ [])
 unfolding wf_reader_on_literals

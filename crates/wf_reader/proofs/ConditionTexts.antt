@@ -1,4 +1,4 @@
--- What is read of a condition's text is what the text spells.
+-- The condition that is read from a text is the one that the text states.
 use Rattle.std.specs.Prelude.{◌≡◌, ◌⊎◌, ◌↔◌, ℕ, ◌-◌, List, [], ◌∷◌, ◌++◌, length, take, drop, reverse, find, codes}
 use Rattle.std.specs.Prelude.{Bool, true, false, if◌then◌else◌, Option, Some, None, option_map, option_and_then, unwrap_or, refl}
 use Rattle.std.specs.List.{AllByRecursion}
@@ -27,12 +27,12 @@ spaces_reversed [] all = tt
 spaces_reversed (b ∷ s) all =
     subst AreSpaces (sym (reverse_onto s b [])) (spaces_both (reverse s) (b ∷ []) (spaces_reversed s all.1) (all.0, tt))
 
--- spaces at the start are passed
+-- leading spaces are skipped
 past_front : (s x : List ℕ) → AreSpaces s → past_spaces (s ++ x) ≡ past_spaces x
 past_front [] x all = refl
 past_front (b ∷ s) x all = subst (λ c. past_spaces (c ∷ (s ++ x)) ≡ past_spaces x) (sym all.0) (past_front s x all.1)
 
--- and what was passed were spaces
+-- only spaces are skipped
 pub record Passed (text : List ℕ) : Type 0 where
   pub front : List ℕ
   pub spaces : AreSpaces front
@@ -50,7 +50,7 @@ passed (b ∷ bs) = passed_by b bs (is_space b) refl (passed bs)
 
 -- ---- trimming
 
--- neither begins nor ends with a space
+-- the text neither begins nor ends with a space
 record IsTight (inner : List ℕ) : Type 0 where
   first : (rest : List ℕ) → past_spaces (inner ++ rest) ≡ inner ++ rest
   last : past_spaces (reverse inner) ≡ reverse inner
@@ -108,7 +108,7 @@ braced_by text inner None is found = absurd cc
 braced_by text inner (Some rest) is found =
     behind_is (codes "${{") text rest is ∙ ap (λ r. codes "${{" ++ r) (before_is (codes "}}") rest inner found)
 
--- what is found inside braces stands in them
+-- text that is found inside braces is enclosed in them
 braced : (text inner : List ℕ) → inside_braces text ≡ Some inner → text ≡ in_braces inner
 braced text inner found = braced_by text inner (behind (codes "${{") text) refl found
 
@@ -122,7 +122,7 @@ before_end inner =
     ∙ ap (λ e. if bytes_eq e (codes "}}") then Some (take (length inner) text) else None) (drop-append_seam inner (codes "}}"))
     ∙ ap Some (take-append_seam inner (codes "}}"))
 
--- and what stands in braces is found there
+-- text that is enclosed in braces is found inside them
 inside_of : (inner : List ℕ) → inside_braces (in_braces inner) ≡ Some inner
 inside_of inner = before_end inner
 

@@ -1,4 +1,4 @@
--- Lists and objects as a `Value` has them: what they hold, one by one.
+-- The contents of lists and objects in a `Value`.
 use Rattle.std.proofs.Common.{◌≡◌, ℕ, ◌<◌, List, [], ◌∷◌, map, length, Bool, true, if◌then◌else◌, is_some, Option, Some, Result, Ok, Err}
 use Rattle.std.proofs.Common.{string_bytes, refl, sym, ap, ◌∙◌, arith}
 use Rattle.std.specs.List.{flat_map}
@@ -14,7 +14,7 @@ use Rattle.wf_reader.specs.Faults.{unless_faulty}
 use Rattle.wf_reader.specs.Json.{item_list, member_list, members_of}
 use Rattle.wf_reader.specs.MatrixValues.{items_of, each_of_some}
 
--- ---- what a value holds
+-- ---- the contents of a value
 
 pub array-of : (d : Data) (ds : Items) → Some ds ≡ as_array d → d ≡ array ds
 array-of null ds h = absurd cc
@@ -50,7 +50,7 @@ items_here d vs h = ap items_of (array-of d _ h) ∙ item_list-view vs
 pub members_here : (d : Data) (es : List Entry) → Some (members_view es) ≡ as_object d → members_of d ≡ map named es
 members_here d es h = ap members_of (object-of d _ h) ∙ member_list-named es
 
--- ---- what is wrong with each of them, and what they give
+-- ---- the faults and the values of the contents
 
 module _ {A X B : Type 0} (v : A → X) (check : X → List Refusal) (of : X → B) where
   pub whole_list : (xs : List A) → unless_faulty (flat_map (λ a. check (v a)) xs) (map (λ a. of (v a)) xs) ≡ unless_faulty
@@ -63,7 +63,7 @@ module _ {A X B : Type 0} (v : A → X) (check : X → List Refusal) (of : X →
   filled_list [] filled = absurd (omega arith)
   filled_list (a ∷ xs) filled = whole_list (a ∷ xs)
 
--- ---- another value beside the same faults
+-- ---- another value with the same faults
 
 pub made_with : {X Y : Type 0} (f : X → Y) (fs : List Refusal) (x v : X) → unless_faulty fs x ≡ Ok v → unless_faulty fs (f x) ≡ Ok (f v)
 made_with f [] x v h = let same : x ≡ v = cc in ap (λ y. Ok (f y)) same

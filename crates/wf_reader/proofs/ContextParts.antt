@@ -1,4 +1,4 @@
--- The contexts that are taken out of an envelope, one after another.
+-- Moving the contexts out of an envelope, one after another.
 use Rattle.std.proofs.Common.{◌≡◌, ℕ, List, [], ◌∷◌, Bool, true, false, true≢false, cond, Option, Some, option_map, is_eq, nat_cmp}
 use Rattle.std.proofs.Common.{bytes_eq}
 use Rattle.std.proofs.Common.{String, Global, string_bytes, codes, refl, sym, ap, ◌∙◌}
@@ -62,7 +62,7 @@ taken_in_turn es fs gs github inputs vars g without_github i without_inputs v =
     ∙ ap (objects (get_member (codes "github") (members_view es)) (get_member (codes "inputs") (members_view es))) (
     taken (codes "vars") gs vars v ∙ vars_stay ∙ inputs_stay (codes "vars") (apart (codes "vars") (codes "github") refl))
 
--- the workflow behind the three
+-- the workflow, after the three contexts are removed
 pub taken_behind : (es fs gs hs : List Entry) (workflow : Option Value)
     → fs ≡ remove_entry (is_name (codes "github")) es → gs ≡ remove_entry (is_name (codes "inputs")) fs
     → hs ≡ remove_entry (is_name (codes "vars")) gs → workflow ≡ lookup (is_name (codes "workflow")) hs

@@ -1,4 +1,4 @@
--- The entries of a `Map`: their names stand in order, and one turn of a loop over those that are kept.
+-- The entries of a `Map`: their names are ordered, and one iteration of a loop over some of them.
 use Rattle.std.proofs.Common.{◌≡◌, ℕ, List, [], ◌∷◌, ◌++◌, map, Bool, true, false, cond, Result, Ok, Err}
 use Rattle.std.proofs.Common.{string_bytes, Less, IsTrue, String, Global, refl, sym, ap, ◌∙◌, subst, append-nil}
 use Rattle.std.specs.Prelude.{string_cmp}
@@ -17,7 +17,7 @@ use Rattle.wf_value.specs.declared.refusal.Refusal.{Refusal}
 use Rattle.wf_reader.specs.Faults.{unless_faulty}
 use Rattle.wf_reader.proofs.InTurn.{first_of_rest, none_of_first, one_more, same_value}
 
--- ---- names in order give what is made of them in order
+-- ---- ordered names give ordered results
 
 pub rises-sorted : {B : Type 0} (name : B → List ℕ) (f : Entry → B) → ((e : Entry) → name (f e) ≡ string_bytes e.0) → (es : List Entry)
     → IsStrictlySortedBy string_cmp (keys_of es) → IsTrue (rises_by name (map f es))
@@ -28,7 +28,7 @@ rises-sorted name f named (e ∷ g ∷ es) h =
     let below : slice_cmp nat_cmp (string_bytes e.0) (string_bytes g.0) ≡ Less = h.0.0 in
     rw (named e, named g, below) (rises-sorted name f named (g ∷ es) h.1)
 
--- ---- entries that are kept by their names
+-- ---- entries that are selected by name
 
 module _ (keep : List ℕ → Bool) where
   abbrev pub kept : List Entry → List Entry
@@ -53,7 +53,7 @@ module _ (keep : List ℕ → Bool) where
   kept_here rest more e name is named test =
       ap kept is ∙ ap (λ n. cond (keep n) (e ∷ kept more) (kept more)) (sym named) ∙ ap (λ b. cond b (e ∷ kept more) (kept more)) (sym test)
 
--- ---- one turn, of a name and its value: what is wrong with them, and what they spell
+-- ---- one iteration, with a name and its value: their faults and their result
 
 module _ {B : Type 0} (check : List ℕ × Data → List Refusal) (of : List ℕ × Data → B) where
   abbrev faults_at : Entry → List Refusal
@@ -62,7 +62,7 @@ module _ {B : Type 0} (check : List ℕ × Data → List Refusal) (of : List ℕ
   abbrev made_of : Entry → B
   made_of e = of (string_bytes e.0, view e.1)
 
-  -- what was read of a member, by its name in bytes
+  -- the result of reading a member with this name, in bytes
   abbrev Reads : List ℕ → Value → Result B Refusal → Type 0
   Reads name v r = unless_faulty (check (name, view v)) (of (name, view v)) ≡ r
 
@@ -89,6 +89,6 @@ module _ {B : Type 0} (check : List ℕ × Data → List Refusal) (of : List ℕ
       ap (λ bs. bs ++ map made_of more) pushed
       ∙ one_more made_of es rest more done e b so_far is (same_value (faults_at e) (made_of e) b (of_entry name e (Ok b) named h))
 
-  -- at the end none is left
+  -- at the end nothing remains
   pub all_done : (es rest : List Entry) (done : List B) → done ++ map made_of rest ≡ map made_of es → rest ≡ [] → done ≡ map made_of es
   all_done es rest done so_far is = sym (append-nil done) ∙ ap (λ r. done ++ map made_of r) (sym is) ∙ so_far

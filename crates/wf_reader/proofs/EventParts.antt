@@ -1,4 +1,4 @@
--- An envelope past its two texts, and an event from its parts.
+-- An envelope after its two texts, and an event from its parts.
 use Rattle.std.proofs.Common.{◌≡◌, ℕ, List, [], ◌++◌, true, is_some, Option, Result, Ok, unwrap_or, ap, ◌∙◌, subst, codes}
 use Rattle.serde_json.specs.Data.{Data, null}
 use Rattle.serde_json.specs.Find.{get, as_object}
@@ -39,7 +39,7 @@ event_made d repo path c w p q r t =
     ∙ ap (λ x. event_with repo path x (workflow_in (member_at (codes "workflow") d))) r
     ∙ ap (event_with repo path c) t
 
--- what was read of the workflow that was taken out
+-- the result of reading the workflow that is moved out
 pub of_given : (given held : Option Data) (r : Result Workflow Refusal) → given ≡ held
     → unless_faulty (required WrongKind workflow_faults_in given) (workflow_in (unwrap_or given null)) ≡ r
     → unless_faulty (required WrongKind workflow_faults_in held) (workflow_in (unwrap_or held null)) ≡ r

@@ -1,4 +1,4 @@
--- The first fault of lists of faults, part by part.
+-- The first fault of concatenated lists of faults.
 use Rattle.std.proofs.Common.{◌≡◌, List, [], ◌∷◌, ◌++◌, map, Result, Ok, Err, refl, sym, ap, ◌∙◌, append_assoc}
 use Rattle.std.specs.Prelude.{IsErrAnd}
 use Rattle.std.specs.List.{flat_map}
@@ -11,7 +11,7 @@ pub first_decides : {X Y : Type 0} (fs gs : List Refusal) (x : X) (y : Y) (e : R
 first_decides [] gs x y e h = absurd cc
 first_decides (f ∷ fs) gs x y e h = cc
 
--- a part that gave a value has none
+-- a part that gives a value has no faults
 pub no_fault : {X : Type 0} (fs : List Refusal) (x v : X) → unless_faulty fs x ≡ Ok v → fs ≡ []
 no_fault [] x v h = refl
 no_fault (f ∷ fs) x v h = absurd cc
@@ -20,18 +20,18 @@ pub same_value : {X : Type 0} (fs : List Refusal) (x v : X) → unless_faulty fs
 same_value [] x v h = cc
 same_value (f ∷ fs) x v h = absurd cc
 
--- and one without lets the later ones decide
+-- after a part without faults, the later parts decide
 pub skip : {X Y : Type 0} (fs gs : List Refusal) (x v : X) (y : Y) (r : Result Y Refusal) → unless_faulty fs x ≡ Ok v
     → unless_faulty gs y ≡ r → unless_faulty (fs ++ gs) y ≡ r
 skip fs gs x v y r h later = ap (λ hs. unless_faulty (hs ++ gs) y) (no_fault fs x v h) ∙ later
 
--- checks that come in two parts
+-- checks in two parts
 pub of_both : (first later : List (List Refusal)) → in_turn (first ++ later) ≡ in_turn first ++ in_turn later
 of_both [] later = refl
 of_both (check ∷ first) later =
     ap (λ fs. check ++ fs) (of_both first later) ∙ sym (append_assoc check (in_turn first) (in_turn later))
 
--- of the checks of a list, where those of `rest` are left
+-- an element with a fault decides, if the elements before it have none
 pub first_of_rest : {A X Y : Type 0} (f : A → List Refusal) (all rest more : List A) (a : A) (x : X) (y : Y) (e : Refusal)
     → flat_map f all ≡ flat_map f rest → rest ≡ a ∷ more → unless_faulty (f a) x ≡ Err e
     → unless_faulty (flat_map f all) y ≡ Err e
@@ -42,7 +42,7 @@ pub none_of_first : {A X : Type 0} (f : A → List Refusal) (all rest more : Lis
     → flat_map f all ≡ flat_map f rest → rest ≡ a ∷ more → unless_faulty (f a) x ≡ Ok v → flat_map f all ≡ flat_map f more
 none_of_first f all rest more a x v left is h = left ∙ ap (flat_map f) is ∙ ap (λ fs. fs ++ flat_map f more) (no_fault (f a) x v h)
 
--- of what a list gives, where that of `rest` is still to come
+-- one more element of a mapped list
 pub one_more : {A B : Type 0} (g : A → B) (all rest more : List A) (done : List B) (a : A) (b : B)
     → done ++ map g rest ≡ map g all → rest ≡ a ∷ more → g a ≡ b → (done ++ b ∷ []) ++ map g more ≡ map g all
 one_more g all rest more done a b so_far is same =

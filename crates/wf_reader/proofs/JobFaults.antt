@@ -1,4 +1,4 @@
--- What is wrong inside a job decides where its id and its kind are right, part by part.
+-- If the id and the kind of a job are right, its faults are those of its parts.
 use Rattle.std.proofs.Common.{◌≡◌, ℕ, List, [], ◌∷◌, ◌++◌, true, if◌then◌else◌, is_some, Option, Result, codes, sym, ap, ◌∙◌}
 use Rattle.std.proofs.lemmas.List.{append-nil}
 use Rattle.serde_json.specs.Data.{Data}
@@ -22,7 +22,7 @@ pub inside_object : {X : Type 0} (inside : Data → List Refusal) (d : Data) (x 
     → true ≡ is_some (as_object d) → unless_faulty (inside d) x ≡ r → unless_faulty (faults_within inside d) x ≡ r
 inside_object inside d x r o h = ap (λ b. unless_faulty (if b then inside d else fault WrongKind) x) (sym o) ∙ h
 
--- the checks of a job, by its parts
+-- the checks of a job, by part
 abbrev by_parts : Data → List Refusal
 by_parts d = in_turn (left_out (get (codes "uses") d) ∷ start_faults d ∷ legs_faults d ∷ [])
 
@@ -36,7 +36,7 @@ within_job id d x r i o h =
     ap (λ b. unless_faulty (fault_unless b JobId ++ faults_within inside_job d) x) (sym i)
     ∙ inside_object inside_job d x r o (ap (λ fs. unless_faulty fs x) (parted d) ∙ h)
 
--- ---- a job and its parts, from what is in them
+-- ---- a job and its parts, from their contents
 
 abbrev start_with : List (List Piece) → List (List ℕ) → Condition → Start
 start_with labels needs condition = record { labels = labels; needs = needs; condition = condition }

@@ -1,4 +1,4 @@
--- The jobs of a workflow as a `Map` has them.
+-- The jobs of a workflow, from the entries of a `Map`.
 use Rattle.std.proofs.Common.{◌≡◌, ℕ, ◌<◌, ◌≤◌, List, [], ◌∷◌, map, length, true, false, nat_le, Option, Some, None}
 use Rattle.std.proofs.Common.{unwrap_or, option_and_then, Err, sym, ap, ◌∙◌, arith}
 use Rattle.std.specs.List.{flat_map}

@@ -10,7 +10,7 @@ use Rattle.wf_reader.specs.Json.{text_in}
 use Rattle.wf_reader.specs.Needs.{needs_faults, needs_in}
 use Rattle.wf_reader.proofs.Contents.{array-of, item_list-view, whole_list}
 
--- what the ids of a list are, read as the value of `needs`
+-- the ids of a list are those of the value of `needs`
 pub list_gives : (d : Data) (vs : List Value) → Some (items_view vs) ≡ as_array d
     → unless_faulty (flat_map (λ v. text_faults (view v)) vs) (map (λ v. text_in (view v)) vs) ≡ unless_faulty (needs_faults d)
     (needs_in d)

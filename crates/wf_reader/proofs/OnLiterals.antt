@@ -1,4 +1,4 @@
--- How rows are said, and what they unfold to compute what a body that is written out spells.
+-- How examples are stated, and what `refl` unfolds to compute the contents of a literal body.
 use Rattle.std.proofs.Common.{◌≡◌, ℕ, List, map}
 use Rattle.std.specs.Prelude.{⊤}
 use Rattle.std.specs.Str.{is_utf8, chars}
@@ -10,15 +10,15 @@ use lib.Utf8.{encode}
 use Rattle.wf_expr.specs.Letters.{begins_name, continues_name}
 use Rattle.wf_expr.specs.Reading.{run}
 
--- `unfolding wf_reader_on_literals` lets `refl` compute the event of a body
+-- with `unfolding wf_reader_on_literals`, `refl` computes the event of a body
 unfoldable pub wf_reader_on_literals : ⊤
 unfolding serde_json_on_literals is_utf8 chars encode run begins_name continues_name
 wf_reader_on_literals = tt
 
--- each row is what is asked about, and its value
+-- each row is an argument and its value
 abbrev pub ValuesAre : {X Y : Type 0} → (X → Y) → List (X × Y) → Type 0
 ValuesAre value rows = map (λ row. value row.0) rows ≡ map (λ row. row.1) rows
 
--- each row is a text, and all that is wrong with it in the order of the checks
+-- each row is a text and all its faults, in the order of the checks
 abbrev pub FaultsAre : (List ℕ → List Refusal) → List (List ℕ × List Code) → Type 0
 FaultsAre faults rows = map (λ row. faults row.0) rows ≡ map (λ row. map (λ code. Numbered code) row.1) rows

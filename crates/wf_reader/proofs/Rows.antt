@@ -1,4 +1,4 @@
--- The definitions, worked through on bodies: each list is all that is wrong, and its first is the refusal.
+-- Examples on bodies, computed from the definitions: each list has all faults, and the refusal is the first of them.
 use Rattle.std.proofs.Common.{◌≡◌, ℕ, List, [], ◌∷◌, ◌++◌, false, codes, None, Some, refl}
 use Rattle.std.specs.Prelude.{pos}
 use Rattle.serde_json.specs.Data.{unsigned, null, number, array, object, no_items, no_members, member}
@@ -17,15 +17,15 @@ use Rattle.wf_reader.specs.declared.job.Job.{Job}
 use Rattle.wf_reader.specs.declared.workflow.Workflow.{Workflow}
 use Rattle.wf_reader.proofs.OnLiterals.{FaultsAre, ValuesAre, wf_reader_on_literals}
 
--- each body of a workflow with all that is wrong with it
+-- workflow bodies with all their faults
 of_workflows : FaultsAre workflow_faults (
-    -- no UTF-8
+    -- not UTF-8
     (255 ∷ [], NotJson ∷ [])
-    -- no JSON
+    -- not JSON
     ∷ (codes "[", NotJson ∷ [])
     -- empty object
     ∷ (codes "{}", WrongKind ∷ [])
-    -- no object
+    -- not an object
     ∷ (codes "[1]", WrongKind ∷ [])
     -- no job
     ∷ (codes "{\"jobs\":{}}", WrongKind ∷ [])
@@ -33,11 +33,11 @@ of_workflows : FaultsAre workflow_faults (
     ∷ (codes "{\"name\":null,\"jobs\":{\"a\":{\"runs-on\":\"x\"}}}", WrongKind ∷ [])
     -- workflow concurrency
     ∷ (codes "{\"concurrency\":null,\"jobs\":{\"a\":{\"runs-on\":\"x\"}}}", WrongKind ∷ [])
-    -- id with a digit first
+    -- id that begins with a digit
     ∷ (codes "{\"jobs\":{\"1a\":{\"runs-on\":\"x\"}}}", JobId ∷ [])
-    -- id before its job
+    -- id comes before its job
     ∷ (codes "{\"jobs\":{\"1a\":{}}}", JobId ∷ NoLabels ∷ [])
-    -- no labels
+    -- missing labels
     ∷ (codes "{\"jobs\":{\"a\":{}}}", NoLabels ∷ [])
     -- empty labels
     ∷ (codes "{\"jobs\":{\"a\":{\"runs-on\":[]}}}", NoLabels ∷ [])
@@ -47,7 +47,7 @@ of_workflows : FaultsAre workflow_faults (
     ∷ (codes "{\"jobs\":{\"a\":{\"runs-on\":{}}}}", LeftOut ∷ [])
     -- label kind
     ∷ (codes "{\"jobs\":{\"a\":{\"runs-on\":[\"x\",{}]}}}", WrongKind ∷ [])
-    -- label by label
+    -- labels in order
     ∷ (codes "{\"jobs\":{\"a\":{\"runs-on\":[\"${{ x }}\",5]}}}", Expression ∷ WrongKind ∷ [])
     -- label outside the profile
     ∷ (codes "{\"jobs\":{\"a\":{\"runs-on\":\"a${{ secrets.x }}\"}}}", Expression ∷ [])
@@ -55,23 +55,23 @@ of_workflows : FaultsAre workflow_faults (
     ∷ (codes "{\"jobs\":{\"a\":{\"runs-on\":\"x\",\"continue-on-error\":null}}}", WrongKind ∷ [])
     -- flag expression
     ∷ (codes "{\"jobs\":{\"a\":{\"continue-on-error\":\"${{ a }}\",\"runs-on\":\"${{ }}\"}}}", Expression ∷ Expression ∷ [])
-    -- job by job
+    -- jobs in order
     ∷ (codes "{\"jobs\":{\"b\":{\"runs-on\":5},\"a\":{\"runs-on\":\"x\",\"needs\":5}}}", WrongKind ∷ WrongKind ∷ [])
-    -- members in turn
+    -- members in order
     ∷ (
       codes "{\"jobs\":{\"a\":{\"runs-on\":\"x\",\"strategy\":null,\"concurrency\":\"${{ a }}\"," ++ codes
           "\"continue-on-error\":5,\"if\":\"b\",\"needs\":[{}]}}}",
       WrongKind ∷ Condition ∷ WrongKind ∷ Expression ∷ StrategyMember ∷ [],
     )
-    -- read past
+    -- ignored members
     ∷ (codes "{\"on\":\"push\",\"env\":{},\"jobs\":{\"a\":{\"runs-on\":[\"x\",\"\"],\"steps\":[1],\"name\":5}}}", [])
     ∷ [])
 unfolding wf_reader_on_literals
 of_workflows = refl
 
--- each body of an event with all that is wrong with it
+-- event bodies with all their faults
 of_events : FaultsAre event_faults (
-    -- no envelope
+    -- missing envelope members
     (codes "{}", WrongKind ∷ WrongKind ∷ WrongKind ∷ [])
     -- empty repo
     ∷ (codes "{\"repo\":\"\",\"path\":\"p\",\"workflow\":{\"jobs\":{\"a\":{\"runs-on\":\"x\"}}}}", WrongKind ∷ [])
@@ -81,15 +81,15 @@ of_events : FaultsAre event_faults (
           "\"workflow\":{\"jobs\":{\"1a\":{\"runs-on\":\"x\"}}}}",
       WrongKind ∷ WrongKind ∷ JobId ∷ [],
     )
-    -- envelope first
+    -- envelope comes first
     ∷ (codes "{\"path\":\"p\",\"repo\":1,\"workflow\":{\"jobs\":{\"a\":{}}}}", WrongKind ∷ NoLabels ∷ [])
-    -- good
+    -- no fault
     ∷ (codes "{\"repo\":\"o/r\",\"path\":\"ci.json\",\"workflow\":{\"jobs\":{\"build\":{\"runs-on\":\"linux\"}}}}", [])
     ∷ [])
 unfolding wf_reader_on_literals
 of_events = refl
 
--- a job that has labels alone
+-- a job with labels only
 abbrev job_on : List ℕ → List (List Piece) → Job
 job_on id labels = record {
   id = id;
@@ -104,7 +104,7 @@ job_on id labels = record {
 abbrev workflow_with : List ℕ → List Job → Workflow
 workflow_with name jobs = record { name = name; concurrency = None; jobs = jobs }
 
--- the jobs in the order of their ids
+-- the jobs are in the order of their ids
 in_order : workflow_of (codes "{\"name\":\"n\",\"jobs\":{\"b\":{\"runs-on\":[\"linux\",\"x64\"]},\"a\":{\"runs-on\":\"y\"}}}")
     ≡ workflow_with (codes "n") (job_on (codes "a") ((Plain (codes "y") ∷ []) ∷ [])
     ∷ job_on (codes "b") ((Plain (codes "linux") ∷ []) ∷ (Plain (codes "x64") ∷ []) ∷ []) ∷ [])
@@ -145,11 +145,11 @@ of_paths : ValuesAre (sent_value sent) (
     (codes "github" ∷ codes "event" ∷ codes "n" ∷ [], Some (Whole (pos 7)))
     -- null is a value
     ∷ (codes "vars" ∷ codes "a" ∷ [], Some Null)
-    -- no value of a list
+    -- a list has no value
     ∷ (codes "vars" ∷ codes "b" ∷ [], None)
-    -- no value of an object
+    -- an object has no value
     ∷ (codes "github" ∷ codes "event" ∷ [], None)
-    -- no value of what is missing
+    -- a missing context has no value
     ∷ (codes "inputs" ∷ codes "a" ∷ [], None)
     ∷ [])
 of_paths = refl

@@ -27,7 +27,7 @@ faults-filled d (v ∷ vs) is h = ap labels_faults (array-of d _ is) ∙ flat_ma
 labels-list : (d : Data) (vs : List Value) → Some (items_view vs) ≡ as_array d → labels_asked d ≡ map (λ v. label_in (view v)) vs
 labels-list d vs is = ap labels_asked (array-of d _ is) ∙ map-items vs
 
--- what the labels of a list are, read as the value of `runs-on`
+-- the labels of a list are those of the value of `runs-on`
 pub list_gives : (d : Data) (vs ws : List Value) → Some (items_view vs) ≡ as_array d → ws ≡ vs → 0 < length ws
     → unless_faulty (flat_map (λ v. label_faults (view v)) ws) (map (λ v. label_in (view v)) ws) ≡ unless_faulty (labels_faults d)
     (labels_asked d)

@@ -26,13 +26,13 @@ pub in_strategy : {X : Type 0} (d : Data) (es : List Entry) (x : X) (r : Result 
     → unless_faulty (inside_strategy d) x ≡ r → unless_faulty (strategy_faults d) x ≡ r
 in_strategy d es x r is h = where_so (is_some (as_object d)) (inside_strategy d) (fault StrategyMember) x r (is_of-Some _ _ is) h
 
--- another name among those of the members
+-- a member with another name
 pub other_name : {X : Type 0} (d : Data) (es : List Entry) (gs : List Refusal) (x : X) → Some (members_view es) ≡ as_object d
     → false ≡ list_all (λ e. is_strategy_name (named e).0) es → unless_faulty (names_faults d ++ gs) x ≡ Err (Numbered StrategyMember)
 other_name d es gs x is other =
     ap (λ fs. unless_faulty (fs ++ gs) x) (names_named d es is ∙ ap (λ b. fault_unless b StrategyMember) (sym other))
 
--- its own names alone
+-- only known members
 pub its_names : {X : Type 0} (d : Data) (es : List Entry) (gs : List Refusal) (x : X) (r : Result X Refusal)
     → Some (members_view es) ≡ as_object d → true ≡ list_all (λ e. is_strategy_name (named e).0) es → unless_faulty gs x ≡ r
     → unless_faulty (names_faults d ++ gs) x ≡ r

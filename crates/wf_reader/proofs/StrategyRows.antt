@@ -1,4 +1,4 @@
--- Strategies of jobs, worked through: each list is all that is wrong, in the order of the checks.
+-- Examples of strategies, computed from the definitions: each list has all faults, in the order of the checks.
 use Rattle.std.proofs.Common.{◌≡◌, [], ◌∷◌, ◌++◌, true, codes, Some, refl}
 use Rattle.std.specs.Prelude.{pos, negsuc}
 use Rattle.wf_value.specs.declared.code.Code.TheVariants.{MatrixValue, EmptyList, StrategyMember}
@@ -8,17 +8,17 @@ use Rattle.wf_reader.specs.Strategy.{strategy_faults, strategy_of}
 use Rattle.wf_reader.proofs.OnLiterals.{FaultsAre, wf_reader_on_literals}
 
 of_strategies : FaultsAre (λ text. strategy_faults (body_value text)) (
-    -- no object
+    -- not an object
     (codes "null", StrategyMember ∷ [])
-    -- nothing asked
+    -- an empty object
     ∷ (codes "{}", [])
-    -- each check in turn
+    -- every check, in order
     ∷ (
       codes "{\"x\":1,\"matrix\":{\"n\":[],\"exclude\":5,\"include\":[{},5]}," ++ codes
           "\"max-parallel\":0,\"fail-fast\":null}",
       StrategyMember ∷ StrategyMember ∷ StrategyMember ∷ EmptyList ∷ MatrixValue ∷ MatrixValue ∷ EmptyList ∷ [],
     )
-    -- variables by name
+    -- variables in byte order
     ∷ (codes "{\"matrix\":{\"b\":[1,[],9223372036854775808],\"a\":[],\"B\":{}}}", MatrixValue ∷ EmptyList ∷ MatrixValue ∷ MatrixValue ∷ [])
     ∷ [])
 unfolding wf_reader_on_literals

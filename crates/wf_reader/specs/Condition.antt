@@ -1,6 +1,6 @@
--- The `if` of a job: which values and texts are a condition, and which one.
--- GitHub Docs, "Workflow syntax for GitHub Actions": jobs.<job_id>.if; "Evaluate expressions in workflows and actions":
--- Status check functions. That no other expression is one is own.
+-- The `if` of a job: the values and texts that are conditions. That no other expression is a condition is defined by this project.
+-- GitHub Docs, "Workflow syntax for GitHub Actions": jobs.<job_id>.if; "Evaluate expressions in workflows and actions": Status
+-- check functions.
 use Rattle.std.specs.Prelude.{ℕ, ◌-◌, ◌==◌, List, [], ◌∷◌, length, take, drop, reverse, find, codes, Bool, is_some}
 use Rattle.std.specs.Prelude.{if◌then◌else◌, Option, Some, None, option_map, option_and_then, unwrap_or}
 use Rattle.std.specs.Str.{bytes_eq}
@@ -11,7 +11,7 @@ use Rattle.wf_value.specs.declared.condition.Condition.TheVariants.{Success, Fai
 use Rattle.wf_value.specs.declared.refusal.Refusal.{Refusal}
 use Rattle.wf_reader.specs.Faults.{fault_unless}
 
--- ---- the words, and what each says
+-- ---- the words and their conditions
 
 abbrev pub condition_words : List (List ℕ × Condition)
 condition_words =
@@ -25,25 +25,25 @@ condition_words =
 abbrev pub condition_of_word : List ℕ → Option Condition
 condition_of_word word = option_map (λ w. w.1) (find (λ w. bytes_eq word w.0) condition_words)
 
--- ---- what may stand around a word: spaces, and `${{` and `}}`
+-- ---- optional spaces and braces around a word
 
--- a space is U+0020 alone
+-- only U+0020 is a space
 abbrev pub is_space : ℕ → Bool
 is_space b = b == 32
 
--- without the spaces at its start
+-- without leading spaces
 abbrev pub past_spaces : List ℕ → List ℕ
 past_spaces [] = []
 past_spaces (b ∷ bs) = if is_space b then past_spaces bs else b ∷ bs
 
--- without the spaces at its end
+-- without trailing spaces
 abbrev pub up_to_spaces : List ℕ → List ℕ
 up_to_spaces text = reverse (past_spaces (reverse text))
 
 abbrev pub trimmed : List ℕ → List ℕ
 trimmed text = up_to_spaces (past_spaces text)
 
--- what follows a front, and what an end follows
+-- the text after a prefix, and the text before a suffix
 abbrev pub behind : List ℕ → List ℕ → Option (List ℕ)
 behind front text = if bytes_eq (take (length front) text) front then Some (drop (length front) text) else None
 
@@ -54,11 +54,11 @@ before end text =
 abbrev pub inside_braces : List ℕ → Option (List ℕ)
 inside_braces text = option_and_then (before (codes "}}")) (behind (codes "${{") text)
 
--- the word of a text: bare, or in braces
+-- the word of a text, bare or in braces
 abbrev pub word_in : List ℕ → List ℕ
 word_in text = unwrap_or (option_map trimmed (inside_braces (trimmed text))) (trimmed text)
 
--- ---- the condition of a value, of a truth value too
+-- ---- the condition of a text or a boolean
 
 abbrev pub condition_in : Data → Option Condition
 condition_in null = None
@@ -71,6 +71,6 @@ condition_in (object ms) = None
 abbrev pub condition_faults : Data → List Refusal
 condition_faults d = fault_unless (is_some (condition_in d)) code.Condition
 
--- a job without `if` runs where what it needs has succeeded
+-- a job without `if` runs if the jobs that it needs succeeded
 abbrev pub condition_where : Option Data → Condition
 condition_where given = unwrap_or (option_and_then condition_in given) Success

@@ -1,5 +1,6 @@
--- The body of an event: an envelope of the repository, the workflow's path, three contexts and the workflow (own).
--- GitHub Docs, "Contexts": github, inputs, vars. Other members are read past.
+-- The body of an event: an envelope with the repository, the workflow's path, three contexts and the workflow. Other members are
+-- ignored. The envelope is defined by this project.
+-- GitHub Docs, "Contexts": github, inputs, vars.
 use Rattle.std.specs.Prelude.{ℕ, List, [], ◌∷◌, length, nat_lt, codes, flat_map}
 use Rattle.serde_json.specs.Data.{Data}
 use Rattle.serde_json.specs.Find.{get}
@@ -15,7 +16,7 @@ use Rattle.wf_reader.specs.declared.event.Event.{Event}
 abbrev pub filled_text_faults : Data → List Refusal
 filled_text_faults d = fault_unless (nat_lt 0 (length (text_in d))) WrongKind
 
--- each an object where it is there, in this order
+-- each is an object if it is present; they are checked in this order
 abbrev pub contexts_faults : Data → List Refusal
 contexts_faults d = flat_map (λ name. optional object_faults (get name d)) (codes "github" ∷ codes "inputs" ∷ codes "vars" ∷ [])
 
@@ -36,7 +37,7 @@ event_in d = record {
   workflow = workflow_in (member_at (codes "workflow") d);
 }
 
--- what is wrong with a body that is an event, and the event that it spells where nothing is
+-- the faults of a body as an event, and its event if there are none
 abbrev pub event_faults : List ℕ → List Refusal
 event_faults bytes = body_faults event_faults_in bytes
 

@@ -1,6 +1,6 @@
--- A job of a workflow: what is wrong with it, and the job that it spells.
+-- A job of a workflow: its faults and its value. `Needs`, `Condition`, `Concurrency` and `Strategy` define its needs, if,
+-- concurrency and strategy.
 -- GitHub Docs, "Workflow syntax for GitHub Actions": jobs.<job_id>, its runs-on and its continue-on-error.
--- `Needs`, `Condition`, `Concurrency` and `Strategy` have its needs, its if, its concurrency and its strategy.
 use Rattle.std.specs.Prelude.{ℕ, List, [], ◌∷◌, ◌++◌, length, Bool, false, ◌&&◌, ◌||◌, ◌==◌, nat_le, codes, map, flat_map, option_map}
 use Rattle.std.specs.Char.{is_ascii_alphabetic, is_ascii_digit}
 use Rattle.std.specs.List.{list_all}
@@ -9,7 +9,7 @@ use Rattle.serde_json.specs.Find.{get}
 use Rattle.wf_value.specs.declared.code.Code.TheVariants.{WrongKind, JobId, NoLabels, LeftOut}
 use Rattle.wf_value.specs.declared.refusal.Refusal.{Refusal}
 use Rattle.wf_expr.specs.declared.piece.Piece.{Piece}
-use Rattle.wf_expr.specs.declared.place.Place.TheVariants as place
+use Rattle.wf_expr.specs.declared.place.ContextSite.TheVariants as place
 use Rattle.wf_reader.specs.Concurrency.{concurrency_faults, concurrency_in}
 use Rattle.wf_reader.specs.Condition.{condition_faults, condition_where}
 use Rattle.wf_reader.specs.Faults.{fault, fault_unless, in_turn, optional, required, left_out, faults_within}
@@ -20,7 +20,7 @@ use Rattle.wf_reader.specs.Strategy.{strategy_faults, strategy_of}
 use Rattle.wf_reader.specs.Templates.{template_faults, template_in}
 use Rattle.wf_reader.specs.declared.job.Job.{Job}
 
--- ---- jobs.<job_id>: a letter or `_` first, then these, digits and `-`; at most 100 bytes (own)
+-- ---- jobs.<job_id>: a letter or `_`, then letters, digits, `-` and `_`; the limit of 100 bytes is defined by this project
 
 abbrev pub is_id_start : ℕ → Bool
 is_id_start b = is_ascii_alphabetic b || b == 95
@@ -32,7 +32,7 @@ abbrev pub is_job_id : List ℕ → Bool
 is_job_id [] = false
 is_job_id (b ∷ bs) = is_id_start b && list_all is_id_part bs && nat_le (length (b ∷ bs)) 100
 
--- ---- runs-on: a text, or a list of texts, and each a template
+-- ---- runs-on: a text, or a list of texts, each of them a template
 
 abbrev pub label_faults : Data → List Refusal
 label_faults null = fault WrongKind
@@ -42,7 +42,7 @@ label_faults (string t) = template_faults place.Job t
 label_faults (array ds) = fault WrongKind
 label_faults (object ms) = fault WrongKind
 
--- an object asks for a runner group, which is left out
+-- an object names a runner group, which is not supported
 abbrev pub labels_faults : Data → List Refusal
 labels_faults null = fault WrongKind
 labels_faults (boolean b) = fault WrongKind
@@ -69,7 +69,7 @@ inside_job d = in_turn (left_out (get (codes "uses") d)
     ∷ optional (concurrency_faults place.Job) (get (codes "concurrency") d)
     ∷ optional strategy_faults (get (codes "strategy") d) ∷ [])
 
--- of an id and its value
+-- a job is an id and a value
 abbrev pub job_faults : List ℕ × Data → List Refusal
 job_faults job = fault_unless (is_job_id job.0) JobId ++ faults_within inside_job job.1
 

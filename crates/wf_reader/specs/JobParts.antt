@@ -1,10 +1,10 @@
--- The two parts of a job that are read after its id and its kind: what is wrong with each, and what it spells.
+-- The two parts of a job that are read after its id and its kind: the faults and the value of each.
 use Rattle.std.specs.Prelude.{[], ◌∷◌, codes, List, option_map}
 use Rattle.serde_json.specs.Data.{Data}
 use Rattle.serde_json.specs.Find.{get}
 use Rattle.wf_value.specs.declared.code.Code.TheVariants.{NoLabels}
 use Rattle.wf_value.specs.declared.refusal.Refusal.{Refusal}
-use Rattle.wf_expr.specs.declared.place.Place.TheVariants as place
+use Rattle.wf_expr.specs.declared.place.ContextSite.TheVariants as place
 use Rattle.wf_reader.specs.Concurrency.{concurrency_faults, concurrency_in}
 use Rattle.wf_reader.specs.Condition.{condition_faults, condition_where}
 use Rattle.wf_reader.specs.Faults.{in_turn, optional, required}
@@ -16,7 +16,7 @@ use Rattle.wf_reader.specs.Strategy.{strategy_faults, strategy_of}
 use Rattle.wf_reader.specs.declared.job.Legs.{Legs}
 use Rattle.wf_reader.specs.declared.job.Start.{Start}
 
--- ---- where it runs and when it starts: its runs-on, its needs and its if
+-- ---- where the job runs and when it starts: its runs-on, needs and if
 
 abbrev pub start_checks : Data → List (List Refusal)
 start_checks d = required NoLabels labels_faults (get (codes "runs-on") d)
@@ -33,7 +33,7 @@ start_of d = record {
   condition = condition_where (get (codes "if") d);
 }
 
--- ---- how its legs run: its continue-on-error, its concurrency and its strategy
+-- ---- how its legs run: its continue-on-error, concurrency and strategy
 
 abbrev pub legs_checks : Data → List (List Refusal)
 legs_checks d = optional (flag_faults place.Job) (get (codes "continue-on-error") d)

@@ -1,5 +1,5 @@
--- What a value that `serde_json` reads holds, as lists. RFC 8259, sections 4, 5 and 7.
--- An object has each name once, in the order of the names' bytes.
+-- The contents of a value that `serde_json` reads, as lists. RFC 8259, sections 4, 5 and 7. An object has each name once, in byte
+-- order of the names.
 use Rattle.std.specs.Prelude.{ℕ, List, [], ◌∷◌, unwrap_or, Option, Some, None, option_map}
 use Rattle.serde_json.specs.Data.{Data, null, boolean, number, string, array, object, Items, no_items, item, Members, no_members, member}
 use Rattle.serde_json.specs.Find.{get, as_i64, as_str, as_object}
@@ -14,19 +14,19 @@ abbrev pub member_list : Members → List (List ℕ × Data)
 member_list no_members = []
 member_list (member k d ms) = (k, d) ∷ member_list ms
 
--- the text of a value, and the empty one where it is no text
+-- the text of a value; empty if it is not a text
 abbrev pub text_in : Data → List ℕ
 text_in d = unwrap_or (as_str d) []
 
--- the members of a value, and none where it is no object
+-- the members of a value; empty if it is not an object
 abbrev pub members_of : Data → List (List ℕ × Data)
 members_of d = member_list (unwrap_or (as_object d) no_members)
 
--- the value of a member, and null where there is none
+-- the value of a member; null if it is missing
 abbrev pub member_at : List ℕ → Data → Data
 member_at name d = unwrap_or (get name d) null
 
--- the scalar that a value is: null, a truth value, a signed whole number of 64 bits or a text
+-- the scalar that a value is: null, a boolean, a signed 64-bit integer or a text
 abbrev pub scalar_in : Data → Option Scalar
 scalar_in null = Some Null
 scalar_in (boolean b) = Some (Truth b)
@@ -35,7 +35,7 @@ scalar_in (string t) = Some (Text t)
 scalar_in (array ds) = None
 scalar_in (object ms) = None
 
--- the values of a list, and a text alone as a list of one
+-- the values of a list; a text on its own is a list of one
 abbrev pub listed : Data → List Data
 listed null = []
 listed (boolean b) = []

@@ -1,4 +1,4 @@
--- JSON values as values that a proof can tell apart: each is stored as the steps that build it on a stack.
+-- Encodings of JSON values, with which proofs decide equality. A value is encoded as the steps that build it on a stack.
 use Rattle.std.specs.Prelude.{◌≡◌, ◌⊎◌, ℕ, zero, suc, ℤ, List, [], ◌∷◌, ◌++◌, Bool, Option, Some, None, refl}
 use Rattle.std.specs.Float.{Float}
 use Rattle.std.specs.Coded.{Coded, code_by, coded_ℕ, coded_ℤ, coded_bool, coded_list, coded⊎, coded_option}
@@ -32,8 +32,7 @@ coded_number = code_by HeldNumber (coded⊎ coded_ℕ (coded⊎ coded_ℤ coded_
 
 -- ---- steps
 
--- lays a value on the stack, an empty list or object among them, or puts the top value into the list or
--- object below it
+-- a step pushes a value, possibly an empty list or object, or moves the top value into the list or object below it
 pub data Step : Type 0 where
   lay_null : Step
   lay_boolean : Bool → Step
@@ -104,7 +103,7 @@ abbrev mutual
   member_steps no_members = lay_object ∷ []
   member_steps (member k d ms) = member_steps ms ++ (steps_of d ++ put_member k ∷ [])
 
--- the stack with its top value put into the one below
+-- the stack with its top value moved into the one below
 abbrev with_item : List Data → List Data
 with_item (d ∷ array ds ∷ more) = array (item d ds) ∷ more
 with_item stack = stack

@@ -1,5 +1,4 @@
--- A matrix: what is wrong with it, and the matrix that it spells.
--- GitHub Docs, "Workflow syntax for GitHub Actions": jobs.<job_id>.strategy.matrix.
+-- A matrix: its faults and its value. GitHub Docs, "Workflow syntax for GitHub Actions": jobs.<job_id>.strategy.matrix.
 use Rattle.std.specs.Prelude.{ℕ, List, [], ◌∷◌, Bool, not, ◌||◌, is_some, if◌then◌else◌, map, flat_map, codes}
 use Rattle.std.specs.List.{filter}
 use Rattle.std.specs.Str.{bytes_eq}
@@ -13,7 +12,7 @@ use Rattle.wf_reader.specs.Json.{members_of, member_at}
 use Rattle.wf_reader.specs.MatrixValues.{items_of, value_faults, scalar_or_null, each_of_some}
 use Rattle.wf_reader.specs.Patterns.{patterns_faults, patterns_of}
 
--- ---- the variables: all members but two, in the order of the bytes of their names
+-- ---- the variables: all members except include and exclude, in byte order of their names
 
 abbrev pub is_variable_name : List ℕ → Bool
 is_variable_name name = not (bytes_eq name (codes "include") || bytes_eq name (codes "exclude"))
@@ -21,7 +20,7 @@ is_variable_name name = not (bytes_eq name (codes "include") || bytes_eq name (c
 abbrev pub variables_in : Data → List (List ℕ × Data)
 variables_in d = filter (λ m. is_variable_name m.0) (members_of d)
 
--- a list of values, one at least
+-- a non-empty list of values
 abbrev pub variable_faults : List ℕ × Data → List Refusal
 variable_faults m = if is_some (as_array m.1) then each_of_some value_faults (items_of m.1) else fault MatrixValue
 

@@ -1,4 +1,5 @@
--- The values of a matrix: null, truth values, texts, and numbers that `serde_json` gives as signed whole ones of 64 bits (own).
+-- The values of a matrix: null, booleans, texts, and numbers that `serde_json` reads as signed 64-bit integers. The restriction of
+-- the numbers is defined by this project.
 -- GitHub Docs, "Running variations of jobs in a workflow"; RFC 8259, section 3.
 use Rattle.std.specs.Prelude.{List, [], ◌∷◌, flat_map, unwrap_or, is_some}
 use Rattle.serde_json.specs.Data.{Data, no_items}
@@ -16,11 +17,11 @@ value_faults d = fault_unless (is_some (scalar_in d)) MatrixValue
 abbrev pub scalar_or_null : Data → Scalar
 scalar_or_null d = unwrap_or (scalar_in d) Null
 
--- the values in a list, and none where it is no list
+-- the values of a list; empty if it is not a list
 abbrev pub items_of : Data → List Data
 items_of d = item_list (unwrap_or (as_array d) no_items)
 
--- one at least, and what is wrong with each
+-- the list is not empty, followed by the faults of each value
 abbrev pub each_of_some : {X : Type 0} → (X → List Refusal) → List X → List Refusal
 each_of_some check [] = fault EmptyList
 each_of_some check (x ∷ xs) = flat_map check (x ∷ xs)

@@ -1,5 +1,4 @@
--- The `needs` of a job: the ids that it lists.
--- GitHub Docs, "Workflow syntax for GitHub Actions": jobs.<job_id>.needs.
+-- The `needs` of a job: the ids that it lists. GitHub Docs, "Workflow syntax for GitHub Actions": jobs.<job_id>.needs.
 use Rattle.std.specs.Prelude.{ℕ, List, [], map, flat_map}
 use Rattle.serde_json.specs.Data.{Data, null, boolean, number, string, array, object}
 use Rattle.wf_value.specs.declared.code.Code.TheVariants.{WrongKind}
@@ -16,6 +15,6 @@ needs_faults (string t) = []
 needs_faults (array ds) = flat_map text_faults (item_list ds)
 needs_faults (object ms) = fault WrongKind
 
--- as they stand: an id that repeats, and in the order of the list
+-- in list order, with repetitions
 abbrev pub needs_in : Data → List (List ℕ)
 needs_in d = map text_in (listed d)

@@ -1,4 +1,4 @@
--- The `include` and the `exclude` of a matrix: lists of objects of values. The list may be empty, an object may not.
+-- The `include` and the `exclude` of a matrix: lists of objects of values. A list may be empty, an object may not.
 -- GitHub Docs, "Workflow syntax for GitHub Actions": jobs.<job_id>.strategy.matrix.include and .exclude.
 use Rattle.std.specs.Prelude.{ℕ, List, is_some, if◌then◌else◌, map, flat_map}
 use Rattle.serde_json.specs.Data.{Data}

@@ -1,5 +1,5 @@
--- The `strategy` of a job: what is wrong with it, and the strategy that it spells.
--- GitHub Docs, "Workflow syntax for GitHub Actions": jobs.<job_id>.strategy, its fail-fast, its max-parallel.
+-- The `strategy` of a job: its faults and its value. GitHub Docs, "Workflow syntax for GitHub Actions": jobs.<job_id>.strategy, its
+-- fail-fast, its max-parallel.
 use Rattle.std.specs.Prelude.{ℕ, List, [], ◌∷◌, Bool, true, ◌&&◌, nat_le, is_some, if◌then◌else◌, codes}
 use Rattle.std.specs.Prelude.{Option, Some, None, option_map, option_and_then, unwrap_or}
 use Rattle.std.specs.List.{list_all, list_any}
@@ -16,15 +16,15 @@ use Rattle.wf_reader.specs.declared.strategy.Strategy.{Strategy}
 abbrev pub is_strategy_name : List ℕ → Bool
 is_strategy_name name = list_any (bytes_eq name) (codes "matrix" ∷ codes "fail-fast" ∷ codes "max-parallel" ∷ [])
 
--- no member of another name
+-- only the members of a strategy
 abbrev pub names_faults : Data → List Refusal
 names_faults d = fault_unless (list_all (λ m. is_strategy_name m.0) (members_of d)) StrategyMember
 
--- a truth value
+-- a boolean
 abbrev pub fail_fast_faults : Data → List Refusal
 fail_fast_faults d = fault_unless (is_some (as_bool d)) StrategyMember
 
--- a whole number from 1 to 256 (own)
+-- an integer from 1 to 256; the upper limit is defined by this project
 abbrev pub if_parallel : ℕ → Option ℕ
 if_parallel n = if nat_le 1 n && nat_le n 256 then Some n else None
 
@@ -43,7 +43,7 @@ inside_strategy d = in_turn (names_faults d
 abbrev pub strategy_faults : Data → List Refusal
 strategy_faults d = if is_some (as_object d) then inside_strategy d else fault StrategyMember
 
--- a job's legs fail fast unless it says otherwise
+-- fail-fast is the default
 abbrev pub strategy_of : Data → Strategy
 strategy_of d = record {
   matrix = option_map matrix_of (get (codes "matrix") d);

@@ -1,11 +1,11 @@
--- A workflow: what is wrong with it, and the workflow that it spells.
--- GitHub Docs, "Workflow syntax for GitHub Actions": name, concurrency, jobs. Other members are read past.
+-- A workflow: its faults and its value. Other members are ignored. GitHub Docs, "Workflow syntax for GitHub Actions": name,
+-- concurrency, jobs.
 use Rattle.std.specs.Prelude.{ℕ, List, [], ◌∷◌, ◌++◌, map, length, nat_le, codes, flat_map, option_map}
 use Rattle.serde_json.specs.Data.{Data}
 use Rattle.serde_json.specs.Find.{get}
 use Rattle.wf_value.specs.declared.code.Code.TheVariants.{WrongKind, TooManyJobs}
 use Rattle.wf_value.specs.declared.refusal.Refusal.{Refusal}
-use Rattle.wf_expr.specs.declared.place.Place.TheVariants as place
+use Rattle.wf_expr.specs.declared.place.ContextSite.TheVariants as place
 use Rattle.wf_reader.specs.Body.{body_value, body_faults}
 use Rattle.wf_reader.specs.Concurrency.{concurrency_faults, concurrency_in}
 use Rattle.wf_reader.specs.Faults.{fault, fault_unless, in_turn, optional, text_faults, faults_within}
@@ -13,7 +13,7 @@ use Rattle.wf_reader.specs.Job.{job_faults, job_of}
 use Rattle.wf_reader.specs.Json.{text_in, members_of, member_at}
 use Rattle.wf_reader.specs.declared.workflow.Workflow.{Workflow}
 
--- at least one job and at most 256 (own), each in the order of its id
+-- 1 to 256 jobs, in the order of their ids; the upper limit is defined by this project
 abbrev pub jobs_faults : List (List ℕ × Data) → List Refusal
 jobs_faults [] = fault WrongKind
 jobs_faults (j ∷ js) = fault_unless (nat_le (length (j ∷ js)) 256) TooManyJobs ++ flat_map job_faults (j ∷ js)
@@ -23,7 +23,7 @@ inside_workflow d = in_turn (optional text_faults (get (codes "name") d)
     ∷ optional (concurrency_faults place.Workflow) (get (codes "concurrency") d)
     ∷ jobs_faults (members_of (member_at (codes "jobs") d)) ∷ [])
 
--- what is wrong with a value that is to be a workflow
+-- the faults of a value as a workflow
 abbrev pub workflow_faults_in : Data → List Refusal
 workflow_faults_in = faults_within inside_workflow
 
@@ -34,7 +34,7 @@ workflow_in d = record {
   jobs = map job_of (members_of (member_at (codes "jobs") d));
 }
 
--- what is wrong with a body that is a workflow, and the workflow that it spells where nothing is
+-- the faults of a body as a workflow, and its workflow if there are none
 abbrev pub workflow_faults : List ℕ → List Refusal
 workflow_faults bytes = body_faults workflow_faults_in bytes
 

@@ -4,7 +4,7 @@ ghost use Rattle.serde_json.specs.View.{view};
 ghost use Rattle.wf_value.specs.Gives.{Gives};
 ghost use Rattle.wf_value.specs.declared.code.Code.TheVariants.{NotJson, TooLong};
 ghost use Rattle.wf_value.specs.declared.refusal.Refusal.TheVariants.{Numbered};
-ghost use Rattle.wf_reader.specs.Body.{body_faults, body_value};
+ghost use Rattle.wf_reader.specs.Body.{body_faults, body_value, most_body};
 ghost use Rattle.wf_reader.specs.Faults.{unless_faulty};
 
 use serde_json::Value;
@@ -12,16 +12,16 @@ use std::alloc::Global;
 use std::str;
 use wf_value::{Code, Refusal};
 
-/// The longest body, in bytes.
-const MAX_BODY: usize = 65_536;
+/// The maximum length of a body, in bytes.
+pub const MAX_BODY: usize = 65_536;
 
-/// The JSON value of a body: 24 over 65,536 bytes, 10 where it is not UTF-8 or not JSON. The length and
-/// the bytes are judged before memory is taken.
+/// Parses a body as JSON: 24 if it is longer than 65,536 bytes, 10 if it is not UTF-8 or not JSON. The length and the encoding are
+/// checked before any memory is taken.
 pub fn read_body(alloc: Global, bytes: &[u8]) -> Result<Value, Refusal>
     ensures gives { Gives view result
         (unless_faulty (body_faults (λ _. []) bytes.now) (body_value bytes.now)) }
-    ensures too_long { 65536 < length bytes.now → result ≡ Err (Numbered TooLong) }
-    ensures no_text { length bytes.now ≤ 65536 → is_utf8 bytes.now ≡ false
+    ensures too_long { most_body < length bytes.now → result ≡ Err (Numbered TooLong) }
+    ensures no_text { length bytes.now ≤ most_body → is_utf8 bytes.now ≡ false
         → result ≡ Err (Numbered NotJson) }
 {
     if bytes.len() > MAX_BODY {

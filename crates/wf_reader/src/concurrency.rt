@@ -12,16 +12,16 @@ use crate::fields::wrong_kind;
 use crate::flag::{Flag, read_flag};
 use serde_json::{Map, Value};
 use std::alloc::Global;
-use wf_expr::{Place, Template};
+use wf_expr::{ContextSite, Template};
 use wf_value::Refusal;
 
-/// What a workflow or a job asks of a concurrency group. GitHub Docs, "Workflow syntax for GitHub Actions",
-/// `concurrency` and `jobs.<job_id>.concurrency`.
+/// The concurrency group of a workflow or of a job. GitHub Docs, "Workflow syntax for GitHub Actions", `concurrency` and
+/// `jobs.<job_id>.concurrency`.
 #[derive(Drop)]
 pub struct Concurrency {
     /// The name of the group.
     pub group: Template,
-    /// Whether what runs in the group is stopped. It is not set where the member is missing.
+    /// Whether work in progress in the group is cancelled. Not set if the member is missing.
     pub cancel_in_progress: Flag,
 }
 
@@ -52,7 +52,7 @@ fn are_names(members: &Map<String, Value>) -> bool
     true
 }
 
-/// Whether an object has no member of another name.
+/// Whether an object has only the members `group` and `cancel-in-progress`. True for a value that is not an object.
 fn has_its_names(value: &Value) -> bool
     ensures { result ≡ has_its_names (view value.now) }
 {
@@ -68,7 +68,7 @@ fn is_truth_or_text(value: &Value) -> bool
     value.is_boolean() || value.is_string()
 }
 
-/// Whether a value is of the kind of a `concurrency`, with all that is inside it.
+/// Whether a value has the kinds that a `concurrency` requires, including those of its members.
 fn is_concurrency(value: &Value) -> bool
     ensures { result ≡ is_concurrency (view value.now) }
 {
@@ -81,9 +81,8 @@ fn is_concurrency(value: &Value) -> bool
     }
 }
 
-/// The group of a value of that kind: 17 where its text is no template, else 18 where the place does not
-/// allow one of its contexts.
-fn read_group(alloc: Global, value: &Value, place: Place) -> Result<Template, Refusal>
+/// The group of a value of that kind: 17 if its text is not a template, else 18 if the place does not allow one of its contexts.
+fn read_group(alloc: Global, value: &Value, place: ContextSite) -> Result<Template, Refusal>
     ensures { Gives (λ t. t) result
         (unless_faulty (template_faults place (unwrap_or (group_text (view value.now)) []))
         (template_in place (unwrap_or (group_text (view value.now)) []))) }
@@ -91,9 +90,8 @@ fn read_group(alloc: Global, value: &Value, place: Place) -> Result<Template, Re
     Template::parse(alloc, group_text(value).unwrap_or(""), place)
 }
 
-/// The concurrency of a value: 11 where it, or what is inside it, is of another kind, and then the faults of
-/// its templates.
-fn concurrency_of(alloc: Global, value: &Value, place: Place) -> Result<Concurrency, Refusal>
+/// The concurrency of a value: 11 if it or one of its members has a wrong kind, then the faults of its templates.
+fn concurrency_of(alloc: Global, value: &Value, place: ContextSite) -> Result<Concurrency, Refusal>
     ensures { Gives (λ c. c) result
         (unless_faulty (concurrency_faults place (view value.now)) (concurrency_in place (view value.now))) }
 {
@@ -108,11 +106,11 @@ fn concurrency_of(alloc: Global, value: &Value, place: Place) -> Result<Concurre
     })
 }
 
-/// The `concurrency` of a workflow or of a job, where it has one.
+/// The `concurrency` of a workflow or of a job, if any.
 pub fn read_concurrency(
     alloc: Global,
     object: &Value,
-    place: Place,
+    place: ContextSite,
 ) -> Result<Option<Concurrency>, Refusal>
     ensures { Gives (λ c. c) result
         (unless_faulty (optional (concurrency_faults place) (get (codes "concurrency") (view object.now)))

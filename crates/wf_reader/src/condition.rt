@@ -11,7 +11,7 @@ ghost use Rattle.wf_value.specs.declared.condition.Condition.{Condition};
 use serde_json::Value;
 use wf_value::{Code, Condition, Refusal};
 
-/// The text without the spaces at its start. A space is U+0020 alone.
+/// The text without leading spaces. Only U+0020 is a space.
 fn past_spaces(mut text: &[u8]) -> &[u8]
     ensures { result.now ≡ past_spaces text.entry.now }
 {
@@ -21,7 +21,7 @@ fn past_spaces(mut text: &[u8]) -> &[u8]
     text
 }
 
-/// The text without the spaces at its end.
+/// The text without trailing spaces.
 fn up_to_spaces(mut text: &[u8]) -> &[u8]
     ensures { result.now ≡ up_to_spaces text.entry.now }
 {
@@ -37,7 +37,7 @@ fn trimmed(text: &[u8]) -> &[u8]
     up_to_spaces(past_spaces(text))
 }
 
-/// What stands between `${{` and `}}`, where the text is that.
+/// The text between `${{` and `}}`, if the text is enclosed in them.
 fn inside_braces(text: &[u8]) -> Option<&[u8]>
     ensures { option_map (λ t. t.now) result ≡ inside_braces text.now }
 {
@@ -76,7 +76,7 @@ fn condition_of_word(word: &[u8]) -> Option<Condition>
     }
 }
 
-/// The condition of a value of `if`, where it is one.
+/// The condition that a value of `if` states, if any.
 fn condition_in(value: &Value) -> Option<Condition>
     ensures { result ≡ condition_in (view value.now) }
 {
@@ -88,7 +88,7 @@ fn condition_in(value: &Value) -> Option<Condition>
     }
 }
 
-/// The condition of a job, which is `success()` where it has no `if`. What is no condition is 26.
+/// The condition of a job. It is `success()` if the job has no `if`. A value that is not a condition is 26.
 pub fn read_condition(job: &Value) -> Result<Condition, Refusal>
     ensures { result ≡ unless_faulty (optional condition_faults (get (codes "if") (view job.now)))
         (condition_where (get (codes "if") (view job.now))) }
@@ -102,8 +102,8 @@ pub fn read_condition(job: &Value) -> Result<Condition, Refusal>
     }
 }
 
-/// The text of an `if` is read exactly as it is spelled: it has a condition where it is a word, bare or in
-/// braces, with spaces around the word and around the braces, and then the word's.
+/// The text of an `if` is a condition if and only if it is one of the words, bare or in braces, with optional spaces around the
+/// word and around the braces. The condition is that of the word.
 pub fn conditions_are_their_spellings()
     ensures { (text : List ℕ) (condition : Condition) →
         SpellsCondition text condition ↔ (condition_in (string text) ≡ Some condition) }

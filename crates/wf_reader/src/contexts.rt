@@ -11,8 +11,8 @@ use std::marker::Model;
 use wf_expr::{Context, ScalarView};
 use wf_value::Chars;
 
-/// The contexts `github`, `inputs` and `vars` that the sender of an event hands in, as the JSON objects of
-/// its body. A contract sees these. GitHub Docs, "Contexts reference".
+/// The contexts `github`, `inputs` and `vars` that the sender of an event supplies, as the JSON objects of its body. In contracts
+/// it is the record of these. GitHub Docs, "Contexts reference".
 #[derive(Drop)]
 pub struct Contexts {
     github: Option<Value>,
@@ -34,7 +34,7 @@ impl Model for Contexts {
 }
 
 impl Contexts {
-    /// The contexts of an envelope, and its workflow: both are taken out of it and not copied.
+    /// Moves the contexts and the workflow out of an envelope, without copying them.
     pub fn and_workflow(envelope: Value) -> (Contexts, Option<Value>)
         ensures contexts { result.0 ≡ contexts_in (view envelope) }
         ensures workflow { option_map (λ v. view v) result.1 ≡ get (codes "workflow") (view envelope) }
@@ -52,7 +52,7 @@ impl Contexts {
         }
     }
 
-    /// The contexts among an envelope's members.
+    /// The same for the members of an envelope.
     fn and_workflow_of(mut members: Map<String, Value>) -> (Contexts, Option<Value>)
         ensures contexts { result.0 ≡ contexts_in (object (members_view members.entries)) }
         ensures workflow { option_map (λ v. view v) result.1 ≡ get (codes "workflow") (object (members_view members.entries)) }
@@ -68,7 +68,7 @@ impl Contexts {
         (contexts, members.remove("workflow"))
     }
 
-    /// The context of a name.
+    /// The context with this name.
     fn named(&self, name: &str) -> Option<&Value>
         ensures { option_map (λ v. view v.now) result ≡ context_named self.now name.now }
     {
@@ -81,7 +81,7 @@ impl Contexts {
     }
 }
 
-/// The scalar to which names lead from a value, each a member of the object before it.
+/// The scalar at a path in a value. Each name selects a member of an object.
 fn scalar_at<'v>(value: &'v Value, path: &[Chars]) -> Option<ScalarView<'v>>
     ensures { option_map shown result ≡ scalar_at path.now (view value.now) }
 {

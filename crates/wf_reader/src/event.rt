@@ -17,19 +17,19 @@ use serde_json::Value;
 use std::alloc::Global;
 use wf_value::{Chars, Refusal};
 
-/// The body of an event: whose repository and which workflow it is for, and the workflow itself.
+/// The body of an event: the repository, the workflow's path, the contexts and the workflow itself.
 #[derive(Drop)]
 pub struct Event {
     /// Not empty. Repositories compare by bytes.
     pub repo: Chars,
     /// Not empty. It names the workflow within the repository.
     pub path: Chars,
-    /// What the sender hands in for the contexts `github`, `inputs` and `vars`.
+    /// The contexts `github`, `inputs` and `vars` that the sender supplies.
     pub contexts: Contexts,
     pub workflow: Workflow,
 }
 
-/// The contexts of an event, in the order of the checks. GitHub Docs, "Contexts".
+/// The contexts of an event, in the order in which they are checked. GitHub Docs, "Contexts".
 const CONTEXTS: [&str; 3] = ["github", "inputs", "vars"];
 
 /// The workflow of an envelope.
@@ -43,7 +43,7 @@ fn read_inner(alloc: Global, workflow: Option<Value>) -> Result<Workflow, Refusa
     }
 }
 
-/// The event of a value, or the first of its faults.
+/// The event of a value, or its first fault.
 fn event_in(alloc: Global, value: Value) -> Result<Event, Refusal>
     ensures { Gives (λ e. e) result
         (unless_faulty (event_faults_in (view value)) (event_in (view value))) }
@@ -64,14 +64,13 @@ fn event_in(alloc: Global, value: Value) -> Result<Event, Refusal>
     })
 }
 
-/// The event that a body spells, or the first of its faults: 24 for a body over 65,536 bytes, 10 where
-/// it is not UTF-8 or not JSON, 11 for the envelope, and for the workflow in it 11, 12, 15 to 20,
-/// 23, 25 and 26. Want of memory is 50.
+/// Reads the event of a body, or refuses its first fault: 24 for a body longer than 65,536 bytes, 10 if it is not UTF-8 or not
+/// JSON, 11 for the envelope, and 11, 12, 15 to 20, 23, 25 and 26 for the workflow in it. Out of memory is 50.
 pub fn read_event(alloc: Global, bytes: &[u8]) -> Result<Event, Refusal>
     ensures gives { Gives (λ e. e) result
         (unless_faulty (event_faults bytes.now) (event_of bytes.now)) }
 
-    // Memory or not:
+    // These two hold with or without memory:
     ensures too_long { 65536 < length bytes.now → result ≡ Err (Numbered TooLong) }
     ensures no_text { length bytes.now ≤ 65536 → is_utf8 bytes.now ≡ false
         → result ≡ Err (Numbered NotJson) }

@@ -13,21 +13,21 @@ use serde_json::{Map, Value};
 use std::alloc::Global;
 use wf_value::{Chars, Code, Refusal};
 
-/// 11, for a member of the wrong kind, and for one that is required and missing.
+/// 11: a member has the wrong kind, or a required member is missing.
 pub fn wrong_kind() -> Refusal
     ensures { result ≡ Numbered WrongKind }
 {
     Refusal::Numbered(Code::WrongKind)
 }
 
-/// The value of a name, taken out of the members and not copied.
+/// Moves the value of a name out of the members, without copying it.
 fn taken_of(mut members: Map<String, Value>, name: &str) -> Option<Value>
     ensures { option_map (λ v. view v) result ≡ get name.now (object (members_view members.entries)) }
 {
     members.remove(name)
 }
 
-/// A member, taken out of its object and not copied.
+/// Moves a member out of its object, without copying it.
 fn taken_member(object: Value, name: &str) -> Option<Value>
     ensures { option_map (λ v. view v) result ≡ get name.now (view object) }
 {
@@ -37,7 +37,7 @@ fn taken_member(object: Value, name: &str) -> Option<Value>
     }
 }
 
-/// The members of a value that is an object.
+/// The members of an object.
 fn members_in(value: Value) -> Option<Map<String, Value>>
     ensures { option_map (λ m. members_view m.entries) result ≡ as_object (view value) }
 {
@@ -47,7 +47,7 @@ fn members_in(value: Value) -> Option<Map<String, Value>>
     }
 }
 
-/// The members of a member that is an object, taken out of it and not copied.
+/// Moves the members of a member that is an object out of it, without copying them.
 pub fn taken_members(object: Value, name: &str) -> Option<Map<String, Value>>
     ensures { option_map (λ m. members_view m.entries) result
         ≡ option_and_then as_object (get name.now (view object)) }
@@ -58,7 +58,7 @@ pub fn taken_members(object: Value, name: &str) -> Option<Map<String, Value>>
     }
 }
 
-/// Refuses a member that is left out, whatever its value (16).
+/// Refuses a member that is not supported, whatever its value (16).
 pub fn refuse_left_out(object: &Value, name: &str) -> Result<(), Refusal>
     ensures { result ≡ unless_faulty (left_out (get name.now (view object.now))) tt }
 {
@@ -68,7 +68,7 @@ pub fn refuse_left_out(object: &Value, name: &str) -> Result<(), Refusal>
     }
 }
 
-/// Refuses a member that is there and no object (11).
+/// Refuses a member that is present and not an object (11).
 fn check_context(object: &Value, name: &str) -> Result<(), Refusal>
     ensures { result ≡ unless_faulty (optional object_faults (get name.now (view object.now))) tt }
 {
@@ -78,7 +78,7 @@ fn check_context(object: &Value, name: &str) -> Result<(), Refusal>
     }
 }
 
-/// Refuses the first of the members that is there and no object.
+/// Refuses the first of the members that is present and not an object (11).
 pub fn check_contexts(object: &Value, names: &[&str]) -> Result<(), Refusal>
     ensures { result
         ≡ unless_faulty (flat_map (λ name. optional object_faults (get name.now (view object.now))) names.now) tt }
@@ -89,7 +89,7 @@ pub fn check_contexts(object: &Value, names: &[&str]) -> Result<(), Refusal>
     Ok(())
 }
 
-/// The text of a member, or the empty text where it is missing. Another kind is 11.
+/// The text of a member, or the empty text if it is missing. A value that is not a text is 11.
 pub fn read_text(alloc: Global, object: &Value, name: &str) -> Result<Chars, Refusal>
     ensures { Gives (λ c. c) result
         (unless_faulty (optional text_faults (get name.now (view object.now)))
@@ -104,7 +104,7 @@ pub fn read_text(alloc: Global, object: &Value, name: &str) -> Result<Chars, Ref
     }
 }
 
-/// The text of a member that has to be there and not empty, else 11.
+/// The text of a required, non-empty member. Anything else is 11.
 pub fn read_filled_text(alloc: Global, object: &Value, name: &str) -> Result<Chars, Refusal>
     ensures { Gives (λ c. c) result
         (unless_faulty (required WrongKind filled_text_faults (get name.now (view object.now)))

@@ -9,18 +9,18 @@ ghost use Rattle.wf_reader.specs.Json.{member_at};
 use crate::fields::wrong_kind;
 use serde_json::Value;
 use std::alloc::Global;
-use wf_expr::{Place, Template};
+use wf_expr::{ContextSite, Template};
 use wf_value::Refusal;
 
-/// A member that sets a flag, as `continue-on-error` and `cancel-in-progress`: a truth value, or the template whose value decides.
+/// A member that sets a flag, such as `continue-on-error` and `cancel-in-progress`: a boolean, or a template whose value decides.
 #[derive(Drop)]
 pub enum Flag {
     Fixed(bool),
     Template(Template),
 }
 
-/// The flag of a value: neither a truth value nor a text is 11, and a text 17 or 18 as a template.
-fn flag_of(alloc: Global, value: &Value, place: Place) -> Result<Flag, Refusal>
+/// The flag of a value: 11 if it is neither a boolean nor a text, 17 or 18 if the text is not a template that the place allows.
+fn flag_of(alloc: Global, value: &Value, place: ContextSite) -> Result<Flag, Refusal>
     ensures { Gives (λ f. f) result
         (unless_faulty (flag_faults place (view value.now)) (flag_in place (view value.now))) }
 {
@@ -31,8 +31,13 @@ fn flag_of(alloc: Global, value: &Value, place: Place) -> Result<Flag, Refusal>
     }
 }
 
-/// The flag of a member, which is not set where the member is missing.
-pub fn read_flag(alloc: Global, object: &Value, name: &str, place: Place) -> Result<Flag, Refusal>
+/// The flag of a member. It is not set if the member is missing.
+pub fn read_flag(
+    alloc: Global,
+    object: &Value,
+    name: &str,
+    place: ContextSite,
+) -> Result<Flag, Refusal>
     ensures { Gives (λ f. f) result
         (unless_faulty (optional (flag_faults place) (get name.now (view object.now)))
         (flag_in place (member_at name.now (view object.now)))) }

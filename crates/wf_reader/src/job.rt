@@ -15,7 +15,7 @@ use crate::needs::read_needs;
 use crate::strategy::{Strategy, read_strategy};
 use serde_json::Value;
 use std::alloc::Global;
-use wf_expr::{Place, Template};
+use wf_expr::{ContextSite, Template};
 use wf_value::{Chars, Code, Condition, Refusal, Sequence};
 
 /// A job of a workflow. GitHub Docs, "Workflow syntax for GitHub Actions", `jobs.<job_id>`.
@@ -23,15 +23,15 @@ use wf_value::{Chars, Code, Condition, Refusal, Sequence};
 pub struct Job {
     /// A letter or `_`, then letters, digits, `-` and `_`: 1 to 100 bytes.
     pub id: Chars,
-    /// What `runs-on` asks of a runner: one template at least.
+    /// The labels that `runs-on` requires of a runner: at least one template.
     pub labels: Sequence<Template>,
-    /// The ids of the jobs that it needs, as it lists them: one may repeat, and one may be no job's.
+    /// The ids of the needed jobs, as listed: they may repeat, and they may belong to no job.
     pub needs: Sequence<Chars>,
-    /// When it is to run: `success()` where the job has no `if`.
+    /// When the job runs: `success()` if the job has no `if`.
     pub condition: Condition,
-    /// Whether the job may fail without failing its run. It is not set where the member is missing.
+    /// Whether the job may fail without failing its run. Not set if the member is missing.
     pub continue_on_error: Flag,
-    /// The group of each of its legs, where it asks for one.
+    /// The concurrency group of each of its legs, if any.
     pub concurrency: Option<Concurrency>,
     pub strategy: Option<Strategy>,
 }
@@ -56,7 +56,7 @@ fn are_parts(bytes: &[u8]) -> bool
     bytes.iter().all(|byte| is_part(*byte))
 }
 
-/// Whether a text is the id of a job.
+/// Whether a text is a valid job id.
 fn is_id(text: &str) -> bool
     ensures { result ≡ is_job_id text.now }
 {
@@ -82,7 +82,7 @@ struct Legs {
     strategy: Option<Strategy>,
 }
 
-/// Where a job runs and when it starts, or the first fault of its `runs-on`, its `needs` and its `if`.
+/// The labels, needs and condition of a job, or the first fault of its `runs-on`, `needs` and `if`.
 fn read_start(alloc: Global, job: &Value) -> Result<Start, Refusal>
     ensures { Gives (λ s. s) result (unless_faulty (start_faults (view job.now)) (start_of (view job.now))) }
 {
@@ -96,12 +96,12 @@ fn read_start(alloc: Global, job: &Value) -> Result<Start, Refusal>
     })
 }
 
-/// How the legs of a job run, or the first fault of its `continue-on-error`, its `concurrency` and its `strategy`.
+/// How the legs of a job run, or the first fault of its `continue-on-error`, `concurrency` and `strategy`.
 fn read_legs(alloc: Global, job: &Value) -> Result<Legs, Refusal>
     ensures { Gives (λ l. l) result (unless_faulty (legs_faults (view job.now)) (legs_of (view job.now))) }
 {
-    let continue_on_error = read_flag(alloc, job, "continue-on-error", Place::Job)?;
-    let concurrency = read_concurrency(alloc, job, Place::Job)?;
+    let continue_on_error = read_flag(alloc, job, "continue-on-error", ContextSite::Job)?;
+    let concurrency = read_concurrency(alloc, job, ContextSite::Job)?;
     let strategy = read_strategy(alloc, job)?;
     Ok(Legs {
         continue_on_error,
@@ -110,7 +110,7 @@ fn read_legs(alloc: Global, job: &Value) -> Result<Legs, Refusal>
     })
 }
 
-/// One job, or the first of its faults.
+/// One job, or its first fault.
 pub fn read_job(alloc: Global, id: &str, value: &Value) -> Result<Job, Refusal>
     ensures { Gives (λ j. j) result
         (unless_faulty (job_faults (id.now, view value.now)) (job_of (id.now, view value.now))) }

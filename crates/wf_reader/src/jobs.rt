@@ -4,8 +4,7 @@ ghost use Rattle.wf_reader.specs.JobCode.{ids_rise};
 use crate::job::Job;
 use std::marker::Model;
 
-/// The jobs of a workflow, in strictly rising order of the bytes of their ids. A contract sees the
-/// list of them.
+/// The jobs of a workflow, strictly increasing in byte order of their ids. In contracts it is the list of them.
 #[derive(Drop)]
 pub struct Jobs {
     jobs: Vec<Job>,
@@ -24,7 +23,7 @@ impl Model for Jobs {
 }
 
 impl Jobs {
-    /// The jobs of a `Vec`, which is moved and not copied.
+    /// Moves a `Vec` of jobs with increasing ids into it, without copying it.
     pub fn new(jobs: Vec<Job>) -> Self
         requires { IsTrue (ids_rise jobs.items) }
         ensures { result ≡ jobs.items }
@@ -32,7 +31,7 @@ impl Jobs {
         Jobs { jobs }
     }
 
-    /// The `Vec` back.
+    /// Moves the `Vec` out.
     pub fn into_vec(self) -> Vec<Job>
         ensures jobs { result.items ≡ self }
         ensures rising { IsTrue (ids_rise result.items) }

@@ -24,7 +24,7 @@ fn read_label(alloc: Global, value: &Value) -> Result<Template, Refusal>
     }
 }
 
-/// Each label of a list, up to the first fault.
+/// The labels of a list, or the first fault.
 fn read_labels(alloc: Global, values: &[Value]) -> Result<Vec<Template>, Refusal>
     ensures { Gives (λ v. v.items) result
         (unless_faulty (flat_map (λ v. label_faults (view v)) values.now)
@@ -37,7 +37,7 @@ fn read_labels(alloc: Global, values: &[Value]) -> Result<Vec<Template>, Refusal
     Ok(labels)
 }
 
-/// The labels that a value of `runs-on` asks for.
+/// The labels that a value of `runs-on` states.
 fn labels_in(alloc: Global, value: &Value) -> Result<Vec<Template>, Refusal>
     ensures { Gives (λ v. v.items) result
         (unless_faulty (labels_faults (view value.now)) (labels_asked (view value.now))) }
@@ -56,8 +56,8 @@ fn labels_in(alloc: Global, value: &Value) -> Result<Vec<Template>, Refusal>
     Ok(labels)
 }
 
-/// The labels of a job: `runs-on` is missing or an empty list 15, an object 16, of another kind 11, a text
-/// that is no template 17, and one with a context that a job may not use 18.
+/// The labels of a job: 15 if `runs-on` is missing or an empty list, 16 if it is an object, 11 if it has another wrong kind, 17 if
+/// a text is not a template, and 18 if one has a context that a job may not use.
 pub fn read_runs_on(alloc: Global, job: &Value) -> Result<Sequence<Template>, Refusal>
     ensures { Gives (λ t. t) result
         (unless_faulty (required NoLabels labels_faults (get (codes "runs-on") (view job.now)))

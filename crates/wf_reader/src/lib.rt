@@ -1,6 +1,5 @@
-//! From the bytes of a body to the event or the workflow that it spells: an event's envelope with its
-//! contexts, and a workflow with its jobs. What is wrong with a body is a list in a stated order, and the
-//! refusal is its first.
+//! Reads the bytes of a body as an event or a workflow: an event's envelope with its contexts, and a workflow with its jobs. The
+//! faults of a body form a list in a fixed order, and the refusal is the first of them.
 #![tactic(auto)]
 
 mod body;
@@ -22,6 +21,7 @@ mod templates;
 mod values;
 mod workflow;
 
+pub use body::{MAX_BODY, read_body};
 pub use concurrency::Concurrency;
 pub use condition::conditions_are_their_spellings;
 pub use contexts::Contexts;

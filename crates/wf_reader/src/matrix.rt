@@ -17,14 +17,14 @@ use serde_json::{Map, Value};
 use std::alloc::Global;
 use wf_value::{Chars, Code, Matrix, Refusal, Variable};
 
-/// 25: a member of `strategy` is not of its kind.
+/// 25: `strategy` or one of its members is invalid.
 pub fn strategy_member() -> Refusal
     ensures { result ≡ Numbered StrategyMember }
 {
     Refusal::Numbered(Code::StrategyMember)
 }
 
-/// A variable: no list, or one with another value, is 19, and an empty one 20.
+/// A variable: 19 if it is not a list or has an unsupported value, 20 if it is empty.
 fn read_variable(alloc: Global, name: &str, value: &Value) -> Result<Variable, Refusal>
     ensures { Gives (λ v. v) result
         (unless_faulty (variable_faults (name.now, view value.now)) (variable_of (name.now, view value.now))) }
@@ -46,7 +46,7 @@ fn is_variable(name: &str) -> bool
     name != "include" && name != "exclude"
 }
 
-/// Each variable among the members of a matrix, up to the first fault.
+/// The variables among the members of a matrix, or the first fault.
 fn read_variables(alloc: Global, members: &Map<String, Value>) -> Result<Vec<Variable>, Refusal>
     ensures gives { Gives (λ v. v.items) result
         (unless_faulty
@@ -67,7 +67,7 @@ fn read_variables(alloc: Global, members: &Map<String, Value>) -> Result<Vec<Var
     Ok(variables)
 }
 
-/// A matrix: no object is 25; what is wrong inside it is 19 or 20.
+/// A matrix: 25 if it is not an object, 19 or 20 for a fault inside it.
 pub fn read_matrix(alloc: Global, value: &Value) -> Result<Matrix, Refusal>
     ensures { Gives (λ m. m) result
         (unless_faulty (matrix_faults (view value.now)) (matrix_of (view value.now))) }

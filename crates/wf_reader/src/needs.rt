@@ -21,7 +21,7 @@ fn read_need(alloc: Global, value: &Value) -> Result<Chars, Refusal>
     }
 }
 
-/// Each id of a list, up to the first that is no text.
+/// The ids of a list, or 11 if one of its values is not a text.
 fn read_list(alloc: Global, values: &[Value]) -> Result<Vec<Chars>, Refusal>
     ensures { Gives (λ v. v.items) result
         (unless_faulty (flat_map (λ v. text_faults (view v)) values.now) (map (λ v. text_in (view v)) values.now)) }
@@ -45,8 +45,7 @@ fn needs_of(alloc: Global, value: &Value) -> Result<Vec<Chars>, Refusal>
     Ok(needs)
 }
 
-/// The ids that a job needs, as it lists them, and none where the member is missing. What is neither a
-/// text nor a list of texts is 11.
+/// The ids that a job needs, as listed; empty if the member is missing. A value that is neither a text nor a list of texts is 11.
 pub fn read_needs(alloc: Global, job: &Value) -> Result<Sequence<Chars>, Refusal>
     ensures { Gives (λ n. n) result
         (unless_faulty (optional needs_faults (get (codes "needs") (view job.now)))

@@ -20,7 +20,7 @@ fn read_pair(alloc: Global, name: &str, value: &Value) -> Result<(Chars, Scalar)
     Ok((Chars::from_str(alloc, name)?, scalar))
 }
 
-/// Each member of an object, up to the first fault.
+/// The members of an object, or the first fault.
 fn read_pairs(alloc: Global, members: &Map<String, Value>) -> Result<Combo, Refusal>
     ensures { Gives (λ c. c) result
         (unless_faulty (flat_map (λ e. pair_faults (string_bytes e.0, view e.1)) members.now.entries)
@@ -33,7 +33,7 @@ fn read_pairs(alloc: Global, members: &Map<String, Value>) -> Result<Combo, Refu
     Ok(Combo::from_pairs(pairs))
 }
 
-/// An object of `include` or `exclude`: no object, or one with another value, is 19, and an empty one 20.
+/// An object of `include` or `exclude`: 19 if it is not an object or has an unsupported value, 20 if it is empty.
 fn read_pattern(alloc: Global, value: &Value) -> Result<Combo, Refusal>
     ensures { Gives (λ c. c) result
         (unless_faulty (pattern_faults (view value.now)) (pattern_of (view value.now))) }
@@ -47,7 +47,7 @@ fn read_pattern(alloc: Global, value: &Value) -> Result<Combo, Refusal>
     read_pairs(alloc, members)
 }
 
-/// Each object of a list, up to the first fault.
+/// The objects of a list, or the first fault.
 fn read_each(alloc: Global, values: &[Value]) -> Result<Vec<Combo>, Refusal>
     ensures { Gives (λ v. v.items) result
         (unless_faulty (flat_map (λ v. pattern_faults (view v)) values.now)
@@ -60,7 +60,7 @@ fn read_each(alloc: Global, values: &[Value]) -> Result<Vec<Combo>, Refusal>
     Ok(patterns)
 }
 
-/// The objects of a list. No list is 19, and an empty one is allowed.
+/// The objects of a list, which may be empty: 19 if it is not a list.
 fn read_list(alloc: Global, value: &Value) -> Result<Vec<Combo>, Refusal>
     ensures { Gives (λ v. v.items) result
         (unless_faulty (patterns_faults (view value.now)) (patterns_of (view value.now))) }
@@ -71,7 +71,7 @@ fn read_list(alloc: Global, value: &Value) -> Result<Vec<Combo>, Refusal>
     }
 }
 
-/// The objects of `include` or of `exclude`, and none where the member is missing.
+/// The objects of `include` or `exclude`; empty if the member is missing.
 pub fn read_patterns(alloc: Global, matrix: &Value, name: &str) -> Result<Vec<Combo>, Refusal>
     ensures { Gives (λ v. v.items) result
         (unless_faulty (optional patterns_faults (get name.now (view matrix.now)))

@@ -6,8 +6,7 @@ ghost use Rattle.wf_reader.specs.Json.{scalar_in};
 use serde_json::Value;
 use wf_expr::ScalarView;
 
-/// The scalar that a value is, if it is one: null, a truth value, a signed whole number of 64 bits or a
-/// text. It takes no memory.
+/// The scalar that a value is: null, a boolean, a signed 64-bit integer or a text. `None` for any other value. It takes no memory.
 pub fn scalar_of(value: &Value) -> Option<ScalarView<'_>>
     ensures { option_map shown result ≡ scalar_in (view value.now) }
 {

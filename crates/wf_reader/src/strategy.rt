@@ -16,15 +16,15 @@ use wf_value::{Matrix, Refusal};
 /// The `strategy` of a job. GitHub Docs, "Workflow syntax for GitHub Actions", `jobs.<job_id>.strategy`.
 #[derive(Drop)]
 pub struct Strategy {
-    /// The matrix, where there is one.
+    /// The matrix, if any.
     pub matrix: Option<Matrix>,
-    /// Whether a leg that fails cancels the others: true where the member is missing.
+    /// Whether a failing leg cancels the others. True if the member is missing.
     pub fail_fast: bool,
-    /// The most legs that may run at a time, 1 to 256, where there is a limit.
+    /// The maximum number of legs that run at the same time, 1 to 256, if limited.
     pub max_parallel: Option<u16>,
 }
 
-/// The highest limit of legs that run at a time.
+/// The highest value of `max-parallel`.
 const MAX_PARALLEL: u64 = 256;
 
 fn is_name(name: &str) -> bool
@@ -33,7 +33,7 @@ fn is_name(name: &str) -> bool
     name == "matrix" || name == "fail-fast" || name == "max-parallel"
 }
 
-/// Whether each member has a name that a strategy may have.
+/// Whether all members have names that a strategy may have.
 fn has_its_names(members: &Map<String, Value>) -> bool
     ensures { result ≡ list_all (λ e. is_strategy_name (string_bytes e.0)) members.now.entries }
 {
@@ -45,7 +45,7 @@ fn has_its_names(members: &Map<String, Value>) -> bool
     true
 }
 
-/// Whether a leg that fails cancels the others. No truth value is 25.
+/// Whether a failing leg cancels the others. A value that is not a boolean is 25.
 fn read_fail_fast(strategy: &Value) -> Result<bool, Refusal>
     ensures { result ≡ unless_faulty (optional fail_fast_faults (get (codes "fail-fast") (view strategy.now)))
         (unwrap_or (option_and_then as_bool (get (codes "fail-fast") (view strategy.now))) true) }
@@ -59,7 +59,7 @@ fn read_fail_fast(strategy: &Value) -> Result<bool, Refusal>
     }
 }
 
-/// How many legs may run at a time. No whole number from 1 to 256 is 25.
+/// The maximum number of legs that run at the same time. A value that is not an integer from 1 to 256 is 25.
 fn read_max_parallel(strategy: &Value) -> Result<Option<u16>, Refusal>
     ensures { result ≡ unless_faulty (optional max_parallel_faults (get (codes "max-parallel") (view strategy.now)))
         (option_and_then max_parallel_in (get (codes "max-parallel") (view strategy.now))) }
@@ -73,7 +73,7 @@ fn read_max_parallel(strategy: &Value) -> Result<Option<u16>, Refusal>
     }
 }
 
-/// The matrix, where there is one.
+/// The matrix, if any.
 fn read_matrix_member(alloc: Global, strategy: &Value) -> Result<Option<Matrix>, Refusal>
     ensures { Gives (λ m. m) result
         (unless_faulty (optional matrix_faults (get (codes "matrix") (view strategy.now)))
@@ -85,8 +85,8 @@ fn read_matrix_member(alloc: Global, strategy: &Value) -> Result<Option<Matrix>,
     }
 }
 
-/// A strategy: no object, or one with a member of another name, is 25, and so is a member of another kind.
-/// Inside the matrix it is 19 or 20.
+/// A strategy: 25 if it is not an object, has an unknown member or a member of the wrong kind, 19 or 20 for a fault inside the
+/// matrix.
 fn strategy_in(alloc: Global, value: &Value) -> Result<Strategy, Refusal>
     ensures { Gives (λ s. s) result
         (unless_faulty (strategy_faults (view value.now)) (strategy_of (view value.now))) }
@@ -107,9 +107,8 @@ fn strategy_in(alloc: Global, value: &Value) -> Result<Strategy, Refusal>
     })
 }
 
-/// The strategy of a job, where it has one, or the first of its faults: 25 for the strategy itself and for
-/// `fail-fast`, `max-parallel` and the kind of `matrix`, then 19 and 20 for `include`, for `exclude` and
-/// for the variables in the order of the bytes of their names.
+/// The strategy of a job, if any, or its first fault: 25 for the strategy itself and for `fail-fast`, `max-parallel` and the kind
+/// of `matrix`, then 19 and 20 for `include`, for `exclude` and for the variables in byte order of their names.
 pub fn read_strategy(alloc: Global, job: &Value) -> Result<Option<Strategy>, Refusal>
     ensures { Gives (λ s. s) result
         (unless_faulty (optional strategy_faults (get (codes "strategy") (view job.now)))

@@ -1,16 +1,15 @@
 ghost use Rattle.wf_value.specs.Gives.{Gives};
-ghost use Rattle.wf_expr.specs.declared.place.Place.TheVariants.{Job};
+ghost use Rattle.wf_expr.specs.declared.place.ContextSite.TheVariants.{Job};
 ghost use Rattle.wf_reader.specs.Faults.{unless_faulty};
 ghost use Rattle.wf_reader.specs.Templates.{template_faults, template_in};
 
 use std::alloc::Global;
-use wf_expr::{Place, Template};
+use wf_expr::{ContextSite, Template};
 use wf_value::Refusal;
 
-/// The template of a text of a job: 17 where it spells none, else 18 where a job may not use one of its
-/// contexts.
+/// The template of a text of a job: 17 if the text is not a template, else 18 if a job may not use one of its contexts.
 pub fn read_template(alloc: Global, text: &str) -> Result<Template, Refusal>
     ensures { Gives (λ t. t) result (unless_faulty (template_faults Job text.now) (template_in Job text.now)) }
 {
-    Template::parse(alloc, text, Place::Job)
+    Template::parse(alloc, text, ContextSite::Job)
 }

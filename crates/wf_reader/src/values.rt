@@ -11,7 +11,7 @@ use serde_json::Value;
 use std::alloc::Global;
 use wf_value::{Code, Refusal, Scalar};
 
-/// 19: a value in a matrix is of another kind than the matrix takes.
+/// 19: a value in a matrix has a kind that a matrix does not support.
 pub fn matrix_value() -> Refusal
     ensures { result ≡ Numbered MatrixValue }
 {
@@ -25,7 +25,7 @@ pub fn empty_list() -> Refusal
     Refusal::Numbered(Code::EmptyList)
 }
 
-/// A value of a matrix: null, a truth value, a signed whole number of 64 bits or a text, else 19.
+/// A value of a matrix: null, a boolean, a signed 64-bit integer or a text. Anything else is 19.
 pub fn read_value(alloc: Global, value: &Value) -> Result<Scalar, Refusal>
     ensures { Gives (λ s. s) result
         (unless_faulty (value_faults (view value.now)) (scalar_or_null (view value.now))) }
@@ -36,7 +36,7 @@ pub fn read_value(alloc: Global, value: &Value) -> Result<Scalar, Refusal>
     }
 }
 
-/// Each value of a list, up to the first fault.
+/// The values of a list, or the first fault.
 pub fn read_values(alloc: Global, values: &[Value]) -> Result<Vec<Scalar>, Refusal>
     ensures { Gives (λ v. v.items) result
         (unless_faulty (flat_map (λ v. value_faults (view v)) values.now)

@@ -16,24 +16,24 @@ use crate::job::{Job, read_job};
 use crate::jobs::Jobs;
 use serde_json::{Map, Value};
 use std::alloc::Global;
-use wf_expr::Place;
+use wf_expr::ContextSite;
 use wf_value::{Chars, Code, Refusal};
 
-/// The most jobs of a workflow.
+/// The maximum number of jobs of a workflow.
 const MAX_JOBS: usize = 256;
 
 /// A workflow. GitHub Docs, "Workflow syntax for GitHub Actions".
 #[derive(Drop)]
 pub struct Workflow {
-    /// The `name`, and the empty text where it is missing.
+    /// The `name`, or the empty text if it is missing.
     pub name: Chars,
-    /// The group of the run, where it asks for one.
+    /// The concurrency group of the run, if any.
     pub concurrency: Option<Concurrency>,
     /// 1 to 256 jobs.
     pub jobs: Jobs,
 }
 
-/// Each job, up to the first fault. What it was read from is let go before the next one is read.
+/// The jobs of a workflow, or the first fault. The JSON of each job is dropped before the next job is read.
 fn read_each(alloc: Global, members: Map<String, Value>) -> Result<Jobs, Refusal>
     ensures { Gives (λ j. j) result
         (unless_faulty (flat_map (λ e. job_faults (string_bytes e.0, view e.1)) members.entries)
@@ -46,7 +46,7 @@ fn read_each(alloc: Global, members: Map<String, Value>) -> Result<Jobs, Refusal
     Ok(Jobs::new(jobs))
 }
 
-/// The jobs of a workflow: no object, or one without a member, is 11, and over 256 are 23.
+/// The jobs of a workflow: 11 if the member is missing, not an object or empty, 23 if there are more than 256.
 fn read_jobs(alloc: Global, workflow: Value) -> Result<Jobs, Refusal>
     ensures { Gives (λ j. j) result
         (unless_faulty (jobs_faults (members_of (member_at (codes "jobs") (view workflow))))
@@ -64,7 +64,7 @@ fn read_jobs(alloc: Global, workflow: Value) -> Result<Jobs, Refusal>
     read_each(alloc, members)
 }
 
-/// The workflow of a value, or the first of its faults.
+/// The workflow of a value, or its first fault.
 #[tactic(auto, using(crate::proofs::InTurn::no_fault, crate::proofs::InTurn::same_value))]
 pub fn workflow_in(alloc: Global, value: Value) -> Result<Workflow, Refusal>
     ensures { Gives (λ w. w) result
@@ -74,7 +74,7 @@ pub fn workflow_in(alloc: Global, value: Value) -> Result<Workflow, Refusal>
         return Err(wrong_kind());
     }
     let name = read_text(alloc, &value, "name")?;
-    let concurrency = read_concurrency(alloc, &value, Place::Workflow)?;
+    let concurrency = read_concurrency(alloc, &value, ContextSite::Workflow)?;
     let jobs = read_jobs(alloc, value)?;
     Ok(Workflow {
         name,
@@ -83,14 +83,14 @@ pub fn workflow_in(alloc: Global, value: Value) -> Result<Workflow, Refusal>
     })
 }
 
-/// The workflow that a body spells, or the first of its faults: 24 for a body over 65,536 bytes, 10
-/// where it is not UTF-8 or not JSON, and for what is inside it 11, 12, 15 to 20, 23, 25 and 26. Want of
-/// memory is 50. GitHub Docs, "Workflow syntax for GitHub Actions"; RFC 8259.
+/// Reads the workflow of a body, or refuses its first fault: 24 for a body longer than 65,536 bytes, 10 if it is not UTF-8 or not
+/// JSON, and 11, 12, 15 to 20, 23, 25 and 26 for its contents. Out of memory is 50. GitHub Docs, "Workflow syntax for GitHub
+/// Actions"; RFC 8259.
 pub fn read_workflow(alloc: Global, bytes: &[u8]) -> Result<Workflow, Refusal>
     ensures gives { Gives (λ w. w) result
         (unless_faulty (workflow_faults bytes.now) (workflow_of bytes.now)) }
 
-    // Memory or not:
+    // These two hold with or without memory:
     ensures too_long { 65536 < length bytes.now → result ≡ Err (Numbered TooLong) }
     ensures no_text { length bytes.now ≤ 65536 → is_utf8 bytes.now ≡ false
         → result ≡ Err (Numbered NotJson) }

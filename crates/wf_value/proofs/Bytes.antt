@@ -1,4 +1,4 @@
--- Lists of bytes, and four of them as a number.
+-- Lists of bytes, and four bytes as a number.
 use Rattle.std.proofs.Common.{◌≡◌, inl, inr, ℕ, ◌+◌, ◌<◌, ◌≤◌, ◌^◌, List, ◌++◌, length, get_or, take, drop, refl, sym, ◌∙◌, ap, arith}
 use Rattle.std.proofs.Common.{take-append-drop}
 use Rattle.std.specs.Int.{from_be_bytes, to_be_bytes, w32}
@@ -19,14 +19,14 @@ AreBytes-take n bytes are i =
 pub AreBytes-drop : (n : ℕ) (bytes : List ℕ) → AreBytes bytes → AreBytes (drop n bytes)
 AreBytes-drop n bytes are i = rw (get_or-drop n bytes i 0) (are (n + i))
 
--- two ways to part a list whose first parts are as long as one another
+-- two splits of a list whose first parts have the same length are equal
 pub same_parts : (a b x y : List ℕ) → length a ≡ length b → a ++ x ≡ b ++ y → (a ≡ b) × (x ≡ y)
 same_parts a b x y long same = (
   sym (take_at a x (length a) refl) ∙ ap (λ (l : List ℕ). take (length a) l) same ∙ take_at b y (length a) (sym long),
   sym (drop_at a x (length a) refl) ∙ ap (λ (l : List ℕ). drop (length a) l) same ∙ drop_at b y (length a) (sym long),
 )
 
--- four bytes spell the number that they are read as
+-- the first four bytes are the encoding of the number that they are read as
 pub spell_number : (bytes : List ℕ) → AreBytes bytes → 4 ≤ length bytes
     → bytes ≡ to_be_bytes w32 (from_be_bytes w32 (take 4 bytes)) ++ drop 4 bytes
 spell_number bytes are long =
@@ -35,7 +35,7 @@ spell_number bytes are long =
     (sym (be_bytes_4 (take 4 bytes) (from_be_bytes w32 (take 4 bytes)) (omega (arith, length-take 4 bytes, long))
     (AreBytes-take 4 bytes are) refl))
 
--- and it has four
+-- that number is below 2^32
 pub number_below : (bytes : List ℕ) → AreBytes bytes → from_be_bytes w32 (take 4 bytes) < 2 ^ 32
 number_below bytes are =
     let front = AreBytes-take 4 bytes are in

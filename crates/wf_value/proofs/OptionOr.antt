@@ -1,4 +1,4 @@
--- What is taken of the first where there is one, and of the second where there is none.
+-- An alternative of two options: the first value if there is one, else the second.
 use Rattle.std.proofs.Common.{◌≡◌, None, Some, refl}
 use Rattle.std.specs.Prelude.{Option}
 use Rattle.std.specs.Option.{option_or}

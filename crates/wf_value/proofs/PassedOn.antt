@@ -1,4 +1,4 @@
--- What a call gave, and a refusal that `?` passes on.
+-- The result of a call, and a refusal that `?` passes on.
 use Rattle.std.proofs.Common.{◌≡◌, ◌⊎◌, inl, inr, Result, Ok, Err, sym, ap, ◌∙◌}
 use Rattle.std.specs.Prelude.{IsErrAnd}
 use Rattle.wf_value.specs.Gives.{Gives, no_memory}
@@ -7,7 +7,7 @@ use Rattle.wf_value.specs.declared.refusal.Refusal.{Refusal}
 pub same_Ok : {X : Type 0} (x y : X) → ◌≡◌ {A = Result X Refusal} (Ok x) (Ok y) → x ≡ y
 same_Ok x y same = cc
 
--- What a callee gave for its own definition is given for this one, where its refusal is this one's.
+-- a refusal that `?` passes on satisfies the caller's definition where that has the same refusal
 pub passed_on : {X Y W : Type 0} (view : X → Y) (r : Result X Refusal) (defined : Result Y Refusal) (callee : Result W Refusal)
     (e : Refusal)
     → IsErrAnd r (λ f. f ≡ e) → (e ≡ no_memory) ⊎ (callee ≡ Err e) → (callee ≡ Err e → defined ≡ Err e) → Gives view r defined

@@ -1,4 +1,4 @@
--- Lists whose names rise: what it says of their places, and what a comparison of neighbours says of it.
+-- Lists with increasing names: the order of any two positions, and the result of comparing neighbours.
 use Rattle.std.proofs.Common.{◌≡◌, ℕ, zero, suc, ◌+◌, ◌<◌, List, [], ◌∷◌, Bool, true, false, ◌&&◌, length, get_or, map, ⊎_elim, sym}
 use Rattle.std.proofs.Common.{refl, subst, ap, ◌∙◌, arith}
 use Rattle.std.specs.declared.cmp.Ordering.{Ordering}
@@ -29,14 +29,14 @@ Equal-from_same x y same = ap (name_cmp x) (sym same) ∙ tied_itself nat_list_c
 pub after_less : (x y : List ℕ) → name_cmp x y ≡ Less → name_cmp y x ≡ Greater
 after_less x y h = nat_list_cmp_total.antisymm y x ∙ ap ordering_reverse h
 
--- the names of what a list is made into
+-- the names of a mapped list
 pub rises_over : {X Y : Type 0} (name : Y → List ℕ) (f : X → Y) (xs : List X) → rises_by name (map f xs) ≡ rises_by (λ x. name (f x)) xs
 rises_over name f [] = refl
 rises_over name f (x ∷ []) = refl
 rises_over name f (x ∷ y ∷ ys) = ap (λ b. is_lt (name_cmp (name (f x)) (name (f y))) && b) (rises_over name f (y ∷ ys))
 
 module _ {X : Type 0} (name : X → List ℕ) where
-  -- ---- a list that rises
+  -- ---- a list with increasing names
 
   pub rises_next : (x y : X) (ys : List X) → rises_by name (x ∷ y ∷ ys) ≡ true → name_cmp (name x) (name y) ≡ Less
   rises_next x y ys rises = Less-from_is_lt _ (and_parts (is_lt (name_cmp (name x) (name y))) (rises_by name (y ∷ ys)) rises).0
@@ -54,7 +54,7 @@ module _ {X : Type 0} (name : X → List ℕ) where
       nat_list_cmp_total.trans (name x) (name y) (name (get_or ys j d)) (rises_next x y ys rises)
       (first_below y ys j d (rises_rest x (y ∷ ys) rises) (omega arith))
 
-  -- and so is each
+  -- each name is below every later one
   pub earlier_below : (xs : List X) (i j : ℕ) (d : X) → rises_by name xs ≡ true → i < j → j < length xs
       → name_cmp (name (get_or xs i d)) (name (get_or xs j d)) ≡ Less
   earlier_below [] i j d rises before within = absurd (omega arith)
@@ -62,7 +62,7 @@ module _ {X : Type 0} (name : X → List ℕ) where
   earlier_below (x ∷ xs) zero (suc j) d rises before within = first_below x xs j d rises (omega arith)
   earlier_below (x ∷ xs) (suc i) (suc j) d rises before within = earlier_below xs i j d (rises_rest x xs rises) (omega arith) (omega arith)
 
-  -- no two places have one name
+  -- different positions have different names
   pub names_apart : (xs : List X) (i j : ℕ) (d : X) → rises_by name xs ≡ true → i < length xs → j < length xs
       → name (get_or xs i d) ≡ name (get_or xs j d) → i ≡ j
   names_apart xs i j d rises in_i in_j same =
@@ -82,7 +82,7 @@ module _ {X : Type 0} (name : X → List ℕ) where
       (cases_eq i j))
       (cases_lt i j)
 
-  -- ---- the answer of a comparison of neighbours
+  -- ---- the result of comparing neighbours
 
   abbrev pub below : X → X → Bool
   below x y = is_lt (name_cmp (name x) (name y))

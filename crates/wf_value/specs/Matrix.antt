@@ -1,14 +1,14 @@
--- What a contract sees of a matrix. GitHub Docs, "Running variations of jobs in a workflow".
+-- How contracts see a matrix. GitHub Docs, "Running variations of jobs in a workflow".
 use Rattle.std.specs.Prelude.{ℕ, List, refl}
 use Rattle.std.specs.Coded.{Coded, code_by, coded_ℕ, coded_list, coded×}
 use Rattle.wf_value.specs.declared.scalar.Scalar.{Scalar}
 use Rattle.wf_value.specs.ScalarCode.{coded_scalar, coded_pairs}
 
--- the name of a variable, and its values in the order of the list
+-- the name of a variable, and its values in list order
 abbrev pub NamedValues : Type 0
 NamedValues = List ℕ × List Scalar
 
--- the variables in the order of the bytes of their names, and the objects as they stand
+-- the variables in byte order of their names, and the objects as written
 pub record MatrixLists : Type 0 where
   pub variables : List NamedValues
   pub include : List (List (List ℕ × Scalar))

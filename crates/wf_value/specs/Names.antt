@@ -1,14 +1,14 @@
--- The order of names, by bytes.
+-- The byte order of names.
 use Rattle.std.specs.Prelude.{ℕ, List, Bool, true, ◌&&◌, [], ◌∷◌}
 use Rattle.std.specs.Ordering.{nat_cmp, is_lt}
 use Rattle.std.specs.Cmp.Lexicographic.{slice_cmp}
 
--- whether the name of each is below the next one's
+-- whether the names strictly increase
 abbrev pub rises_by : {X : Type 0} → (X → List ℕ) → List X → Bool
 rises_by name [] = true
 rises_by name (x ∷ []) = true
 rises_by name (x ∷ y ∷ ys) = is_lt (slice_cmp nat_cmp (name x) (name y)) && rises_by name (y ∷ ys)
 
--- of pairs of a name and a value
+-- the same for pairs of a name and a value
 abbrev pub names_rise : {X : Type 0} → List (List ℕ × X) → Bool
 names_rise ps = rises_by (λ p. p.0) ps

@@ -69,12 +69,12 @@ ids_of_cycle (Numbered c) = []
 ids_of_cycle (Cycle ids) = ids
 ids_of_cycle (Turn last) = []
 
--- what follows the number: the ids of a cycle, or the runner's last number
+-- what follows the number: the ids of a cycle, or the last number or attempt
 abbrev pub refusal_detail : Refusal → List ℕ
 refusal_detail (Numbered c) = []
 refusal_detail (Cycle ids) = flat_map spaced ids
 refusal_detail (Turn last) = codes " " ++ decimal last
 
--- `refused N`, then what the refusal carries
+-- `refused N`, followed by what the refusal carries
 abbrev pub refusal_text : Refusal → List ℕ
 refusal_text r = codes "refused " ++ decimal (refusal_number r) ++ refusal_detail r

@@ -1,11 +1,11 @@
--- Scalars and combinations as values that a proof can tell apart.
+-- Encodings of scalars and combinations, with which proofs decide equality.
 use Rattle.std.specs.Prelude.{◌≡◌, ◌⊎◌, ℕ, ℤ, List, Bool, Option, Some, None, refl}
 use Rattle.std.proofs.Common.{inl, inr}
 use Rattle.std.specs.Coded.{Coded, code_by, coded_ℕ, coded_ℤ, coded_bool, coded_list, coded×, coded⊎, coded_option}
 use Rattle.wf_value.specs.declared.scalar.Scalar.{Scalar}
 use Rattle.wf_value.specs.declared.scalar.Scalar.TheVariants.{Null, Truth, Whole, Text}
 
--- a scalar as what it holds, and nothing for null
+-- the value that a scalar holds; None for null
 abbrev pub Held : Type 0
 Held = Option (Bool ⊎ (ℤ ⊎ List ℕ))
 

@@ -8,7 +8,7 @@ use crate::try_copy::TryCopy;
 use std::alloc::Global;
 use std::marker::Model;
 
-/// A text. A contract sees the list of its bytes in UTF-8.
+/// A text. In contracts it is the list of its UTF-8 bytes.
 #[derive(Drop)]
 pub struct Chars {
     text: String,
@@ -23,14 +23,14 @@ impl Model for Chars {
 }
 
 impl Chars {
-    /// The text of a `String`, which is moved and not copied.
+    /// Moves a `String` into a text, without copying it.
     pub fn new(text: String) -> Self
         ensures { result ≡ string_bytes text }
     {
         Chars { text }
     }
 
-    /// A copy of a text. The empty one takes no memory.
+    /// Copies a text. An empty text takes no memory.
     pub fn from_str(alloc: Global, text: &str) -> Result<Self, Refusal>
         ensures gives { Gives (λ c. c) result (Ok text.now) }
         ensures answers { text.now ≡ [] → result ≡ Ok [] }
@@ -40,7 +40,7 @@ impl Chars {
         Ok(Chars { text: copy })
     }
 
-    /// The `String` back.
+    /// Moves the `String` out.
     pub fn into_string(self) -> String
         ensures { string_bytes result ≡ self }
     {
@@ -56,7 +56,7 @@ impl Chars {
 }
 
 impl TryCopy for Chars {
-    /// The empty text takes no memory.
+    /// An empty text takes no memory.
     fn copy(&self, alloc: Global) -> Result<Self, Refusal>
         ensures gives { Gives (λ c. c) result (Ok self.now) }
         ensures answers { self.now ≡ [] → result ≡ Ok [] }
@@ -66,7 +66,7 @@ impl TryCopy for Chars {
 }
 
 impl Same for Chars {
-    /// Whether both are the same bytes.
+    /// Whether both have the same bytes.
     fn same(&self, other: &Self) -> bool
         ensures equal { IsTrue result ↔ (self.now ≡ other.now) }
         ensures test { result ≡ bytes_eq self.now other.now }

@@ -1,92 +1,92 @@
 ghost use Rattle.std.specs.Prelude.{◌≡◌};
 
-/// Why a call was refused, where the number says it all. Cycles of needs (14) and numbers out of turn
-/// (43) carry a value, and so are refusals of their own.
+/// The reason for a refusal that is described by its number alone. Cycles of needs (14) and numbers out of order (43) carry a
+/// value, so they are variants of `Refusal`.
 #[derive(Clone, Copy)]
 pub enum Code {
     /// 10: the text is not JSON, or not UTF-8.
     NotJson,
-    /// 11: a member is of the wrong kind, or one that is required is missing.
+    /// 11: a member has the wrong kind, or a required member is missing.
     WrongKind,
-    /// 12: a job id is not of its form.
+    /// 12: a job id is malformed.
     JobId,
     /// 13: `needs` names no job of the workflow.
     UnknownNeed,
     /// 15: `runs-on` is missing or an empty list.
     NoLabels,
-    /// 16: a kind of job, or a member, that is left out.
+    /// 16: a kind of job, or a member, that is not supported.
     LeftOut,
-    /// 17: an expression outside the profile.
+    /// 17: an expression is outside the profile.
     Expression,
-    /// 18: a context that is not allowed in this place.
+    /// 18: a context is not allowed in this place.
     PlaceOfContext,
-    /// 19: a matrix value of another kind.
+    /// 19: a matrix value has a wrong kind.
     MatrixValue,
-    /// 20: an empty list of a variable, or an empty include or exclude object.
+    /// 20: a variable has an empty list, or an include or exclude object is empty.
     EmptyList,
-    /// 21: a matrix whose lists' lengths multiply to over 4,096.
+    /// 21: the product of the lengths of a matrix's lists is over 4,096.
     MatrixTooLarge,
-    /// 22: a matrix that gives no leg, or more than 256.
+    /// 22: a matrix has no leg, or more than 256.
     LegCount,
     /// 23: more than 256 jobs.
     TooManyJobs,
-    /// 24: a text over 65,536 bytes.
+    /// 24: a text is longer than 65,536 bytes.
     TooLong,
-    /// 25: a member of `strategy`.
+    /// 25: `strategy` or one of its members is invalid.
     StrategyMember,
-    /// 26: a condition outside the profile.
+    /// 26: a condition is outside the profile.
     Condition,
     /// 40: no such run.
     NoRun,
     /// 41: the run has completed.
     RunCompleted,
-    /// 42: the runner has a lease.
+    /// 42: the runner already has a lease.
     HasLease,
-    /// 44: the runner does not hold that lease.
+    /// 44: the runner does not hold that lease, or holds none.
     LeaseNotHeld,
     /// 45: no such runner.
     NoRunner,
     /// 46: the history has 100,000 entries.
     HistoryFull,
-    /// 47: it does not fit the area.
+    /// 47: the command or the checkpoint does not fit into the area.
     AreaFull,
     /// 48: a counter is at its last value.
     LastCounter,
     /// 49: the run has not completed.
     RunNotCompleted,
-    /// 50: memory was refused.
+    /// 50: out of memory.
     NoMemory,
     /// 51: the device failed in this call.
     DeviceFailed,
-    /// 52: the device failed earlier: open again.
+    /// 52: the device failed earlier; the area has to be opened again.
     FailedEarlier,
     /// 53: no area is open.
     NoArea,
-    /// 54: the chosen area spells no table.
+    /// 54: the chosen area does not decode to a table.
     NoTable,
-    /// 55: the disk to be made is not empty.
+    /// 55: the disk to be initialised is not empty.
     DiskNotEmpty,
-    /// 56: a checkpoint call out of its turn.
+    /// 56: a checkpoint call is out of order.
     CheckpointTurn,
-    /// 57: the area has the first layout, which spells no re-run.
+    /// 57: the area has the first layout, which cannot encode a re-run.
     OldLayout,
     /// 60: transcripts and history differ.
     Unsettled,
     /// 61: an input, an output or a socket failed.
     StreamFailed,
-    /// 70: a request's head.
+    /// 70: a malformed request head.
     Head,
-    /// 71: a request's length.
+    /// 71: a missing or invalid request length.
     ContentLength,
-    /// 72: a request's path.
+    /// 72: an unknown request path.
     Path,
-    /// 73: a request's method.
+    /// 73: a request method that the path does not allow.
     Method,
-    /// 74: the delivery or event header.
+    /// 74: a missing or invalid delivery or event header.
     EventHeader,
-    /// 75: a line that is no command.
+    /// 75: a line that is not a command.
     Line,
-    /// 76: an input over 1,048,576 bytes.
+    /// 76: an input is longer than 1,048,576 bytes.
     InputTooLong,
 }
 

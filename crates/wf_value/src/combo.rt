@@ -10,8 +10,8 @@ use crate::try_copy::{TryCopy, copy_items};
 use std::alloc::Global;
 use std::marker::Model;
 
-/// A combination of a matrix: a value for each of its names, in the order of the names' bytes.
-/// A contract sees the list of the pairs. GitHub Docs, "Running variations of jobs in a workflow".
+/// A combination of a matrix: one value for each name, in byte order of the names. In contracts it is the list of the pairs.
+/// GitHub Docs, "Running variations of jobs in a workflow".
 #[derive(Drop)]
 pub struct Combo {
     pairs: Vec<(Chars, Scalar)>,
@@ -33,7 +33,7 @@ impl Model for Combo {
 }
 
 impl Combo {
-    /// The combination without names, which a job without a matrix has.
+    /// The combination without names, which is that of a job without a matrix.
     pub fn new(alloc: Global) -> Self
         ensures { result ≡ [] }
     {
@@ -42,14 +42,14 @@ impl Combo {
         }
     }
 
-    /// Whether each name is below the next one, by bytes, as `from_pairs` asks.
+    /// Whether the names strictly increase in byte order, as `from_pairs` requires.
     pub fn names_rise(pairs: &[(Chars, Scalar)]) -> bool
         ensures { result ≡ names_rise pairs.now }
     {
         pairs.is_sorted_by(|one, other| one.0.as_str().cmp(other.0.as_str()).is_lt())
     }
 
-    /// The combination of a `Vec` whose names rise, which is moved and not copied.
+    /// Moves a `Vec` with increasing names into a combination, without copying it.
     pub fn from_pairs(pairs: Vec<(Chars, Scalar)>) -> Self
         requires { IsTrue (names_rise pairs.items) }
         ensures { result ≡ pairs.items }
@@ -57,7 +57,7 @@ impl Combo {
         Combo { pairs }
     }
 
-    /// The `Vec` back.
+    /// Moves the `Vec` out.
     pub fn into_vec(self) -> Vec<(Chars, Scalar)>
         ensures pairs { result.items ≡ self }
         ensures in_order { IsTrue (names_rise self) }
@@ -66,7 +66,7 @@ impl Combo {
         pairs
     }
 
-    /// The pairs, in the order of the bytes of their names.
+    /// The pairs, in byte order of their names.
     pub fn as_slice(&self) -> &[(Chars, Scalar)]
         ensures pairs { result.now ≡ self.now }
         ensures in_order { IsTrue (names_rise self.now) }
@@ -81,15 +81,14 @@ impl Combo {
         self.pairs.len()
     }
 
-    /// Whether there is no name.
+    /// Whether there are no names.
     pub fn is_empty(&self) -> bool
         ensures { IsTrue result ↔ (self.now ≡ []) }
     {
         self.pairs.is_empty()
     }
 
-    /// Adds a copy of a name and of its value at the end, where the name's place is. On an `Err` the
-    /// combination is unchanged.
+    /// Appends a copy of a name and of its value. The name must come after all others. On `Err` the combination is unchanged.
     pub fn push_copy(&mut self, alloc: Global, name: &Chars, value: &Scalar) -> Result<(), Refusal>
         requires { IsTrue (names_rise (self.old ++ (name.now, value.now) ∷ [])) }
         ensures ok { Gives (λ _. self.new) result (Ok (self.old ++ (name.now, value.now) ∷ [])) }

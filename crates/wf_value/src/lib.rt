@@ -1,5 +1,4 @@
-//! Values that every part of the service names: texts, scalars, combinations, conditions, results
-//! and refusals.
+//! The values that all parts of the service share: texts, scalars, combinations, conditions, results and refusals.
 #![tactic(auto)]
 
 mod chars;

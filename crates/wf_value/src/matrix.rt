@@ -6,8 +6,7 @@ use crate::combo::Combo;
 use crate::scalar::Scalar;
 use std::marker::Model;
 
-/// A variable of a matrix: a name, and its values in the order of the list.
-/// A contract sees the pair of both.
+/// A variable of a matrix: a name, and its values in list order. In contracts it is the pair of both.
 #[derive(Drop)]
 pub struct Variable {
     name: Chars,
@@ -25,7 +24,7 @@ impl Model for Variable {
 }
 
 impl Variable {
-    /// The variable of a name and of a `Vec`, which are moved and not copied.
+    /// Makes a variable of a name and a `Vec`. Both are moved, not copied.
     pub fn new(name: Chars, values: Vec<Scalar>) -> Self
         ensures { result ≡ (name, values.items) }
     {
@@ -45,8 +44,8 @@ impl Variable {
     }
 }
 
-/// A matrix as it is read: its variables in the order of the bytes of their names, and its `include`
-/// and `exclude` objects as they stand. A contract sees the three lists.
+/// A matrix as written: its variables in byte order of their names, and its `include` and `exclude` objects unchanged. In contracts
+/// it is the record of these three lists.
 /// GitHub Docs, "Running variations of jobs in a workflow".
 #[derive(Drop)]
 pub struct Matrix {
@@ -70,14 +69,14 @@ impl Model for Matrix {
 }
 
 impl Matrix {
-    /// Whether each variable's name is below the next one's, by bytes, as `new` asks.
+    /// Whether the names of the variables strictly increase in byte order, as `new` requires.
     pub fn names_rise(variables: &[Variable]) -> bool
         ensures { result ≡ names_rise variables.now }
     {
         variables.is_sorted_by(|one, other| one.name.as_str().cmp(other.name.as_str()).is_lt())
     }
 
-    /// The matrix of its lists, which are moved and not copied.
+    /// Makes a matrix of its lists, which are moved, not copied.
     pub fn new(variables: Vec<Variable>, include: Vec<Combo>, exclude: Vec<Combo>) -> Self
         requires { IsTrue (names_rise variables.items) }
         ensures variables { result.variables ≡ variables.items }
@@ -91,7 +90,7 @@ impl Matrix {
         }
     }
 
-    /// The variables, in the order of the bytes of their names.
+    /// The variables, in byte order of their names.
     pub fn variables(&self) -> &[Variable]
         ensures variables { result.now ≡ self.now.variables }
         ensures in_order { IsTrue (names_rise self.now.variables) }

@@ -11,7 +11,7 @@ pub enum Outcome {
 impl Outcome {
     ghost use Rattle.wf_value.specs.Words.{outcome_word};
 
-    /// The word that is printed.
+    /// The printed word.
     pub fn word(self) -> &'static str
         ensures { result.now ≡ outcome_word self }
     {
@@ -35,7 +35,7 @@ pub enum JobResult {
 impl JobResult {
     ghost use Rattle.wf_value.specs.Words.{result_word};
 
-    /// The word that is printed, and the value of `needs.<job_id>.result`.
+    /// The printed word, which is also the value of `needs.<job_id>.result`.
     pub fn word(self) -> &'static str
         ensures { result.now ≡ result_word self }
     {

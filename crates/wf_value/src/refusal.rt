@@ -11,7 +11,7 @@ use std::alloc::{AllocError, AllocFailed, Global};
 use std::fmt::{self, Write};
 use thiserror::Error;
 
-/// Each text behind a space.
+/// Prints each text after a space.
 #[derive(Drop)]
 struct Spaced<'a>(&'a [Chars]);
 
@@ -25,7 +25,7 @@ impl fmt::Display for Spaced<'_> {
     }
 }
 
-/// Adds each text, behind a space.
+/// Appends each text after a space.
 fn push_spaced(target: &mut String, texts: &[Chars]) -> Result<(), AllocError>
     ensures { OnOk result (string_bytes target.new ≡ string_bytes target.old ++ flat_map spaced texts.now) }
 {
@@ -36,15 +36,15 @@ fn push_spaced(target: &mut String, texts: &[Chars]) -> Result<(), AllocError>
     Ok(())
 }
 
-/// Why a call was refused.
+/// Why a call is refused.
 #[derive(Drop, Error)]
 pub enum Refusal {
     #[error("refused {}", .0.number())]
     Numbered(Code),
-    /// 14: a cycle of needs, with the ids of all jobs that are their own ancestors, in order.
+    /// 14: the needs have a cycle. It carries the ids of all jobs that are their own ancestors, in order.
     #[error("refused 14{}", Spaced(.0.as_slice()))]
     Cycle(Sequence<Chars>),
-    /// 43: out of turn, with the runner's last number.
+    /// 43: a sequence number or an attempt is out of order. It carries the runner's last number, or the run's current attempt.
     #[error("refused 43 {0}")]
     Turn(u64),
 }
@@ -63,7 +63,7 @@ impl Refusal {
         }
     }
 
-    /// The printed text: `refused N`, and what the refusal carries.
+    /// The printed text: `refused N`, followed by what the refusal carries.
     pub fn text(&self, alloc: Global) -> Result<Chars, Refusal>
         ensures { Gives (λ c. c) result (Ok (refusal_text self.now)) }
     {
@@ -87,7 +87,7 @@ impl Refusal {
     }
 }
 
-/// As `Display` prints it.
+/// Prints the same as `Display`.
 impl fmt::Debug for Refusal {
     fn fmt<W: fmt::Write>(&self, f: &mut fmt::Formatter<W>) -> fmt::Result {
         write!(f, "{self}")
@@ -112,7 +112,7 @@ impl TryCopy for Refusal {
 }
 
 impl Same for Refusal {
-    /// Whether both have the same number and carry the same.
+    /// Whether both have the same number and carry the same values.
     fn same(&self, other: &Self) -> bool {
         match (self, other) {
             (Refusal::Numbered(one), Refusal::Numbered(other)) => *one == *other,

@@ -1,6 +1,6 @@
 ghost use Rattle.std.specs.Prelude.{◌≡◌, ◌↔◌, IsTrue};
 
-/// What can be compared, as a contract compares it.
+/// Equality that agrees with equality in contracts.
 pub trait Same {
     /// Whether both are the same value.
     fn same(&self, other: &Self) -> bool
@@ -25,7 +25,7 @@ impl<A: Same, B: Same> Same for (A, B) {
     }
 }
 
-/// Whether both are the same values in the same order.
+/// Whether both have the same values in the same order.
 pub fn same_items<T: Same>(one: &[T], other: &[T]) -> bool
     ensures { IsTrue result ↔ (one.now ≡ other.now) }
 {

@@ -8,8 +8,8 @@ use crate::same::Same;
 use crate::try_copy::TryCopy;
 use std::alloc::Global;
 
-/// A value of an expression or of a matrix: null, a truth value, a signed whole number of 64 bits
-/// or a text. GitHub Docs, "Evaluate expressions in workflows and actions", Literals.
+/// A value of an expression or of a matrix: null, a boolean, a signed 64-bit integer or a text.
+/// GitHub Docs, "Evaluate expressions in workflows and actions", Literals.
 #[derive(Drop)]
 pub enum Scalar {
     Null,
@@ -18,7 +18,7 @@ pub enum Scalar {
     Text(Chars),
 }
 
-/// The text of a number, which is never empty.
+/// The decimal text of a number. It is never empty.
 fn text_of_whole(alloc: Global, n: i64) -> Result<Chars, Refusal>
     ensures gives { Gives (λ c. c) result (Ok (signed_decimal n)) }
     ensures filled { 0 < length (signed_decimal n) }
@@ -29,7 +29,7 @@ fn text_of_whole(alloc: Global, n: i64) -> Result<Chars, Refusal>
 impl Scalar {
     ghost use Rattle.wf_value.specs.ScalarValue.{is_truthy, scalar_text};
 
-    /// Whether the value counts as true: `false`, `0`, the empty text and null do not.
+    /// Whether the value is truthy: `false`, `0`, the empty text and null are not.
     pub fn truthy(&self) -> bool
         ensures { result ≡ is_truthy self.now }
     {
@@ -41,7 +41,7 @@ impl Scalar {
         }
     }
 
-    /// The text of the value. The empty one takes no memory.
+    /// The text of the value. An empty text takes no memory.
     pub fn text(&self, alloc: Global) -> Result<Chars, Refusal>
         ensures gives { Gives (λ c. c) result (Ok (scalar_text self.now)) }
         ensures answers { scalar_text self.now ≡ [] → result ≡ Ok [] }
@@ -59,7 +59,7 @@ impl Scalar {
 impl TryCopy for Scalar {
     ghost use Rattle.wf_value.specs.ScalarValue.{text_held};
 
-    /// Only a text that is not empty takes memory.
+    /// Only a non-empty text takes memory.
     fn copy(&self, alloc: Global) -> Result<Self, Refusal>
         ensures gives { Gives (λ s. s) result (Ok self.now) }
         ensures answers { text_held self.now ≡ [] → result ≡ Ok self.now }
@@ -76,7 +76,7 @@ impl TryCopy for Scalar {
 impl Same for Scalar {
     ghost use Rattle.wf_value.specs.ScalarValue.{same_scalar};
 
-    /// Whether kind and value are the same.
+    /// Whether kind and value are equal.
     fn same(&self, other: &Self) -> bool
         ensures equal { IsTrue result ↔ (self.now ≡ other.now) }
         ensures test { result ≡ same_scalar self.now other.now }

@@ -7,7 +7,7 @@ use crate::try_copy::{TryCopy, copy_items};
 use std::alloc::Global;
 use std::marker::Model;
 
-/// Values in order. A contract sees the list of them.
+/// A list of values. In contracts it is that list.
 #[derive(Drop)]
 pub struct Sequence<T> {
     items: Vec<T>,
@@ -22,14 +22,14 @@ impl<T> Model for Sequence<T> {
 }
 
 impl<T> Sequence<T> {
-    /// The values of a `Vec`, which is moved and not copied.
+    /// Moves a `Vec` into a sequence, without copying it.
     pub fn new(items: Vec<T>) -> Self
         ensures { result ≡ items.items }
     {
         Sequence { items }
     }
 
-    /// The `Vec` back.
+    /// Moves the `Vec` out.
     pub fn into_vec(self) -> Vec<T>
         ensures { result.items ≡ self }
     {
@@ -57,7 +57,7 @@ impl<T> Sequence<T> {
 }
 
 impl<T: TryCopy + Drop> TryCopy for Sequence<T> {
-    /// The empty list takes no memory.
+    /// An empty list takes no memory.
     fn copy(&self, alloc: Global) -> Result<Self, Refusal>
         ensures gives { Gives (λ s. s) result (Ok self.now) }
         ensures answers { self.now ≡ [] → result ≡ Ok [] }

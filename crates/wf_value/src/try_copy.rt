@@ -4,9 +4,9 @@ ghost use Rattle.wf_value.specs.Gives.{Gives};
 use crate::refusal::Refusal;
 use std::alloc::Global;
 
-/// What can be copied where memory allows.
+/// Copying that may run out of memory.
 pub trait TryCopy {
-    /// A copy, which a contract cannot tell from the value itself.
+    /// A copy. In contracts it is equal to the value itself.
     fn copy(&self, alloc: Global) -> Result<Self, Refusal>
         ensures { Gives (λ c. c) result (Ok self.now) };
 }
@@ -33,7 +33,7 @@ impl<A: TryCopy + Drop, B: TryCopy + Drop> TryCopy for (A, B) {
     }
 }
 
-/// A copy of each value, in order. Where there is none it takes no memory.
+/// Copies each value, in order. An empty list takes no memory.
 pub fn copy_items<T: TryCopy + Drop>(alloc: Global, items: &[T]) -> Result<Vec<T>, Refusal>
     ensures gives { Gives (λ v. v.items) result (Ok items.now) }
     ensures answers { items.now ≡ [] → IsOk result }

@@ -1,4 +1,4 @@
--- Loops that add what is found in each of some things: what is found so far, before what the things that are left will add.
+-- Loops that append findings: the findings so far, followed by those of the remaining items, are all findings.
 use Rattle.std.proofs.Common.{◌≡◌, ℕ, suc, ◌+◌, ◌<◌, ◌≤◌, List, [], ◌∷◌, ◌++◌, length, map, drop, get_or, drop-cons, sym, ap, ◌∙◌}
 use Rattle.std.proofs.Common.{append_assoc, append-nil, arith}
 use Rattle.std.specs.List.{enumerate_from, flat_map}
@@ -10,12 +10,12 @@ one_more f before now this all rest more x added is same so_far =
     ap (λ l. l ++ flat_map f more) added ∙ append_assoc before this (flat_map f more) ∙ ap (λ l. before ++ (l ++ flat_map f more)) same
     ∙ ap (λ r. before ++ flat_map f r) (sym is) ∙ so_far
 
--- at the end none is left
+-- at the end nothing remains
 pub none_left : {A X : Type 0} (f : X → List A) (before all : List A) (rest : List X) → rest ≡ [] → before ++ flat_map f rest ≡ all
     → before ≡ all
 none_left f before all rest none so_far = sym (append-nil before) ∙ ap (λ r. before ++ flat_map f r) (sym none) ∙ so_far
 
--- ---- items of a list, by their numbers
+-- ---- items of a list, by index
 
 pub next : {Y : Type 0} (n : ℕ) (ys : List Y) (y : Y) → n < length ys → y ≡ get_or ys n y → drop n ys ≡ y ∷ drop (n + 1) ys
 next n ys y within is =

@@ -1,4 +1,4 @@
--- What is found in a list or an object, by its items or its members.
+-- The findings in a list or an object, from its items or its members.
 use Rattle.std.proofs.Common.{◌≡◌, ℕ, ◌<◌, List, [], ◌∷◌, ◌++◌, map, length, Bool, true, false, cond, if◌then◌else◌, is_some, Option, Some, None}
 use Rattle.std.proofs.Common.{unwrap_or, option_and_then, refl, sym, ap, ◌∙◌, subst, append_assoc, arith}
 use Rattle.std.specs.List.{filter, list_all, list_any}
@@ -38,12 +38,12 @@ filled_so : {X : Type 0} (path : List ℕ) (xs : List X) (found : List Finding) 
 filled_so path [] found filled = absurd (omega arith)
 filled_so path (x ∷ xs) found filled = refl
 
--- a member that is there
+-- a member that is present
 pub member_here : (f : List ℕ → Data → List Finding) (path name p : List ℕ) (d v : Data) → Some v ≡ get name d → p ≡ member_path path name
     → f p v ≡ optional_at f path name d
 member_here f path name p d v is named = ap (λ q. f q v) named ∙ ap (λ o. option_map_or (f (member_path path name)) o []) is
 
--- three parts, of which the last goes by another name
+-- three parts, the last under another name
 pub last_renamed : (all start one two i e v w : List Finding) → one ≡ start ++ i → two ≡ one ++ e → v ≡ w → all ≡ two ++ v
     → all ≡ start ++ (i ++ e ++ w)
 last_renamed all start one two i e v w a b same is =
@@ -132,7 +132,7 @@ pub job_named : (jobs : List Job) (id : List ℕ) → is_job (map needs_of_job j
 job_named [] id = refl
 job_named (job ∷ jobs) id = rw (job_named jobs id)
 
--- a need that is a job's
+-- a known id in needs
 pub need_named : (jobs : List Job) (id : List ℕ) (i : ℕ) (need : List ℕ) → true ≡ list_any (λ job. bytes_eq need job.id) jobs
     → need_found (map needs_of_job jobs) id (i, need) ≡ []
 need_named jobs id i need is = if_so (is_job (map needs_of_job jobs) need) [] _ (is ∙ sym (job_named jobs need))

@@ -1,4 +1,4 @@
--- What is found in a text is what its reader finds wrong with it, with a path beside each fault.
+-- The findings in a text are the faults of `wf_reader`, each with a path.
 use Rattle.std.proofs.Common.{◌≡◌, ℕ, ◌+◌, List, [], ◌∷◌, ◌++◌, Bool, true, false, if◌then◌else◌, Option, Some, None, is_some, codes, length}
 use Rattle.std.proofs.Common.{nat_le, refl, sym, ap, ap₂, ◌∙◌, append_assoc, append-nil}
 use Rattle.std.specs.List.{enumerate_from, flat_map}
@@ -7,8 +7,8 @@ use Rattle.serde_json.specs.Data.{Data, null, boolean, number, string, array, ob
 use Rattle.serde_json.specs.Find.{as_array, as_object, get}
 use Rattle.wf_value.specs.declared.code.Code.TheVariants.{JobId, LeftOut, MatrixValue, NoLabels, NotJson, StrategyMember, TooLong, WrongKind}
 use Rattle.wf_value.specs.declared.refusal.Refusal.{Refusal}
-use Rattle.wf_expr.specs.declared.place.Place.{Place}
-use Rattle.wf_expr.specs.declared.place.Place.TheVariants as place
+use Rattle.wf_expr.specs.declared.place.ContextSite.{ContextSite}
+use Rattle.wf_expr.specs.declared.place.ContextSite.TheVariants as place
 use Rattle.wf_reader.specs.Body.{json_of}
 use Rattle.wf_reader.specs.Concurrency.{concurrency_faults, is_concurrency}
 use Rattle.wf_reader.specs.Faults.{fault, fault_unless, in_turn, left_out, optional, required, text_faults}
@@ -33,7 +33,7 @@ use Rattle.workflow_lint.specs.declared.check.Check.{Check}
 use Rattle.workflow_lint.specs.declared.check.Check.TheVariants as check
 use Rattle.workflow_lint.specs.declared.finding.Finding.{Finding}
 
--- ---- faults, one after the other
+-- ---- faults in sequence
 
 pub of_at : (path : List ℕ) (fs : List Refusal) → refusals (at path fs) ≡ fs
 of_at path [] = refl
@@ -46,7 +46,7 @@ of_join (x ∷ xs) ys = ap (λ l. x.refusal ∷ l) (of_join xs ys)
 pub joined : (xs ys : List Finding) (fs gs : List Refusal) → refusals xs ≡ fs → refusals ys ≡ gs → refusals (xs ++ ys) ≡ fs ++ gs
 joined xs ys fs gs one other = of_join xs ys ∙ ap₂ (λ (a b : List Refusal). a ++ b) one other
 
--- checks one after the other
+-- three checks in sequence
 three : (a b c : List Finding) (e f g : List Refusal) → refusals a ≡ e → refusals b ≡ f → refusals c ≡ g
     → refusals (a ++ b ++ c) ≡ in_turn (e ∷ f ∷ g ∷ [])
 three a b c e f g p q r =
@@ -157,7 +157,7 @@ of_needs path (string t) = refl
 of_needs path (array ds) = of_items (found_by check.Text) text_faults (of_check check.Text) path (item_list ds)
 of_needs path (object ms) = refl
 
-of_concurrency : (place : Place) (path : List ℕ) (d : Data) → refusals (concurrency_at place path d) ≡ concurrency_faults place d
+of_concurrency : (place : ContextSite) (path : List ℕ) (d : Data) → refusals (concurrency_at place path d) ≡ concurrency_faults place d
 of_concurrency place path d =
     three _ _ _ _ _ _ (of_at path (fault_unless (is_concurrency d) WrongKind)) (of_at (group_path path d) _)
     (of_member (found_by (check.Flag place)) (faults_by (check.Flag place)) (of_check (check.Flag place)) path (codes "cancel-in-progress") d)

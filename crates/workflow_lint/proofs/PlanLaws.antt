@@ -1,4 +1,4 @@
--- The first of all that is found is what the reader of the text and its plan refuse it with.
+-- The first of all findings is the refusal of the reader or of the plan.
 use Rattle.std.proofs.Common.{◌≡◌, ℕ, ◌+◌, List, [], ◌∷◌, ◌++◌, map, Bool, true, false, ◌&&◌, if◌then◌else◌, Some, Result, Err}
 use Rattle.std.proofs.Common.{refl, ap, ◌∙◌}
 use Rattle.std.specs.Prelude.{codes}
@@ -22,9 +22,9 @@ decides : (fs gs : List Refusal) (e : Refusal) → first_of fs ≡ Some e → fi
 decides [] gs e is = absurd cc
 decides (f ∷ fs) gs e is = is
 
--- ---- names that are no job's
+-- ---- unknown ids
 
--- none is found, or the first is one
+-- there is no finding, or the first is an unknown id
 abbrev Says : Bool → List Finding → Type 0
 Says true found = found ≡ []
 Says false found = first_of (refusals found) ≡ Some unknown_need
@@ -54,7 +54,7 @@ says_jobs all (job ∷ jobs) =
     says_join (list_all (is_job all) job.needs) (list_all (λ j. list_all (is_job all) j.needs) jobs) _ _ (says_needs all job.id 0 job.needs)
     (says_jobs all jobs)
 
--- ---- needs: names first, and then a circle
+-- ---- needs: unknown ids first, then a cycle
 
 first_of_else : (b : Bool) (found : List Finding) (graph : Result (List (List ℕ)) Refusal) → Says b found
     → first_of (refusals (or_else found (at (codes "jobs") (outcome_faults (if b then graph else Err unknown_need)))))
@@ -85,7 +85,7 @@ first_of_plan jobs =
     ∙ ap (λ l. first_of (l ++ refusals (needs_found (map needs_of_job jobs)))) (of_matrices jobs)
     ∙ same_behind (legs_faults jobs) _ _ (first_of_needs (map needs_of_job jobs))
 
--- ---- all
+-- ---- all findings
 
 first_of_both : (text later : List Finding) (fs gs : List Refusal) → refusals text ≡ fs → first_of (refusals later) ≡ first_of gs
     → first_of (refusals (or_else text later)) ≡ first_of (fs ++ gs)

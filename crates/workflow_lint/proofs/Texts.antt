@@ -1,4 +1,4 @@
--- What is found in a text, by its value.
+-- The findings in a text, from its value.
 use Rattle.std.proofs.Common.{◌≡◌, ℕ, List, [], ◌∷◌, Bool, true, false, if◌then◌else◌, Option, Some, None, nat_le, length, unwrap_or}
 use Rattle.std.proofs.Common.{Result, Ok, Err, refl, sym, ap, ◌∙◌, ◌⊎◌, inl, inr, ◌<◌, arith}
 use Rattle.std.specs.Prelude.{IsErrAnd}
@@ -41,7 +41,7 @@ pub found_without : (bytes : List ℕ) (e : Refusal) → unless_faulty (body_fau
     → found_in_text bytes ≡ at [] (e ∷ [])
 found_without bytes e is = refusal_by (nat_le (length bytes) 65536) (json_of bytes) e is
 
--- ---- a text in which nothing is found
+-- ---- a text without findings
 
 pub not_refused : (bytes : List ℕ) (e : Refusal) → found_in_text bytes ≡ []
     → unless_faulty (workflow_faults bytes) (workflow_of bytes) ≡ Err e → ⊥
@@ -59,7 +59,7 @@ plan_alone bytes w none is =
     let same : workflow_of bytes ≡ w = cc in
     ap (λ l. or_else l (plan_found (workflow_of bytes).jobs)) none ∙ ap (λ (v : Workflow). plan_found v.jobs) same
 
--- want of memory is all that may end the reading of one
+-- reading such a text fails only when it runs out of memory
 pub only_memory : {X : Type 0} (v : X → List Finding) (r : Result X Refusal) (bytes : List ℕ) (e : Refusal) → IsErrAnd r (λ f. f ≡ e)
     → found_in_text bytes ≡ [] → (e ≡ no_memory) ⊎ (unless_faulty (workflow_faults bytes) (workflow_of bytes) ≡ Err e)
     → Gives v r (Ok (found_in bytes))
@@ -71,7 +71,7 @@ pub none_in : (found text : List Finding) → found ≡ text → length found �
 none_in [] text is empty = sym is
 none_in (f ∷ fs) text is empty = absurd (omega arith)
 
--- ---- a text in which something is found
+-- ---- a text with findings
 
 filled_else : (found later : List Finding) → 0 < length found → or_else found later ≡ found
 filled_else [] later filled = absurd (omega arith)

@@ -1,4 +1,4 @@
--- The checks of values inside which nothing more is looked at, and what each finds in one value, in a member and in each item of a list.
+-- Checks of values whose contents are not inspected further, and their findings for a value, a member and each item of a list.
 use Rattle.std.specs.Prelude.{ℕ, List, [], flat_map}
 use Rattle.std.specs.List.{enumerate_from}
 use Rattle.std.specs.Option.{option_map_or}
@@ -31,7 +31,7 @@ faults_by check.LeftOut d = fault LeftOut
 abbrev pub found_by : Check → List ℕ → Data → List Finding
 found_by check path d = at path (faults_by check d)
 
--- a member that may be missing
+-- an optional member
 abbrev pub optional_at : (List ℕ → Data → List Finding) → List ℕ → List ℕ → Data → List Finding
 optional_at check path name d = option_map_or (check (member_path path name)) (get name d) []
 

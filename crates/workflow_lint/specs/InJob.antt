@@ -1,11 +1,11 @@
--- What a lint finds in a job. GitHub Docs, "Workflow syntax for GitHub Actions": jobs.<job_id>.
+-- The findings in a job. GitHub Docs, "Workflow syntax for GitHub Actions": jobs.<job_id>.
 use Rattle.std.specs.Prelude.{ℕ, List, [], ◌∷◌, ◌++◌, is_some, if◌then◌else◌, codes, unwrap_or}
 use Rattle.std.specs.Option.{option_map_or}
 use Rattle.serde_json.specs.Data.{Data}
 use Rattle.serde_json.specs.Find.{as_array, as_object, as_str, get}
 use Rattle.wf_value.specs.declared.code.Code.TheVariants.{JobId, NoLabels, WrongKind}
-use Rattle.wf_expr.specs.declared.place.Place.{Place}
-use Rattle.wf_expr.specs.declared.place.Place.TheVariants as place
+use Rattle.wf_expr.specs.declared.place.ContextSite.{ContextSite}
+use Rattle.wf_expr.specs.declared.place.ContextSite.TheVariants as place
 use Rattle.wf_reader.specs.Concurrency.{group_text, is_concurrency}
 use Rattle.wf_reader.specs.Faults.{fault, fault_unless, text_faults}
 use Rattle.wf_reader.specs.Job.{is_job_id, labels_faults}
@@ -20,7 +20,7 @@ use Rattle.workflow_lint.specs.declared.finding.Finding.{Finding}
 
 -- ---- runs-on and needs: a text, or a list of texts
 
--- the labels of a list that is not empty, each for itself
+-- the labels of a non-empty list, each separately
 abbrev pub labels_in_list : List ℕ → Data → List Data → List Finding
 labels_in_list path d [] = at path (labels_faults d)
 labels_in_list path d (label ∷ labels) = items_at (found_by check.Label) path (label ∷ labels)
@@ -37,7 +37,7 @@ needs_at path d = if is_some (as_array d) then items_at (found_by check.Text) pa
 abbrev pub group_path : List ℕ → Data → List ℕ
 group_path path d = if is_some (as_str d) then path else member_path path (codes "group")
 
-abbrev pub concurrency_at : Place → List ℕ → Data → List Finding
+abbrev pub concurrency_at : ContextSite → List ℕ → Data → List Finding
 concurrency_at place path d =
     at path (fault_unless (is_concurrency d) WrongKind)
     ++ at (group_path path d) (template_faults place (unwrap_or (group_text d) []))
@@ -60,7 +60,7 @@ legs_at path d =
 abbrev pub inside_job_at : List ℕ → Data → List Finding
 inside_job_at path d = optional_at (found_by check.LeftOut) path (codes "uses") d ++ start_at path d ++ legs_at path d
 
--- by its id and its value
+-- a job is an id and a value
 abbrev pub job_at : List ℕ → List ℕ → Data → List Finding
 job_at path id d =
     at path (fault_unless (is_job_id id) JobId) ++ (if is_some (as_object d) then inside_job_at path d else at path (fault WrongKind))

@@ -1,5 +1,4 @@
--- What a lint finds in a strategy and its matrix.
--- GitHub Docs, "Workflow syntax for GitHub Actions": jobs.<job_id>.strategy.
+-- The findings in a strategy and its matrix. GitHub Docs, "Workflow syntax for GitHub Actions": jobs.<job_id>.strategy.
 use Rattle.std.specs.Prelude.{ℕ, List, [], ◌∷◌, ◌++◌, is_some, if◌then◌else◌, codes}
 use Rattle.serde_json.specs.Data.{Data}
 use Rattle.serde_json.specs.Find.{as_array, as_object}
@@ -14,7 +13,7 @@ use Rattle.workflow_lint.specs.Findings.{at}
 use Rattle.workflow_lint.specs.declared.check.Check.TheVariants as check
 use Rattle.workflow_lint.specs.declared.finding.Finding.{Finding}
 
--- what is found in a list or an object that is not to be empty
+-- the findings in a list or an object that must not be empty
 abbrev pub unless_empty : {X : Type 0} → List ℕ → List X → List Finding → List Finding
 unless_empty path [] found = at path (fault EmptyList)
 unless_empty path (x ∷ xs) found = found

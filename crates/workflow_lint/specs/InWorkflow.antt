@@ -1,11 +1,11 @@
--- What a lint finds in the text of a workflow: what `wf_reader` finds wrong with it, in the same order, each fault with its path.
--- GitHub Docs, "Workflow syntax for GitHub Actions".
+-- The findings in the text of a workflow: the faults of `wf_reader`, in the same order, each with its path. GitHub Docs, "Workflow
+-- syntax for GitHub Actions".
 use Rattle.std.specs.Prelude.{ℕ, List, [], ◌∷◌, ◌++◌, is_some, if◌then◌else◌, codes, flat_map, length, nat_le}
 use Rattle.std.specs.Option.{option_map_or}
 use Rattle.serde_json.specs.Data.{Data}
 use Rattle.serde_json.specs.Find.{as_object}
 use Rattle.wf_value.specs.declared.code.Code.TheVariants.{NotJson, TooLong, TooManyJobs, WrongKind}
-use Rattle.wf_expr.specs.declared.place.Place.TheVariants as place
+use Rattle.wf_expr.specs.declared.place.ContextSite.TheVariants as place
 use Rattle.wf_reader.specs.Body.{json_of}
 use Rattle.wf_reader.specs.Faults.{fault, fault_unless}
 use Rattle.wf_reader.specs.Json.{member_at, members_of}
@@ -16,7 +16,7 @@ use Rattle.workflow_lint.specs.Paths.{member_path}
 use Rattle.workflow_lint.specs.declared.check.Check.TheVariants as check
 use Rattle.workflow_lint.specs.declared.finding.Finding.{Finding}
 
--- each job, by its id
+-- each job, as an id and a value
 abbrev pub each_job_at : List (List ℕ × Data) → List Finding
 each_job_at jobs = flat_map (λ job. job_at (member_path (codes "jobs") job.0) job.0 job.1) jobs
 

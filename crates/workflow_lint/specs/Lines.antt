@@ -1,4 +1,4 @@
--- The lines of a lint (own): `NUMBER PATH: MEANING`, and `.` as the path of the whole workflow.
+-- The lines of a lint: `NUMBER PATH: MEANING`, where `.` is the path of the whole workflow. This is defined by this project.
 use Rattle.std.specs.Prelude.{ℕ, List, [], ◌∷◌, ◌++◌, codes, decimal, flat_map}
 use Rattle.wf_value.specs.RefusalText.{refusal_detail, refusal_number}
 use Rattle.wf_value.specs.declared.code.Code.{Code}

@@ -1,4 +1,4 @@
-//! The checks of values inside which nothing more is looked at.
+//! Checks of values whose contents are not inspected further.
 
 ghost use Rattle.std.specs.Prelude.{◌≡◌, ◌++◌, IfOk, OnOk, option_to_list};
 ghost use Rattle.serde_json.specs.View.{view};
@@ -13,22 +13,22 @@ use crate::finding::{Finding, push_if};
 use crate::scalars::{is_limit, is_scalar};
 use serde_json::Value;
 use std::alloc::{AllocError, Global};
-use wf_expr::{Place, Template};
+use wf_expr::{ContextSite, Template};
 use wf_value::{Code, Refusal};
 
-/// What a value has to be.
+/// What a value is required to be.
 #[derive(Clone, Copy)]
 pub(crate) enum Check {
     Text,
     /// A text that is a template of a job.
     Label,
-    /// A truth value, or a text that is a template.
-    Flag(Place),
+    /// A boolean, or a text that is a template.
+    Flag(ContextSite),
     Condition,
     FailFast,
     MaxParallel,
     MatrixValue,
-    /// Nothing: the member is left out.
+    /// No value: the member is not supported.
     LeftOut,
 }
 
@@ -42,10 +42,10 @@ fn fault_unless(passes: bool, code: Code) -> Option<Refusal>
     }
 }
 
-/// What is wrong with the template of a text.
+/// The fault of a text as a template, if any.
 pub(crate) fn template_fault(
     alloc: Global,
-    place: Place,
+    place: ContextSite,
     text: &str,
 ) -> Result<Option<Refusal>, AllocError>
     ensures { IfOk result (λ fault. option_to_list fault ≡ template_faults place text.now) }
@@ -61,12 +61,16 @@ fn label_fault(alloc: Global, value: &Value) -> Result<Option<Refusal>, AllocErr
     ensures { IfOk result (λ fault. option_to_list fault ≡ label_faults (view value.now)) }
 {
     match value {
-        Value::String(text) => template_fault(alloc, Place::Job, text.as_str()),
+        Value::String(text) => template_fault(alloc, ContextSite::Job, text.as_str()),
         _ => Ok(Some(Refusal::Numbered(Code::WrongKind))),
     }
 }
 
-fn flag_fault(alloc: Global, place: Place, value: &Value) -> Result<Option<Refusal>, AllocError>
+fn flag_fault(
+    alloc: Global,
+    place: ContextSite,
+    value: &Value,
+) -> Result<Option<Refusal>, AllocError>
     ensures { IfOk result (λ fault. option_to_list fault ≡ flag_faults place (view value.now)) }
 {
     match value {
@@ -92,7 +96,7 @@ fn fault_by(alloc: Global, check: Check, value: &Value) -> Result<Option<Refusal
     Ok(fault)
 }
 
-/// Adds what a check finds in the value at a path.
+/// Appends the finding of a check for the value at a path.
 pub(crate) fn check_value(
     alloc: Global,
     check: Check,

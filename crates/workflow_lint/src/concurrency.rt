@@ -17,7 +17,7 @@ use crate::member::check_member;
 use crate::paths::member_path;
 use serde_json::{Map, Value};
 use std::alloc::{AllocError, Global};
-use wf_expr::Place;
+use wf_expr::ContextSite;
 use wf_value::Code;
 
 /// The text that names the group: the value itself, or its member `group`.
@@ -47,7 +47,7 @@ fn are_names(members: &Map<String, Value>) -> bool
     true
 }
 
-/// Whether an object has no member of another name.
+/// Whether an object has only the members `group` and `cancel-in-progress`. True for a value that is not an object.
 fn has_its_names(value: &Value) -> bool
     ensures { result ≡ has_its_names (view value.now) }
 {
@@ -63,7 +63,7 @@ fn is_truth_or_text(value: &Value) -> bool
     value.is_boolean() || value.is_string()
 }
 
-/// Whether a value is of the kind of a `concurrency`, with all that is inside it.
+/// Whether a value has the kinds that a `concurrency` requires, including those of its members.
 fn is_concurrency(value: &Value) -> bool
     ensures { result ≡ is_concurrency (view value.now) }
 {
@@ -102,7 +102,7 @@ fn group_path(alloc: Global, path: &str, value: &Value) -> Result<String, AllocE
 
 fn check_group(
     alloc: Global,
-    place: Place,
+    place: ContextSite,
     path: &str,
     value: &Value,
     found: &mut Vec<Finding>,
@@ -115,10 +115,10 @@ fn check_group(
     push_if(alloc, path.as_str(), fault, found)
 }
 
-/// Adds what is wrong with a concurrency: its kind, with all that is inside it, and then its templates.
+/// Appends the findings of a concurrency: first wrong kinds, of the value and of its members, then faults of its templates.
 pub(crate) fn check_concurrency(
     alloc: Global,
-    place: Place,
+    place: ContextSite,
     path: &str,
     value: &Value,
     found: &mut Vec<Finding>,
@@ -137,10 +137,10 @@ pub(crate) fn check_concurrency(
     )
 }
 
-/// Adds what is wrong with the `concurrency` of the object at a path, where it has one.
+/// Appends the findings of the `concurrency` of the object at a path, if it has one.
 pub(crate) fn check_its_concurrency(
     alloc: Global,
-    place: Place,
+    place: ContextSite,
     path: &str,
     object: &Value,
     found: &mut Vec<Finding>,

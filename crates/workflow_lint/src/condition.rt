@@ -1,4 +1,4 @@
-//! Which values are conditions.
+//! Recognises the values that are conditions.
 
 ghost use Rattle.std.specs.Prelude.{◌≡◌, is_some, option_map};
 ghost use Rattle.serde_json.specs.View.{view};
@@ -6,7 +6,7 @@ ghost use Rattle.wf_reader.specs.Condition.{condition_in, condition_of_word, ins
 
 use serde_json::Value;
 
-/// The text without the spaces at its start. A space is U+0020 alone.
+/// The text without leading spaces. Only U+0020 is a space.
 fn past_spaces(mut text: &[u8]) -> &[u8]
     ensures { result.now ≡ past_spaces text.entry.now }
 {
@@ -16,7 +16,7 @@ fn past_spaces(mut text: &[u8]) -> &[u8]
     text
 }
 
-/// The text without the spaces at its end.
+/// The text without trailing spaces.
 fn up_to_spaces(mut text: &[u8]) -> &[u8]
     ensures { result.now ≡ up_to_spaces text.entry.now }
 {
@@ -32,7 +32,7 @@ fn trimmed(text: &[u8]) -> &[u8]
     up_to_spaces(past_spaces(text))
 }
 
-/// What stands between `${{` and `}}`, where the text is that.
+/// The text between `${{` and `}}`, if the text is enclosed in them.
 fn inside_braces(text: &[u8]) -> Option<&[u8]>
     ensures { option_map (λ t. t.now) result ≡ inside_braces text.now }
 {

@@ -8,12 +8,12 @@ use wf_value::{Chars, Code, Refusal};
 /// A fault of a workflow.
 #[derive(Drop)]
 pub struct Finding {
-    /// The path of the member that has it, and the empty text for the whole workflow.
+    /// The path of the faulty member; the empty text for the whole workflow.
     pub path: Chars,
     pub refusal: Refusal,
 }
 
-/// Adds a fault of the member at a path.
+/// Appends a fault of the member at a path.
 pub(crate) fn push_refusal(
     alloc: Global,
     path: &str,
@@ -38,7 +38,7 @@ pub(crate) fn push_code(
     push_refusal(alloc, path, Refusal::Numbered(code), found)
 }
 
-/// Adds the fault, where there is one.
+/// Appends the fault, if there is one.
 pub(crate) fn push_if(
     alloc: Global,
     path: &str,

@@ -1,4 +1,4 @@
-//! A job, by its id and its value.
+//! A job: its id and its value.
 
 ghost use Rattle.std.specs.Prelude.{◌≡◌, ◌++◌, OnOk, codes};
 ghost use Rattle.serde_json.specs.View.{view};
@@ -19,10 +19,10 @@ use crate::paths::member_path;
 use crate::strategy::check_its_strategy;
 use serde_json::Value;
 use std::alloc::{AllocError, Global};
-use wf_expr::Place;
+use wf_expr::ContextSite;
 use wf_value::Code;
 
-/// The value of `runs-on`: a text, or a list of texts.
+/// Checks a value of `runs-on`: a text, or a list of texts.
 fn check_labels(
     alloc: Global,
     path: &str,
@@ -58,7 +58,7 @@ fn check_runs_on(
     check_labels(alloc, path.as_str(), value, found)
 }
 
-/// The value of `needs`: a text, or a list of texts.
+/// Checks a value of `needs`: a text, or a list of texts.
 fn check_needs(
     alloc: Global,
     path: &str,
@@ -88,7 +88,7 @@ fn check_its_needs(
     check_needs(alloc, path.as_str(), value, found)
 }
 
-/// Where the job runs and when it starts: its `runs-on`, its `needs` and its `if`.
+/// Checks where the job runs and when it starts: its `runs-on`, `needs` and `if`.
 fn check_start(
     alloc: Global,
     path: &str,
@@ -102,7 +102,7 @@ fn check_start(
     check_member(alloc, Check::Condition, path, job, "if", found)
 }
 
-/// How its legs run: its `continue-on-error`, its `concurrency` and its `strategy`.
+/// Checks how the legs of the job run: its `continue-on-error`, `concurrency` and `strategy`.
 fn check_legs(
     alloc: Global,
     path: &str,
@@ -113,13 +113,13 @@ fn check_legs(
 {
     check_member(
         alloc,
-        Check::Flag(Place::Job),
+        Check::Flag(ContextSite::Job),
         path,
         job,
         "continue-on-error",
         found,
     )?;
-    check_its_concurrency(alloc, Place::Job, path, job, found)?;
+    check_its_concurrency(alloc, ContextSite::Job, path, job, found)?;
     check_its_strategy(alloc, path, job, found)
 }
 
@@ -145,7 +145,7 @@ fn check_id(alloc: Global, path: &str, id: &str, found: &mut Vec<Finding>) -> Re
     push_code(alloc, path, Code::JobId, found)
 }
 
-/// Adds what is wrong with the job at a path.
+/// Appends the findings of the job at a path.
 pub(crate) fn check_job(
     alloc: Global,
     path: &str,

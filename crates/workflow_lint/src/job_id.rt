@@ -2,7 +2,7 @@ ghost use Rattle.std.specs.Prelude.{◌≡◌};
 ghost use Rattle.std.specs.List.{list_all};
 ghost use Rattle.wf_reader.specs.Job.{is_id_part, is_id_start, is_job_id};
 
-/// The longest id of a job, in bytes.
+/// The maximum length of a job id, in bytes.
 const MAX_ID: usize = 100;
 
 fn is_start(byte: u8) -> bool
@@ -23,7 +23,7 @@ fn are_parts(bytes: &[u8]) -> bool
     bytes.iter().all(|byte| is_part(*byte))
 }
 
-/// Whether a text is the id of a job.
+/// Whether a text is a valid job id.
 pub(crate) fn is_job_id(text: &str) -> bool
     ensures { result ≡ is_job_id text.now }
 {

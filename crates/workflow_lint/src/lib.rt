@@ -1,5 +1,6 @@
-//! All that is wrong with a workflow: each fault with the path of the member that has it, in the order in which the reader of workflows
-//! checks them, so that the first one is its refusal. A workflow that is right by itself is looked at once more for its plan.
+//! Finds all faults of a workflow. Each finding has the path of the faulty member. The findings are in the order in which
+//! `wf_reader` checks the members, so the first one is the reader's refusal. The plan is checked only if the workflow itself has no
+//! faults.
 #![tactic(auto)]
 
 mod check;

@@ -1,4 +1,4 @@
-//! The line of a fault.
+//! The printed line of a finding.
 
 ghost use Rattle.std.specs.Prelude.{◌≡◌, ◌++◌, [], ◌∷◌, IfOk, OnOk, codes, decimal, flat_map, string_bytes};
 ghost use Rattle.wf_value.specs.RefusalText.{refusal_detail, refusal_number};
@@ -34,7 +34,7 @@ fn meaning_of_code(code: Code) -> &'static str
     }
 }
 
-/// What a refusal means, in a few words.
+/// A short description of a refusal.
 fn meaning(refusal: &Refusal) -> &'static str
     ensures { result.now ≡ meaning refusal.now }
 {
@@ -51,7 +51,7 @@ fn shown_path(path: &str) -> &str
     if path.is_empty() { "." } else { path }
 }
 
-/// Adds each text, behind a space.
+/// Appends each text after a space.
 fn push_spaced(text: &mut String, ids: &[Chars]) -> Result<(), AllocError>
     ensures { OnOk result (string_bytes text.new ≡ string_bytes text.old ++ flat_map spaced ids.now) }
 {
@@ -75,7 +75,7 @@ fn push_detail(text: &mut String, refusal: &Refusal) -> Result<(), AllocError>
     }
 }
 
-/// `NUMBER PATH: MEANING`, and the ids of the jobs of a circle, with a line feed.
+/// The line `NUMBER PATH: MEANING`, the ids of a cycle, if any, and a line feed.
 pub fn finding_line(alloc: Global, finding: &Finding) -> Result<String, AllocError>
     ensures { IfOk result (λ s. string_bytes s ≡ finding_line finding.now) }
 {

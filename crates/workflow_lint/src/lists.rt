@@ -1,4 +1,4 @@
-//! The items of a list, and the members of an object, each checked for itself.
+//! Checks each item of a list, and each member of an object.
 
 ghost use Rattle.std.specs.Prelude.{◌≡◌, ◌++◌, OnOk, map, string_bytes};
 ghost use Rattle.serde_json.specs.View.{view};
@@ -10,7 +10,7 @@ use crate::paths::{item_path, member_path};
 use serde_json::{Map, Value};
 use std::alloc::{AllocError, Global};
 
-/// Adds what a check finds in each item of the list at a path.
+/// Appends the findings of a check for each item of the list at a path.
 pub(crate) fn check_items(
     alloc: Global,
     check: Check,
@@ -27,7 +27,7 @@ pub(crate) fn check_items(
     Ok(())
 }
 
-/// Adds what a check finds in each member of the object at a path.
+/// Appends the findings of a check for each member of the object at a path.
 pub(crate) fn check_members(
     alloc: Global,
     check: Check,

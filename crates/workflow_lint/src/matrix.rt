@@ -16,7 +16,7 @@ use serde_json::{Map, Value};
 use std::alloc::{AllocError, Global};
 use wf_value::Code;
 
-/// An object of `include` or `exclude`.
+/// Checks an object of `include` or `exclude`.
 fn check_pattern(
     alloc: Global,
     path: &str,
@@ -63,7 +63,7 @@ fn check_patterns(
     }
 }
 
-/// The `include` or the `exclude` of a matrix, where it has one.
+/// Checks the `include` or the `exclude` of a matrix, if it has one.
 fn check_its_patterns(
     alloc: Global,
     path: &str,
@@ -154,7 +154,7 @@ fn check_matrix(
     }
 }
 
-/// Adds what is wrong with the `matrix` of the strategy at a path, where it has one.
+/// Appends the findings of the `matrix` of the strategy at a path, if it has one.
 pub(crate) fn check_its_matrix(
     alloc: Global,
     path: &str,

@@ -1,4 +1,4 @@
-//! A member that may be missing.
+//! An optional member.
 
 ghost use Rattle.std.specs.Prelude.{◌≡◌, ◌++◌, OnOk};
 ghost use Rattle.serde_json.specs.View.{view};
@@ -10,7 +10,7 @@ use crate::paths::member_path;
 use serde_json::Value;
 use std::alloc::{AllocError, Global};
 
-/// Adds what a check finds in a member of the object at a path, where it has one of this name.
+/// Appends the finding of a check for a member of the object at a path, if it has a member with this name.
 pub(crate) fn check_member(
     alloc: Global,
     check: Check,

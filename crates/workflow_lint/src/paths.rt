@@ -20,7 +20,7 @@ fn are_plain(bytes: &[u8]) -> bool
     bytes.iter().all(|byte| is_plain_byte(*byte))
 }
 
-/// Whether a name stands in a path as it is.
+/// Whether a name appears in a path without quotes.
 fn is_plain_name(name: &str) -> bool
     ensures { result ≡ is_plain_name name.now }
 {
@@ -39,7 +39,7 @@ fn quoted(alloc: Global, text: &str) -> Result<String, AllocError>
     Ok(String::from_utf8(writer.into_inner()).unwrap())
 }
 
-/// The dot behind the path of an object, unless it is the workflow.
+/// The dot after the path of an object; empty for the whole workflow.
 fn dot(path: &str) -> &'static str
     ensures { path.now ++ result.now ≡ dotted path.now }
 {

@@ -1,4 +1,4 @@
-//! The plan of a workflow that is right by itself: the matrices of its jobs, and what they need.
+//! The plan of a workflow without faults of its own: the matrices and the needs of its jobs.
 
 ghost use Rattle.std.specs.Prelude.{◌≡◌, ◌++◌, IfOk, IsTrue, OnOk, codes, map, option_to_list, string_bytes};
 ghost use Rattle.wf_reader.specs.Faults.{outcome_faults};
@@ -102,7 +102,7 @@ fn check_needs_of(
     Ok(())
 }
 
-/// The names in `needs` that are no job's.
+/// One finding for each unknown id in `needs`.
 fn unknown_needs(alloc: Global, jobs: &[Job]) -> Result<Vec<Finding>, AllocError>
     ensures { IfOk result (λ found. found.items ≡ unknown_found (map needs_of_job jobs.now)) }
 {
@@ -113,7 +113,7 @@ fn unknown_needs(alloc: Global, jobs: &[Job]) -> Result<Vec<Finding>, AllocError
     Ok(found)
 }
 
-/// Why there is no graph of what the jobs need.
+/// The fault of the graph of the jobs' needs, if any.
 fn graph_fault(alloc: Global, jobs: &[Job]) -> Result<Option<Refusal>, AllocError>
     requires { IsTrue (ids_rise jobs.now) }
     ensures { IfOk result (λ fault. option_to_list fault ≡ outcome_faults (graph_of (map needs_of_job jobs.now))) }
@@ -129,7 +129,7 @@ fn graph_fault(alloc: Global, jobs: &[Job]) -> Result<Option<Refusal>, AllocErro
     }
 }
 
-/// What is wrong with what the jobs need: each name that is no job's, and where all are the circle.
+/// The findings of the jobs' needs: each unknown id, or, if all are known, a cycle.
 fn needs_found(alloc: Global, jobs: &[Job]) -> Result<Vec<Finding>, AllocError>
     requires { IsTrue (ids_rise jobs.now) }
     ensures { IfOk result (λ found. found.items ≡ needs_found (map needs_of_job jobs.now)) }
@@ -142,7 +142,7 @@ fn needs_found(alloc: Global, jobs: &[Job]) -> Result<Vec<Finding>, AllocError>
     Ok(found)
 }
 
-/// What is wrong with the plan of the jobs of a workflow.
+/// The findings of the plan of a workflow's jobs.
 pub(crate) fn plan_found(alloc: Global, jobs: &[Job]) -> Result<Vec<Finding>, AllocError>
     requires { IsTrue (ids_rise jobs.now) }
     ensures { IfOk result (λ found. found.items ≡ plan_found jobs.now) }

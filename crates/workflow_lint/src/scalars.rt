@@ -1,4 +1,4 @@
-//! Which values are of the kind that a member takes, where that is all that is asked.
+//! Recognises the values of a kind, for members of which only the kind is checked.
 
 ghost use Rattle.std.specs.Prelude.{◌≡◌, is_some};
 ghost use Rattle.serde_json.specs.View.{view};
@@ -7,10 +7,10 @@ ghost use Rattle.wf_reader.specs.Strategy.{max_parallel_in};
 
 use serde_json::Value;
 
-/// The highest limit of legs that run at a time.
+/// The highest value of `max-parallel`.
 const MAX_PARALLEL: u64 = 256;
 
-/// Whether a value may stand in a matrix.
+/// Whether a value is allowed in a matrix.
 pub(crate) fn is_scalar(value: &Value) -> bool
     ensures { result ≡ is_some (scalar_in (view value.now)) }
 {
@@ -21,7 +21,7 @@ pub(crate) fn is_scalar(value: &Value) -> bool
     }
 }
 
-/// Whether a value may be a `max-parallel`.
+/// Whether a value is a valid `max-parallel`.
 pub(crate) fn is_limit(value: &Value) -> bool
     ensures { result ≡ is_some (max_parallel_in (view value.now)) }
 {

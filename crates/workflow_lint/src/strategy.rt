@@ -24,7 +24,7 @@ fn is_name(name: &str) -> bool
     name == "matrix" || name == "fail-fast" || name == "max-parallel"
 }
 
-/// Whether each member has a name that a strategy may have.
+/// Whether all members have names that a strategy may have.
 fn has_its_names(members: &Map<String, Value>) -> bool
     ensures { result ≡ list_all (λ e. is_strategy_name (string_bytes e.0)) members.now.entries }
 {
@@ -89,7 +89,7 @@ fn check_strategy(
     }
 }
 
-/// Adds what is wrong with the `strategy` of the job at a path, where it has one.
+/// Appends the findings of the `strategy` of the job at a path, if it has one.
 pub(crate) fn check_its_strategy(
     alloc: Global,
     path: &str,

@@ -3,8 +3,6 @@
 ghost use Rattle.std.specs.Prelude.{◌≡◌, ◌++◌, [], IfOk, List, ℕ, Ok, OnOk, codes, map, option_and_then, option_map, string_bytes};
 ghost use Rattle.serde_json.specs.Find.{as_object, get};
 ghost use Rattle.serde_json.specs.View.{members_view, view};
-ghost use Rattle.wf_reader.specs.Body.{body_faults, body_value};
-ghost use Rattle.wf_reader.specs.Faults.{unless_faulty};
 ghost use Rattle.wf_reader.specs.Json.{member_at, members_of};
 ghost use Rattle.wf_reader.specs.Workflow.{workflow_faults, workflow_of};
 ghost use Rattle.run_plan.specs.PlanOf.{plan_faults};
@@ -22,16 +20,12 @@ use crate::paths::member_path;
 use crate::plan::plan_found;
 use serde_json::{Map, Value};
 use std::alloc::{AllocError, Global};
-use std::str;
-use wf_expr::Place;
-use wf_reader::read_workflow;
+use wf_expr::ContextSite;
+use wf_reader::{read_body, read_workflow};
 use wf_value::{Code, Refusal};
 
-/// The most jobs of a workflow.
+/// The maximum number of jobs of a workflow.
 const MAX_JOBS: usize = 256;
-
-/// The longest text of a workflow, in bytes.
-const MAX_TEXT: usize = 65_536;
 
 fn check_each_job(
     alloc: Global,
@@ -49,7 +43,7 @@ fn check_each_job(
     Ok(())
 }
 
-/// The members of `jobs`: one at least.
+/// Checks the members of `jobs`, of which there is at least one.
 fn check_members(
     alloc: Global,
     jobs: &Map<String, Value>,
@@ -66,7 +60,7 @@ fn check_members(
     check_each_job(alloc, jobs, found)
 }
 
-/// The members of `jobs`, where that is an object.
+/// The members of `jobs`, if it is an object.
 fn jobs_of(workflow: &Value) -> Option<&Map<String, Value>>
     ensures { option_map (λ m. members_view m.now.entries) result ≡ option_and_then as_object (get (codes "jobs") (view workflow.now)) }
 {
@@ -90,7 +84,7 @@ fn check_inside(alloc: Global, workflow: &Value, found: &mut Vec<Finding>) -> Re
     ensures { OnOk result (found.new.items ≡ found.old.items ++ inside_workflow_at (view workflow.now)) }
 {
     check_member(alloc, Check::Text, "", workflow, "name", found)?;
-    check_its_concurrency(alloc, Place::Workflow, "", workflow, found)?;
+    check_its_concurrency(alloc, ContextSite::Workflow, "", workflow, found)?;
     check_jobs(alloc, workflow, found)
 }
 
@@ -108,29 +102,12 @@ fn check_workflow(
     }
 }
 
-/// The JSON value of a text: 24 over 65,536 bytes, 10 where it is not UTF-8 or not JSON.
-fn read_value(alloc: Global, bytes: &[u8]) -> Result<Value, Refusal>
-    ensures { Gives view result (unless_faulty (body_faults (λ _. []) bytes.now) (body_value bytes.now)) }
-{
-    if bytes.len() > MAX_TEXT {
-        return Err(Refusal::Numbered(Code::TooLong));
-    }
-    let Ok(text) = str::from_utf8(bytes) else {
-        return Err(Refusal::Numbered(Code::NotJson));
-    };
-    match Value::from_str(alloc, text) {
-        Ok(value) => Ok(value),
-        Err(error) if error.is_memory() => Err(Refusal::Numbered(Code::NoMemory)),
-        Err(_) => Err(Refusal::Numbered(Code::NotJson)),
-    }
-}
-
 #[tactic(auto, using(crate::proofs::Texts::found_in_value, crate::proofs::Texts::found_without))]
 fn found_in_text(alloc: Global, bytes: &[u8]) -> Result<Vec<Finding>, AllocError>
     ensures { IfOk result (λ found. found.items ≡ found_in_text bytes.now) }
 {
     let mut found = Vec::new(alloc);
-    match read_value(alloc, bytes) {
+    match read_body(alloc, bytes) {
         Ok(value) => {
             check_workflow(alloc, &value, &mut found)?;
             Ok(found)
@@ -143,8 +120,9 @@ fn found_in_text(alloc: Global, bytes: &[u8]) -> Result<Vec<Finding>, AllocError
     }
 }
 
-/// All that is wrong with the text of a workflow, and where nothing is, all that is wrong with its plan: none exactly where
-/// `read_workflow` and `check_plan` refuse nothing, and the first is what they refuse it with. Want of memory is 50.
+/// Finds all faults of a workflow's text or, if there are none, all faults of its plan. The list is empty if and only if
+/// `read_workflow` and `check_plan` accept the workflow; otherwise its first finding is their refusal. The only `Err` is 50 (out of
+/// memory).
 /// GitHub Docs, "Workflow syntax for GitHub Actions"; RFC 8259.
 pub fn lint(alloc: Global, bytes: &[u8]) -> Result<Vec<Finding>, Refusal>
     ensures { Gives (λ found. found.items) result (Ok (found_in bytes.now)) }
@@ -157,8 +135,8 @@ pub fn lint(alloc: Global, bytes: &[u8]) -> Result<Vec<Finding>, Refusal>
     Ok(plan_found(alloc, workflow.jobs.as_slice())?)
 }
 
-/// The faults in a text are those that its reader finds, in the same order, and the first of all is what the reader and the plan refuse it
-/// with.
+/// The faults found in a text are those of `wf_reader`, in the same order. The first of all findings is the refusal of the reader
+/// or of the plan.
 pub fn lint_finds_the_faults()
     ensures text { (bytes : List ℕ) → refusals (found_in_text bytes) ≡ workflow_faults bytes }
     ensures first { (bytes : List ℕ) → first_of (refusals (found_in bytes))

@@ -1,4 +1,4 @@
--- After an arrival a group has one pending holder, the newcomer, and the other groups have no more than before.
+-- After an arrival the newcomer is the only pending holder of its group, and no other group has more holders than before.
 use Rattle.std.specs.Prelude.{◌≡◌, ◌⊎◌, List, [], ◌∷◌, ◌&&◌, filter, not, nat_eq, Bool, true, false, Some, None, if◌then◌else◌}
 use Rattle.std.specs.Prelude.{refl}
 use Rattle.std.specs.List.{AllByRecursion}
@@ -7,22 +7,24 @@ use Rattle.std.proofs.Common.{ap, inl, inr, sym, ◌∙◌}
 use Rattle.std.proofs.lemmas.Bool.{and_from, and_parts, eq-eqb, eqb-true, true≢false}
 use Rattle.std.proofs.lemmas.Option.{same_Some}
 use Rattle.group_name.specs.Group.{Group}
-use Rattle.workflow_runs.specs.Arrivals.{arrived, displaced, others_pending, room_made, stopped_where_asked}
-use Rattle.workflow_runs.specs.GroupOf.{cancels_in_progress, group_at}
-use Rattle.workflow_runs.specs.GroupWords.{same_holder, same_place as is_same_place}
-use Rattle.workflow_runs.specs.Groups.{HasOneBeside, HasOneEach, all_holders, is_in, is_pending_in, running_in, waits}
-use Rattle.workflow_runs.specs.Moves.{Holder, at_each, without_moves}
-use Rattle.workflow_runs.specs.Places.{LegPlace}
-use Rattle.workflow_runs.specs.StopMoves.{displace, stop_holder}
-use Rattle.workflow_runs.specs.RunState.{RunState}
+use Rattle.run_states.specs.Arrivals.{arrived, displaced, others_pending, room_made, stopped_where_asked}
+use Rattle.run_states.specs.GroupOf.{cancels_in_progress, group_at}
+use Rattle.run_states.specs.GroupWords.{same_holder, same_place as is_same_place}
+use Rattle.run_states.specs.Groups.{HasOneBeside, HasOneEach, all_holders, is_in, is_pending_in, running_in, waits}
+use Rattle.run_states.specs.Moves.{at_each, without_moves}
+use Rattle.run_states.specs.declared.place.LegPlace.{LegPlace}
+use Rattle.run_states.specs.RunState.{RunState}
+use Rattle.run_states.specs.StopMoves.{displace, stop_holder}
+use Rattle.run_states.proofs.LeaseReads.{same_place}
+use Rattle.run_states.proofs.RunFits.{RunsFit}
 use Rattle.workflow_runs.proofs.HoldersFade.{each_fades, holder_stop_fades, stop_ends_waiting}
 use Rattle.workflow_runs.proofs.HoldersKeep.{asked_settles, displaced_settles}
-use Rattle.workflow_runs.proofs.LeaseReads.{same_place}
 use Rattle.workflow_runs.proofs.OneEach.{Fades, besides_fades, each_holder, fades_not, fading_keeps, group_is, groups_stay}
 use Rattle.workflow_runs.proofs.OneEach.{one_that_waits, was_pending}
-use Rattle.workflow_runs.proofs.RunFits.{RunsFit}
+use Rattle.run_states.specs.declared.holder.Holder.{Holder}
+use Rattle.run_states.specs.declared.holder.Holder.TheVariants.{Run, Leg}
 
--- ---- the test whether two holders are one
+-- ---- the test of two holders for equality
 
 place_tested : (p q : LegPlace) → is_same_place p q ≡ true → p ≡ q
 place_tested p q e =
@@ -31,14 +33,14 @@ place_tested p q e =
     same_place p q (eqb-true p.run q.run first.0) (eqb-true p.job q.job rest.0) (eqb-true p.leg q.leg rest.1)
 
 pub holder_tested : (h k : Holder) → same_holder h k ≡ true → h ≡ k
-holder_tested (Holder.a_run r) (Holder.a_run s) e = ap Holder.a_run (eqb-true r s e)
-holder_tested (Holder.a_run r) (Holder.a_leg p) e = cc
-holder_tested (Holder.a_leg p) (Holder.a_run s) e = cc
-holder_tested (Holder.a_leg p) (Holder.a_leg q) e = ap Holder.a_leg (place_tested p q e)
+holder_tested (Run r) (Run s) e = ap Run (eqb-true r s e)
+holder_tested (Run r) (Leg p) e = cc
+holder_tested (Leg p) (Run s) e = cc
+holder_tested (Leg p) (Leg q) e = ap Leg (place_tested p q e)
 
 pub itself : (h : Holder) → same_holder h h ≡ true
-itself (Holder.a_run r) = eq-eqb r r refl
-itself (Holder.a_leg p) =
+itself (Run r) = eq-eqb r r refl
+itself (Leg p) =
     and_from (nat_eq p.run p.run) (nat_eq p.job p.job && nat_eq p.leg p.leg) (eq-eqb p.run p.run refl)
     (and_from (nat_eq p.job p.job) (nat_eq p.leg p.leg) (eq-eqb p.job p.job refl) (eq-eqb p.leg p.leg refl))
 
@@ -49,7 +51,7 @@ one_tested h k false e = inr ((λ same. true≢false (sym (itself k) ∙ ap (λ 
 pub one_or_another : (h k : Holder) → (h ≡ k) ⊎ ((h ≡ k → ⊥) × (same_holder h k ≡ false))
 one_or_another h k = one_tested h k (same_holder h k) refl
 
--- ---- those that are displaced wait no more
+-- ---- displaced holders do not wait any more
 
 waits_not_again : (mid next : List RunState) (h : Holder) → Fades mid next → waits mid h ≡ false → waits next h ≡ false
 waits_not_again mid next h fades not_mid =
@@ -80,7 +82,7 @@ each_filtered P test (x ∷ xs) all =
       | false ↦ λ is now. ((λ e. absurd (true≢false (sym e ∙ is))), each_filtered P test xs now)
     ] refl all
 
--- ---- who is pending in the newcomer's group afterwards
+-- ---- the pending holders of the newcomer's group afterwards
 
 module _ (runs : List RunState) (fit : RunsFit runs) (newcomer : Holder) (g : Group) where
   mid_fades : Fades runs (displaced g newcomer runs).runs

@@ -1,4 +1,4 @@
--- An arrival, made by stopping the one that is found: in a group at most one other is pending, and at most one is running.
+-- An arrival that stops the holders found one by one: in a group at most one other holder is pending, and at most one is running.
 use Rattle.std.specs.Prelude.{◌≡◌, ℕ, zero, suc, List, [], ◌∷◌, filter, find, ◌&&◌, not, Bool, true, false, is_some, Some}
 use Rattle.std.specs.Prelude.{if◌then◌else◌, refl}
 use Rattle.std.specs.List.{AllByRecursion}
@@ -6,29 +6,31 @@ use Rattle.std.specs.Option.{option_map_or}
 use Rattle.std.proofs.Common.{ap, sym, ◌∙◌}
 use Rattle.std.proofs.lemmas.Bool.{and_parts, true≢false}
 use Rattle.group_name.specs.Group.{Group}
-use Rattle.workflow_runs.specs.Arrivals.{arrived, displaced, in_progress_stopped, room_made, stopped_where_asked}
-use Rattle.workflow_runs.specs.FirstOf.{changed_at}
-use Rattle.workflow_runs.specs.GroupOf.{cancels_in_progress, group_at}
-use Rattle.workflow_runs.specs.GroupWords.{same_holder}
-use Rattle.workflow_runs.specs.Groups.{HasOneBeside, all_holders, is_pending_in, is_running_in, waits}
-use Rattle.workflow_runs.specs.Holders.{first_conflicting}
-use Rattle.workflow_runs.specs.Moves.{Holder, Transition, at_each, without_moves}
-use Rattle.workflow_runs.specs.SoundRuns.{RunsAreSound}
-use Rattle.workflow_runs.specs.StateWords.{leg_in_phase}
-use Rattle.workflow_runs.specs.StopMoves.{displace, stop_holder}
-use Rattle.workflow_runs.specs.Stops.{stopped, stopped_in, stopped_phase, stopped_run, told_to_stop}
-use Rattle.workflow_runs.specs.RunState.{LegState, JobState, RunState}
-use Rattle.workflow_runs.specs.declared.holder.HolderFilter.{HolderFilter}
-use Rattle.workflow_runs.specs.declared.holder.HolderFilter.TheVariants.{OthersPending, Running}
-use Rattle.workflow_runs.specs.declared.phases.LegPhase.{LegPhase}
-use Rattle.workflow_runs.specs.declared.phases.LegPhase.TheVariants as leg
-use Rattle.workflow_runs.specs.declared.phases.RunPhase.{RunPhase}
-use Rattle.workflow_runs.specs.declared.phases.RunPhase.TheVariants as run
+use Rattle.run_states.specs.Arrivals.{arrived, displaced, in_progress_stopped, room_made, stopped_where_asked}
+use Rattle.run_states.specs.FirstOf.{changed_at}
+use Rattle.run_states.specs.GroupOf.{cancels_in_progress, group_at}
+use Rattle.run_states.specs.GroupWords.{same_holder}
+use Rattle.run_states.specs.Groups.{HasOneBeside, all_holders, is_pending_in, is_running_in, waits}
+use Rattle.run_states.specs.Holders.{first_conflicting}
+use Rattle.run_states.specs.Moves.{Transition, at_each, without_moves}
+use Rattle.run_states.specs.RunState.{LegState, JobState, RunState}
+use Rattle.run_states.specs.SoundRuns.{RunsAreSound}
+use Rattle.run_states.specs.StateWords.{leg_in_phase}
+use Rattle.run_states.specs.StopMoves.{displace, stop_holder}
+use Rattle.run_states.specs.Stops.{stopped, stopped_in, stopped_phase, stopped_run, told_to_stop}
+use Rattle.run_states.specs.declared.holder.HolderFilter.{HolderFilter}
+use Rattle.run_states.specs.declared.holder.HolderFilter.TheVariants.{OthersPending, Running}
+use Rattle.run_states.specs.declared.phases.LegPhase.{LegPhase}
+use Rattle.run_states.specs.declared.phases.LegPhase.TheVariants as leg
+use Rattle.run_states.specs.declared.phases.RunPhase.{RunPhase}
+use Rattle.run_states.specs.declared.phases.RunPhase.TheVariants as run
+use Rattle.run_states.proofs.Optional.{some_of}
+use Rattle.run_states.proofs.RunFits.{RunsFit, runs_fit}
 use Rattle.workflow_runs.proofs.ArrivalKeeps.{displaced_one_each, itself, still_its}
-use Rattle.workflow_runs.proofs.Optional.{some_of}
-use Rattle.workflow_runs.proofs.RunFits.{RunsFit, runs_fit}
+use Rattle.run_states.specs.declared.holder.Holder.{Holder}
+use Rattle.run_states.specs.declared.holder.Holder.TheVariants.{Run, Leg}
 
--- ---- what is stopped stays as it is when it is stopped again
+-- ---- stopping twice is the same as stopping once
 
 changed_twice : {X : Type 0} (i : ℕ) (f : X → X) (xs : List X) → ((x : X) → f (f x) ≡ f x)
     → changed_at i f (changed_at i f xs) ≡ changed_at i f xs
@@ -58,8 +60,8 @@ run_twice x run.Live is = live_twice x x.stopping is refl
 run_twice x run.Ended is = ap (λ phase. stopped_in phase x) is
 
 stopped_twice : (h : Holder) (runs : List RunState) → (stop_holder h (stop_holder h runs).runs).runs ≡ (stop_holder h runs).runs
-stopped_twice (Holder.a_run r) runs = changed_twice r stopped_run runs (λ x. run_twice x x.phase refl)
-stopped_twice (Holder.a_leg p) runs =
+stopped_twice (Run r) runs = changed_twice r stopped_run runs (λ x. run_twice x x.phase refl)
+stopped_twice (Leg p) runs =
     let in_job : JobState → JobState = λ job. record job { legs = changed_at p.leg stopped job.legs } in
     let in_run : RunState → RunState = λ run. record run { jobs = changed_at p.job in_job run.jobs } in
     changed_twice p.run in_run runs
@@ -67,7 +69,7 @@ stopped_twice (Holder.a_leg p) runs =
     (changed_twice p.job in_job run.jobs
     (λ job. ap (λ legs. record job { legs = legs }) (changed_twice p.leg stopped job.legs leg_twice))))
 
--- ---- a change at all that pass a test is one at the first of them, where no two pass
+-- ---- if at most one element passes a test, a change at all that pass is a change at the first that does
 
 module _ (change : Holder → List RunState → Transition)
     (twice : (h : Holder) (runs : List RunState) → (change h (change h runs).runs).runs ≡ (change h runs).runs) where
@@ -145,13 +147,13 @@ arrived_in runs newcomer g cancels its is =
     ap (λ b. (room_made b newcomer runs g).runs) is
     ∙ sym (ap (λ o. (option_map_or (room_made (cancels_in_progress runs newcomer) newcomer runs) o (without_moves runs)).runs) its)
 
--- ---- where there is a group
+-- ---- if the newcomer has a group
 
--- the first of those that are meant is stopped, if there is one
+-- the runs after the first conflicting holder is stopped, if there is one
 abbrev pub first_stopped : List RunState → Holder → HolderFilter → List RunState
 first_stopped runs newcomer whom = option_map_or (λ h. (stop_holder h runs).runs) (first_conflicting runs newcomer whom) runs
 
--- the newcomer has arrived once the pending one is stopped, and the running one too where it cancels what is in progress
+-- the arrival stops the pending holder, and then the running one if the newcomer cancels what is in progress
 pub arrived_by_stops : (runs mid last : List RunState) (newcomer : Holder) (cancels : Bool) → is_some (group_at runs newcomer) ≡ true
     → waits runs newcomer ≡ true → RunsAreSound runs → HasOneBeside runs newcomer → cancels ≡ cancels_in_progress runs newcomer
     → mid ≡ first_stopped runs newcomer OthersPending → last ≡ (if cancels then first_stopped mid newcomer Running else mid)

@@ -1,22 +1,23 @@
--- A new leg that is to arrive: it waits then, and of the others of its group at most one is pending and at most one is running.
+-- A new leg that arrives: it waits then, and at most one other holder of its group is pending and at most one is running.
 use Rattle.std.specs.Prelude.{◌≡◌, List, true, false, Option, Some, None, refl}
 use Rattle.std.specs.Option.{option_map_or}
 use Rattle.std.proofs.Common.{ap}
-use Rattle.workflow_runs.specs.Groups.{HasOneBeside, HasOneEach, leg_waits, waits}
-use Rattle.workflow_runs.specs.LookAgain.{is_new_at}
-use Rattle.workflow_runs.specs.Moves.{Holder}
-use Rattle.workflow_runs.specs.Places.{LegPlace, leg_at}
-use Rattle.workflow_runs.specs.Rules.{with_leg_in}
-use Rattle.workflow_runs.specs.SoundRuns.{RunsAreSound}
-use Rattle.workflow_runs.specs.StateWords.{is_new, leg_in_phase}
-use Rattle.workflow_runs.specs.RunState.{LegState, RunState}
-use Rattle.workflow_runs.specs.declared.phases.LegPhase.{LegPhase}
-use Rattle.workflow_runs.specs.declared.phases.LegPhase.TheVariants as leg
+use Rattle.run_states.specs.Groups.{HasOneBeside, HasOneEach, leg_waits, waits}
+use Rattle.run_states.specs.Resuming.{is_new_at}
+use Rattle.run_states.specs.Places.{leg_at}
+use Rattle.run_states.specs.declared.place.LegPlace.{LegPlace}
+use Rattle.run_states.specs.Rules.{with_leg_in}
+use Rattle.run_states.specs.RunState.{LegState, RunState}
+use Rattle.run_states.specs.SoundRuns.{RunsAreSound}
+use Rattle.run_states.specs.StateWords.{is_new, leg_in_phase}
+use Rattle.run_states.specs.declared.phases.LegPhase.{LegPhase}
+use Rattle.run_states.specs.declared.phases.LegPhase.TheVariants as leg
 use Rattle.workflow_runs.proofs.HoldersFade.{leg_passes, passes}
 use Rattle.workflow_runs.proofs.OneEach.{groups_stay, newcomer_besides}
 use Rattle.workflow_runs.proofs.OneEachRules.{newcomer_comes, set_itself}
 use Rattle.workflow_runs.proofs.RuleKeeps.{newcomer_waits}
 use Rattle.workflow_runs.proofs.SoundRuns.{runs_that_fit, sound_runs}
+use Rattle.run_states.specs.declared.holder.Holder.TheVariants.{Leg}
 
 -- ---- the leg
 
@@ -41,7 +42,7 @@ module _ (runs : List RunState) (p : LegPlace) (new : is_new_at runs p ≡ true)
   there : NewLeg (leg_at runs p)
   there = new_leg_there (leg_at runs p) new
 
-  pub arriving_waits : waits (with_leg_in leg.Waiting p runs) (Holder.a_leg p) ≡ true
+  pub arriving_waits : waits (with_leg_in leg.Waiting p runs) (Leg p) ≡ true
   arriving_waits = ap (passes (leg_passes leg_waits)) (set_itself runs p there.state there.is (leg_in_phase leg.Waiting))
 
   pub arriving_sound : RunsAreSound runs → RunsAreSound (with_leg_in leg.Waiting p runs)
@@ -49,9 +50,9 @@ module _ (runs : List RunState) (p : LegPlace) (new : is_new_at runs p ≡ true)
       sound_runs (with_leg_in leg.Waiting p runs)
       (newcomer_waits runs p there.state (runs_that_fit runs sound) there.is there.new).stay.fit
 
-  pub arriving_beside : RunsAreSound runs → HasOneEach runs → HasOneBeside (with_leg_in leg.Waiting p runs) (Holder.a_leg p)
+  pub arriving_beside : RunsAreSound runs → HasOneEach runs → HasOneBeside (with_leg_in leg.Waiting p runs) (Leg p)
   arriving_beside sound each =
       let next = with_leg_in leg.Waiting p runs in
       let fit = runs_that_fit runs sound in
       let stay = (newcomer_waits runs p there.state fit there.is there.new).stay in
-      newcomer_besides runs next (Holder.a_leg p) (groups_stay runs next fit stay) (newcomer_comes runs p there.state there.is) each
+      newcomer_besides runs next (Leg p) (groups_stay runs next fit stay) (newcomer_comes runs p there.state there.is) each

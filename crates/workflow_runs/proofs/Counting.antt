@@ -1,4 +1,4 @@
--- One more run is counted: its workflow has one more, and the others have as many as before.
+-- One more run is counted: the count of its workflow grows by one, and the other counts stay the same.
 use Rattle.std.specs.Prelude.{◌≡◌, ℕ, ◌+◌, ◌&&◌, List, [], ◌∷◌, ◌++◌, Bool, true, false, cond, is_some, IsSomeAnd, MatchOption, Some, None}
 use Rattle.std.specs.Prelude.{Option, refl}
 use Rattle.std.specs.BTreeMap.{BTreeMap, UpdatesBy, get_by}
@@ -20,10 +20,10 @@ use Rattle.std.proofs.lemmas.Map.Text.{is_eq-slice_cmp}
 use Rattle.std.proofs.lemmas.Slice.Eq.{bytes_eq-Decides}
 use Rattle.wf_reader.specs.Event.{event_of}
 use Rattle.run_plan.specs.Admitted.{Admitted}
+use Rattle.run_states.specs.RunNumber.{same_workflow}
 use Rattle.workflow_runs.specs.Counted.{AreCounted, IsOf, Workflow, count_of, has_count, is_counted, texts_of}
-use Rattle.workflow_runs.specs.RunNumber.{same_workflow}
 
--- ---- the order of workflows, by their repositories and then by their paths
+-- ---- the order of workflows: by repository, then by path
 
 abbrev Texts : Type 0
 Texts = List ℕ × List ℕ
@@ -51,14 +51,14 @@ same_texts a b =
     ∙ ap (λ s. s && is_eq (slice_cmp nat_cmp a.1 b.1)) (is_eq-slice_cmp a.0 b.0)
     ∙ ap (λ s. bytes_eq a.0 b.0 && s) (is_eq-slice_cmp a.1 b.1)
 
--- what is found in a copy
+-- a copy finds the same
 pub same_found : {X : Type 0} (D : X → X → Type 0) → ((m n : X) → D m n → n ≡ m) → (old new : Option X)
     → MatchOption old (new ≡ None) (λ v. IsSomeAnd new (D v)) → new ≡ old
 same_found D is None new h = h
 same_found D is (Some v) (Some w) h = ap Some (is v w h)
 same_found D is (Some v) None h = absurd h
 
--- ---- a change at one workflow
+-- ---- a change of one workflow's count
 
 other_stays : {X : Type 0} (eq : Workflow → Workflow → Bool) (test : Workflow → Bool) (old new : List (Workflow × X))
     → KeepsOthers eq test old new
@@ -115,7 +115,7 @@ abbrev Puts : BTreeMap Workflow ℕ → BTreeMap Workflow ℕ → Texts → ℕ 
 Puts old new a number =
     UpdatesBy (λ (x y : Workflow). order (texts_of x) (texts_of y)) (λ (w : Workflow). order a (texts_of w)) old new (Some number)
 
--- the texts of a workflow that is the event's
+-- the texts of a workflow are those of its events
 same_workflow_texts : (workflow : Workflow) (event : Admitted) → IsOf workflow event → texts_of workflow ≡ of_event event
 same_workflow_texts workflow event is = ap₂ (λ (a b : List ℕ). (a, b)) is.0 is.1
 
@@ -128,7 +128,7 @@ counted old new event workflow number updates of is other =
     (subst (λ (a : Texts). Puts old new a number) (same_workflow_texts workflow event of) updates) is
     (of_event other)
 
--- a workflow without a count, whose count is made 0
+-- entering a workflow without a count, with the count 0, changes no count
 pub room_made : (old new : BTreeMap Workflow ℕ) (workflow copy : Workflow) → texts_of copy ≡ texts_of workflow
     → Puts old new (texts_of copy) 0
     → has_count old workflow ≡ false → (other : Admitted) → count_of new other ≡ count_of old other
@@ -150,7 +150,7 @@ copied_counts C D alike is old new zipped event =
     (same_found D is (lookup test old.entries) (lookup test new.entries)
     (lookup_clone C D test (λ x y c. ap (same (of_event event)) (alike x y c)) old.entries new.entries zipped))
 
--- the count of a workflow is that of each of its events
+-- the count of a workflow is the count of each of its events
 pub kept_count : (counts : BTreeMap Workflow ℕ) (workflow : Workflow) (event : Admitted) → IsOf workflow event
     → is_counted counts event ≡ true → get_by (λ (w : Workflow). order (texts_of workflow) (texts_of w)) counts ≡ None → ⊥
 kept_count counts workflow event of is none =
@@ -159,7 +159,7 @@ kept_count counts workflow event of is none =
     (sym (same_workflow_texts workflow event of)) is in
     false≢true (sym (ap is_some none) ∙ found)
 
--- ---- the events that are counted
+-- ---- the counted events
 
 one_or_none : (alike : Bool) (n : ℕ) → cond alike (n + 1) n ≡ n + (0 + cond alike 1 0)
 one_or_none true n = refl

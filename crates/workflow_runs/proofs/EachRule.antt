@@ -1,68 +1,70 @@
--- A rule that is taken makes one of seven changes: what is so of each of them is so of what the rule at a place makes.
+-- Each rule makes one of seven transitions. A property of all seven holds of the transition at each place.
 use Rattle.std.specs.Prelude.{◌≡◌, ℕ, ◌&&◌, List, [], ◌∷◌, Bool, true, false, Some, if◌then◌else◌, refl}
 use Rattle.std.specs.List.{list_all}
 use Rattle.std.proofs.Common.{subst}
 use Rattle.std.proofs.lemmas.Bool.{and_parts}
 use Rattle.wf_value.specs.declared.outcome.Outcome.TheVariants as outcome
 use Rattle.needs_graph.specs.Results.{conclusion_of}
-use Rattle.workflow_runs.specs.Arrivals.{arrived, is_in_group_of_run, started}
-use Rattle.workflow_runs.specs.Groups.{may_start}
-use Rattle.workflow_runs.specs.JobResults.{results_of}
-use Rattle.workflow_runs.specs.Moves.{Holder, Move, Transition, without_moves}
-use Rattle.workflow_runs.specs.Places.{LegPlace, job_at, leg_at, run_at, with_job, with_run}
-use Rattle.workflow_runs.specs.Rules.{closing_rule, decided, leg_rule, leg_rule_in, newcomer_rule, opening_rule, result_at, rule_at}
-use Rattle.workflow_runs.specs.Rules.{whole_rule, whole_rule_in, with_leg_in}
-use Rattle.workflow_runs.specs.RunState.{JobState, LegState, RunState}
-use Rattle.workflow_runs.specs.StateWords.{is_blocked, is_done, is_settled, run_in_phase, settled_as}
-use Rattle.workflow_runs.specs.Words.{needs_have_settled}
-use Rattle.workflow_runs.specs.declared.phases.LegPhase.{LegPhase}
-use Rattle.workflow_runs.specs.declared.phases.LegPhase.TheVariants as leg
-use Rattle.workflow_runs.specs.declared.phases.RunPhase.{RunPhase}
-use Rattle.workflow_runs.specs.declared.phases.RunPhase.TheVariants as run
-use Rattle.workflow_runs.specs.declared.place.Place.{Place}
-use Rattle.workflow_runs.specs.declared.place.Place.TheVariants.{Opening, AtLeg, Closing, Whole}
-use Rattle.workflow_runs.proofs.Optional.{from_and_then, if_some}
+use Rattle.run_states.specs.Arrivals.{arrived, is_in_group_of_run, started}
+use Rattle.run_states.specs.Groups.{may_start}
+use Rattle.run_states.specs.JobResults.{results_of}
+use Rattle.run_states.specs.Moves.{Move, Transition, without_moves}
+use Rattle.run_states.specs.Places.{job_at, leg_at, run_at, with_job, with_run}
+use Rattle.run_states.specs.declared.place.LegPlace.{LegPlace}
+use Rattle.run_states.specs.Rules.{closing_rule, decided, leg_rule, leg_rule_in, newcomer_rule, opening_rule, result_at, rule_at}
+use Rattle.run_states.specs.Rules.{whole_rule, whole_rule_in, with_leg_in}
+use Rattle.run_states.specs.RunState.{JobState, LegState, RunState}
+use Rattle.run_states.specs.StateWords.{is_blocked, is_done, is_settled, run_in_phase, settled_as}
+use Rattle.run_states.specs.Words.{needs_have_settled}
+use Rattle.run_states.specs.declared.phases.LegPhase.{LegPhase}
+use Rattle.run_states.specs.declared.phases.LegPhase.TheVariants as leg
+use Rattle.run_states.specs.declared.phases.RunPhase.{RunPhase}
+use Rattle.run_states.specs.declared.phases.RunPhase.TheVariants as run
+use Rattle.run_states.specs.declared.place.RuleSite.{RuleSite}
+use Rattle.run_states.specs.declared.place.RuleSite.TheVariants.{Opening, AtLeg, Closing, Whole}
+use Rattle.run_states.proofs.Optional.{from_and_then, if_some}
+use Rattle.run_states.specs.declared.holder.Holder.TheVariants.{Run, Leg}
 
--- what a live run with all jobs settled is made
+-- what becomes of a live run whose jobs have all finished
 abbrev pub run_ended : List RunState → ℕ → RunState → Transition
 run_ended runs r x = record {
   runs = with_run r (run_in_phase run.Ended) runs;
-  moves = Move.end_with (conclusion_of (results_of x.jobs)) (Holder.a_run r) ∷ [];
+  moves = Move.end_with (conclusion_of (results_of x.jobs)) (Run r) ∷ [];
 }
 
--- It is so of what each rule makes of these runs, where it applies.
-pub record EachRule (runs : List RunState) (P : Place → Transition → Type 0) : Type 0 where
+-- `P` holds of the transition of each rule that applies to these runs.
+pub record EachRule (runs : List RunState) (P : RuleSite → Transition → Type 0) : Type 0 where
   pub job_opens : (r j : ℕ) (y : JobState) → job_at runs r j ≡ Some y → is_blocked y.phase ≡ true → needs_have_settled runs r j ≡ true
       → P (Opening r j) (without_moves (with_job r j (decided runs r j) runs))
   pub leg_is_cancelled : (p : LegPlace) (z : LegState) → leg_at runs p ≡ Some z → z.phase ≡ leg.New
       → P (AtLeg p) (without_moves (with_leg_in (leg.Ended outcome.Cancelled) p runs))
   pub leg_arrives : (p : LegPlace) (z : LegState) → leg_at runs p ≡ Some z → z.phase ≡ leg.New
-      → P (AtLeg p) (arrived (Holder.a_leg p) (with_leg_in leg.Waiting p runs))
+      → P (AtLeg p) (arrived (Leg p) (with_leg_in leg.Waiting p runs))
   pub leg_starts : (p : LegPlace) (z : LegState) → leg_at runs p ≡ Some z → z.phase ≡ leg.Waiting
-      → may_start runs (Holder.a_leg p) ≡ true → P (AtLeg p) (started (Holder.a_leg p) (with_leg_in leg.Ready p runs))
+      → may_start runs (Leg p) ≡ true → P (AtLeg p) (started (Leg p) (with_leg_in leg.Ready p runs))
   pub job_settles : (r j : ℕ) (y : JobState) → job_at runs r j ≡ Some y → is_done y ≡ true
       → P (Closing r j) (without_moves (with_job r j (settled_as (result_at runs r j y)) runs))
-  pub run_starts : (r : ℕ) (x : RunState) → run_at runs r ≡ Some x → x.phase ≡ run.Waiting → may_start runs (Holder.a_run r) ≡ true
-      → P (Whole r) (started (Holder.a_run r) (with_run r (run_in_phase run.Live) runs))
+  pub run_starts : (r : ℕ) (x : RunState) → run_at runs r ≡ Some x → x.phase ≡ run.Waiting → may_start runs (Run r) ≡ true
+      → P (Whole r) (started (Run r) (with_run r (run_in_phase run.Live) runs))
   pub run_ends : (r : ℕ) (x : RunState) → run_at runs r ≡ Some x → x.phase ≡ run.Live → list_all is_settled x.jobs ≡ true
       → P (Whole r) (run_ended runs r x)
 
--- what is so of each of two is so of the one that is chosen
+-- what holds of both alternatives holds of the one that is chosen
 either : (b : Bool) (x y : Transition) (P : Transition → Type 0) → P x → P y → P (if b then x else y)
 either true x y P of_x of_y = of_x
 either false x y P of_x of_y = of_y
 
-module _ (runs : List RunState) (P : Place → Transition → Type 0) (each : EachRule runs P) where
+module _ (runs : List RunState) (P : RuleSite → Transition → Type 0) (each : EachRule runs P) where
   at_leg : (m : Transition) (p : LegPlace) (z : LegState) (phase : LegPhase) → leg_at runs p ≡ Some z → z.phase ≡ phase
       → leg_rule_in phase runs p ≡ Some m → P (AtLeg p) m
   at_leg m p z leg.New was is h =
       let same : newcomer_rule runs p ≡ m = cc in
       subst (P (AtLeg p)) same
       (either (is_in_group_of_run runs p) (without_moves (with_leg_in (leg.Ended outcome.Cancelled) p runs))
-      (arrived (Holder.a_leg p) (with_leg_in leg.Waiting p runs)) (P (AtLeg p)) (each.leg_is_cancelled p z was is)
+      (arrived (Leg p) (with_leg_in leg.Waiting p runs)) (P (AtLeg p)) (each.leg_is_cancelled p z was is)
       (each.leg_arrives p z was is))
   at_leg m p z leg.Waiting was is h =
-      let taken = if_some (may_start runs (Holder.a_leg p)) (started (Holder.a_leg p) (with_leg_in leg.Ready p runs)) m h in
+      let taken = if_some (may_start runs (Leg p)) (started (Leg p) (with_leg_in leg.Ready p runs)) m h in
       subst (P (AtLeg p)) taken.1 (each.leg_starts p z was is taken.0)
   at_leg m p z leg.Ready was is h = absurd (cc h)
   at_leg m p z leg.Running was is h = absurd (cc h)
@@ -72,14 +74,14 @@ module _ (runs : List RunState) (P : Place → Transition → Type 0) (each : Ea
   at_run : (m : Transition) (r : ℕ) (x : RunState) (phase : RunPhase) → run_at runs r ≡ Some x → x.phase ≡ phase
       → whole_rule_in phase runs r x ≡ Some m → P (Whole r) m
   at_run m r x run.Waiting was is h =
-      let taken = if_some (may_start runs (Holder.a_run r)) (started (Holder.a_run r) (with_run r (run_in_phase run.Live) runs)) m h in
+      let taken = if_some (may_start runs (Run r)) (started (Run r) (with_run r (run_in_phase run.Live) runs)) m h in
       subst (P (Whole r)) taken.1 (each.run_starts r x was is taken.0)
   at_run m r x run.Live was is h =
       let taken = if_some (list_all is_settled x.jobs) (run_ended runs r x) m h in
       subst (P (Whole r)) taken.1 (each.run_ends r x was is taken.0)
   at_run m r x run.Ended was is h = absurd (cc h)
 
-  pub by_rule : (m : Transition) (place : Place) → rule_at runs place ≡ Some m → P place m
+  pub by_rule : (m : Transition) (place : RuleSite) → rule_at runs place ≡ Some m → P place m
   by_rule m (Opening r j) h =
       let made = from_and_then (opening_rule runs r j) (job_at runs r j) m h in
       let y = made.value in

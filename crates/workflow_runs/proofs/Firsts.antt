@@ -1,4 +1,4 @@
--- The first answer in a list, found place by place, and the first place that passes a test.
+-- The first value of a partial function in a list, found index by index, and the first place that passes a test.
 use Rattle.std.specs.Prelude.{◌≡◌, ℕ, zero, suc, ◌+◌, ◌<◌, ◌≤◌, List, [], ◌∷◌, map, flat_map, find, length, Bool, true, false}
 use Rattle.std.specs.Prelude.{is_some, Option, Some, None, option_and_then, slice_get, if◌then◌else◌, refl}
 use Rattle.std.specs.List.{enumerate_from, AllByRecursion}
@@ -6,29 +6,28 @@ use Rattle.std.specs.Option.{option_or}
 use Rattle.std.proofs.Common.{arith, ap, subst, sym, ◌∙◌, below_more, get_or}
 use Rattle.std.proofs.lemmas.Option.{slice_get-get_or, slice_get-map}
 use Rattle.std.proofs.lemmas.List.Folds.{find-append}
-use Rattle.workflow_runs.specs.Cells.{JobCells, states}
-use Rattle.workflow_runs.specs.FirstOf.{first_some, placed}
-pub use Rattle.workflow_runs.specs.LookAgain.{ask, NoneBefore}
-use Rattle.workflow_runs.specs.Places.{LegPlace, leg_place}
-use Rattle.workflow_runs.specs.RunState.{JobState, LegState}
-use Rattle.workflow_runs.proofs.Found.{all_weaken, placed_get}
-use Rattle.workflow_runs.proofs.Optional.{and_then-option_map}
+use Rattle.run_states.specs.Cells.{JobCells, states}
+use Rattle.run_states.specs.FirstOf.{first_some, placed}
+pub use Rattle.run_states.specs.Resuming.{apply_at, NoneBefore}
+use Rattle.run_states.specs.RunState.{JobState}
+use Rattle.run_states.proofs.Found.{all_weaken, placed_get}
+use Rattle.run_states.proofs.Optional.{and_then-option_map}
 
--- ---- two questions with the same answers
+-- ---- two functions with the same values
 
 pub first_some_same : {X Y : Type 0} (f g : X → Option Y) (xs : List X) → AllByRecursion (λ x. f x ≡ g x) xs
     → first_some f xs ≡ first_some g xs
 first_some_same f g [] h = refl
 first_some_same f g (x ∷ xs) h = ap (λ o. option_or o (first_some f xs)) h.0 ∙ ap (option_or (g x)) (first_some_same f g xs h.1)
 
--- two questions with the same answers at each element's place
+-- two functions with the same values at each element with its index
 pub first_same_placed : {X Y : Type 0} (f g : ℕ × X → Option Y) (xs : List X)
     → ((i : ℕ) (x : X) → slice_get xs i ≡ Some x → f (i, x) ≡ g (i, x)) → first_some f (placed xs) ≡ first_some g (placed xs)
 first_same_placed {X} f g xs h =
     first_some_same f g (placed xs)
     (all_weaken (λ (e : ℕ × X). slice_get xs e.0 ≡ Some e.1) (λ e. f e ≡ g e) (λ e at. h e.0 e.1 at) (placed xs) (placed_get xs))
 
--- the elements of a list of which each is changed
+-- the elements of a mapped list
 placed_from-map : {X Y Z : Type 0} (f : ℕ → Y → Option Z) (h : X → Y) (xs : List X) (n : ℕ)
     → first_some (λ e. f e.0 e.1) (enumerate_from n (map h xs)) ≡ first_some (λ e. f e.0 (h e.1)) (enumerate_from n xs)
 placed_from-map f h [] n = refl
@@ -38,7 +37,7 @@ pub first_placed-map : {X Y Z : Type 0} (f : ℕ → Y → Option Z) (h : X → 
     → first_some (λ e. f e.0 e.1) (placed (map h xs)) ≡ first_some (λ e. f e.0 (h e.1)) (placed xs)
 first_placed-map f h xs = placed_from-map f h xs 0
 
--- ---- the first place that passes a test, in lists made of lists
+-- ---- the first place that passes a test, in a concatenation of lists
 
 pub find-flat_map : {X P : Type 0} (test : P → Bool) (places : X → List P) (xs : List X)
     → find test (flat_map places xs) ≡ first_some (λ x. find test (places x)) xs
@@ -57,7 +56,7 @@ find-map test place (x ∷ xs) =
       | false ↦ find-map test place xs
     ]
 
--- ---- place by place
+-- ---- index by index
 
 found_from : {X Y : Type 0} (f : ℕ → X → Option Y) (xs : List X) (n i : ℕ) (y : Y)
     → ((k : ℕ) → k < i → option_and_then (f (n + k)) (slice_get xs k) ≡ None) → option_and_then (f (n + i)) (slice_get xs i) ≡ Some y
@@ -87,38 +86,38 @@ none_from f (x ∷ xs) n none =
     ap (λ o. option_or o (first_some (λ e. f e.0 e.1) (enumerate_from (n + 1) xs))) now
     ∙ none_from f xs (n + 1) (λ k lt. subst (λ m. option_and_then (f m) (slice_get xs k) ≡ None) (later k) (none (suc k) (omega arith)))
 
--- the first place with an answer gives it
-pub found_at : {X Y : Type 0} (f : ℕ → X → Option Y) (xs : List X) (i : ℕ) (y : Y) → NoneBefore f xs i → ask f xs i ≡ Some y
+-- the first index with a value gives it
+pub found_at : {X Y : Type 0} (f : ℕ → X → Option Y) (xs : List X) (i : ℕ) (y : Y) → NoneBefore f xs i → apply_at f xs i ≡ Some y
     → first_some (λ e. f e.0 e.1) (placed xs) ≡ Some y
 found_at f xs i y before here =
     let zero_first : (k : ℕ) → k ≡ 0 + k = λ k. omega arith in
     found_from f xs 0 i y (λ k lt. subst (λ m. option_and_then (f m) (slice_get xs k) ≡ None) (zero_first k) (before k lt))
     (subst (λ m. option_and_then (f m) (slice_get xs i) ≡ Some y) (zero_first i) here)
 
--- where no place has one there is none
+-- if no index has a value, there is none
 pub none_found : {X Y : Type 0} (f : ℕ → X → Option Y) (xs : List X) (i : ℕ) → NoneBefore f xs i → length xs ≤ i
     → first_some (λ e. f e.0 e.1) (placed xs) ≡ None
 none_found f xs i before le =
     let zero_first : (k : ℕ) → k ≡ 0 + k = λ k. omega arith in
     none_from f xs 0 (λ k lt. subst (λ m. option_and_then (f m) (slice_get xs k) ≡ None) (zero_first k) (before k (omega arith)))
 
--- what is asked of an element that is read
-ask_read : {X Y : Type 0} (f : ℕ → X → Option Y) (xs : List X) (i : ℕ) (d : X) → i < length xs → ask f xs i ≡ f i (get_or xs i d)
-ask_read f xs i d lt = ap (option_and_then (f i)) (slice_get-get_or xs i d lt)
+-- the value at an element that is read
+apply_at_read : {X Y : Type 0} (f : ℕ → X → Option Y) (xs : List X) (i : ℕ) (d : X) → i < length xs → apply_at f xs i ≡ f i (get_or xs i d)
+apply_at_read f xs i d lt = ap (option_and_then (f i)) (slice_get-get_or xs i d lt)
 
--- ---- a search that ends at the first answer
+-- ---- a search that ends at the first value
 
 pub answer_found : {X Y : Type 0} (f : ℕ → X → Option Y) (xs : List X) (i : ℕ) (x : X) (o : Option Y) → NoneBefore f xs i → i < length xs
     → x ≡ get_or xs i x → o ≡ f i x → is_some o ≡ true → first_some (λ e. f e.0 e.1) (placed xs) ≡ o
 answer_found f xs i x None before lt is h some = cc
-answer_found f xs i x (Some y) before lt is h some = found_at f xs i y before (ask_read f xs i x lt ∙ ap (f i) (sym is) ∙ sym h)
+answer_found f xs i x (Some y) before lt is h some = found_at f xs i y before (apply_at_read f xs i x lt ∙ ap (f i) (sym is) ∙ sym h)
 
 pub answer_passed : {X Y : Type 0} (f : ℕ → X → Option Y) (xs : List X) (i : ℕ) (x : X) (o : Option Y) → i < length xs → x ≡ get_or xs i x
-    → o ≡ f i x → is_some o ≡ false → ask f xs i ≡ None
-answer_passed f xs i x None lt is h none = ask_read f xs i x lt ∙ ap (f i) (sym is) ∙ sym h
+    → o ≡ f i x → is_some o ≡ false → apply_at f xs i ≡ None
+answer_passed f xs i x None lt is h none = apply_at_read f xs i x lt ∙ ap (f i) (sym is) ∙ sym h
 answer_passed f xs i x (Some y) lt is h none = cc
 
--- among the jobs of a run, asked by their states
+-- among the jobs of a run, by their states
 module _ {Y : Type 0} (f : ℕ → JobState → Option Y) (jobs : List JobCells) (j : ℕ) where
   pub job_answers : (x : JobCells) (o : Option Y) → NoneBefore (λ k job. f k job.state) jobs j → j < length jobs → x ≡ get_or jobs j x
       → o ≡ f j x.state → is_some o ≡ true → o ≡ first_some (λ e. f e.0 e.1) (placed (states jobs))
@@ -134,33 +133,9 @@ module _ {Y : Type 0} (f : ℕ → JobState → Option Y) (jobs : List JobCells)
   no_job_answers before le =
       sym (first_placed-map f (λ (y : JobCells). y.state) jobs ∙ none_found (λ k job. f k job.state) jobs j before le)
 
--- among the legs of a job, tested with their places
-module _ {Y : Type 0} (test : LegPlace → LegState → Bool) (give : LegPlace → Y) (r j : ℕ) (legs : List LegState) (l : ℕ) where
-  abbrev pub answer : ℕ → LegState → Option Y
-  answer k leg = if test (leg_place r j k) leg then Some (give (leg_place r j k)) else None
-
-  its_answer : (leg : LegState) (p : LegPlace) (b c : Bool) → p ≡ leg_place r j l → b ≡ test p leg → b ≡ c
-      → (if c then Some (give (leg_place r j l)) else None) ≡ answer l leg
-  its_answer leg p b c at so is =
-      ap (λ t. if t then Some (give (leg_place r j l)) else None) (sym is ∙ so ∙ ap (λ q. test q leg) at)
-
-  pub leg_answers : (leg : LegState) (p : LegPlace) (b : Bool) → NoneBefore answer legs l → l < length legs → leg ≡ get_or legs l leg
-      → p ≡ leg_place r j l → b ≡ test p leg → b ≡ true
-      → Some (give (leg_place r j l)) ≡ first_some (λ e. answer e.0 e.1) (placed legs)
-  leg_answers leg p b before lt is at so passes =
-      sym (answer_found answer legs l leg (Some (give (leg_place r j l))) before lt is (its_answer leg p b true at so passes) refl)
-
-  pub leg_passed : (leg : LegState) (p : LegPlace) (b : Bool) → NoneBefore answer legs l → l < length legs → leg ≡ get_or legs l leg
-      → p ≡ leg_place r j l → b ≡ test p leg → b ≡ false → NoneBefore answer legs (l + 1)
-  leg_passed leg p b before lt is at so fails =
-      below_more _ _ before (answer_passed answer legs l leg None lt is (its_answer leg p b false at so fails) refl)
-
-  pub no_leg_answers : NoneBefore answer legs l → length legs ≤ l → None ≡ first_some (λ e. answer e.0 e.1) (placed legs)
-  no_leg_answers before le = sym (none_found answer legs l before le)
-
 -- ---- where the first answer comes from
 
--- the place of the first answer, counted from n
+-- the index of the first value, counted from n
 record FirstFrom {X Y : Type 0} (f : ℕ → X → Option Y) (n : ℕ) (xs : List X) (y : Y) : Type 0 where
   at : ℕ
   before : (k : ℕ) → k < at → option_and_then (f (n + k)) (slice_get xs k) ≡ None
@@ -193,11 +168,11 @@ first_from f n (x ∷ xs) y e =
           record { at = 0; before = (λ k lt. absurd (omega arith)); here = subst (λ m. f m x ≡ Some y) at (is ∙ e) }
     ] refl e
 
--- the first answer in a list, with the place of it
+-- the first value in a list, with its index
 pub record FirstAt {X Y : Type 0} (f : ℕ → X → Option Y) (xs : List X) (y : Y) : Type 0 where
   pub at : ℕ
   pub before : NoneBefore f xs at
-  pub here : ask f xs at ≡ Some y
+  pub here : apply_at f xs at ≡ Some y
 
 pub first_at : {X Y : Type 0} (f : ℕ → X → Option Y) (xs : List X) (y : Y) → first_some (λ e. f e.0 e.1) (placed xs) ≡ Some y
     → FirstAt f xs y
@@ -210,7 +185,7 @@ first_at f xs y e =
       here = subst (λ m. option_and_then (f m) (slice_get xs first.at) ≡ Some y) (from_zero first.at) first.here;
     }
 
--- where the elements are changed ones
+-- no value before an index of a mapped list
 pub none_before-map : {X Y Z : Type 0} (f : ℕ → Y → Option Z) (h : X → Y) (xs : List X) (i : ℕ) → NoneBefore f (map h xs) i
     → NoneBefore (λ k x. f k (h x)) xs i
 none_before-map f h xs i before k lt =

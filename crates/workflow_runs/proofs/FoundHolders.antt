@@ -1,60 +1,56 @@
--- Whoever waits or holds a group stays found, whatever changes.
-use Rattle.std.specs.Prelude.{◌≡◌, ◌⊎◌, ℕ, ◌≤◌, ◌||◌, List, [], length, nat_eq, Bool, true, false, Option, Some, None}
+-- Each active holder is still found after each change.
+use Rattle.std.specs.Prelude.{◌≡◌, ◌⊎◌, ℕ, ◌≤◌, ◌||◌, List, [], length, Bool, true, false, Option, Some, None}
 use Rattle.std.specs.Prelude.{IfSome, slice_get, if◌then◌else◌, refl}
 use Rattle.std.specs.List.{list_any}
 use Rattle.std.specs.Option.{option_map_or}
 use Rattle.std.proofs.Common.{arith, ap, subst, sym, ◌∙◌, inl, inr}
-use Rattle.std.proofs.lemmas.Bool.{cases_eq, eqb-true, or_parts, true≢false}
+use Rattle.std.proofs.lemmas.Bool.{cases_eq, or_parts, true≢false}
 use Rattle.std.proofs.lemmas.Option.{same_Some}
 use Rattle.run_marks.specs.Bits.{Puts}
 use Rattle.run_marks.specs.Marked.{Covers, SameMarks, is_marked}
-use Rattle.workflow_runs.specs.Asks.{asked_of}
+use Rattle.run_states.specs.ActiveRuns.{has_active_leg, is_active, is_active_leg}
+use Rattle.run_states.specs.Changes.{newcomer}
+use Rattle.run_states.specs.Groups.{leg_holds, leg_waits, run_waits}
+use Rattle.run_states.specs.Holders.{run_of}
+use Rattle.run_states.specs.Places.{leg_place, run_at}
+use Rattle.run_states.specs.declared.place.LegPlace.{LegPlace}
+use Rattle.run_states.specs.RunState.{JobState, LegState, RunState}
+use Rattle.run_states.specs.StateWords.{is_live}
+use Rattle.run_states.specs.declared.change.Change.{Change}
+use Rattle.run_states.specs.declared.change.Change.TheVariants as change
+use Rattle.run_states.specs.declared.phases.LegPhase.{LegPhase}
+use Rattle.run_states.proofs.NamedOnce.{not_same}
+use Rattle.run_bindings.specs.Bindings.{group_request_of}
+use Rattle.run_bindings.specs.GroupNumbers.{Entries, OnlyEnters}
+use Rattle.run_bindings.specs.declared.bindings.RunBindings.{RunBindings}
 use Rattle.workflow_runs.specs.FoundHolders.{AllAreFound, HoldersAreFound, IsFound, IsListed, IsListedAt, OnlyLists, Stands, StillFound}
-use Rattle.workflow_runs.specs.FoundHolders.{newcomer}
-use Rattle.workflow_runs.specs.GroupNumbers.{Entries, OnlyEnters}
-use Rattle.workflow_runs.specs.Groups.{leg_holds, leg_waits, run_waits}
-use Rattle.workflow_runs.specs.Holders.{holder_in_words, run_of}
-use Rattle.workflow_runs.specs.MarkedRuns.{has_active_leg, is_active, is_active_leg, is_so_at}
-use Rattle.workflow_runs.specs.Places.{LegPlace, leg_place, run_at}
-use Rattle.workflow_runs.specs.RunState.{JobState, LegState, RunState}
-use Rattle.workflow_runs.specs.StateWords.{is_live}
-use Rattle.workflow_runs.specs.declared.asks.RunBindings.{RunBindings}
-use Rattle.workflow_runs.specs.declared.change.Change.{Change}
-use Rattle.workflow_runs.specs.declared.change.Change.TheVariants as change
-use Rattle.workflow_runs.specs.declared.holder.Holder.{Holder}
-use Rattle.workflow_runs.specs.declared.holder.Holder.TheVariants.{Run, Leg}
-use Rattle.workflow_runs.specs.declared.phases.LegPhase.{LegPhase}
+use Rattle.workflow_runs.specs.MarkedRuns.{is_so_at}
 use Rattle.workflow_runs.specs.declared.runs.group_holders.GroupHolders.{GroupHolders}
 use Rattle.workflow_runs.proofs.HoldersFade.{by_run, job_passes, leg_passes, passes, run_passes}
 use Rattle.workflow_runs.proofs.MarkedRuns.{put_adds}
 use Rattle.workflow_runs.proofs.NoneActive.{none_of}
 use Rattle.workflow_runs.proofs.StoodBefore.{Stood}
+use Rattle.run_states.specs.declared.holder.Holder.{Holder}
+use Rattle.run_states.specs.declared.holder.Holder.TheVariants.{Run, Leg}
 
 abbrev place_of : Holder → ℕ
-place_of h = run_of (holder_in_words h)
+place_of h = run_of h
 
-pub not_same : (i r : ℕ) → (i ≡ r → ⊥) → nat_eq i r ≡ false
-not_same i r other = by (nat_eq i r) refl
-  where
-    by : (b : Bool) → nat_eq i r ≡ b → b ≡ false
-    by true is = absurd (other (eqb-true i r is))
-    by false is = refl
-
--- ---- one that is found
+-- ---- one holder that is found
 
 found_by : (P : Type 0) (entries : Entries) (unlisted : List ℕ) (kept : RunBindings) (h : Holder) → IsFound entries unlisted kept h
-    → ((asked_of kept (holder_in_words h) ≡ None) → P) → ((is_marked unlisted (place_of h) ≡ true) → P)
+    → ((group_request_of kept h ≡ None) → P) → ((is_marked unlisted (place_of h) ≡ true) → P)
     → (IsListed entries kept h → P) → P
-found_by P entries unlisted kept h found asks marked listed =
+found_by P entries unlisted kept h found bindings marked listed =
     elim (found) [
-      | inl nothing ↦ asks nothing
+      | inl nothing ↦ bindings nothing
       | inr there ↦ elim (there) [
         | inl mark ↦ marked mark
         | inr slot ↦ listed slot
       ]
     ]
 
--- it is found where more groups are entered
+-- it is still found if more groups are entered
 pub found_entered : (old new : Entries) (unlisted : List ℕ) (kept : RunBindings) (h : Holder) → OnlyEnters old new
     → IsFound old unlisted kept h → IsFound new unlisted kept h
 found_entered old new unlisted kept h enters found =
@@ -69,24 +65,24 @@ found_entered old new unlisted kept h enters found =
       };
     })))
 
--- and where its run stays marked
+-- and if its run stays marked
 pub found_marked : (entries : Entries) (old new : List ℕ) (kept : RunBindings) (h : Holder)
     → (is_marked old (place_of h) ≡ true → is_marked new (place_of h) ≡ true) → IsFound entries old kept h → IsFound entries new kept h
 found_marked entries old new kept h stays found =
     found_by (IsFound entries new kept h) entries old kept h found (λ nothing. inl nothing) (λ mark. inr (inl (stays mark)))
     (λ slot. inr (inr slot))
 
-pub all_entered : (runs : List RunState) (asks : List RunBindings) (old new : Entries) (unlisted : List ℕ) → OnlyEnters old new
-    → HoldersAreFound runs asks old unlisted → HoldersAreFound runs asks new unlisted
-all_entered runs asks old new unlisted enters are = record {
+pub all_entered : (runs : List RunState) (bindings : List RunBindings) (old new : Entries) (unlisted : List ℕ) → OnlyEnters old new
+    → HoldersAreFound runs bindings old unlisted → HoldersAreFound runs bindings new unlisted
+all_entered runs bindings old new unlisted enters are = record {
   covers = are.covers;
   found = (λ h kept stands at. found_entered old new unlisted kept h enters (are.found h kept stands at));
 }
 
--- more room
-pub all_roomier : (runs : List RunState) (asks : List RunBindings) (entries : Entries) (old new : List ℕ) → SameMarks old new
-    → length old ≤ length new → HoldersAreFound runs asks entries old → HoldersAreFound runs asks entries new
-all_roomier runs asks entries old new same room are = record {
+-- more room for marks
+pub all_roomier : (runs : List RunState) (bindings : List RunBindings) (entries : Entries) (old new : List ℕ) → SameMarks old new
+    → length old ≤ length new → HoldersAreFound runs bindings entries old → HoldersAreFound runs bindings entries new
+all_roomier runs bindings entries old new same room are = record {
   covers = omega (arith, are.covers, room);
   found = (λ h kept stands at.
       found_marked entries old new kept h (λ mark. same (place_of h) ∙ mark) (are.found h kept stands at));
@@ -121,23 +117,23 @@ if_it : (one : Option Holder) (P : Holder → Type 0) → IfSome one P → (h : 
 if_it None P says h is = cc
 if_it (Some k) P says h is = subst P (same_Some k h is) says
 
-pub found_after : (runs next : List RunState) (asks : List RunBindings) (old new : Entries) (marks marks' : List ℕ) (r : ℕ) (c : Change)
-    (asked : RunBindings) → length next ≡ length runs → length marks' ≡ length marks → slice_get asks r ≡ Some asked
+pub found_after : (runs next : List RunState) (bindings : List RunBindings) (old new : Entries) (marks marks' : List ℕ) (r : ℕ) (c : Change)
+    (asked : RunBindings) → length next ≡ length runs → length marks' ≡ length marks → slice_get bindings r ≡ Some asked
     → ((h : Holder) → Stands next h → Stood runs (newcomer r c) h) → IfSome (newcomer r c) (IsFound new marks' asked)
-    → StillFound runs old marks new marks' → HoldersAreFound runs asks old marks → HoldersAreFound next asks new marks'
-found_after runs next asks old new marks marks' r c asked many room kept_at stood itself still are = record {
+    → StillFound runs old marks new marks' → HoldersAreFound runs bindings old marks → HoldersAreFound next bindings new marks'
+found_after runs next bindings old new marks marks' r c asked many room kept_at stood itself still are = record {
   covers = omega (arith, are.covers, many, room);
   found = (λ h kept stands at.
       elim (stood h stands) [
         | inl it ↦
-            let here : slice_get asks r ≡ Some kept = ap (slice_get asks) (sym (newcomer_there r c h it)) ∙ at in
+            let here : slice_get bindings r ≡ Some kept = ap (slice_get bindings) (sym (newcomer_there r c h it)) ∙ at in
             subst (λ (k : RunBindings). IsFound new marks' k h) (same_Some asked kept (sym kept_at ∙ here))
             (if_it (newcomer r c) (IsFound new marks' asked) itself h it)
         | inr before ↦ still h kept before (are.found h kept before at)
       ]);
 }
 
--- ---- where no leg of a run is active, none stands
+-- ---- a run whose legs are all inactive has no active leg
 
 idle : (phase : LegPhase) → (leg_waits phase || leg_holds phase) ≡ false → (leg_waits phase ≡ false) × (leg_holds phase ≡ false)
 idle phase none = or_parts (leg_waits phase) (leg_holds phase) none
@@ -165,7 +161,7 @@ no_leg_stands runs p x at none stands =
           (ap (passes (run_passes leg_holds p.job p.leg)) (sym at) ∙ sym (by_run leg_holds runs p) ∙ e)
     ]
 
--- ---- one run stands in the place of another, or behind the others
+-- ---- a run replaces another, or is added at the end
 
 by_its_run : (runs next : List RunState) (h : Holder) → run_at next (place_of h) ≡ run_at runs (place_of h) → Stands next h → Stands runs h
 by_its_run runs next (Run s) same stands =
@@ -178,26 +174,26 @@ by_its_run runs next (Leg p) same stands =
           ∙ sym (by_run leg_holds next p) ∙ e)
     ]
 
-module _ (runs next : List RunState) (asks asks' : List RunBindings) (old new : GroupHolders) (r : ℕ) (asked : RunBindings)
-    (asked_there : slice_get asks' r ≡ Some asked) (other_runs : (s : ℕ) → (s ≡ r → ⊥) → run_at next s ≡ run_at runs s)
-    (other_asks : (s : ℕ) → (s ≡ r → ⊥) → slice_get asks' s ≡ slice_get asks s) (lists : OnlyLists next old new)
+module _ (runs next : List RunState) (bindings bindings' : List RunBindings) (old new : GroupHolders) (r : ℕ) (asked : RunBindings)
+    (asked_there : slice_get bindings' r ≡ Some asked) (other_runs : (s : ℕ) → (s ≡ r → ⊥) → run_at next s ≡ run_at runs s)
+    (other_asks : (s : ℕ) → (s ≡ r → ⊥) → slice_get bindings' s ≡ slice_get bindings s) (lists : OnlyLists next old new)
     (all : AllAreFound next new.book.entries new.unlisted asked r)
-    (are : HoldersAreFound runs asks old.book.entries old.unlisted) where
-  pub found_with : Covers new.unlisted (length next) → HoldersAreFound next asks' new.book.entries new.unlisted
+    (are : HoldersAreFound runs bindings old.book.entries old.unlisted) where
+  pub found_with : Covers new.unlisted (length next) → HoldersAreFound next bindings' new.book.entries new.unlisted
   found_with room = record {
     covers = room;
     found = (λ h kept stands at.
         elim (cases_eq (place_of h) r) [
           | inl here ↦
               subst (λ (k : RunBindings). IsFound new.book.entries new.unlisted k h)
-              (same_Some asked kept (sym asked_there ∙ ap (slice_get asks') (sym here) ∙ at)) (all h here stands)
+              (same_Some asked kept (sym asked_there ∙ ap (slice_get bindings') (sym here) ∙ at)) (all h here stands)
           | inr other ↦
               let before = by_its_run runs next h (other_runs (place_of h) other) stands in
               lists.found h kept stands (are.found h kept before (sym (other_asks (place_of h) other) ∙ at))
         ]);
   }
 
--- ---- a run in which nobody is active is unmarked
+-- ---- a run that is not active is unmarked
 
 active_there : (runs : List RunState) (r : ℕ) (h : Holder) → is_so_at is_active runs r ≡ false → place_of h ≡ r → Stands runs h → ⊥
 active_there runs r h rests here stands = by (run_at runs r) refl rests
@@ -237,10 +233,10 @@ active_there runs r h rests here stands = by (run_at runs r) refl rests
     by : (o : Option RunState) → run_at runs r ≡ o → option_map_or is_active o false ≡ false → ⊥
     by o at none = by_kind h o (ap (run_at runs) here ∙ at) none stands
 
-pub found_unmarked : (runs : List RunState) (asks : List RunBindings) (entries : Entries) (old new : List ℕ) (r : ℕ)
-    → is_so_at is_active runs r ≡ false → Puts false r old new → length new ≡ length old → HoldersAreFound runs asks entries old
-    → HoldersAreFound runs asks entries new
-found_unmarked runs asks entries old new r rests puts room are = record {
+pub found_unmarked : (runs : List RunState) (bindings : List RunBindings) (entries : Entries) (old new : List ℕ) (r : ℕ)
+    → is_so_at is_active runs r ≡ false → Puts false r old new → length new ≡ length old → HoldersAreFound runs bindings entries old
+    → HoldersAreFound runs bindings entries new
+found_unmarked runs bindings entries old new r rests puts room are = record {
   covers = omega (arith, are.covers, room);
   found = (λ h kept stands at.
       elim (cases_eq (place_of h) r) [
@@ -252,7 +248,7 @@ found_unmarked runs asks entries old new r rests puts room are = record {
       ]);
 }
 
--- ---- what a listing leaves
+-- ---- what listing keeps
 
 pub still_if_listed : (runs : List RunState) (old new : Entries) (unlisted : List ℕ)
     → ((n : ℕ) (h : Holder) → Stands runs h → IsListedAt old n h → IsListedAt new n h) → StillFound runs old unlisted new unlisted

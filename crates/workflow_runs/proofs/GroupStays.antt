@@ -1,4 +1,4 @@
--- The group of a run, and of a leg once the jobs that its job needs have settled, stays what it is.
+-- The group of a run does not change, nor does the group of a leg once the needs of its job have finished.
 use Rattle.std.specs.Prelude.{◌≡◌, ℕ, ◌+◌, List, take, count_by, false, true, Option, Some, None, option_map, option_and_then}
 use Rattle.std.specs.Prelude.{refl}
 use Rattle.std.specs.Fmt.{decimal}
@@ -6,20 +6,22 @@ use Rattle.std.specs.Option.{option_map_or}
 use Rattle.std.proofs.Common.{arith, ap, sym, ◌∙◌}
 use Rattle.std.proofs.lemmas.Option.{same_Some, slice_get-map}
 use Rattle.run_plan.specs.Admitted.{Admitted}
-use Rattle.workflow_runs.specs.GroupOf.{RunFacts, cancels_in_progress, group_at, leg_cancels, leg_group, run_facts_at, run_group}
-use Rattle.workflow_runs.specs.Holders.{run_of}
-use Rattle.workflow_runs.specs.LegContext.{facts_at}
-use Rattle.workflow_runs.specs.Moves.{Holder}
-use Rattle.workflow_runs.specs.Places.{LegPlace, leg_at, run_at}
-use Rattle.workflow_runs.specs.RunNumber.{events, same_workflow}
-use Rattle.workflow_runs.specs.RunState.{LegState, RunState}
-use Rattle.workflow_runs.specs.Words.{needs_have_settled}
-use Rattle.workflow_runs.proofs.JobKeeps.{leg_in, no_leg}
-use Rattle.workflow_runs.proofs.LegFacts.{SameUpTo, attempt_at, facts_are, facts_stay, taken_same, told_in}
-use Rattle.workflow_runs.proofs.RunFits.{RunsFit}
-use Rattle.workflow_runs.proofs.Settles.{StayFit, same_events}
+use Rattle.run_states.specs.GroupOf.{RunFacts, cancels_in_progress, group_at, leg_cancels, leg_group, run_facts_at, run_group}
+use Rattle.run_states.specs.Holders.{run_of}
+use Rattle.run_states.specs.LegContext.{facts_at}
+use Rattle.run_states.specs.Places.{leg_at, run_at}
+use Rattle.run_states.specs.declared.place.LegPlace.{LegPlace}
+use Rattle.run_states.specs.RunNumber.{events, same_workflow}
+use Rattle.run_states.specs.RunState.{LegState, RunState}
+use Rattle.run_states.specs.Words.{needs_have_settled}
+use Rattle.run_states.proofs.JobKeeps.{leg_in, no_leg}
+use Rattle.run_states.proofs.LegFacts.{SameUpTo, attempt_at, facts_are, facts_stay, taken_same, told_in}
+use Rattle.run_states.proofs.RunFits.{RunsFit}
+use Rattle.run_states.proofs.Settles.{StayFit, same_events}
+use Rattle.run_states.specs.declared.holder.Holder.{Holder}
+use Rattle.run_states.specs.declared.holder.Holder.TheVariants.{Run, Leg}
 
--- ---- what is told of a run
+-- ---- the facts of a run
 
 abbrev told_run : ℕ → List Admitted → Option (Admitted × ℕ) → Option RunFacts
 told_run r all o = option_map (λ told. record {
@@ -71,13 +73,13 @@ run_facts_stay runs next r same attempt =
     ∙ sym (run_facts_are runs r)
 
 pub run_group_stays : (runs next : List RunState) (r : ℕ) → SameUpTo r (events next) (events runs)
-    → attempt_at next r ≡ attempt_at runs r → group_at next (Holder.a_run r) ≡ group_at runs (Holder.a_run r)
+    → attempt_at next r ≡ attempt_at runs r → group_at next (Run r) ≡ group_at runs (Run r)
 unfolding group_at
 run_group_stays runs next r same attempt = ap (option_and_then run_group) (run_facts_stay runs next r same attempt)
 
 -- ---- a leg
 
--- where there is a leg, the needs of its job have settled
+-- if a leg exists, the needs of its job have finished
 pub leg_needs_settled : (runs : List RunState) → RunsFit runs → (p : LegPlace) (z : LegState) → leg_at runs p ≡ Some z
     → needs_have_settled runs p.run p.job ≡ true
 leg_needs_settled runs fit p z was =
@@ -85,7 +87,7 @@ leg_needs_settled runs fit p z was =
     (fit p.run at.place.run at.place.run_is).needs_first p.job at.job at.place.job_is (λ none. no_leg at.job.legs p.leg z none at.leg_is)
 
 pub leg_group_same : (runs next : List RunState) (p : LegPlace) → facts_at next p ≡ facts_at runs p
-    → group_at next (Holder.a_leg p) ≡ group_at runs (Holder.a_leg p)
+    → group_at next (Leg p) ≡ group_at runs (Leg p)
 unfolding group_at
 leg_group_same runs next p same = ap (option_and_then leg_group) same
 
@@ -96,16 +98,16 @@ leg_facts_stay runs next fit stay p z was =
     (stay.keeps_results p.run)
 
 pub leg_group_stays : (runs next : List RunState) → RunsFit runs → StayFit runs next → (p : LegPlace) (z : LegState)
-    → leg_at runs p ≡ Some z → group_at next (Holder.a_leg p) ≡ group_at runs (Holder.a_leg p)
+    → leg_at runs p ≡ Some z → group_at next (Leg p) ≡ group_at runs (Leg p)
 leg_group_stays runs next fit stay p z was = leg_group_same runs next p (leg_facts_stay runs next fit stay p z was)
 
--- whether its coming cancels what is in progress
+-- whether its arrival cancels what is in progress
 pub leg_cancels_stays : (runs next : List RunState) → RunsFit runs → StayFit runs next → (p : LegPlace) (z : LegState)
-    → leg_at runs p ≡ Some z → cancels_in_progress next (Holder.a_leg p) ≡ cancels_in_progress runs (Holder.a_leg p)
+    → leg_at runs p ≡ Some z → cancels_in_progress next (Leg p) ≡ cancels_in_progress runs (Leg p)
 unfolding cancels_in_progress
 leg_cancels_stays runs next fit stay p z was = ap (λ o. option_map_or leg_cancels o false) (leg_facts_stay runs next fit stay p z was)
 
--- what is told of a leg whose run is as it was, and so are the events up to it
+-- the facts of a leg whose run and the events up to it are unchanged
 facts_of_same_run : (runs next : List RunState) (p : LegPlace) → SameUpTo p.run (events next) (events runs)
     → run_at next p.run ≡ run_at runs p.run → facts_at next p ≡ facts_at runs p
 facts_of_same_run runs next p same at =
@@ -117,20 +119,20 @@ facts_of_same_run runs next p same at =
 
 -- ---- a run or a leg
 
--- the group of one whose run is as it was
+-- the group of a holder whose run is unchanged
 pub same_group : (runs next : List RunState) (h : Holder) → SameUpTo (run_of h) (events next) (events runs)
     → run_at next (run_of h) ≡ run_at runs (run_of h) → group_at next h ≡ group_at runs h
-same_group runs next (Holder.a_run r) same at =
+same_group runs next (Run r) same at =
     run_group_stays runs next r same (ap (option_map (λ (run : RunState). run.attempt)) at)
-same_group runs next (Holder.a_leg p) same at = leg_group_same runs next p (facts_of_same_run runs next p same at)
+same_group runs next (Leg p) same at = leg_group_same runs next p (facts_of_same_run runs next p same at)
 
--- there is a leg at the place of the holder, if it is one
+-- the leg exists, if the holder is one
 abbrev pub IsThere : List RunState → Holder → Type 0
-IsThere runs (Holder.a_run r) = Unit {0}
-IsThere runs (Holder.a_leg p) = (z : LegState) × (leg_at runs p ≡ Some z)
+IsThere runs (Run r) = Unit {0}
+IsThere runs (Leg p) = (z : LegState) × (leg_at runs p ≡ Some z)
 
 pub group_stays : (runs next : List RunState) → RunsFit runs → StayFit runs next → (h : Holder) → IsThere runs h
     → group_at next h ≡ group_at runs h
-group_stays runs next fit stay (Holder.a_run r) there =
+group_stays runs next fit stay (Run r) there =
     run_group_stays runs next r (same_events runs next r (λ s le. stay.same_admitted s)) (stay.same_attempt r)
-group_stays runs next fit stay (Holder.a_leg p) there = leg_group_stays runs next fit stay p there.0 there.1
+group_stays runs next fit stay (Leg p) there = leg_group_stays runs next fit stay p there.0 there.1

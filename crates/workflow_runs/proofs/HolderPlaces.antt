@@ -1,11 +1,12 @@
--- What holds at the places of all legs holds at each of them.
+-- A property of the places of all legs holds of each of them.
 use Rattle.std.specs.Prelude.{◌≡◌, ℕ, List, Some}
 use Rattle.std.specs.List.{AllByRecursion}
-use Rattle.workflow_runs.specs.FirstOf.{placed}
-use Rattle.workflow_runs.specs.Places.{LegPlace, leg_at, leg_places, leg_places_of_job, leg_places_of_run}
-use Rattle.workflow_runs.specs.RunState.{LegState, JobState, RunState}
-use Rattle.workflow_runs.proofs.Found.{each_of_flat_map, each_of_map, each_of_placed}
-use Rattle.workflow_runs.proofs.JobKeeps.{leg_in}
+use Rattle.run_states.specs.FirstOf.{placed}
+use Rattle.run_states.specs.Places.{leg_at, leg_places, leg_places_of_job, leg_places_of_run}
+use Rattle.run_states.specs.declared.place.LegPlace.{LegPlace}
+use Rattle.run_states.specs.RunState.{LegState, JobState, RunState}
+use Rattle.run_states.proofs.Found.{each_of_flat_map, each_of_map, each_of_placed}
+use Rattle.run_states.proofs.JobKeeps.{leg_in}
 
 pub each_leg_place : (P : LegPlace → Type 0) (runs : List RunState) (p : LegPlace) (z : LegState) → AllByRecursion P (leg_places runs)
     → leg_at runs p ≡ Some z → P p

@@ -1,4 +1,4 @@
--- Who waits or holds a group after a change of runs: nobody who did not before, but for the one that the change sets on its way.
+-- Which holders wait or hold after a change of runs: only those that did before, and the one that the change makes active.
 use Rattle.std.specs.Prelude.{◌≡◌, ℕ, zero, suc, List, [], ◌∷◌, ◌&&◌, map, not, Bool, true, false, Option, Some, None, option_map}
 use Rattle.std.specs.Prelude.{option_and_then, slice_get, if◌then◌else◌, refl}
 use Rattle.std.specs.Option.{option_map_or}
@@ -6,31 +6,34 @@ use Rattle.std.proofs.Common.{ap, sym, ◌∙◌}
 use Rattle.std.proofs.lemmas.Bool.{false≢true}
 use Rattle.std.proofs.lemmas.Option.{slice_get-map}
 use Rattle.wf_value.specs.declared.outcome.JobResult.TheVariants as result
-use Rattle.workflow_runs.specs.FirstOf.{changed_at, placed}
-use Rattle.workflow_runs.specs.Groups.{holds, leg_holds, leg_waits, run_waits, waits}
-use Rattle.workflow_runs.specs.Moves.{Holder, Transition, at_each}
-use Rattle.workflow_runs.specs.Places.{LegPlace, job_at, leg_at, run_at, with_job, with_leg, with_run}
-use Rattle.workflow_runs.specs.RunConditions.{may_run_in}
-use Rattle.workflow_runs.specs.StateWords.{is_live, is_open, settled_as}
-use Rattle.workflow_runs.specs.StopMoves.{stop_holder}
-use Rattle.workflow_runs.specs.Stops.{cancelled, stopped, stopped_in, stopped_phase, stopped_run, stopped_where, told_to_stop}
-use Rattle.workflow_runs.specs.Stops.{with_stopped_legs}
-use Rattle.workflow_runs.specs.RunState.{LegState, JobState, RunState}
-use Rattle.workflow_runs.specs.declared.phases.LegPhase.{LegPhase}
-use Rattle.workflow_runs.specs.declared.phases.LegPhase.TheVariants as leg
-use Rattle.workflow_runs.specs.declared.phases.RunPhase.{RunPhase}
-use Rattle.workflow_runs.specs.declared.phases.RunPhase.TheVariants as run
-use Rattle.workflow_runs.proofs.JobKeeps.{with_job_of, with_leg_of}
+use Rattle.run_states.specs.FirstOf.{changed_at, placed}
+use Rattle.run_states.specs.Groups.{holds, leg_holds, leg_waits, run_waits, waits}
+use Rattle.run_states.specs.Moves.{Transition, at_each}
+use Rattle.run_states.specs.Places.{job_at, leg_at, run_at, with_job, with_leg, with_run}
+use Rattle.run_states.specs.declared.place.LegPlace.{LegPlace}
+use Rattle.run_states.specs.RunConditions.{may_run_in}
+use Rattle.run_states.specs.RunState.{LegState, JobState, RunState}
+use Rattle.run_states.specs.StateWords.{is_live, is_open, settled_as}
+use Rattle.run_states.specs.StopMoves.{stop_holder}
+use Rattle.run_states.specs.Stops.{cancelled, stopped, stopped_in, stopped_phase, stopped_run, stopped_where, told_to_stop}
+use Rattle.run_states.specs.Stops.{with_stopped_legs}
+use Rattle.run_states.specs.declared.phases.LegPhase.{LegPhase}
+use Rattle.run_states.specs.declared.phases.LegPhase.TheVariants as leg
+use Rattle.run_states.specs.declared.phases.RunPhase.{RunPhase}
+use Rattle.run_states.specs.declared.phases.RunPhase.TheVariants as run
+use Rattle.run_states.proofs.JobKeeps.{with_job_of, with_leg_of}
+use Rattle.run_states.proofs.StopKeeps.{get_placed}
 use Rattle.workflow_runs.proofs.OneEach.{Fades, fades_not, fades_on}
-use Rattle.workflow_runs.proofs.StopKeeps.{get_placed}
+use Rattle.run_states.specs.declared.holder.Holder.{Holder}
+use Rattle.run_states.specs.declared.holder.Holder.TheVariants.{Run, Leg}
 
--- ---- a test of what stands at a place, before and after a change
+-- ---- a test of the element at an index, before and after a change
 
--- whether something there passes
+-- whether there is an element and it passes
 abbrev pub passes : {X : Type 0} → (X → Bool) → Option X → Bool
 passes test o = option_map_or test o false
 
--- what passes after a change passed before it
+-- an element that passes after a change passed before it
 abbrev pub Weakens : {X : Type 0} → (X → Bool) → (X → X) → Type 0
 Weakens {X} test f = (x : X) → test (f x) ≡ true → test x ≡ true
 
@@ -78,7 +81,7 @@ by_run test runs p =
     through (leg_passes test) (λ (y : JobState). slice_get y.legs p.leg) (job_at runs p.run p.job)
     ∙ through (job_passes test p.leg) (λ (x : RunState). slice_get x.jobs p.job) (run_at runs p.run)
 
--- ---- a change of one run after which neither it nor a leg of it waits or holds that did not before
+-- ---- a change of one run after which the run and each of its legs wait or hold only if they did before
 
 pub record RunFades (f : RunState → RunState) : Type 0 where
   pub run_waited : Weakens (λ x. run_waits x.phase) f
@@ -94,13 +97,13 @@ leg_before test f r runs p weak e =
 
 waited_before : (f : RunState → RunState) (r : ℕ) (runs : List RunState) → RunFades f → (h : Holder) → waits (with_run r f runs) h ≡ true
     → waits runs h ≡ true
-waited_before f r runs fades (Holder.a_run s) e = passed_changed (λ x. run_waits x.phase) f fades.run_waited r runs s e
-waited_before f r runs fades (Holder.a_leg p) e = leg_before leg_waits f r runs p (fades.leg_waited p.job p.leg) e
+waited_before f r runs fades (Run s) e = passed_changed (λ x. run_waits x.phase) f fades.run_waited r runs s e
+waited_before f r runs fades (Leg p) e = leg_before leg_waits f r runs p (fades.leg_waited p.job p.leg) e
 
 held_before : (f : RunState → RunState) (r : ℕ) (runs : List RunState) → RunFades f → (h : Holder) → holds (with_run r f runs) h ≡ true
     → holds runs h ≡ true
-held_before f r runs fades (Holder.a_run s) e = passed_changed (λ x. is_live x.phase) f fades.run_held r runs s e
-held_before f r runs fades (Holder.a_leg p) e = leg_before leg_holds f r runs p (fades.leg_held p.job p.leg) e
+held_before f r runs fades (Run s) e = passed_changed (λ x. is_live x.phase) f fades.run_held r runs s e
+held_before f r runs fades (Leg p) e = leg_before leg_holds f r runs p (fades.leg_held p.job p.leg) e
 
 pub run_fades : (f : RunState → RunState) (r : ℕ) (runs : List RunState) → RunFades f → Fades runs (with_run r f runs)
 run_fades f r runs fades = record { waited = waited_before f r runs fades; held = held_before f r runs fades }
@@ -130,35 +133,35 @@ leg_fades f p runs waited held =
       held = (λ l y e. passed_changed (leg_passes leg_holds) f held p.leg y.legs l e);
     })
 
--- ---- who waits, and who holds, after a change of one leg
+-- ---- which holders wait or hold after a change of one leg
 
 pub leg_change_weakens : (test : LegPhase → Bool) (f : LegState → LegState) → Weakens (leg_passes test) f → (j l i k : ℕ)
     → Weakens (run_passes test i k) (with_job_of j (with_leg_of l f))
 leg_change_weakens test f weak j l i k x e =
     passed_changed (job_passes test k) (with_leg_of l f) (λ y now. passed_changed (leg_passes test) f weak l y.legs k now) j x.jobs i e
 
--- what is asked of a run itself is as before
+-- the tests of a run itself are unchanged
 pub run_waited_still : (f : LegState → LegState) (p : LegPlace) (runs : List RunState) (s : ℕ)
-    → waits (with_leg p f runs) (Holder.a_run s) ≡ true → waits runs (Holder.a_run s) ≡ true
+    → waits (with_leg p f runs) (Run s) ≡ true → waits runs (Run s) ≡ true
 run_waited_still f p runs s e =
     passed_changed (λ x. run_waits x.phase) (with_job_of p.job (with_leg_of p.leg f)) (λ x now. now) p.run runs s e
 
 pub run_held_still : (f : LegState → LegState) (p : LegPlace) (runs : List RunState) (s : ℕ)
-    → holds (with_leg p f runs) (Holder.a_run s) ≡ true → holds runs (Holder.a_run s) ≡ true
+    → holds (with_leg p f runs) (Run s) ≡ true → holds runs (Run s) ≡ true
 run_held_still f p runs s e =
     passed_changed (λ x. is_live x.phase) (with_job_of p.job (with_leg_of p.leg f)) (λ x now. now) p.run runs s e
 
 pub waits_before_leg : (f : LegState → LegState) (p : LegPlace) (runs : List RunState) → Weakens (leg_passes leg_waits) f → (h : Holder)
     → waits (with_leg p f runs) h ≡ true → waits runs h ≡ true
-waits_before_leg f p runs weak (Holder.a_run s) e = run_waited_still f p runs s e
-waits_before_leg f p runs weak (Holder.a_leg q) e =
+waits_before_leg f p runs weak (Run s) e = run_waited_still f p runs s e
+waits_before_leg f p runs weak (Leg q) e =
     leg_before leg_waits (with_job_of p.job (with_leg_of p.leg f)) p.run runs q
     (leg_change_weakens leg_waits f weak p.job p.leg q.job q.leg) e
 
 pub holds_before_leg : (f : LegState → LegState) (p : LegPlace) (runs : List RunState) → Weakens (leg_passes leg_holds) f → (h : Holder)
     → holds (with_leg p f runs) h ≡ true → holds runs h ≡ true
-holds_before_leg f p runs weak (Holder.a_run s) e = run_held_still f p runs s e
-holds_before_leg f p runs weak (Holder.a_leg q) e =
+holds_before_leg f p runs weak (Run s) e = run_held_still f p runs s e
+holds_before_leg f p runs weak (Leg q) e =
     leg_before leg_holds (with_job_of p.job (with_leg_of p.leg f)) p.run runs q
     (leg_change_weakens leg_holds f weak p.job p.leg q.job q.leg) e
 
@@ -222,7 +225,7 @@ stop_weakens test weak j l run.Live x e =
     ] e
 stop_weakens test weak j l run.Ended x e = e
 
--- what a stop leaves of the phase of a run
+-- the phase of a run after a stop
 phase_of_stopped : (phase : RunPhase) (test : RunPhase → Bool) → test run.Ended ≡ false → (x : RunState)
     → test (stopped_in phase x).phase ≡ true → test x.phase ≡ true
 phase_of_stopped run.Waiting test not_ended x e = absurd (false≢true (sym not_ended ∙ e))
@@ -246,8 +249,8 @@ run_stop_fades r runs =
 -- ---- one holder, and one after another
 
 pub holder_stop_fades : (h : Holder) (runs : List RunState) → Fades runs (stop_holder h runs).runs
-holder_stop_fades (Holder.a_run r) runs = run_stop_fades r runs
-holder_stop_fades (Holder.a_leg p) runs = leg_stop_fades p runs
+holder_stop_fades (Run r) runs = run_stop_fades r runs
+holder_stop_fades (Leg p) runs = leg_stop_fades p runs
 
 pub each_fades : (change : Holder → List RunState → Transition) → ((h : Holder) (runs : List RunState) → Fades runs (change h runs).runs)
     → (hs : List Holder) (runs : List RunState) → Fades runs (at_each change hs runs).runs
@@ -256,7 +259,7 @@ each_fades change one (h ∷ hs) runs =
     fades_on runs (change h runs).runs (at_each change hs (change h runs).runs).runs (one h runs)
     (each_fades change one hs (change h runs).runs)
 
--- ---- who is stopped waits no more
+-- ---- a stopped holder does not wait any more
 
 stopped_waits_not : (phase : LegPhase) → leg_waits (stopped_phase phase) ≡ false
 stopped_waits_not leg.New = refl
@@ -275,7 +278,7 @@ run_waits_not run.Live x e =
     ]
 run_waits_not run.Ended x e = ap run_waits e
 
--- a change after which nothing passes, at the place of the change
+-- a change after which the element at its index does not pass
 fails_changed : {X : Type 0} (test : X → Bool) (f : X → X) → ((x : X) → test (f x) ≡ false) → (i : ℕ) (xs : List X)
     → passes test (slice_get (changed_at i f xs) i) ≡ false
 fails_changed test f fails i [] = refl
@@ -283,9 +286,9 @@ fails_changed test f fails zero (x ∷ xs) = fails x
 fails_changed test f fails (suc i) (x ∷ xs) = fails_changed test f fails i xs
 
 pub stop_ends_waiting : (h : Holder) (runs : List RunState) → waits (stop_holder h runs).runs h ≡ false
-stop_ends_waiting (Holder.a_run r) runs =
+stop_ends_waiting (Run r) runs =
     fails_changed (λ x. run_waits x.phase) stopped_run (λ x. run_waits_not x.phase x refl) r runs
-stop_ends_waiting (Holder.a_leg p) runs =
+stop_ends_waiting (Leg p) runs =
     by_run leg_waits (with_leg p stopped runs) p
     ∙ fails_changed (run_passes leg_waits p.job p.leg) (with_job_of p.job (with_leg_of p.leg stopped))
     (λ x. fails_changed (job_passes leg_waits p.leg) (with_leg_of p.leg stopped)

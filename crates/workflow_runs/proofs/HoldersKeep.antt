@@ -3,22 +3,25 @@ use Rattle.std.specs.Prelude.{◌≡◌, ℕ, List, [], ◌∷◌, Bool, true, f
 use Rattle.std.specs.Option.{option_map_or}
 use Rattle.std.proofs.Common.{ap, sym, ◌∙◌, subst}
 use Rattle.group_name.specs.Group.{Group}
-use Rattle.workflow_runs.specs.Arrivals.{arrived, displaced, others_pending, room_made, stopped_where_asked}
-use Rattle.workflow_runs.specs.GroupOf.{cancels_in_progress, group_at}
-use Rattle.workflow_runs.specs.Groups.{running_in}
-use Rattle.workflow_runs.specs.Moves.{Holder, Transition, at_each, without_moves}
-use Rattle.workflow_runs.specs.Places.{LegPlace, leg_at, run_at, with_leg, with_run}
-use Rattle.workflow_runs.specs.StateWords.{leg_has_ended, outcome_of}
-use Rattle.workflow_runs.specs.StopMoves.{displace, stop_holder}
-use Rattle.workflow_runs.specs.Stops.{stopped, stopped_phase, stopped_run}
-use Rattle.workflow_runs.specs.RunState.{LegState, RunState}
-use Rattle.workflow_runs.specs.declared.phases.LegPhase.{LegPhase}
-use Rattle.workflow_runs.specs.declared.phases.LegPhase.TheVariants as leg
-use Rattle.workflow_runs.proofs.JobKeeps.{leg_in, leg_settles}
-use Rattle.workflow_runs.proofs.Transitions.{changed_none, with_leg_none, with_leg_stays}
-use Rattle.workflow_runs.proofs.RunFits.{RunsFit, leases_fit}
-use Rattle.workflow_runs.proofs.Settles.{Settles, settles_nothing, settles_on}
-use Rattle.workflow_runs.proofs.StopKeeps.{lease_still_fits, same_work, stopped_run_settles}
+use Rattle.run_states.specs.Arrivals.{arrived, displaced, others_pending, room_made, stopped_where_asked}
+use Rattle.run_states.specs.GroupOf.{cancels_in_progress, group_at}
+use Rattle.run_states.specs.Groups.{running_in}
+use Rattle.run_states.specs.Moves.{Transition, at_each, without_moves}
+use Rattle.run_states.specs.Places.{leg_at, run_at, with_leg, with_run}
+use Rattle.run_states.specs.declared.place.LegPlace.{LegPlace}
+use Rattle.run_states.specs.RunState.{LegState, RunState}
+use Rattle.run_states.specs.StateWords.{leg_has_ended, outcome_of}
+use Rattle.run_states.specs.StopMoves.{displace, stop_holder}
+use Rattle.run_states.specs.Stops.{stopped, stopped_phase, stopped_run}
+use Rattle.run_states.specs.declared.phases.LegPhase.{LegPhase}
+use Rattle.run_states.specs.declared.phases.LegPhase.TheVariants as leg
+use Rattle.run_states.proofs.JobKeeps.{leg_in, leg_settles}
+use Rattle.run_states.proofs.RunFits.{RunsFit, leases_fit}
+use Rattle.run_states.proofs.Settles.{Settles, settles_nothing, settles_on}
+use Rattle.run_states.proofs.StopKeeps.{lease_still_fits, same_work, stopped_run_settles}
+use Rattle.run_states.proofs.Transitions.{changed_none, with_leg_none, with_leg_stays}
+use Rattle.run_states.specs.declared.holder.Holder.{Holder}
+use Rattle.run_states.specs.declared.holder.Holder.TheVariants.{Run, Leg}
 
 -- ---- a run
 
@@ -65,8 +68,8 @@ leg_stop_settles runs p fit =
 -- ---- one holder, and one after another
 
 pub holder_stop_settles : (h : Holder) (runs : List RunState) → RunsFit runs → Settles runs (stop_holder h runs).runs
-holder_stop_settles (Holder.a_run r) runs fit = run_stop_settles runs r fit
-holder_stop_settles (Holder.a_leg p) runs fit = leg_stop_settles runs p fit
+holder_stop_settles (Run r) runs fit = run_stop_settles runs r fit
+holder_stop_settles (Leg p) runs fit = leg_stop_settles runs p fit
 
 each_settles : (change : Holder → List RunState → Transition)
     → ((h : Holder) (runs : List RunState) → RunsFit runs → Settles runs (change h runs).runs) → (hs : List Holder) (runs : List RunState)

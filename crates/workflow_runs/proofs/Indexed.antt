@@ -1,4 +1,4 @@
--- Runs that are looked up by their deliveries: what is found, and one run more.
+-- Looking up runs by their deliveries: what is found, and one more run.
 use Rattle.std.specs.Prelude.{◌≡◌, ℕ, ◌+◌, ◌<◌, ◌&&◌, List, [], ◌∷◌, ◌++◌, length, Bool, true, false, String, if◌then◌else◌, is_none, refl}
 use Rattle.std.specs.Prelude.{Option, Some, None, Result, Ok, Err, OnOk, OnErr, option_map, slice_get}
 use Rattle.std.specs.BTreeMap.{BTreeMap}
@@ -15,19 +15,19 @@ use Rattle.std.proofs.lemmas.Slice.Eq.{bytes_eq-Decides}
 use Rattle.indexmap.specs.IndexMap.{IndexMap, get_by_text}
 use Rattle.wf_value.specs.declared.refusal.Refusal.{Refusal}
 use Rattle.run_plan.specs.Admitted.{Admitted}
+use Rattle.run_states.specs.NewRun.{is_delivered_as}
+use Rattle.run_states.specs.RunNumber.{events, same_workflow}
+use Rattle.run_states.specs.RunState.{RunState}
+use Rattle.run_states.proofs.Found.{at_the_end, before_the_end, each_at, found_nowhere, none_found}
+use Rattle.run_states.proofs.Optional.{from_map}
 use Rattle.workflow_runs.specs.Counted.{AreCounted, Workflow, count_of}
 use Rattle.workflow_runs.specs.Delivered.{FindsFirst, IsFirst, delivery_at}
-use Rattle.workflow_runs.specs.RunNumber.{events, same_workflow}
-use Rattle.workflow_runs.specs.NewRun.{is_delivered_as}
-use Rattle.workflow_runs.specs.RunState.{RunState}
 use Rattle.workflow_runs.proofs.Counting.{one_counted}
-use Rattle.workflow_runs.proofs.Found.{at_the_end, before_the_end, each_at, found_nowhere, none_found}
-use Rattle.workflow_runs.proofs.Optional.{from_map}
 
 abbrev DeliveryPlaces : Type 0 → Type 0
 DeliveryPlaces S = IndexMap (String Global) ℕ S
 
--- ---- the first of a list that passes a test
+-- ---- the first element of a list that passes a test
 
 pub record FirstOne {X : Type 0} (test : X → Bool) (xs : List X) (i : ℕ) : Type 0 where
   pub one : X
@@ -82,7 +82,7 @@ is_first runs d r e =
           true≢false (sym other.passes ∙ found.others_fail s other.run lt other.at));
     }
 
--- ---- what is found by the kept places
+-- ---- what is found by the indices kept
 
 module _ {S : Type 0} (items runs : List RunState) (places : DeliveryPlaces S) (d : List ℕ) (same : items ≡ runs) (of_items : FindsFirst (events items) places)
   where
@@ -131,9 +131,9 @@ module _ {S : Type 0} (items runs : List RunState) (places : DeliveryPlaces S) (
               (sym (ap (λ o. option_map_or (is_delivered_as d) o false) (ap (slice_get runs) same ∙ found.at) ∙ found.passes) ∙ there))
         ] refl
 
--- ---- one event more
+-- ---- one more event
 
--- a place is kept for a delivery, unless it was found before
+-- the index is kept for a delivery, unless it was found before
 abbrev pub IsKept : {S : Type 0} → DeliveryPlaces S → DeliveryPlaces S → List ℕ → ℕ → Option ℕ → Type 0
 IsKept old new d p found =
     (other : List ℕ) → get_by_text new other ≡ (if is_none found && bytes_eq d other then Some p else get_by_text old other)
@@ -209,7 +209,7 @@ module _ {S : Type 0} (es : List Admitted) (old new : DeliveryPlaces S) (d : Lis
       no_loop : (s : ℕ) → s < length es → s ≡ length es → ⊥
       no_loop s less past = absurd (omega (arith, less, past))
 
-  -- and so is one more, where its place is kept
+  -- one more event is found too, if its index is kept
   pub finds_one_more : (e : Admitted) → e.delivery ≡ d → p ≡ length es → (found : Option ℕ) → Tells es d found → IsKept old new d p found
       → FindsFirst es old → FindsFirst (es ++ e ∷ []) new
   finds_one_more e of is found tells kept finds other r first =
@@ -218,7 +218,7 @@ module _ {S : Type 0} (es : List Admitted) (old new : DeliveryPlaces S) (d : Lis
         | inr not ↦ still_finds found tells kept finds other r (before e other r not first)
       ]
 
--- where all that is found is the same
+-- if no lookup changes
 pub finds_the_same : {S : Type 0} (es : List Admitted) (old new : DeliveryPlaces S) → ((d : List ℕ) → get_by_text new d ≡ get_by_text old d) → FindsFirst es old
     → FindsFirst es new
 finds_the_same es old new same finds d r first = same d ∙ finds d r first
@@ -227,14 +227,14 @@ finds_the_same es old new same finds d r first = same d ∙ finds d r first
 
 module _ {S : Type 0} (runs : List RunState) (old new : DeliveryPlaces S) (event : Admitted) (found : Option ℕ)
     (is : found ≡ position (is_delivered_as event.delivery) runs) where
-  -- all is found as before, whether the place of one run more is kept or not
+  -- every run is found as before, whether the index of one more is kept or not
   pub still_found : {X : Type 0} (result : Result X Refusal) → OnOk result (IsKept old new event.delivery (length runs) found)
       → OnErr result ((d : List ℕ) → get_by_text new d ≡ get_by_text old d) → FindsFirst (events runs) old → FindsFirst (events runs) new
   still_found (Ok x) kept same finds =
       still_finds (events runs) old new event.delivery (length runs) found (place_tells runs event.delivery found is) kept finds
   still_found (Err e) kept same finds = finds_the_same (events runs) old new same finds
 
-  -- and so is that run, once it stands there
+  -- and so is the added run
   pub found_then : {X : Type 0} (result : Result X Refusal) → OnOk result (IsKept old new event.delivery (length runs) found)
       → FindsFirst (events runs) old → OnOk result (FindsFirst (events runs ++ event ∷ []) new)
   found_then (Ok x) kept finds =

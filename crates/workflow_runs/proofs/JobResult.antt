@@ -8,13 +8,18 @@ use Rattle.wf_value.specs.declared.outcome.JobResult.TheVariants as result
 use Rattle.wf_value.specs.declared.outcome.Outcome.{Outcome}
 use Rattle.needs_graph.specs.Results.{fails_job, gathered, is_cancelled, was_cancelled}
 use Rattle.needs_graph.specs.declared.ended.LegEnd.{LegEnd}
-use Rattle.workflow_runs.specs.FirstOf.{first_some, placed}
-use Rattle.workflow_runs.specs.Rules.{leg_end, outcome_of}
-use Rattle.workflow_runs.specs.RunState.{LegState, RunState}
-use Rattle.workflow_runs.specs.WithinRun.{failing, leg_place}
-use Rattle.workflow_runs.specs.Words.{continues_on_error}
+use Rattle.run_states.specs.FirstOf.{first_some, placed}
+use Rattle.run_states.specs.Rules.{leg_end, outcome_of}
+use Rattle.run_states.specs.RunState.{LegState, RunState}
+use Rattle.run_states.specs.WithinRun.{failing, leg_place}
+use Rattle.run_states.specs.declared.place.LegPlace.{LegPlace}
+use Rattle.run_states.specs.Words.{continues_on_error}
 
 -- ---- the legs that fail it
+
+-- whether the leg does
+abbrev pub fails_at : List RunState → LegPlace → LegState → Bool
+fails_at runs p leg = option_map_or fails_job (leg_end runs p.run p.job (p.leg, leg)) false
 
 or_found : (b : Bool) (n : ℕ) (any : Bool) (rest : Option ℕ) → any ≡ is_some rest
     → (b || any) ≡ is_some (option_or (if b then Some n else None) rest)
@@ -32,7 +37,7 @@ any_fails runs r j [] = refl
 any_fails runs r j (x ∷ xs) =
     one_end (leg_end runs r j x) x.0 (filter_map (leg_end runs r j) xs) (first_some (failing runs r j) xs) (any_fails runs r j xs)
 
--- ---- those that were cancelled
+-- ---- the cancelled legs
 
 one_cancelled : (o : Option Outcome) (over : Bool) (more : List LegEnd) (rest : Bool) → list_any was_cancelled more ≡ rest
     → list_any was_cancelled (cons_option (option_map (λ e. record { outcome = e; continue_on_error = over }) o) more)

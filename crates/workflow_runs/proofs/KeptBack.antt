@@ -1,4 +1,4 @@
--- Who is kept back from its group by one that runs there is still kept back after a change that lets nobody go.
+-- A holder that is held back by one that runs in its group is still held back after a change that releases no group.
 use Rattle.std.specs.Prelude.{◌≡◌, ℕ, zero, suc, List, [], ◌∷◌, ◌||◌, not, Bool, true, false, Option, Some, None, slice_get, refl}
 use Rattle.std.specs.List.{list_any}
 use Rattle.std.specs.Option.{option_map_or}
@@ -6,39 +6,41 @@ use Rattle.std.proofs.Common.{ap, sym, ◌∙◌}
 use Rattle.std.proofs.lemmas.Bool.{and_from, and_parts, both_ways, not-false}
 use Rattle.std.proofs.lemmas.Option.{same_Some}
 use Rattle.group_name.specs.Group.{Group, same_group}
-use Rattle.workflow_runs.specs.FirstOf.{changed_at}
-use Rattle.workflow_runs.specs.GroupOf.{group_at}
-use Rattle.workflow_runs.specs.Groups.{all_holders, holds, is_in, is_running_in, is_taken, leg_holds, may_start, waits}
-use Rattle.workflow_runs.specs.Holders.{run_of}
+use Rattle.run_states.specs.FirstOf.{changed_at}
+use Rattle.run_states.specs.GroupOf.{group_at}
+use Rattle.run_states.specs.Groups.{all_holders, holds, is_in, is_running_in, is_taken, leg_holds, may_start, waits}
+use Rattle.run_states.specs.Holders.{run_of}
+use Rattle.run_states.specs.Places.{job_at, leg_at, run_at, with_job, with_leg, with_run}
+use Rattle.run_states.specs.declared.place.LegPlace.{LegPlace}
+use Rattle.run_states.specs.RunState.{LegState, JobState, RunState}
+use Rattle.run_states.specs.StateWords.{is_live}
+use Rattle.run_states.proofs.JobKeeps.{with_job_of, with_leg_of}
+use Rattle.run_states.proofs.RunFits.{job_in_run, leg_in_job}
 use Rattle.workflow_runs.specs.LettingGo.{LetsNobodyGo}
-use Rattle.workflow_runs.specs.Moves.{Holder}
-use Rattle.workflow_runs.specs.Places.{LegPlace, job_at, leg_at, run_at, with_job, with_leg, with_run}
-use Rattle.workflow_runs.specs.StateWords.{is_live}
-use Rattle.workflow_runs.specs.RunState.{LegState, JobState, RunState}
 use Rattle.workflow_runs.proofs.HoldersFade.{by_run, job_passes, leg_passes, passes, run_passes}
-use Rattle.workflow_runs.proofs.JobKeeps.{with_job_of, with_leg_of}
 use Rattle.workflow_runs.proofs.OneEach.{GroupsStay, IsOneOf, not_taken, one_that_holds}
-use Rattle.workflow_runs.proofs.RunFits.{job_in_run, leg_in_job}
+use Rattle.run_states.specs.declared.holder.Holder.{Holder}
+use Rattle.run_states.specs.declared.holder.Holder.TheVariants.{Run, Leg}
 
--- ---- who holds a group
+-- ---- which holders hold a group
 
--- no run and no leg that holds a group lets it go
+-- each run and leg that holds a group still holds it
 abbrev pub StillHold : List RunState → List RunState → Type 0
 StillHold runs next = (h : Holder) (g : Group) → group_at runs h ≡ Some g → holds runs h ≡ true → holds next h ≡ true
 
--- one that may not start may not start then
+-- a holder that may not start may still not start
 abbrev pub KeepsBack : List RunState → List RunState → Type 0
 KeepsBack runs next = (h : Holder) → IsOneOf runs h → may_start runs h ≡ false → may_start next h ≡ false
 
--- the same of those that wait of one run and its legs
+-- a waiting holder of run `r` that may not start may still not start
 abbrev pub KeepsBackIn : List RunState → List RunState → ℕ → Type 0
 KeepsBackIn runs next r = (h : Holder) → run_of h ≡ r → waits runs h ≡ true → may_start runs h ≡ false → may_start next h ≡ false
 
--- whoever runs in the group still runs in it
+-- each holder that runs in the group still runs in it
 abbrev pub RunsStill : List RunState → List RunState → Group → Type 0
 RunsStill runs next g = (h : Holder) → is_running_in runs g h ≡ true → is_running_in next g h ≡ true
 
--- and so it is with the group of each that waits of one run and its legs
+-- in the group of each waiting holder of run `r`, each running holder still runs
 abbrev pub RunsStillFor : List RunState → List RunState → ℕ → Type 0
 RunsStillFor runs next r =
     (h : Holder) → run_of h ≡ r → waits runs h ≡ true → (g : Group) → group_at runs h ≡ Some g → RunsStill runs next g
@@ -59,7 +61,7 @@ in_group : (g : Group) (o : Option Group) → option_map_or (same_group g) o fal
 in_group g None e = cc
 in_group g (Some k) e = (k, refl)
 
--- whoever holds a group that it has, is in it still and holds it, still runs in it
+-- a holder whose group does not change, and that still holds it, still runs in it
 pub runs_still : (runs next : List RunState) (g : Group) (h : Holder) → group_at next h ≡ group_at runs h
     → (holds runs h ≡ true → (k : Group) → group_at runs h ≡ Some k → holds next h ≡ true)
     → is_running_in runs g h ≡ true → is_running_in next g h ≡ true
@@ -68,7 +70,7 @@ runs_still runs next g h same still e =
     let group = in_group g (group_at runs h) parts.0 in
     and_from (is_in next g h) (holds next h) (ap (λ o. option_map_or (same_group g) o false) same ∙ parts.0) (still parts.1 group.0 group.1)
 
--- a group that nobody lets go keeps back whoever is in it still
+-- a group that no holder releases still holds back each holder that is in it
 module _ (runs next : List RunState) where
   still_taken : (g : Group) → RunsStill runs next g → is_taken runs g ≡ true → is_taken next g ≡ true
   still_taken g stay e =
@@ -96,7 +98,7 @@ module _ (runs next : List RunState) (stays : GroupsStay runs next) (still : Sti
   pub kept_back : KeepsBack runs next
   kept_back h there e = back_still runs next h (λ g group. still_run g) (stays h there) e
 
--- ---- what passes a test at each place passes after a change at one of them
+-- ---- a test that passes at each index still passes after a change at one of them
 
 pub passed_on : {X : Type 0} (test : X → Bool) (f : X → X) (i : ℕ) (xs : List X)
     → ((x : X) → slice_get xs i ≡ Some x → test x ≡ true → test (f x) ≡ true) → (k : ℕ)
@@ -111,7 +113,7 @@ passed_on test f (suc i) (x ∷ xs) strong (suc k) e = passed_on test f i xs str
 
 pub legs_still_hold : (f : RunState → RunState) (r : ℕ) (runs : List RunState) (p : LegPlace)
     → ((x : RunState) → run_at runs r ≡ Some x → run_passes leg_holds p.job p.leg x ≡ true → run_passes leg_holds p.job p.leg (f x) ≡ true)
-    → holds runs (Holder.a_leg p) ≡ true → holds (with_run r f runs) (Holder.a_leg p) ≡ true
+    → holds runs (Leg p) ≡ true → holds (with_run r f runs) (Leg p) ≡ true
 legs_still_hold f r runs p strong e =
     by_run leg_holds (with_run r f runs) p
     ∙ passed_on (run_passes leg_holds p.job p.leg) f r runs strong p.run (sym (by_run leg_holds runs p) ∙ e)
@@ -125,12 +127,12 @@ module _ (runs : List RunState) (r j : ℕ) (f : JobState → JobState)
         passed_on (job_passes leg_holds l) f j x.jobs (λ y was now. strong y (job_in_run runs r j x at ∙ was) l now) i e
 
     pub job_still_holds : (h : Holder) → holds runs h ≡ true → holds (with_job r j f runs) h ≡ true
-    job_still_holds (Holder.a_run s) e =
+    job_still_holds (Run s) e =
         passed_on (λ (x : RunState). is_live x.phase) (with_job_of j f) r runs (λ x at now. now) s e
-    job_still_holds (Holder.a_leg p) e =
+    job_still_holds (Leg p) e =
         legs_still_hold (with_job_of j f) r runs p (λ x at now. in_run p.job p.leg x at now) e
 
--- one that did not hold goes to any phase
+-- a leg that does not hold its group enters any phase
 pub leg_still_holds : (runs : List RunState) (p : LegPlace) (z : LegState) (f : LegState → LegState) → leg_at runs p ≡ Some z
     → leg_holds z.phase ≡ false → (h : Holder) → holds runs h ≡ true → holds (with_leg p f runs) h ≡ true
 leg_still_holds runs p z f was held_not =

@@ -1,12 +1,12 @@
--- The labels that a leg asks for, by what is told of the leg.
+-- The labels that a leg asks for, from the facts of the leg.
 use Rattle.std.specs.Prelude.{◌≡◌, List, [], None, Option, Some, option_map, refl, unwrap_or}
 use Rattle.std.specs.Option.{option_map_or}
 use Rattle.std.proofs.Common.{ap, ◌∙◌}
-use Rattle.workflow_runs.specs.LegContext.{LegFacts, context_at, context_of, facts_at, nothing}
-use Rattle.workflow_runs.specs.Places.{LegPlace}
-use Rattle.workflow_runs.specs.RunState.{RunState}
-use Rattle.workflow_runs.specs.Words.{label_texts, labels_at}
-use Rattle.workflow_runs.proofs.LegFacts.{plan_told}
+use Rattle.run_states.specs.LegContext.{LegFacts, context_at, context_of, facts_at, nothing}
+use Rattle.run_states.specs.declared.place.LegPlace.{LegPlace}
+use Rattle.run_states.specs.RunState.{RunState}
+use Rattle.run_states.specs.Words.{label_texts, labels_at}
+use Rattle.run_states.proofs.LegFacts.{plan_told}
 
 labels_by : (o : Option LegFacts)
     → unwrap_or (option_map (λ planned. label_texts (option_map_or context_of o nothing) planned.labels) (option_map (λ f. f.job) o)) []

@@ -5,17 +5,20 @@ use Rattle.std.proofs.Common.{ap, subst, sym, ◌∙◌, inl, inr}
 use Rattle.std.proofs.lemmas.Bool.{cases_eq, true≢false}
 use Rattle.std.proofs.lemmas.Option.{same_Some}
 use Rattle.label_lists.specs.Lists.{HasPlace, ListsState, OnlyGrows, PutsOffer, may_offer}
-use Rattle.workflow_runs.specs.Fitting.{is_ready}
-use Rattle.workflow_runs.specs.LabelNumbers.{AreListsOf, IsOffered, IsReadyAt, JobsOffer, LegsAreOffered, OnlyMarks, OnlyPuts, is_ready_in}
-use Rattle.workflow_runs.specs.LabelNumbers.{list_number, offered_by, offers_list}
-use Rattle.workflow_runs.specs.MarkedRuns.{has_ready_leg, is_so_at, offers_legs}
-use Rattle.workflow_runs.specs.Places.{LegPlace, leg_place, run_at}
-use Rattle.workflow_runs.specs.RunState.{JobState, LegState, RunState}
-use Rattle.workflow_runs.specs.declared.asks.RunBindings.{RunBindings}
-use Rattle.workflow_runs.specs.declared.change.Change.{Change}
-use Rattle.workflow_runs.specs.declared.change.Change.TheVariants as change
+use Rattle.run_states.specs.ActiveRuns.{has_ready_leg, offers_legs}
+use Rattle.run_states.specs.Changes.{offered_by}
+use Rattle.run_states.specs.Fitting.{is_ready}
+use Rattle.run_states.specs.Places.{leg_place, run_at}
+use Rattle.run_states.specs.declared.place.LegPlace.{LegPlace}
+use Rattle.run_states.specs.RunState.{JobState, LegState, RunState}
+use Rattle.run_states.specs.declared.change.Change.{Change}
+use Rattle.run_states.specs.declared.change.Change.TheVariants as change
+use Rattle.run_bindings.specs.LabelNumbers.{AreListsOf, IsOffered, IsReadyAt, JobsOffer, LegsAreOffered, OnlyMarks, OnlyPuts, is_ready_in}
+use Rattle.run_bindings.specs.LabelNumbers.{list_number, offers_list}
+use Rattle.run_bindings.specs.declared.bindings.RunBindings.{RunBindings}
+use Rattle.run_bindings.proofs.LabelNumbers.{puts_one, still_lists}
+use Rattle.workflow_runs.specs.MarkedRuns.{is_so_at}
 use Rattle.workflow_runs.proofs.HoldersFade.{by_run, job_passes, leg_passes, passes, run_passes}
-use Rattle.workflow_runs.proofs.LabelNumbers.{puts_one, still_lists}
 use Rattle.workflow_runs.proofs.NoneActive.{none_of}
 use Rattle.workflow_runs.proofs.OffersList.{other_number}
 use Rattle.workflow_runs.proofs.ReadyBefore.{WasReady}
@@ -24,9 +27,9 @@ pub none_offered : (lists : ListsState) → LegsAreOffered [] [] lists
 none_offered lists = record { numbers = (λ r kept at. cc); offered = (λ p kept ready at. cc) }
 
 -- lists are entered, or room is made
-pub offered_grown : (runs : List RunState) (asks : List RunBindings) (old new : ListsState) → OnlyGrows old new
-    → LegsAreOffered runs asks old → LegsAreOffered runs asks new
-offered_grown runs asks old new grows are = record {
+pub offered_grown : (runs : List RunState) (bindings : List RunBindings) (old new : ListsState) → OnlyGrows old new
+    → LegsAreOffered runs bindings old → LegsAreOffered runs bindings new
+offered_grown runs bindings old new grows are = record {
   numbers = (λ r kept at. still_lists old new grows.labels grows.places r kept.jobs kept.lists (are.numbers r kept at));
   offered = (λ p kept ready at. grows.offers (list_number kept.lists p.job p.leg) p.run ∙ are.offered p kept ready at);
 }
@@ -49,23 +52,23 @@ if_it : (one : Option LegPlace) (P : LegPlace → Type 0) → IfSome one P → (
 if_it None P says p is = cc
 if_it (Some q) P says p is = subst P (same_Some q p is) says
 
--- the run of the leg that is made ready can be marked for its list
+-- the run of the leg that becomes ready can be marked for its list
 pub has_place : (lists : ListsState) (r : ℕ) (c : Change) (asked : RunBindings) → AreListsOf lists r asked.jobs asked.lists
     → (one : Option LegPlace) → one ≡ offered_by r c → IfSome one (λ p. HasPlace lists (list_number asked.lists p.job p.leg) p.run)
 has_place lists r c asked are None is = tt
 has_place lists r c asked are (Some p) is =
     subst (λ (s : ℕ). HasPlace lists (list_number asked.lists p.job p.leg) s) (sym (offered_here r c p (sym is))) (are p.job p.leg).place
 
-pub offered_after : (runs next : List RunState) (asks : List RunBindings) (old new : ListsState) (r : ℕ) (c : Change) (asked : RunBindings)
-    → slice_get asks r ≡ Some asked → ((p : LegPlace) → IsReadyAt next p → WasReady runs (offered_by r c) p)
-    → IfSome (offered_by r c) (IsOffered new asked) → OnlyMarks old new → LegsAreOffered runs asks old → LegsAreOffered next asks new
-offered_after runs next asks old new r c asked asked_at before itself marks are = record {
+pub offered_after : (runs next : List RunState) (bindings : List RunBindings) (old new : ListsState) (r : ℕ) (c : Change) (asked : RunBindings)
+    → slice_get bindings r ≡ Some asked → ((p : LegPlace) → IsReadyAt next p → WasReady runs (offered_by r c) p)
+    → IfSome (offered_by r c) (IsOffered new asked) → OnlyMarks old new → LegsAreOffered runs bindings old → LegsAreOffered next bindings new
+offered_after runs next bindings old new r c asked asked_at before itself marks are = record {
   numbers = (λ s kept at.
       still_lists old new (λ n texts is. marks.labels n ∙ is) marks.places s kept.jobs kept.lists (are.numbers s kept at));
   offered = (λ p kept ready at.
       elim (before p ready) [
         | inl it ↦
-            let here : slice_get asks r ≡ Some kept = ap (slice_get asks) (sym (offered_here r c p it)) ∙ at in
+            let here : slice_get bindings r ≡ Some kept = ap (slice_get bindings) (sym (offered_here r c p it)) ∙ at in
             subst (λ (k : RunBindings). IsOffered new k p) (same_Some asked kept (sym asked_at ∙ here))
             (if_it (offered_by r c) (IsOffered new asked) itself p it)
         | inr was ↦ marks.offers (list_number kept.lists p.job p.leg) p.run (are.offered p kept was at)
@@ -92,10 +95,10 @@ ready_there runs r p rests here ready =
     no_ready p.job p.leg (run_at runs p.run)
     (ap (is_so_at offers_legs runs) here ∙ rests) (sym (by_run is_ready runs p) ∙ ready)
 
--- it is unmarked
-pub offered_unmarked : (runs : List RunState) (asks : List RunBindings) (old new : ListsState) (r : ℕ)
-    → is_so_at offers_legs runs r ≡ false → OnlyPuts r false old new → LegsAreOffered runs asks old → LegsAreOffered runs asks new
-offered_unmarked runs asks old new r rests puts are = record {
+-- it may be unmarked
+pub offered_unmarked : (runs : List RunState) (bindings : List RunBindings) (old new : ListsState) (r : ℕ)
+    → is_so_at offers_legs runs r ≡ false → OnlyPuts r false old new → LegsAreOffered runs bindings old → LegsAreOffered runs bindings new
+offered_unmarked runs bindings old new r rests puts are = record {
   numbers = (λ s kept at.
       still_lists old new (λ n texts is. puts.labels n ∙ is) puts.places s kept.jobs kept.lists (are.numbers s kept at));
   offered = (λ p kept ready at.
@@ -105,17 +108,17 @@ offered_unmarked runs asks old new r rests puts are = record {
       ]);
 }
 
--- ---- a run of which no ready leg has a number
+-- ---- a run in which no ready leg has a number
 
 ready_there_in : (runs : List RunState) (p : LegPlace) (x : RunState) → run_at runs p.run ≡ Some x → IsReadyAt runs p
     → is_ready_in x.jobs p.job p.leg ≡ true
 ready_there_in runs p x here ready = sym (ap (passes (run_passes is_ready p.job p.leg)) here) ∙ sym (by_run is_ready runs p) ∙ ready
 
--- it is unmarked under that
-pub number_unmarked : (runs : List RunState) (asks : List RunBindings) (old new : ListsState) (r number : ℕ) (x : RunState)
-    (asked : RunBindings) → run_at runs r ≡ Some x → slice_get asks r ≡ Some asked → offers_list x asked.lists number ≡ false
-    → PutsOffer false number r old new → LegsAreOffered runs asks old → LegsAreOffered runs asks new
-number_unmarked runs asks old new r number x asked run_there asked_there rests puts are = record {
+-- it may be unmarked for that number
+pub number_unmarked : (runs : List RunState) (bindings : List RunBindings) (old new : ListsState) (r number : ℕ) (x : RunState)
+    (asked : RunBindings) → run_at runs r ≡ Some x → slice_get bindings r ≡ Some asked → offers_list x asked.lists number ≡ false
+    → PutsOffer false number r old new → LegsAreOffered runs bindings old → LegsAreOffered runs bindings new
+number_unmarked runs bindings old new r number x asked run_there asked_there rests puts are = record {
   numbers = (λ s kept at.
       still_lists old new (λ n texts is. puts.labels n ∙ is) puts.places s kept.jobs kept.lists (are.numbers s kept at));
   offered = (λ p kept ready at.
@@ -123,7 +126,7 @@ number_unmarked runs asks old new r number x asked run_there asked_there rests p
       let marked : may_offer old n p.run ≡ true = are.offered p kept ready at in
       elim (cases_eq p.run r) [
         | inl here ↦
-            let same : asked ≡ kept = same_Some asked kept (sym asked_there ∙ ap (slice_get asks) (sym here) ∙ at) in
+            let same : asked ≡ kept = same_Some asked kept (sym asked_there ∙ ap (slice_get bindings) (sym here) ∙ at) in
             let another : nat_eq n number ≡ false =
             subst (λ (k : RunBindings). nat_eq (list_number k.lists p.job p.leg) number ≡ false) same
             (other_number x asked.lists number rests p.job p.leg (ready_there_in runs p x (ap (run_at runs) here ∙ run_there) ready)) in
@@ -132,20 +135,20 @@ number_unmarked runs asks old new r number x asked run_there asked_there rests p
       ]);
 }
 
--- ---- one run stands in the place of another, or behind the others
+-- ---- a run replaces another, or is added at the end
 
-module _ (runs next : List RunState) (asks asks' : List RunBindings) (old new : ListsState) (r : ℕ) (x : RunState) (asked : RunBindings)
-    (run_there : run_at next r ≡ Some x) (asked_there : slice_get asks' r ≡ Some asked)
+module _ (runs next : List RunState) (bindings bindings' : List RunBindings) (old new : ListsState) (r : ℕ) (x : RunState) (asked : RunBindings)
+    (run_there : run_at next r ≡ Some x) (asked_there : slice_get bindings' r ≡ Some asked)
     (other_runs : (s : ℕ) → (s ≡ r → ⊥) → run_at next s ≡ run_at runs s)
-    (other_asks : (s : ℕ) → (s ≡ r → ⊥) → slice_get asks' s ≡ slice_get asks s)
+    (other_asks : (s : ℕ) → (s ≡ r → ⊥) → slice_get bindings' s ≡ slice_get bindings s)
     (itself : AreListsOf old r asked.jobs asked.lists)
     (all : JobsOffer new asked.lists r x.jobs) (puts : OnlyPuts r true old new)
-    (are : LegsAreOffered runs asks old) where
-  listed : (s : ℕ) (kept : RunBindings) → slice_get asks' s ≡ Some kept → AreListsOf old s kept.jobs kept.lists
+    (are : LegsAreOffered runs bindings old) where
+  listed : (s : ℕ) (kept : RunBindings) → slice_get bindings' s ≡ Some kept → AreListsOf old s kept.jobs kept.lists
   listed s kept at =
       elim (cases_eq s r) [
         | inl here ↦
-            let same = same_Some asked kept (sym asked_there ∙ ap (slice_get asks') (sym here) ∙ at) in
+            let same = same_Some asked kept (sym asked_there ∙ ap (slice_get bindings') (sym here) ∙ at) in
             subst (λ (k : RunBindings). AreListsOf old s k.jobs k.lists) same
             (subst (λ (n : ℕ). AreListsOf old n asked.jobs asked.lists) (sym here) itself)
         | inr other ↦ are.numbers s kept (sym (other_asks s other) ∙ at)
@@ -160,14 +163,14 @@ module _ (runs next : List RunState) (asks asks' : List RunBindings) (old new : 
       ∙ ap (passes (run_passes is_ready p.job p.leg)) (sym (other_runs p.run other))
       ∙ sym (by_run is_ready next p) ∙ ready
 
-  pub offered_with : LegsAreOffered next asks' new
+  pub offered_with : LegsAreOffered next bindings' new
   offered_with = record {
     numbers = (λ s kept at.
         still_lists old new (λ n texts is. puts.labels n ∙ is) puts.places s kept.jobs kept.lists (listed s kept at));
     offered = (λ p kept ready at.
         elim (cases_eq p.run r) [
           | inl here ↦
-              let same = same_Some asked kept (sym asked_there ∙ ap (slice_get asks') (sym here) ∙ at) in
+              let same = same_Some asked kept (sym asked_there ∙ ap (slice_get bindings') (sym here) ∙ at) in
               subst (λ (k : RunBindings). IsOffered new k p) same
               (ap (may_offer new (list_number asked.lists p.job p.leg)) here
               ∙ all p.job p.leg (ready_in_it p here ready))

@@ -1,10 +1,10 @@
--- A change lets nobody go but whom it may free.
-use Rattle.std.specs.Prelude.{◌≡◌, ◌⊎◌, ℕ, zero, suc, ◌+◌, ◌<◌, ◌≤◌, ◌&&◌, ◌||◌, List, [], ◌∷◌, filter, filter_map, length, map, Bool, true, false}
+-- A change releases only the holders that it may release.
+use Rattle.std.specs.Prelude.{◌≡◌, ◌⊎◌, ℕ, zero, suc, ◌+◌, ◌<◌, ◌≤◌, ◌&&◌, List, [], ◌∷◌, filter, filter_map, length, map, Bool, true, false}
 use Rattle.std.specs.Prelude.{nat_eq, nat_lt, not, is_some, take, Option, Some, None, option_map, option_and_then, slice_get, if◌then◌else◌, refl}
 use Rattle.std.specs.List.{cons_option, list_any, range_with_len, slice_index_or}
 use Rattle.std.specs.Option.{option_map_or}
 use Rattle.std.proofs.Common.{arith, ap, sym, subst, ◌∙◌, inl, inr}
-use Rattle.std.proofs.lemmas.Bool.{and_cases, and_parts, cases_Bool, cases_eq, cases_lt, eqb-false, or_parts, or_right, true≢false, false≢true}
+use Rattle.std.proofs.lemmas.Bool.{and_cases, and_parts, cases_Bool, cases_eq, cases_lt, eqb-false, or_parts, true≢false, false≢true}
 use Rattle.std.proofs.lemmas.Bool.Decides.{nat_tests}
 use Rattle.std.proofs.lemmas.List.{get_or_past}
 use Rattle.std.proofs.lemmas.Option.{slice_get-map, slice_get_within}
@@ -15,48 +15,51 @@ use Rattle.group_name.specs.Group.{Group}
 use Rattle.needs_graph.specs.Ancestors.{dependents_of, needs_at}
 use Rattle.run_plan.specs.PlanOf.{plan_of}
 use Rattle.run_plan.specs.declared.planned.PlannedJob.{PlannedJob}
-use Rattle.workflow_runs.specs.Changes.{changed}
-use Rattle.workflow_runs.specs.FirstOf.{changed_at}
-use Rattle.workflow_runs.specs.GroupOf.{asked_of_leg, group_at, leg_group, named_group}
-use Rattle.workflow_runs.specs.Groups.{holds, is_in, is_running_in, leg_holds}
-use Rattle.workflow_runs.specs.Holders.{holder_in_words, run_of}
-use Rattle.workflow_runs.specs.JobResults.{direct_needs, needs_in, results_so_far, settled_result, with_result}
-use Rattle.workflow_runs.specs.LegContext.{LegFacts, context_of, facts_at}
-use Rattle.workflow_runs.specs.LettingGo.{IsFreed, LetsGoOnly, asks_for_groups, freed, has_begun, has_holding_leg, has_legs, has_legs_at}
-use Rattle.workflow_runs.specs.LettingGo.{has_legs_behind, holds_by_a_leg, holds_by_a_leg_of, job_asks, leg_lets_go}
+use Rattle.run_states.specs.ActiveRuns.{has_ready_leg}
+use Rattle.run_states.specs.Changes.{changed}
+use Rattle.run_states.specs.FirstOf.{changed_at}
+use Rattle.run_states.specs.Fitting.{is_ready}
+use Rattle.run_states.specs.GroupOf.{asked_of_leg, group_at, leg_group, named_group}
+use Rattle.run_states.specs.Groups.{holds, is_in, is_running_in, leg_holds}
+use Rattle.run_states.specs.Holders.{run_of}
+use Rattle.run_states.specs.HoldingLegs.{has_begun, has_holding_leg, has_legs, has_legs_at}
+use Rattle.run_states.specs.HoldingLegs.{has_legs_behind, holds_by_a_leg, holds_by_a_leg_of, job_asks}
+use Rattle.run_states.specs.JobResults.{direct_needs, needs_in, results_so_far, settled_result, with_result}
+use Rattle.run_states.specs.LegContext.{LegFacts, context_of, facts_at}
+use Rattle.run_states.specs.Places.{job_at, leg_place, run_at, with_run}
+use Rattle.run_states.specs.RunNumber.{events}
+use Rattle.run_states.specs.RunState.{JobState, LegState, RunState}
+use Rattle.run_states.specs.Settling.{legs_in_plan}
+use Rattle.run_states.specs.StateWords.{is_blocked, is_live, opened, run_in_phase, settled_as}
+use Rattle.run_states.specs.Stops.{stopped, stopped_in, stopped_phase, stopped_run, told_to_stop, with_stopped_legs}
+use Rattle.run_states.specs.declared.change.Change.{Change}
+use Rattle.run_states.specs.declared.change.Change.TheVariants as change
+use Rattle.run_states.specs.declared.frees.Frees.{Frees}
+use Rattle.run_states.specs.declared.frees.Frees.TheVariants.{Any, Nobody, One}
+use Rattle.run_states.specs.declared.phases.JobPhase.{JobPhase}
+use Rattle.run_states.specs.declared.phases.JobPhase.TheVariants as job
+use Rattle.run_states.specs.declared.phases.LegPhase.{LegPhase}
+use Rattle.run_states.specs.declared.phases.LegPhase.TheVariants as leg
+use Rattle.run_states.specs.declared.phases.RunPhase.{RunPhase}
+use Rattle.run_states.specs.declared.phases.RunPhase.TheVariants as run
+use Rattle.run_states.proofs.AnyOf.{not_in_range}
+use Rattle.run_states.proofs.Changed.{at_another, at_changed}
+use Rattle.run_states.proofs.LegFacts.{SameUpTo, facts_are, plan_told, taken_same, told, told_in}
+use Rattle.run_states.proofs.NeedsSettled.{result_among}
+use Rattle.run_states.proofs.Optional.{from_and_then}
+use Rattle.run_states.proofs.Transitions.{changed_none}
+use Rattle.workflow_runs.specs.LettingGo.{IsFreed, LetsGoOnly, asks_for_groups, freed}
+use Rattle.workflow_runs.specs.LettingGo.{leg_lets_go}
 use Rattle.workflow_runs.specs.LettingGo.{offers_a_leg, run_lets_go}
-use Rattle.workflow_runs.specs.MarkedRuns.{has_ready_leg, is_so_at}
-use Rattle.workflow_runs.specs.Moves.{Holder}
-use Rattle.workflow_runs.specs.Places.{job_at, leg_place, run_at, with_run}
-use Rattle.workflow_runs.specs.RunNumber.{events}
-use Rattle.workflow_runs.specs.RunState.{JobState, LegState, RunState}
-use Rattle.workflow_runs.specs.Settling.{legs_in_plan}
-use Rattle.workflow_runs.specs.StateWords.{is_blocked, is_live, opened, run_in_phase, settled_as}
-use Rattle.workflow_runs.specs.Stops.{stopped, stopped_in, stopped_phase, stopped_run, told_to_stop, with_stopped_legs}
-use Rattle.workflow_runs.specs.Fitting.{is_ready}
-use Rattle.workflow_runs.specs.declared.change.Change.{Change}
-use Rattle.workflow_runs.specs.declared.change.Change.TheVariants as change
-use Rattle.workflow_runs.specs.declared.frees.Frees.{Frees}
-use Rattle.workflow_runs.specs.declared.frees.Frees.TheVariants.{Nobody, One, Any}
-use Rattle.workflow_runs.specs.declared.holder.Holder.{Holder as HolderInCode}
-use Rattle.workflow_runs.specs.declared.holder.Holder.TheVariants.{Run, Leg}
-use Rattle.workflow_runs.specs.declared.phases.JobPhase.{JobPhase}
-use Rattle.workflow_runs.specs.declared.phases.JobPhase.TheVariants as job
-use Rattle.workflow_runs.specs.declared.phases.LegPhase.{LegPhase}
-use Rattle.workflow_runs.specs.declared.phases.LegPhase.TheVariants as leg
-use Rattle.workflow_runs.specs.declared.phases.RunPhase.{RunPhase}
-use Rattle.workflow_runs.specs.declared.phases.RunPhase.TheVariants as run
-use Rattle.workflow_runs.proofs.Changed.{at_another, at_changed}
+use Rattle.workflow_runs.specs.MarkedRuns.{is_so_at}
 use Rattle.workflow_runs.proofs.GroupStays.{leg_group_same, run_group_stays, same_group}
 use Rattle.workflow_runs.proofs.HoldersFade.{by_run, job_passes, leg_passes, passes, run_passes}
 use Rattle.workflow_runs.proofs.KeptBack.{passed_on, runs_still}
-use Rattle.workflow_runs.proofs.LegFacts.{SameUpTo, facts_are, plan_told, taken_same, told, told_in}
-use Rattle.workflow_runs.proofs.NeedsSettled.{result_among}
 use Rattle.workflow_runs.proofs.NoneActive.{none_of}
 use Rattle.workflow_runs.proofs.OneEach.{IsOneOf, group_is}
-use Rattle.workflow_runs.proofs.Optional.{from_and_then}
 use Rattle.workflow_runs.proofs.Stays.{changed_admitted, changed_attempt}
-use Rattle.workflow_runs.proofs.Transitions.{changed_none}
+use Rattle.run_states.specs.declared.holder.Holder.{Holder}
+use Rattle.run_states.specs.declared.holder.Holder.TheVariants.{Run, Leg}
 
 some_not_none : {X : Type 0} (x : X) → Some x ≡ None → ⊥
 some_not_none x e = cc
@@ -65,7 +68,7 @@ none_if_not : {X : Type 0} (o : Option X) → is_some o ≡ false → o ≡ None
 none_if_not None e = refl
 none_if_not (Some x) e = cc
 
--- ---- whom a change frees
+-- ---- which holders a change releases
 
 or_else : {P Q R : Type 0} → P ⊎ Q → (Q → R) → P ⊎ R
 or_else either next =
@@ -74,12 +77,12 @@ or_else either next =
       | inr other ↦ inr (next other)
     ]
 
-of_run : {r : ℕ} (b : Bool) (here one : HolderInCode) → run_of (holder_in_words here) ≡ r
-    → (if b then One here else Nobody) ≡ One one → run_of (holder_in_words one) ≡ r
-of_run true here one at e = let same : here ≡ one = cc in sym (ap (λ h. run_of (holder_in_words h)) same) ∙ at
+of_run : {r : ℕ} (b : Bool) (here one : Holder) → run_of here ≡ r
+    → (if b then One here else Nobody) ≡ One one → run_of one ≡ r
+of_run true here one at e = let same : here ≡ one = cc in sym (ap (λ h. run_of h) same) ∙ at
 of_run false here one at e = cc
 
-not_one : (b : Bool) (one : HolderInCode) → (if b then Any else Nobody) ≡ One one → ⊥
+not_one : (b : Bool) (one : Holder) → (if b then Any else Nobody) ≡ One one → ⊥
 not_one true one e = cc
 not_one false one e = cc
 
@@ -92,37 +95,12 @@ passed_at : {X : Type 0} (test : X → Bool) (o : Option X) → passes test o �
 passed_at test None e = cc
 passed_at test (Some x) e = record { value = x; is = refl; passed = e }
 
--- ---- a test of the places below a bound
-
-pub one_in_range : (test : ℕ → Bool) (n a i : ℕ) → a ≤ i → i < a + n → test i ≡ true → list_any test (range_with_len a n) ≡ true
-one_in_range test zero a i low high is = absurd (omega arith)
-one_in_range test (suc n) a i low high is =
-    elim (cases_eq i a) [
-      | inl here ↦ ap (λ b. b || list_any test (range_with_len (a + 1) n)) (ap test (sym here) ∙ is)
-      | inr other ↦
-          or_right (test a) (list_any test (range_with_len (a + 1) n))
-          (one_in_range test n (a + 1) i (omega (arith, other, low)) (omega arith) is)
-    ]
-
-not_in_range : (test : ℕ → Bool) (n a i : ℕ) → a ≤ i → i < a + n → list_any test (range_with_len a n) ≡ false → test i ≡ false
-not_in_range test n a i low high none =
-    elim (cases_Bool (test i)) [
-      | inl is ↦ absurd (true≢false (sym (one_in_range test n a i low high is) ∙ none))
-      | inr not_so ↦ not_so
-    ]
-
-pub none_in_range : (test : ℕ → Bool) (n a : ℕ) → ((i : ℕ) → i < a + n → test i ≡ false) → list_any test (range_with_len a n) ≡ false
-none_in_range test zero a none = refl
-none_in_range test (suc n) a none =
-    ap (λ b. b || list_any test (range_with_len (a + 1) n)) (none a (omega arith))
-    ∙ none_in_range test n (a + 1) (λ i lt. none i (omega (arith, lt)))
-
--- ---- who is there, and holds a group
+-- ---- a holder that exists and holds a group
 
 -- its run
 pub run_of_one : (runs : List RunState) (h : Holder) → IsOneOf runs h → (x : RunState) × (run_at runs (run_of h) ≡ Some x)
-run_of_one runs (Holder.a_run r) there = there
-run_of_one runs (Holder.a_leg p) there =
+run_of_one runs (Run r) there = there
+run_of_one runs (Leg p) there =
     let job = from_and_then (λ (y : JobState). slice_get y.legs p.leg) (job_at runs p.run p.job) there.0 there.1 in
     let run = from_and_then (λ (x : RunState). slice_get x.jobs p.job) (run_at runs p.run) job.value job.is in
     (run.value, run.is)
@@ -130,26 +108,26 @@ run_of_one runs (Holder.a_leg p) there =
 pub holder_within : (runs : List RunState) (h : Holder) → IsOneOf runs h → run_of h < length runs
 holder_within runs h there = let run = run_of_one runs h there in slice_get_within runs (run_of h) run.0 run.1
 
--- by its run alone
+-- whether a holder holds depends only on its run
 pub same_holds : (runs next : List RunState) (h : Holder) → run_at next (run_of h) ≡ run_at runs (run_of h) → holds next h ≡ holds runs h
-same_holds runs next (Holder.a_run r) at = ap (λ o. option_map_or (λ (x : RunState). is_live x.phase) o false) at
-same_holds runs next (Holder.a_leg p) at =
+same_holds runs next (Run r) at = ap (λ o. option_map_or (λ (x : RunState). is_live x.phase) o false) at
+same_holds runs next (Leg p) at =
     ap (λ o. option_map_or (λ (z : LegState). leg_holds z.phase)
     (option_and_then (λ (y : JobState). slice_get y.legs p.leg) (option_and_then (λ (x : RunState). slice_get x.jobs p.job) o)) false) at
 
--- ---- a change of one run that keeps who holds a group in it
+-- ---- a change of one run that keeps which holders hold a group in it
 
--- a leg keeps its group, and holds it
+-- a leg keeps its group and holds it
 record LegStays (x y : RunState) (j l : ℕ) : Type 0 where
   needs : direct_needs y j ≡ direct_needs x j
   held : run_passes leg_holds j l y ≡ true
 
--- each that has a group stays, but for those that are freed
+-- each holder with a group still holds it, except those that are released
 record HoldersStay (goes : Frees) (runs : List RunState) (r : ℕ) (x y : RunState) : Type 0 where
-  own : (g : Group) → group_at runs (Holder.a_run r) ≡ Some g → is_live x.phase ≡ true
-      → IsFreed goes (Holder.a_run r) ⊎ (is_live y.phase ≡ true)
-  legs : (j l : ℕ) (g : Group) → group_at runs (Holder.a_leg (leg_place r j l)) ≡ Some g → run_passes leg_holds j l x ≡ true
-      → IsFreed goes (Holder.a_leg (leg_place r j l)) ⊎ LegStays x y j l
+  own : (g : Group) → group_at runs (Run r) ≡ Some g → is_live x.phase ≡ true
+      → IsFreed goes (Run r) ⊎ (is_live y.phase ≡ true)
+  legs : (j l : ℕ) (g : Group) → group_at runs (Leg (leg_place r j l)) ≡ Some g → run_passes leg_holds j l x ≡ true
+      → IsFreed goes (Leg (leg_place r j l)) ⊎ LegStays x y j l
 
 module _ (runs : List RunState) (r : ℕ) (f : RunState → RunState) (x : RunState) (was : run_at runs r ≡ Some x)
     (admitted : (f x).admitted ≡ x.admitted) (attempt : (f x).attempt ≡ x.attempt) (goes : Frees)
@@ -174,7 +152,7 @@ module _ (runs : List RunState) (r : ℕ) (f : RunState → RunState) (x : RunSt
       slice_get-map (λ (z : RunState). z.admitted) next k ∙ read_same (λ z. z.admitted) admitted k
       ∙ sym (slice_get-map (λ (z : RunState). z.admitted) runs k)
 
-  -- what is told of a leg of the run, by the needs of its job
+  -- the facts of a leg of the run, by the needs of its job
   facts_here : (j l : ℕ) → direct_needs (f x) j ≡ direct_needs x j → facts_at next (leg_place r j l) ≡ facts_at runs (leg_place r j l)
   facts_here j l needs =
       let p = leg_place r j l in
@@ -189,29 +167,29 @@ module _ (runs : List RunState) (r : ℕ) (f : RunState → RunState) (x : RunSt
       ∙ sym (ap (option_and_then (told_in p before)) was)
       ∙ sym (facts_are runs p)
 
-  leg_stays : (g : Group) (j l : ℕ) → is_running_in runs g (Holder.a_leg (leg_place r j l)) ≡ true
-      → IsFreed goes (Holder.a_leg (leg_place r j l)) ⊎ (is_running_in next g (Holder.a_leg (leg_place r j l)) ≡ true)
+  leg_stays : (g : Group) (j l : ℕ) → is_running_in runs g (Leg (leg_place r j l)) ≡ true
+      → IsFreed goes (Leg (leg_place r j l)) ⊎ (is_running_in next g (Leg (leg_place r j l)) ≡ true)
   leg_stays g j l e =
       let p = leg_place r j l in
-      let parts = and_parts (is_in runs g (Holder.a_leg p)) (holds runs (Holder.a_leg p)) e in
+      let parts = and_parts (is_in runs g (Leg p)) (holds runs (Leg p)) e in
       let held : run_passes leg_holds j l x ≡ true =
       sym (by_run leg_holds runs p ∙ ap (passes (run_passes leg_holds j l)) was) ∙ parts.1 in
-      elim (stay.legs j l g (group_is runs g (Holder.a_leg p) parts.0) held) [
+      elim (stay.legs j l g (group_is runs g (Leg p) parts.0) held) [
         | inl freed ↦ inl freed
-        | inr stays ↦ inr (runs_still runs next g (Holder.a_leg p) (leg_group_same runs next p (facts_here j l stays.needs))
+        | inr stays ↦ inr (runs_still runs next g (Leg p) (leg_group_same runs next p (facts_here j l stays.needs))
             (λ old k group. by_run leg_holds next p ∙ ap (passes (run_passes leg_holds j l)) now ∙ stays.held) e)
       ]
 
-  own_stays : (g : Group) → is_running_in runs g (Holder.a_run r) ≡ true
-      → IsFreed goes (Holder.a_run r) ⊎ (is_running_in next g (Holder.a_run r) ≡ true)
+  own_stays : (g : Group) → is_running_in runs g (Run r) ≡ true
+      → IsFreed goes (Run r) ⊎ (is_running_in next g (Run r) ≡ true)
   own_stays g e =
       let live : RunState → Bool = λ z. is_live z.phase in
-      let parts = and_parts (is_in runs g (Holder.a_run r)) (holds runs (Holder.a_run r)) e in
+      let parts = and_parts (is_in runs g (Run r)) (holds runs (Run r)) e in
       let held = sym (ap (λ o. option_map_or live o false) was) ∙ parts.1 in
-      elim (stay.own g (group_is runs g (Holder.a_run r) parts.0) held) [
+      elim (stay.own g (group_is runs g (Run r) parts.0) held) [
         | inl freed ↦ inl freed
         | inr stays ↦ inr
-            (runs_still runs next g (Holder.a_run r) (run_group_stays runs next r (same_upto r) (read_same (λ z. z.attempt) attempt r))
+            (runs_still runs next g (Run r) (run_group_stays runs next r (same_upto r) (read_same (λ z. z.attempt) attempt r))
             (λ old k group. ap (λ o. option_map_or live o false) now ∙ stays) e)
       ]
 
@@ -224,15 +202,15 @@ module _ (runs : List RunState) (r : ℕ) (f : RunState → RunState) (x : RunSt
   Stays g h = is_running_in runs g h ≡ true → IsFreed goes h ⊎ (is_running_in next g h ≡ true)
 
   others_stay : LetsGoOnly goes runs next
-  others_stay g (Holder.a_run s) e =
+  others_stay g (Run s) e =
       elim (cases_eq s r) [
-        | inl here ↦ subst (λ k. Stays g (Holder.a_run k)) (sym here) (own_stays g) e
-        | inr other ↦ inr (other_stays g (Holder.a_run s) other e)
+        | inl here ↦ subst (λ k. Stays g (Run k)) (sym here) (own_stays g) e
+        | inr other ↦ inr (other_stays g (Run s) other e)
       ]
-  others_stay g (Holder.a_leg p) e =
+  others_stay g (Leg p) e =
       elim (cases_eq p.run r) [
-        | inl here ↦ subst (λ k. Stays g (Holder.a_leg (leg_place k p.job p.leg))) (sym here) (leg_stays g p.job p.leg) e
-        | inr other ↦ inr (other_stays g (Holder.a_leg p) other e)
+        | inl here ↦ subst (λ k. Stays g (Leg (leg_place k p.job p.leg))) (sym here) (leg_stays g p.job p.leg) e
+        | inr other ↦ inr (other_stays g (Leg p) other e)
       ]
 
 -- ---- the needs of a job
@@ -260,7 +238,7 @@ needs_apart plan before after j same (p ∷ ps) apart =
     (same p (λ e. eqb-false j p parts.0 (sym e)))
     ∙ ap (cons_option (with_result plan before p)) (needs_apart plan before after j same ps parts.1)
 
--- of a job that needs not the one that settles
+-- of a job that does not need the one that finishes
 needs_beside : (x : RunState) (j : ℕ) (f : JobState → JobState) (i : ℕ) → list_any (nat_eq j) (needs_at (needs_in x) i) ≡ false
     → direct_needs (record x { jobs = changed_at j f x.jobs }) i ≡ direct_needs x i
 unfolding direct_needs
@@ -270,7 +248,7 @@ needs_beside x j f i apart =
     ∙ ap (option_and_then (λ (y : JobState). settled_result y.phase)) (at_another j f x.jobs k other) ∙ sym (result_among x.jobs k))
     (needs_at (needs_in x) i) apart
 
--- ---- jobs that need the one that settles
+-- ---- the jobs that need the one that finishes
 
 kept_any : (p test : ℕ → Bool) (n a i : ℕ) → a ≤ i → i < a + n → list_any p (filter test (range_with_len a n)) ≡ false → p i ≡ true
     → test i ≡ false
@@ -307,7 +285,7 @@ some_legs : (legs : List LegState) (l : ℕ) → passes (leg_passes leg_holds) (
 some_legs [] l e = cc
 some_legs (z ∷ zs) l e = let some : nat_eq (length (z ∷ zs)) 0 ≡ false = grind (arith, nat_tests) in ap not some
 
--- where a leg of a job holds its group, the job has legs
+-- if a leg of a job holds its group, the job has legs
 legs_there : (x : RunState) (i l : ℕ) → run_passes leg_holds i l x ≡ true → has_legs_at x i ≡ true
 legs_there x i l e = by (slice_get x.jobs i) e
   where
@@ -321,8 +299,8 @@ module _ (runs : List RunState) (r : ℕ) (x : RunState) (was : run_at runs r �
   -- a change of one job that keeps its result
   job_stays : (goes : Frees) (j : ℕ) (f : JobState → JobState)
       → ((y : JobState) → slice_get x.jobs j ≡ Some y → settled_result (f y).phase ≡ settled_result y.phase)
-      → ((y : JobState) → slice_get x.jobs j ≡ Some y → (l : ℕ) (g : Group) → group_at runs (Holder.a_leg (leg_place r j l)) ≡ Some g
-      → job_passes leg_holds l y ≡ true → IsFreed goes (Holder.a_leg (leg_place r j l)) ⊎ (job_passes leg_holds l (f y) ≡ true))
+      → ((y : JobState) → slice_get x.jobs j ≡ Some y → (l : ℕ) (g : Group) → group_at runs (Leg (leg_place r j l)) ≡ Some g
+      → job_passes leg_holds l y ≡ true → IsFreed goes (Leg (leg_place r j l)) ⊎ (job_passes leg_holds l (f y) ≡ true))
       → HoldersStay goes runs r x (record x { jobs = changed_at j f x.jobs })
   job_stays goes j f same still = record {
     own = (λ g group live. inr live);
@@ -338,15 +316,15 @@ module _ (runs : List RunState) (r : ℕ) (x : RunState) (was : run_at runs r �
       needs_kept : (i : ℕ) → direct_needs (record x { jobs = changed_at j f x.jobs }) i ≡ direct_needs x i
       needs_kept i = needs_same x x.phase (changed_at j f x.jobs) (same_results f j x.jobs same) i
 
-      here_stays : (i : ℕ) → i ≡ j → (l : ℕ) (g : Group) → group_at runs (Holder.a_leg (leg_place r i l)) ≡ Some g
+      here_stays : (i : ℕ) → i ≡ j → (l : ℕ) (g : Group) → group_at runs (Leg (leg_place r i l)) ≡ Some g
           → run_passes leg_holds i l x ≡ true
-          → IsFreed goes (Holder.a_leg (leg_place r i l)) ⊎ LegStays x (record x { jobs = changed_at j f x.jobs }) i l
+          → IsFreed goes (Leg (leg_place r i l)) ⊎ LegStays x (record x { jobs = changed_at j f x.jobs }) i l
       here_stays i here l g group held =
           let there : passes (job_passes leg_holds l) (slice_get x.jobs j) ≡ true =
           subst (λ k. passes (job_passes leg_holds l) (slice_get x.jobs k) ≡ true) here held in
           let job = passed_at (job_passes leg_holds l) (slice_get x.jobs j) there in
-          elim (still job.value job.is l g (subst (λ k. group_at runs (Holder.a_leg (leg_place r k l)) ≡ Some g) here group) job.passed) [
-            | inl freed ↦ inl (subst (λ k. IsFreed goes (Holder.a_leg (leg_place r k l))) (sym here) freed)
+          elim (still job.value job.is l g (subst (λ k. group_at runs (Leg (leg_place r k l)) ≡ Some g) here group) job.passed) [
+            | inl freed ↦ inl (subst (λ k. IsFreed goes (Leg (leg_place r k l))) (sym here) freed)
             | inr stays ↦ inr (record {
               needs = needs_kept i;
               held = ap (λ k. passes (job_passes leg_holds l) (slice_get (changed_at j f x.jobs) k)) here
@@ -360,12 +338,12 @@ module _ (runs : List RunState) (r : ℕ) (x : RunState) (was : run_at runs r �
   unless true false o g never group is = absurd (true≢false (sym (ap is_some group) ∙ never))
   unless false false o g never group is = absurd (false≢true is)
 
-  phase_stays : (goes : Frees) (phase : RunPhase) → IsFreed goes (Holder.a_run r) ⊎ (run_lets_go runs r phase ≡ false)
+  phase_stays : (goes : Frees) (phase : RunPhase) → IsFreed goes (Run r) ⊎ (run_lets_go runs r phase ≡ false)
       → HoldersStay goes runs r x (run_in_phase phase x)
   phase_stays goes phase never = record {
     own = (λ g group live.
         or_else never (λ is.
-        unless (holds runs (Holder.a_run r)) (is_live phase) (group_at runs (Holder.a_run r)) g is group
+        unless (holds runs (Run r)) (is_live phase) (group_at runs (Run r)) g is group
         (ap (λ o. option_map_or (λ (z : RunState). is_live z.phase) o false) was ∙ live)));
     legs = (λ i l g group held. inr (record { needs = needs_same x phase x.jobs refl i; held = held }));
   }
@@ -413,7 +391,7 @@ module _ (runs : List RunState) (r : ℕ) (x : RunState) (was : run_at runs r �
       ]
   live_still run.Ended is live = cc
 
-  no_group : (j l : ℕ) → asks_for_groups runs r j ≡ false → (g : Group) → group_at runs (Holder.a_leg (leg_place r j l)) ≡ Some g → ⊥
+  no_group : (j l : ℕ) → asks_for_groups runs r j ≡ false → (g : Group) → group_at runs (Leg (leg_place r j l)) ≡ Some g → ⊥
   unfolding group_at
   no_group j l never g group =
       by (facts_at runs (leg_place r j l))
@@ -435,12 +413,12 @@ module _ (runs : List RunState) (r : ℕ) (x : RunState) (was : run_at runs r �
           let named : Concurrency → Option Group = named_group (event_of f.event.body).repo (context_of f) in
           some_not_none g (sym e ∙ ap (option_and_then named) (asked_not f none))
 
-  no_leg_held : holds_by_a_leg x ≡ false → (i l : ℕ) (g : Group) → group_at runs (Holder.a_leg (leg_place r i l)) ≡ Some g
+  no_leg_held : holds_by_a_leg x ≡ false → (i l : ℕ) (g : Group) → group_at runs (Leg (leg_place r i l)) ≡ Some g
       → run_passes leg_holds i l x ≡ true → ⊥
   no_leg_held none i l g group e = by (slice_get x.jobs i) refl e
     where
-      asks : job_asks x i ≡ true
-      asks =
+      bindings : job_asks x i ≡ true
+      bindings =
           elim (cases_Bool (job_asks x i)) [
             | inl is ↦ is
             | inr not_so ↦
@@ -451,7 +429,7 @@ module _ (runs : List RunState) (r : ℕ) (x : RunState) (was : run_at runs r �
 
       none_of_job : (y : JobState) → slice_get x.jobs i ≡ Some y → has_holding_leg y ≡ false
       none_of_job y at =
-          sym (ap (λ b. b && has_holding_leg y) asks)
+          sym (ap (λ b. b && has_holding_leg y) bindings)
           ∙ sym (ap (λ o. option_map_or (λ (job : JobState). job_asks x i && has_holding_leg job) o false) at)
           ∙ not_in_range (holds_by_a_leg_of x) (length x.jobs) 0 i (omega arith) (omega (arith, slice_get_within x.jobs i y at)) none
 
@@ -497,7 +475,7 @@ module _ (runs : List RunState) (r : ℕ) (x : RunState) (was : run_at runs r �
       ])
 
   put_stays : (goes : Frees) (j l : ℕ) (put : LegState)
-      → IsFreed goes (Holder.a_leg (leg_place r j l)) ⊎ (leg_lets_go runs (leg_place r j l) put ≡ false)
+      → IsFreed goes (Leg (leg_place r j l)) ⊎ (leg_lets_go runs (leg_place r j l) put ≡ false)
       → HoldersStay goes runs r x (record x { jobs = changed_at j (λ y. record y { legs = changed_at l (λ _. put) y.legs }) x.jobs })
   put_stays goes j l put unless_freed =
       job_stays goes j (λ y. record y { legs = changed_at l (λ _. put) y.legs }) (λ y at. refl)
@@ -505,14 +483,14 @@ module _ (runs : List RunState) (r : ℕ) (x : RunState) (was : run_at runs r �
       elim (cases_eq k l) [
         | inl here ↦
             or_else (subst
-            (λ n. IsFreed goes (Holder.a_leg (leg_place r j n)) ⊎ (leg_lets_go runs (leg_place r j l) put ≡ false)) (sym here) unless_freed)
+            (λ n. IsFreed goes (Leg (leg_place r j n)) ⊎ (leg_lets_go runs (leg_place r j l) put ≡ false)) (sym here) unless_freed)
             (λ never.
-            let there : holds runs (Holder.a_leg (leg_place r j l)) ≡ true =
+            let there : holds runs (Leg (leg_place r j l)) ≡ true =
             by_run leg_holds runs (leg_place r j l) ∙ ap (passes (run_passes leg_holds j l)) was ∙ ap (passes (job_passes leg_holds l)) at
             ∙ subst (λ n. job_passes leg_holds n y ≡ true) here held in
-            let holds_still = unless (holds runs (Holder.a_leg (leg_place r j l))) (leg_holds put.phase)
-            (group_at runs (Holder.a_leg (leg_place r j l))) g never
-            (subst (λ n. group_at runs (Holder.a_leg (leg_place r j n)) ≡ Some g) here group) there in
+            let holds_still = unless (holds runs (Leg (leg_place r j l))) (leg_holds put.phase)
+            (group_at runs (Leg (leg_place r j l))) g never
+            (subst (λ n. group_at runs (Leg (leg_place r j n)) ≡ Some g) here group) there in
             passed_on (leg_passes leg_holds) (λ _. put) l y.legs (λ z is now. holds_still) k held)
         | inr other ↦ inr (ap (passes (leg_passes leg_holds)) (at_another l (λ _. put) y.legs k other) ∙ held)
       ])
@@ -520,7 +498,7 @@ module _ (runs : List RunState) (r : ℕ) (x : RunState) (was : run_at runs r �
   there_is : (test : RunState → Bool) → is_so_at test runs r ≡ false → test x ≡ false
   there_is test never = sym (ap (λ o. option_map_or test o false) was) ∙ never
 
-  -- where anybody may go
+  -- if any holder may be released
   any_goes : (y : RunState) → HoldersStay Any runs r x y
   any_goes y = record { own = (λ g group live. inl tt); legs = (λ i l g group held. inl tt) }
 
@@ -528,8 +506,8 @@ module _ (runs : List RunState) (r : ℕ) (x : RunState) (was : run_at runs r �
   by_test true y stays = any_goes y
   by_test false y stays = stays refl
 
-  by_one : (b : Bool) (one : HolderInCode) (y : RunState)
-      → ((goes : Frees) → IsFreed goes (holder_in_words one) ⊎ (b ≡ false) → HoldersStay goes runs r x y)
+  by_one : (b : Bool) (one : Holder) (y : RunState)
+      → ((goes : Frees) → IsFreed goes one ⊎ (b ≡ false) → HoldersStay goes runs r x y)
       → HoldersStay (if b then One one else Nobody) runs r x y
   by_one true one y stays = stays (One one) (inl refl)
   by_one false one y stays = stays Nobody (inr refl)
@@ -551,7 +529,7 @@ module _ (runs : List RunState) (r : ℕ) (x : RunState) (was : run_at runs r �
       by_one (leg_lets_go runs (leg_place r j l) put) (Leg (leg_place r j l)) (changed (change.PutLeg j l put) x)
       (λ goes never. put_stays goes j l put never)
 
-  -- a change lets nobody else go
+  -- a change releases no other holder
   freed_go : (c : Change) → LetsGoOnly (freed runs r c) runs (with_run r (changed c) runs)
   freed_go c = others_stay runs r (changed c) x was (changed_admitted c x) (changed_attempt c x) (freed runs r c) (holders_stay c)
 
@@ -559,7 +537,7 @@ not_there : {X : Type 0} (x : X) (o : Option X) → o ≡ None → o ≡ Some x 
 not_there x None none e = cc
 not_there x (Some y) none e = cc
 
--- nor where there is no run
+-- nor does it if there is no such run
 pub only_freed_go : (runs : List RunState) (r : ℕ) (c : Change) → LetsGoOnly (freed runs r c) runs (with_run r (changed c) runs)
 only_freed_go runs r c = by (run_at runs r) refl
   where
@@ -569,9 +547,9 @@ only_freed_go runs r c = by (run_at runs r) refl
         (changed_none runs r (changed c) (λ x is. absurd (not_there x (run_at runs r) at is))) (λ g h e. inr e)
     by (Some x) at = freed_go runs r x at c
 
--- who is freed is of the run that changes
-pub freed_of_run : (runs : List RunState) (r : ℕ) (c : Change) (one : HolderInCode) → freed runs r c ≡ One one
-    → run_of (holder_in_words one) ≡ r
+-- a single released holder is of the run that changes
+pub freed_of_run : (runs : List RunState) (r : ℕ) (c : Change) (one : Holder) → freed runs r c ≡ One one
+    → run_of one ≡ r
 freed_of_run runs r (change.Phase phase) one is = of_run (run_lets_go runs r phase) (Run r) one refl is
 freed_of_run runs r (change.Open j) one is = absurd (not_one (option_map_or has_begun (job_at runs r j) false) one is)
 freed_of_run runs r (change.Settle j settled) one is = absurd (not_one (is_so_at (has_legs_behind j) runs r) one is)

@@ -1,19 +1,18 @@
--- Everyone of a run who waits or holds is listed, job by job and leg by leg.
+-- Each active holder of a run is listed, job by job and leg by leg.
 use Rattle.std.specs.Prelude.{◌≡◌, ℕ, ◌+◌, ◌<◌, List, length, slice_get, refl}
 use Rattle.std.specs.Option.{option_map_or}
 use Rattle.std.proofs.Common.{arith, subst, sym, ◌∙◌, inl, inr}
 use Rattle.std.proofs.lemmas.Bool.{cases_lt}
 use Rattle.std.proofs.lemmas.Option.{slice_get_within}
+use Rattle.run_states.specs.Places.{job_at, leg_place, run_at}
+use Rattle.run_states.specs.RunState.{JobState, RunState}
+use Rattle.run_states.proofs.Optional.{from_and_then}
+use Rattle.run_bindings.specs.declared.bindings.RunBindings.{RunBindings}
 use Rattle.workflow_runs.specs.FoundHolders.{AllAreFound, IsFound, OnlyLists, Stands}
-use Rattle.workflow_runs.specs.Holders.{holder_in_words}
-use Rattle.workflow_runs.specs.Places.{job_at, leg_place, run_at}
-use Rattle.workflow_runs.specs.RunState.{JobState, RunState}
-use Rattle.workflow_runs.specs.declared.asks.RunBindings.{RunBindings}
-use Rattle.workflow_runs.specs.declared.holder.Holder.{Holder}
-use Rattle.workflow_runs.specs.declared.holder.Holder.TheVariants.{Run, Leg}
 use Rattle.workflow_runs.specs.declared.runs.group_holders.GroupHolders.{GroupHolders}
 use Rattle.workflow_runs.proofs.OneEach.{IsOneOf, one_that_holds, one_that_waits}
-use Rattle.workflow_runs.proofs.Optional.{from_and_then}
+use Rattle.run_states.specs.declared.holder.Holder.{Holder}
+use Rattle.run_states.specs.declared.holder.Holder.TheVariants.{Run, Leg}
 
 -- ---- one listing after another
 
@@ -28,13 +27,13 @@ lists_more runs old between new first then = record {
   room = then.room ∙ first.room;
 }
 
--- ---- whoever waits or holds is there
+-- ---- an active holder exists
 
-there : (runs : List RunState) (h : Holder) → Stands runs h → IsOneOf runs (holder_in_words h)
+there : (runs : List RunState) (h : Holder) → Stands runs h → IsOneOf runs h
 there runs h stands =
     elim (stands) [
-      | inl e ↦ one_that_waits runs (holder_in_words h) e
-      | inr e ↦ one_that_holds runs (holder_in_words h) e
+      | inl e ↦ one_that_waits runs h e
+      | inr e ↦ one_that_holds runs h e
     ]
 
 pub leg_within : (runs : List RunState) (r j l : ℕ) → Stands runs (Leg (leg_place r j l))
@@ -54,16 +53,16 @@ job_within runs r j l stands =
     subst (λ o. j < option_map_or (λ (x : RunState). length x.jobs) o 0) (sym run.is)
     (slice_get_within run.value.jobs j job.value run.gives)
 
--- ---- who is found so far
+-- ---- the holders found so far
 
 abbrev pub IsFoundIfStanding : List RunState → GroupHolders → RunBindings → Holder → Type 0
 IsFoundIfStanding runs groups kept h = Stands runs h → IsFound groups.book.entries groups.unlisted kept h
 
--- the first legs of a job
+-- the legs of a job before `count`
 abbrev pub LegsAreFound : List RunState → GroupHolders → RunBindings → ℕ → ℕ → ℕ → Type 0
 LegsAreFound runs groups kept r j count = (l : ℕ) → l < count → IsFoundIfStanding runs groups kept (Leg (leg_place r j l))
 
--- all legs of the first jobs
+-- all legs of the jobs before `count`
 abbrev pub JobsAreFound : List RunState → GroupHolders → RunBindings → ℕ → ℕ → Type 0
 JobsAreFound runs groups kept r count = (j l : ℕ) → j < count → IsFoundIfStanding runs groups kept (Leg (leg_place r j l))
 

@@ -1,18 +1,18 @@
--- Settling opens jobs of live runs alone.
+-- Settling opens jobs of live runs only.
 use Rattle.std.specs.Prelude.{◌≡◌, ℕ, List, [], ◌∷◌, map, flat_map, Bool, true, false, if◌then◌else◌, Some, slice_get, refl}
 use Rattle.std.specs.List.{AllByRecursion}
-use Rattle.workflow_runs.specs.FirstOf.{placed}
-use Rattle.workflow_runs.specs.Places.{run_at}
-use Rattle.workflow_runs.specs.Rules.{is_live, job_places, run_places, places}
-use Rattle.workflow_runs.specs.Settling.{applies, first_place}
-use Rattle.workflow_runs.specs.RunState.{LegState, JobState, RunState}
-use Rattle.workflow_runs.specs.declared.place.Place.{Place}
-use Rattle.workflow_runs.specs.declared.place.Place.TheVariants.{Opening, AtLeg, Closing, Whole}
-use Rattle.workflow_runs.specs.declared.phases.RunPhase.{RunPhase}
-use Rattle.workflow_runs.specs.declared.phases.RunPhase.TheVariants as run
-use Rattle.workflow_runs.proofs.Found.{found, all_weaken, all_of, all_append, all_map, all_flat_map, placed_get}
+use Rattle.run_states.specs.FirstOf.{placed}
+use Rattle.run_states.specs.Places.{run_at}
+use Rattle.run_states.specs.Rules.{is_live, job_places, run_places, places}
+use Rattle.run_states.specs.RunState.{LegState, JobState, RunState}
+use Rattle.run_states.specs.Settling.{applies, first_place}
+use Rattle.run_states.specs.declared.phases.RunPhase.{RunPhase}
+use Rattle.run_states.specs.declared.phases.RunPhase.TheVariants as run
+use Rattle.run_states.specs.declared.place.RuleSite.{RuleSite}
+use Rattle.run_states.specs.declared.place.RuleSite.TheVariants.{Opening, AtLeg, Closing, Whole}
+use Rattle.run_states.proofs.Found.{found, all_weaken, all_of, all_append, all_map, all_flat_map, placed_get}
 
-abbrev pub LivePlace : List RunState → Place → Type 0
+abbrev pub LivePlace : List RunState → RuleSite → Type 0
 LivePlace runs (Opening r j) = (x : RunState) × (run_at runs r ≡ Some x) × (x.phase ≡ run.Live)
 LivePlace runs (AtLeg p) = Unit {0}
 LivePlace runs (Closing r j) = Unit {0}
@@ -50,8 +50,8 @@ all_live runs =
     (all_weaken (λ (e : ℕ × RunState). slice_get runs e.0 ≡ Some e.1) (λ e. AllByRecursion (LivePlace runs) (run_places e)) (of_a_run runs)
     (placed runs) (placed_get runs))
 
-pub first_place_is_live : (runs : List RunState) (place : Place) → first_place runs ≡ Some place → LivePlace runs place
+pub first_place_is_live : (runs : List RunState) (place : RuleSite) → first_place runs ≡ Some place → LivePlace runs place
 first_place_is_live runs place e = (found (LivePlace runs) (applies runs) (places runs) place (all_live runs) e).is_element
 
-pub first_place_applies : (runs : List RunState) (place : Place) → first_place runs ≡ Some place → applies runs place ≡ true
+pub first_place_applies : (runs : List RunState) (place : RuleSite) → first_place runs ≡ Some place → applies runs place ≡ true
 first_place_applies runs place e = (found (LivePlace runs) (applies runs) (places runs) place (all_live runs) e).passes

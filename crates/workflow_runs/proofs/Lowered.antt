@@ -1,4 +1,4 @@
--- Each settling rule lowers the count of phases before it.
+-- Each settling rule lowers the number of phases that remain.
 use Rattle.std.specs.Prelude.{◌≡◌, ℕ, zero, suc, ◌+◌, ◌*◌, ◌<◌, List, [], ◌∷◌, length, sum_by, Bool, true, false, Some}
 use Rattle.std.specs.Prelude.{option_and_then, slice_get, if◌then◌else◌}
 use Rattle.std.specs.List.{enumerate_from, list_all}
@@ -11,29 +11,31 @@ use Rattle.wf_value.specs.declared.outcome.JobResult.TheVariants as result
 use Rattle.wf_value.specs.declared.outcome.Outcome.TheVariants as outcome
 use Rattle.run_plan.specs.PlanOf.{plan_of}
 use Rattle.run_plan.specs.declared.planned.PlannedJob.{PlannedJob}
-use Rattle.workflow_runs.specs.FirstOf.{changed_at}
-use Rattle.workflow_runs.specs.Places.{LegPlace, run_at, job_at, leg_at, with_run, with_job}
-use Rattle.workflow_runs.specs.Moves.{Holder, Transition}
-use Rattle.workflow_runs.specs.Rules.{decided, may_run, result_at, rule_at, with_leg_in}
-use Rattle.workflow_runs.specs.StateWords.{leg_has_ended, is_blocked, is_done, is_open, leg_in_phase, new_leg, opened, run_in_phase}
-use Rattle.workflow_runs.specs.StateWords.{settled_as}
-use Rattle.workflow_runs.specs.Settling.{first_place, first_rule, leg_phases_left, leg_left, job_phases_left, job_left, legs_in_plan}
-use Rattle.workflow_runs.specs.Settling.{run_phases_left, run_left, remaining_phases}
-use Rattle.workflow_runs.specs.RunState.{LegState, JobState, RunState}
-use Rattle.workflow_runs.specs.Words.{is_stopping, planned_legs}
-use Rattle.workflow_runs.specs.declared.phases.LegPhase.{LegPhase}
-use Rattle.workflow_runs.specs.declared.phases.LegPhase.TheVariants as leg
-use Rattle.workflow_runs.specs.declared.phases.JobPhase.TheVariants as job
-use Rattle.workflow_runs.specs.declared.phases.RunPhase.{RunPhase}
-use Rattle.workflow_runs.specs.declared.phases.RunPhase.TheVariants as run
-use Rattle.workflow_runs.specs.declared.place.Place.{Place}
+use Rattle.run_states.specs.FirstOf.{changed_at}
+use Rattle.run_states.specs.Moves.{Transition}
+use Rattle.run_states.specs.Places.{run_at, job_at, leg_at, with_run, with_job}
+use Rattle.run_states.specs.declared.place.LegPlace.{LegPlace}
+use Rattle.run_states.specs.Rules.{decided, may_run, result_at, rule_at, with_leg_in}
+use Rattle.run_states.specs.RunState.{LegState, JobState, RunState}
+use Rattle.run_states.specs.Settling.{first_place, first_rule, leg_phases_left, leg_left, job_phases_left, job_left, legs_in_plan}
+use Rattle.run_states.specs.Settling.{run_phases_left, run_left, remaining_phases}
+use Rattle.run_states.specs.StateWords.{leg_has_ended, is_blocked, is_done, is_open, leg_in_phase, new_leg, opened, run_in_phase}
+use Rattle.run_states.specs.StateWords.{settled_as}
+use Rattle.run_states.specs.Words.{is_stopping, planned_legs}
+use Rattle.run_states.specs.declared.phases.JobPhase.TheVariants as job
+use Rattle.run_states.specs.declared.phases.LegPhase.{LegPhase}
+use Rattle.run_states.specs.declared.phases.LegPhase.TheVariants as leg
+use Rattle.run_states.specs.declared.phases.RunPhase.{RunPhase}
+use Rattle.run_states.specs.declared.phases.RunPhase.TheVariants as run
+use Rattle.run_states.specs.declared.place.RuleSite.{RuleSite}
+use Rattle.run_states.proofs.JobKeeps.{JobIn, job_in, leg_in, with_job_of, with_leg_of}
+use Rattle.run_states.proofs.JobPhases.{is_blocked_blocked, is_open_open}
+use Rattle.run_states.proofs.Optional.{from_and_then}
 use Rattle.workflow_runs.proofs.EachRule.{EachRule, by_rule}
-use Rattle.workflow_runs.proofs.JobKeeps.{JobIn, job_in, leg_in, with_job_of, with_leg_of}
-use Rattle.workflow_runs.proofs.JobPhases.{is_blocked_blocked, is_open_open}
-use Rattle.workflow_runs.proofs.Optional.{from_and_then}
 use Rattle.workflow_runs.proofs.StopsLower.{arrival_lowers}
+use Rattle.run_states.specs.declared.holder.Holder.TheVariants.{Leg}
 
--- ---- sums over a list that is changed at one place
+-- ---- sums over a list that is changed at one index
 
 pub sum_of_changed : {X : Type 0} (f : X → ℕ) (xs : List X) (i : ℕ) (g : X → X) (x : X) → slice_get xs i ≡ Some x
     → sum_by f (changed_at i g xs) + f x ≡ sum_by f xs + f (g x)
@@ -99,7 +101,7 @@ run_lowers runs r f x was less =
     let sum = sum_of_changed run_left runs r f x was in
     omega (arith, sum, less)
 
--- what the plan says, by the table and by the run
+-- the number of planned legs, by the table and by the run
 planned_in_run : (runs : List RunState) (r j : ℕ) (x : RunState) → run_at runs r ≡ Some x
     → planned_legs runs r j ≡ legs_in_plan (plan_of x.admitted.body) j
 planned_in_run runs r j x e =
@@ -164,7 +166,7 @@ each_lowers runs = record {
   leg_is_cancelled = (λ p z was is. leg_goes_lower runs p z (leg.Ended outcome.Cancelled) was (left_by z.phase leg.New 0 is (lit< tt)));
   leg_arrives = (λ p z was is.
       let waits = leg_goes_lower runs p z leg.Waiting was (left_by z.phase leg.New 4 is (lit< tt)) in
-      let rest = arrival_lowers (Holder.a_leg p) (with_leg_in leg.Waiting p runs) in
+      let rest = arrival_lowers (Leg p) (with_leg_in leg.Waiting p runs) in
       omega (arith, waits, rest));
   leg_starts = (λ p z was is may. leg_goes_lower runs p z leg.Ready was (left_by z.phase leg.Waiting 3 is (lit< tt)));
   job_settles = (λ r j y was done. closing_lowers runs r j y was done);
@@ -172,7 +174,7 @@ each_lowers runs = record {
   run_ends = (λ r x was is all. run_goes_lower runs r x run.Ended was (run_left_by x.phase run.Live 0 is (lit< tt)));
 }
 
-rule_lowers : (runs : List RunState) (m : Transition) (place : Place) → rule_at runs place ≡ Some m → remaining_phases m.runs < remaining_phases runs
+rule_lowers : (runs : List RunState) (m : Transition) (place : RuleSite) → rule_at runs place ≡ Some m → remaining_phases m.runs < remaining_phases runs
 rule_lowers runs m place h = by_rule runs (λ at made. remaining_phases made.runs < remaining_phases runs) (each_lowers runs) m place h
 
 pub first_rule_lowers : (runs : List RunState) (m : Transition) → first_rule runs ≡ Some m → remaining_phases m.runs < remaining_phases runs

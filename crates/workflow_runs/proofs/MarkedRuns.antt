@@ -1,5 +1,5 @@
--- The marks of runs stay right, whatever changes.
-use Rattle.std.specs.Prelude.{◌≡◌, ℕ, zero, suc, ◌+◌, ◌<◌, ◌≤◌, ◌||◌, List, map, [], ◌∷◌, ◌++◌, length, Bool, true, false, Option, Some, None, nat_eq}
+-- The marks of runs stay valid after each change.
+use Rattle.std.specs.Prelude.{◌≡◌, ℕ, zero, suc, ◌+◌, ◌<◌, ◌≤◌, ◌||◌, List, [], ◌∷◌, ◌++◌, length, Bool, true, false, Option, Some, None, nat_eq}
 use Rattle.std.specs.Prelude.{IfNone, IfSome, is_some, option_and_then, option_map, slice_get, slice_set, if◌then◌else◌, refl}
 use Rattle.std.specs.List.{list_any}
 use Rattle.std.specs.Option.{option_map_or}
@@ -9,31 +9,29 @@ use Rattle.std.proofs.lemmas.Bool.Decides.{Decides-eqb, nat_tests}
 use Rattle.std.proofs.lemmas.Option.{slice_get-map, slice_get_past, slice_get_within}
 use Rattle.run_marks.specs.Bits.{Puts}
 use Rattle.run_marks.specs.Marked.{Covers, SameMarks, is_marked}
-use Rattle.workflow_runs.specs.LookAgain.{ask}
-use Rattle.workflow_runs.specs.MarkedRuns.{AreMarked, CoversRuns, OnlyGrows, RunsAreMarked, Stirs, has_waiting_leg, is_active, is_due, is_so_at}
-use Rattle.workflow_runs.specs.MarkedRuns.{someone_waits}
-use Rattle.workflow_runs.specs.Groups.{holds, is_in, leg_waits, run_waits, waits}
-use Rattle.workflow_runs.specs.Holders.{run_of}
+use Rattle.run_states.specs.ActiveRuns.{has_waiting_leg, is_active}
+use Rattle.run_states.specs.ActiveRuns.{someone_waits}
+use Rattle.run_states.specs.Groups.{holds, is_in, leg_waits, run_waits, waits}
+use Rattle.run_states.specs.Holders.{run_of}
+use Rattle.run_states.specs.Resuming.{apply_at}
+use Rattle.run_states.specs.Places.{run_at}
+use Rattle.run_states.specs.RunNumber.{events}
+use Rattle.run_states.specs.RunState.{JobState, RunState}
+use Rattle.run_states.specs.WithinRun.{first_in_run}
+use Rattle.run_states.specs.declared.place.RuleSite.{RuleSite}
+use Rattle.run_states.proofs.Found.{before_the_end}
+use Rattle.run_states.proofs.LegFacts.{SameUpTo}
 use Rattle.workflow_runs.specs.LettingGo.{LetsNobodyGo}
-use Rattle.workflow_runs.specs.Moves.{Holder}
-use Rattle.workflow_runs.specs.Places.{run_at}
-use Rattle.workflow_runs.specs.RunNumber.{events}
-use Rattle.workflow_runs.specs.RunState.{JobState, RunState}
-use Rattle.workflow_runs.specs.WithinRun.{first_in_run}
-use Rattle.workflow_runs.specs.declared.place.Place.{Place}
+use Rattle.workflow_runs.specs.MarkedRuns.{AreMarked, CoversRuns, OnlyGrows, RunsAreMarked, MarksDirty, is_due, is_so_at}
 use Rattle.workflow_runs.specs.declared.runs.marks.RunMarks.{RunMarks}
-use Rattle.workflow_runs.proofs.Found.{before_the_end}
 use Rattle.workflow_runs.proofs.GroupStays.{same_group}
 use Rattle.workflow_runs.proofs.HoldersFade.{by_run, job_passes, passes, run_passes}
 use Rattle.workflow_runs.proofs.KeptBack.{KeepsBackIn, RunsStillFor, back_still, runs_still}
-use Rattle.workflow_runs.proofs.LegFacts.{SameUpTo}
 use Rattle.workflow_runs.proofs.LettingGo.{holder_within, run_of_one, same_holds}
-use Rattle.workflow_runs.proofs.LookedAgain.{run_rests}
+use Rattle.workflow_runs.proofs.Resumed.{run_rests}
 use Rattle.workflow_runs.proofs.OneEach.{one_that_holds, one_that_waits}
-
-pub list_any-map : {X Y : Type 0} (p : Y → Bool) (f : X → Y) (xs : List X) → list_any p (map f xs) ≡ list_any (λ x. p (f x)) xs
-list_any-map p f [] = refl
-list_any-map p f (x ∷ xs) = ap (λ b. p (f x) || b) (list_any-map p f xs)
+use Rattle.run_states.specs.declared.holder.Holder.{Holder}
+use Rattle.run_states.specs.declared.holder.Holder.TheVariants.{Run, Leg}
 
 -- ---- one mark
 
@@ -54,7 +52,7 @@ set_other (x ∷ xs) zero (suc j) y other = refl
 set_other (x ∷ xs) (suc i) zero y other = refl
 set_other (x ∷ xs) (suc i) (suc j) y other = set_other xs i j y (λ e. other (ap suc e))
 
--- ---- what is found
+-- ---- the result of a search
 
 pub if_some : (o : Option ℕ) (P Q : ℕ → Type 0) → ((r : ℕ) → P r → Q r) → IfSome o P → IfSome o Q
 if_some None P Q follows is = is
@@ -64,7 +62,7 @@ pub if_none : (o : Option ℕ) (P Q : Type 0) → (P → Q) → IfNone o P → I
 if_none None P Q follows is = follows is
 if_none (Some r) P Q follows is = is
 
--- ---- what an unmarked run says
+-- ---- what follows for an unmarked run
 
 pub not_so : (b m : Bool) → (b ≡ true → m ≡ true) → m ≡ false → b ≡ false
 not_so true m says none = absurd (true≢false (sym (says refl) ∙ none))
@@ -85,25 +83,25 @@ unmarked_is_not_so fact xs marks are i none =
 pub past_is_not_so : (fact : RunState → Bool) (xs : List RunState) (i : ℕ) → length xs ≤ i → is_so_at fact xs i ≡ false
 past_is_not_so fact xs i past = ap (λ o. option_map_or fact o false) (slice_get_past xs i past)
 
-no_place : (o : Option Place) → is_some o ≡ false → o ≡ None
+no_place : (o : Option RuleSite) → is_some o ≡ false → o ≡ None
 no_place None e = refl
 no_place (Some p) e = absurd (true≢false e)
 
 pub unmarked_rests : (runs : List RunState) (marks : List ℕ) → AreMarked (is_due runs) runs marks → (i : ℕ) → is_marked marks i ≡ false
-    → ask (first_in_run runs) runs i ≡ None
+    → apply_at (first_in_run runs) runs i ≡ None
 unmarked_rests runs marks are i none =
     elim (slice_get runs i) as (λ o. slice_get runs i ≡ o → option_and_then (first_in_run runs i) o ≡ None) [
       | None ↦ λ at. refl
       | Some x ↦ λ at. no_place (first_in_run runs i x) (none_unmarked (is_due runs) runs marks are i x none at)
     ] refl
 
-pub past_rests : (runs : List RunState) (i : ℕ) → length runs ≤ i → ask (first_in_run runs) runs i ≡ None
+pub past_rests : (runs : List RunState) (i : ℕ) → length runs ≤ i → apply_at (first_in_run runs) runs i ≡ None
 past_rests runs i past = ap (option_and_then (first_in_run runs i)) (slice_get_past runs i past)
 
 pub nothing_to_mark : (fact : ℕ → RunState → Bool) (marks : List ℕ) → AreMarked fact [] marks
 nothing_to_mark fact marks = record { covers = omega arith; marked = (λ r x at has. cc) }
 
--- ---- a fact of one run alone, where that one changes, is added, or is seen not to have it
+-- ---- a property of one run alone: the run changes, is added, or is found not to have it
 
 written : (fact : RunState → Bool) (xs : List RunState) (marks marks' : List ℕ) (r : ℕ) (y : RunState) → length marks' ≡ length marks
     → Puts true r marks marks' → AreMarked (λ _ x. fact x) xs marks → AreMarked (λ _ x. fact x) (slice_set xs r y) marks'
@@ -149,7 +147,7 @@ pub not_so_there : (fact : RunState → Bool) (xs : List RunState) (r : ℕ) (x 
     → slice_get xs r ≡ Some x → fact x ≡ false
 not_so_there fact xs r x none at = sym (ap (λ o. option_map_or fact o false) at) ∙ none
 
-pub not_due_there : (runs : List RunState) (r : ℕ) (x : RunState) → ask (first_in_run runs) runs r ≡ None → slice_get runs r ≡ Some x
+pub not_due_there : (runs : List RunState) (r : ℕ) (x : RunState) → apply_at (first_in_run runs) runs r ≡ None → slice_get runs r ≡ Some x
     → is_due runs r x ≡ false
 not_due_there runs r x none at = ap is_some (sym (ap (option_and_then (first_in_run runs r)) at) ∙ none)
 
@@ -160,7 +158,7 @@ roomier fact xs marks marks' same longer are = record {
   marked = (λ s x at has. same s ∙ are.marked s x at has);
 }
 
--- ---- a run in which somebody waits is marked
+-- ---- a run with a waiting holder is marked
 
 any_at : {X : Type 0} (test : X → Bool) (xs : List X) (i : ℕ) → passes test (slice_get xs i) ≡ true → list_any test xs ≡ true
 any_at test [] i e = cc
@@ -175,9 +173,9 @@ leg_waits_there l (y ∷ ys) (suc j) e = or_right (has_waiting_leg y) (list_any 
 
 waits_there : (runs : List RunState) (h : Holder) (x : RunState) → run_at runs (run_of h) ≡ Some x → waits runs h ≡ true
     → someone_waits x ≡ true
-waits_there runs (Holder.a_run r) x at e =
+waits_there runs (Run r) x at e =
     ap (λ b. b || list_any has_waiting_leg x.jobs) (sym (ap (passes (λ (z : RunState). run_waits z.phase)) at) ∙ e)
-waits_there runs (Holder.a_leg p) x at e =
+waits_there runs (Leg p) x at e =
     or_right (run_waits x.phase) (list_any has_waiting_leg x.jobs)
     (leg_waits_there p.leg x.jobs p.job
     (sym (ap (passes (run_passes leg_waits p.job p.leg)) at) ∙ sym (by_run leg_waits runs p) ∙ e))
@@ -190,9 +188,9 @@ waits_marked runs marks are h e =
 
 -- ---- which runs are due
 
--- A run in which a rule applies now, and which stays as it was, is due: one applied before, or it was woken, since one of those may have
--- been let go who keep back whoever waits in it.
-module _ (runs next : List RunState) (old new : RunMarks) (r bound : ℕ) (stirs : Stirs r bound old new) (are : RunsAreMarked runs old)
+-- An unchanged run in which a rule applies after the change is due. Either a rule applied in it before, or the change marked it as due,
+-- since it may have released a holder that held back one of the run's waiting holders.
+module _ (runs next : List RunState) (old new : RunMarks) (r bound : ℕ) (marks_dirty : MarksDirty r bound old new) (are : RunsAreMarked runs old)
     (stay : (s : ℕ) → (s ≡ r → ⊥) → is_marked new.due s ≡ false → RunsStillFor runs next s) where
   kept_back_due : (s : ℕ) (x : RunState) → RunsStillFor runs next s → slice_get runs s ≡ Some x → slice_get next s ≡ slice_get runs s
       → SameUpTo s (events next) (events runs) → is_due next s x ≡ true → is_marked new.due s ≡ true
@@ -203,7 +201,7 @@ module _ (runs next : List RunState) (old new : RunMarks) (r bound : ℕ) (stirs
       (subst (λ k. slice_get next k ≡ slice_get runs k) (sym of_run) same)) e in
       elim (first_in_run runs s x) as (λ o. first_in_run runs s x ≡ o → is_marked new.due s ≡ true) [
         | None ↦ λ is. absurd (true≢false (sym due ∙ ap is_some (run_rests runs next s back x was is)))
-        | Some p ↦ λ is. stirs.due s (are.due.marked s x was (ap is_some is))
+        | Some p ↦ λ is. marks_dirty.due s (are.due.marked s x was (ap is_some is))
       ] refl
 
   still_due : (s : ℕ) (x : RunState) → (s ≡ r → ⊥) → slice_get runs s ≡ Some x → slice_get next s ≡ slice_get runs s
@@ -219,38 +217,38 @@ module _ (runs next : List RunState) (old new : RunMarks) (r bound : ℕ) (stirs
       → is_due next s x ≡ true → is_marked new.due s ≡ true
   due_unless s x same upto at due =
       elim (cases_eq s r) [
-        | inl here ↦ subst (λ i. is_marked new.due i ≡ true) (sym here) stirs.itself
+        | inl here ↦ subst (λ i. is_marked new.due i ≡ true) (sym here) marks_dirty.itself
         | inr other ↦ still_due s x other (sym (same other) ∙ at) (same other) (upto other) due
       ]
 
 -- ---- all marks
 
--- a run changes, of the same event
+-- a run changes and keeps its event
 pub marks_after_change : (runs : List RunState) (y : RunState) (old new : RunMarks) (r bound : ℕ)
     → events (slice_set runs r y) ≡ events runs
-    → ((s : ℕ) → (s ≡ r → ⊥) → is_marked new.due s ≡ false → RunsStillFor runs (slice_set runs r y) s) → Stirs r bound old new
+    → ((s : ℕ) → (s ≡ r → ⊥) → is_marked new.due s ≡ false → RunsStillFor runs (slice_set runs r y) s) → MarksDirty r bound old new
     → RunsAreMarked runs old → RunsAreMarked (slice_set runs r y) new
-marks_after_change runs y old new r bound same stay stirs are = record {
-  waiting = written someone_waits runs old.waiting new.waiting r y stirs.waiting_room stirs.waiting are.waiting;
-  active = written is_active runs old.active new.active r y stirs.active_room stirs.active are.active;
+marks_after_change runs y old new r bound same stay marks_dirty are = record {
+  waiting = written someone_waits runs old.waiting new.waiting r y marks_dirty.waiting_room marks_dirty.waiting are.waiting;
+  active = written is_active runs old.active new.active r y marks_dirty.active_room marks_dirty.active are.active;
   due = record {
-    covers = omega (arith, are.due.covers, stirs.due_room, length-set runs r y);
+    covers = omega (arith, are.due.covers, marks_dirty.due_room, length-set runs r y);
     marked = (λ s x at due.
-        due_unless runs (slice_set runs r y) old new r bound stirs are stay s x (λ other. set_other runs r s y other)
+        due_unless runs (slice_set runs r y) old new r bound marks_dirty are stay s x (λ other. set_other runs r s y other)
         (λ other k le. ap (λ es. slice_get es k) same) at due);
   };
 }
 
--- and all are woken in which someone waits
+-- all waiting runs are marked as due
 pub marks_after : (runs : List RunState) (y : RunState) (old new : RunMarks) (r : ℕ) → events (slice_set runs r y) ≡ events runs
-    → Stirs r (length runs) old new → RunsAreMarked runs old → RunsAreMarked (slice_set runs r y) new
-marks_after runs y old new r same stirs are =
+    → MarksDirty r (length runs) old new → RunsAreMarked runs old → RunsAreMarked (slice_set runs r y) new
+marks_after runs y old new r same marks_dirty are =
     marks_after_change runs y old new r (length runs) same
     (λ s other none h of_run waiting. absurd (true≢false
-    (sym (stirs.woken s
+    (sym (marks_dirty.woken s
     (subst (λ k. k < length runs) of_run (holder_within runs h (one_that_waits runs h waiting)))
     (subst (λ k. is_marked old.waiting k ≡ true) of_run (waits_marked runs old.waiting are.waiting h waiting)))
-    ∙ none))) stirs are
+    ∙ none))) marks_dirty are
 
 events_before : (runs : List RunState) (y : RunState) (s : ℕ) → s < length runs → SameUpTo s (events (runs ++ y ∷ [])) (events runs)
 events_before runs y s lt k le =
@@ -258,7 +256,7 @@ events_before runs y s lt k le =
     ∙ ap (option_map (λ (run : RunState). run.admitted)) (before_the_end runs y k (λ e. absurd (omega (arith, lt, le, e))))
     ∙ sym (slice_get-map (λ (run : RunState). run.admitted) runs k)
 
--- one run more lets nobody go
+-- one more run releases no holder
 one_more_stays : (runs : List RunState) (y : RunState) → LetsNobodyGo runs (runs ++ y ∷ [])
 one_more_stays runs y g h e =
     let next = runs ++ y ∷ [] in
@@ -269,16 +267,16 @@ one_more_stays runs y g h e =
     runs_still runs next g h (same_group runs next h (events_before runs y (run_of h) within) at)
     (λ held k group. same_holds runs next h at ∙ held) e
 
--- one run more
+-- one more run
 pub marks_more : (runs : List RunState) (y : RunState) (old new : RunMarks) (r bound : ℕ) → r ≡ length runs → CoversRuns old (r + 1)
-    → Stirs r bound old new → RunsAreMarked runs old → RunsAreMarked (runs ++ y ∷ []) new
-marks_more runs y old new r bound end room stirs are = record {
-  waiting = one_more someone_waits runs y old.waiting new.waiting r end room.waiting stirs.waiting_room stirs.waiting are.waiting;
-  active = one_more is_active runs y old.active new.active r end room.active stirs.active_room stirs.active are.active;
+    → MarksDirty r bound old new → RunsAreMarked runs old → RunsAreMarked (runs ++ y ∷ []) new
+marks_more runs y old new r bound end room marks_dirty are = record {
+  waiting = one_more someone_waits runs y old.waiting new.waiting r end room.waiting marks_dirty.waiting_room marks_dirty.waiting are.waiting;
+  active = one_more is_active runs y old.active new.active r end room.active marks_dirty.active_room marks_dirty.active are.active;
   due = record {
-    covers = omega (arith, room.due, stirs.due_room, end, length-append runs (y ∷ []));
+    covers = omega (arith, room.due, marks_dirty.due_room, end, length-append runs (y ∷ []));
     marked = (λ s x at due.
-        due_unless runs (runs ++ y ∷ []) old new r bound stirs are (λ k other none h of_run waiting g group. one_more_stays runs y g) s x
+        due_unless runs (runs ++ y ∷ []) old new r bound marks_dirty are (λ k other none h of_run waiting g group. one_more_stays runs y g) s x
         (λ other. before_the_end runs y s (λ e. other (e ∙ sym end)))
         (λ other.
         let was = sym (before_the_end runs y s (λ e. other (e ∙ sym end))) ∙ at in
@@ -286,7 +284,7 @@ marks_more runs y old new r bound end room stirs are = record {
   };
 }
 
--- room for more
+-- room for more marks
 pub marks_grown : (runs : List RunState) (old new : RunMarks) → OnlyGrows old new → RunsAreMarked runs old → RunsAreMarked runs new
 marks_grown runs old new grows are = record {
   waiting = roomier (λ _ x. someone_waits x) runs old.waiting new.waiting grows.waiting grows.waiting_room are.waiting;

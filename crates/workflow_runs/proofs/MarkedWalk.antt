@@ -1,4 +1,4 @@
--- The first that is meant, found in the runs that are marked.
+-- The first conflicting holder, found in the marked runs.
 use Rattle.std.specs.Prelude.{◌≡◌, ◌⊎◌, ℕ, ◌&&◌, List, [], ◌∷◌, find, Bool, true, false, Option, Some, None, option_and_then, refl}
 use Rattle.std.specs.Prelude.{if◌then◌else◌}
 use Rattle.std.specs.List.{AllByRecursion}
@@ -9,25 +9,26 @@ use Rattle.std.proofs.lemmas.Bool.{and_from, and_parts, true≢false}
 use Rattle.group_book.specs.Slots.{HasPlace}
 use Rattle.group_book.specs.declared.slot.Slot.{Slot}
 use Rattle.run_marks.specs.Marked.{is_marked}
-use Rattle.workflow_runs.specs.FirstOf.{placed}
-use Rattle.workflow_runs.specs.Groups.{all_holders}
-use Rattle.workflow_runs.specs.Holders.{first_conflicting, holder_in_words, is_conflicting, run_of}
-use Rattle.workflow_runs.specs.MarkedRuns.{is_active, is_so_at}
-use Rattle.workflow_runs.specs.Moves.{Holder}
-use Rattle.workflow_runs.specs.Places.{LegPlace, leg_place, leg_places_of_job, leg_places_of_run, run_at}
-use Rattle.workflow_runs.specs.RunState.{JobState, LegState, RunState}
+use Rattle.run_states.specs.ActiveRuns.{is_active}
+use Rattle.run_states.specs.FirstOf.{placed}
+use Rattle.run_states.specs.Groups.{all_holders}
+use Rattle.run_states.specs.Holders.{first_conflicting, is_conflicting, run_of}
+use Rattle.run_states.specs.Places.{leg_place, leg_places_of_job, leg_places_of_run, run_at}
+use Rattle.run_states.specs.declared.place.LegPlace.{LegPlace}
+use Rattle.run_states.specs.RunState.{JobState, LegState, RunState}
+use Rattle.run_states.specs.declared.holder.HolderFilter.{HolderFilter}
+use Rattle.run_states.proofs.Found.{all_flat_map, all_map, all_of, all_weaken, find_passes, found, none_found}
+use Rattle.workflow_runs.specs.MarkedRuns.{is_so_at}
 use Rattle.workflow_runs.specs.SlotHolders.{HaveAll, TellsOf, first_marked, is_marked_conflicting}
-use Rattle.workflow_runs.specs.declared.holder.Holder.{Holder as HolderInCode}
-use Rattle.workflow_runs.specs.declared.holder.Holder.TheVariants.{Run, Leg}
-use Rattle.workflow_runs.specs.declared.holder.HolderFilter.{HolderFilter}
 use Rattle.workflow_runs.specs.declared.runs.conflicts.InSlot.TheVariants.{Nobody, One}
-use Rattle.workflow_runs.proofs.Found.{all_flat_map, all_map, all_of, all_weaken, find_passes, found, none_found}
 use Rattle.workflow_runs.proofs.Meant.{first_of_run}
 use Rattle.workflow_runs.proofs.NoneActive.{not_meant_there}
 use Rattle.workflow_runs.proofs.OneEach.{IsOneOf, each_holder, one_that_holds, one_that_waits}
 use Rattle.workflow_runs.proofs.SlotHolders.{meets}
+use Rattle.run_states.specs.declared.holder.Holder.{Holder}
+use Rattle.run_states.specs.declared.holder.Holder.TheVariants.{Run, Leg}
 
--- ---- a search by another test
+-- ---- a search with another test
 
 find_same : {X : Type 0} (f g : X → Bool) (xs : List X) → AllByRecursion (λ x. f x ≡ g x) xs → find f xs ≡ find g xs
 find_same f g [] same = refl
@@ -46,11 +47,11 @@ module _ (marks : List ℕ) (runs : List RunState) (h : Holder) (whom : HolderFi
 
   -- ---- run by run
 
-  pub passed_run : (r : ℕ) → is_marked marks r ≡ false → marked (Holder.a_run r) ≡ false
-  passed_run r not = ap (λ b. b && meant (Holder.a_run r)) not
+  pub passed_run : (r : ℕ) → is_marked marks r ≡ false → marked (Run r) ≡ false
+  passed_run r not = ap (λ b. b && meant (Run r)) not
 
-  pub passing_run : (r : ℕ) → is_marked marks r ≡ true → marked (Holder.a_run r) ≡ meant (Holder.a_run r)
-  passing_run r is = ap (λ b. b && meant (Holder.a_run r)) is
+  pub passing_run : (r : ℕ) → is_marked marks r ≡ true → marked (Run r) ≡ meant (Run r)
+  passing_run r is = ap (λ b. b && meant (Run r)) is
 
   of_run : (f g : LegPlace → Bool) (r : ℕ) (o : Option RunState) → ((j l : ℕ) → f (leg_place r j l) ≡ g (leg_place r j l))
       → option_and_then (λ run. find f (leg_places_of_run (r, run))) o ≡ option_and_then (λ run. find g (leg_places_of_run (r, run))) o
@@ -62,24 +63,24 @@ module _ (marks : List ℕ) (runs : List RunState) (h : Holder) (whom : HolderFi
       (λ j. all_map (λ p. f p ≡ g p) (λ (l : ℕ × LegState). leg_place r j.0 l.0) (λ l. same j.0 l.0) (placed j.1.legs)) (placed run.jobs)))
 
   pub legs_of_marked : (r : ℕ) → is_marked marks r ≡ true
-      → first_of_run (λ p. meant (Holder.a_leg p)) runs r ≡ first_of_run (λ p. marked (Holder.a_leg p)) runs r
+      → first_of_run (λ p. meant (Leg p)) runs r ≡ first_of_run (λ p. marked (Leg p)) runs r
   legs_of_marked r is =
-      of_run (λ p. meant (Holder.a_leg p)) (λ p. marked (Holder.a_leg p)) r (run_at runs r)
-      (λ j l. sym (ap (λ b. b && meant (Holder.a_leg (leg_place r j l))) is))
+      of_run (λ p. meant (Leg p)) (λ p. marked (Leg p)) r (run_at runs r)
+      (λ j l. sym (ap (λ b. b && meant (Leg (leg_place r j l))) is))
 
-  pub legs_of_passed : (r : ℕ) → is_marked marks r ≡ false → first_of_run (λ p. marked (Holder.a_leg p)) runs r ≡ None
+  pub legs_of_passed : (r : ℕ) → is_marked marks r ≡ false → first_of_run (λ p. marked (Leg p)) runs r ≡ None
   legs_of_passed r not =
-      of_run (λ p. marked (Holder.a_leg p)) (λ p. false) r (run_at runs r)
-      (λ j l. ap (λ b. b && meant (Holder.a_leg (leg_place r j l))) not)
+      of_run (λ p. marked (Leg p)) (λ p. false) r (run_at runs r)
+      (λ j l. ap (λ b. b && meant (Leg (leg_place r j l))) not)
       ∙ nowhere (run_at runs r)
     where
       nowhere : (o : Option RunState) → option_and_then (λ run. find (λ p. false) (leg_places_of_run (r, run))) o ≡ None
       nowhere None = refl
       nowhere (Some run) = find_never (leg_places_of_run (r, run))
 
-  -- ---- what is found so of all runs
+  -- ---- when this finds the first of all runs
 
-  -- where all that are meant are in marked runs, the first of them
+  -- if all conflicting holders are in marked runs
   pub all_in_marked : ((w : Holder) → meant w ≡ true → is_marked marks (run_of w) ≡ true)
       → first_marked marks runs h whom ≡ first_conflicting runs h whom
   all_in_marked says = ap (λ test. find test (all_holders runs)) (fun_ext each)
@@ -91,7 +92,7 @@ module _ (marks : List ℕ) (runs : List RunState) (h : Holder) (whom : HolderFi
       each : (w : Holder) → marked w ≡ meant w
       each w = by w (meant w) refl
 
-  -- where one is meant, and all others would be in marked runs, of which none has one, that one
+  -- if `one` conflicts, all others would be in marked runs, and no marked run has any
   pub only_one : (one : Holder) → meant one ≡ true → ((w : Holder) → meant w ≡ true → (w ≡ one) ⊎ (is_marked marks (run_of w) ≡ true))
       → first_marked marks runs h whom ≡ None → Some one ≡ first_conflicting runs h whom
   only_one one passes says none = by (first_conflicting runs h whom) refl
@@ -118,7 +119,7 @@ module _ (marks : List ℕ) (runs : List RunState) (h : Holder) (whom : HolderFi
           let it = found (λ v. meant v ≡ true → v ≡ one) meant (all_holders runs) w all is in
           ap Some (sym (it.is_element it.passes))
 
-  -- where all active runs are marked
+  -- if all active runs are marked
   pub in_active : ((i : ℕ) → is_marked marks i ≡ false → is_so_at is_active runs i ≡ false)
       → first_marked marks runs h whom ≡ first_conflicting runs h whom
   in_active says = all_in_marked (λ w is. by w is (is_marked marks (run_of w)) refl)
@@ -127,58 +128,46 @@ module _ (marks : List ℕ) (runs : List RunState) (h : Holder) (whom : HolderFi
       by w is true mark = refl
       by w is false none = absurd (true≢false (sym is ∙ not_meant_there runs h whom w (says (run_of w) none)))
 
-  -- ---- by a slot that has, with the marked runs, all who are meant
+  -- ---- by a slot that, together with the marked runs, has all conflicting holders
 
-  abbrev in_code : Holder → HolderInCode
-  in_code (Holder.a_run r) = Run r
-  in_code (Holder.a_leg p) = Leg p
+  module _ (slot : Slot Holder) (all : HaveAll runs h whom slot marks) where
+    place_or_mark : (w : Holder) → meant w ≡ true → HasPlace slot w ⊎ (is_marked marks (run_of w) ≡ true)
+    place_or_mark w is = all w is
 
-  same_words : (w : Holder) → holder_in_words (in_code w) ≡ w
-  same_words (Holder.a_run r) = refl
-  same_words (Holder.a_leg p) = refl
-
-  module _ (slot : Slot HolderInCode) (all : HaveAll runs h whom slot marks) where
-    place_or_mark : (w : Holder) → meant w ≡ true → HasPlace slot (in_code w) ⊎ (is_marked marks (run_of w) ≡ true)
-    place_or_mark w is =
-        elim (all (in_code w) (ap meant (same_words w) ∙ is)) [
-          | inl place ↦ inl place
-          | inr mark ↦ inr (ap (λ v. is_marked marks (run_of v)) (sym (same_words w)) ∙ mark)
-        ]
-
-    pub by_marks : TellsOf (λ other. meant (holder_in_words other)) slot Nobody
+    pub by_marks : TellsOf (λ other. meant other) slot Nobody
         → first_marked marks runs h whom ≡ first_conflicting runs h whom
     by_marks nobody = all_in_marked by
       where
         by : (w : Holder) → meant w ≡ true → is_marked marks (run_of w) ≡ true
         by w is =
             elim (place_or_mark w is) [
-              | inl place ↦ absurd (true≢false (sym is ∙ sym (ap meant (same_words w)) ∙ nobody (in_code w) place))
+              | inl place ↦ absurd (true≢false (sym is ∙ nobody w place))
               | inr mark ↦ mark
             ]
 
-    one_or_mark : (one : HolderInCode) → TellsOf (λ other. meant (holder_in_words other)) slot (One one) → (w : Holder) → meant w ≡ true
-        → (w ≡ holder_in_words one) ⊎ (is_marked marks (run_of w) ≡ true)
+    one_or_mark : (one : Holder) → TellsOf (λ other. meant other) slot (One one) → (w : Holder) → meant w ≡ true
+        → (w ≡ one) ⊎ (is_marked marks (run_of w) ≡ true)
     one_or_mark one tells w is =
         elim (place_or_mark w is) [
-          | inl place ↦ inl (sym (same_words w) ∙ ap holder_in_words (tells.1 (in_code w) place (ap meant (same_words w) ∙ is)))
+          | inl place ↦ inl (tells.1 w place is)
           | inr mark ↦ inr mark
         ]
 
-    pub by_place : (one : HolderInCode) → TellsOf (λ other. meant (holder_in_words other)) slot (One one)
-        → None ≡ first_marked marks runs h whom → Some (holder_in_words one) ≡ first_conflicting runs h whom
-    by_place one tells none = only_one (holder_in_words one) tells.0 (one_or_mark one tells) (sym none)
+    pub by_place : (one : Holder) → TellsOf (λ other. meant other) slot (One one)
+        → None ≡ first_marked marks runs h whom → Some one ≡ first_conflicting runs h whom
+    by_place one tells none = only_one one tells.0 (one_or_mark one tells) (sym none)
 
-    -- where that one's run is marked too
-    pub by_its_run : (one first : HolderInCode) → TellsOf (λ other. meant (holder_in_words other)) slot (One one)
-        → Some (holder_in_words first) ≡ first_marked marks runs h whom
-        → run_of (holder_in_words first) ≡ run_of (holder_in_words one) → Some (holder_in_words first) ≡ first_conflicting runs h whom
+    -- if the run of that holder is marked too
+    pub by_its_run : (one first : Holder) → TellsOf (λ other. meant other) slot (One one)
+        → Some first ≡ first_marked marks runs h whom
+        → run_of first ≡ run_of one → Some first ≡ first_conflicting runs h whom
     by_its_run one first tells is same = is ∙ all_in_marked by
       where
-        its_mark : is_marked marks (run_of (holder_in_words one)) ≡ true
+        its_mark : is_marked marks (run_of one) ≡ true
         its_mark =
-            let passes = find_passes marked (all_holders runs) (holder_in_words first) (sym is) in
+            let passes = find_passes marked (all_holders runs) first (sym is) in
             ap (is_marked marks) (sym same)
-            ∙ (and_parts (is_marked marks (run_of (holder_in_words first))) (meant (holder_in_words first)) passes).0
+            ∙ (and_parts (is_marked marks (run_of first)) (meant first) passes).0
 
         by : (w : Holder) → meant w ≡ true → is_marked marks (run_of w) ≡ true
         by w is =

@@ -1,4 +1,4 @@
--- The first of those that are meant in a group, found run by run and leg by leg.
+-- The first conflicting holder of a group, found run by run and leg by leg.
 use Rattle.std.specs.Prelude.{◌≡◌, ℕ, zero, suc, ◌<◌, ◌≤◌, List, [], ◌∷◌, map, length, find, ◌||◌, not, Bool, true, false, is_none, is_some}
 use Rattle.std.specs.Prelude.{Option, Some, None, option_map, option_and_then, slice_get, if◌then◌else◌, refl}
 use Rattle.std.specs.List.{list_any}
@@ -6,19 +6,20 @@ use Rattle.std.specs.Option.{option_map_or, option_or}
 use Rattle.std.proofs.Common.{arith, ap, ap₂, sym, ◌∙◌}
 use Rattle.std.proofs.lemmas.List.Folds.{find-append}
 use Rattle.group_name.specs.Group.{Group}
-use Rattle.workflow_runs.specs.FirstOf.{first_some, placed}
-use Rattle.workflow_runs.specs.GroupOf.{group_at}
-use Rattle.workflow_runs.specs.Groups.{all_holders, is_running_in, is_taken, may_start}
-use Rattle.workflow_runs.specs.Holders.{first_conflicting, holder_in_words}
-use Rattle.workflow_runs.specs.Moves.{Holder}
-use Rattle.workflow_runs.specs.PlacedLegs.{PlacedLeg}
-use Rattle.workflow_runs.specs.Places.{LegPlace, leg_places, leg_places_of_run, run_at}
-use Rattle.workflow_runs.specs.RunState.{RunState}
-use Rattle.workflow_runs.specs.declared.holder.Holder.{Holder as HolderInCode}
-use Rattle.workflow_runs.specs.declared.holder.HolderFilter.TheVariants.{Running}
+use Rattle.run_states.specs.FirstOf.{first_some, placed}
+use Rattle.run_states.specs.GroupOf.{group_at}
+use Rattle.run_states.specs.Groups.{all_holders, is_running_in, is_taken, may_start}
+use Rattle.run_states.specs.Holders.{first_conflicting}
+use Rattle.run_states.specs.PlacedLegs.{PlacedLeg}
+use Rattle.run_states.specs.Places.{leg_places, leg_places_of_run, run_at}
+use Rattle.run_states.specs.declared.place.LegPlace.{LegPlace}
+use Rattle.run_states.specs.RunState.{RunState}
+use Rattle.run_states.specs.declared.holder.HolderFilter.TheVariants.{Running}
 use Rattle.workflow_runs.proofs.Firsts.{find-flat_map, find-map, found_at, none_found}
+use Rattle.run_states.specs.declared.holder.Holder.{Holder}
+use Rattle.run_states.specs.declared.holder.Holder.TheVariants.{Run, Leg}
 
--- what is taken where a test holds, of an element that is there
+-- a value that is present only if a test holds, for an element that exists
 not_taken : {X Y : Type 0} (b : Bool) (y : Y) (o : Option X) → b ≡ false → option_and_then (λ _. if b then Some y else None) o ≡ None
 not_taken b y None is = refl
 not_taken b y (Some x) is = ap (λ c. if c then Some y else None) is
@@ -31,7 +32,7 @@ taken b y (x ∷ xs) (suc i) is lt = taken b y xs i is (omega arith)
 
 -- ---- runs
 
--- the first place of a run that passes
+-- the index of the first run that passes
 abbrev pub first_run : (ℕ → Bool) → List RunState → Option ℕ
 first_run test runs = find test (map (λ r. r.0) (placed runs))
 
@@ -59,7 +60,7 @@ no_run_found test runs r before le = sym
 abbrev pub first_of_run : (LegPlace → Bool) → List RunState → ℕ → Option LegPlace
 first_of_run test runs r = option_and_then (λ run. find test (leg_places_of_run (r, run))) (run_at runs r)
 
--- the first that passes of the legs that are left
+-- the first of the remaining legs that passes
 abbrev pub first_left : (LegPlace → Bool) → List PlacedLeg → Option LegPlace
 first_left test left = find test (map (λ (x : PlacedLeg). x.place) left)
 
@@ -105,12 +106,12 @@ find_mapped_twice test g h (x ∷ xs) =
 -- the runs come before the legs
 pub by_kind : (test : Holder → Bool) (runs : List RunState)
     → find test (all_holders runs)
-    ≡ option_or (option_map Holder.a_run (first_run (λ r. test (Holder.a_run r)) runs))
-    (option_map Holder.a_leg (find (λ p. test (Holder.a_leg p)) (leg_places runs)))
+    ≡ option_or (option_map Run (first_run (λ r. test (Run r)) runs))
+    (option_map Leg (find (λ p. test (Leg p)) (leg_places runs)))
 by_kind test runs =
-    find-append test (map (λ r. Holder.a_run r.0) (placed runs)) (map (λ p. Holder.a_leg p) (leg_places runs))
-    ∙ ap₂ option_or (find_mapped_twice test Holder.a_run (λ (r : ℕ × RunState). r.0) (placed runs))
-    (find_mapped test Holder.a_leg (leg_places runs))
+    find-append test (map (λ r. Run r.0) (placed runs)) (map (λ p. Leg p) (leg_places runs))
+    ∙ ap₂ option_or (find_mapped_twice test Run (λ (r : ℕ × RunState). r.0) (placed runs))
+    (find_mapped test Leg (leg_places runs))
 
 -- ---- whether one is found
 
@@ -122,16 +123,16 @@ some_found test (x ∷ xs) =
       | false ↦ some_found test xs
     ]
 
--- nothing keeps back one that has no group, or in whose group nobody is found running
+-- a holder may start if it has no group, or if no running holder is found in its group
 pub starts_by : (runs : List RunState) (o : Option Group)
     → (not (is_some o) || not (is_some (find (λ k. option_map_or (λ g. is_running_in runs g k) o false) (all_holders runs))))
     ≡ option_map_or (λ g. not (is_taken runs g)) o true
 starts_by runs None = refl
 starts_by runs (Some g) = ap not (some_found (is_running_in runs g) (all_holders runs))
 
--- where the holder has a group, and this is what was found
-pub starts_where : (runs : List RunState) (h : Holder) (found : Option HolderInCode) (b : Bool) → is_some (group_at runs h) ≡ true
-    → option_map holder_in_words found ≡ first_conflicting runs h Running → b ≡ is_none found → b ≡ may_start runs h
+-- whether a holder with a group may start, given the running holder that was found
+pub starts_where : (runs : List RunState) (h : Holder) (found : Option Holder) (b : Bool) → is_some (group_at runs h) ≡ true
+    → found ≡ first_conflicting runs h Running → b ≡ is_none found → b ≡ may_start runs h
 starts_where runs h found b grouped is none =
     none
     ∙ ap not (found_in_words found)
@@ -139,7 +140,7 @@ starts_where runs h found b grouped is none =
     ∙ ap (λ c. not c || not (is_some (first_conflicting runs h Running))) (sym grouped)
     ∙ starts_by runs (group_at runs h)
   where
-    found_in_words : (o : Option HolderInCode) → is_some o ≡ is_some (option_map holder_in_words o)
+    found_in_words : (o : Option Holder) → is_some o ≡ is_some (o)
     found_in_words None = refl
     found_in_words (Some k) = refl
 

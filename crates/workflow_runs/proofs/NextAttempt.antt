@@ -1,14 +1,14 @@
--- The next attempt of a run, put in its place.
+-- The next attempt of a run, which replaces it.
 use Rattle.std.specs.Prelude.{◌≡◌, ℕ, zero, suc, ◌<◌, List, [], ◌∷◌, length, Some, None, option_map, slice_get, slice_set, refl}
 use Rattle.std.proofs.Common.{arith, ap, sym, get_or}
 use Rattle.std.proofs.lemmas.List.{length-set}
 use Rattle.std.proofs.lemmas.Option.{same_Some, slice_get_within}
-use Rattle.workflow_runs.specs.FirstOf.{changed_at}
-use Rattle.workflow_runs.specs.NewRun.{again}
-use Rattle.workflow_runs.specs.Places.{with_run}
-use Rattle.workflow_runs.specs.RunState.{RunState}
-use Rattle.workflow_runs.proofs.Doors.{changed_within}
-use Rattle.workflow_runs.proofs.Optional.{from_map}
+use Rattle.run_states.specs.FirstOf.{changed_at}
+use Rattle.run_states.specs.NewRun.{again}
+use Rattle.run_states.specs.Places.{with_run}
+use Rattle.run_states.specs.RunState.{RunState}
+use Rattle.run_states.proofs.Doors.{changed_within}
+use Rattle.run_states.proofs.Optional.{from_map}
 
 pub record NextOf (runs : List RunState) (r : ℕ) (next : RunState) : Type 0 where
   pub was : RunState

@@ -1,35 +1,36 @@
--- A newcomer for which nobody makes room leaves all others as they are.
+-- A newcomer that affects no other holder of its group leaves all others as they are.
 use Rattle.std.specs.Prelude.{◌≡◌, List, [], ◌∷◌, ◌&&◌, Bool, true, false, filter, is_some, not, Option, Some, None, if◌then◌else◌, refl}
 use Rattle.std.specs.Option.{option_map_or}
 use Rattle.std.proofs.Common.{ap, sym, ◌∙◌}
 use Rattle.std.proofs.lemmas.Bool.{and_from, and_parts, or_parts, true≢false}
 use Rattle.group_name.specs.Group.{Group}
-use Rattle.workflow_runs.specs.Arrivals.{displaced, room_made, room_made_for, stopped_where_asked}
-use Rattle.workflow_runs.specs.GroupOf.{cancels_in_progress, group_at}
-use Rattle.workflow_runs.specs.GroupWords.{same_holder}
-use Rattle.workflow_runs.specs.Groups.{all_holders, holds, is_in, is_pending_in, is_running_in, waits}
-use Rattle.workflow_runs.specs.Holders.{first_conflicting, is_conflicting}
-use Rattle.workflow_runs.specs.LookAgain.{finds_others, makes_room}
-use Rattle.workflow_runs.specs.Moves.{Holder, at_each, without_moves}
-use Rattle.workflow_runs.specs.StopMoves.{displace, stop_holder}
-use Rattle.workflow_runs.specs.RunState.{RunState}
-use Rattle.workflow_runs.specs.declared.holder.HolderFilter.{HolderFilter}
-use Rattle.workflow_runs.specs.declared.holder.HolderFilter.TheVariants.{OthersPending, Running}
+use Rattle.run_states.specs.Arrivals.{displaced, room_made, room_made_for, stopped_where_asked}
+use Rattle.run_states.specs.GroupOf.{cancels_in_progress, group_at}
+use Rattle.run_states.specs.GroupWords.{same_holder}
+use Rattle.run_states.specs.Groups.{all_holders, holds, is_in, is_pending_in, is_running_in, waits}
+use Rattle.run_states.specs.Holders.{first_conflicting, is_conflicting}
+use Rattle.run_states.specs.Resuming.{finds_others, makes_room}
+use Rattle.run_states.specs.Moves.{at_each, without_moves}
+use Rattle.run_states.specs.RunState.{RunState}
+use Rattle.run_states.specs.StopMoves.{displace, stop_holder}
+use Rattle.run_states.specs.declared.holder.HolderFilter.{HolderFilter}
+use Rattle.run_states.specs.declared.holder.HolderFilter.TheVariants.{OthersPending, Running}
+use Rattle.run_states.proofs.Found.{none_found}
 use Rattle.workflow_runs.proofs.Arrives.{no_other}
-use Rattle.workflow_runs.proofs.Found.{none_found}
 use Rattle.workflow_runs.proofs.Meant.{nothing_yet}
 use Rattle.workflow_runs.proofs.OneEach.{Comes, GroupsStay, IsOneOf, each_holder, one_that_holds, one_that_waits, ran_too, was_another}
+use Rattle.run_states.specs.declared.holder.Holder.{Holder}
 
 filtered_none : {X : Type 0} (test : X → Bool) (xs : List X) → ((x : X) → test x ≡ false) → filter test xs ≡ []
 filtered_none test [] none = refl
 filtered_none test (x ∷ xs) none =
     ap (λ b. if b then x ∷ filter test xs else filter test xs) (none x) ∙ filtered_none test xs none
 
--- ---- in its group, where it has one
+-- ---- in its group, if it has one
 
 module _ (runs next : List RunState) (newcomer : Holder) (stays : GroupsStay runs next) (comes : Comes runs next newcomer) (g : Group)
     (its : group_at runs newcomer ≡ Some g) where
-  -- of whom none is found nobody is meant
+  -- if none is found, no holder conflicts
   nobody_meant : (whom : HolderFilter) → is_some (first_conflicting runs newcomer whom) ≡ false → (h : Holder) → IsOneOf runs h
       → is_conflicting runs newcomer whom h ≡ false
   nobody_meant whom none h there =
@@ -82,7 +83,7 @@ module _ (runs next : List RunState) (newcomer : Holder) (stays : GroupsStay run
       (cancels && is_some (first_conflicting runs newcomer Running)) none in
       ap (λ rs. (stopped_where_asked cancels g rs).runs) (nobody_displaced parts.0) ∙ nobody_stopped cancels parts.1
 
--- ---- whether it has one or not
+-- ---- with or without a group
 
 pub no_room_made : (runs next : List RunState) (newcomer : Holder) → GroupsStay runs next → Comes runs next newcomer
     → group_at next newcomer ≡ group_at runs newcomer → cancels_in_progress next newcomer ≡ cancels_in_progress runs newcomer

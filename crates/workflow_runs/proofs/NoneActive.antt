@@ -1,4 +1,4 @@
--- A run that is not active has no leg on which a runner is at work, and neither it nor a leg of it is pending or running in a group.
+-- A run that is not active has no leg with a runner at work, and neither the run nor a leg of it is pending or running in a group.
 use Rattle.std.specs.Prelude.{◌≡◌, ℕ, zero, suc, ◌<◌, ◌≤◌, ◌&&◌, ◌||◌, List, [], ◌∷◌, Bool, true, false, Option, Some, None, not}
 use Rattle.std.specs.Prelude.{nat_eq, option_and_then, slice_get, if◌then◌else◌, refl}
 use Rattle.std.specs.List.{list_any}
@@ -7,30 +7,33 @@ use Rattle.std.proofs.Common.{arith, ap, sym, ◌∙◌, inl, inr}
 use Rattle.std.proofs.lemmas.Bool.{cases_eq, cases_lt, or_parts, true≢false}
 use Rattle.std.proofs.lemmas.Bool.Decides.{nat_tests}
 use Rattle.group_name.specs.Group.{Group}
-use Rattle.workflow_runs.specs.FirstOf.{first_some, placed}
-use Rattle.workflow_runs.specs.Fitting.{OnlyAtWork, has_lease}
-use Rattle.workflow_runs.specs.GroupOf.{group_at}
-use Rattle.workflow_runs.specs.GroupWords.{same_holder}
-use Rattle.workflow_runs.specs.Groups.{holds, is_in, is_pending_in, is_running_in, leg_holds, leg_waits, run_waits, waits}
-use Rattle.workflow_runs.specs.Holders.{is_conflicting, run_of}
-use Rattle.workflow_runs.specs.LookAgain.{ask}
-use Rattle.workflow_runs.specs.MarkedRuns.{has_active_leg, is_active, is_active_leg, is_so_at}
-use Rattle.workflow_runs.specs.Moves.{Holder}
-use Rattle.workflow_runs.specs.Parallel.{is_at_work}
-use Rattle.workflow_runs.specs.PlacedLegs.{PlacedLeg, placed_legs_of_run}
-use Rattle.workflow_runs.specs.Places.{LegPlace, leg_at, leg_place}
-use Rattle.workflow_runs.specs.RunState.{JobState, LegState, RunState}
-use Rattle.workflow_runs.specs.StateWords.{is_live}
-use Rattle.workflow_runs.specs.WithinRun.{lease_in_run}
-use Rattle.workflow_runs.specs.declared.holder.HolderFilter.{HolderFilter}
-use Rattle.workflow_runs.specs.declared.holder.HolderFilter.TheVariants.{OthersPending, Running}
-use Rattle.workflow_runs.specs.declared.phases.LegPhase.{LegPhase}
-use Rattle.workflow_runs.specs.declared.phases.LegPhase.TheVariants as a_leg
+use Rattle.run_states.specs.ActiveRuns.{has_active_leg, is_active, is_active_leg}
+use Rattle.run_states.specs.FirstOf.{first_some, placed}
+use Rattle.run_states.specs.Fitting.{OnlyAtWork, has_lease}
+use Rattle.run_states.specs.GroupOf.{group_at}
+use Rattle.run_states.specs.GroupWords.{same_holder}
+use Rattle.run_states.specs.Groups.{holds, is_in, is_pending_in, is_running_in, leg_holds, leg_waits, run_waits, waits}
+use Rattle.run_states.specs.Holders.{is_conflicting, run_of}
+use Rattle.run_states.specs.Resuming.{apply_at}
+use Rattle.run_states.specs.Parallel.{is_at_work}
+use Rattle.run_states.specs.PlacedLegs.{PlacedLeg, placed_legs_of_run}
+use Rattle.run_states.specs.Places.{leg_at, leg_place}
+use Rattle.run_states.specs.declared.place.LegPlace.{LegPlace}
+use Rattle.run_states.specs.RunState.{JobState, LegState, RunState}
+use Rattle.run_states.specs.StateWords.{is_live}
+use Rattle.run_states.specs.WithinRun.{lease_in_run}
+use Rattle.run_states.specs.declared.holder.HolderFilter.{HolderFilter}
+use Rattle.run_states.specs.declared.holder.HolderFilter.TheVariants.{OthersPending, Running}
+use Rattle.run_states.specs.declared.phases.LegPhase.{LegPhase}
+use Rattle.run_states.specs.declared.phases.LegPhase.TheVariants as a_leg
+use Rattle.run_states.proofs.JobKeeps.{leg_in}
+use Rattle.workflow_runs.specs.MarkedRuns.{is_so_at}
 use Rattle.workflow_runs.proofs.Firsts.{first_same_placed, first_some_same}
-use Rattle.workflow_runs.proofs.JobKeeps.{leg_in}
 use Rattle.workflow_runs.proofs.PlacedLegs.{each_in_run, leg_there}
+use Rattle.run_states.specs.declared.holder.Holder.{Holder}
+use Rattle.run_states.specs.declared.holder.Holder.TheVariants.{Run, Leg}
 
--- ---- where each place gives nothing
+-- ---- if each index has no value
 
 nothing : {X Y : Type 0} (xs : List X) → first_some {X = X} {Y = Y} (λ x. None) xs ≡ None
 nothing [] = refl
@@ -55,7 +58,7 @@ leg_rests : (run : RunState) (j l : ℕ) (job : JobState) (leg : LegState) → i
 leg_rests run j l job leg none at_job at_leg =
     none_of is_active_leg job.legs l leg (none_of has_active_leg run.jobs j job (jobs_rest run none) at_job) at_leg
 
--- ---- the leg of a lease, where a runner is at work on each leg that has it
+-- ---- the leg with a lease, if each leg that has it has a runner at work
 
 at_work_holds : (phase : LegPhase) → is_at_work phase ≡ true → leg_holds phase ≡ true
 at_work_holds a_leg.New e = cc
@@ -81,7 +84,7 @@ module _ (runs : List RunState) (lease : ℕ) (only : OnlyAtWork runs lease) whe
             | inr other ↦ grind (arith, nat_tests)
           ]
 
-  pub no_lease : (i : ℕ) → is_so_at is_active runs i ≡ false → ask (lease_in_run lease) runs i ≡ None
+  pub no_lease : (i : ℕ) → is_so_at is_active runs i ≡ false → apply_at (lease_in_run lease) runs i ≡ None
   no_lease i none = by (slice_get runs i) refl none
     where
       by : (o : Option RunState) → slice_get runs i ≡ o → option_map_or is_active o false ≡ false
@@ -101,7 +104,7 @@ and_none : (a b : Bool) → b ≡ false → (a && b) ≡ false
 and_none true b none = none
 and_none false b none = refl
 
--- one that is not so is not so in what is weaker
+-- a run without a property lacks each property that implies it
 weaker : (fact other : RunState → Bool) (o : Option RunState) → ((x : RunState) → fact x ≡ false → other x ≡ false)
     → option_map_or fact o false ≡ false → option_map_or other o false ≡ false
 weaker fact other None says e = refl
@@ -128,34 +131,34 @@ module _ (runs : List RunState) (h : Holder) where
   not_meant Running other waits_not holds_not = not_running other (group_at runs h) holds_not
 
   run_not_meant : (whom : HolderFilter) (r : ℕ) → is_so_at is_active runs r ≡ false
-      → is_conflicting runs h whom (Holder.a_run r) ≡ false
+      → is_conflicting runs h whom (Run r) ≡ false
   run_not_meant whom r none =
-      not_meant whom (Holder.a_run r)
+      not_meant whom (Run r)
       (weaker is_active (λ x. run_waits x.phase) (slice_get runs r) (λ x rests. (phase_rests x rests).0) none)
       (weaker is_active (λ x. is_live x.phase) (slice_get runs r) (λ x rests. (phase_rests x rests).1) none)
 
   leg_not_meant : (whom : HolderFilter) (p : LegPlace) (leg : LegState) → leg_at runs p ≡ Some leg → is_active_leg leg ≡ false
-      → is_conflicting runs h whom (Holder.a_leg p) ≡ false
+      → is_conflicting runs h whom (Leg p) ≡ false
   leg_not_meant whom p leg at none =
       let parts = or_parts (leg_waits leg.phase) (leg_holds leg.phase) none in
-      not_meant whom (Holder.a_leg p) (ap (λ o. option_map_or (λ x. leg_waits x.phase) o false) at ∙ parts.0)
+      not_meant whom (Leg p) (ap (λ o. option_map_or (λ x. leg_waits x.phase) o false) at ∙ parts.0)
       (ap (λ o. option_map_or (λ x. leg_holds x.phase) o false) at ∙ parts.1)
 
   pub not_meant_there : (whom : HolderFilter) (other : Holder) → is_so_at is_active runs (run_of other) ≡ false
       → is_conflicting runs h whom other ≡ false
-  not_meant_there whom (Holder.a_run r) none = run_not_meant whom r none
-  not_meant_there whom (Holder.a_leg p) none = by (leg_at runs p) refl
+  not_meant_there whom (Run r) none = run_not_meant whom r none
+  not_meant_there whom (Leg p) none = by (leg_at runs p) refl
     where
-      by : (o : Option LegState) → leg_at runs p ≡ o → is_conflicting runs h whom (Holder.a_leg p) ≡ false
+      by : (o : Option LegState) → leg_at runs p ≡ o → is_conflicting runs h whom (Leg p) ≡ false
       by None at =
-          not_meant whom (Holder.a_leg p) (ap (λ o. option_map_or (λ (x : LegState). leg_waits x.phase) o false) at)
+          not_meant whom (Leg p) (ap (λ o. option_map_or (λ (x : LegState). leg_waits x.phase) o false) at)
           (ap (λ o. option_map_or (λ (x : LegState). leg_holds x.phase) o false) at)
       by (Some leg) at =
           let there = leg_in runs p leg at in
           let rests : is_active there.place.run ≡ false = sym (ap (λ o. option_map_or is_active o false) there.place.run_is) ∙ none in
           leg_not_meant whom p leg at (leg_rests there.place.run p.job p.leg there.job leg rests there.place.job_is there.leg_is)
 
--- ---- what no run has before one, where none has it that is passed
+-- no run before `r` has a value, if none before `from` has one and none is found from there to `r`
 
 pub none_before : (none_at passed : ℕ → Type 0) (from r : ℕ) → ((i : ℕ) → passed i → none_at i) → ((k : ℕ) → k < from → none_at k)
     → ((i : ℕ) → from ≤ i → i < r → passed i) → (k : ℕ) → k < r → none_at k

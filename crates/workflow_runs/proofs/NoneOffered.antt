@@ -1,28 +1,30 @@
--- A run that is marked for no list that a runner serves has no leg that fits the runner.
+-- A run that is not marked for any list that a runner serves has no leg that fits the runner.
 use Rattle.std.specs.Prelude.{◌≡◌, ◌≤◌, ◌<◌, ℕ, ◌&&◌, List, length, Bool, true, false, IfNone, IfSome, Option, Some, None, option_and_then, option_map}
 use Rattle.std.specs.Prelude.{MatchOption, slice_get, if◌then◌else◌, refl}
 use Rattle.std.specs.Option.{option_map_or}
 use Rattle.std.proofs.Common.{arith, ap, subst, sym, ◌∙◌, inl, inr}
 use Rattle.std.proofs.lemmas.Bool.{cases_lt, true≢false}
-use Rattle.std.proofs.lemmas.Option.{slice_get_past}
+use Rattle.std.proofs.lemmas.Option.{same_Some, slice_get_past}
 use Rattle.label_lists.specs.Known.{IsBefore}
 use Rattle.label_lists.specs.Lists.{ListsState, labels_of, may_offer}
 use Rattle.run_plan.specs.declared.planned.PlannedJob.{PlannedJob}
-use Rattle.workflow_runs.specs.Asks.{AreBound}
-use Rattle.workflow_runs.specs.Fitting.{has_labels, is_ready, is_served}
-use Rattle.workflow_runs.specs.LabelNumbers.{IsReadyAt, LegsAreOffered, MayServe, list_number, texts_of}
-use Rattle.workflow_runs.specs.LegContext.{context_at}
-use Rattle.workflow_runs.specs.LookAgain.{NoneBefore, ask}
-use Rattle.workflow_runs.specs.Parallel.{has_room}
-use Rattle.workflow_runs.specs.Places.{LegPlace, leg_at, leg_place, plan_at, run_at}
-use Rattle.workflow_runs.specs.RunState.{JobState, LegState, RunState}
-use Rattle.workflow_runs.specs.WithinRun.{fit_in_job, fit_in_run, served_in_job}
-use Rattle.workflow_runs.specs.Words.{label_texts, labels_at}
-use Rattle.workflow_runs.specs.declared.asks.RunBindings.{RunBindings}
-use Rattle.workflow_runs.proofs.KnownSays.{texts_there}
-use Rattle.workflow_runs.proofs.LabelNumbers.{as_long}
+use Rattle.run_states.specs.Fitting.{has_labels, is_ready, is_served}
+use Rattle.run_states.specs.LegContext.{context_at}
+use Rattle.run_states.specs.Resuming.{NoneBefore, apply_at}
+use Rattle.run_states.specs.Parallel.{has_room}
+use Rattle.run_states.specs.Places.{leg_at, leg_place, plan_at, run_at}
+use Rattle.run_states.specs.declared.place.LegPlace.{LegPlace}
+use Rattle.run_states.specs.RunState.{JobState, LegState, RunState}
+use Rattle.run_states.specs.WithinRun.{fit_in_job, fit_in_run, served_in_job}
+use Rattle.run_states.specs.Words.{label_texts, labels_at}
+use Rattle.run_states.proofs.RunFits.{job_in_run, leg_in_job}
+use Rattle.run_bindings.specs.Bindings.{AreBound}
+use Rattle.run_bindings.specs.KnownLabels.{AreAlike}
+use Rattle.run_bindings.specs.LabelNumbers.{IsReadyAt, LegsAreOffered, MayServe, ServesList, list_number, texts_of}
+use Rattle.run_bindings.specs.declared.bindings.RunBindings.{RunBindings}
+use Rattle.run_bindings.proofs.KnownSays.{KnownLabels, texts_there}
+use Rattle.run_bindings.proofs.LabelNumbers.{as_long}
 use Rattle.workflow_runs.proofs.NoneActive.{none_placed}
-use Rattle.workflow_runs.proofs.RunFits.{job_in_run, leg_in_job}
 
 unplanned : (runs : List RunState) (p : LegPlace) → plan_at runs p.run p.job ≡ None → labels_at runs p ≡ None
 unplanned runs p none = ap (option_map (λ (planned : PlannedJob). label_texts (context_at runs p) planned.labels)) none
@@ -31,10 +33,10 @@ none_taken : (b : Bool) (o : Option LegPlace) → o ≡ None → (if b then o el
 none_taken true o e = e
 none_taken false o e = refl
 
-module _ (labels : List (List ℕ)) (runs : List RunState) (asks : List RunBindings) (lists : ListsState) (bound : AreBound runs asks)
-    (are : LegsAreOffered runs asks lists) (i : ℕ) (none : (n : ℕ) → MayServe lists labels n → may_offer lists n i ≡ false)
-    (kept : RunBindings) (asked : slice_get asks i ≡ Some kept) where
-  -- a ready leg of it is not served
+module _ (labels : List (List ℕ)) (runs : List RunState) (bindings : List RunBindings) (lists : ListsState) (bound : AreBound runs bindings)
+    (are : LegsAreOffered runs bindings lists) (i : ℕ) (none : (n : ℕ) → MayServe lists labels n → may_offer lists n i ≡ false)
+    (kept : RunBindings) (asked : slice_get bindings i ≡ Some kept) where
+  -- the runner cannot serve a ready leg of it
   misfits : (j l : ℕ) → IsReadyAt runs (leg_place i j l) → is_served labels runs (leg_place i j l) ≡ false
   misfits j l ready = by_plan (plan_at runs i j) refl
     where
@@ -50,16 +52,18 @@ module _ (labels : List (List ℕ)) (runs : List RunState) (asks : List RunBindi
       never : MayServe lists labels n → is_served labels runs p ≡ false
       never may = absurd (true≢false (sym offered ∙ none n may))
 
-      by_labels : (texts : List (List ℕ)) → labels_of lists n ≡ Some texts → labels_at runs p ≡ Some texts
-          → (b : Bool) → has_labels labels texts ≡ b → is_served labels runs p ≡ false
-      by_labels texts listed there true is = never (inr (ap (λ o. option_map_or (has_labels labels) o false) listed ∙ is))
-      by_labels texts listed there false is = ap (λ o. option_map_or (has_labels labels) o false) there ∙ is
+      by_labels : (texts : List (List ℕ)) → labels_of lists n ≡ Some texts → (own : KnownLabels runs p texts)
+          → (b : Bool) → has_labels labels own.texts ≡ b → is_served labels runs p ≡ false
+      by_labels texts listed own true is =
+          never (inr (record { kept = texts; listed = listed; whole = own.texts; alike = own.alike; served = is }))
+      by_labels texts listed own false is = ap (λ o. option_map_or (has_labels labels) o false) own.are ∙ is
 
       by_texts : (job : PlannedJob) → plan_at runs i j ≡ Some job → (o : Option (List (List ℕ))) → texts_of kept.jobs j l ≡ o
           → MatchOption o ⊥ (λ texts. labels_of lists n ≡ Some texts) → is_served labels runs p ≡ false
       by_texts job planned None known says = absurd says
       by_texts job planned (Some texts) known says =
-          by_labels texts says (texts_there runs asks bound p job kept texts planned asked known) (has_labels labels texts) refl
+          let own = texts_there runs bindings bound p job kept texts planned asked known in
+          by_labels texts says own (has_labels labels own.texts) refl
 
       by_plan : (o : Option PlannedJob) → plan_at runs i j ≡ o → is_served labels runs p ≡ false
       by_plan None planned =
@@ -90,41 +94,55 @@ module _ (labels : List (List ℕ)) (runs : List RunState) (asks : List RunBindi
   run_passed : (x : RunState) → run_at runs i ≡ Some x → fit_in_run labels runs i x ≡ None
   run_passed x here = none_placed _ x.jobs (λ j y at. job_passed x here j y at)
 
-pub none_fits_there : (labels : List (List ℕ)) (runs : List RunState) (asks : List RunBindings) (lists : ListsState) → AreBound runs asks
-    → LegsAreOffered runs asks lists → (i : ℕ) → ((n : ℕ) → MayServe lists labels n → may_offer lists n i ≡ false)
-    → ask (fit_in_run labels runs) runs i ≡ None
-none_fits_there labels runs asks lists bound are i none = by (slice_get runs i) refl (slice_get asks i) refl
+pub none_fits_there : (labels : List (List ℕ)) (runs : List RunState) (bindings : List RunBindings) (lists : ListsState) → AreBound runs bindings
+    → LegsAreOffered runs bindings lists → (i : ℕ) → ((n : ℕ) → MayServe lists labels n → may_offer lists n i ≡ false)
+    → apply_at (fit_in_run labels runs) runs i ≡ None
+none_fits_there labels runs bindings lists bound are i none = by (slice_get runs i) refl (slice_get bindings i) refl
   where
-    by : (o : Option RunState) → slice_get runs i ≡ o → (k : Option RunBindings) → slice_get asks i ≡ k
-        → ask (fit_in_run labels runs) runs i ≡ None
+    by : (o : Option RunState) → slice_get runs i ≡ o → (k : Option RunBindings) → slice_get bindings i ≡ k
+        → apply_at (fit_in_run labels runs) runs i ≡ None
     by None here k asked = ap (option_and_then (fit_in_run labels runs i)) here
     by (Some x) here None asked =
-        let gone : slice_get runs i ≡ None = as_long asks runs i bound.as_many asked in
+        let gone : slice_get runs i ≡ None = as_long bindings runs i bound.as_many asked in
         let bad : Some x ≡ None = sym here ∙ gone in
         cc
     by (Some x) here (Some kept) asked =
-        ap (option_and_then (fit_in_run labels runs i)) here ∙ run_passed labels runs asks lists bound are i none kept asked x here
+        ap (option_and_then (fit_in_run labels runs i)) here ∙ run_passed labels runs bindings lists bound are i none kept asked x here
 
--- ---- the next run in which one may fit
+-- ---- a list that does not serve a runner
+
+pub no_list_serves : (lists : ListsState) (labels : List (List ℕ)) (n : ℕ) → labels_of lists n ≡ None → ServesList lists labels n → ⊥
+no_list_serves lists labels n none serves =
+    let listed = serves.listed in
+    let bad : Some serves.kept ≡ None = sym listed ∙ none in
+    cc
+
+pub lacks_one : (lists : ListsState) (labels : List (List ℕ)) (n : ℕ) (kept : List (List ℕ)) (has : Bool) → labels_of lists n ≡ Some kept
+    → ((whole : List (List ℕ)) → AreAlike whole kept → has ≡ has_labels labels whole) → has ≡ false → ServesList lists labels n → ⊥
+lacks_one lists labels n kept has listed tests lacks serves =
+    let same = same_Some serves.kept kept (sym serves.listed ∙ listed) in
+    true≢false (sym serves.served ∙ sym (tests serves.whole (subst (AreAlike serves.whole) same serves.alike)) ∙ lacks)
+
+-- ---- the next run in which a leg may fit
 
 pub next_from : (from : ℕ) (found next : Option ℕ) → IfSome next (λ r. found ≡ Some r) → IfSome found (λ r. from ≤ r)
     → IfSome next (λ r. from ≤ r)
 next_from from found None same le = tt
 next_from from found (Some r) same le = subst (λ (o : Option ℕ). IfSome o (λ s. from ≤ s)) same le
 
-module _ (labels : List (List ℕ)) (runs : List RunState) (asks : List RunBindings) (lists : ListsState) (bound : AreBound runs asks)
-    (are : LegsAreOffered runs asks lists) (from : ℕ) (found : Option ℕ)
+module _ (labels : List (List ℕ)) (runs : List RunState) (bindings : List RunBindings) (lists : ListsState) (bound : AreBound runs bindings)
+    (are : LegsAreOffered runs bindings lists) (from : ℕ) (found : Option ℕ)
     (passed : (n s : ℕ) → from ≤ s → IsBefore s found → MayServe lists labels n → may_offer lists n s ≡ false) where
-  passed_there : (i : ℕ) → from ≤ i → IsBefore i found → ask (fit_in_run labels runs) runs i ≡ None
-  passed_there i le before = none_fits_there labels runs asks lists bound are i (λ n may. passed n i le before may)
+  passed_there : (i : ℕ) → from ≤ i → IsBefore i found → apply_at (fit_in_run labels runs) runs i ≡ None
+  passed_there i le before = none_fits_there labels runs bindings lists bound are i (λ n may. passed n i le before may)
 
   pub next_between : (next : Option ℕ) → IfSome next (λ r. found ≡ Some r)
-      → IfSome next (λ r. (i : ℕ) → from ≤ i → i < r → ask (fit_in_run labels runs) runs i ≡ None)
+      → IfSome next (λ r. (i : ℕ) → from ≤ i → i < r → apply_at (fit_in_run labels runs) runs i ≡ None)
   next_between None same = tt
   next_between (Some r) same = λ i le lt. passed_there i le (subst (IsBefore i) (sym same) lt)
 
   none_behind : (o : Option ℕ) → found ≡ o → IfSome o (λ r. length runs ≤ r) → (i : ℕ) → from ≤ i
-      → ask (fit_in_run labels runs) runs i ≡ None
+      → apply_at (fit_in_run labels runs) runs i ≡ None
   none_behind None is past i le = passed_there i le (subst (IsBefore i) (sym is) tt)
   none_behind (Some r) is past i le =
       elim (cases_lt i (length runs)) [
@@ -133,13 +151,13 @@ module _ (labels : List (List ℕ)) (runs : List RunState) (asks : List RunBindi
       ]
 
   pub next_none : (count : ℕ) → count ≡ length runs → (next : Option ℕ) → IfNone next (IfSome found (λ r. count ≤ r))
-      → IfNone next ((i : ℕ) → from ≤ i → ask (fit_in_run labels runs) runs i ≡ None)
+      → IfNone next ((i : ℕ) → from ≤ i → apply_at (fit_in_run labels runs) runs i ≡ None)
   next_none count many None past = none_behind found refl (subst (λ (n : ℕ). IfSome found (λ r. n ≤ r)) many past)
   next_none count many (Some r) past = tt
 
--- none fits before a run, where none does from a place on
+-- no leg fits before run `r`, if none fits before `from` and none from there to `r`
 pub none_before : (labels : List (List ℕ)) (runs : List RunState) (from r : ℕ) → NoneBefore (fit_in_run labels runs) runs from
-    → ((i : ℕ) → from ≤ i → i < r → ask (fit_in_run labels runs) runs i ≡ None) → NoneBefore (fit_in_run labels runs) runs r
+    → ((i : ℕ) → from ≤ i → i < r → apply_at (fit_in_run labels runs) runs i ≡ None) → NoneBefore (fit_in_run labels runs) runs r
 none_before labels runs from r before between k lt =
     elim (cases_lt k from) [
       | inl early ↦ before k early

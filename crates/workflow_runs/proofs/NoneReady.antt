@@ -1,17 +1,18 @@
--- A job without a ready leg has none that fits a runner.
+-- A job without a ready leg has no leg that fits a runner.
 use Rattle.std.specs.Prelude.{◌≡◌, ℕ, ◌+◌, ◌&&◌, List, [], ◌∷◌, Bool, true, false, Option, Some, None}
 use Rattle.std.specs.Prelude.{if◌then◌else◌, refl}
 use Rattle.std.specs.List.{enumerate_from, list_any}
 use Rattle.std.specs.Option.{option_or}
 use Rattle.std.proofs.Common.{ap, ◌∙◌}
 use Rattle.std.proofs.lemmas.Bool.{or_parts}
-use Rattle.workflow_runs.specs.FirstOf.{first_some}
-use Rattle.workflow_runs.specs.Fitting.{is_ready, is_served}
-use Rattle.workflow_runs.specs.MarkedRuns.{has_ready_leg}
-use Rattle.workflow_runs.specs.Parallel.{has_room}
-use Rattle.workflow_runs.specs.Places.{LegPlace, leg_place}
-use Rattle.workflow_runs.specs.RunState.{JobState, LegState, RunState}
-use Rattle.workflow_runs.specs.WithinRun.{fit_in_job, served_in_job}
+use Rattle.run_states.specs.ActiveRuns.{has_ready_leg}
+use Rattle.run_states.specs.FirstOf.{first_some}
+use Rattle.run_states.specs.Fitting.{is_ready, is_served}
+use Rattle.run_states.specs.Parallel.{has_room}
+use Rattle.run_states.specs.Places.{leg_place}
+use Rattle.run_states.specs.declared.place.LegPlace.{LegPlace}
+use Rattle.run_states.specs.RunState.{JobState, LegState, RunState}
+use Rattle.run_states.specs.WithinRun.{fit_in_job, served_in_job}
 
 module _ (labels : List (List ℕ)) (runs : List RunState) (r : ℕ) where
   none_served : (j n : ℕ) (legs : List LegState) → list_any (λ l. is_ready l.phase) legs ≡ false

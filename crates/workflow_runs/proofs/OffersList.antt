@@ -7,16 +7,16 @@ use Rattle.std.proofs.Common.{arith, ap, subst, sym, ◌∙◌, inl, inr}
 use Rattle.std.proofs.lemmas.Bool.{cases_eq, or_parts, true≢false}
 use Rattle.std.proofs.lemmas.Option.{same_Some, slice_get_within}
 use Rattle.label_lists.specs.Lists.{ListsState, may_offer}
-use Rattle.workflow_runs.specs.FirstOf.{placed}
-use Rattle.workflow_runs.specs.Fitting.{is_ready}
-use Rattle.workflow_runs.specs.LabelNumbers.{JobsOffer, LegsOffer, OnlyPuts, is_ready_in, is_ready_leg, job_offers, leg_offers, list_number}
-use Rattle.workflow_runs.specs.LabelNumbers.{offers_list}
-use Rattle.workflow_runs.specs.MarkedRuns.{has_ready_leg}
-use Rattle.workflow_runs.specs.RunState.{JobState, LegState, RunState}
-use Rattle.workflow_runs.specs.declared.label_numbers.ListNumbers.{ListNumbers}
+use Rattle.run_states.specs.ActiveRuns.{has_ready_leg}
+use Rattle.run_states.specs.FirstOf.{placed}
+use Rattle.run_states.specs.Fitting.{is_ready}
+use Rattle.run_states.specs.RunState.{JobState, LegState, RunState}
+use Rattle.run_bindings.specs.LabelNumbers.{JobsOffer, LegsOffer, OnlyPuts, is_ready_in, is_ready_leg, job_offers, leg_offers, list_number}
+use Rattle.run_bindings.specs.LabelNumbers.{offers_list}
+use Rattle.run_bindings.specs.declared.label_numbers.ListNumbers.{ListNumbers}
 use Rattle.workflow_runs.proofs.NoneActive.{none_of}
 
--- ---- a test of the elements of a list with their places
+-- ---- a test of the elements of a list with their indices
 
 or_left : (a b : Bool) → a ≡ true → (a || b) ≡ true
 or_left true b e = refl
@@ -59,7 +59,7 @@ none_from {X} f (y ∷ xs) n each =
     or_none (f (n, y)) (list_any f (enumerate_from (n + 1) xs)) (subst (λ (m : ℕ). f (m, y) ≡ false) here (each 0 y refl))
     (none_from f xs (n + 1) (λ i x at. subst (λ (m : ℕ). f (m, x) ≡ false) (later i) (each (suc i) x at)))
 
--- no element before a place passes
+-- no element before an index passes
 abbrev pub NonePasses : {X : Type 0} → (ℕ × X → Bool) → List X → ℕ → Type 0
 NonePasses {X} f xs n = (i : ℕ) (x : X) → i < n → slice_get xs i ≡ Some x → f (i, x) ≡ false
 
@@ -132,7 +132,7 @@ all_offer_alike numbers number j all y same some = from y.legs 0 ∙ ap (λ b. b
         ∙ ap (λ b. (is_ready z.phase && nat_eq all number) || b) (from legs (n + 1))
         ∙ both_or (is_ready z.phase) (list_any (λ (x : LegState). is_ready x.phase) legs) (nat_eq all number)
 
--- ---- the ready legs of a run of which none has a number
+-- ---- the ready legs of a run in which no ready leg has the number
 
 and_then_none : (a b : Bool) → (a && b) ≡ false → a ≡ true → b ≡ false
 and_then_none true b e is = e
@@ -158,12 +158,12 @@ other_number x numbers number none j l ready = by_job (slice_get x.jobs j) refl 
 -- ---- a run is marked for the lists of its ready legs
 
 module _ (lists : ListsState) (numbers : List ListNumbers) (r : ℕ) where
-  -- of a job, as far as a leg
+  -- of a job, up to a leg
   abbrev pub LegsOfferUpTo : ℕ → List LegState → ℕ → Type 0
   LegsOfferUpTo j legs n =
       (l : ℕ) → l < n → is_ready_leg legs l ≡ true → may_offer lists (list_number numbers j l) r ≡ true
 
-  -- of the jobs before one
+  -- of the jobs before `n`
   abbrev pub JobsOfferUpTo : List JobState → ℕ → Type 0
   JobsOfferUpTo jobs n =
       (j l : ℕ) → j < n → is_ready_in jobs j l ≡ true → may_offer lists (list_number numbers j l) r ≡ true
@@ -212,7 +212,7 @@ one_more_job_offers old new numbers r jobs n y puts at itself before j l lt read
       | inr other ↦ puts.stays (list_number numbers j l) (before j l (omega (arith, lt, other)) ready)
     ]
 
--- nothing is to be marked for a job without a ready leg
+-- a job without a ready leg needs no mark
 pub none_to_offer : (lists : ListsState) (numbers : List ListNumbers) (r j : ℕ) (y : JobState) → has_ready_leg y ≡ false
     → LegsOffer lists numbers r j y.legs
 none_to_offer lists numbers r j y none l ready = by (slice_get y.legs l) refl ready

@@ -1,4 +1,4 @@
--- In each group at most one holder is pending and at most one is running: what keeps this so.
+-- In each group at most one holder is pending and at most one is running: what preserves this.
 use Rattle.std.specs.Prelude.{◌≡◌, ℕ, List, [], ◌∷◌, ◌||◌, ◌⊎◌, map, not, Bool, true, false, Option, Some, None, refl}
 use Rattle.std.specs.List.{AllByRecursion, list_any}
 use Rattle.std.specs.Option.{option_map_or}
@@ -6,21 +6,23 @@ use Rattle.std.proofs.Common.{ap, inl, inr, sym, ◌∙◌}
 use Rattle.std.proofs.lemmas.Bool.{and_from, and_parts, not-true, true≢false}
 use Rattle.group_name.specs.Group.{Group, same_group}
 use Rattle.group_name.proofs.SameGroups.{same_is_one}
-use Rattle.workflow_runs.specs.FirstOf.{placed}
-use Rattle.workflow_runs.specs.GroupOf.{group_at}
-use Rattle.workflow_runs.specs.Groups.{HasOneBeside, HasOneEach, all_holders, holds, is_in, is_pending_in, is_running_in, is_taken}
-use Rattle.workflow_runs.specs.Groups.{may_start}
-use Rattle.workflow_runs.specs.Groups.{waits}
-use Rattle.workflow_runs.specs.Moves.{Holder}
-use Rattle.workflow_runs.specs.Places.{LegPlace, leg_at, leg_places, run_at}
-use Rattle.workflow_runs.specs.RunState.{LegState, RunState}
-use Rattle.workflow_runs.proofs.Found.{each_of_append, each_of_map, each_of_placed}
+use Rattle.run_states.specs.FirstOf.{placed}
+use Rattle.run_states.specs.GroupOf.{group_at}
+use Rattle.run_states.specs.Groups.{HasOneBeside, HasOneEach, all_holders, holds, is_in, is_pending_in, is_running_in, is_taken}
+use Rattle.run_states.specs.Groups.{may_start}
+use Rattle.run_states.specs.Groups.{waits}
+use Rattle.run_states.specs.Places.{leg_at, leg_places, run_at}
+use Rattle.run_states.specs.declared.place.LegPlace.{LegPlace}
+use Rattle.run_states.specs.RunState.{LegState, RunState}
+use Rattle.run_states.proofs.Found.{each_of_append, each_of_map, each_of_placed}
+use Rattle.run_states.proofs.RunFits.{RunsFit}
+use Rattle.run_states.proofs.Settles.{StayFit}
 use Rattle.workflow_runs.proofs.GroupStays.{group_stays}
 use Rattle.workflow_runs.proofs.HolderPlaces.{each_leg_place}
-use Rattle.workflow_runs.proofs.RunFits.{RunsFit}
-use Rattle.workflow_runs.proofs.Settles.{StayFit}
+use Rattle.run_states.specs.declared.holder.Holder.{Holder}
+use Rattle.run_states.specs.declared.holder.Holder.TheVariants.{Run, Leg}
 
--- ---- groups are the same where the test says so
+-- ---- groups that the test finds equal are equal
 
 in_some : (g : Group) (o : Option Group) → option_map_or (same_group g) o false ≡ true → o ≡ Some g
 in_some g None e = cc
@@ -29,44 +31,44 @@ in_some g (Some k) e = ap Some (sym (same_is_one g k e))
 pub group_is : (runs : List RunState) (g : Group) (h : Holder) → is_in runs g h ≡ true → group_at runs h ≡ Some g
 group_is runs g h e = in_some g (group_at runs h) e
 
--- ---- who waits or holds is one of the table's
+-- ---- a holder that waits or holds is in the table
 
--- the run or the leg is one of the table's
+-- the run or the leg is in the table
 abbrev pub IsOneOf : List RunState → Holder → Type 0
-IsOneOf runs (Holder.a_run r) = (x : RunState) × (run_at runs r ≡ Some x)
-IsOneOf runs (Holder.a_leg p) = (z : LegState) × (leg_at runs p ≡ Some z)
+IsOneOf runs (Run r) = (x : RunState) × (run_at runs r ≡ Some x)
+IsOneOf runs (Leg p) = (z : LegState) × (leg_at runs p ≡ Some z)
 
 leg_there : (runs : List RunState) (p : LegPlace) (test : LegState → Bool) (o : Option LegState) → leg_at runs p ≡ o
-    → option_map_or test o false ≡ true → IsOneOf runs (Holder.a_leg p)
+    → option_map_or test o false ≡ true → IsOneOf runs (Leg p)
 leg_there runs p test None is e = cc
 leg_there runs p test (Some z) is e = (z, is)
 
 run_there : (runs : List RunState) (r : ℕ) (test : RunState → Bool) (o : Option RunState) → run_at runs r ≡ o
-    → option_map_or test o false ≡ true → IsOneOf runs (Holder.a_run r)
+    → option_map_or test o false ≡ true → IsOneOf runs (Run r)
 run_there runs r test None is e = cc
 run_there runs r test (Some x) is e = (x, is)
 
 pub one_that_waits : (runs : List RunState) (h : Holder) → waits runs h ≡ true → IsOneOf runs h
-one_that_waits runs (Holder.a_run r) e = run_there runs r _ (run_at runs r) refl e
-one_that_waits runs (Holder.a_leg p) e = leg_there runs p _ (leg_at runs p) refl e
+one_that_waits runs (Run r) e = run_there runs r _ (run_at runs r) refl e
+one_that_waits runs (Leg p) e = leg_there runs p _ (leg_at runs p) refl e
 
 pub one_that_holds : (runs : List RunState) (h : Holder) → holds runs h ≡ true → IsOneOf runs h
-one_that_holds runs (Holder.a_run r) e = run_there runs r _ (run_at runs r) refl e
-one_that_holds runs (Holder.a_leg p) e = leg_there runs p _ (leg_at runs p) refl e
+one_that_holds runs (Run r) e = run_there runs r _ (run_at runs r) refl e
+one_that_holds runs (Leg p) e = leg_there runs p _ (leg_at runs p) refl e
 
--- their groups stay what they are
+-- the groups of holders in the table do not change
 abbrev pub GroupsStay : List RunState → List RunState → Type 0
 GroupsStay runs next = (h : Holder) → IsOneOf runs h → group_at next h ≡ group_at runs h
 
 stays_there : (runs next : List RunState) → RunsFit runs → StayFit runs next → (h : Holder) → IsOneOf runs h
     → group_at next h ≡ group_at runs h
-stays_there runs next fit stay (Holder.a_run r) there = group_stays runs next fit stay (Holder.a_run r) tt
-stays_there runs next fit stay (Holder.a_leg p) there = group_stays runs next fit stay (Holder.a_leg p) there
+stays_there runs next fit stay (Run r) there = group_stays runs next fit stay (Run r) tt
+stays_there runs next fit stay (Leg p) there = group_stays runs next fit stay (Leg p) there
 
 pub groups_stay : (runs next : List RunState) → RunsFit runs → StayFit runs next → GroupsStay runs next
 groups_stay runs next fit stay h there = stays_there runs next fit stay h there
 
--- ---- a change after which nobody waits or holds who did not before
+-- ---- a change after which each holder waits or holds only if it did before
 
 pub record Fades (runs next : List RunState) : Type 0 where
   pub waited : (h : Holder) → waits next h ≡ true → waits runs h ≡ true
@@ -103,7 +105,7 @@ module _ (runs next : List RunState) (stays : GroupsStay runs next) (fades : Fad
     running = (λ g h k e f. one.running g h k (was_running g h e) (was_running g k f));
   }
 
--- ---- nobody runs in a group that is not taken
+-- ---- no holder runs in a group that is not taken
 
 none_of : {X : Type 0} (test : X → Bool) (xs : List X) → list_any test xs ≡ false → AllByRecursion (λ x. test x ≡ false) xs
 none_of test [] e = tt
@@ -113,15 +115,15 @@ none_of test (x ∷ xs) e =
       | false ↦ λ is. (is, none_of test xs (sym (ap (λ b. b || list_any test xs) is) ∙ e))
     ] refl
 
--- what holds of all runs and legs holds of each
+-- a property of all runs and legs holds of each
 pub each_holder : (P : Holder → Type 0) (runs : List RunState) (h : Holder) → AllByRecursion P (all_holders runs) → IsOneOf runs h → P h
-each_holder P runs (Holder.a_run r) all there =
-    let of_runs = (each_of_append P (map (λ x. Holder.a_run x.0) (placed runs)) (map (λ p. Holder.a_leg p) (leg_places runs)) all).0 in
-    each_of_placed (λ (x : ℕ × RunState). P (Holder.a_run x.0)) runs r there.0
-    (each_of_map P (λ (x : ℕ × RunState). Holder.a_run x.0) (placed runs) of_runs) there.1
-each_holder P runs (Holder.a_leg p) all there =
-    let of_legs = (each_of_append P (map (λ x. Holder.a_run x.0) (placed runs)) (map (λ p. Holder.a_leg p) (leg_places runs)) all).1 in
-    each_leg_place (λ q. P (Holder.a_leg q)) runs p there.0 (each_of_map P (λ q. Holder.a_leg q) (leg_places runs) of_legs) there.1
+each_holder P runs (Run r) all there =
+    let of_runs = (each_of_append P (map (λ x. Run x.0) (placed runs)) (map (λ p. Leg p) (leg_places runs)) all).0 in
+    each_of_placed (λ (x : ℕ × RunState). P (Run x.0)) runs r there.0
+    (each_of_map P (λ (x : ℕ × RunState). Run x.0) (placed runs) of_runs) there.1
+each_holder P runs (Leg p) all there =
+    let of_legs = (each_of_append P (map (λ x. Run x.0) (placed runs)) (map (λ p. Leg p) (leg_places runs)) all).1 in
+    each_leg_place (λ q. P (Leg q)) runs p there.0 (each_of_map P (λ q. Leg q) (leg_places runs) of_legs) there.1
 
 pub not_taken : (runs : List RunState) (g : Group) (h : Holder) → is_taken runs g ≡ false → is_running_in runs g h ≡ true → ⊥
 not_taken runs g h free e =
@@ -130,16 +132,16 @@ not_taken runs g h free e =
     (sym e
     ∙ each_holder (λ k. is_running_in runs g k ≡ false) runs h none (one_that_holds runs h (and_parts (is_in runs g h) (holds runs h) e).1))
 
--- ---- a holder starts, where nothing keeps it back
+-- ---- a holder starts
 
--- nobody runs in the group of one that may start
+-- no holder runs in the group of one that may start
 pub free_to_start : (runs : List RunState) (g : Group) (h k : Holder) → may_start runs h ≡ true → is_in runs g h ≡ true
     → is_running_in runs g k ≡ true → ⊥
 free_to_start runs g h k may e running =
     let at = ap (λ o. option_map_or (λ v. not (is_taken runs v)) o true) (group_is runs g h e) in
     not_taken runs g k (not-true (is_taken runs g) (sym at ∙ may)) running
 
--- nobody else waits or holds who did not before
+-- every other holder waits or holds only if it did before
 pub record Starts (runs next : List RunState) (one : Holder) : Type 0 where
   pub waited : (h : Holder) → waits next h ≡ true → waits runs h ≡ true
   pub held : (h : Holder) → holds next h ≡ true → (h ≡ one) ⊎ (holds runs h ≡ true)
@@ -174,7 +176,7 @@ module _ (runs next : List RunState) (one : Holder) (stays : GroupsStay runs nex
     running = one_runs each;
   }
 
--- ---- an arrival, once nobody else is pending in the newcomer's group
+-- ---- an arrival, once no other holder is pending in the newcomer's group
 
 pub besides_fades : (runs next : List RunState) (one : Holder) → GroupsStay runs next → Fades runs next → HasOneBeside runs one
     → HasOneBeside next one
@@ -184,7 +186,7 @@ besides_fades runs next one stays fades each = record {
   running = (λ g h k e f. each.running g h k (was_running runs next stays fades g h e) (was_running runs next stays fades g k f));
 }
 
--- the newcomer waits, and nobody else waits or holds who did not before
+-- the newcomer waits, and every other holder waits or holds only if it did before
 pub record Comes (runs next : List RunState) (one : Holder) : Type 0 where
   pub waited : (h : Holder) → waits next h ≡ true → (h ≡ one) ⊎ (waits runs h ≡ true)
   pub held : (h : Holder) → holds next h ≡ true → holds runs h ≡ true
@@ -211,12 +213,12 @@ module _ (runs next : List RunState) (one : Holder) (stays : GroupsStay runs nex
 -- ---- no runs
 
 nobody_waits : (h : Holder) → waits [] h ≡ true → ⊥
-nobody_waits (Holder.a_run r) e = cc
-nobody_waits (Holder.a_leg p) e = cc
+nobody_waits (Run r) e = cc
+nobody_waits (Leg p) e = cc
 
 nobody_holds : (h : Holder) → holds [] h ≡ true → ⊥
-nobody_holds (Holder.a_run r) e = cc
-nobody_holds (Holder.a_leg p) e = cc
+nobody_holds (Run r) e = cc
+nobody_holds (Leg p) e = cc
 
 pub none_of_each : HasOneEach []
 none_of_each = record {

@@ -1,16 +1,49 @@
 -- The legs of a table with their places: each is the leg that stands at its place, and each leg of the table is among them.
-use Rattle.std.specs.Prelude.{◌≡◌, ℕ, List, [], ◌∷◌, ◌++◌, map, flat_map, Some, option_and_then, slice_get, refl}
-use Rattle.std.specs.List.{AllByRecursion}
-use Rattle.std.proofs.Common.{ap, ap₂, ◌∙◌}
+use Rattle.std.specs.Prelude.{◌≡◌, ℕ, ◌+◌, ◌<◌, ◌≤◌, List, [], ◌∷◌, ◌++◌, length, map, flat_map, Bool, Option, None, Some, option_and_then, slice_get, if◌then◌else◌, refl}
+use Rattle.std.specs.List.{AllByRecursion, enumerate_from}
+use Rattle.std.specs.Option.{option_or}
+use Rattle.std.proofs.Common.{arith, ap, ap₂, ◌∙◌}
 use Rattle.std.proofs.lemmas.List.{map-append}
-use Rattle.workflow_runs.specs.FirstOf.{placed}
-use Rattle.workflow_runs.specs.PlacedLegs.{PlacedLeg, placed_leg, placed_legs, placed_legs_of_job, placed_legs_of_run}
-use Rattle.workflow_runs.specs.Places.{LegPlace, leg_at, leg_place, leg_places, leg_places_of_job, leg_places_of_run}
-use Rattle.workflow_runs.specs.RunState.{LegState, JobState, RunState}
-use Rattle.workflow_runs.proofs.Found.{all_flat_map, all_weaken, each_of_flat_map, each_of_map, each_of_placed, placed_get}
-use Rattle.workflow_runs.proofs.JobKeeps.{leg_in}
+use Rattle.run_states.specs.FirstOf.{first_some, placed}
+use Rattle.run_states.specs.PlacedLegs.{PlacedLeg, placed_leg, placed_legs, placed_legs_of_job, placed_legs_of_run}
+use Rattle.run_states.specs.Places.{leg_at, leg_place, leg_places, leg_places_of_job, leg_places_of_run}
+use Rattle.run_states.specs.declared.place.LegPlace.{LegPlace}
+use Rattle.run_states.specs.RunState.{LegState, JobState, RunState}
+use Rattle.run_states.proofs.Found.{all_flat_map, all_weaken, each_of_flat_map, each_of_map, each_of_placed, placed_get}
+use Rattle.run_states.proofs.JobKeeps.{leg_in}
 
--- ---- their places are those of all legs
+-- ---- the first leg of a job that passes a test
+
+-- what is given for the first of these legs that passes it
+abbrev pub first_passing : {Y : Type 0} → (LegPlace → LegState → Bool) → (LegPlace → Y) → List PlacedLeg → Option Y
+first_passing test give legs = first_some (λ x. if test x.place x.leg then Some (give x.place) else None) legs
+
+first_some-map : {X Y Z : Type 0} (f : Y → Option Z) (g : X → Y) (xs : List X) → first_some f (map g xs) ≡ first_some (λ x. f (g x)) xs
+first_some-map f g [] = refl
+first_some-map f g (x ∷ xs) = ap (option_or (f (g x))) (first_some-map f g xs)
+
+pub first_passing_in_job : {Y : Type 0} (test : LegPlace → LegState → Bool) (give : LegPlace → Y) (r j : ℕ) (legs : List LegState)
+    → first_passing test give (map (placed_leg r j) (placed legs))
+    ≡ first_some (λ l. if test (leg_place r j l.0) l.1 then Some (give (leg_place r j l.0)) else None) (placed legs)
+first_passing_in_job test give r j legs = first_some-map (λ x. if test x.place x.leg then Some (give x.place) else None) (placed_leg r j) (placed legs)
+
+-- a place of one of the first legs of a job
+pub record IsInJob (r j most : ℕ) (p : LegPlace) : Type 0 where
+  pub run : p.run ≡ r
+  pub job : p.job ≡ j
+  pub leg : p.leg < most
+
+from_in_job : (r j most n : ℕ) (legs : List LegState) → n + length legs ≤ most
+    → AllByRecursion (λ (x : PlacedLeg). IsInJob r j most x.place) (map (placed_leg r j) (enumerate_from n legs))
+from_in_job r j most n [] le = tt
+from_in_job r j most n (leg ∷ legs) le =
+    (record { run = refl; job = refl; leg = omega (arith, le) }, from_in_job r j most (n + 1) legs (omega (arith, le)))
+
+pub all_in_job : (r j most : ℕ) (legs : List LegState) → length legs ≤ most
+    → AllByRecursion (λ (x : PlacedLeg). IsInJob r j most x.place) (map (placed_leg r j) (placed legs))
+all_in_job r j most legs le = from_in_job r j most 0 legs (omega (arith, le))
+
+-- ---- their places are the places of all legs
 
 map_map : {X Y Z : Type 0} (g : Y → Z) (f : X → Y) (xs : List X) → map g (map f xs) ≡ map (λ x. g (f x)) xs
 map_map g f [] = refl
@@ -29,13 +62,13 @@ places_of_run r =
 pub places_of_all : (runs : List RunState) → map (λ (x : PlacedLeg). x.place) (placed_legs runs) ≡ leg_places runs
 places_of_all runs = map_flat_map (λ (x : PlacedLeg). x.place) placed_legs_of_run leg_places_of_run places_of_run (placed runs)
 
--- ---- each stands at its place
+-- ---- each is at its place
 
 all_mapped : {X Y : Type 0} (P : Y → Type 0) (f : X → Y) (xs : List X) → AllByRecursion (λ x. P (f x)) xs → AllByRecursion P (map f xs)
 all_mapped P f [] h = tt
 all_mapped P f (x ∷ xs) h = (h.0, all_mapped P f xs h.1)
 
--- what holds of each leg that stands in a run
+-- a property of each leg of a run
 module _ (P : PlacedLeg → Type 0) (r : ℕ) (run : RunState)
     (holds : (j l : ℕ) (job : JobState) (leg : LegState) → slice_get run.jobs j ≡ Some job → slice_get job.legs l ≡ Some leg
     → P (placed_leg r j (l, leg))) where
@@ -69,7 +102,7 @@ module _ (runs : List RunState) where
       (λ r at_run. each_in_run IsThere r.0 r.1 (λ j l job leg at_job at_leg. leg_there runs r.0 j r.1 job at_run at_job l leg at_leg))
       (placed runs) (placed_get runs))
 
--- ---- what holds of all of them holds of each leg of the table
+-- ---- a property of all of them holds of each leg of the table
 
 pub each_placed : (P : PlacedLeg → Type 0) (runs : List RunState) (p : LegPlace) (z : LegState) → AllByRecursion P (placed_legs runs)
     → leg_at runs p ≡ Some z → P (record { place = p; leg = z })

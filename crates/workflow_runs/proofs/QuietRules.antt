@@ -1,65 +1,68 @@
--- A rule that frees nobody changes its own job or run alone, and keeps back who was kept back.
+-- A rule that releases no holder changes only its own job or run, and every holder that was held back still is.
 use Rattle.std.specs.Prelude.{◌≡◌, ℕ, List, [], ◌&&◌, Bool, true, false, is_some, Option, Some, None, slice_get, refl}
 use Rattle.std.specs.Option.{option_map_or}
 use Rattle.std.proofs.Common.{ap, sym, ◌∙◌, subst, inl, inr}
 use Rattle.std.proofs.lemmas.Bool.{cases_eq}
 use Rattle.wf_value.specs.declared.outcome.Outcome.TheVariants as outcome
 use Rattle.group_name.specs.Group.{Group}
-use Rattle.workflow_runs.specs.Arrivals.{arrived}
-use Rattle.workflow_runs.specs.GroupOf.{group_at}
-use Rattle.workflow_runs.specs.Groups.{holds, leg_holds}
-use Rattle.workflow_runs.specs.LookAgain.{is_new_at, makes_room, may_wake_others}
-use Rattle.workflow_runs.specs.Moves.{Holder, Transition}
-use Rattle.workflow_runs.specs.Places.{LegPlace, job_at, leg_at, with_job, with_run}
-use Rattle.workflow_runs.specs.Rules.{decided, result_at, rule_at, with_leg_in}
-use Rattle.workflow_runs.specs.Settling.{first_place}
-use Rattle.workflow_runs.specs.StateWords.{is_blocked, is_live, is_new, leg_in_phase, run_in_phase, settled_as}
-use Rattle.workflow_runs.specs.RunState.{LegState, JobState, RunState}
-use Rattle.workflow_runs.specs.Words.{planned_legs}
-use Rattle.workflow_runs.specs.declared.phases.LegPhase.{LegPhase}
-use Rattle.workflow_runs.specs.declared.phases.LegPhase.TheVariants as leg
-use Rattle.workflow_runs.specs.declared.phases.RunPhase.TheVariants as run
-use Rattle.workflow_runs.specs.declared.place.Place.{Place}
-use Rattle.workflow_runs.specs.declared.place.Place.TheVariants.{Opening, AtLeg, Closing, Whole}
-use Rattle.workflow_runs.proofs.Changed.{at_another}
+use Rattle.run_states.specs.Arrivals.{arrived}
+use Rattle.run_states.specs.GroupOf.{group_at}
+use Rattle.run_states.specs.Groups.{holds, leg_holds}
+use Rattle.run_states.specs.Resuming.{is_new_at, makes_room, may_wake_others}
+use Rattle.run_states.specs.Moves.{Transition}
+use Rattle.run_states.specs.Places.{job_at, leg_at, with_job, with_run}
+use Rattle.run_states.specs.declared.place.LegPlace.{LegPlace}
+use Rattle.run_states.specs.Rules.{decided, result_at, rule_at, with_leg_in}
+use Rattle.run_states.specs.RunState.{LegState, JobState, RunState}
+use Rattle.run_states.specs.Settling.{first_place}
+use Rattle.run_states.specs.StateWords.{is_blocked, is_live, is_new, leg_in_phase, run_in_phase, settled_as}
+use Rattle.run_states.specs.Words.{planned_legs}
+use Rattle.run_states.specs.declared.phases.LegPhase.{LegPhase}
+use Rattle.run_states.specs.declared.phases.LegPhase.TheVariants as leg
+use Rattle.run_states.specs.declared.phases.RunPhase.TheVariants as run
+use Rattle.run_states.specs.declared.place.RuleSite.{RuleSite}
+use Rattle.run_states.specs.declared.place.RuleSite.TheVariants.{Opening, AtLeg, Closing, Whole}
+use Rattle.run_states.proofs.Changed.{at_another}
+use Rattle.run_states.proofs.JobKeeps.{job_in, with_leg_of}
+use Rattle.run_states.proofs.JobPhases.{is_blocked_blocked, no_legs}
+use Rattle.run_states.proofs.RunFits.{RunsFit}
 use Rattle.workflow_runs.proofs.EachRule.{EachRule, by_rule}
 use Rattle.workflow_runs.proofs.GroupStays.{leg_cancels_stays, leg_group_stays}
 use Rattle.workflow_runs.proofs.HoldersFade.{leg_passes, passes}
-use Rattle.workflow_runs.proofs.JobKeeps.{job_in, with_leg_of}
-use Rattle.workflow_runs.proofs.JobPhases.{is_blocked_blocked, no_legs}
 use Rattle.workflow_runs.proofs.KeptBack.{KeepsBack, StillHold, job_still_holds, kept_back, leg_still_holds, legs_still_hold, passed_on}
 use Rattle.workflow_runs.proofs.LivePlaces.{first_place_is_live}
 use Rattle.workflow_runs.proofs.NoRoomMade.{no_room_made}
 use Rattle.workflow_runs.proofs.OneEach.{groups_stay}
 use Rattle.workflow_runs.proofs.OneEachRules.{newcomer_comes}
 use Rattle.workflow_runs.proofs.RuleKeeps.{newcomer_waits, rule_settles}
-use Rattle.workflow_runs.proofs.RunFits.{RunsFit}
+use Rattle.run_states.specs.declared.holder.Holder.{Holder}
+use Rattle.run_states.specs.declared.holder.Holder.TheVariants.{Run, Leg}
 
--- a place of the job
-abbrev pub IsAt : ℕ → ℕ → Place → Type 0
+-- the place is in job `j` of run `r`
+abbrev pub IsAt : ℕ → ℕ → RuleSite → Type 0
 IsAt r j (Opening s k) = (s ≡ r) × (k ≡ j)
 IsAt r j (AtLeg p) = (p.run ≡ r) × (p.job ≡ j)
 IsAt r j (Closing s k) = (s ≡ r) × (k ≡ j)
 IsAt r j (Whole s) = ⊥
 
--- ---- a leg arrives alone
+-- ---- a leg arrives without affecting others
 
 no_room : (new makes : Bool) → new ≡ true → (new && makes) ≡ false → makes ≡ false
 no_room true makes e quiet = quiet
 no_room false makes e quiet = cc
 
--- for whom nobody makes room leaves all others as they are
+-- a leg whose arrival affects no other holder leaves all others as they are
 arrives_alone : (runs : List RunState) (p : LegPlace) (z : LegState) → RunsFit runs → leg_at runs p ≡ Some z → z.phase ≡ leg.New
-    → may_wake_others runs (AtLeg p) ≡ false → with_leg_in leg.Waiting p runs ≡ (arrived (Holder.a_leg p) (with_leg_in leg.Waiting p runs)).runs
+    → may_wake_others runs (AtLeg p) ≡ false → with_leg_in leg.Waiting p runs ≡ (arrived (Leg p) (with_leg_in leg.Waiting p runs)).runs
 arrives_alone runs p z fit was is quiet =
     let next = with_leg_in leg.Waiting p runs in
     let new : is_new_at runs p ≡ true = ap (λ o. option_map_or (λ (l : LegState). is_new l.phase) o false) was ∙ ap is_new is in
-    let none = no_room (is_new_at runs p) (makes_room runs (Holder.a_leg p)) new quiet in
+    let none = no_room (is_new_at runs p) (makes_room runs (Leg p)) new quiet in
     let stay = (newcomer_waits runs p z fit was is).stay in
-    sym (no_room_made runs next (Holder.a_leg p) (groups_stay runs next fit stay) (newcomer_comes runs p z was)
+    sym (no_room_made runs next (Leg p) (groups_stay runs next fit stay) (newcomer_comes runs p z was)
     (leg_group_stays runs next fit stay p z was) (leg_cancels_stays runs next fit stay p z was) none)
 
--- ---- a rule at a job changes that job alone, one of a run itself that run
+-- ---- a rule at a job changes only that job, and a rule of a run itself only that run
 
 pub record ChangesJob (runs next : List RunState) (r j : ℕ) : Type 0 where
   pub change : JobState → JobState
@@ -69,7 +72,7 @@ pub record ChangesRun (runs next : List RunState) (r : ℕ) : Type 0 where
   pub change : RunState → RunState
   pub is : with_run r change runs ≡ next
 
-abbrev ChangesThere : List RunState → List RunState → Place → Type 0
+abbrev ChangesThere : List RunState → List RunState → RuleSite → Type 0
 ChangesThere runs next (Opening r j) = ChangesJob runs next r j
 ChangesThere runs next (AtLeg p) = ChangesJob runs next p.run p.job
 ChangesThere runs next (Closing r j) = ChangesJob runs next r j
@@ -88,7 +91,7 @@ each_changes runs fit = record {
   run_ends = (λ r x was is all quiet. record { change = run_in_phase run.Ended; is = refl });
 }
 
-changes_there : (runs : List RunState) (m : Transition) (p : Place) → RunsFit runs → may_wake_others runs p ≡ false → rule_at runs p ≡ Some m
+changes_there : (runs : List RunState) (m : Transition) (p : RuleSite) → RunsFit runs → may_wake_others runs p ≡ false → rule_at runs p ≡ Some m
     → ChangesThere runs m.runs p
 changes_there runs m p fit quiet is =
     by_rule runs (λ at made. may_wake_others runs at ≡ false → ChangesThere runs made.runs at) (each_changes runs fit) m p is quiet
@@ -97,21 +100,21 @@ at_this_job : (runs next : List RunState) (s k r j : ℕ) → s ≡ r → k ≡ 
 at_this_job runs next s k r j same_run same_job changes =
     subst (λ b. ChangesJob runs next r b) same_job (subst (λ a. ChangesJob runs next a k) same_run changes)
 
-in_this_job : (runs next : List RunState) (p : Place) (r j : ℕ) → IsAt r j p → ChangesThere runs next p → ChangesJob runs next r j
+in_this_job : (runs next : List RunState) (p : RuleSite) (r j : ℕ) → IsAt r j p → ChangesThere runs next p → ChangesJob runs next r j
 in_this_job runs next (Opening s k) r j at changes = at_this_job runs next s k r j at.0 at.1 changes
 in_this_job runs next (AtLeg p) r j at changes = at_this_job runs next p.run p.job r j at.0 at.1 changes
 in_this_job runs next (Closing s k) r j at changes = at_this_job runs next s k r j at.0 at.1 changes
 in_this_job runs next (Whole s) r j at changes = absurd at
 
-pub quiet_at_job : (runs : List RunState) (m : Transition) (p : Place) (r j : ℕ) → RunsFit runs → IsAt r j p → may_wake_others runs p ≡ false
+pub quiet_at_job : (runs : List RunState) (m : Transition) (p : RuleSite) (r j : ℕ) → RunsFit runs → IsAt r j p → may_wake_others runs p ≡ false
     → rule_at runs p ≡ Some m → ChangesJob runs m.runs r j
 quiet_at_job runs m p r j fit at quiet is = in_this_job runs m.runs p r j at (changes_there runs m p fit quiet is)
 
-pub quiet_in_run : (runs : List RunState) (m : Transition) (p : Place) (r : ℕ) → RunsFit runs → p ≡ Whole r → may_wake_others runs p ≡ false
+pub quiet_in_run : (runs : List RunState) (m : Transition) (p : RuleSite) (r : ℕ) → RunsFit runs → p ≡ Whole r → may_wake_others runs p ≡ false
     → rule_at runs p ≡ Some m → ChangesRun runs m.runs r
 quiet_in_run runs m p r fit whole quiet is = subst (ChangesThere runs m.runs) whole (changes_there runs m p fit quiet is)
 
--- ---- nobody lets his group go
+-- ---- no holder releases its group
 
 no_leg_holds : (legs : List LegState) (l : ℕ) → legs ≡ [] → passes (leg_passes leg_holds) (slice_get legs l) ≡ true → ⊥
 no_leg_holds legs l none e =
@@ -129,9 +132,9 @@ opening_holds runs r j y change fit was blocked =
 
 live_still_holds : (runs : List RunState) (r : ℕ) (h : Holder) → holds runs h ≡ true
     → holds (with_run r (run_in_phase run.Live) runs) h ≡ true
-live_still_holds runs r (Holder.a_run s) e =
+live_still_holds runs r (Run s) e =
     passed_on (λ (x : RunState). is_live x.phase) (run_in_phase run.Live) r runs (λ x at now. refl) s e
-live_still_holds runs r (Holder.a_leg p) e = legs_still_hold (run_in_phase run.Live) r runs p (λ x at now. now) e
+live_still_holds runs r (Leg p) e = legs_still_hold (run_in_phase run.Live) r runs p (λ x at now. now) e
 
 no_group : (live : Bool) (o : Option Group) → live ≡ true → (live && is_some o) ≡ false → o ≡ None
 no_group true None e f = refl
@@ -141,17 +144,17 @@ no_group false o e f = cc
 not_both : (o : Option Group) (g : Group) → o ≡ None → o ≡ Some g → ⊥
 not_both o g e f = let bad : None ≡ Some g = sym e ∙ f in cc
 
-ended_still_holds : (runs : List RunState) (r : ℕ) → group_at runs (Holder.a_run r) ≡ None
+ended_still_holds : (runs : List RunState) (r : ℕ) → group_at runs (Run r) ≡ None
     → StillHold runs (with_run r (run_in_phase run.Ended) runs)
-ended_still_holds runs r none (Holder.a_run s) g of e =
+ended_still_holds runs r none (Run s) g of e =
     elim (cases_eq s r) [
       | inl same ↦
-          absurd (not_both (group_at runs (Holder.a_run r)) g none (ap (λ (v : ℕ). group_at runs (Holder.a_run v)) (sym same) ∙ of))
+          absurd (not_both (group_at runs (Run r)) g none (ap (λ (v : ℕ). group_at runs (Run v)) (sym same) ∙ of))
       | inr other ↦ ap (passes (λ (x : RunState). is_live x.phase)) (at_another r (run_in_phase run.Ended) runs s other) ∙ e
     ]
-ended_still_holds runs r none (Holder.a_leg p) g of e = legs_still_hold (run_in_phase run.Ended) r runs p (λ x at now. now) e
+ended_still_holds runs r none (Leg p) g of e = legs_still_hold (run_in_phase run.Ended) r runs p (λ x at now. now) e
 
--- a leg that did not hold its group goes on
+-- a leg that does not hold its group advances
 leg_goes_still : (runs : List RunState) (p : LegPlace) (z : LegState) (to : LegPhase) → leg_at runs p ≡ Some z → leg_holds z.phase ≡ false
     → StillHold runs (with_leg_in to p runs)
 leg_goes_still runs p z to was held_not h g of e = leg_still_holds runs p z (leg_in_phase to) was held_not h e
@@ -168,11 +171,11 @@ each_still_holds runs fit = record {
       job_still_holds runs r j (settled_as (result_at runs r j y)) (λ v at l now. now) h e);
   run_starts = (λ r x was is may quiet h g of e. live_still_holds runs r h e);
   run_ends = (λ r x was is all quiet.
-      let live : holds runs (Holder.a_run r) ≡ true = ap (passes (λ (v : RunState). is_live v.phase)) was ∙ ap is_live is in
-      ended_still_holds runs r (no_group (holds runs (Holder.a_run r)) (group_at runs (Holder.a_run r)) live quiet));
+      let live : holds runs (Run r) ≡ true = ap (passes (λ (v : RunState). is_live v.phase)) was ∙ ap is_live is in
+      ended_still_holds runs r (no_group (holds runs (Run r)) (group_at runs (Run r)) live quiet));
 }
 
-pub quiet_keeps_back : (runs : List RunState) (m : Transition) (p : Place) → RunsFit runs → first_place runs ≡ Some p → rule_at runs p ≡ Some m
+pub quiet_keeps_back : (runs : List RunState) (m : Transition) (p : RuleSite) → RunsFit runs → first_place runs ≡ Some p → rule_at runs p ≡ Some m
     → may_wake_others runs p ≡ false → KeepsBack runs m.runs
 quiet_keeps_back runs m p fit first is quiet =
     kept_back runs m.runs (groups_stay runs m.runs fit (rule_settles runs m p fit (first_place_is_live runs p first) is).stay)

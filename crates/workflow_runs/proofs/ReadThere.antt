@@ -1,4 +1,4 @@
--- What a look at a place of a borrowed list finds, said of the list itself.
+-- Reading a borrowed list at an index gives the element of the list itself.
 use Rattle.std.specs.Prelude.{◌≡◌, ◌<◌, ℕ, List, Some, length, slice_get, get_or, refl}
 use Rattle.std.proofs.Common.{ap, sym, ◌∙◌}
 use Rattle.std.proofs.lemmas.Option.{slice_get_read}

@@ -1,28 +1,30 @@
--- A leg that is ready after a change of a run was ready before, but for the one that the change makes ready.
+-- A leg that is ready after a change of a run was ready before, except the one that the change makes ready.
 use Rattle.std.specs.Prelude.{◌≡◌, ◌⊎◌, ℕ, List, Bool, true, false, Option, Some, None, if◌then◌else◌, refl}
 use Rattle.std.proofs.Common.{ap, subst, sym, ◌∙◌, inl, inr}
 use Rattle.std.proofs.lemmas.Bool.{false≢true}
 use Rattle.run_plan.specs.PlanOf.{plan_of}
-use Rattle.workflow_runs.specs.Changes.{changed}
-use Rattle.workflow_runs.specs.Fitting.{is_ready}
-use Rattle.workflow_runs.specs.LabelNumbers.{IsReadyAt, offered_by}
-use Rattle.workflow_runs.specs.Places.{LegPlace, leg_at, leg_place, with_leg, with_run}
-use Rattle.workflow_runs.specs.RunState.{LegState, RunState}
-use Rattle.workflow_runs.specs.Settling.{legs_in_plan}
-use Rattle.workflow_runs.specs.StateWords.{opened, run_in_phase, settled_as}
-use Rattle.workflow_runs.specs.Stops.{stopped_phase}
-use Rattle.workflow_runs.specs.declared.change.Change.{Change}
-use Rattle.workflow_runs.specs.declared.change.Change.TheVariants as change
-use Rattle.workflow_runs.specs.declared.phases.LegPhase.{LegPhase}
-use Rattle.workflow_runs.specs.declared.phases.LegPhase.TheVariants as leg
+use Rattle.run_states.specs.Changes.{changed}
+use Rattle.run_states.specs.Changes.{offered_by}
+use Rattle.run_states.specs.Fitting.{is_ready}
+use Rattle.run_states.specs.Places.{leg_at, leg_place, with_leg, with_run}
+use Rattle.run_states.specs.declared.place.LegPlace.{LegPlace}
+use Rattle.run_states.specs.RunState.{LegState, RunState}
+use Rattle.run_states.specs.Settling.{legs_in_plan}
+use Rattle.run_states.specs.StateWords.{opened, run_in_phase, settled_as}
+use Rattle.run_states.specs.Stops.{stopped_phase}
+use Rattle.run_states.specs.declared.change.Change.{Change}
+use Rattle.run_states.specs.declared.change.Change.TheVariants as change
+use Rattle.run_states.specs.declared.phases.LegPhase.{LegPhase}
+use Rattle.run_states.specs.declared.phases.LegPhase.TheVariants as leg
+use Rattle.run_states.proofs.JobKeeps.{leg_elsewhere, leg_in, with_job_of, with_leg_of}
+use Rattle.run_states.proofs.LeaseReads.{place_or_another}
+use Rattle.run_states.proofs.Transitions.{with_leg_none}
+use Rattle.run_bindings.specs.LabelNumbers.{IsReadyAt}
 use Rattle.workflow_runs.proofs.HoldersFade.{Weakens, job_passes, leg_before, leg_change_weakens, leg_passes, legs_weaken, passed_changed}
 use Rattle.workflow_runs.proofs.HoldersFade.{passes, stop_weakens}
-use Rattle.workflow_runs.proofs.JobKeeps.{leg_elsewhere, leg_in, with_job_of, with_leg_of}
-use Rattle.workflow_runs.proofs.LeaseReads.{place_or_another}
 use Rattle.workflow_runs.proofs.OneEachRules.{replicate_fails}
-use Rattle.workflow_runs.proofs.Transitions.{with_leg_none}
 
--- the leg that is made ready, or one that was ready before
+-- the leg that becomes ready, or one that was ready before
 abbrev pub WasReady : List RunState → Option LegPlace → LegPlace → Type 0
 WasReady runs one p = (one ≡ Some p) ⊎ IsReadyAt runs p
 
@@ -34,7 +36,7 @@ stopped_ready leg.Running e = cc
 stopped_ready leg.Stopping e = cc
 stopped_ready (leg.Ended r) e = cc
 
--- ---- a leg is put in the place of another
+-- ---- a leg is replaced
 
 module _ (runs : List RunState) (p : LegPlace) (z : LegState) where
   put_ready : (q : LegPlace) → IsReadyAt (with_leg p (λ _. z) runs) q → WasReady runs (Some p) q

@@ -1,15 +1,15 @@
--- Settling comes to an end, and then no rule applies.
+-- Settling terminates, and then no rule applies.
 use Rattle.std.specs.Prelude.{◌≡◌, ℕ, zero, suc, ◌≤◌, ◌++◌, List, Bool, true, is_some, Option, Some, None, option_and_then, refl}
 use Rattle.std.specs.Option.{option_map_or}
 use Rattle.std.proofs.Common.{arith, ap, sym, ◌∙◌}
-use Rattle.workflow_runs.specs.Moves.{Transition, and_then, without_moves}
-use Rattle.workflow_runs.specs.Rules.{rule_at}
-use Rattle.workflow_runs.specs.Settling.{applies, first_place, first_rule, remaining_phases, settled_within, settled, settling}
-use Rattle.workflow_runs.specs.RunState.{RunState}
+use Rattle.run_states.specs.Moves.{Transition, and_then, without_moves}
+use Rattle.run_states.specs.Rules.{rule_at}
+use Rattle.run_states.specs.RunState.{RunState}
+use Rattle.run_states.specs.Settling.{applies, first_place, first_rule, remaining_phases, settled_within, settled, settling}
 use Rattle.workflow_runs.proofs.LivePlaces.{first_place_applies}
 use Rattle.workflow_runs.proofs.Lowered.{first_rule_lowers}
 
--- with nothing left there is no rule
+-- if no phase remains, no rule applies
 nothing_left : (runs : List RunState) → remaining_phases runs ≤ 0 → first_rule runs ≡ None
 nothing_left runs h =
     elim (first_rule runs) as (λ o. first_rule runs ≡ o → o ≡ None) [
@@ -17,7 +17,7 @@ nothing_left runs h =
       | Some m ↦ λ is. absurd (omega (arith, first_rule_lowers runs m is))
     ] refl
 
--- what a rule and the settling after it make
+-- the result of a rule and of the settling after it
 abbrev going_on : ℕ → List RunState → Option Transition → Transition
 going_on n runs o = option_map_or (λ m. and_then m (settled_within n)) o (without_moves runs)
 
@@ -28,7 +28,7 @@ at_rest_already (suc n) runs h = ap (going_on n runs) h
 abbrev behind : Transition → Transition → Transition
 behind m rest = record { runs = rest.runs; moves = m.moves ++ rest.moves }
 
--- two counts that suffice give the same
+-- two bounds that are large enough give the same
 pub settled_enough : (n m : ℕ) (runs : List RunState) → remaining_phases runs ≤ n → remaining_phases runs ≤ m → settled_within n runs ≡ settled_within m runs
 settled_enough zero m runs hn hm = sym (at_rest_already m runs (nothing_left runs hn))
 settled_enough (suc n) zero runs hn hm = at_rest_already (suc n) runs (nothing_left runs hm)
@@ -40,7 +40,7 @@ settled_enough (suc n) (suc k) runs hn hm =
           ap (behind m) (settled_enough n k m.runs (omega (arith, lower)) (omega (arith, lower)))
     ] refl
 
--- the first rule, and then the settling of what it makes
+-- the first rule, followed by settling what it makes
 pub settling_by_rule : (runs : List RunState) (m : Transition) → first_rule runs ≡ Some m → settling runs ≡ and_then m settling
 settling_by_rule runs m is =
     let lower = first_rule_lowers runs m is in
@@ -48,11 +48,11 @@ settling_by_rule runs m is =
     ∙ ap (going_on (remaining_phases runs) runs) is
     ∙ ap (behind m) (settled_enough (remaining_phases runs) (remaining_phases m.runs) m.runs (omega (arith, lower)) (omega arith))
 
--- a rule more or less makes no difference
+-- one rule more or less makes no difference
 pub settled_after_rule : (runs : List RunState) (m : Transition) → first_rule runs ≡ Some m → settled runs ≡ settled m.runs
 settled_after_rule runs m is = ap (λ (s : Transition). s.runs) (settling_by_rule runs m is)
 
--- where no rule applies, nothing changes
+-- if no rule applies, nothing changes
 pub settling_at_rest : (runs : List RunState) → first_rule runs ≡ None → settling runs ≡ without_moves runs
 settling_at_rest runs h = at_rest_already (remaining_phases runs) runs h
 

@@ -1,4 +1,4 @@
--- The rule at each place keeps what the runs keep by themselves, and their leases.
+-- The rule at each place keeps what each run satisfies on its own, and the leases.
 use Rattle.std.specs.Prelude.{◌≡◌, ℕ, zero, suc, List, [], replicate, Bool, true, false, Option, Some, None, option_and_then}
 use Rattle.std.specs.Prelude.{slice_get, is_some, if◌then◌else◌, refl}
 use Rattle.std.specs.List.{list_all}
@@ -8,37 +8,39 @@ use Rattle.std.proofs.Math.ListN.{length-replicate}
 use Rattle.wf_value.specs.declared.outcome.JobResult.{JobResult}
 use Rattle.wf_value.specs.declared.outcome.JobResult.TheVariants as result
 use Rattle.wf_value.specs.declared.outcome.Outcome.TheVariants as outcome
-use Rattle.workflow_runs.specs.FirstOf.{changed_at}
-use Rattle.workflow_runs.specs.Places.{LegPlace, run_at, job_at, leg_at, with_run, with_job}
-use Rattle.workflow_runs.specs.Arrivals.{arrived}
-use Rattle.workflow_runs.specs.Moves.{Holder, Transition}
-use Rattle.workflow_runs.specs.Rules.{decided, may_run, result_at, rule_at, with_leg_in}
-use Rattle.workflow_runs.specs.StateWords.{leg_has_ended, is_done, is_open, is_settled, leg_in_phase, new_leg, opened, outcome_of}
-use Rattle.workflow_runs.specs.StateWords.{run_in_phase}
-use Rattle.workflow_runs.specs.StateWords.{settled_as}
-use Rattle.workflow_runs.specs.SoundRuns.{PhaseFits, MayLackLegs, LeaseFits}
-use Rattle.workflow_runs.specs.Parallel.{is_at_work}
-use Rattle.workflow_runs.specs.RunState.{LegState, JobState, RunState}
-use Rattle.workflow_runs.specs.Words.{needs_have_settled, is_stopping, planned_legs, settled_result}
-use Rattle.workflow_runs.specs.declared.phases.LegPhase.{LegPhase}
-use Rattle.workflow_runs.specs.declared.phases.LegPhase.TheVariants as leg
-use Rattle.workflow_runs.specs.declared.phases.JobPhase.{JobPhase}
-use Rattle.workflow_runs.specs.declared.phases.JobPhase.TheVariants as job
-use Rattle.workflow_runs.specs.declared.place.Place.{Place}
-use Rattle.workflow_runs.specs.declared.place.Place.TheVariants.{Opening}
-use Rattle.workflow_runs.specs.declared.phases.RunPhase.{RunPhase}
-use Rattle.workflow_runs.specs.declared.phases.RunPhase.TheVariants as run
+use Rattle.run_states.specs.Arrivals.{arrived}
+use Rattle.run_states.specs.FirstOf.{changed_at}
+use Rattle.run_states.specs.Moves.{Transition}
+use Rattle.run_states.specs.Parallel.{is_at_work}
+use Rattle.run_states.specs.Places.{run_at, job_at, leg_at, with_run, with_job}
+use Rattle.run_states.specs.declared.place.LegPlace.{LegPlace}
+use Rattle.run_states.specs.Rules.{decided, may_run, result_at, rule_at, with_leg_in}
+use Rattle.run_states.specs.RunState.{LegState, JobState, RunState}
+use Rattle.run_states.specs.SoundRuns.{PhaseFits, MayLackLegs, LeaseFits}
+use Rattle.run_states.specs.StateWords.{leg_has_ended, is_done, is_open, is_settled, leg_in_phase, new_leg, opened, outcome_of}
+use Rattle.run_states.specs.StateWords.{run_in_phase}
+use Rattle.run_states.specs.StateWords.{settled_as}
+use Rattle.run_states.specs.Words.{needs_have_settled, is_stopping, planned_legs, settled_result}
+use Rattle.run_states.specs.declared.phases.JobPhase.{JobPhase}
+use Rattle.run_states.specs.declared.phases.JobPhase.TheVariants as job
+use Rattle.run_states.specs.declared.phases.LegPhase.{LegPhase}
+use Rattle.run_states.specs.declared.phases.LegPhase.TheVariants as leg
+use Rattle.run_states.specs.declared.phases.RunPhase.{RunPhase}
+use Rattle.run_states.specs.declared.phases.RunPhase.TheVariants as run
+use Rattle.run_states.specs.declared.place.RuleSite.{RuleSite}
+use Rattle.run_states.specs.declared.place.RuleSite.TheVariants.{Opening}
+use Rattle.run_states.proofs.JobKeeps.{job_in, leg_in, live_fits, open_is_live, job_keeps, leg_settles}
+use Rattle.run_states.proofs.JobPhases.{all_legs, is_blocked_blocked, is_open_open, no_legs}
+use Rattle.run_states.proofs.LegReads.{work_of}
+use Rattle.run_states.proofs.Optional.{each_passes}
+use Rattle.run_states.proofs.RunFits.{JobFits, RunsFit, leases_fit}
+use Rattle.run_states.proofs.Settles.{Settles, one_settles, settles_on}
 use Rattle.workflow_runs.proofs.EachRule.{EachRule, by_rule}
 use Rattle.workflow_runs.proofs.HoldersKeep.{arrival_settles}
-use Rattle.workflow_runs.proofs.JobKeeps.{job_in, leg_in, live_fits, open_is_live, job_keeps, leg_settles}
-use Rattle.workflow_runs.proofs.JobPhases.{all_legs, is_blocked_blocked, is_open_open, no_legs}
-use Rattle.workflow_runs.proofs.LegReads.{work_of}
 use Rattle.workflow_runs.proofs.LivePlaces.{LivePlace}
-use Rattle.workflow_runs.proofs.Optional.{each_passes}
-use Rattle.workflow_runs.proofs.RunFits.{JobFits, RunsFit, leases_fit}
-use Rattle.workflow_runs.proofs.Settles.{Settles, one_settles, settles_on}
+use Rattle.run_states.specs.declared.holder.Holder.TheVariants.{Leg}
 
--- ---- a leg goes on
+-- ---- a leg advances
 
 pub record GoesOn (before after : LegPhase) (lease : Option ℕ) : Type 0 where
   pub unended : is_some (outcome_of before) ≡ false
@@ -75,7 +77,7 @@ waiting_starts leg.Running lease e fits = cc
 waiting_starts leg.Stopping lease e fits = cc
 waiting_starts (leg.Ended r) lease e fits = cc
 
--- the runs in which a leg that is new waits
+-- the runs in which a new leg has begun to wait
 pub newcomer_waits : (runs : List RunState) (p : LegPlace) (z : LegState) → RunsFit runs → leg_at runs p ≡ Some z → z.phase ≡ leg.New
     → Settles runs (with_leg_in leg.Waiting p runs)
 newcomer_waits runs p z fit was is = leg_goes runs p z leg.Waiting fit was (new_waits z.phase z.lease is (leases_fit runs fit p z was))
@@ -95,7 +97,7 @@ nothing_new f none (suc n) (suc l) = nothing_new f none n l
 nothing_there : (f : LegState → Option ℕ) (legs : List LegState) (l : ℕ) → legs ≡ [] → option_and_then f (slice_get legs l) ≡ None
 nothing_there f legs l none = ap (λ (xs : List LegState). option_and_then f (slice_get xs l)) none
 
--- what a blocked job is made
+-- what becomes of a blocked job
 abbrev made : Bool → ℕ → Bool → JobState → JobState
 made may planned stopping = if may then opened planned else settled_as (if stopping then result.Cancelled else result.Skipped)
 
@@ -144,7 +146,7 @@ opening_settles runs r j y fit live was blocked settled =
     (made_reads (λ (z : LegState). z.lease) refl (may_run runs r j) (planned_legs runs r j) (is_stopping runs r) y none)
     (made_reads work_of refl (may_run runs r j) (planned_legs runs r j) (is_stopping runs r) y none))
 
--- ---- a job settles
+-- ---- a job finishes
 
 closing_settles : (runs : List RunState) (r j : ℕ) (y : JobState) → RunsFit runs → job_at runs r j ≡ Some y → is_done y ≡ true
     → Settles runs (with_job r j (settled_as (result_at runs r j y)) runs)
@@ -166,7 +168,7 @@ closing_settles runs r j y fit was is =
       needs_first = (λ some. run_fits.needs_first j y at.job_is some);
     }) (λ l. refl) (λ l. refl))
 
--- ---- a run goes on
+-- ---- a run advances
 
 pub phase_settles : (runs : List RunState) (r : ℕ) (x : RunState) (to : RunPhase) → RunsFit runs → run_at runs r ≡ Some x
     → PhaseFits to x.stopping x.jobs → Settles runs (with_run r (run_in_phase to) runs)
@@ -198,7 +200,7 @@ each_settles runs fit = record {
   leg_arrives = (λ p z was is live.
       let waiting = with_leg_in leg.Waiting p runs in
       let first = newcomer_waits runs p z fit was is in
-      settles_on runs waiting (arrived (Holder.a_leg p) waiting).runs first (arrival_settles (Holder.a_leg p) waiting first.stay.fit));
+      settles_on runs waiting (arrived (Leg p) waiting).runs first (arrival_settles (Leg p) waiting first.stay.fit));
   leg_starts = (λ p z was is may live.
       leg_goes runs p z leg.Ready fit was (waiting_starts z.phase z.lease is (leases_fit runs fit p z was)));
   job_settles = (λ r j y was done live. closing_settles runs r j y fit was done);
@@ -206,7 +208,7 @@ each_settles runs fit = record {
   run_ends = (λ r x was is all live. phase_settles runs r x run.Ended fit was (λ j y at. each_passes is_settled x.jobs j y all at));
 }
 
-pub rule_settles : (runs : List RunState) (m : Transition) (place : Place) → RunsFit runs → LivePlace runs place → rule_at runs place ≡ Some m
+pub rule_settles : (runs : List RunState) (m : Transition) (place : RuleSite) → RunsFit runs → LivePlace runs place → rule_at runs place ≡ Some m
     → Settles runs m.runs
 rule_settles runs m place fit live h =
     by_rule runs (λ at made. LivePlace runs at → Settles runs made.runs) (each_settles runs fit) m place h live

@@ -1,4 +1,4 @@
--- The numbers that runs are kept with.
+-- The numbers with which runs are stored.
 use Rattle.std.specs.Prelude.{◌≡◌, ℕ, zero, suc, ◌+◌, ◌<◌, ◌&&◌, List, [], ◌∷◌, ◌++◌, map, length, take, count_by, cond, Bool, true}
 use Rattle.std.specs.Prelude.{Option, Some, None, option_map, slice_get, slice_set, Result, Ok, Err, OnOk, OnErr, refl}
 use Rattle.std.specs.List.{fold}
@@ -12,8 +12,8 @@ use Rattle.wf_value.specs.declared.refusal.Refusal.{Refusal}
 use Rattle.wf_value.proofs.PassedOn.{same_Ok}
 use Rattle.wf_reader.specs.Event.{event_of}
 use Rattle.run_plan.specs.Admitted.{Admitted}
-use Rattle.workflow_runs.specs.RunNumber.{events, same_workflow, run_number, numbers_after, AreNumbered}
-use Rattle.workflow_runs.specs.RunState.{RunState}
+use Rattle.run_states.specs.RunNumber.{events, same_workflow, run_number, numbers_after, AreNumbered}
+use Rattle.run_states.specs.RunState.{RunState}
 
 -- ---- counting
 
@@ -34,7 +34,7 @@ fold_of_map g f a (x ∷ xs) = fold_of_map g f (g a (f x)) xs
 pub count_of_map : {X Y : Type 0} (test : Y → Bool) (f : X → Y) (xs : List X) → count_by (λ x. test (f x)) xs ≡ count_by test (map f xs)
 count_of_map test f xs = fold_of_map (λ a y. a + cond (test y) 1 0) f 0 xs
 
--- ---- one run more
+-- ---- one more run
 
 after_more : (before es : List Admitted) (e : Admitted)
     → numbers_after before (es ++ e ∷ []) ≡ numbers_after before es ++ count_by (same_workflow e) (before ++ (es ++ e ∷ [])) ∷ []
@@ -58,7 +58,7 @@ one_more runs run numbers n room are is = record {
       ∙ ap (numbers_after []) (sym (map-append (λ (x : RunState). x.admitted) runs (run ∷ [])));
 }
 
--- a run that was added with its number, or neither
+-- either the run and its number are both added, or neither is
 pub added : {X : Type 0} (runs : List RunState) (run : RunState) (numbers : List ℕ) (n : ℕ) (new_runs : List RunState)
     (new_numbers : List ℕ) (result : Result X Refusal) → length runs < 100000 → AreNumbered runs numbers
     → n ≡ count_by (λ other. same_workflow run.admitted other.admitted) runs

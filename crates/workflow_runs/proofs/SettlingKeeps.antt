@@ -1,16 +1,16 @@
 -- Settling keeps what each rule keeps.
 use Rattle.std.specs.Prelude.{◌≡◌, ℕ, zero, suc, List, Some, None, refl}
 use Rattle.std.specs.Option.{option_map_or}
-use Rattle.workflow_runs.specs.Moves.{Transition, and_then, without_moves}
-use Rattle.workflow_runs.specs.Rules.{rule_at}
-use Rattle.workflow_runs.specs.Settling.{first_place, first_rule, remaining_phases, settled_within, settled}
-use Rattle.workflow_runs.specs.RunState.{RunState}
-use Rattle.workflow_runs.specs.declared.place.Place.{Place}
+use Rattle.run_states.specs.Moves.{Transition, and_then, without_moves}
+use Rattle.run_states.specs.Rules.{rule_at}
+use Rattle.run_states.specs.RunState.{RunState}
+use Rattle.run_states.specs.Settling.{first_place, first_rule, remaining_phases, settled_within, settled}
+use Rattle.run_states.specs.declared.place.RuleSite.{RuleSite}
+use Rattle.run_states.proofs.Optional.{from_and_then}
+use Rattle.run_states.proofs.RunFits.{RunsFit}
+use Rattle.run_states.proofs.Settles.{Settles, settles_nothing, settles_on}
 use Rattle.workflow_runs.proofs.LivePlaces.{LivePlace, first_place_is_live}
-use Rattle.workflow_runs.proofs.Optional.{from_and_then}
 use Rattle.workflow_runs.proofs.RuleKeeps.{rule_settles}
-use Rattle.workflow_runs.proofs.RunFits.{RunsFit}
-use Rattle.workflow_runs.proofs.Settles.{Settles, settles_nothing, settles_on}
 
 pub first_rule_settles : (runs : List RunState) (m : Transition) → RunsFit runs → first_rule runs ≡ Some m → Settles runs m.runs
 first_rule_settles runs m fit h =
@@ -33,9 +33,9 @@ settling_settles runs fit = settles_within (remaining_phases runs) runs fit
 
 -- ---- what each rule keeps
 
--- A rule that is taken at a live place keeps it.
+-- A rule that applies at a live place preserves the property.
 abbrev pub RulesKeep : (List RunState → Type 0) → Type 0
-RulesKeep Keeps = (runs : List RunState) (m : Transition) (place : Place) → RunsFit runs → LivePlace runs place → rule_at runs place ≡ Some m
+RulesKeep Keeps = (runs : List RunState) (m : Transition) (place : RuleSite) → RunsFit runs → LivePlace runs place → rule_at runs place ≡ Some m
     → Keeps runs → Keeps m.runs
 
 pub first_rule_keeps : (Keeps : List RunState → Type 0) → RulesKeep Keeps → (runs : List RunState) (m : Transition) → RunsFit runs

@@ -1,4 +1,4 @@
--- Whoever is in the group of a holder is in the slot of that group's number, or in a run that is marked.
+-- Each active holder of a holder's group is in the slot of that group's number, or in a marked run.
 use Rattle.std.specs.Prelude.{◌≡◌, ◌⊎◌, ℕ, ◌&&◌, List, [], not, true, false, Option, Some, None, option_and_then, slice_get}
 use Rattle.std.specs.Prelude.{refl}
 use Rattle.std.specs.Option.{option_map_or}
@@ -10,28 +10,28 @@ use Rattle.group_book.specs.Books.{HasEachOnce, group_at as group_of_number, slo
 use Rattle.group_book.specs.Slots.{HasPlace}
 use Rattle.group_book.specs.declared.slot.Slot.{Slot}
 use Rattle.run_marks.specs.Marked.{is_marked}
-use Rattle.workflow_runs.specs.Asks.{AreBound, asked_of}
-use Rattle.workflow_runs.specs.BoundGroups.{results_by_place}
+use Rattle.run_states.specs.GroupOf.{group_at}
+use Rattle.run_states.specs.GroupWords.{same_holder}
+use Rattle.run_states.specs.Groups.{holds, is_in, is_pending_in, is_running_in, waits}
+use Rattle.run_states.specs.Holders.{is_conflicting, run_of}
+use Rattle.run_states.specs.Places.{run_at}
+use Rattle.run_states.specs.RunState.{RunState}
+use Rattle.run_states.specs.declared.holder.HolderFilter.{HolderFilter}
+use Rattle.run_states.specs.declared.holder.HolderFilter.TheVariants.{OthersPending, Running}
+use Rattle.run_states.proofs.Optional.{from_and_then}
+use Rattle.run_bindings.specs.Bindings.{AreBound, group_request_of}
+use Rattle.run_bindings.specs.BoundGroups.{results_by_place}
+use Rattle.run_bindings.specs.GroupNumbers.{EachSaysNumbers, Entries, IsNumberOf, SaysNumbers, number_of}
+use Rattle.run_bindings.specs.declared.bindings.JobBindings.{JobBindings}
+use Rattle.run_bindings.specs.declared.bindings.RunBindings.{RunBindings}
+use Rattle.run_bindings.specs.declared.group_numbers.LegNumbers.{LegNumbers}
+use Rattle.run_bindings.specs.declared.groups.GroupRequest.{GroupRequest}
+use Rattle.run_bindings.proofs.BoundSays.{SaysBoth, as_long, group_by, no_group, said_there}
 use Rattle.workflow_runs.specs.FoundHolders.{HoldersAreFound, IsFound, IsListed}
-use Rattle.workflow_runs.specs.GroupNumbers.{EachSaysNumbers, Entries, IsNumberOf, SaysNumbers, number_of}
-use Rattle.workflow_runs.specs.GroupOf.{group_at}
-use Rattle.workflow_runs.specs.GroupWords.{same_holder}
-use Rattle.workflow_runs.specs.Groups.{holds, is_in, is_pending_in, is_running_in, waits}
-use Rattle.workflow_runs.specs.Holders.{holder_in_words, is_conflicting, run_of}
-use Rattle.workflow_runs.specs.Moves.{Holder as HolderOfGroup}
-use Rattle.workflow_runs.specs.Places.{run_at}
-use Rattle.workflow_runs.specs.RunState.{RunState}
 use Rattle.workflow_runs.specs.SlotHolders.{HaveAll, IsSlotOf}
-use Rattle.workflow_runs.specs.declared.asks.JobBindings.{JobBindings}
-use Rattle.workflow_runs.specs.declared.asks.RunBindings.{RunBindings}
-use Rattle.workflow_runs.specs.declared.group_numbers.LegNumbers.{LegNumbers}
-use Rattle.workflow_runs.specs.declared.groups.Asked.{Asked}
-use Rattle.workflow_runs.specs.declared.holder.Holder.{Holder}
-use Rattle.workflow_runs.specs.declared.holder.HolderFilter.{HolderFilter}
-use Rattle.workflow_runs.specs.declared.holder.HolderFilter.TheVariants.{OthersPending, Running}
-use Rattle.workflow_runs.proofs.BoundSays.{SaysBoth, as_long, group_by, no_group, said_there}
 use Rattle.workflow_runs.proofs.OneEach.{group_is}
-use Rattle.workflow_runs.proofs.Optional.{from_and_then}
+use Rattle.run_states.specs.declared.holder.Holder.{Holder}
+use Rattle.run_states.specs.declared.holder.Holder.TheVariants.{Run, Leg}
 
 -- ---- the number of a group
 
@@ -40,42 +40,42 @@ groups_asked : (o : Option JobBindings) (l : ℕ)
 groups_asked None l = refl
 groups_asked (Some job) l = refl
 
--- what a run or a leg asks has the number that is kept
-is_number : (entries : Entries) (kept : RunBindings) → SaysNumbers entries kept → (w : HolderOfGroup) (n : ℕ) → number_of kept w ≡ Some n
-    → IsNumberOf entries (asked_of kept w) n
-is_number entries kept says (HolderOfGroup.a_run r) n is = says.own_number n is
-is_number entries kept says (HolderOfGroup.a_leg p) n is =
+-- the group that a run or a leg asks for has the number that is kept
+is_number : (entries : Entries) (kept : RunBindings) → SaysNumbers entries kept → (w : Holder) (n : ℕ) → number_of kept w ≡ Some n
+    → IsNumberOf entries (group_request_of kept w) n
+is_number entries kept says (Run r) n is = says.own_number n is
+is_number entries kept says (Leg p) n is =
     let numbers = from_and_then (λ (o : Option ℕ). o)
     (option_and_then (λ (job : LegNumbers). slice_get job.legs p.leg) (slice_get kept.numbers.jobs p.job)) n is in
     let job = from_and_then (λ (job : LegNumbers). slice_get job.legs p.leg) (slice_get kept.numbers.jobs p.job) numbers.value numbers.is in
-    subst (λ (o : Option Asked). IsNumberOf entries o n) (groups_asked (slice_get kept.jobs p.job) p.leg)
+    subst (λ (o : Option GroupRequest). IsNumberOf entries o n) (groups_asked (slice_get kept.jobs p.job) p.leg)
     (says.legs p.job job.value job.is p.leg numbers.value job.gives n numbers.gives)
 
-module _ (runs : List RunState) (asks : List RunBindings) (bound : AreBound runs asks) where
-  -- what is kept of a run says which groups it and its legs have
-  said : (w : HolderOfGroup) (x : RunState) (kept : RunBindings) → run_at runs (run_of w) ≡ Some x → slice_get asks (run_of w) ≡ Some kept
+module _ (runs : List RunState) (bindings : List RunBindings) (bound : AreBound runs bindings) where
+  -- the bindings of a run give the groups of the run and of its legs
+  said : (w : Holder) (x : RunState) (kept : RunBindings) → run_at runs (run_of w) ≡ Some x → slice_get bindings (run_of w) ≡ Some kept
       → SaysBoth runs w x kept
   said w x kept at there = said_there runs w x kept (run_of w) refl at (λ facts told. bound.each (run_of w) facts kept told there)
 
-  module _ (entries : Entries) (grouped : EachSaysNumbers entries asks) where
-    -- the group that has the number
-    has_number : (w : HolderOfGroup) (x : RunState) (kept : RunBindings) (n : ℕ) (g : Group) → run_at runs (run_of w) ≡ Some x
-        → slice_get asks (run_of w) ≡ Some kept → number_of kept w ≡ Some n → group_at runs w ≡ Some g
+  module _ (entries : Entries) (grouped : EachSaysNumbers entries bindings) where
+    -- the group with the number
+    has_number : (w : Holder) (x : RunState) (kept : RunBindings) (n : ℕ) (g : Group) → run_at runs (run_of w) ≡ Some x
+        → slice_get bindings (run_of w) ≡ Some kept → number_of kept w ≡ Some n → group_at runs w ≡ Some g
         → group_of_number entries n ≡ Some g
     has_number w x kept n g at there numbered its =
         let number = is_number entries kept (grouped (run_of w) kept there) w n numbered in
         number.there ∙ sym (number.says (results_by_place x)) ∙ (said w x kept at there).0 ∙ its
 
--- ---- one that is meant
+-- ---- a conflicting holder
 
 -- it is in the group, and waits or holds
-pub record Meets (runs : List RunState) (h other : HolderOfGroup) : Type 0 where
+pub record Meets (runs : List RunState) (h other : Holder) : Type 0 where
   pub group : Group
   pub its : group_at runs h ≡ Some group
   pub also : group_at runs other ≡ Some group
   pub stands : (waits runs other ≡ true) ⊎ (holds runs other ≡ true)
 
-module _ (runs : List RunState) (h other : HolderOfGroup) where
+module _ (runs : List RunState) (h other : Holder) where
   pending : (o : Option Group) → group_at runs h ≡ o
       → option_map_or (λ g. is_pending_in runs g other && not (same_holder other h)) o false ≡ true → Meets runs h other
   pending None its e = absurd (false≢true e)
@@ -94,7 +94,7 @@ module _ (runs : List RunState) (h other : HolderOfGroup) where
   meets OthersPending e = pending (group_at runs h) refl e
   meets Running e = running (group_at runs h) refl e
 
--- ---- it is listed at the number of the holder's group
+-- ---- it is listed under the number of the holder's group
 
 in_place : (entries : Entries) (kept : RunBindings) (h : Holder) (slot : Slot Holder) (other : Holder) (asked : RunBindings) (g : Group)
     → HasEachOnce entries → (own : IsSlotOf entries kept h slot) → group_of_number entries own.number ≡ Some g
@@ -107,33 +107,33 @@ in_place entries kept h slot other asked g once own its it also =
       | inr place ↦ place
     ]
 
-module _ (runs : List RunState) (asks : List RunBindings) (entries : Entries) (unlisted : List ℕ) (bound : AreBound runs asks)
-    (grouped : EachSaysNumbers entries asks) (listed : HoldersAreFound runs asks entries unlisted) (once : HasEachOnce entries)
-    (h : Holder) (kept : RunBindings) (own_asks : slice_get asks (run_of (holder_in_words h)) ≡ Some kept) (slot : Slot Holder)
+module _ (runs : List RunState) (bindings : List RunBindings) (entries : Entries) (unlisted : List ℕ) (bound : AreBound runs bindings)
+    (grouped : EachSaysNumbers entries bindings) (listed : HoldersAreFound runs bindings entries unlisted) (once : HasEachOnce entries)
+    (h : Holder) (kept : RunBindings) (own_asks : slice_get bindings (run_of h) ≡ Some kept) (slot : Slot Holder)
     (own : IsSlotOf entries kept h slot) where
   abbrev Told : Holder → Type 0
-  Told other = HasPlace slot other ⊎ (is_marked unlisted (run_of (holder_in_words other)) ≡ true)
+  Told other = HasPlace slot other ⊎ (is_marked unlisted (run_of other) ≡ true)
 
   by_found : (other : Holder) (x : RunState) (asked : RunBindings) (g : Group) → group_of_number entries own.number ≡ Some g
-      → group_at runs (holder_in_words other) ≡ Some g → run_at runs (run_of (holder_in_words other)) ≡ Some x
-      → slice_get asks (run_of (holder_in_words other)) ≡ Some asked → IsFound entries unlisted asked other → Told other
+      → group_at runs other ≡ Some g → run_at runs (run_of other) ≡ Some x
+      → slice_get bindings (run_of other) ≡ Some asked → IsFound entries unlisted asked other → Told other
   by_found other x asked g its also at there found =
-      let w = holder_in_words other in
+      let w = other in
       elim (found) [
-        | inl nothing ↦ absurd (some_not_none g (sym also ∙ sym (said runs asks bound w x asked at there).0 ∙ ap (group_by x) nothing))
+        | inl nothing ↦ absurd (some_not_none g (sym also ∙ sym (said runs bindings bound w x asked at there).0 ∙ ap (group_by x) nothing))
         | inr rest ↦ elim (rest) [
           | inl mark ↦ inr mark
           | inr it ↦ inl
               (in_place entries kept h slot other asked g once own its it
-              (has_number runs asks bound entries grouped w x asked it.number g at there it.numbered also))
+              (has_number runs bindings bound entries grouped w x asked it.number g at there it.numbered also))
         ]
       ]
     where
       some_not_none : {X : Type 0} (x : X) → Some x ≡ None → ⊥
       some_not_none x e = cc
 
-  -- a run or a leg that has a group is of a run that is there
-  has_run : (w : HolderOfGroup) (g : Group) → group_at runs w ≡ Some g → (x : RunState) × (run_at runs (run_of w) ≡ Some x)
+  -- a run or a leg with a group is of a run that exists
+  has_run : (w : Holder) (g : Group) → group_at runs w ≡ Some g → (x : RunState) × (run_at runs (run_of w) ≡ Some x)
   has_run w g its = by (run_at runs (run_of w)) refl
     where
       none_is_some : None ≡ Some g → ⊥
@@ -143,15 +143,15 @@ module _ (runs : List RunState) (asks : List RunBindings) (entries : Entries) (u
       by None none = absurd (none_is_some (sym (no_group runs w none) ∙ its))
       by (Some x) at = (x, at)
 
-  pub met : (other : Holder) → Meets runs (holder_in_words h) (holder_in_words other) → Told other
+  pub met : (other : Holder) → Meets runs h other → Told other
   met other meeting =
-      let w = holder_in_words other in
+      let w = other in
       let run = has_run w meeting.group meeting.also in
-      let own_run = has_run (holder_in_words h) meeting.group meeting.its in
-      let asked = as_long runs asks (run_of w) run.0 bound.as_many run.1 in
+      let own_run = has_run h meeting.group meeting.its in
+      let asked = as_long runs bindings (run_of w) run.0 bound.as_many run.1 in
       by_found other run.0 asked.0 meeting.group
-      (has_number runs asks bound entries grouped (holder_in_words h) own_run.0 kept own.number meeting.group own_run.1 own_asks own.numbered
+      (has_number runs bindings bound entries grouped h own_run.0 kept own.number meeting.group own_run.1 own_asks own.numbered
       meeting.its) meeting.also run.1 asked.1 (listed.found other asked.0 meeting.stands asked.1)
 
-  pub have_all : (whom : HolderFilter) → HaveAll runs (holder_in_words h) whom slot unlisted
-  have_all whom other e = met other (meets runs (holder_in_words h) (holder_in_words other) whom e)
+  pub have_all : (whom : HolderFilter) → HaveAll runs h whom slot unlisted
+  have_all whom other e = met other (meets runs h other whom e)

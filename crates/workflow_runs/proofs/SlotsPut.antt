@@ -1,4 +1,4 @@
--- Whom the slot of a number lists once another is put there.
+-- Which holders the slot of a number lists after another slot is put there.
 use Rattle.std.specs.Prelude.{◌≡◌, ℕ, nat_eq, Bool, true, false, Some, if◌then◌else◌, refl}
 use Rattle.std.specs.Cmp.{nat_eq_equiv}
 use Rattle.std.proofs.Common.{ap, subst, sym, ◌∙◌, inl, inr}
@@ -7,9 +7,9 @@ use Rattle.std.proofs.lemmas.Option.{same_Some}
 use Rattle.group_book.specs.Books.{Puts, slot_at}
 use Rattle.group_book.specs.Slots.{HasPlace, Lists}
 use Rattle.group_book.specs.declared.slot.Slot.{Slot}
+use Rattle.run_states.specs.declared.holder.Holder.{Holder}
+use Rattle.run_bindings.specs.GroupNumbers.{Entries}
 use Rattle.workflow_runs.specs.FoundHolders.{IsListedAt}
-use Rattle.workflow_runs.specs.GroupNumbers.{Entries}
-use Rattle.workflow_runs.specs.declared.holder.Holder.{Holder}
 
 module _ (old new : Entries) (number : ℕ) (slot kept put : Slot Holder) (there : slot_at old number ≡ Some slot)
     (puts : Puts number put old new) where
@@ -20,7 +20,7 @@ module _ (old new : Entries) (number : ℕ) (slot kept put : Slot Holder) (there
     listed = listed;
   }
 
-  -- whoever was listed is listed still, if it is kept in its place
+  -- a holder that was listed is still listed, if it is kept in its place
   pub put_others : (n : ℕ) (h : Holder) → (HasPlace slot h → HasPlace kept h) → kept.is_crowded ≡ slot.is_crowded
       → (Lists kept h → Lists put h) → IsListedAt old n h → IsListedAt new n h
   put_others n h keeps crowded more before = by (nat_eq n number) refl

@@ -1,20 +1,21 @@
--- The first leg that fits, and the leg of a lease, found run by run and job by job.
+-- The first leg that fits, and the leg with a lease, found run by run and job by job.
 use Rattle.std.specs.Prelude.{◌≡◌, ℕ, ◌&&◌, List, find, [], ◌∷◌, Bool, true, false, Option, Some, None, slice_get}
 use Rattle.std.specs.Prelude.{if◌then◌else◌, refl}
 use Rattle.std.specs.Option.{option_map_or}
 use Rattle.std.proofs.Common.{ap, sym, ◌∙◌}
-use Rattle.workflow_runs.specs.FirstOf.{first_some, placed}
-use Rattle.workflow_runs.specs.Fitting.{is_ready, is_served, may_run_too, fits, first_fit, has_lease, place_of_lease}
-use Rattle.workflow_runs.specs.Parallel.{has_room}
-use Rattle.workflow_runs.specs.PlacedLegs.{PlacedLeg, placed_legs_of_run}
-use Rattle.workflow_runs.specs.Places.{LegPlace, leg_at, leg_places_of_job, leg_places_of_run}
-use Rattle.workflow_runs.specs.RunState.{LegState, JobState, RunState}
-use Rattle.workflow_runs.specs.WithinRun.{leg_place, fit_in_job, fit_in_jobs, lease_in_run}
+use Rattle.run_states.specs.FirstOf.{first_some, placed}
+use Rattle.run_states.specs.Fitting.{is_ready, is_served, may_run_too, fits, first_fit, has_lease, place_of_lease}
+use Rattle.run_states.specs.Parallel.{has_room}
+use Rattle.run_states.specs.PlacedLegs.{PlacedLeg, placed_legs_of_run}
+use Rattle.run_states.specs.Places.{leg_at, leg_places_of_job, leg_places_of_run}
+use Rattle.run_states.specs.declared.place.LegPlace.{LegPlace}
+use Rattle.run_states.specs.RunState.{LegState, JobState, RunState}
+use Rattle.run_states.specs.WithinRun.{leg_place, fit_in_job, fit_in_jobs, lease_in_run}
 use Rattle.workflow_runs.proofs.Firsts.{find-flat_map, find-map, first_same_placed, first_some_same}
 use Rattle.workflow_runs.proofs.PlacedLegs.{each_in_run, leg_there, places_of_run}
 use Rattle.workflow_runs.proofs.Walks.{job_found}
 
--- ---- the leg of a lease
+-- ---- the leg with a lease
 
 pub place_of_lease_by_run : (runs : List RunState) (lease : ℕ)
     → place_of_lease runs lease ≡ first_some (λ r. lease_in_run lease r.0 r.1) (placed runs)
@@ -34,6 +35,10 @@ place_of_lease_by_run runs lease =
 
 -- ---- the first leg that fits
 
+-- whether a leg is ready and served
+abbrev pub serves : List (List ℕ) → List RunState → LegPlace → LegState → Bool
+serves labels runs p leg = is_ready leg.phase && is_served labels runs p
+
 -- a leg fits where its job has room, and else none of the job does
 room_or_none : (room ready served : Bool) (p : LegPlace)
     → (if ready && (room && served) then Some p else None) ≡ (if room then (if ready && served then Some p else None) else None)
@@ -41,7 +46,7 @@ room_or_none true ready served p = refl
 room_or_none false true served p = refl
 room_or_none false false served p = refl
 
--- nothing is found where nothing is asked
+-- without room, no leg is found
 asked_with_room : (room : Bool) (f : ℕ × LegState → Option LegPlace) (xs : List (ℕ × LegState))
     → first_some (λ l. if room then f l else None) xs ≡ (if room then first_some f xs else None)
 asked_with_room true f xs = refl

@@ -1,8 +1,8 @@
--- What the runs of a table keep by themselves, as what each run keeps.
+-- What the runs of a table satisfy, stated for all runs and for each run.
 use Rattle.std.specs.Prelude.{List}
-use Rattle.workflow_runs.specs.SoundRuns.{RunsAreSound}
-use Rattle.workflow_runs.specs.RunState.{RunState}
-use Rattle.workflow_runs.proofs.RunFits.{RunsFit, jobs_are_the_plans, jobs_fit, leases_fit, needs_come_first, run_phases_fit, runs_fit}
+use Rattle.run_states.specs.RunState.{RunState}
+use Rattle.run_states.specs.SoundRuns.{RunsAreSound}
+use Rattle.run_states.proofs.RunFits.{RunsFit, jobs_are_the_plans, jobs_fit, leases_fit, needs_come_first, run_phases_fit, runs_fit}
 
 pub runs_that_fit : (runs : List RunState) → RunsAreSound runs → RunsFit runs
 runs_that_fit runs s = runs_fit runs s.jobs_are_the_plans s.run_phases_fit s.jobs_fit s.needs_settled_first s.leases_fit

@@ -1,10 +1,10 @@
--- A change of a run leaves what was admitted, and the attempt.
+-- A change of a run keeps what was admitted, and the attempt.
 use Rattle.std.specs.Prelude.{◌≡◌, refl}
-use Rattle.workflow_runs.specs.Changes.{changed}
-use Rattle.workflow_runs.specs.RunState.{RunState}
-use Rattle.workflow_runs.specs.declared.change.Change.{Change}
-use Rattle.workflow_runs.specs.declared.change.Change.TheVariants as change
-use Rattle.workflow_runs.proofs.StoppedRuns.{stopped_admitted, stopped_attempt}
+use Rattle.run_states.specs.Changes.{changed}
+use Rattle.run_states.specs.RunState.{RunState}
+use Rattle.run_states.specs.declared.change.Change.{Change}
+use Rattle.run_states.specs.declared.change.Change.TheVariants as change
+use Rattle.run_states.proofs.StoppedRuns.{stopped_admitted, stopped_attempt}
 
 pub changed_admitted : (c : Change) (run : RunState) → (changed c run).admitted ≡ run.admitted
 changed_admitted (change.Phase phase) run = refl

@@ -1,4 +1,4 @@
--- A run that changes is still kept with its number and with what it asks of groups.
+-- A run that changes keeps its number and its bindings.
 use Rattle.std.specs.Prelude.{◌≡◌, ℕ, zero, suc, ◌+◌, ◌<◌, ◌≤◌, List, [], ◌∷◌, ◌++◌, length, count_by, true, Some, option_map, slice_get, slice_set}
 use Rattle.std.specs.Prelude.{refl}
 use Rattle.std.specs.Fmt.{decimal}
@@ -7,30 +7,30 @@ use Rattle.std.proofs.lemmas.Bool.{cases_eq}
 use Rattle.std.proofs.lemmas.List.{length-append, length-map, length-set, map-append}
 use Rattle.std.proofs.lemmas.Option.{same_Some, slice_get_within}
 use Rattle.run_plan.specs.Admitted.{Admitted}
-use Rattle.workflow_runs.specs.Asks.{AreBound, RunSays}
+use Rattle.run_bindings.specs.Bindings.{AreBound, RunSays}
 use Rattle.workflow_runs.specs.Counted.{AreCounted}
 use Rattle.workflow_runs.specs.Delivered.{FindsFirst}
 use Rattle.group_book.specs.Books.{group_at}
 use Rattle.label_lists.specs.Lists.{ListsState, OnlyGrows}
 use Rattle.run_marks.specs.Marked.{Covers, SameMarks}
+use Rattle.run_states.specs.GroupOf.{RunFacts, run_facts_at}
+use Rattle.run_states.specs.RunNumber.{AreNumbered, events, number_of_next, numbers_after, run_number, same_workflow}
+use Rattle.run_states.specs.RunState.{RunState}
+use Rattle.run_states.proofs.LegFacts.{attempt_at}
+use Rattle.run_bindings.specs.GroupNumbers.{EachSaysNumbers, OnlyEnters, SaysNumbers}
+use Rattle.run_bindings.specs.LabelNumbers.{AreListsOf, JobsOffer, LegsAreOffered, OnlyPuts}
+use Rattle.run_bindings.specs.declared.bindings.RunBindings.{RunBindings}
+use Rattle.run_bindings.proofs.Binding.{one_more as one_more_bound}
+use Rattle.run_bindings.proofs.BoundSays.{facts_of_run, run_told}
+use Rattle.run_bindings.proofs.GroupNumbers.{each_again, each_stays, each_still}
 use Rattle.workflow_runs.specs.FoundHolders.{AllAreFound, HoldersAreFound, OnlyLists}
-use Rattle.workflow_runs.specs.GroupNumbers.{EachSaysNumbers, OnlyEnters, SaysNumbers}
-use Rattle.workflow_runs.specs.GroupOf.{RunFacts, run_facts_at}
-use Rattle.workflow_runs.specs.LabelNumbers.{AreListsOf, JobsOffer, LegsAreOffered, OnlyPuts}
-use Rattle.workflow_runs.specs.MarkedRuns.{RunsAreMarked, Stirs}
-use Rattle.workflow_runs.specs.RunNumber.{AreNumbered, events, number_of_next, numbers_after, run_number, same_workflow}
-use Rattle.workflow_runs.specs.RunState.{RunState}
+use Rattle.workflow_runs.specs.MarkedRuns.{RunsAreMarked, MarksDirty}
 use Rattle.workflow_runs.specs.RunsKept.{RunsAreKept}
-use Rattle.workflow_runs.specs.declared.asks.RunBindings.{RunBindings}
 use Rattle.workflow_runs.specs.declared.runs.group_holders.GroupHolders.{GroupHolders}
 use Rattle.workflow_runs.specs.declared.runs.index.Index.{Index}
 use Rattle.workflow_runs.specs.declared.runs.marks.RunMarks.{RunMarks}
-use Rattle.workflow_runs.proofs.Binding.{one_more as one_more_bound}
-use Rattle.workflow_runs.proofs.BoundSays.{facts_of_run, run_told}
 use Rattle.workflow_runs.proofs.FoundHolders.{all_entered, all_roomier, found_with}
-use Rattle.workflow_runs.proofs.GroupNumbers.{each_again, each_stays, each_still}
 use Rattle.workflow_runs.proofs.GroupStays.{run_facts_stay}
-use Rattle.workflow_runs.proofs.LegFacts.{attempt_at}
 use Rattle.workflow_runs.proofs.LegsOffered.{offered_grown, offered_with}
 use Rattle.workflow_runs.proofs.MarkedRuns.{marks_after, set_other}
 use Rattle.workflow_runs.proofs.RunNumbers.{events_kept, length_kept, number_at, one_more, still_numbered}
@@ -56,7 +56,7 @@ still_bound xs kept r x y lt is same attempt are = record {
       (sym (facts_same xs (slice_set xs r y) k (events_kept xs r x y lt is same) (attempts_kept xs r k x y lt is attempt)) ∙ told) is_kept);
 }
 
--- a run is written of the event that stands at its place, in its attempt
+-- a run is replaced by one with the same event and attempt
 pub still_kept : (xs : List RunState) (numbers : List ℕ) (kept : List RunBindings) (index : Index) (groups : GroupHolders)
     (lists : ListsState) (marks marks' : RunMarks) (r : ℕ) (x y : RunState)
     → ((n : ℕ) → group_at groups.book.entries n ≡ group_at index.groups.book.entries n)
@@ -77,7 +77,7 @@ still_kept xs numbers kept index groups lists marks marks' r x y stay_groups fou
       offered = offered;
     }
 
--- the same runs, as the code sees them, in another index
+-- the same runs, as the code sees them, with another index
 pub kept_in : (xs seen : List RunState) (numbers : List ℕ) (kept : List RunBindings) (old new : Index) (marks : RunMarks) → seen ≡ xs
     → RunsAreKept xs numbers kept old marks → FindsFirst (events seen) new.places.places → AreCounted (events seen) new.counts.counts
     → new.groups ≡ old.groups → new.lists ≡ old.lists → RunsAreKept xs numbers kept new marks
@@ -92,7 +92,7 @@ kept_in xs seen numbers kept old new marks same are found counted groups lists =
   offered = subst (LegsAreOffered xs kept) (sym lists) are.offered;
 }
 
--- the same runs, once groups are entered in the book
+-- the same runs, after groups are entered in the book
 pub kept_entered : (xs : List RunState) (numbers : List ℕ) (kept : List RunBindings) (index : Index) (marks : RunMarks)
     (groups : GroupHolders) → OnlyEnters index.groups.book.entries groups.book.entries → SameMarks index.groups.unlisted groups.unlisted
     → length index.groups.unlisted ≤ length groups.unlisted → RunsAreKept xs numbers kept index marks
@@ -109,7 +109,7 @@ kept_entered xs numbers kept index marks groups enters same room are = record {
   offered = are.offered;
 }
 
--- and once lists of labels are
+-- and after lists of labels are entered
 pub kept_grown : (xs : List RunState) (numbers : List ℕ) (kept : List RunBindings) (index : Index) (marks : RunMarks) (lists : ListsState)
     → OnlyGrows index.lists lists → RunsAreKept xs numbers kept index marks
     → RunsAreKept xs numbers kept (record index { lists = lists }) marks
@@ -124,7 +124,7 @@ kept_grown xs numbers kept index marks lists grows are = record {
   offered = offered_grown xs kept index.lists lists grows are.offered;
 }
 
--- the same runs, once room is made for lists, groups are entered, and then lists
+-- the same runs, after room is made for lists, groups are entered, and then lists
 pub kept_taken : (xs : List RunState) (numbers : List ℕ) (kept : List RunBindings) (index : Index) (marks : RunMarks) (covered : ListsState)
     (groups : GroupHolders) (lists : ListsState) → OnlyGrows index.lists covered → OnlyEnters index.groups.book.entries groups.book.entries
     → SameMarks index.groups.unlisted groups.unlisted → length index.groups.unlisted ≤ length groups.unlisted → OnlyGrows covered lists
@@ -134,7 +134,7 @@ kept_taken xs numbers kept index marks covered groups lists covers enters same r
     (kept_entered xs numbers kept (record index { lists = covered }) marks groups enters same room
     (kept_grown xs numbers kept index marks covered covers are))
 
--- ---- one run more
+-- ---- one more run
 
 front_same : {X : Type 0} (xs : List X) (x : X) (s : ℕ) → s < length xs → slice_get (xs ++ x ∷ []) s ≡ slice_get xs s
 front_same [] x s lt = absurd (omega arith)
@@ -211,7 +211,7 @@ beside_end [] x (suc s) other = refl
 beside_end (y ∷ xs) x zero other = refl
 beside_end (y ∷ xs) x (suc s) other = beside_end xs x s (λ e. other (ap (λ n. suc n) e))
 
--- everyone in it is found, and everyone who was
+-- each of its active holders is found, and each holder that was
 pub found_added : (runs : List RunState) (run : RunState) (kept : List RunBindings) (asked : RunBindings) (old new : GroupHolders) (r : ℕ)
     → r ≡ length runs → length kept ≡ length runs → OnlyLists (runs ++ run ∷ []) old new
     → AllAreFound (runs ++ run ∷ []) new.book.entries new.unlisted asked r → Covers old.unlisted (r + 1)
@@ -232,7 +232,7 @@ offered_added runs run kept asked old new r end many itself all puts are =
     (at_end kept asked r (end ∙ sym many)) (λ s other. beside_end runs run s (λ e. other (e ∙ sym end)))
     (λ s other. beside_end kept asked s (λ e. other (e ∙ many ∙ sym end))) itself all puts are
 
--- a run that is added with its number and with what it asks
+-- a run is added with its number and its bindings
 pub all_added : (runs : List RunState) (run : RunState) (numbers : List ℕ) (kept : List RunBindings) (number : ℕ) (asked : RunBindings)
     → length runs < 100000 → AreNumbered runs numbers × AreBound runs kept → number ≡ number_of_next runs run.admitted
     → RunSays (record {
@@ -255,7 +255,7 @@ set_here [] r y lt = absurd (omega arith)
 set_here (z ∷ xs) zero y lt = refl
 set_here (z ∷ xs) (suc r) y lt = set_here xs r y (omega arith)
 
--- what is asked in it is put in the place of what was asked before
+-- its bindings replace those of the attempt before
 bound_again : (xs : List RunState) (kept : List RunBindings) (r : ℕ) (x y : RunState) (asked : RunBindings) → r < length xs
     → x ≡ get_or xs r x → y.admitted ≡ x.admitted → RunSays (facts_of_run xs r y) asked → AreBound xs kept
     → AreBound (slice_set xs r y) (slice_set kept r asked)
@@ -295,16 +295,16 @@ pub kept_again : (xs : List RunState) (numbers : List ℕ) (kept : List RunBindi
     → OnlyLists (slice_set xs r y) index.groups groups → AllAreFound (slice_set xs r y) groups.book.entries groups.unlisted asked r
     → LegsAreOffered (slice_set xs r y) (slice_set kept r asked) lists → r < length xs → x ≡ get_or xs r x
     → y.admitted ≡ x.admitted → RunSays (facts_of_run xs r y) asked → SaysNumbers index.groups.book.entries asked
-    → Stirs r (length xs) marks marks' → RunsAreKept xs numbers kept index marks
+    → MarksDirty r (length xs) marks marks' → RunsAreKept xs numbers kept index marks
     → RunsAreKept (slice_set xs r y) numbers (slice_set kept r asked) (record index { groups = groups; lists = lists }) marks'
-kept_again xs numbers kept index groups lists marks marks' r x y asked lists_only all offered lt is same says grouped stirs are =
+kept_again xs numbers kept index groups lists marks marks' r x y asked lists_only all offered lt is same says grouped marks_dirty are =
     let stay : events (slice_set xs r y) ≡ events xs = events_kept xs r x y lt is same in
     record {
       numbered = still_numbered xs numbers r x y lt is same are.numbered;
       bound = bound_again xs kept r x y asked lt is same says are.bound;
       found = subst (λ (es : List Admitted). FindsFirst es index.places.places) (sym stay) are.found;
       counted = subst (λ (es : List Admitted). AreCounted es index.counts.counts) (sym stay) are.counted;
-      marked = marks_after xs y marks marks' r stay stirs are.marked;
+      marked = marks_after xs y marks marks' r stay marks_dirty are.marked;
       grouped = each_stays index.groups.book.entries groups.book.entries (slice_set kept r asked) lists_only.numbers
           (each_again index.groups.book.entries kept r asked grouped are.grouped);
       listed = found_with xs (slice_set xs r y) kept (slice_set kept r asked) index.groups groups r asked

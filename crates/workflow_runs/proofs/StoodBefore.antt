@@ -1,38 +1,38 @@
--- Whoever waits or holds a group after a change of a run did before, but for the newcomer that the change sets on its way.
+-- A holder that is active after a change of a run was active before, except the one that the change makes active.
 use Rattle.std.specs.Prelude.{◌≡◌, ◌⊎◌, ℕ, ◌||◌, List, Bool, true, false, Option, Some, None, if◌then◌else◌, refl}
 use Rattle.std.proofs.Common.{ap, subst, sym, ◌∙◌, inl, inr}
 use Rattle.std.proofs.lemmas.Bool.{cases_eq, false≢true, or_parts}
 use Rattle.run_plan.specs.PlanOf.{plan_of}
-use Rattle.workflow_runs.specs.Changes.{changed}
-use Rattle.workflow_runs.specs.FoundHolders.{Stands, newcomer}
-use Rattle.workflow_runs.specs.Groups.{leg_holds, leg_waits, run_waits}
-use Rattle.workflow_runs.specs.Holders.{holder_in_words}
-use Rattle.workflow_runs.specs.Moves.{Holder as HolderOfGroup}
-use Rattle.workflow_runs.specs.Places.{LegPlace, leg_at, leg_place, with_leg, with_run}
-use Rattle.workflow_runs.specs.RunState.{LegState, RunState}
-use Rattle.workflow_runs.specs.Settling.{legs_in_plan}
-use Rattle.workflow_runs.specs.StateWords.{is_live, opened, run_in_phase, settled_as}
-use Rattle.workflow_runs.specs.declared.change.Change.{Change}
-use Rattle.workflow_runs.specs.declared.change.Change.TheVariants as change
-use Rattle.workflow_runs.specs.declared.holder.Holder.{Holder}
-use Rattle.workflow_runs.specs.declared.holder.Holder.TheVariants.{Run, Leg}
-use Rattle.workflow_runs.specs.declared.phases.RunPhase.{RunPhase}
-use Rattle.workflow_runs.proofs.Changed.{at_another}
+use Rattle.run_states.specs.Changes.{changed}
+use Rattle.run_states.specs.Changes.{newcomer}
+use Rattle.run_states.specs.Groups.{leg_holds, leg_waits, run_waits}
+use Rattle.run_states.specs.Places.{leg_at, leg_place, with_leg, with_run}
+use Rattle.run_states.specs.declared.place.LegPlace.{LegPlace}
+use Rattle.run_states.specs.RunState.{LegState, RunState}
+use Rattle.run_states.specs.Settling.{legs_in_plan}
+use Rattle.run_states.specs.StateWords.{is_live, opened, run_in_phase, settled_as}
+use Rattle.run_states.specs.declared.change.Change.{Change}
+use Rattle.run_states.specs.declared.change.Change.TheVariants as change
+use Rattle.run_states.specs.declared.phases.RunPhase.{RunPhase}
+use Rattle.run_states.proofs.Changed.{at_another}
+use Rattle.run_states.proofs.Transitions.{with_leg_none}
+use Rattle.workflow_runs.specs.FoundHolders.{Stands}
 use Rattle.workflow_runs.proofs.HoldersFade.{JobFades, job_fades, job_passes, leg_before, leg_fades, legs_stop_fades}
 use Rattle.workflow_runs.proofs.HoldersFade.{passed_changed, passes, run_fades, run_stop_fades}
 use Rattle.workflow_runs.proofs.OneEach.{Fades}
 use Rattle.workflow_runs.proofs.OneEachRules.{made_fades, set_holds, set_waits}
-use Rattle.workflow_runs.proofs.Transitions.{with_leg_none}
+use Rattle.run_states.specs.declared.holder.Holder.{Holder}
+use Rattle.run_states.specs.declared.holder.Holder.TheVariants.{Run, Leg}
 
--- the newcomer, or one that stood before
+-- the newcomer, or a holder that was active before
 abbrev pub Stood : List RunState → Option Holder → Holder → Type 0
 Stood runs one h = (one ≡ Some h) ⊎ Stands runs h
 
 faded : (runs next : List RunState) (one : Option Holder) (h : Holder) → Fades runs next → Stands next h → Stood runs one h
 faded runs next one h fades stands =
     elim (stands) [
-      | inl e ↦ inr (inl (fades.waited (holder_in_words h) e))
-      | inr e ↦ inr (inr (fades.held (holder_in_words h) e))
+      | inl e ↦ inr (inl (fades.waited h e))
+      | inr e ↦ inr (inr (fades.held h e))
     ]
 
 -- ---- a run changes its phase
@@ -72,15 +72,14 @@ module _ (runs : List RunState) (r : ℕ) (phase : RunPhase) where
         leg_held = (λ j l x e. e);
       })
 
--- ---- a leg is put in the place of another
+-- ---- a leg is replaced
 
 module _ (runs : List RunState) (p : LegPlace) (z : LegState) where
   abbrev put : List RunState
   put = with_leg p (λ _. z) runs
 
-  in_words : (h : Holder) → holder_in_words h ≡ HolderOfGroup.a_leg p → Some (Leg p) ≡ Some h
-  in_words (Run s) e = cc
-  in_words (Leg q) e = cc
+  that_leg : (h : Holder) → h ≡ Leg p → Some (Leg p) ≡ Some h
+  that_leg h e = cc
 
   put_stood : (h : Holder) → Stands put h → Stood runs (Some (Leg p)) h
   put_stood h stands = by (leg_at runs p) refl
@@ -89,12 +88,12 @@ module _ (runs : List RunState) (p : LegPlace) (z : LegState) where
       by None none = inr (subst (λ (rs : List RunState). Stands rs h) (sym (with_leg_none runs p (λ _. z) none)) stands)
       by (Some was) at =
           elim (stands) [
-            | inl e ↦ elim (set_waits runs p was at (λ _. z) (holder_in_words h) e) [
-              | inl it ↦ inl (in_words h it)
+            | inl e ↦ elim (set_waits runs p was at (λ _. z) h e) [
+              | inl it ↦ inl (that_leg h it)
               | inr before ↦ inr (inl before)
             ]
-            | inr e ↦ elim (set_holds runs p was at (λ _. z) (holder_in_words h) e) [
-              | inl it ↦ inl (in_words h it)
+            | inr e ↦ elim (set_holds runs p was at (λ _. z) h e) [
+              | inl it ↦ inl (that_leg h it)
               | inr before ↦ inr (inr before)
             ]
           ]

@@ -1,4 +1,4 @@
--- A stop leaves no more phases before the runs, and so does the room that an arrival makes.
+-- A stop does not raise the number of phases that remain, and neither does the room that an arrival makes.
 use Rattle.std.specs.Prelude.{ℕ, zero, suc, ◌+◌, ◌≤◌, ◌&&◌, List, [], ◌∷◌, map, not, sum_by, Bool, true, false, Some, None}
 use Rattle.std.specs.Prelude.{if◌then◌else◌}
 use Rattle.std.specs.List.{enumerate_from}
@@ -8,25 +8,27 @@ use Rattle.std.proofs.lemmas.List.Sums.{sum_by-cons}
 use Rattle.wf_value.specs.declared.outcome.JobResult.TheVariants as result
 use Rattle.group_name.specs.Group.{Group}
 use Rattle.run_plan.specs.PlanOf.{plan_of}
-use Rattle.workflow_runs.specs.Arrivals.{arrived, displaced, others_pending, room_made, stopped_where_asked}
-use Rattle.workflow_runs.specs.FirstOf.{changed_at}
-use Rattle.workflow_runs.specs.GroupOf.{cancels_in_progress, group_at}
-use Rattle.workflow_runs.specs.Groups.{running_in}
-use Rattle.workflow_runs.specs.Moves.{Holder, Transition, at_each, without_moves}
-use Rattle.workflow_runs.specs.RunConditions.{may_run_in}
-use Rattle.workflow_runs.specs.Settling.{job_left, leg_left, leg_phases_left, remaining_phases, legs_in_plan, run_left}
-use Rattle.workflow_runs.specs.StateWords.{is_open, settled_as}
-use Rattle.workflow_runs.specs.StopMoves.{displace, stop_holder}
-use Rattle.workflow_runs.specs.Stops.{cancelled, stopped, stopped_in, stopped_phase, stopped_run, stopped_where, told_to_stop}
-use Rattle.workflow_runs.specs.Stops.{with_stopped_legs}
-use Rattle.workflow_runs.specs.RunState.{LegState, JobState, RunState}
-use Rattle.workflow_runs.specs.declared.phases.LegPhase.{LegPhase}
-use Rattle.workflow_runs.specs.declared.phases.LegPhase.TheVariants as leg
-use Rattle.workflow_runs.specs.declared.phases.RunPhase.{RunPhase}
-use Rattle.workflow_runs.specs.declared.phases.RunPhase.TheVariants as run
-use Rattle.workflow_runs.proofs.JobKeeps.{with_job_of, with_leg_of}
+use Rattle.run_states.specs.Arrivals.{arrived, displaced, others_pending, room_made, stopped_where_asked}
+use Rattle.run_states.specs.FirstOf.{changed_at}
+use Rattle.run_states.specs.GroupOf.{cancels_in_progress, group_at}
+use Rattle.run_states.specs.Groups.{running_in}
+use Rattle.run_states.specs.Moves.{Transition, at_each, without_moves}
+use Rattle.run_states.specs.RunConditions.{may_run_in}
+use Rattle.run_states.specs.RunState.{LegState, JobState, RunState}
+use Rattle.run_states.specs.Settling.{job_left, leg_left, leg_phases_left, remaining_phases, legs_in_plan, run_left}
+use Rattle.run_states.specs.StateWords.{is_open, settled_as}
+use Rattle.run_states.specs.StopMoves.{displace, stop_holder}
+use Rattle.run_states.specs.Stops.{cancelled, stopped, stopped_in, stopped_phase, stopped_run, stopped_where, told_to_stop}
+use Rattle.run_states.specs.Stops.{with_stopped_legs}
+use Rattle.run_states.specs.declared.phases.LegPhase.{LegPhase}
+use Rattle.run_states.specs.declared.phases.LegPhase.TheVariants as leg
+use Rattle.run_states.specs.declared.phases.RunPhase.{RunPhase}
+use Rattle.run_states.specs.declared.phases.RunPhase.TheVariants as run
+use Rattle.run_states.proofs.JobKeeps.{with_job_of, with_leg_of}
+use Rattle.run_states.specs.declared.holder.Holder.{Holder}
+use Rattle.run_states.specs.declared.holder.Holder.TheVariants.{Run, Leg}
 
--- ---- sums of what is no greater
+-- ---- sums of terms that do not grow
 
 sum_of_map : {X : Type 0} (f : X → ℕ) (g : X → X) (xs : List X) → ((x : X) → f (g x) ≤ f x) → sum_by f (map g xs) ≤ sum_by f xs
 sum_of_map f g [] h = omega arith
@@ -51,7 +53,7 @@ sum_of_one f g (x ∷ xs) (suc i) h =
     let old = sum_by-cons f x xs in
     omega (arith, rest, new, old)
 
--- the same where what is counted depends on the place
+-- sums whose terms depend on the index
 
 placed_sum_of_one : {X : Type 0} (f : ℕ → X → ℕ) (g : X → X) (xs : List X) (n i : ℕ) → ((m : ℕ) (x : X) → f m (g x) ≤ f m x)
     → sum_by (λ e. f e.0 e.1) (enumerate_from n (changed_at i g xs)) ≤ sum_by (λ e. f e.0 e.1) (enumerate_from n xs)
@@ -123,7 +125,7 @@ where_stopped planned b y =
 settled_lowers : (planned : ℕ) (y : JobState) → job_left planned (settled_as result.Cancelled y) ≤ job_left planned y
 settled_lowers planned y = omega arith
 
--- what is left of a job at a place of a run
+-- the phases that remain for job `j` of a run
 abbrev left_in : RunState → ℕ → JobState → ℕ
 left_in x j y = job_left (legs_in_plan (plan_of x.admitted.body) j) y
 
@@ -158,8 +160,8 @@ one_leg_of_run j l x =
 -- ---- a holder
 
 pub stop_lowers : (h : Holder) (runs : List RunState) → remaining_phases (stop_holder h runs).runs ≤ remaining_phases runs
-stop_lowers (Holder.a_run r) runs = sum_of_one run_left stopped_run runs r (λ x. stopped_in_lowers x.phase x)
-stop_lowers (Holder.a_leg p) runs = sum_of_one run_left (with_job_of p.job (with_leg_of p.leg stopped)) runs p.run
+stop_lowers (Run r) runs = sum_of_one run_left stopped_run runs r (λ x. stopped_in_lowers x.phase x)
+stop_lowers (Leg p) runs = sum_of_one run_left (with_job_of p.job (with_leg_of p.leg stopped)) runs p.run
     (one_leg_of_run p.job p.leg)
 
 each_lowers : (change : Holder → List RunState → Transition) → ((h : Holder) (runs : List RunState) → remaining_phases (change h runs).runs ≤ remaining_phases runs)

@@ -5,26 +5,27 @@ use Rattle.std.specs.List.{list_all}
 use Rattle.std.specs.Option.{option_or}
 use Rattle.std.proofs.Common.{ap, ◌∙◌}
 use Rattle.std.proofs.lemmas.List.Folds.{find-append}
-use Rattle.workflow_runs.specs.FirstOf.{first_some, placed}
-use Rattle.workflow_runs.specs.Places.{LegPlace, job_at, leg_at}
-use Rattle.workflow_runs.specs.Groups.{may_start}
-use Rattle.workflow_runs.specs.Moves.{Holder}
-use Rattle.workflow_runs.specs.Rules.{job_places, run_places, opening_rule, leg_rule, leg_rule_in, closing_rule, whole_rule, whole_rule_in}
-use Rattle.workflow_runs.specs.Settling.{applies, first_place}
-use Rattle.workflow_runs.specs.RunState.{LegState, JobState, RunState}
-use Rattle.workflow_runs.specs.StateWords.{is_live, is_blocked, is_done, is_settled}
-use Rattle.workflow_runs.specs.WithinRun.{goes_on, goes_on_in, leg_place, first_in_job, first_in_jobs, first_in_run, first_of_legs}
-use Rattle.workflow_runs.specs.WithinRun.{needs_settled_in, whole_goes_on_in}
-use Rattle.workflow_runs.specs.Words.{needs_have_settled}
-use Rattle.workflow_runs.specs.declared.phases.LegPhase.{LegPhase}
-use Rattle.workflow_runs.specs.declared.phases.LegPhase.TheVariants as leg
-use Rattle.workflow_runs.specs.declared.phases.RunPhase.{RunPhase}
-use Rattle.workflow_runs.specs.declared.phases.RunPhase.TheVariants as run
-use Rattle.workflow_runs.specs.declared.place.Place.TheVariants.{Opening, AtLeg, Closing, Whole}
+use Rattle.run_states.specs.FirstOf.{first_some, placed}
+use Rattle.run_states.specs.Groups.{may_start}
+use Rattle.run_states.specs.Places.{job_at, leg_at}
+use Rattle.run_states.specs.declared.place.LegPlace.{LegPlace}
+use Rattle.run_states.specs.Rules.{job_places, run_places, opening_rule, leg_rule, leg_rule_in, closing_rule, whole_rule, whole_rule_in}
+use Rattle.run_states.specs.RunState.{LegState, JobState, RunState}
+use Rattle.run_states.specs.Settling.{applies, first_place}
+use Rattle.run_states.specs.StateWords.{is_live, is_blocked, is_done, is_settled}
+use Rattle.run_states.specs.WithinRun.{goes_on, goes_on_in, leg_place, first_in_job, first_in_jobs, first_in_run, first_of_legs}
+use Rattle.run_states.specs.WithinRun.{needs_settled_in, whole_goes_on_in}
+use Rattle.run_states.specs.Words.{needs_have_settled}
+use Rattle.run_states.specs.declared.phases.LegPhase.{LegPhase}
+use Rattle.run_states.specs.declared.phases.LegPhase.TheVariants as leg
+use Rattle.run_states.specs.declared.phases.RunPhase.{RunPhase}
+use Rattle.run_states.specs.declared.phases.RunPhase.TheVariants as run
+use Rattle.run_states.specs.declared.place.RuleSite.TheVariants.{Opening, AtLeg, Closing, Whole}
+use Rattle.run_states.proofs.NeedsSettled.{needs_by_run}
 use Rattle.workflow_runs.proofs.Firsts.{find-flat_map, find-map, first_same_placed}
-use Rattle.workflow_runs.proofs.NeedsSettled.{needs_by_run}
+use Rattle.run_states.specs.declared.holder.Holder.TheVariants.{Run, Leg}
 
--- ---- whether the rule at a place applies, by what stands there
+-- ---- whether the rule at a place applies, from the element there
 
 some_if : {X : Type 0} (b : Bool) (x : X) → is_some (if b then Some x else None) ≡ b
 some_if true x = refl
@@ -42,7 +43,7 @@ opening_applies runs r j run job at_run at =
 
 leg_rule_applies : (phase : LegPhase) (runs : List RunState) (p : LegPlace) → is_some (leg_rule_in phase runs p) ≡ goes_on_in phase runs p
 leg_rule_applies leg.New runs p = refl
-leg_rule_applies leg.Waiting runs p = some_if (may_start runs (Holder.a_leg p)) _
+leg_rule_applies leg.Waiting runs p = some_if (may_start runs (Leg p)) _
 leg_rule_applies leg.Ready runs p = refl
 leg_rule_applies leg.Running runs p = refl
 leg_rule_applies leg.Stopping runs p = refl
@@ -56,7 +57,7 @@ closing_applies runs r j job at = ap (λ o. is_some (option_and_then (closing_ru
 
 whole_rule_applies : (phase : RunPhase) (runs : List RunState) (r : ℕ) (x : RunState)
     → is_some (whole_rule_in phase runs r x) ≡ whole_goes_on_in phase runs r x
-whole_rule_applies run.Waiting runs r x = some_if (may_start runs (Holder.a_run r)) _
+whole_rule_applies run.Waiting runs r x = some_if (may_start runs (Run r)) _
 whole_rule_applies run.Live runs r x = some_if (list_all is_settled x.jobs) _
 whole_rule_applies run.Ended runs r x = refl
 
@@ -114,7 +115,7 @@ in_run runs r run at =
 
 -- ---- in the whole table
 
--- the first place with a rule is that of the first run that has one
+-- the first place where a rule applies is that of the first run that has one
 pub first_place_by_run : (runs : List RunState) → first_place runs ≡ first_some (λ r. first_in_run runs r.0 r.1) (placed runs)
 first_place_by_run runs =
     find-flat_map (applies runs) run_places (placed runs)

@@ -1,4 +1,4 @@
--- Whoever may start after a change is in a run that is woken, or changes.
+-- A holder that may start after a change is in a run that changes or is due.
 use Rattle.std.specs.Prelude.{◌≡◌, ◌⊎◌, ℕ, ◌<◌, List, length, true, false, Some, slice_get, refl}
 use Rattle.std.proofs.Common.{arith, ap, subst, sym, ◌∙◌, inl, inr}
 use Rattle.std.proofs.lemmas.Bool.{and_parts, true≢false}
@@ -7,23 +7,21 @@ use Rattle.group_book.specs.Books.{HasEachOnce}
 use Rattle.group_book.specs.Slots.{HasPlace}
 use Rattle.group_book.specs.declared.slot.Slot.{Slot}
 use Rattle.run_marks.specs.Marked.{is_marked}
-use Rattle.workflow_runs.specs.Asks.{AreBound}
+use Rattle.run_states.specs.ActiveRuns.{is_active, someone_waits}
+use Rattle.run_states.specs.GroupOf.{group_at}
+use Rattle.run_states.specs.Groups.{holds, is_in, is_running_in, waits}
+use Rattle.run_states.specs.Holders.{run_of}
+use Rattle.run_states.specs.RunState.{RunState}
+use Rattle.run_states.specs.declared.frees.Frees.{Frees}
+use Rattle.run_states.specs.declared.frees.Frees.TheVariants.{Nobody, One, Any}
+use Rattle.run_bindings.specs.Bindings.{AreBound}
+use Rattle.run_bindings.specs.GroupNumbers.{EachSaysNumbers}
+use Rattle.run_bindings.specs.declared.bindings.RunBindings.{RunBindings}
 use Rattle.workflow_runs.specs.FoundHolders.{HoldersAreFound}
-use Rattle.workflow_runs.specs.GroupNumbers.{EachSaysNumbers}
-use Rattle.workflow_runs.specs.GroupOf.{group_at}
-use Rattle.workflow_runs.specs.Groups.{holds, is_in, is_running_in, waits}
-use Rattle.workflow_runs.specs.Holders.{holder_in_words, run_of}
 use Rattle.workflow_runs.specs.LettingGo.{IsFreed, LetsGoOnly}
-use Rattle.workflow_runs.specs.MarkedRuns.{AreMarked, RunsAreMarked, is_active, someone_waits}
-use Rattle.workflow_runs.specs.Moves.{Holder as HolderOfGroup}
-use Rattle.workflow_runs.specs.RunState.{RunState}
+use Rattle.workflow_runs.specs.MarkedRuns.{AreMarked, RunsAreMarked}
 use Rattle.workflow_runs.specs.SlotHolders.{IsSlotOf}
-use Rattle.workflow_runs.specs.Woken.{AreDue, AreWoken, GroupIsDue, Wakes}
-use Rattle.workflow_runs.specs.declared.asks.RunBindings.{RunBindings}
-use Rattle.workflow_runs.specs.declared.frees.Frees.{Frees}
-use Rattle.workflow_runs.specs.declared.frees.Frees.TheVariants.{Nobody, One, Any}
-use Rattle.workflow_runs.specs.declared.holder.Holder.{Holder}
-use Rattle.workflow_runs.specs.declared.holder.Holder.TheVariants.{Run, Leg}
+use Rattle.workflow_runs.specs.Woken.{AreDue, AreWoken, GroupIsDue, InvalidatesWaiters}
 use Rattle.workflow_runs.specs.declared.runs.group_holders.GroupHolders.{GroupHolders}
 use Rattle.workflow_runs.specs.declared.runs.marks.RunMarks.{RunMarks}
 use Rattle.workflow_runs.proofs.KeptBack.{RunsStillFor}
@@ -31,65 +29,67 @@ use Rattle.workflow_runs.proofs.LettingGo.{holder_within}
 use Rattle.workflow_runs.proofs.MarkedRuns.{waits_marked}
 use Rattle.workflow_runs.proofs.OneEach.{group_is, one_that_waits}
 use Rattle.workflow_runs.proofs.SlotHolders.{met}
+use Rattle.run_states.specs.declared.holder.Holder.{Holder}
+use Rattle.run_states.specs.declared.holder.Holder.TheVariants.{Run, Leg}
 
-module _ (runs : List RunState) (asks : List RunBindings) (groups : GroupHolders) (bound_by : AreBound runs asks)
-    (grouped : EachSaysNumbers groups.book.entries asks) (found : HoldersAreFound runs asks groups.book.entries groups.unlisted) where
-  -- ---- who waits in the group of one is in the slot of that group, or its run is marked
+module _ (runs : List RunState) (bindings : List RunBindings) (groups : GroupHolders) (bound_by : AreBound runs bindings)
+    (grouped : EachSaysNumbers groups.book.entries bindings) (found : HoldersAreFound runs bindings groups.book.entries groups.unlisted) where
+  -- ---- a holder that waits in a group is in the slot of that group, or its run is marked
 
   beside : (one h : Holder) (g : Group) (kept : RunBindings) (slot : Slot Holder) → HasEachOnce groups.book.entries
-      → slice_get asks (run_of (holder_in_words one)) ≡ Some kept → IsSlotOf groups.book.entries kept one slot
-      → group_at runs (holder_in_words one) ≡ Some g → waits runs (holder_in_words h) ≡ true → group_at runs (holder_in_words h) ≡ Some g
-      → HasPlace slot h ⊎ (is_marked groups.unlisted (run_of (holder_in_words h)) ≡ true)
+      → slice_get bindings (run_of one) ≡ Some kept → IsSlotOf groups.book.entries kept one slot
+      → group_at runs one ≡ Some g → waits runs h ≡ true → group_at runs h ≡ Some g
+      → HasPlace slot h ⊎ (is_marked groups.unlisted (run_of h) ≡ true)
   beside one h g kept slot once kept_at is its waiting also =
-      met runs asks groups.book.entries groups.unlisted bound_by grouped found once one kept kept_at slot is h
+      met runs bindings groups.book.entries groups.unlisted bound_by grouped found once one kept kept_at slot is h
       (record { group = g; its = its; also = also; stands = inl waiting })
 
-  -- ---- and so the run of each that one who is freed may have kept back is woken
+  -- ---- so the run of each holder that the released one may have held back is due
 
   module _ (marks : RunMarks) (due : List ℕ) (r bound : ℕ) (kept : RunBindings) (many : bound ≡ length runs)
-      (kept_at : slice_get asks r ≡ Some kept) (marked : AreMarked (λ _ x. someone_waits x) runs marks.waiting) where
-    all_due : AreDue bound marks.waiting due → (h : HolderOfGroup) → waits runs h ≡ true → is_marked due (run_of h) ≡ true
+      (kept_at : slice_get bindings r ≡ Some kept) (marked : AreMarked (λ _ x. someone_waits x) runs marks.waiting) where
+    all_due : AreDue bound marks.waiting due → (h : Holder) → waits runs h ≡ true → is_marked due (run_of h) ≡ true
     all_due all h waiting =
         all (run_of h) (subst (λ n. run_of h < n) (sym many) (holder_within runs h (one_that_waits runs h waiting)))
         (waits_marked runs marks.waiting marked h waiting)
 
-    group_due : (one h : Holder) (g : Group) → GroupIsDue groups kept one bound marks.waiting due → run_of (holder_in_words one) ≡ r
-        → is_running_in runs g (holder_in_words one) ≡ true → waits runs (holder_in_words h) ≡ true
-        → group_at runs (holder_in_words h) ≡ Some g → is_marked due (run_of (holder_in_words h)) ≡ true
+    group_due : (one h : Holder) (g : Group) → GroupIsDue groups kept one bound marks.waiting due → run_of one ≡ r
+        → is_running_in runs g one ≡ true → waits runs h ≡ true
+        → group_at runs h ≡ Some g → is_marked due (run_of h) ≡ true
     group_due one h g woken at running waiting group =
-        let k = holder_in_words h in
+        let k = h in
         let within : run_of k < bound = subst (λ n. run_of k < n) (sym many) (holder_within runs k (one_that_waits runs k waiting)) in
-        let parts = and_parts (is_in runs g (holder_in_words one)) (holds runs (holder_in_words one)) running in
+        let parts = and_parts (is_in runs g one) (holds runs one) running in
         elim
-        (beside one h g kept woken.slot woken.once (ap (slice_get asks) at ∙ kept_at) woken.is (group_is runs g (holder_in_words one) parts.0)
+        (beside one h g kept woken.slot woken.once (ap (slice_get bindings) at ∙ kept_at) woken.is (group_is runs g one parts.0)
         waiting group) [
           | inl place ↦ woken.listed h place within
           | inr mark ↦ woken.unlisted (run_of k) within mark (waits_marked runs marks.waiting marked k waiting)
         ]
 
     woken_by : (goes : Frees) → AreWoken goes groups kept bound marks.waiting due
-        → ((one : Holder) → goes ≡ One one → run_of (holder_in_words one) ≡ r) → (h : Holder) → waits runs (holder_in_words h) ≡ true
-        → (g : Group) → group_at runs (holder_in_words h) ≡ Some g → (b : HolderOfGroup) → is_running_in runs g b ≡ true → IsFreed goes b
-        → is_marked due (run_of (holder_in_words h)) ≡ true
+        → ((one : Holder) → goes ≡ One one → run_of one ≡ r) → (h : Holder) → waits runs h ≡ true
+        → (g : Group) → group_at runs h ≡ Some g → (b : Holder) → is_running_in runs g b ≡ true → IsFreed goes b
+        → is_marked due (run_of h) ≡ true
     woken_by Nobody woken at h waiting g group b running freed = absurd freed
     woken_by (One one) woken at h waiting g group b running freed =
         elim (woken) [
-          | inl all ↦ all_due all (holder_in_words h) waiting
+          | inl all ↦ all_due all h waiting
           | inr it ↦
-              group_due one h g it (at one refl) (subst (λ (k : HolderOfGroup). is_running_in runs g k ≡ true) freed running) waiting group
+              group_due one h g it (at one refl) (subst (λ (k : Holder). is_running_in runs g k ≡ true) freed running) waiting group
         ]
-    woken_by Any woken at h waiting g group b running freed = all_due woken (holder_in_words h) waiting
+    woken_by Any woken at h waiting g group b running freed = all_due woken h waiting
 
     woken_in_words : (goes : Frees) → AreWoken goes groups kept bound marks.waiting due
-        → ((one : Holder) → goes ≡ One one → run_of (holder_in_words one) ≡ r) → (h : HolderOfGroup) → waits runs h ≡ true
-        → (g : Group) → group_at runs h ≡ Some g → (b : HolderOfGroup) → is_running_in runs g b ≡ true → IsFreed goes b
+        → ((one : Holder) → goes ≡ One one → run_of one ≡ r) → (h : Holder) → waits runs h ≡ true
+        → (g : Group) → group_at runs h ≡ Some g → (b : Holder) → is_running_in runs g b ≡ true → IsFreed goes b
         → is_marked due (run_of h) ≡ true
-    woken_in_words goes woken at (HolderOfGroup.a_run s) = woken_by goes woken at (Run s)
-    woken_in_words goes woken at (HolderOfGroup.a_leg p) = woken_by goes woken at (Leg p)
+    woken_in_words goes woken at (Run s) = woken_by goes woken at (Run s)
+    woken_in_words goes woken at (Leg p) = woken_by goes woken at (Leg p)
 
-    -- in a run that is not, whoever is kept back is kept back by one who still runs
+    -- in a run that is not due, a holder that is held back is held back by one that still runs
     pub unwoken_still : (next : List RunState) (goes : Frees) → AreWoken goes groups kept bound marks.waiting due
-        → ((one : Holder) → goes ≡ One one → run_of (holder_in_words one) ≡ r) → LetsGoOnly goes runs next → (s : ℕ)
+        → ((one : Holder) → goes ≡ One one → run_of one ≡ r) → LetsGoOnly goes runs next → (s : ℕ)
         → is_marked due s ≡ false → RunsStillFor runs next s
     unwoken_still next goes woken at only s none h of_run waiting g group b running =
         elim (only g b running) [
@@ -99,10 +99,10 @@ module _ (runs : List RunState) (asks : List RunBindings) (groups : GroupHolders
           | inr still ↦ still
         ]
 
--- ---- the marks stay right
+-- ---- the marks stay valid
 
 pub marks_woken : (runs : List RunState) (freed : Frees) (groups : GroupHolders) (kept : RunBindings) (bound : ℕ) (old new : RunMarks)
-    → Wakes freed groups kept bound old new → RunsAreMarked runs old → RunsAreMarked runs new
+    → InvalidatesWaiters freed groups kept bound old new → RunsAreMarked runs old → RunsAreMarked runs new
 marks_woken runs freed groups kept bound old new wakes are = record {
   waiting = subst (λ (m : List ℕ). AreMarked (λ _ x. someone_waits x) runs m) (sym wakes.waiting) are.waiting;
   active = subst (λ (m : List ℕ). AreMarked (λ _ x. is_active x) runs m) (sym wakes.active) are.active;

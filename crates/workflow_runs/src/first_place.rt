@@ -1,29 +1,24 @@
-//! Where settling finds the first rule that applies in a run. What is called `tries` counts how often a rule was tried at a place: no
-//! contract speaks of it.
+//! Where settling finds the first rule that applies in a run. `tries` counts how often a rule is tried at a place; no contract mentions it.
 
 ghost use Rattle.std.specs.Prelude.{◌≡◌, Some};
 ghost use Rattle.std.specs.List.{list_all};
-ghost use Rattle.workflow_runs.specs.Cells.{states};
-ghost use Rattle.workflow_runs.specs.LookAgain.{JobsRestBefore, NoneBefore, ask};
-ghost use Rattle.workflow_runs.specs.Places.{run_at};
-ghost use Rattle.workflow_runs.specs.RunState.{RunState};
-ghost use Rattle.workflow_runs.specs.StateWords.{is_settled};
-ghost use Rattle.workflow_runs.specs.WithinRun.{first_in_job, first_in_jobs, first_in_run, first_of_legs, first_of_open, first_of_whole};
-ghost use Rattle.workflow_runs.specs.WithinRun.{goes_on};
+ghost use Rattle.run_states.specs.Cells.{states};
+ghost use Rattle.run_states.specs.Resuming.{JobsRestBefore, NoneBefore, apply_at};
+ghost use Rattle.run_states.specs.Places.{run_at};
+ghost use Rattle.run_states.specs.RunState.{RunState};
+ghost use Rattle.run_states.specs.StateWords.{is_settled};
+ghost use Rattle.run_states.specs.WithinRun.{first_in_job, first_in_jobs, first_in_run, first_of_legs, first_of_open, first_of_whole};
+ghost use Rattle.run_states.specs.WithinRun.{goes_on};
 
-use crate::holder::Holder;
-use crate::job::Job;
-use crate::leg::Leg;
-use crate::phases::{LegPhase, RunPhase};
-use crate::place::{LegPlace, Place};
-use crate::run::Run;
 use crate::runs::Runs;
+use crate::walk::Legs;
+use run_states::{Holder, Job, Leg, LegPhase, LegPlace, RuleSite, Run, RunPhase};
 
 fn count(tries: &mut u64) {
     *tries = tries.saturating_add(1);
 }
 
-/// Whether the leg there has a rule.
+/// Whether a rule applies to the leg there.
 fn goes_on(runs: &Runs, place: LegPlace, leg: &Leg) -> bool
     ensures { result ≡ goes_on runs.now place leg.now }
 {
@@ -34,22 +29,20 @@ fn goes_on(runs: &Runs, place: LegPlace, leg: &Leg) -> bool
     }
 }
 
-fn first_of_legs(runs: &Runs, r: usize, j: usize, legs: &[Leg], tries: &mut u64) -> Option<Place>
+fn first_of_legs(runs: &Runs, r: usize, j: usize, legs: &[Leg], tries: &mut u64) -> Option<RuleSite>
     ensures { result ≡ first_of_legs runs.now r j legs.now }
 {
-    for l in 0..legs.len() {
-        let place = LegPlace::new(r, j, l);
-        let leg = &legs[l];
+    for (place, leg) in Legs::of_job(r, j, legs) {
         count(tries);
         if goes_on(runs, place, leg) {
-            return Some(Place::AtLeg(place));
+            return Some(RuleSite::AtLeg(place));
         }
     }
     None
 }
 
-/// The first leg of the job with a rule, which is new or waits.
-fn first_leg(runs: &Runs, r: usize, j: usize, job: &Job, tries: &mut u64) -> Option<Place>
+/// The first leg of the job to which a rule applies. It is new or waits.
+fn first_leg(runs: &Runs, r: usize, j: usize, job: &Job, tries: &mut u64) -> Option<RuleSite>
     ensures { result ≡ first_of_legs runs.now r j job.now.state.legs }
 {
     if job.has_moving_leg() {
@@ -59,8 +52,8 @@ fn first_leg(runs: &Runs, r: usize, j: usize, job: &Job, tries: &mut u64) -> Opt
     }
 }
 
-/// Of a job that does not open: its first leg with a rule, else where it settles.
-fn first_of_open(runs: &Runs, r: usize, j: usize, job: &Job, tries: &mut u64) -> Option<Place>
+/// In a job that does not open: its first leg to which a rule applies, or else where it finishes.
+fn first_of_open(runs: &Runs, r: usize, j: usize, job: &Job, tries: &mut u64) -> Option<RuleSite>
     ensures { result ≡ first_of_open runs.now r j job.now.state }
 {
     let place = first_leg(runs, r, j, job, tries);
@@ -69,13 +62,14 @@ fn first_of_open(runs: &Runs, r: usize, j: usize, job: &Job, tries: &mut u64) ->
     }
     count(tries);
     if job.is_done() {
-        Some(Place::Closing(r, j))
+        Some(RuleSite::Closing(r, j))
     } else {
         None
     }
 }
 
-/// The first place with a rule in a job: where it opens, if it is blocked and all that it needs has settled, else one of its legs or its end.
+/// The first place in a job where a rule applies: where it opens, if it is blocked and all its needs have finished, or else one of its
+/// legs, or where it finishes.
 fn first_in_job(
     runs: &Runs,
     r: usize,
@@ -83,17 +77,17 @@ fn first_in_job(
     j: usize,
     job: &Job,
     tries: &mut u64,
-) -> Option<Place>
+) -> Option<RuleSite>
     ensures { result ≡ first_in_job runs.now r run.now j job.now.state }
 {
     count(tries);
     if job.phase().is_blocked() && run.needs_have_settled(j) {
-        return Some(Place::Opening(r, j));
+        return Some(RuleSite::Opening(r, j));
     }
     first_of_open(runs, r, j, job, tries)
 }
 
-/// The first place with a rule in the jobs of a run, of which none before the one at `from` has a rule.
+/// The first place in the jobs of a run where a rule applies. None applies before the job at index `from`.
 fn first_in_jobs(
     runs: &Runs,
     r: usize,
@@ -101,7 +95,7 @@ fn first_in_jobs(
     jobs: &[Job],
     from: usize,
     tries: &mut u64,
-) -> Option<Place>
+) -> Option<RuleSite>
     requires { NoneBefore (first_in_job runs.now r run.now) (states jobs.now) from }
     ensures { result ≡ first_in_jobs runs.now r run.now (states jobs.now) }
 {
@@ -127,20 +121,20 @@ pub fn has_settled_jobs(run: &Run) -> bool
     are_settled(run.jobs())
 }
 
-/// The run itself as a place, where a rule applies to it: it waits and may start, or is live and all its jobs have settled.
-fn first_of_whole(runs: &Runs, r: usize, run: &Run, tries: &mut u64) -> Option<Place>
+/// The run itself as a place, if a rule applies to it: it waits and may start, or it is live and all its jobs have finished.
+fn first_of_whole(runs: &Runs, r: usize, run: &Run, tries: &mut u64) -> Option<RuleSite>
     ensures { result ≡ first_of_whole runs.now r run.now }
 {
     count(tries);
     match run.phase() {
-        RunPhase::Waiting if runs.may_start(&Holder::Run(r)) => Some(Place::Whole(r)),
-        RunPhase::Live if has_settled_jobs(run) => Some(Place::Whole(r)),
+        RunPhase::Waiting if runs.may_start(&Holder::Run(r)) => Some(RuleSite::Whole(r)),
+        RunPhase::Live if has_settled_jobs(run) => Some(RuleSite::Whole(r)),
         RunPhase::Waiting | RunPhase::Live | RunPhase::Ended => None,
     }
 }
 
-/// The first place with a rule in a run, where none applies at a job before the one at `from`.
-fn first_in_run(runs: &Runs, r: usize, run: &Run, from: usize, tries: &mut u64) -> Option<Place>
+/// The first place in a run where a rule applies. None applies before the job at index `from`.
+fn first_in_run(runs: &Runs, r: usize, run: &Run, from: usize, tries: &mut u64) -> Option<RuleSite>
     requires { JobsRestBefore runs.now r run.now from }
     ensures { result ≡ first_in_run runs.now r run.now }
 {
@@ -153,10 +147,15 @@ fn first_in_run(runs: &Runs, r: usize, run: &Run, from: usize, tries: &mut u64) 
     first_of_whole(runs, r, run, tries)
 }
 
-/// The same in the run at a place, if there is one.
-pub(crate) fn first_in_run_at(runs: &Runs, r: usize, from: usize, tries: &mut u64) -> Option<Place>
+/// The first place in run `r` where a rule applies, if there is such a run. None applies before the job at index `from`.
+pub(crate) fn first_in_run_at(
+    runs: &Runs,
+    r: usize,
+    from: usize,
+    tries: &mut u64,
+) -> Option<RuleSite>
     requires { (run : RunState) → run_at runs.now r ≡ Some run → JobsRestBefore runs.now r run from }
-    ensures { result ≡ ask (first_in_run runs.now) runs.now r }
+    ensures { result ≡ apply_at (first_in_run runs.now) runs.now r }
 {
     let run = runs.as_slice().get(r)?;
     first_in_run(runs, r, run, from, tries)

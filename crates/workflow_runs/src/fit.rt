@@ -1,25 +1,22 @@
-//! Which leg a claim gets, and which leg has a lease: each the first one in the order of run, job and leg.
+//! Which leg a claim gets, and which leg has a lease: the first in the order of run, job and leg.
 
 ghost use Rattle.std.specs.Prelude.{◌≡◌, ◌<◌, ◌^◌, ◌&&◌, IfSome, Some, false, if◌then◌else◌};
 ghost use Rattle.std.specs.Option.{option_map_or};
 ghost use Rattle.wf_value.specs.declared.outcome.Outcome.TheVariants.{Cancelled, Failure};
-ghost use Rattle.workflow_runs.specs.Cells.{HaveTheirRoom, states};
-ghost use Rattle.workflow_runs.specs.Fitting.{OnlyAtWork, first_fit, is_ready, is_served, is_stopping_leg, place_of_lease};
-ghost use Rattle.workflow_runs.specs.Parallel.{has_room};
-ghost use Rattle.workflow_runs.specs.Places.{leg_at, run_at};
-ghost use Rattle.workflow_runs.specs.WithinRun.{fit_in_job, fit_in_jobs, lease_in_run, served_in_job};
-ghost use Rattle.workflow_runs.specs.Words.{planned_legs};
+ghost use Rattle.run_states.specs.Cells.{HaveTheirRoom, states};
+ghost use Rattle.run_states.specs.Fitting.{OnlyAtWork, first_fit, is_ready, is_served, is_stopping_leg, place_of_lease};
+ghost use Rattle.run_states.specs.Parallel.{has_room};
+ghost use Rattle.run_states.specs.Places.{leg_at, run_at};
+ghost use Rattle.run_states.specs.WithinRun.{fit_in_job, fit_in_jobs, lease_in_run, served_in_job};
+ghost use Rattle.run_states.specs.Words.{planned_legs};
 
-use crate::job::Job;
-use crate::leg::Leg;
-use crate::place::LegPlace;
-use crate::run::Run;
 use crate::runs::Runs;
 use crate::walk::Legs;
 use run_plan::{Label, Number};
+use run_states::{Job, Leg, LegPlace, Run};
 use wf_value::Outcome;
 
-/// Whether the leg is ready and asks for no label that these lack.
+/// Whether the leg is ready and `labels` has all labels that it asks for.
 fn fits(labels: &[Label], runs: &Runs, place: LegPlace, leg: &Leg) -> bool
     requires { place.leg < planned_legs runs.now place.run place.job }
     ensures { result ≡ (is_ready leg.now.phase && is_served labels.now runs.now place) }
@@ -27,16 +24,13 @@ fn fits(labels: &[Label], runs: &Runs, place: LegPlace, leg: &Leg) -> bool
     leg.is_ready() && runs.is_served(labels, place)
 }
 
-/// The first ready leg of the job that asks for no label that these lack.
+/// The first ready leg of the job such that `labels` has all labels that it asks for.
 fn served_in_job(labels: &[Label], runs: &Runs, r: usize, j: usize, job: &Job) -> Option<LegPlace>
     requires { job.now.room ≡ planned_legs runs.now r j }
     ensures found { result ≡ served_in_job labels.now runs.now r j job.now.state }
     ensures run { IfSome result (λ p. p.run ≡ r) }
 {
-    let legs = job.planned_legs();
-    for l in 0..legs.len() {
-        let place = LegPlace::new(r, j, l);
-        let leg = &legs[l];
+    for (place, leg) in Legs::of_job(r, j, job.planned_legs()) {
         if fits(labels, runs, place, leg) {
             return Some(place);
         }
@@ -54,7 +48,8 @@ fn has_room(runs: &Runs, r: usize, j: usize, job: &Job) -> bool
     }
 }
 
-/// The same, where one more leg of the job may run. It goes over the legs where one is ready.
+/// The first leg of the job that fits the runner: one that is ready and served, if one more leg of the job may run. It scans the legs only
+/// if one is ready.
 fn fit_in_job(labels: &[Label], runs: &Runs, r: usize, j: usize, job: &Job) -> Option<LegPlace>
     requires { job.now.room ≡ planned_legs runs.now r j }
     ensures found { result ≡ fit_in_job labels.now runs.now r j job.now.state }
@@ -90,7 +85,7 @@ fn fit_in_run(labels: &[Label], runs: &Runs, r: usize, run: &Run) -> Option<LegP
     fit_in_jobs(labels, runs, r, run.planned_jobs())
 }
 
-/// The first ready leg that asks for no label that these lack, in a job of which one more leg may run. It takes no memory.
+/// The first ready leg such that `labels` has all labels that it asks for and one more leg of its job may run. Takes no memory.
 pub fn first_fit(labels: &[Label], runs: &Runs) -> Option<LegPlace>
     ensures found { result ≡ first_fit labels.now runs.now }
     ensures run { IfSome result (λ p. p.run < 100000) }
@@ -108,7 +103,7 @@ pub fn first_fit(labels: &[Label], runs: &Runs) -> Option<LegPlace>
     None
 }
 
-/// The leg of the run that has the lease.
+/// The first leg of the run that has the lease.
 fn lease_in_run(lease: Number, r: usize, run: &Run) -> Option<LegPlace>
     ensures found { result ≡ lease_in_run lease r run.now }
     ensures leg { IfSome result (λ p. p.leg < 2 ^ 63) }
@@ -121,7 +116,7 @@ fn lease_in_run(lease: Number, r: usize, run: &Run) -> Option<LegPlace>
     None
 }
 
-/// The leg that has a lease, where a runner is at work on it.
+/// The leg that has the lease, where each leg that has it has a runner at work.
 pub fn place_of_lease(lease: Number, runs: &Runs) -> Option<LegPlace>
     requires { OnlyAtWork runs.now lease }
     ensures found { result ≡ place_of_lease runs.now lease }
@@ -140,7 +135,7 @@ pub fn place_of_lease(lease: Number, runs: &Runs) -> Option<LegPlace>
     None
 }
 
-/// Whether the leg, if there is one, is told to stop.
+/// Whether the leg, if there is one, is asked to stop.
 pub fn is_stopping(leg: Option<LegPlace>, runs: &Runs) -> bool
     ensures { result ≡ option_map_or (λ p. option_map_or (λ l. is_stopping_leg l.phase) (leg_at runs.now p) false) leg false }
 {
@@ -150,7 +145,7 @@ pub fn is_stopping(leg: Option<LegPlace>, runs: &Runs) -> bool
     }
 }
 
-/// How the leg, if there is one, ends whose runner is lost.
+/// The outcome of the leg, if there is one, when its runner is lost.
 pub fn outcome_of_loss(leg: Option<LegPlace>, runs: &Runs) -> Outcome
     ensures { let stopping = option_map_or (λ p. option_map_or (λ l. is_stopping_leg l.phase) (leg_at runs.now p) false) leg false in
         result ≡ (if stopping then Cancelled else Failure) }

@@ -3,13 +3,13 @@ ghost use Rattle.std.specs.Prelude.{option_map, option_copied, slice_get, Ok, �
 ghost use Rattle.std.specs.List.{position};
 ghost use Rattle.std.specs.Option.{option_map_or};
 ghost use Rattle.wf_value.specs.Gives.{Gives};
-ghost use Rattle.workflow_runs.specs.LegContext.{facts_at};
-ghost use Rattle.workflow_runs.specs.Places.{job_at, leg_at, plan_at};
+ghost use Rattle.run_states.specs.LegContext.{facts_at};
+ghost use Rattle.run_states.specs.NewRun.{is_delivered_as};
+ghost use Rattle.run_states.specs.Parallel.{most_at_work};
+ghost use Rattle.run_states.specs.Places.{job_at, leg_at, plan_at};
+ghost use Rattle.run_states.specs.RunNumber.{events, run_number};
+ghost use Rattle.run_states.specs.Words.{combo_at, job_id};
 ghost use Rattle.workflow_runs.specs.Counted.{IsOf};
-ghost use Rattle.workflow_runs.specs.RunNumber.{events, run_number};
-ghost use Rattle.workflow_runs.specs.Parallel.{most_at_work};
-ghost use Rattle.workflow_runs.specs.NewRun.{is_delivered_as};
-ghost use Rattle.workflow_runs.specs.Words.{combo_at, job_id};
 
 mod changes;
 mod conflicts;
@@ -32,47 +32,43 @@ mod rerun;
 mod settling;
 mod waking;
 
-use crate::asks::RunBindings;
-use crate::job::Job;
-use crate::leg::Leg;
-use crate::leg_view::LegView;
-use crate::place::LegPlace;
-use crate::run::Run;
 use crate::runs::counts::{Workflow, workflow_of};
 use crate::runs::index::Index;
 use crate::runs::marks::RunMarks;
 use crate::runs::offers::offer_run;
+use run_bindings::{LegView, RunBindings};
 use run_plan::{DeliveryId, PlannedJob};
+use run_states::{Job, Leg, LegPlace, Run};
 use std::alloc::Global;
 use std::marker::Model;
 use wf_value::{Chars, Combo, Refusal, TryCopy, copy_items};
 
-/// The most runs of a table.
-pub const MOST_RUNS: u32 = 100_000;
+/// The maximum number of runs in a table.
+pub const MAX_RUNS: u32 = 100_000;
 
-/// The runs of a table, in the order of their ids, which count from 1. A contract sees the list of them.
+/// The runs of a table, in the order of their ids, which count from 1. A contract sees them as a list.
 pub struct Runs {
     runs: Vec<Run>,
-    /// The number of each, among the runs of its workflow.
+    /// The number of each run, among the runs of its workflow.
     numbers: Vec<usize>,
-    /// What each, and its legs, ask of concurrency groups and of runners.
-    asks: Vec<RunBindings>,
+    /// What each run and its legs ask of concurrency groups and of runners.
+    bindings: Vec<RunBindings>,
     index: Index,
     marks: RunMarks,
-    /// How often settling has tried a rule at a place, since it was last set to 0.
+    /// How often settling has tried a rule at a place, since the count was last set to 0.
     tries: u64,
 }
 
 impl Model for Runs {
     ghost use Rattle.std.specs.Prelude.{List};
-    ghost use Rattle.workflow_runs.specs.RunState.{RunState};
+    ghost use Rattle.run_states.specs.RunState.{RunState};
     ghost use Rattle.workflow_runs.specs.RunsKept.{RunsAreKept};
 
     ghost Value = { List RunState };
 
     ghost view = { λ r. r.runs.items };
 
-    ghost invariant = { λ r. RunsAreKept r.runs.items r.numbers.items r.asks.items r.index r.marks };
+    ghost invariant = { λ r. RunsAreKept r.runs.items r.numbers.items r.bindings.items r.index r.marks };
 }
 
 impl Runs {
@@ -82,7 +78,7 @@ impl Runs {
         Runs {
             runs: Vec::new(alloc),
             numbers: Vec::new(alloc),
-            asks: Vec::new(alloc),
+            bindings: Vec::new(alloc),
             index: Index::new(alloc),
             marks: RunMarks::new(alloc),
             tries: 0,
@@ -103,7 +99,7 @@ impl Runs {
         self.runs.len()
     }
 
-    /// What the plan of its run says of a job.
+    /// The plan of job `j` of run `r`.
     pub fn planned(&self, r: usize, j: usize) -> Option<&PlannedJob>
         ensures { option_map (λ p. p.now) result ≡ plan_at self.now r j }
     {
@@ -129,22 +125,22 @@ impl Runs {
         }
     }
 
-    /// The most legs of a job on which runners are at work, where its plan sets a bound.
+    /// The most legs of the job that may be at work at a time, if its plan sets a bound.
     pub fn most_at_work(&self, r: usize, j: usize) -> Option<u16>
         ensures { result ≡ most_at_work self.now r j }
     {
         self.planned(r, j)?.max_parallel
     }
 
-    /// The number of a run among the runs of its workflow.
+    /// The number of run `r` among the runs of its workflow.
     pub fn number(&self, r: usize) -> Option<usize>
         ensures { result ≡ option_map (run_number (events self.now) r) (slice_get (events self.now) r) }
     {
         number_at(&self.numbers, r)
     }
 
-    /// The leg at a place, as it is planned.
-    #[tactic(auto, unfolding(crate::specs::LegContext::facts_at))]
+    /// The planned leg at a place.
+    #[tactic(auto, unfolding(run_states::specs::LegContext::facts_at))]
     pub(super) fn leg_view(&self, place: LegPlace) -> Option<LegView<'_>>
         requires leg { place.leg < 2 ^ 63 }
         ensures { result ≡ facts_at self.now place }
@@ -162,7 +158,7 @@ impl Runs {
         })
     }
 
-    /// The place of the run of a delivery.
+    /// The index of the first run of the delivery.
     pub fn position(&self, delivery: &DeliveryId) -> Option<usize>
         ensures found { result ≡ position (is_delivered_as delivery.now) self.now }
         ensures most { IfSome result (λ i. i < 100000) }
@@ -175,7 +171,7 @@ impl Runs {
         }
     }
 
-    /// Whether the run of the delivery stands at the place.
+    /// Whether the run at index `place` is of the delivery.
     fn is_delivered_at(&self, place: usize, delivery: &DeliveryId) -> bool
         ensures is { result ≡ option_map_or (is_delivered_as delivery.now) (slice_get self.now place) false }
         ensures within { result ≡ true → place < 100000 }
@@ -186,7 +182,7 @@ impl Runs {
         }
     }
 
-    /// A job at a place.
+    /// Job `j` of run `r`.
     fn job(&self, r: usize, j: usize) -> Option<&Job>
         ensures { option_map (λ job. job.now.state) result ≡ job_at self.now r j }
     {
@@ -194,7 +190,7 @@ impl Runs {
         run.job(j)
     }
 
-    /// A leg at a place.
+    /// The leg at a place.
     pub fn leg(&self, place: LegPlace) -> Option<&Leg>
         ensures { option_copied result ≡ leg_at self.now place }
     {
@@ -202,7 +198,7 @@ impl Runs {
         job.legs().get(place.leg)
     }
 
-    /// Adds a run at the end, with its number and with what it and its legs ask. At an error it is not added.
+    /// Adds a run at the end, with its number and its bindings. On an `Err` it is not added.
     pub fn add(&mut self, alloc: Global, run: Run) -> Result<(), Refusal>
         requires { length self.old < 100000 }
         ensures added { Gives (λ _. self.new) result (Ok (self.old ++ run ∷ [])) }
@@ -213,7 +209,7 @@ impl Runs {
         self.add_counted(alloc, run, found, workflow)
     }
 
-    /// Adds a run of this workflow. `found` is the place of an earlier run of its delivery, if there is one.
+    /// Adds a run of this workflow. `found` is the index of an earlier run of its delivery, if there is one.
     fn add_counted(
         &mut self,
         alloc: Global,
@@ -234,31 +230,31 @@ impl Runs {
         let asked = RunBindings::bind(alloc, &run, self.runs.len() + 1, number)?;
         self.runs.reserve(1)?;
         self.numbers.reserve(1)?;
-        self.asks.reserve(1)?;
+        self.bindings.reserve(1)?;
         let r = self.runs.len();
-        self.marks.cover(r + 1)?;
-        self.index.lists.cover(r + 1)?;
+        self.marks.reserve_up_to(r + 1)?;
+        self.index.lists.reserve_up_to(r + 1)?;
         let grouped = self.index.groups.enter(alloc, asked, r + 1)?;
-        let asks = grouped.with_lists(alloc, &mut self.index.lists, r)?;
-        offer_run(&mut self.index.lists, &asks, r, &run);
-        self.marks.stir(r, 0);
+        let bindings = grouped.with_lists(alloc, &mut self.index.lists, r)?;
+        offer_run(&mut self.index.lists, &bindings, r, &run);
+        self.marks.mark_dirty(r, 0);
         self.runs.push_reserved(run);
         let runs = self.runs.as_slice();
-        self.index.groups.list_run(r, runs, &asks);
+        self.index.groups.list_run(r, runs, &bindings);
         self.numbers.push_reserved(number);
-        self.asks.push_reserved(asks);
+        self.bindings.push_reserved(bindings);
         self.index.counts.add(workflow, number);
         Ok(())
     }
 }
 
-/// As it is derived. Written out, it is one call in the proof of each caller that lets runs go, in place of the drop of every part.
+/// Drops each part, as a derived `Drop` does. Written out, it is a single call in the proof of each caller that drops runs.
 impl Drop for Runs {
     fn drop(self) {
         let Self {
             runs: _,
             numbers: _,
-            asks: _,
+            bindings: _,
             index: _,
             marks: _,
             tries: _,
@@ -271,7 +267,7 @@ impl TryCopy for Runs {
         Ok(Runs {
             runs: copy_items(alloc, &self.runs)?,
             numbers: Vec::from_slice(alloc, self.numbers.as_slice())?,
-            asks: copy_items(alloc, &self.asks)?,
+            bindings: copy_items(alloc, &self.bindings)?,
             index: self.index.copy(alloc)?,
             marks: self.marks.copy()?,
             tries: self.tries,

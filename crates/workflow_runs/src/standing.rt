@@ -1,17 +1,12 @@
-//! Who waits for a concurrency group, and who holds it, of the runs of a table.
+//! Which runs and legs of a table wait for a concurrency group, and which hold one.
 
 ghost use Rattle.std.specs.Prelude.{◌≡◌, ◌↔◌, IsTrue, length, option_copied, option_map};
 ghost use Rattle.std.specs.Option.{option_map_or};
+ghost use Rattle.run_states.specs.Groups.{holds, waits};
+ghost use Rattle.run_states.specs.Places.{job_at, leg_at, run_at};
 ghost use Rattle.workflow_runs.specs.FoundHolders.{Stands};
-ghost use Rattle.workflow_runs.specs.Groups.{holds, waits};
-ghost use Rattle.workflow_runs.specs.Holders.{holder_in_words};
-ghost use Rattle.workflow_runs.specs.Places.{job_at, leg_at, run_at};
 
-use crate::holder::Holder;
-use crate::job::Job;
-use crate::leg::Leg;
-use crate::place::LegPlace;
-use crate::run::Run;
+use run_states::{Holder, Job, Leg, LegPlace, Run};
 
 fn leg_of(runs: &[Run], place: LegPlace) -> Option<&Leg>
     ensures { option_copied result ≡ leg_at runs.now place }
@@ -21,7 +16,7 @@ fn leg_of(runs: &[Run], place: LegPlace) -> Option<&Leg>
 }
 
 pub(crate) fn is_waiting(runs: &[Run], holder: &Holder) -> bool
-    ensures { result ≡ waits runs.now (holder_in_words holder.now) }
+    ensures { result ≡ waits runs.now holder.now }
 {
     match holder {
         Holder::Run(r) => match runs.get(*r) {
@@ -36,7 +31,7 @@ pub(crate) fn is_waiting(runs: &[Run], holder: &Holder) -> bool
 }
 
 pub(crate) fn is_holding(runs: &[Run], holder: &Holder) -> bool
-    ensures { result ≡ holds runs.now (holder_in_words holder.now) }
+    ensures { result ≡ holds runs.now holder.now }
 {
     match holder {
         Holder::Run(r) => match runs.get(*r) {
@@ -50,14 +45,14 @@ pub(crate) fn is_holding(runs: &[Run], holder: &Holder) -> bool
     }
 }
 
-/// Whether the run or the leg waits for its group, or holds it.
+/// Whether the run or the leg is active: it waits for its group or holds it.
 pub(crate) fn stands(runs: &[Run], holder: &Holder) -> bool
     ensures { IsTrue result ↔ Stands runs.now holder.now }
 {
     is_waiting(runs, holder) || is_holding(runs, holder)
 }
 
-/// How many jobs the run at a place has.
+/// How many jobs run `r` has.
 pub(crate) fn job_count(runs: &[Run], r: usize) -> usize
     ensures { result ≡ option_map_or (λ run. length run.jobs) (run_at runs.now r) 0 }
 {
@@ -74,7 +69,7 @@ fn job_of(runs: &[Run], r: usize, j: usize) -> Option<&Job>
     run.job(j)
 }
 
-/// How many legs a job has.
+/// How many legs job `j` of run `r` has.
 pub(crate) fn leg_count(runs: &[Run], r: usize, j: usize) -> usize
     ensures { result ≡ option_map_or (λ job. length job.legs) (job_at runs.now r j) 0 }
 {

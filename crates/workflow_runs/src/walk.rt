@@ -1,33 +1,31 @@
 //! The legs of a table or of a run, one after the other in the order of run, job and leg, each with its place.
 
-ghost use Rattle.std.specs.Prelude.{◌≡◌, ◌<◌, ◌^◌, IfSome};
+ghost use Rattle.std.specs.Prelude.{◌≡◌, ◌<◌, ◌^◌, IfSome, map};
 ghost use Rattle.std.specs.Iterator.{YieldsFirstBy, item_count};
-ghost use Rattle.workflow_runs.specs.PlacedLegs.{placed_legs, placed_legs_of_run};
+ghost use Rattle.run_states.specs.FirstOf.{placed};
+ghost use Rattle.run_states.specs.PlacedLegs.{placed_leg, placed_legs, placed_legs_of_run};
 
-use crate::job::Job;
-use crate::leg::Leg;
-use crate::place::LegPlace;
-use crate::run::Run;
 use crate::runs::Runs;
+use run_states::{Job, Leg, LegPlace, Run};
 use std::marker::Model;
 
-/// The legs that are still to come. A contract sees the list of them, each with its place.
+/// The remaining legs. A contract sees them as a list, each with its place.
 #[derive(Drop)]
 pub struct Legs<'a> {
-    /// The legs of one job, and the place of the first of them.
+    /// The remaining legs of one job, and the place of the first of them.
     legs: &'a [Leg],
     at: LegPlace,
-    /// The jobs behind it in its run, and the place of the first of them.
+    /// The later jobs of its run, and the index of the first of them.
     jobs: &'a [Job],
     job: usize,
-    /// The runs behind that run, and the place of the first of them.
+    /// The later runs, and the index of the first of them.
     runs: &'a [Run],
     run: usize,
 }
 
 impl<'a> Model for Legs<'a> {
     ghost use Rattle.std.specs.Prelude.{List};
-    ghost use Rattle.workflow_runs.specs.PlacedLegs.{Fits, PlacedLeg, to_come};
+    ghost use Rattle.run_states.specs.PlacedLegs.{Fits, PlacedLeg, to_come};
 
     ghost Value = { List PlacedLeg };
 
@@ -51,7 +49,7 @@ impl<'a> Legs<'a> {
         }
     }
 
-    /// The legs of the run at a place.
+    /// All legs of run `r`.
     pub fn of_run(r: usize, run: &'a Run) -> Self
         ensures { result ≡ placed_legs_of_run (r, run.now) }
     {
@@ -59,6 +57,20 @@ impl<'a> Legs<'a> {
             legs: &[],
             at: LegPlace::new(r, 0, 0),
             jobs: run.jobs(),
+            job: 0,
+            runs: &[],
+            run: 0,
+        }
+    }
+
+    /// These legs of the job at a place.
+    pub fn of_job(r: usize, j: usize, legs: &'a [Leg]) -> Self
+        ensures { result ≡ map (placed_leg r j) (placed legs.now) }
+    {
+        Legs {
+            legs,
+            at: LegPlace::new(r, j, 0),
+            jobs: &[],
             job: 0,
             runs: &[],
             run: 0,

@@ -1,4 +1,4 @@
-//! Values of the first layout one behind the other at the front of bytes.
+//! Consecutive values of the first layout at the front of bytes.
 
 ghost use Rattle.std.specs.Prelude.{ℕ, List, Option};
 ghost use Rattle.table_text.specs.Reading.{Finds, items_at};
@@ -6,16 +6,17 @@ ghost use Rattle.table_text.specs.Reading.{Finds, items_at};
 use crate::decode_error::DecodeError;
 use std::alloc::Global;
 
-/// What is read from the front of bytes of the first layout, where its spelling differs from that of the second.
+/// A type that can be read from the front of bytes, and whose encoding in the first layout differs from that in the
+/// second.
 pub(super) trait ReadFirstAt: Drop {
     ghost stands_first: { List ℕ → Option (Self × List ℕ) };
 
-    /// The value at the front, and what stands behind it.
+    /// The value at the front of the bytes, and the bytes after it.
     fn read_first_at(alloc: Global, bytes: &[u8]) -> Result<(Self, &[u8]), DecodeError>
         ensures { Finds (λ f. (f.0, f.1.now)) result (stands_first bytes.now) };
 }
 
-/// So many values, one behind the other, and what stands behind them.
+/// `count` consecutive values, and the bytes after them.
 pub(super) fn first_list_at<T: ReadFirstAt>(
     alloc: Global,
     count: usize,

@@ -1,4 +1,4 @@
-//! What is kept of the reply to a last command, in the first layout.
+//! The kept reply to a last command, in the first layout.
 
 ghost use Rattle.table_text.specs.Reading.{Finds};
 ghost use Rattle.table_text.specs.ReadingFirst.{first_kept_at, first_kept_of};
@@ -6,25 +6,25 @@ ghost use Rattle.table_text.specs.ReadingFirst.{first_kept_at, first_kept_of};
 use crate::decode_error::DecodeError;
 use crate::fields::{lease_at, lease_told};
 use crate::front::byte_at;
-use crate::kept::Kept;
+use crate::kept::StoredReply;
 use run_plan::Number;
-use run_table::StoredLease;
+use stored_tables::StoredLease;
 
-/// What is kept of a reply that has this byte and this lease.
-fn first_kept_of(reply: u8, lease: Option<Number>) -> Result<Kept, DecodeError>
+/// The kept reply with this byte and this lease.
+fn first_kept_of(reply: u8, lease: Option<Number>) -> Result<StoredReply, DecodeError>
     ensures { Finds (λ k. k) result (first_kept_of (reply, lease)) }
 {
     match (reply, lease) {
-        (0, None) => Ok(Kept::Nothing),
-        (1, Some(lease)) => Ok(Kept::Leased(StoredLease { lease, place: None })),
-        (2, None) => Ok(Kept::Done),
-        _ => Err(DecodeError::NoSpelling),
+        (0, None) => Ok(StoredReply::Nothing),
+        (1, Some(lease)) => Ok(StoredReply::Leased(StoredLease { lease, place: None })),
+        (2, None) => Ok(StoredReply::Done),
+        _ => Err(DecodeError::NoEncoding),
     }
 }
 
-/// What is kept of a reply, at the front, and what stands behind it.
+/// The kept reply at the front of the bytes, and the bytes after it.
 #[tactic(auto, unfolding(crate::specs::ReadingFirst::first_kept_at))]
-pub(crate) fn first_kept_at(bytes: &[u8]) -> Result<(Kept, &[u8]), DecodeError>
+pub(crate) fn first_kept_at(bytes: &[u8]) -> Result<(StoredReply, &[u8]), DecodeError>
     ensures { Finds (λ f. (f.0, f.1.now)) result (first_kept_at bytes.now) }
 {
     let (reply, rest) = byte_at(bytes)?;

@@ -11,10 +11,10 @@ use crate::fields::{lease_at, lease_told, number_at, small_text_at};
 use crate::front::word_at;
 use crate::runners_at::{last_with, rising};
 use run_plan::{Number, RunnerForm};
-use run_table::{LastParts, RunnerParts};
 use std::alloc::Global;
+use stored_tables::{LastParts, RunnerParts};
 
-/// The last command of a runner, with what is kept of its reply.
+/// The last command of a runner with its kept reply.
 #[tactic(auto, unfolding(crate::specs::ReadingFirst::first_last_at))]
 fn first_last_at(alloc: Global, bytes: &[u8]) -> Result<(LastParts, &[u8]), DecodeError>
     ensures { Finds (λ f. (f.0, f.1.now)) result (first_last_at bytes.now) }
@@ -48,7 +48,7 @@ impl ReadFirstAt for RunnerParts {
     }
 }
 
-/// The runners behind their count, and what stands behind them.
+/// The counted runners, and the bytes after them.
 #[tactic(auto, unfolding(crate::specs::ReadingFirst::first_runners_at))]
 pub(super) fn first_runners_at(
     alloc: Global,

@@ -1,4 +1,4 @@
-//! The runs of a table of the first layout: each is at its first attempt.
+//! The runs of a table of the first layout. Each is at its first attempt.
 
 ghost use Rattle.table_text.specs.Reading.{Finds};
 ghost use Rattle.table_text.specs.ReadingFirst.{first_run_at, first_runs_at};
@@ -10,10 +10,10 @@ use crate::front::word_at;
 use crate::phases_at::{flag_at, run_phase_at};
 use crate::runs_at::planned_jobs_at;
 use run_plan::Number;
+use run_states::RunParts;
 use std::alloc::Global;
 use wf_value::Sequence;
-use workflow_runs::RunParts;
-use workflow_runs::runs::MOST_RUNS;
+use workflow_runs::runs::MAX_RUNS;
 
 impl ReadFirstAt for RunParts {
     ghost stands_first = { first_run_at };
@@ -35,7 +35,7 @@ impl ReadFirstAt for RunParts {
     }
 }
 
-/// The runs behind their count, and what stands behind them.
+/// The counted runs, and the bytes after them.
 #[tactic(auto, unfolding(crate::specs::ReadingFirst::first_runs_at))]
 pub(super) fn first_runs_at(
     alloc: Global,
@@ -44,8 +44,8 @@ pub(super) fn first_runs_at(
     ensures { Finds (λ f. (f.0.items, f.1.now)) result (first_runs_at bytes.now) }
 {
     let (count, rest) = word_at(bytes)?;
-    if count > MOST_RUNS {
-        return Err(DecodeError::NoSpelling);
+    if count > MAX_RUNS {
+        return Err(DecodeError::NoEncoding);
     }
     first_list_at(alloc, count as usize, rest)
 }

@@ -1,23 +1,34 @@
-//! The changes of a table's runs, each at its place.
-#![tactic(auto, using(crate::proofs::Doors::written))]
+//! The changes of a table's runs.
+#![tactic(auto, using(run_states::proofs::Doors::written))]
 
 ghost use Rattle.std.specs.Prelude.{◌≡◌};
-ghost use Rattle.workflow_runs.specs.Changes.{changed};
-ghost use Rattle.workflow_runs.specs.Places.{with_job, with_leg, with_run};
-ghost use Rattle.workflow_runs.specs.Rules.{opened, run_in_phase, settled_as, with_leg_in};
-ghost use Rattle.workflow_runs.specs.Stops.{stopped_run, with_stopped_legs};
-ghost use Rattle.workflow_runs.specs.Words.{planned_legs};
+ghost use Rattle.run_states.specs.Changes.{changed};
+ghost use Rattle.run_states.specs.Places.{with_job, with_leg, with_run};
+ghost use Rattle.run_states.specs.Rules.{opened, run_in_phase, settled_as, with_leg_in};
+ghost use Rattle.run_states.specs.Stops.{stopped_run, with_stopped_legs};
+ghost use Rattle.run_states.specs.Words.{planned_legs};
 
-use crate::change::{Change, Taken};
-use crate::leg::Leg;
-use crate::phases::{LegPhase, RunPhase};
-use crate::place::LegPlace;
 use crate::runs::Runs;
 use crate::runs::offers::offer;
+use run_states::{Change, Leg, LegPhase, LegPlace, RunPhase};
 use wf_value::JobResult;
 
+/// Which ready legs of a run a change may take away.
+#[derive(Clone, Copy)]
+enum Taken {
+    Nothing,
+    One(LegPlace),
+    Any,
+}
+
+impl Taken {
+    fn any_if(may_take: bool) -> Self {
+        if may_take { Taken::Any } else { Taken::Nothing }
+    }
+}
+
 impl Runs {
-    /// Changes the run at a place, if there is one. Every change of a run comes here.
+    /// Changes run `r`, if there is one. Every change of a run within an attempt goes through this function.
     fn change(&mut self, r: usize, change: Change)
         ensures { self.new ≡ with_run r (changed change) self.old }
     {
@@ -26,7 +37,7 @@ impl Runs {
         self.look_again_after(r, taken);
     }
 
-    /// Which ready legs the change of the run at a place may take. It is a hint: the run is looked at before a mark is taken away.
+    /// Which ready legs the change of run `r` may take away. This is a hint: the run is searched before a mark is removed.
     fn taken(&self, r: usize, change: &Change) -> Taken {
         match change {
             Change::PutLeg(j, l, leg) => self.taken_leg(LegPlace::new(r, *j, *l), leg),
@@ -35,7 +46,7 @@ impl Runs {
         }
     }
 
-    /// The leg at a place, where it is ready and the next one there is not.
+    /// The leg at a place, if it is ready and its replacement is not.
     fn taken_leg(&self, place: LegPlace, next: &Leg) -> Taken {
         match self.leg(place) {
             Some(leg) if leg.is_ready() && !next.is_ready() => Taken::One(place),
@@ -43,18 +54,18 @@ impl Runs {
         }
     }
 
-    /// Claims pass the run of the legs that were taken, where no such leg is ready any more.
+    /// Unmarks the run for the list of the leg taken, or for all lists, if it has no such ready leg any more. Claims then skip it.
     fn look_again_after(&mut self, r: usize, taken: Taken)
         ensures { self.new ≡ self.old }
     {
         match taken {
             Taken::Nothing => {}
-            Taken::One(place) => self.look_again_for_list(place),
-            Taken::Any => self.look_again_for_offers(r),
+            Taken::One(place) => self.refresh_list(place),
+            Taken::Any => self.refresh_offers(r),
         }
     }
 
-    /// Writes the change, with all that it marks.
+    /// Writes the change and sets the marks that it needs.
     fn write(&mut self, r: usize, change: Change)
         ensures { self.new ≡ with_run r (changed change) self.old }
     {
@@ -63,12 +74,12 @@ impl Runs {
             let newcomer = change.newcomer(r);
             let offered = change.offered(r);
             let runs = self.runs.as_slice();
-            let asks = &self.asks[r];
+            let bindings = &self.bindings[r];
             self.marks
-                .wake_freed(&freed, &self.index.groups, asks, runs.len());
-            self.index.groups.list_newcomer(newcomer, runs, asks);
-            offer(&mut self.index.lists, offered, asks);
-            self.marks.stir(r, 0);
+                .wake_freed(&freed, &self.index.groups, bindings, runs.len());
+            self.index.groups.list_newcomer(newcomer, runs, bindings);
+            offer(&mut self.index.lists, offered, bindings);
+            self.marks.mark_dirty(r, 0);
             let run = &mut self.runs[r];
             run.change(change);
         }
@@ -80,7 +91,7 @@ impl Runs {
         self.change(r, Change::Phase(phase));
     }
 
-    /// The job opens, with all legs of its plan.
+    /// Opens job `j` of run `r` with all legs of its plan.
     pub(crate) fn open_job(&mut self, r: usize, j: usize)
         ensures { self.new ≡ with_job r j (opened (planned_legs self.old r j)) self.old }
     {
@@ -93,28 +104,28 @@ impl Runs {
         self.change(r, Change::Settle(j, settled));
     }
 
-    /// The run is stopped, if there is one at the place.
+    /// Stops run `r`, if there is one.
     pub fn stop(&mut self, r: usize)
         ensures { self.new ≡ with_run r stopped_run self.old }
     {
         self.change(r, Change::Stop);
     }
 
-    /// All legs of the job are stopped.
+    /// Stops all legs of job `j` of run `r`.
     pub(crate) fn stop_legs(&mut self, r: usize, j: usize)
         ensures { self.new ≡ with_job r j with_stopped_legs self.old }
     {
         self.change(r, Change::StopLegs(j));
     }
 
-    /// Puts the leg in the place of the one that is there, if one is.
+    /// Replaces the leg at the place, if there is one.
     pub fn set_leg(&mut self, place: LegPlace, leg: Leg)
         ensures { self.new ≡ with_leg place (λ _. leg) self.old }
     {
         self.change(place.run, Change::PutLeg(place.job, place.leg, leg));
     }
 
-    /// The leg changes to the phase, if there is one at the place.
+    /// Sets the phase of the leg at the place, if there is one.
     pub(crate) fn set_leg_phase(&mut self, place: LegPlace, phase: LegPhase)
         ensures { self.new ≡ with_leg_in phase place self.old }
     {

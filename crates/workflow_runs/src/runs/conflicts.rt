@@ -1,25 +1,25 @@
-//! Who is pending or running in the group of a holder. The slot of the group has a place for each who may be, but for those in runs that are
-//! marked as having somebody who is not listed. Where that does not decide it, all active runs and their legs are gone over. It takes no memory.
+//! The holders that are pending or running in the group of a holder. The group's slot has a place for each such holder, except for those in
+//! runs that are marked as having an unlisted holder. If the slot does not decide, the search covers all active runs and their legs. Takes
+//! no memory.
 
 ghost use Rattle.std.specs.Prelude.{◌≡◌, ◌<◌, ◌≤◌, ℕ, IfNone, IfSome, Some, false, find, length, map, option_and_then, option_map, true};
 ghost use Rattle.run_marks.specs.Marked.{is_marked};
-ghost use Rattle.workflow_runs.specs.FirstOf.{placed};
-ghost use Rattle.workflow_runs.specs.Holders.{first_conflicting, holder_in_words, is_conflicting};
-ghost use Rattle.workflow_runs.specs.Moves.{Holder as HolderOfGroup};
-ghost use Rattle.workflow_runs.specs.Places.{leg_places, leg_places_of_run, run_at};
+ghost use Rattle.run_states.specs.FirstOf.{placed};
+ghost use Rattle.run_states.specs.Holders.{first_conflicting, is_conflicting};
+ghost use Rattle.run_states.specs.Places.{leg_places, leg_places_of_run, run_at};
+ghost use Rattle.run_states.specs.declared.holder.HolderFilter.{HolderFilter as FilterInCode};
 ghost use Rattle.workflow_runs.specs.SlotHolders.{HaveAll, TellsOf, first_marked, is_marked_conflicting};
-ghost use Rattle.workflow_runs.specs.declared.holder.Holder.{Holder as HolderInCode};
-ghost use Rattle.workflow_runs.specs.declared.holder.HolderFilter.{HolderFilter as FilterInCode};
+ghost use Rattle.run_states.specs.declared.holder.Holder.{Holder as HolderInCode};
+ghost use Rattle.run_states.specs.declared.holder.Holder.TheVariants as held;
 
-use crate::holder::{Holder, HolderFilter};
-use crate::place::LegPlace;
 use crate::runs::Runs;
 use crate::runs::marks::next_below;
 use crate::walk::Legs;
 use group_book::Slot;
-use run_marks::Marks;
+use run_marks::RunBitmap;
+use run_states::{Holder, HolderFilter, LegPlace};
 
-/// How many in the places of a slot are meant.
+/// How many of the holders in the places of a slot conflict.
 #[derive(Clone, Copy)]
 enum InSlot {
     Nobody,
@@ -28,9 +28,9 @@ enum InSlot {
 }
 
 impl Runs {
-    /// The first run, else the first leg, that is in the group of `holder` and pending or running there, as `whom` asks.
+    /// The first run, or else the first leg, that is in the group of `holder` and pending or running there, as `whom` asks.
     pub(crate) fn first_conflicting(&self, holder: &Holder, whom: HolderFilter) -> Option<Holder>
-        ensures { option_map holder_in_words result ≡ first_conflicting self.now (holder_in_words holder.now) whom }
+        ensures { result ≡ first_conflicting self.now holder.now whom }
     {
         match self.slot_of(holder) {
             Some((slot, unlisted)) => self.first_by_slot(&slot, unlisted, holder, whom),
@@ -40,27 +40,27 @@ impl Runs {
 
     // ---- by the slot of the group
 
-    /// The slot of the holder's group, and the runs in which somebody may be who is not listed. None where the group has no number, or where
-    /// not all who are listed have a place.
-    fn slot_of(&self, holder: &Holder) -> Option<(Slot<Holder>, &Marks)>
-        ensures { (whom : FilterInCode) → IfSome result (λ it. HaveAll self.now (holder_in_words holder.now) whom it.0 it.1.now) }
+    /// The slot of the holder's group, and the runs that may have an unlisted holder. `None` if the group has no number, or the slot does
+    /// not have a place for each listed holder.
+    fn slot_of(&self, holder: &Holder) -> Option<(Slot<Holder>, &RunBitmap)>
+        ensures { (whom : FilterInCode) → IfSome result (λ it. HaveAll self.now holder.now whom it.0 it.1.now) }
     {
-        let asks = self.asks.get(holder.run())?;
-        let slot = self.index.groups.slot_of(holder, asks)?;
+        let bindings = self.bindings.get(holder.run())?;
+        let slot = self.index.groups.slot_of(holder, bindings)?;
         Some((slot, &self.index.groups.unlisted))
     }
 
-    /// The one in the slot who is meant, where no other may be. Where nobody in the slot is, or that one's run is marked itself, all who are
-    /// meant are in marked runs.
+    /// The conflicting holder in the slot, if there can be no other. If the slot has none, or the one that it has is in a marked run, all
+    /// conflicting holders are in marked runs.
     fn first_by_slot(
         &self,
         slot: &Slot<Holder>,
-        unlisted: &Marks,
+        unlisted: &RunBitmap,
         holder: &Holder,
         whom: HolderFilter,
     ) -> Option<Holder>
-        requires { HaveAll self.now (holder_in_words holder.now) whom slot.now unlisted.now }
-        ensures { option_map holder_in_words result ≡ first_conflicting self.now (holder_in_words holder.now) whom }
+        requires { HaveAll self.now holder.now whom slot.now unlisted.now }
+        ensures { result ≡ first_conflicting self.now holder.now whom }
     {
         match self.conflicting_in(slot, holder, whom) {
             InSlot::Nobody => self.first_marked(unlisted, holder, whom),
@@ -73,9 +73,9 @@ impl Runs {
         }
     }
 
-    /// How many in the places of the slot are meant.
+    /// How many of the holders in the places of the slot conflict.
     fn conflicting_in(&self, slot: &Slot<Holder>, holder: &Holder, whom: HolderFilter) -> InSlot
-        ensures { TellsOf (λ other. is_conflicting self.now (holder_in_words holder.now) whom (holder_in_words other)) slot.now result }
+        ensures { TellsOf (λ other. is_conflicting self.now holder.now whom other) slot.now result }
     {
         let [first, second, third] = slot.places();
         let first = self.if_conflicting(first, holder, whom);
@@ -90,16 +90,16 @@ impl Runs {
         }
     }
 
-    /// Who is in the place, if that one is meant.
+    /// The holder in the place, if it conflicts.
     fn if_conflicting(
         &self,
         place: Option<Holder>,
         holder: &Holder,
         whom: HolderFilter,
     ) -> Option<Holder>
-        ensures meant { IfSome result (λ h. is_conflicting self.now (holder_in_words holder.now) whom (holder_in_words h) ≡ true) }
+        ensures meant { IfSome result (λ h. is_conflicting self.now holder.now whom h ≡ true) }
         ensures only { (h : HolderInCode) → place ≡ Some h
-            → is_conflicting self.now (holder_in_words holder.now) whom (holder_in_words h) ≡ true → result ≡ Some h }
+            → is_conflicting self.now holder.now whom h ≡ true → result ≡ Some h }
     {
         match place {
             Some(other) if self.is_conflicting(holder, whom, &other) => Some(other),
@@ -107,18 +107,18 @@ impl Runs {
         }
     }
 
-    // ---- over the runs that are marked and their legs
+    // ---- over the marked runs and their legs
 
-    /// The first of all: in a run that is not active nobody is meant.
+    /// The first conflicting holder of all. A run that is not active has none.
     fn first_in_active(&self, holder: &Holder, whom: HolderFilter) -> Option<Holder>
-        ensures { option_map holder_in_words result ≡ first_conflicting self.now (holder_in_words holder.now) whom }
+        ensures { result ≡ first_conflicting self.now holder.now whom }
     {
         self.first_marked(&self.marks.active, holder, whom)
     }
 
-    /// The first who is meant in a run that is marked.
-    fn first_marked(&self, marks: &Marks, holder: &Holder, whom: HolderFilter) -> Option<Holder>
-        ensures { option_map holder_in_words result ≡ first_marked marks.now self.now (holder_in_words holder.now) whom }
+    /// The first conflicting holder in a marked run.
+    fn first_marked(&self, marks: &RunBitmap, holder: &Holder, whom: HolderFilter) -> Option<Holder>
+        ensures { result ≡ first_marked marks.now self.now holder.now whom }
     {
         match self.first_marked_run(marks, holder, whom) {
             Some(r) => Some(Holder::Run(r)),
@@ -126,8 +126,13 @@ impl Runs {
         }
     }
 
-    fn first_marked_run(&self, marks: &Marks, holder: &Holder, whom: HolderFilter) -> Option<usize>
-        ensures { result ≡ find (λ r. is_marked_conflicting marks.now self.now (holder_in_words holder.now) whom (HolderOfGroup.a_run r))
+    fn first_marked_run(
+        &self,
+        marks: &RunBitmap,
+        holder: &Holder,
+        whom: HolderFilter,
+    ) -> Option<usize>
+        ensures { result ≡ find (λ r. is_marked_conflicting marks.now self.now holder.now whom (held.Run r))
             (map (λ r. r.0) (placed self.now)) }
     {
         let mut from = 0;
@@ -142,11 +147,11 @@ impl Runs {
 
     fn first_marked_leg(
         &self,
-        marks: &Marks,
+        marks: &RunBitmap,
         holder: &Holder,
         whom: HolderFilter,
     ) -> Option<LegPlace>
-        ensures { result ≡ find (λ p. is_marked_conflicting marks.now self.now (holder_in_words holder.now) whom (HolderOfGroup.a_leg p))
+        ensures { result ≡ find (λ p. is_marked_conflicting marks.now self.now holder.now whom (held.Leg p))
             (leg_places self.now) }
     {
         let mut from = 0;
@@ -167,7 +172,7 @@ impl Runs {
         r: usize,
     ) -> Option<LegPlace>
         ensures { result ≡ option_and_then
-            (λ run. find (λ p. is_conflicting self.now (holder_in_words holder.now) whom (HolderOfGroup.a_leg p)) (leg_places_of_run (r, run)))
+            (λ run. find (λ p. is_conflicting self.now holder.now whom (held.Leg p)) (leg_places_of_run (r, run)))
             (run_at self.now r) }
     {
         let run = self.run(r)?;
@@ -179,8 +184,8 @@ impl Runs {
         None
     }
 
-    /// The next run that is marked.
-    fn next_marked(&self, marks: &Marks, from: usize) -> Option<usize>
+    /// The first marked run at or after `from`.
+    fn next_marked(&self, marks: &RunBitmap, from: usize) -> Option<usize>
         ensures within { IfSome result (λ r. r < length self.now) }
         ensures few { IfSome result (λ r. r < 100000) }
         ensures from { IfSome result (λ r. from ≤ r) }

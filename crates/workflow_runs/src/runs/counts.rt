@@ -1,10 +1,10 @@
-//! How many runs there are of each workflow, so that the number of the next is known without a look at them.
+//! How many runs there are of each workflow, so that the number of the next run is known without a scan of the runs.
 
 ghost use Rattle.std.specs.Prelude.{◌≡◌, ◌+◌, IfOk, Ok, OnOk, false, if◌then◌else◌, string_bytes, true};
 ghost use Rattle.wf_value.specs.Gives.{ErrsOnlyByMemory, Gives};
 ghost use Rattle.run_plan.specs.Admitted.{Admitted};
+ghost use Rattle.run_states.specs.RunNumber.{same_workflow};
 ghost use Rattle.workflow_runs.specs.Counted.{IsOf, count_of, has_count, is_counted, texts_of};
-ghost use Rattle.workflow_runs.specs.RunNumber.{same_workflow};
 
 use run_plan::Prepared;
 use std::alloc::Global;
@@ -14,7 +14,7 @@ use wf_value::{Chars, Refusal};
 /// A workflow: its repository, and its path within it.
 pub type Workflow = (String, String);
 
-/// How many runs there are so far of each workflow.
+/// The number of runs so far, by workflow.
 #[derive(Drop)]
 pub(crate) struct Counts {
     pub counts: BTreeMap<Workflow, usize>,
@@ -29,7 +29,7 @@ impl Counts {
         }
     }
 
-    /// How many runs there are of the workflow.
+    /// How many runs the workflow has.
     pub(crate) fn count(&self, workflow: &Workflow) -> usize
         ensures { (event : Admitted) → IsOf workflow.now event → result ≡ count_of self.now.counts event }
     {
@@ -39,7 +39,7 @@ impl Counts {
         }
     }
 
-    /// Makes room for a workflow, so that its next run can be counted without memory.
+    /// Reserves an entry for the workflow, so that counting its next run takes no memory.
     pub(crate) fn make_room(&mut self, alloc: Global, workflow: &Workflow) -> Result<(), Refusal>
         ensures err { ErrsOnlyByMemory result }
         ensures same { (event : Admitted) → count_of self.new.counts event ≡ count_of self.old.counts event }
@@ -73,7 +73,7 @@ impl Counts {
         })
     }
 
-    /// Counts a run of the workflow, for which there is room.
+    /// Counts a run of the workflow, which has an entry.
     pub(crate) fn add(&mut self, workflow: Workflow, number: usize)
         requires { (event : Admitted) × IsOf workflow event × (is_counted self.old.counts event ≡ true) }
         ensures counted { (run event : Admitted) → IsOf workflow run → number ≡ count_of self.old.counts run + 1

@@ -2,15 +2,14 @@
 
 ghost use Rattle.std.specs.Prelude.{◌≡◌, ◌<◌, ◌^◌, IfSome};
 ghost use Rattle.std.specs.Option.{option_map_or};
-ghost use Rattle.workflow_runs.specs.Stops.{after_end, fails_fast, stops_others};
+ghost use Rattle.run_states.specs.Stops.{after_end, fails_fast, stops_others};
 
-use crate::phases::LegPhase;
-use crate::place::LegPlace;
 use crate::runs::Runs;
+use run_states::{LegPhase, LegPlace};
 use wf_value::Outcome;
 
 impl Runs {
-    /// The leg ends, if there is one.
+    /// Ends the leg, if there is one.
     pub fn end(&mut self, leg: Option<LegPlace>, outcome: Outcome)
         requires leg { IfSome leg (λ p. p.leg < 2 ^ 63) }
         ensures { self.new ≡ option_map_or (λ p. after_end p outcome self.old) leg self.old }
@@ -20,7 +19,7 @@ impl Runs {
         }
     }
 
-    /// Whether the job ends its legs once one has failed.
+    /// Whether the other legs of the job are stopped once one has failed.
     fn fails_fast(&self, r: usize, j: usize) -> bool
         ensures { result ≡ fails_fast self.now r j }
     {
@@ -30,9 +29,8 @@ impl Runs {
         }
     }
 
-    /// Whether the end of the leg stops the others of its job. It takes no memory.
+    /// Whether the end of the leg stops the other legs of its job. Takes no memory.
     fn stops_others(&self, place: LegPlace, outcome: Outcome) -> bool
-        requires leg { place.leg < 2 ^ 63 }
         ensures { result ≡ stops_others self.now place outcome }
     {
         outcome == Outcome::Failure
@@ -40,7 +38,7 @@ impl Runs {
             && !self.continues_on_error(place)
     }
 
-    /// The leg at the place ends, and the others of its job are stopped where its end stops them.
+    /// Ends the leg at the place, and stops the other legs of its job if its end stops them.
     fn end_at(&mut self, place: LegPlace, outcome: Outcome)
         requires leg { place.leg < 2 ^ 63 }
         ensures { self.new ≡ after_end place outcome self.old }

@@ -1,30 +1,27 @@
-//! The concurrency group of a run or of a leg as a key, by which it can be looked up among others.
+//! The concurrency group of a run or of a leg, as a key for lookups.
 
 ghost use Rattle.std.specs.Fmt.{decimal};
 ghost use Rattle.std.specs.Option.{option_copied, option_map_or};
 ghost use Rattle.std.specs.Prelude.{◌≡◌, ◌<◌, ◌^◌, IfSome, Ok, false, length, nat_lt, true};
 ghost use Rattle.wf_value.specs.Gives.{Gives};
-ghost use Rattle.workflow_runs.specs.GroupOf.{group_at, run_group};
-ghost use Rattle.workflow_runs.specs.Holders.{holder_in_words};
-ghost use Rattle.workflow_runs.specs.Moves.{Holder as HolderOfGroup};
-ghost use Rattle.workflow_runs.specs.Places.{plan_at, run_at};
+ghost use Rattle.run_states.specs.GroupOf.{group_at, run_group};
+ghost use Rattle.run_states.specs.Places.{plan_at, run_at};
+ghost use Rattle.run_states.specs.declared.holder.Holder.TheVariants as held;
 
-use crate::holder::Holder;
-use crate::named_group::named_group;
-use crate::place::LegPlace;
-use crate::run::Run;
-use crate::run_context::RunContext;
 use crate::runs::Runs;
 use group_name::GroupKey;
 use itoa::Buffer;
+use run_bindings::RunContext;
+use run_bindings::named_group::named_group;
 use run_plan::Prepared;
+use run_states::{Holder, LegPlace, Run};
 use std::alloc::Global;
 use wf_value::Refusal;
 
 impl Runs {
-    /// The group of a run or of a leg, where it has one.
+    /// The group of a run or of a leg, if it has one.
     pub fn group(&self, alloc: Global, holder: &Holder) -> Result<Option<GroupKey>, Refusal>
-        ensures { Gives (λ group. group) result (Ok (group_at self.now (holder_in_words holder.now))) }
+        ensures { Gives (λ group. group) result (Ok (group_at self.now holder.now)) }
     {
         match holder {
             Holder::Run(r) => self.group_of_run(alloc, *r),
@@ -32,7 +29,7 @@ impl Runs {
         }
     }
 
-    /// A run at a place.
+    /// Run `r`.
     pub(super) fn run(&self, r: usize) -> Option<&Run>
         ensures run { option_copied result ≡ run_at self.now r }
         ensures within { IfSome result (λ run. r < 100000) }
@@ -41,7 +38,7 @@ impl Runs {
     }
 
     fn group_of_run(&self, alloc: Global, r: usize) -> Result<Option<GroupKey>, Refusal>
-        ensures { Gives (λ group. group) result (Ok (group_at self.now (HolderOfGroup.a_run r))) }
+        ensures { Gives (λ group. group) result (Ok (group_at self.now (held.Run r))) }
     {
         let Some(run) = self.run(r) else {
             return Ok(None);
@@ -58,9 +55,9 @@ impl Runs {
         }
     }
 
-    #[tactic(auto, unfolding(crate::specs::GroupOf::group_at))]
+    #[tactic(auto, unfolding(run_states::specs::GroupOf::group_at))]
     fn group_of_leg(&self, alloc: Global, place: LegPlace) -> Result<Option<GroupKey>, Refusal>
-        ensures { Gives (λ group. group) result (Ok (group_at self.now (HolderOfGroup.a_leg place))) }
+        ensures { Gives (λ group. group) result (Ok (group_at self.now (held.Leg place))) }
     {
         if !self.is_planned(place) {
             return Ok(None);
@@ -83,7 +80,7 @@ impl Runs {
     }
 }
 
-/// The group of the run of an event that has this id and this number, in this attempt.
+/// The group of a run of this event with this id, number and attempt.
 fn group_of_event(
     alloc: Global,
     event: &Prepared,

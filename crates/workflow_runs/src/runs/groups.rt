@@ -1,54 +1,51 @@
-//! Which group a run or a leg is in, whether it waits for it or holds it, and what its coming there does. It takes no memory.
+//! The group of a run or a leg, whether it waits for the group or holds it, and the effect of its arrival. Takes no memory.
 
 ghost use Rattle.std.specs.Prelude.{◌≡◌, IfSome, Some, false, true, is_some, option_and_then, option_map};
 ghost use Rattle.std.specs.Option.{option_map_or};
 ghost use Rattle.group_name.specs.BoundGroup.{group_at as bound_group_at};
-ghost use Rattle.workflow_runs.specs.Arrivals.{arrived, is_in_group_of_run};
-ghost use Rattle.workflow_runs.specs.Asks.{RunSays};
-ghost use Rattle.workflow_runs.specs.BoundGroups.{is_set_by, results_by_place};
-ghost use Rattle.workflow_runs.specs.GroupOf.{RunFacts, cancels_in_progress, group_at, run_facts_at};
-ghost use Rattle.workflow_runs.specs.Groups.{HasOneBeside, holds, is_in, may_start, waits};
-ghost use Rattle.workflow_runs.specs.Holders.{first_conflicting, holder_in_words, is_conflicting};
-ghost use Rattle.workflow_runs.specs.LookAgain.{finds_others, makes_room};
-ghost use Rattle.workflow_runs.specs.Places.{run_at, with_leg};
-ghost use Rattle.workflow_runs.specs.SoundRuns.{RunsAreSound};
-ghost use Rattle.workflow_runs.specs.StopMoves.{stop_holder};
-ghost use Rattle.workflow_runs.specs.Stops.{stopped};
+ghost use Rattle.run_states.specs.Arrivals.{arrived, is_in_group_of_run};
+ghost use Rattle.run_states.specs.GroupOf.{RunFacts, cancels_in_progress, group_at, run_facts_at};
+ghost use Rattle.run_states.specs.Groups.{HasOneBeside, holds, is_in, may_start, waits};
+ghost use Rattle.run_states.specs.Holders.{first_conflicting, is_conflicting};
+ghost use Rattle.run_states.specs.Resuming.{finds_others, makes_room};
+ghost use Rattle.run_states.specs.Places.{run_at, with_leg};
+ghost use Rattle.run_states.specs.SoundRuns.{RunsAreSound};
+ghost use Rattle.run_states.specs.StopMoves.{stop_holder};
+ghost use Rattle.run_states.specs.Stops.{stopped};
+ghost use Rattle.run_bindings.specs.Bindings.{RunSays};
+ghost use Rattle.run_bindings.specs.BoundGroups.{is_set_by, results_by_place};
 
-use crate::asks::RunBindings;
-use crate::groups::Asked;
-use crate::holder::{Holder, HolderFilter};
-use crate::place::LegPlace;
-use crate::run::Run;
 use crate::runs::Runs;
 use crate::standing::{is_holding, is_waiting};
+use run_bindings::{GroupRequest, RunBindings};
+use run_states::{Holder, HolderFilter, LegPlace, Run};
 
 impl Runs {
-    /// The run at a place, with what it and its legs ask.
-    pub(super) fn with_asks(&self, r: usize) -> Option<(&Run, &RunBindings)>
+    /// Run `r` with its bindings.
+    pub(super) fn with_bindings(&self, r: usize) -> Option<(&Run, &RunBindings)>
         ensures run { option_map (λ it. it.0.now) result ≡ run_at self.now r }
         ensures says { IfSome result
             (λ it. (facts : RunFacts) → run_facts_at self.now r ≡ Some facts → RunSays facts it.1.now) }
     {
         let run = self.runs.get(r)?;
-        let asks = self.asks.get(r)?;
-        Some((run, asks))
+        let bindings = self.bindings.get(r)?;
+        Some((run, bindings))
     }
 
-    /// What a run or a leg asks of a group, and its run: the results of that run's jobs may be in the group's name.
-    fn asked(&self, holder: &Holder) -> Option<(&Asked, &Run)>
+    /// What a run or a leg asks of a group, and its run. The group's name may depend on the results of that run's jobs.
+    fn asked(&self, holder: &Holder) -> Option<(&GroupRequest, &Run)>
         ensures group { option_and_then (λ a. bound_group_at (results_by_place a.1.now) a.0.now.group) result
-            ≡ group_at self.now (holder_in_words holder.now) }
+            ≡ group_at self.now holder.now }
         ensures cancels { option_map_or (λ a. is_set_by (results_by_place a.1.now) a.0.now.cancels) result false
-            ≡ cancels_in_progress self.now (holder_in_words holder.now) }
+            ≡ cancels_in_progress self.now holder.now }
     {
-        let (run, asks) = self.with_asks(holder.run())?;
-        Some((asks.asked(holder)?, run))
+        let (run, bindings) = self.with_bindings(holder.run())?;
+        Some((bindings.asked(holder)?, run))
     }
 
     /// Whether the holder has a group.
     pub(crate) fn has_group(&self, holder: &Holder) -> bool
-        ensures { result ≡ is_some (group_at self.now (holder_in_words holder.now)) }
+        ensures { result ≡ is_some (group_at self.now holder.now) }
     {
         match self.asked(holder) {
             Some((asked, run)) => asked.group.has_group(run),
@@ -56,10 +53,10 @@ impl Runs {
         }
     }
 
-    /// Whether the other one is in the group of the first.
+    /// Whether `other` is in the group of `holder`.
     fn is_in_group_of(&self, holder: &Holder, other: &Holder) -> bool
-        ensures { result ≡ option_map_or (λ g. is_in self.now g (holder_in_words other.now))
-            (group_at self.now (holder_in_words holder.now)) false }
+        ensures { result ≡ option_map_or (λ g. is_in self.now g other.now)
+            (group_at self.now holder.now) false }
     {
         match (self.asked(holder), self.asked(other)) {
             (Some((one, run)), Some((another, other_run))) => {
@@ -69,9 +66,9 @@ impl Runs {
         }
     }
 
-    /// Whether the coming of the holder cancels what is in progress.
+    /// Whether the arrival of the holder cancels what is in progress.
     fn cancels_in_progress(&self, holder: &Holder) -> bool
-        ensures { result ≡ cancels_in_progress self.now (holder_in_words holder.now) }
+        ensures { result ≡ cancels_in_progress self.now holder.now }
     {
         match self.asked(holder) {
             Some((asked, run)) => asked.cancels.is_set(run),
@@ -80,27 +77,27 @@ impl Runs {
     }
 
     pub fn waits(&self, holder: &Holder) -> bool
-        ensures { result ≡ waits self.now (holder_in_words holder.now) }
+        ensures { result ≡ waits self.now holder.now }
     {
         is_waiting(&self.runs, holder)
     }
 
     pub fn holds(&self, holder: &Holder) -> bool
-        ensures { result ≡ holds self.now (holder_in_words holder.now) }
+        ensures { result ≡ holds self.now holder.now }
     {
         is_holding(&self.runs, holder)
     }
 
-    /// Whether the leg's group is the one that its own run has.
+    /// Whether the leg's group is the group of its own run.
     pub(crate) fn is_in_group_of_run(&self, leg: LegPlace) -> bool
         ensures { result ≡ is_in_group_of_run self.now leg }
     {
         self.is_in_group_of(&Holder::Run(leg.run), &Holder::Leg(leg))
     }
 
-    /// Whether nobody runs in the group of the holder: nothing keeps back one that has none.
+    /// Whether no holder runs in the group of `holder`. A holder without a group may always start.
     pub(crate) fn may_start(&self, holder: &Holder) -> bool
-        ensures { result ≡ may_start self.now (holder_in_words holder.now) }
+        ensures { result ≡ may_start self.now holder.now }
     {
         !self.has_group(holder)
             || self
@@ -108,9 +105,9 @@ impl Runs {
                 .is_none()
     }
 
-    /// Whether the other one is in the group of `holder`, and pending or running there, as `whom` asks.
+    /// Whether `other` is in the group of `holder` and pending or running there, as `whom` asks.
     pub(crate) fn is_conflicting(&self, holder: &Holder, whom: HolderFilter, other: &Holder) -> bool
-        ensures { result ≡ is_conflicting self.now (holder_in_words holder.now) whom (holder_in_words other.now) }
+        ensures { result ≡ is_conflicting self.now holder.now whom other.now }
     {
         match whom {
             HolderFilter::OthersPending => {
@@ -122,34 +119,33 @@ impl Runs {
 
     // ---- an arrival
 
-    /// Whether somebody in the group of the newcomer makes room for it: another that is pending there ends, or the one in progress is
-    /// stopped.
+    /// Whether an arrival affects others in the newcomer's group: another pending holder ends, or the holder in progress is stopped.
     pub(crate) fn makes_room(&self, newcomer: &Holder) -> bool
-        ensures { result ≡ makes_room self.now (holder_in_words newcomer.now) }
+        ensures { result ≡ makes_room self.now newcomer.now }
     {
         self.has_group(newcomer) && self.finds_others(newcomer)
     }
 
     fn finds_others(&self, newcomer: &Holder) -> bool
-        ensures { result ≡ finds_others self.now (holder_in_words newcomer.now) }
+        ensures { result ≡ finds_others self.now newcomer.now }
     {
         self.finds(newcomer, HolderFilter::OthersPending)
             || (self.cancels_in_progress(newcomer) && self.finds(newcomer, HolderFilter::Running))
     }
 
     fn finds(&self, newcomer: &Holder, whom: HolderFilter) -> bool
-        ensures { result ≡ is_some (first_conflicting self.now (holder_in_words newcomer.now) whom) }
+        ensures { result ≡ is_some (first_conflicting self.now newcomer.now whom) }
     {
         self.first_conflicting(newcomer, whom).is_some()
     }
 
-    /// The run or the leg, which waits by now, arrives in its group: the other one that is pending there, if one is, ends as cancelled,
-    /// and with cancel-in-progress the running one is stopped. It takes no memory.
+    /// The arrival of a run or a leg, which already waits, in its group. Another holder that is pending there ends as cancelled, and with
+    /// cancel-in-progress the running one is stopped. Takes no memory.
     pub fn arrive(&mut self, newcomer: &Holder)
-        requires waits { waits self.old (holder_in_words newcomer.now) ≡ true }
+        requires waits { waits self.old newcomer.now ≡ true }
         requires sound { RunsAreSound self.old }
-        requires one_beside { HasOneBeside self.old (holder_in_words newcomer.now) }
-        ensures { self.new ≡ (arrived (holder_in_words newcomer.now) self.old).runs }
+        requires one_beside { HasOneBeside self.old newcomer.now }
+        ensures { self.new ≡ (arrived newcomer.now self.old).runs }
     {
         if !self.has_group(newcomer) {
             return;
@@ -161,19 +157,19 @@ impl Runs {
         }
     }
 
-    /// Stops the first that is found so, if there is one.
+    /// Stops the first conflicting holder, if there is one.
     fn stop_conflicting(&mut self, newcomer: &Holder, whom: HolderFilter)
         ensures { self.new ≡ option_map_or (λ h. (stop_holder h self.old).runs)
-            (first_conflicting self.old (holder_in_words newcomer.now) whom) self.old }
+            (first_conflicting self.old newcomer.now whom) self.old }
     {
         if let Some(other) = self.first_conflicting(newcomer, whom) {
             self.stop_holder(&other);
         }
     }
 
-    /// The run or the leg is stopped.
+    /// Stops the run or the leg.
     fn stop_holder(&mut self, holder: &Holder)
-        ensures { self.new ≡ (stop_holder (holder_in_words holder.now) self.old).runs }
+        ensures { self.new ≡ (stop_holder holder.now self.old).runs }
     {
         match holder {
             Holder::Run(r) => self.stop(*r),
@@ -181,7 +177,7 @@ impl Runs {
         }
     }
 
-    /// The leg is stopped, if there is one at the place.
+    /// Stops the leg, if there is one at the place.
     fn stop_leg(&mut self, place: LegPlace)
         ensures { self.new ≡ with_leg place stopped self.old }
     {

@@ -1,5 +1,4 @@
-//! The index of a table's runs: where the run of each delivery stands, how many runs each workflow has, who may hold each group, and which
-//! runs may have a ready leg for a list of labels.
+//! The index of a table's runs.
 
 ghost use Rattle.std.specs.List.{position};
 ghost use Rattle.std.specs.Prelude.{◌≡◌, ◌+◌, ◌<◌, ◌&&◌, ◌∷◌, ◌++◌, ℕ, [], IfOk, List, OnErr, OnOk, Some, if◌then◌else◌, is_none};
@@ -8,24 +7,24 @@ ghost use Rattle.std.specs.Str.{bytes_eq};
 ghost use Rattle.indexmap.specs.IndexMap.{get_by_text};
 ghost use Rattle.wf_value.specs.Gives.{ErrsOnlyByMemory};
 ghost use Rattle.run_plan.specs.Admitted.{Admitted};
+ghost use Rattle.run_states.specs.NewRun.{is_delivered_as};
+ghost use Rattle.run_states.specs.RunNumber.{events, number_of_next};
+ghost use Rattle.run_bindings.specs.LabelNumbers.{LegsAreOffered};
 ghost use Rattle.workflow_runs.specs.Counted.{AreCounted, IsOf, count_of, is_counted};
 ghost use Rattle.workflow_runs.specs.Delivered.{FindsFirst};
 ghost use Rattle.workflow_runs.specs.FoundHolders.{HoldersAreFound};
-ghost use Rattle.workflow_runs.specs.LabelNumbers.{LegsAreOffered};
-ghost use Rattle.workflow_runs.specs.NewRun.{is_delivered_as};
-ghost use Rattle.workflow_runs.specs.RunNumber.{events, number_of_next};
 
-use crate::run::Run;
 use crate::runs::counts::{Counts, Workflow};
 use crate::runs::group_holders::GroupHolders;
 use crate::runs::places::DeliveryPlaces;
 use label_lists::LabelLists;
 use run_plan::Prepared;
+use run_states::Run;
 use std::alloc::Global;
 use wf_value::Refusal;
 
-/// Where the run of each delivery stands, how many runs there are of each workflow, who may hold each concurrency group, and which runs may
-/// have a ready leg that asks for a list of labels.
+/// The index of the first run of each delivery, the number of runs of each workflow, the holders that each concurrency group may have, and
+/// the runs that may have a ready leg for a list of labels.
 #[derive(Drop)]
 pub(crate) struct Index {
     pub places: DeliveryPlaces,
@@ -50,8 +49,8 @@ impl Index {
         }
     }
 
-    /// Takes the memory for one run more at the end, of an event of this workflow, and answers the run's number. Its place is kept for
-    /// its delivery, unless an earlier run of that delivery was found. `Counts::add` counts it, once it stands there.
+    /// Takes the memory for one more run at the end, for an event of this workflow, and returns the run's number. The run's index is kept
+    /// for its delivery, unless an earlier run of that delivery was found. `Counts::add` counts the run once it is added.
     pub(crate) fn make_room(
         &mut self,
         alloc: Global,
@@ -77,7 +76,7 @@ impl Index {
         self.take_memory(alloc, event, workflow, runs.len(), found)
     }
 
-    /// Takes that memory for a run that is to stand at this place, and answers its number.
+    /// Takes that memory for a run that is to be at index `place`, and returns its number.
     fn take_memory(
         &mut self,
         alloc: Global,

@@ -2,15 +2,15 @@
 
 ghost use Rattle.std.specs.Prelude.{◌≡◌, ◌<◌, ◌^◌, [], Ok, unwrap_or};
 ghost use Rattle.wf_value.specs.Gives.{Gives};
-ghost use Rattle.workflow_runs.specs.Words.{labels_at};
+ghost use Rattle.run_states.specs.Words.{labels_at};
 
-use crate::place::LegPlace;
 use crate::runs::Runs;
+use run_states::LegPlace;
 use std::alloc::Global;
 use wf_value::{Chars, Refusal, Sequence};
 
 impl Runs {
-    /// None of a leg that is not planned.
+    /// The texts; empty if the leg is not planned.
     pub fn label_texts(&self, alloc: Global, place: LegPlace) -> Result<Sequence<Chars>, Refusal>
         requires leg { place.leg < 2 ^ 63 }
         ensures { Gives (λ texts. texts) result (Ok (unwrap_or (labels_at self.now place) [])) }

@@ -1,23 +1,19 @@
-//! Which changes of a run let a concurrency group go, and who holds it: nobody else may start who waits in another run. They are told apart
-//! without memory.
+//! Which holders a change of a run may release from their groups. A holder that waits in another run becomes able to start only by such a
+//! change. Takes no memory.
 
 ghost use Rattle.std.specs.Prelude.{◌≡◌, false};
 ghost use Rattle.std.specs.Option.{option_map_or};
-ghost use Rattle.workflow_runs.specs.LettingGo.{asks_for_groups, freed, has_begun, has_legs_behind, holds_by_a_leg, leg_lets_go, offers_a_leg};
+ghost use Rattle.run_states.specs.HoldingLegs.{has_begun, has_legs_behind, holds_by_a_leg};
+ghost use Rattle.run_states.specs.Places.{job_at};
+ghost use Rattle.workflow_runs.specs.LettingGo.{asks_for_groups, freed, leg_lets_go, offers_a_leg};
 ghost use Rattle.workflow_runs.specs.LettingGo.{run_lets_go};
 ghost use Rattle.workflow_runs.specs.MarkedRuns.{is_so_at};
-ghost use Rattle.workflow_runs.specs.Places.{job_at};
 
-use crate::change::Change;
-use crate::frees::Frees;
-use crate::holder::Holder;
-use crate::leg::Leg;
-use crate::phases::RunPhase;
-use crate::place::LegPlace;
 use crate::runs::Runs;
+use run_states::{Change, Frees, Holder, Leg, LegPlace, RunPhase};
 
 impl Runs {
-    /// Whom the change of the run at a place may free.
+    /// The holders that the change of run `r` may release.
     pub(super) fn freed(&self, r: usize, change: &Change) -> Frees
         ensures { result ≡ freed self.now r change.now }
     {

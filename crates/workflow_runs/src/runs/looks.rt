@@ -1,29 +1,30 @@
-//! Where commands and settling look: at the runs that are marked for them. A look that finds nothing there takes the mark away.
+//! Where commands and settling search: in the runs that are marked for them. A search that finds nothing in a run removes the mark.
 
 ghost use Rattle.std.specs.Prelude.{◌≡◌, ℕ, ◌<◌, ◌≤◌, IfNone, IfSome, None, Some, false, length};
-ghost use Rattle.workflow_runs.specs.LookAgain.{JobsRestBefore, RestBefore, ask};
-ghost use Rattle.workflow_runs.specs.MarkedRuns.{is_active, is_so_at, offers_legs, someone_waits};
-ghost use Rattle.workflow_runs.specs.Places.{run_at};
-ghost use Rattle.workflow_runs.specs.RunState.{RunState};
-ghost use Rattle.workflow_runs.specs.Settling.{first_place};
-ghost use Rattle.workflow_runs.specs.WithinRun.{first_in_run, fit_in_run};
+ghost use Rattle.run_states.specs.ActiveRuns.{is_active, offers_legs, someone_waits};
+ghost use Rattle.run_states.specs.Resuming.{JobsRestBefore, RestBefore, apply_at};
+ghost use Rattle.run_states.specs.Places.{run_at};
+ghost use Rattle.run_states.specs.RunState.{RunState};
+ghost use Rattle.run_states.specs.Settling.{first_place};
+ghost use Rattle.run_states.specs.WithinRun.{first_in_run, fit_in_run};
+ghost use Rattle.workflow_runs.specs.MarkedRuns.{is_so_at};
 
 use crate::first_place::first_in_run_at;
-use crate::label_numbers::list_number;
-use crate::place::{JobPlace, LegPlace, Place};
 use crate::runs::Runs;
 use crate::runs::marks::next_below;
 use crate::runs::offers::{below, first_offering, offers_list, put_run};
+use run_bindings::label_numbers::list_number;
 use run_plan::Label;
+use run_states::{JobPlace, LegPlace, RuleSite};
 
 impl Runs {
-    /// The next run in which a leg may be ready that these labels serve.
+    /// The next run that may have a ready leg whose labels are all among `labels`.
     pub(crate) fn next_offering(&self, labels: &[Label], from: usize) -> Option<usize>
         ensures within { IfSome result (λ r. r < length self.now) }
         ensures few { IfSome result (λ r. r < 100000) }
         ensures from { IfSome result (λ r. from ≤ r) }
-        ensures between { IfSome result (λ r. (i : ℕ) → from ≤ i → i < r → ask (fit_in_run labels.now self.now) self.now i ≡ None) }
-        ensures none { IfNone result ((i : ℕ) → from ≤ i → ask (fit_in_run labels.now self.now) self.now i ≡ None) }
+        ensures between { IfSome result (λ r. (i : ℕ) → from ≤ i → i < r → apply_at (fit_in_run labels.now self.now) self.now i ≡ None) }
+        ensures none { IfNone result ((i : ℕ) → from ≤ i → apply_at (fit_in_run labels.now self.now) self.now i ≡ None) }
     {
         let found = first_offering(&self.index.lists, labels, from);
         below(found, self.len())
@@ -34,13 +35,13 @@ impl Runs {
         ensures within { IfSome result (λ r. r < length self.now) }
         ensures few { IfSome result (λ r. r < 100000) }
         ensures from { IfSome result (λ r. from ≤ r) }
-        ensures between { IfSome result (λ r. (i : ℕ) → from ≤ i → i < r → ask (first_in_run self.now) self.now i ≡ None) }
-        ensures none { IfNone result ((i : ℕ) → from ≤ i → ask (first_in_run self.now) self.now i ≡ None) }
+        ensures between { IfSome result (λ r. (i : ℕ) → from ≤ i → i < r → apply_at (first_in_run self.now) self.now i ≡ None) }
+        ensures none { IfNone result ((i : ℕ) → from ≤ i → apply_at (first_in_run self.now) self.now i ≡ None) }
     {
         next_below(&self.marks.due, from, self.len())
     }
 
-    /// The next run that may wait or be live, or have a leg that waits for its group, or holds it.
+    /// The next run that may be active: one that waits or is live, or has a leg that waits for its group or holds it.
     pub(crate) fn next_active(&self, from: usize) -> Option<usize>
         ensures within { IfSome result (λ r. r < length self.now) }
         ensures few { IfSome result (λ r. r < 100000) }
@@ -78,37 +79,37 @@ impl Runs {
         }
     }
 
-    /// Nobody wakes the run where nobody in it waits. Where it is not active, neither a lease nor a holder of a group is looked for in it, nor a
-    /// ready leg: nobody in it stands then who would have to be listed.
-    fn look_again(&mut self, r: usize)
+    /// Removes stale marks of run `r`: the waiting mark if no holder in it waits, and if it is not active, also the marks by which searches
+    /// for leases, for holders of groups and for ready legs find it. An inactive run has no holder that would have to be listed.
+    fn refresh_marks(&mut self, r: usize)
         requires { r < length self.old }
         ensures { self.new ≡ self.old }
     {
-        self.look_again_for_waiting(r);
+        self.refresh_waiting(r);
         if !self.is_active(r) {
             self.pass(r);
-            self.look_again_for_offers(r);
+            self.refresh_offers(r);
         }
     }
 
-    /// Claims pass the run where no leg of it is ready.
-    pub(crate) fn look_again_for_offers(&mut self, r: usize)
+    /// Unmarks the run for all lists of labels if it has no ready leg, so that claims skip it.
+    pub(crate) fn refresh_offers(&mut self, r: usize)
         ensures { self.new ≡ self.old }
     {
         if r < self.runs.len() && !self.offers_legs(r) {
-            let asks = &self.asks[r];
-            put_run(&mut self.index.lists, asks.lists.as_slice(), r, false);
+            let bindings = &self.bindings[r];
+            put_run(&mut self.index.lists, bindings.lists.as_slice(), r, false);
         }
     }
 
-    /// Claims of runners that serve the list of a leg pass the run where no ready leg of it asks for that.
-    pub(crate) fn look_again_for_list(&mut self, place: LegPlace)
+    /// Unmarks the run for the list of a leg if no ready leg of the run asks for that list, so that claims for the list skip the run.
+    pub(crate) fn refresh_list(&mut self, place: LegPlace)
         ensures { self.new ≡ self.old }
     {
         let r = place.run;
         if r < self.runs.len() {
             let run = &self.runs[r];
-            let numbers = self.asks[r].lists.as_slice();
+            let numbers = self.bindings[r].lists.as_slice();
             let number = list_number(numbers, place.job, place.leg);
             if !offers_list(run, numbers, number) {
                 self.index.lists.unmark(number, r);
@@ -116,7 +117,7 @@ impl Runs {
         }
     }
 
-    fn look_again_for_waiting(&mut self, r: usize)
+    fn refresh_waiting(&mut self, r: usize)
         requires { r < length self.old }
         ensures { self.new ≡ self.old }
     {
@@ -125,7 +126,7 @@ impl Runs {
         }
     }
 
-    /// The run, which is not active, is passed where an active one is looked for.
+    /// Unmarks run `r`, which is not active, so that searches for active runs and for unlisted holders skip it.
     fn pass(&mut self, r: usize)
         requires within { r < length self.old }
         requires rests { is_so_at is_active self.old r ≡ false }
@@ -135,21 +136,21 @@ impl Runs {
         self.index.groups.unlisted.unmark(r);
     }
 
-    /// Settling passes the run, in which no rule applies, until it changes or may go on. While it went on it was marked as waiting and as
-    /// active: it is looked at once, however many of its legs changed.
+    /// Unmarks run `r`, in which no rule applies, as due, until it changes or may advance. Its changes have marked it as waiting and as
+    /// active too. These marks are checked here, once however many of its legs changed.
     pub(crate) fn rest(&mut self, r: usize)
         requires within { r < length self.old }
-        requires rests { ask (first_in_run self.old) self.old r ≡ None }
+        requires rests { apply_at (first_in_run self.old) self.old r ≡ None }
         ensures { self.new ≡ self.old }
     {
         self.marks.due.unmark(r);
-        self.look_again(r);
+        self.refresh_marks(r);
     }
 
-    /// The first place with a rule in the run at a place, where none applies at a job before the one at `from`.
-    fn look_into(&mut self, r: usize, from: usize) -> Option<Place>
+    /// The first place in run `r` where a rule applies. None applies before the job at index `from`.
+    fn first_place_in_run(&mut self, r: usize, from: usize) -> Option<RuleSite>
         requires { (run : RunState) → run_at self.old r ≡ Some run → JobsRestBefore self.old r run from }
-        ensures found { result ≡ ask (first_in_run self.old) self.old r }
+        ensures found { result ≡ apply_at (first_in_run self.old) self.old r }
         ensures kept { self.new ≡ self.old }
     {
         let mut tries = self.tries;
@@ -158,8 +159,8 @@ impl Runs {
         place
     }
 
-    /// The first place where a rule applies, where none does before the one given.
-    pub(crate) fn first_place(&mut self, from: JobPlace) -> Option<Place>
+    /// The first place where a rule applies. None applies before `from`.
+    pub(crate) fn first_place(&mut self, from: JobPlace) -> Option<RuleSite>
         requires { RestBefore self.old from }
         ensures found { result ≡ first_place self.old }
         ensures kept { self.new ≡ self.old }
@@ -167,7 +168,7 @@ impl Runs {
         let mut run = from.run;
         while let Some(r) = self.next_due(run) {
             let job = if r == from.run { from.job } else { 0 };
-            let place = self.look_into(r, job);
+            let place = self.first_place_in_run(r, job);
             if place.is_some() {
                 return place;
             }
@@ -177,7 +178,7 @@ impl Runs {
         None
     }
 
-    /// How often settling has tried a rule at a place, since that was last forgotten. No contract rests on it.
+    /// How often settling has tried a rule at a place, since the last `forget_tries`. No contract depends on it.
     pub fn tries(&self) -> u64 {
         self.tries
     }

@@ -1,22 +1,22 @@
-//! Marks of runs, by which commands and settling pass the runs that have nothing for them. A run may be marked in vain: a look that finds
-//! nothing there unmarks it.
+//! Marks of runs, which let commands and settling skip the runs that have nothing for them. Marks may be stale, never missing; a stale mark
+//! is removed when a search finds nothing in the run.
 
 ghost use Rattle.std.specs.Prelude.{◌≡◌, ◌≤◌, ◌<◌, ◌+◌, ℕ, [], IfNone, IfOk, IfSome, OnOk, false, length, true};
 ghost use Rattle.run_marks.specs.Marked.{Covers, is_marked};
-ghost use Rattle.workflow_runs.specs.MarkedRuns.{CoversRuns, OnlyGrows, RunsAreMarked, Stirs};
+ghost use Rattle.workflow_runs.specs.MarkedRuns.{CoversRuns, OnlyGrows, RunsAreMarked, MarksDirty};
 
-use run_marks::Marks;
+use run_marks::RunBitmap;
 use std::alloc::{AllocError, Global};
 
-/// Which runs have something for a command or for settling, each at least where it has.
+/// Marks of the runs that have something for a command or for settling.
 #[derive(Drop)]
 pub(crate) struct RunMarks {
-    /// Those that wait for a group, or in which a leg does.
-    pub waiting: Marks,
-    /// Those that wait or are live, or in which a leg waits for its group, or holds it.
-    pub active: Marks,
-    /// Those in which a settling rule applies.
-    pub due: Marks,
+    /// The runs that wait for a group or have a leg that does.
+    pub waiting: RunBitmap,
+    /// The runs that wait or are live, or have a leg that waits for its group or holds it.
+    pub active: RunBitmap,
+    /// The runs in which a settling rule applies.
+    pub due: RunBitmap,
 }
 
 impl RunMarks {
@@ -24,9 +24,9 @@ impl RunMarks {
         ensures { RunsAreMarked [] result }
     {
         RunMarks {
-            waiting: Marks::new(alloc),
-            active: Marks::new(alloc),
-            due: Marks::new(alloc),
+            waiting: RunBitmap::new(alloc),
+            active: RunBitmap::new(alloc),
+            due: RunBitmap::new(alloc),
         }
     }
 
@@ -40,32 +40,32 @@ impl RunMarks {
         })
     }
 
-    /// Makes room for all runs below the bound.
-    pub(crate) fn cover(&mut self, bound: usize) -> Result<(), AllocError>
+    /// Reserves room for the marks of all runs below `bound`.
+    pub(crate) fn reserve_up_to(&mut self, bound: usize) -> Result<(), AllocError>
         ensures grows { OnlyGrows self.old self.new }
         ensures covers { OnOk result (CoversRuns self.new bound) }
     {
-        self.waiting.cover(bound)?;
-        self.active.cover(bound)?;
-        self.due.cover(bound)
+        self.waiting.reserve_up_to(bound)?;
+        self.active.reserve_up_to(bound)?;
+        self.due.reserve_up_to(bound)
     }
 
-    /// Marks the run at a place for everything, since it changes, and has all below the bound looked at in which someone waits: where the
-    /// change lets a group go, one of them may go on.
-    pub(crate) fn stir(&mut self, r: usize, bound: usize)
+    /// Marks run `r`, which changes, for everything. Marks as due all waiting runs below `bound`: if the change releases a group, one of
+    /// them may advance.
+    pub(crate) fn mark_dirty(&mut self, r: usize, bound: usize)
         requires itself { CoversRuns self.old (r + 1) }
         requires all { Covers self.old.due bound }
-        ensures { Stirs r bound self.old self.new }
+        ensures { MarksDirty r bound self.old self.new }
     {
-        wake(&mut self.due, &self.waiting, bound);
+        invalidate_waiters(&mut self.due, &self.waiting, bound);
         self.due.mark(r);
         self.waiting.mark(r);
         self.active.mark(r);
     }
 }
 
-/// Marks as due all below the bound in which someone waits.
-pub(super) fn wake(due: &mut Marks, waiting: &Marks, bound: usize)
+/// Marks as due all waiting runs below `bound`.
+pub(super) fn invalidate_waiters(due: &mut RunBitmap, waiting: &RunBitmap, bound: usize)
     requires { Covers due.old bound }
     ensures due { (i : ℕ) → is_marked due.old i ≡ true → is_marked due.new i ≡ true }
     ensures woken { (i : ℕ) → i < bound → is_marked waiting.now i ≡ true → is_marked due.new i ≡ true }
@@ -78,8 +78,8 @@ pub(super) fn wake(due: &mut Marks, waiting: &Marks, bound: usize)
     }
 }
 
-/// The first marked run at or after a place, below a bound.
-pub(crate) fn next_below(marks: &Marks, from: usize, bound: usize) -> Option<usize>
+/// The first marked run at or after `from`, below `bound`.
+pub(crate) fn next_below(marks: &RunBitmap, from: usize, bound: usize) -> Option<usize>
     ensures within { IfSome result (λ r. r < bound) }
     ensures from { IfSome result (λ r. from ≤ r) }
     ensures itself { IfSome result (λ r. is_marked marks.now r ≡ true) }

@@ -1,23 +1,22 @@
-//! Makes the runs of a table from the parts as which they are stored.
+//! Builds the runs of a table from the parts in which they are stored.
 
 ghost use Rattle.std.specs.Prelude.{◌≡◌, IfOk, MatchOption};
 ghost use Rattle.wf_value.specs.Gives.{ErrsOnlyByMemory};
-ghost use Rattle.workflow_runs.specs.AsPlanned.{AreAsPlanned};
+ghost use Rattle.run_states.specs.AsPlanned.{AreAsPlanned};
 
-use crate::run::Run;
-use crate::run_parts::RunParts;
-use crate::runs::{MOST_RUNS, Runs};
+use crate::runs::{MAX_RUNS, Runs};
+use run_states::{Run, RunParts};
 use std::alloc::Global;
 use wf_value::Refusal;
 
 impl Runs {
-    /// The runs of these parts, or `None` where they are over 100,000, or one has not the jobs and legs of its plan.
+    /// The runs of these parts. `None` if there are more than 100,000, or if a run does not have the jobs and legs of its plan.
     pub fn of_parts(alloc: Global, parts: &[RunParts]) -> Result<Option<Self>, Refusal>
         ensures err { ErrsOnlyByMemory result }
         ensures of { IfOk result (λ found. MatchOption found (AreAsPlanned parts.now → ⊥)
             (λ runs. (runs ≡ parts.now) × AreAsPlanned parts.now)) }
     {
-        if parts.len() > MOST_RUNS as usize {
+        if parts.len() > MAX_RUNS as usize {
             return Ok(None);
         }
         let mut runs = Runs::new(alloc);

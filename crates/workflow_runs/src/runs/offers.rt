@@ -1,40 +1,37 @@
-//! Which runs a claim looks into: those that are marked for a list of labels that its runner serves. Each in which a leg is ready is marked for
-//! the list that the leg asks for, before the leg is ready.
+//! Which runs a claim searches: those that are marked for a list of labels that its runner serves. A run is marked for a leg's list before
+//! the leg becomes ready.
 
 ghost use Rattle.std.specs.Prelude.{◌≡◌, ◌≤◌, ◌<◌, ℕ, IfNone, IfSome, Some, length, slice_get, true, false};
 ghost use Rattle.label_lists.specs.Known.{IsBefore};
 ghost use Rattle.label_lists.specs.Lists.{HasPlace, labels_of, may_offer};
 ghost use Rattle.std.specs.List.{list_any};
 ghost use Rattle.std.specs.Option.{option_map_or};
-ghost use Rattle.workflow_runs.specs.Cells.{states};
-ghost use Rattle.workflow_runs.specs.FirstOf.{placed};
-ghost use Rattle.workflow_runs.specs.Fitting.{has_labels, is_ready};
-ghost use Rattle.workflow_runs.specs.LabelNumbers.{IsOffered, JobsOffer, LegsOffer, MayServe, OnlyMarks, OnlyPuts, job_offers, leg_offers};
-ghost use Rattle.workflow_runs.specs.LabelNumbers.{list_number, number_in, offers_list};
+ghost use Rattle.run_states.specs.Cells.{states};
+ghost use Rattle.run_states.specs.FirstOf.{placed};
+ghost use Rattle.run_states.specs.Fitting.{has_labels, is_ready};
+ghost use Rattle.run_bindings.specs.LabelNumbers.{IsOffered, JobsOffer, LegsOffer, MayServe, OnlyMarks, OnlyPuts, ServesList, job_offers, leg_offers};
+ghost use Rattle.run_bindings.specs.LabelNumbers.{list_number, number_in, offers_list};
 
-use crate::asks::RunBindings;
-use crate::job::Job;
-use crate::label_numbers::{ListNumbers, list_number};
-use crate::leg::Leg;
-use crate::place::LegPlace;
-use crate::resolved_labels::has_texts;
-use crate::run::Run;
 use label_lists::LabelLists;
+use run_bindings::label_numbers::list_number;
+use run_bindings::resolved_labels::has_texts;
+use run_bindings::{ListNumbers, RunBindings};
 use run_plan::Label;
+use run_states::{Job, Leg, LegPlace, Run};
 
-/// Marks the run of the leg that is to be ready for its list.
-pub(crate) fn offer(lists: &mut LabelLists, leg: Option<LegPlace>, asks: &RunBindings)
-    requires { IfSome leg (λ p. HasPlace lists.old (list_number asks.now.lists p.job p.leg) p.run) }
-    ensures itself { IfSome leg (λ p. IsOffered lists.new asks.now p) }
+/// Marks the run of a leg that is about to become ready for the leg's list.
+pub(crate) fn offer(lists: &mut LabelLists, leg: Option<LegPlace>, bindings: &RunBindings)
+    requires { IfSome leg (λ p. HasPlace lists.old (list_number bindings.now.lists p.job p.leg) p.run) }
+    ensures itself { IfSome leg (λ p. IsOffered lists.new bindings.now p) }
     ensures others { OnlyMarks lists.old lists.new }
 {
     if let Some(place) = leg {
-        let number = list_number(asks.lists.as_slice(), place.job, place.leg);
+        let number = list_number(bindings.lists.as_slice(), place.job, place.leg);
         lists.mark(number, place.run);
     }
 }
 
-/// Marks a run for a list, or unmarks it.
+/// Marks run `r` for a list, or unmarks it.
 fn put(lists: &mut LabelLists, number: usize, r: usize, to: bool)
     requires { HasPlace lists.old number r }
     ensures itself { may_offer lists.new number r ≡ to }
@@ -84,7 +81,7 @@ fn put_jobs(lists: &mut LabelLists, numbers: &[ListNumbers], r: usize, to: bool)
     }
 }
 
-/// Marks a run for the lists of all its legs, or unmarks it.
+/// Marks run `r` for the lists of all its legs, or unmarks it.
 pub(crate) fn put_run(lists: &mut LabelLists, numbers: &[ListNumbers], r: usize, to: bool)
     requires { (j l : ℕ) → HasPlace lists.old (list_number numbers.now j l) r }
     ensures all { (j l : ℕ) → may_offer lists.new (list_number numbers.now j l) r ≡ to }
@@ -96,7 +93,7 @@ pub(crate) fn put_run(lists: &mut LabelLists, numbers: &[ListNumbers], r: usize,
 
 // ---- the ready legs of a run
 
-/// The number of the lists of all legs of the job at a place, where none of them has its own.
+/// The number of the list of all legs of job `j`, if none of them has its own.
 fn number_of_all(numbers: &[ListNumbers], j: usize) -> Option<usize>
     ensures { IfSome result (λ n. (l : ℕ) → list_number numbers.now j l ≡ n) }
 {
@@ -107,7 +104,7 @@ fn number_of_all(numbers: &[ListNumbers], j: usize) -> Option<usize>
     }
 }
 
-/// Whether a ready leg of the job asks for the list of the number, looked for among all of them.
+/// Whether a ready leg among these asks for the list with this number.
 fn offers_in_legs(numbers: &[ListNumbers], number: usize, j: usize, legs: &[Leg]) -> bool
     ensures { result ≡ list_any (leg_offers numbers.now number j) (placed legs.now) }
 {
@@ -120,7 +117,8 @@ fn offers_in_legs(numbers: &[ListNumbers], number: usize, j: usize, legs: &[Leg]
     false
 }
 
-/// The same. It goes over the legs where one is ready and they have numbers of their own.
+/// Whether a ready leg of the job asks for the list with this number. It scans the legs only if one is ready and they have numbers of their
+/// own.
 fn offers_in_job(numbers: &[ListNumbers], number: usize, j: usize, job: &Job) -> bool
     ensures { result ≡ job_offers numbers.now number (j, job.now.state) }
 {
@@ -145,14 +143,14 @@ fn offers_in_jobs(numbers: &[ListNumbers], number: usize, jobs: &[Job]) -> bool
     false
 }
 
-/// Whether a ready leg of the run asks for the list of the number.
+/// Whether a ready leg of the run asks for the list with this number.
 pub(crate) fn offers_list(run: &Run, numbers: &[ListNumbers], number: usize) -> bool
     ensures { result ≡ offers_list run.now numbers.now number }
 {
     offers_in_jobs(numbers, number, run.jobs())
 }
 
-/// Marks a run for the list of the number, where the leg is ready.
+/// Marks run `r` for the list with this number if the leg is ready.
 fn offer_leg(lists: &mut LabelLists, number: usize, r: usize, leg: &Leg)
     requires { HasPlace lists.old number r }
     ensures itself { is_ready leg.now.phase ≡ true → may_offer lists.new number r ≡ true }
@@ -163,7 +161,7 @@ fn offer_leg(lists: &mut LabelLists, number: usize, r: usize, leg: &Leg)
     }
 }
 
-/// Marks a run for the lists of the legs of a job that are ready.
+/// Marks run `r` for the lists of those legs of a job that are ready.
 fn offer_legs(lists: &mut LabelLists, numbers: &[ListNumbers], r: usize, j: usize, legs: &[Leg])
     requires { (l : ℕ) → HasPlace lists.old (list_number numbers.now j l) r }
     ensures all { LegsOffer lists.new numbers.now r j legs.now }
@@ -176,7 +174,7 @@ fn offer_legs(lists: &mut LabelLists, numbers: &[ListNumbers], r: usize, j: usiz
     }
 }
 
-/// The same, where a leg of the job is ready. It goes over the legs where they have numbers of their own.
+/// Marks run `r` for the lists of the ready legs of a job that has one. It scans the legs only if they have numbers of their own.
 fn offer_ready(lists: &mut LabelLists, numbers: &[ListNumbers], r: usize, j: usize, legs: &[Leg])
     requires { (l : ℕ) → HasPlace lists.old (list_number numbers.now j l) r }
     ensures all { LegsOffer lists.new numbers.now r j legs.now }
@@ -208,22 +206,22 @@ fn offer_jobs(lists: &mut LabelLists, numbers: &[ListNumbers], r: usize, jobs: &
     }
 }
 
-/// Marks a run for the lists of its legs that are ready.
-pub(crate) fn offer_run(lists: &mut LabelLists, asks: &RunBindings, r: usize, run: &Run)
-    requires { (j l : ℕ) → HasPlace lists.old (list_number asks.now.lists j l) r }
-    ensures all { JobsOffer lists.new asks.now.lists r run.now.jobs }
+/// Marks run `r` for the lists of its ready legs.
+pub(crate) fn offer_run(lists: &mut LabelLists, bindings: &RunBindings, r: usize, run: &Run)
+    requires { (j l : ℕ) → HasPlace lists.old (list_number bindings.now.lists j l) r }
+    ensures all { JobsOffer lists.new bindings.now.lists r run.now.jobs }
     ensures others { OnlyPuts r true lists.old lists.new }
 {
-    offer_jobs(lists, asks.lists.as_slice(), r, run.jobs());
+    offer_jobs(lists, bindings.lists.as_slice(), r, run.jobs());
 }
 
-// ---- what a runner is offered
+// ---- what a runner may be offered
 
-/// The first run at or after a place that is marked for the list of a number, where these labels serve it.
+/// The first run at or after `from` that is marked for the list with this number, if `labels` has all labels of the list.
 fn first_served(lists: &LabelLists, labels: &[Label], number: usize, from: usize) -> Option<usize>
     ensures from { IfSome result (λ s. from ≤ s) }
-    ensures passed { (s : ℕ) → from ≤ s → IsBefore s result
-        → option_map_or (has_labels labels.now) (labels_of lists.now number) false ≡ true → may_offer lists.now number s ≡ false }
+    ensures passed { (s : ℕ) → from ≤ s → IsBefore s result → ServesList lists.now labels.now number
+        → may_offer lists.now number s ≡ false }
 {
     let wanted = lists.labels(number)?;
     if has_texts(labels, wanted) {
@@ -233,7 +231,7 @@ fn first_served(lists: &LabelLists, labels: &[Label], number: usize, from: usize
     }
 }
 
-/// The smaller one of two, where there are two.
+/// The smaller of the two, if there are two; otherwise the one that there is.
 fn earlier(one: Option<usize>, other: Option<usize>) -> Option<usize>
     ensures before { (s : ℕ) → IsBefore s result → IsBefore s one × IsBefore s other }
     ensures from { (from : ℕ) → IfSome one (λ s. from ≤ s) → IfSome other (λ s. from ≤ s) → IfSome result (λ s. from ≤ s) }
@@ -245,7 +243,7 @@ fn earlier(one: Option<usize>, other: Option<usize>) -> Option<usize>
     }
 }
 
-/// What was found, where it is below a bound.
+/// The index that was found, if it is below `bound`.
 pub(crate) fn below(found: Option<usize>, bound: usize) -> Option<usize>
     ensures within { IfSome result (λ r. r < bound) }
     ensures same { IfSome result (λ r. found ≡ Some r) }
@@ -257,7 +255,8 @@ pub(crate) fn below(found: Option<usize>, bound: usize) -> Option<usize>
     }
 }
 
-/// The first run at or after a place that is marked for a list that these labels serve, or for legs whose labels are not known.
+/// The first run at or after `from` that is marked for a list of which `labels` has all labels, or under number 0, which says nothing about
+/// labels.
 pub(crate) fn first_offering(lists: &LabelLists, labels: &[Label], from: usize) -> Option<usize>
     ensures from { IfSome result (λ s. from ≤ s) }
     ensures passed { (n s : ℕ) → from ≤ s → IsBefore s result → MayServe lists.now labels.now n → may_offer lists.now n s ≡ false }

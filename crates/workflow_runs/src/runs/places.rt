@@ -1,4 +1,4 @@
-//! Where the run of each delivery stands, so that a delivery that comes again is found without a look at all runs.
+//! The index of the first run of each delivery, so that a repeated delivery is found without a scan of the runs.
 
 ghost use Rattle.std.specs.Prelude.{◌≡◌, ◌&&◌, ℕ, IfOk, List, None, OnErr, OnOk, Some, if◌then◌else◌, is_none};
 ghost use Rattle.std.specs.Str.{bytes_eq};
@@ -11,7 +11,8 @@ use run_plan::DeliveryId;
 use std::alloc::Global;
 use wf_value::Refusal;
 
-/// A place for each delivery. One may be kept where its run could not be added, so whoever asks looks whether the run stands there.
+/// An index for each delivery. It may be kept for a run that could not be added, so callers check that the run at the index is of the
+/// delivery.
 #[derive(Drop)]
 pub(crate) struct DeliveryPlaces {
     pub places: IndexMap<String, usize>,
@@ -26,7 +27,7 @@ impl DeliveryPlaces {
         }
     }
 
-    /// The place that is kept for a delivery.
+    /// The index that is kept for a delivery.
     pub(crate) fn place(&self, delivery: &DeliveryId) -> Option<usize>
         ensures { result ≡ get_by_text self.now.places delivery.now }
     {
@@ -36,7 +37,7 @@ impl DeliveryPlaces {
         }
     }
 
-    /// Keeps the place for a delivery, unless its run was found before.
+    /// Keeps the index for a delivery, unless its run was found before.
     pub(crate) fn keep(
         &mut self,
         alloc: Global,
@@ -66,7 +67,7 @@ impl DeliveryPlaces {
         Ok(())
     }
 
-    /// A copy of the places.
+    /// A copy of the indices.
     pub(crate) fn copy(&self) -> Result<Self, Refusal>
         ensures err { ErrsOnlyByMemory result }
         ensures same { IfOk result (λ copy. (delivery : List ℕ) → get_by_text copy.places delivery ≡ get_by_text self.now.places delivery) }

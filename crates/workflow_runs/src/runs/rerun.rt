@@ -1,23 +1,23 @@
-//! A run begins again, in its next attempt. GitHub Docs, "Re-running workflows and jobs".
+//! Re-runs: a run begins again in its next attempt. GitHub Docs, "Re-running workflows and jobs".
 
 ghost use Rattle.std.specs.Prelude.{◌≡◌, ◌+◌, ◌<◌, IfOk, IfSome, Ok, OnErr, Some, option_map, slice_set, vec_len};
 ghost use Rattle.std.specs.Fmt.{decimal};
 ghost use Rattle.wf_value.specs.Gives.{ErrsOnlyByMemory, Gives};
-ghost use Rattle.workflow_runs.specs.Asks.{RunSays};
-ghost use Rattle.workflow_runs.specs.NewRun.{again};
-ghost use Rattle.workflow_runs.specs.Places.{run_at, with_run};
-ghost use Rattle.workflow_runs.specs.RunNumber.{events, run_number};
+ghost use Rattle.run_states.specs.NewRun.{again};
+ghost use Rattle.run_states.specs.Places.{run_at, with_run};
+ghost use Rattle.run_states.specs.RunNumber.{events, run_number};
+ghost use Rattle.run_bindings.specs.Bindings.{RunSays};
 
-use crate::asks::RunBindings;
-use crate::run::Run;
 use crate::runs::Runs;
 use crate::runs::offers::offer_run;
+use run_bindings::RunBindings;
+use run_states::Run;
 use std::alloc::Global;
 use wf_value::Refusal;
 
 impl Runs {
-    /// The run at a place, if there is one, waits in its next attempt, with all its jobs blocked, and asks what its templates say in that
-    /// attempt. All memory is taken first: at an error nothing has changed.
+    /// Puts run `r`, if there is one, into its next attempt: it waits, all its jobs are blocked, and its templates are bound again. All
+    /// memory is taken first, so on an `Err` nothing has changed.
     pub fn rerun(&mut self, alloc: Global, r: usize) -> Result<(), Refusal>
         requires { IfSome (run_at self.old r) (λ run. run.attempt < 1000) }
         ensures again { Gives (λ _. self.new) result (Ok (with_run r again self.old)) }
@@ -29,7 +29,7 @@ impl Runs {
         }
     }
 
-    /// Puts the next attempt of the run at a place there, with what it asks.
+    /// Replaces run `r` by its next attempt, with these bindings.
     fn put_again(
         &mut self,
         alloc: Global,
@@ -47,20 +47,20 @@ impl Runs {
         ensures again { Gives (λ _. self.new) result (Ok (with_run r again self.old)) }
         ensures err { OnErr result (self.new ≡ self.old) }
     {
-        self.index.lists.cover(r + 1)?;
+        self.index.lists.reserve_up_to(r + 1)?;
         let grouped = self.index.groups.enter(alloc, asked, r + 1)?;
-        let asks = grouped.with_lists(alloc, &mut self.index.lists, r)?;
-        offer_run(&mut self.index.lists, &asks, r, &next);
+        let bindings = grouped.with_lists(alloc, &mut self.index.lists, r)?;
+        offer_run(&mut self.index.lists, &bindings, r, &next);
         let count = self.runs.len();
-        self.marks.stir(r, count);
+        self.marks.mark_dirty(r, count);
         put_at(&mut self.runs, r, next);
         let runs = self.runs.as_slice();
-        self.index.groups.list_run(r, runs, &asks);
-        put_at(&mut self.asks, r, asks);
+        self.index.groups.list_run(r, runs, &bindings);
+        put_at(&mut self.bindings, r, bindings);
         Ok(())
     }
 
-    /// The next attempt of the run at a place, with what it asks.
+    /// The next attempt of run `r`, with its bindings.
     fn next_attempt(&self, alloc: Global, r: usize) -> Result<Option<(Run, RunBindings)>, Refusal>
         requires { IfSome (run_at self.now r) (λ run. run.attempt < 1000) }
         ensures err { ErrsOnlyByMemory result }
@@ -84,7 +84,7 @@ impl Runs {
     }
 }
 
-/// Puts an item in the place of the one that is there.
+/// Replaces the item at index `i`.
 fn put_at<T: Drop>(items: &mut Vec<T>, i: usize, item: T)
     requires { i < vec_len items.old }
     ensures items { items.new.items ≡ slice_set items.old.items i item }

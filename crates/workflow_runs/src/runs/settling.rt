@@ -1,30 +1,28 @@
-//! Settling: one rule after another, until none applies.
+//! Settling: apply one rule after another, until none applies.
 
 ghost use Rattle.std.specs.Prelude.{◌≡◌, ◌<◌, ◌^◌, true, false, if◌then◌else◌, is_some, Some, None, IfSome, option_map, option_and_then};
 ghost use Rattle.std.specs.Prelude.{filter_map};
 ghost use Rattle.std.specs.List.{list_any};
 ghost use Rattle.std.specs.Option.{option_map_or};
 ghost use Rattle.needs_graph.specs.Results.{fails_job, gathered, is_cancelled};
-ghost use Rattle.workflow_runs.specs.FirstOf.{first_some, placed};
-ghost use Rattle.workflow_runs.specs.LookAgain.{RestBefore, at_job_again, may_wake_others, is_new_at, resume_point, look_first};
-ghost use Rattle.workflow_runs.specs.Groups.{HasOneEach};
-ghost use Rattle.workflow_runs.specs.Places.{job_at, leg_at, run_at, with_job};
-ghost use Rattle.workflow_runs.specs.Rules.{closing_rule, decided, leg_end, leg_rule, may_run, newcomer_rule, rule_at, whole_rule};
-ghost use Rattle.workflow_runs.specs.Settling.{first_place, first_rule, settled};
-ghost use Rattle.workflow_runs.specs.SoundRuns.{RunsAreSound};
-ghost use Rattle.workflow_runs.specs.StateWords.{outcome_of};
-ghost use Rattle.workflow_runs.specs.WithinRun.{failing};
-ghost use Rattle.workflow_runs.specs.Words.{is_stopping};
+ghost use Rattle.run_states.specs.FirstOf.{first_some, placed};
+ghost use Rattle.run_states.specs.Groups.{HasOneEach};
+ghost use Rattle.run_states.specs.Resuming.{RestBefore, at_job_again, may_wake_others, is_new_at, resume_point, resume_at_arrival};
+ghost use Rattle.run_states.specs.Places.{job_at, leg_at, run_at, with_job};
+ghost use Rattle.run_states.specs.Rules.{closing_rule, decided, leg_end, leg_rule, may_run, newcomer_rule, rule_at, whole_rule};
+ghost use Rattle.run_states.specs.Settling.{first_place, first_rule, settled};
+ghost use Rattle.run_states.specs.SoundRuns.{RunsAreSound};
+ghost use Rattle.run_states.specs.StateWords.{outcome_of};
+ghost use Rattle.run_states.specs.WithinRun.{failing};
+ghost use Rattle.run_states.specs.Words.{is_stopping};
 
-use crate::holder::Holder;
-use crate::leg::Leg;
-use crate::phases::{LegPhase, RunPhase};
-use crate::place::{JobPlace, LegPlace, Place};
 use crate::runs::Runs;
+use crate::walk::Legs;
+use run_states::{Holder, JobPlace, Leg, LegPhase, LegPlace, RuleSite, RunPhase};
 use wf_value::{JobResult, Outcome};
 
 impl Runs {
-    /// Takes one rule after another, until none applies.
+    /// Applies one rule after another, until none applies.
     pub fn settle(&mut self)
         requires sound { RunsAreSound self.old }
         requires one_each { HasOneEach self.old }
@@ -33,7 +31,7 @@ impl Runs {
         self.settle_from(JobPlace { run: 0, job: 0 });
     }
 
-    /// Settles, and begins to look for rules at a job before which none applies.
+    /// Settles. The search for rules begins at `start`, and no rule applies before it.
     pub fn settle_from(&mut self, start: JobPlace)
         requires sound { RunsAreSound self.old }
         requires one_each { HasOneEach self.old }
@@ -46,7 +44,7 @@ impl Runs {
         }
     }
 
-    /// Takes the rule at the first place where one applies, and says from where the next is to be looked for.
+    /// Applies the rule at the first place where one applies, and returns where to search for the next.
     fn take_first_rule(&mut self, from: JobPlace) -> Option<JobPlace>
         requires sound { RunsAreSound self.old }
         requires one_each { HasOneEach self.old }
@@ -61,8 +59,8 @@ impl Runs {
         }
     }
 
-    /// Takes the rule at the place, the first where one applies, and says from where the next is to be looked for.
-    fn take_first_rule_at(&mut self, place: Place) -> JobPlace
+    /// Applies the rule at `place`, which is the first place where one applies, and returns where to search for the next.
+    fn take_first_rule_at(&mut self, place: RuleSite) -> JobPlace
         requires sound { RunsAreSound self.old }
         requires one_each { HasOneEach self.old }
         requires first { first_place self.old ≡ Some place }
@@ -74,24 +72,24 @@ impl Runs {
         self.resume_point(&place, may_wake_others)
     }
 
-    /// From where to look for the next rule, after the one at the place: none has become due before.
-    fn resume_point(&self, place: &Place, freed: bool) -> JobPlace
+    /// Where to search for the next rule after the one at the place: no rule applies before.
+    fn resume_point(&self, place: &RuleSite, freed: bool) -> JobPlace
         ensures { result ≡ resume_point freed self.now place.now }
     {
         if freed {
             return JobPlace { run: 0, job: 0 };
         }
         match place {
-            Place::Opening(r, j) => self.at_job_again(*r, *j),
-            Place::AtLeg(leg) => self.at_job_again(leg.run, leg.job),
-            Place::Closing(r, j) => self.at_job_again(*r, *j),
-            Place::Whole(r) => JobPlace { run: *r, job: 0 },
+            RuleSite::Opening(r, j) => self.at_job_again(*r, *j),
+            RuleSite::AtLeg(leg) => self.at_job_again(leg.run, leg.job),
+            RuleSite::Closing(r, j) => self.at_job_again(*r, *j),
+            RuleSite::Whole(r) => JobPlace { run: *r, job: 0 },
         }
     }
 
-    /// From where settling looks once a new run has arrived.
-    pub fn look_first(&self, newcomer: usize) -> JobPlace
-        ensures { result ≡ look_first self.now newcomer }
+    /// Where settling begins to search after the arrival of a new run.
+    pub fn resume_at_arrival(&self, newcomer: usize) -> JobPlace
+        ensures { result ≡ resume_at_arrival self.now newcomer }
     {
         let run = if self.has_group(&Holder::Run(newcomer)) {
             0
@@ -101,15 +99,15 @@ impl Runs {
         JobPlace { run, job: 0 }
     }
 
-    /// Whether the rule there may set a run or a leg of another run on its way: a leg arrives there, and another ends or is stopped, or a
-    /// live run of a group ends.
-    fn may_wake_others(&self, place: &Place) -> bool
+    /// Whether the rule there may let a holder of another run go on: a leg arrives there and another holder ends or is stopped, or a live
+    /// run with a group ends.
+    fn may_wake_others(&self, place: &RuleSite) -> bool
         ensures { result ≡ may_wake_others self.now place.now }
     {
         match place {
-            Place::AtLeg(leg) => self.is_new(*leg) && self.makes_room(&Holder::Leg(*leg)),
-            Place::Whole(r) => self.holds(&Holder::Run(*r)) && self.has_group(&Holder::Run(*r)),
-            Place::Opening(_, _) | Place::Closing(_, _) => false,
+            RuleSite::AtLeg(leg) => self.is_new(*leg) && self.makes_room(&Holder::Leg(*leg)),
+            RuleSite::Whole(r) => self.holds(&Holder::Run(*r)) && self.has_group(&Holder::Run(*r)),
+            RuleSite::Opening(_, _) | RuleSite::Closing(_, _) => false,
         }
     }
 
@@ -134,21 +132,21 @@ impl Runs {
         }
     }
 
-    /// Takes the rule at a place, where one applies.
-    fn take_rule(&mut self, place: Place)
+    /// Applies the rule at a place, if one applies.
+    fn take_rule(&mut self, place: RuleSite)
         requires sound { RunsAreSound self.old }
         requires one_each { HasOneEach self.old }
         ensures { IfSome (rule_at self.old place) (λ next. self.new ≡ next.runs) }
     {
         match place {
-            Place::Opening(r, j) => self.decide(r, j),
-            Place::AtLeg(leg) => self.move_leg(leg),
-            Place::Closing(r, j) => self.close(r, j),
-            Place::Whole(r) => self.move_run(r),
+            RuleSite::Opening(r, j) => self.decide(r, j),
+            RuleSite::AtLeg(leg) => self.move_leg(leg),
+            RuleSite::Closing(r, j) => self.close(r, j),
+            RuleSite::Whole(r) => self.move_run(r),
         }
     }
 
-    /// Opens the job where its condition holds, else settles it.
+    /// Opens the job if its condition holds, and finishes it otherwise.
     fn decide(&mut self, r: usize, j: usize)
         ensures { self.new ≡ with_job r j (decided self.old r j) self.old }
     {
@@ -181,7 +179,7 @@ impl Runs {
         }
     }
 
-    /// A new leg arrives, and a waiting one becomes ready where it may start.
+    /// A new leg arrives, and a waiting leg becomes ready.
     fn move_leg(&mut self, place: LegPlace)
         requires sound { RunsAreSound self.old }
         requires one_each { HasOneEach self.old }
@@ -200,7 +198,7 @@ impl Runs {
         Some(self.leg(place)?.phase)
     }
 
-    /// The leg arrives in its group and waits. One whose group is its own run's is cancelled instead.
+    /// The leg arrives in its group and waits. If its group is its own run's, it is cancelled instead.
     fn begin_leg(&mut self, place: LegPlace)
         requires new { is_new_at self.old place ≡ true }
         requires sound { RunsAreSound self.old }
@@ -215,7 +213,7 @@ impl Runs {
         }
     }
 
-    /// The open job settles with its result, where its legs have ended.
+    /// Finishes job `j` with the result of its legs.
     fn close(&mut self, r: usize, j: usize)
         ensures { IfSome (option_and_then (closing_rule self.old r j) (job_at self.old r j)) (λ next. self.new ≡ next.runs) }
     {
@@ -225,8 +223,8 @@ impl Runs {
         }
     }
 
-    /// The result of a job from its legs, as far as they have ended: a failure where a leg failed and is
-    /// not passed over, else cancelled where a leg was, else a success.
+    /// The result of a job from those of its legs that have ended: a failure if a leg failed whose failure is not ignored, otherwise
+    /// cancelled if a leg was cancelled, otherwise a success.
     pub fn result(&self, r: usize, j: usize, legs: &[Leg]) -> JobResult
         ensures { result ≡ gathered (filter_map (leg_end self.now r j) (placed legs.now)) }
     {
@@ -241,27 +239,24 @@ impl Runs {
 
     /// Whether the leg fails its job.
     fn fails_job(&self, place: LegPlace, leg: &Leg) -> bool
-        requires leg { place.leg < 2 ^ 63 }
         ensures { result ≡ option_map_or fails_job (leg_end self.now place.run place.job (place.leg, leg.now)) false }
     {
         leg.has_failed() && !self.continues_on_error(place)
     }
 
-    /// The first leg that fails its job.
+    /// The index of the first leg that fails its job.
     fn failing_leg(&self, r: usize, j: usize, legs: &[Leg]) -> Option<usize>
         ensures { result ≡ first_some (failing self.now r j) (placed legs.now) }
     {
-        for l in 0..legs.len() {
-            let place = LegPlace::new(r, j, l);
-            let leg = &legs[l];
+        for (place, leg) in Legs::of_job(r, j, legs) {
             if self.fails_job(place, leg) {
-                return Some(l);
+                return Some(place.leg);
             }
         }
         None
     }
 
-    /// A waiting run becomes live, and a live one ends.
+    /// A waiting run becomes live, and a live run ends.
     fn move_run(&mut self, r: usize)
         ensures { IfSome (option_and_then (whole_rule self.old r) (run_at self.old r)) (λ next. self.new ≡ next.runs) }
     {

@@ -1,65 +1,65 @@
-//! Who is looked at again when a concurrency group is let go: whoever is listed in it, and each run in which someone waits and somebody is not
-//! listed. Where others may be in the group, or any group may be free, all are who wait.
+//! Which runs are due again when a concurrency group is released: those of the holders listed in its slot, and the waiting runs that may
+//! have an unlisted holder. If the group has no slot with a place for each listed holder, or any group may be released, all waiting runs
+//! are due.
 
 ghost use Rattle.std.specs.Prelude.{◌≡◌, ◌<◌, ℕ, IfSome, Some, length, true};
 ghost use Rattle.group_book.specs.Slots.{HasPlace};
 ghost use Rattle.run_marks.specs.Marked.{Covers, is_marked};
-ghost use Rattle.workflow_runs.specs.Holders.{holder_in_words, run_of};
-ghost use Rattle.workflow_runs.specs.Woken.{Wakes};
-ghost use Rattle.workflow_runs.specs.declared.frees.Frees.TheVariants.{One};
-ghost use Rattle.workflow_runs.specs.declared.holder.Holder.{Holder as HolderInCode};
+ghost use Rattle.run_states.specs.Holders.{run_of};
+ghost use Rattle.run_states.specs.declared.frees.Frees.TheVariants.{One};
+ghost use Rattle.workflow_runs.specs.Woken.{InvalidatesWaiters};
+ghost use Rattle.run_states.specs.declared.holder.Holder.{Holder as HolderInCode};
 
-use crate::asks::RunBindings;
-use crate::frees::Frees;
-use crate::holder::Holder;
 use crate::runs::group_holders::GroupHolders;
-use crate::runs::marks::{RunMarks, next_below, wake};
+use crate::runs::marks::{RunMarks, invalidate_waiters, next_below};
 use group_book::Slot;
-use run_marks::Marks;
+use run_bindings::RunBindings;
+use run_marks::RunBitmap;
+use run_states::{Frees, Holder};
 
 impl RunMarks {
-    /// Has those below the bound looked at who may go on, once those who are freed have let their groups go. `asks` is what is asked in the
-    /// run of one that is freed.
+    /// Marks as due the runs below `bound` with holders that may start after this release. `bindings` are the bindings of the released holder's
+    /// run.
     pub(super) fn wake_freed(
         &mut self,
         freed: &Frees,
         groups: &GroupHolders,
-        asks: &RunBindings,
+        bindings: &RunBindings,
         bound: usize,
     )
         requires { Covers self.old.due bound }
-        ensures { Wakes freed.now groups.now asks.now bound self.old self.new }
+        ensures { InvalidatesWaiters freed.now groups.now bindings.now bound self.old self.new }
     {
         match freed {
             Frees::Nobody => {}
-            Frees::One(holder) => self.wake_group(holder, groups, asks, bound),
-            Frees::Any => wake(&mut self.due, &self.waiting, bound),
+            Frees::One(holder) => self.wake_group(holder, groups, bindings, bound),
+            Frees::Any => invalidate_waiters(&mut self.due, &self.waiting, bound),
         }
     }
 
-    /// Has those looked at who may be in the group of the holder.
+    /// Marks as due the runs with holders that may be in the group of `holder`.
     fn wake_group(
         &mut self,
         holder: &Holder,
         groups: &GroupHolders,
-        asks: &RunBindings,
+        bindings: &RunBindings,
         bound: usize,
     )
         requires { Covers self.old.due bound }
-        ensures { Wakes (One holder.now) groups.now asks.now bound self.old self.new }
+        ensures { InvalidatesWaiters (One holder.now) groups.now bindings.now bound self.old self.new }
     {
-        match groups.slot_of(holder, asks) {
+        match groups.slot_of(holder, bindings) {
             Some(slot) => {
                 wake_listed(&mut self.due, &slot, bound);
                 wake_unlisted(&mut self.due, &groups.unlisted, &self.waiting, bound);
             }
-            None => wake(&mut self.due, &self.waiting, bound),
+            None => invalidate_waiters(&mut self.due, &self.waiting, bound),
         }
     }
 }
 
-/// Marks as due the unlisted runs in which someone waits.
-fn wake_unlisted(due: &mut Marks, unlisted: &Marks, waiting: &Marks, bound: usize)
+/// Marks as due the waiting runs that may have an unlisted holder.
+fn wake_unlisted(due: &mut RunBitmap, unlisted: &RunBitmap, waiting: &RunBitmap, bound: usize)
     requires { Covers due.old bound }
     ensures due { (i : ℕ) → is_marked due.old i ≡ true → is_marked due.new i ≡ true }
     ensures woken { (i : ℕ) → i < bound → is_marked unlisted.now i ≡ true → is_marked waiting.now i ≡ true → is_marked due.new i ≡ true }
@@ -74,8 +74,8 @@ fn wake_unlisted(due: &mut Marks, unlisted: &Marks, waiting: &Marks, bound: usiz
     }
 }
 
-/// Whether the run at a place is marked.
-fn has(marks: &Marks, r: usize) -> bool
+/// Whether run `r` is marked.
+fn has(marks: &RunBitmap, r: usize) -> bool
     ensures { is_marked marks.now r ≡ true → result ≡ true }
 {
     match marks.first_from(r) {
@@ -84,12 +84,12 @@ fn has(marks: &Marks, r: usize) -> bool
     }
 }
 
-/// Marks as due the runs of those whom the slot lists.
-fn wake_listed(due: &mut Marks, slot: &Slot<Holder>, bound: usize)
+/// Marks as due the runs of the holders that the slot lists.
+fn wake_listed(due: &mut RunBitmap, slot: &Slot<Holder>, bound: usize)
     requires { Covers due.old bound }
     ensures due { (i : ℕ) → is_marked due.old i ≡ true → is_marked due.new i ≡ true }
-    ensures woken { (h : HolderInCode) → HasPlace slot.now h → run_of (holder_in_words h) < bound
-        → is_marked due.new (run_of (holder_in_words h)) ≡ true }
+    ensures woken { (h : HolderInCode) → HasPlace slot.now h → run_of h < bound
+        → is_marked due.new (run_of h) ≡ true }
     ensures keeps { length due.new ≡ length due.old }
 {
     let [first, second, third] = slot.places();
@@ -98,12 +98,12 @@ fn wake_listed(due: &mut Marks, slot: &Slot<Holder>, bound: usize)
     wake_one(due, third, bound);
 }
 
-/// Marks as due the run of one who is listed.
-fn wake_one(due: &mut Marks, place: Option<Holder>, bound: usize)
+/// Marks as due the run of a listed holder.
+fn wake_one(due: &mut RunBitmap, place: Option<Holder>, bound: usize)
     requires { Covers due.old bound }
     ensures due { (i : ℕ) → is_marked due.old i ≡ true → is_marked due.new i ≡ true }
-    ensures woken { (h : HolderInCode) → place ≡ Some h → run_of (holder_in_words h) < bound
-        → is_marked due.new (run_of (holder_in_words h)) ≡ true }
+    ensures woken { (h : HolderInCode) → place ≡ Some h → run_of h < bound
+        → is_marked due.new (run_of h) ≡ true }
     ensures keeps { length due.new ≡ length due.old }
 {
     if let Some(holder) = place {

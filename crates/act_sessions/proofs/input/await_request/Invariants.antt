@@ -2,7 +2,7 @@ use Rattle.std.proofs.Common.{◌≡◌, ◌-◌, ◌≤◌, ◌++◌, List, ℕ
 use Rattle.std.specs.Io.KnownBytes.{Consumes}
 use Rattle.act_sessions.proofs.input.await_request.Given as goal
 
--- the buffer has grown by what was read
+-- the buffer has grown by the bytes that were read
 abbrev pub invariant-pieces : goal.invariant-pieces
 invariant-pieces g l =
     (piece : List ℕ) × Consumes (g.R.Read.remaining l.initial.reader) (g.R.Read.remaining l.reader) piece

@@ -1,36 +1,34 @@
 use Rattle.std.proofs.Common.{refl, rules}
 use Rattle.act_sessions.specs.declared.transcript.Part.TheVariants.{Waits, Over}
 use Rattle.act_sessions.specs.Session.{moment, start, first, IsPart}
-use Rattle.act_sessions.proofs.Closing.{heard_cut, heard_done, seen_done, seen_cut, waited, was_cut}
+use Rattle.act_sessions.proofs.Closing.{finished, failed, waited, was_cut}
 use Rattle.act_sessions.proofs.Going.{at}
 use Rattle.act_sessions.proofs.session.run.Goals as goal
 
-pub returns-in-Waits-clause-ended : goal.returns-in-Waits-clause-ended
-returns-in-Waits-clause-ended g c =
+pub returns-in-Waits-clause-ok : goal.returns-in-Waits-clause-ok
+returns-in-Waits-clause-ok g c =
     let p = g.P.Protocol.rules in
     let out = g.W.Write.contents c.args.writer.now in
     let asked = g.A.Answer.asked c.args.answerer.now in
     let written = g.W.Write.contents c.run_part-end.new.writer in
-    let told = g.A.Answer.asked c.run_part-end.new.answerer in
+    let exchanges = g.A.Answer.asked c.run_part-end.new.answerer in
     let i = g.R.Read.remaining c.args.reader.now in
     let i2 = g.R.Read.remaining c.run_part-end.new.reader in
     let to = at c.run_part-end.new.count c.run_part-end.new.buffer.items in
     let new = c.run_part-end.new.transcript in
-    let part : IsPart p first i i2 (start out asked) (moment written told new) to Waits = rw (c.new-buffer.ensures.items, c.new-transcript.ensures.asked, c.new-transcript.ensures.written) at c.in-Waits.ensures.part in
-    seen_done p i i2 out written asked told c.ended.result (rw c.ended.ensures (waited p to i i2 out written asked told new part)) (rw c.ended.ensures refl)
+    let part : IsPart p first i i2 (start out asked) (moment written exchanges new) to Waits = rw (c.new-buffer.ensures.items, c.new-transcript.ensures.asked, c.new-transcript.ensures.written) at c.in-Waits.ensures.part in
+    finished p i i2 out written asked exchanges c.ended.result (rw c.ended.ensures (waited p to i i2 out written asked exchanges new part)) (rw c.ended.ensures refl)
 
-pub returns-in-Over-Done-clause-ended : goal.returns-in-Over-Done-clause-ended
-returns-in-Over-Done-clause-ended g c =
+pub returns-in-Over-Done-clause-ok : goal.returns-in-Over-Done-clause-ok
+returns-in-Over-Done-clause-ok g c =
     let p = g.P.Protocol.rules in
     let out = g.W.Write.contents c.args.writer.now in
     let asked = g.A.Answer.asked c.args.answerer.now in
     let written = g.W.Write.contents c.run_part-end.new.writer in
-    let told = g.A.Answer.asked c.run_part-end.new.answerer in
+    let exchanges = g.A.Answer.asked c.run_part-end.new.answerer in
     let i = g.R.Read.remaining c.args.reader.now in
     let i2 = g.R.Read.remaining c.run_part-end.new.reader in
-    let to = at c.run_part-end.new.count c.run_part-end.new.buffer.items in
-    let new = c.run_part-end.new.transcript in
-    seen_done p i i2 out written asked told c.ended-in-Over-Done.result (search rules) (rw c.ended-in-Over-Done.ensures refl)
+    finished p i i2 out written asked exchanges c.ended-in-Over-Done.result (search rules) (rw c.ended-in-Over-Done.ensures refl)
 
 pub returns-clause-err : goal.returns-clause-err
 returns-clause-err g c =
@@ -38,67 +36,11 @@ returns-clause-err g c =
     let out = g.W.Write.contents c.args.writer.now in
     let asked = g.A.Answer.asked c.args.answerer.now in
     let written = g.W.Write.contents c.run_part-end.new.writer in
-    let told = g.A.Answer.asked c.run_part-end.new.answerer in
+    let exchanges = g.A.Answer.asked c.run_part-end.new.answerer in
     let i = g.R.Read.remaining c.args.reader.now in
     let i2 = g.R.Read.remaining c.run_part-end.new.reader in
     let to = at c.run_part-end.new.count c.run_part-end.new.buffer.items in
     let new = c.run_part-end.new.transcript in
-    let part : IsPart p first i i2 (start out asked) (moment written told new) to (Over c.in-Over.ending) = rw (c.new-buffer.ensures.items, c.new-transcript.ensures.asked, c.new-transcript.ensures.written) at c.in-Over.ensures.part in
-    rw c.ended-in-Over.ensures (was_cut p c.in-Over.ending to i i2 (start out asked) (moment written told new) (search rules) part)
-
-pub returns-clause-stopped : goal.returns-clause-stopped
-returns-clause-stopped g c =
-    let p = g.P.Protocol.rules in
-    let out = g.W.Write.contents c.args.writer.now in
-    let asked = g.A.Answer.asked c.args.answerer.now in
-    let written = g.W.Write.contents c.run_part-end.new.writer in
-    let told = g.A.Answer.asked c.run_part-end.new.answerer in
-    let i = g.R.Read.remaining c.args.reader.now in
-    let i2 = g.R.Read.remaining c.run_part-end.new.reader in
-    let to = at c.run_part-end.new.count c.run_part-end.new.buffer.items in
-    let new = c.run_part-end.new.transcript in
-    let part : IsPart p first i i2 (start out asked) (moment written told new) to (Over c.in-Over.ending) = rw (c.new-buffer.ensures.items, c.new-transcript.ensures.asked, c.new-transcript.ensures.written) at c.in-Over.ensures.part in
-    seen_cut p i i2 out written asked told (record { transcript = c.ended-in-Over.result })
-    (rw c.ended-in-Over.ensures (was_cut p c.in-Over.ending to i i2 (start out asked) (moment written told new) (search rules) part))
-
-pub returns-in-Waits-clause-heard : goal.returns-in-Waits-clause-heard
-returns-in-Waits-clause-heard g c =
-    let p = g.P.Protocol.rules in
-    let out = g.W.Write.contents c.args.writer.now in
-    let asked = g.A.Answer.asked c.args.answerer.now in
-    let written = g.W.Write.contents c.run_part-end.new.writer in
-    let told = g.A.Answer.asked c.run_part-end.new.answerer in
-    let i = g.R.Read.remaining c.args.reader.now in
-    let i2 = g.R.Read.remaining c.run_part-end.new.reader in
-    let to = at c.run_part-end.new.count c.run_part-end.new.buffer.items in
-    let new = c.run_part-end.new.transcript in
-    let part : IsPart p first i i2 (start out asked) (moment written told new) to Waits = rw (c.new-buffer.ensures.items, c.new-transcript.ensures.asked, c.new-transcript.ensures.written) at c.in-Waits.ensures.part in
-    heard_done p i i2 out written asked told c.ended.result (rw c.ended.ensures (waited p to i i2 out written asked told new part)) (rw c.ended.ensures refl)
-
-pub returns-in-Over-Done-clause-heard : goal.returns-in-Over-Done-clause-heard
-returns-in-Over-Done-clause-heard g c =
-    let p = g.P.Protocol.rules in
-    let out = g.W.Write.contents c.args.writer.now in
-    let asked = g.A.Answer.asked c.args.answerer.now in
-    let written = g.W.Write.contents c.run_part-end.new.writer in
-    let told = g.A.Answer.asked c.run_part-end.new.answerer in
-    let i = g.R.Read.remaining c.args.reader.now in
-    let i2 = g.R.Read.remaining c.run_part-end.new.reader in
-    let to = at c.run_part-end.new.count c.run_part-end.new.buffer.items in
-    let new = c.run_part-end.new.transcript in
-    heard_done p i i2 out written asked told c.ended-in-Over-Done.result (search rules) (rw c.ended-in-Over-Done.ensures refl)
-
-pub returns-clause-heard_before : goal.returns-clause-heard_before
-returns-clause-heard_before g c =
-    let p = g.P.Protocol.rules in
-    let out = g.W.Write.contents c.args.writer.now in
-    let asked = g.A.Answer.asked c.args.answerer.now in
-    let written = g.W.Write.contents c.run_part-end.new.writer in
-    let told = g.A.Answer.asked c.run_part-end.new.answerer in
-    let i = g.R.Read.remaining c.args.reader.now in
-    let i2 = g.R.Read.remaining c.run_part-end.new.reader in
-    let to = at c.run_part-end.new.count c.run_part-end.new.buffer.items in
-    let new = c.run_part-end.new.transcript in
-    let part : IsPart p first i i2 (start out asked) (moment written told new) to (Over c.in-Over.ending) = rw (c.new-buffer.ensures.items, c.new-transcript.ensures.asked, c.new-transcript.ensures.written) at c.in-Over.ensures.part in
-    heard_cut p i i2 out written asked told c.ended-in-Over.result
-    (rw c.ended-in-Over.ensures (was_cut p c.in-Over.ending to i i2 (start out asked) (moment written told new) (search rules) part))
+    let part : IsPart p first i i2 (start out asked) (moment written exchanges new) to (Over c.in-Over.ending) = rw (c.new-buffer.ensures.items, c.new-transcript.ensures.asked, c.new-transcript.ensures.written) at c.in-Over.ensures.part in
+    failed p i i2 out written asked exchanges c.ended-in-Over.result
+    (rw c.ended-in-Over.ensures (was_cut p c.in-Over.ending to i i2 (start out asked) (moment written exchanges new) (search rules) part))

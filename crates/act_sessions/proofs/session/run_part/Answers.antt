@@ -48,12 +48,12 @@ returns-in-Err-clause-part g c =
     let old = moment (g.W.Write.contents c.args.writer.now) (g.A.Answer.asked c.args.answerer.now) c.args.transcript.now in
     let asked = g.A.Answer.asked c.take_round.new.answerer in
     let mid = moment (g.W.Write.contents c.take_round.new.writer) asked c.take_round.new.transcript in
-    let new = moment (g.W.Write.contents c.give_up.new.writer) asked c.give_up.new.transcript in
-    let paused : HasPaused p c.in-Err.trouble from i i2 old mid = c.in-Err.ensures from i old c.rounds.invariant in
-    gave_up p c.in-Err.trouble from (at c.args.count.now c.take_round.new.buffer.items) i i2 old mid new c.give_up.result paused refl (c.give_up.ensures asked)
+    let new = moment (g.W.Write.contents c.abort.new.writer) asked c.abort.new.transcript in
+    let paused : HasPaused p c.in-Err.error from i i2 old mid = c.in-Err.ensures from i old c.rounds.invariant in
+    gave_up p c.in-Err.error from (at c.args.count.now c.take_round.new.buffer.items) i i2 old mid new c.abort.result paused refl (c.abort.ensures asked)
 
-pub returns-in-Ok-Some-true-clause-told : goal.returns-in-Ok-Some-true-clause-told
-returns-in-Ok-Some-true-clause-told g c =
+pub returns-in-Ok-Some-true-clause-exchanges : goal.returns-in-Ok-Some-true-clause-exchanges
+returns-in-Ok-Some-true-clause-exchanges g c =
     let p = g.P.Protocol.rules in
     let from = at c.args.count.now c.args.buffer.now.items in
     let i = g.R.Read.remaining c.args.reader.now in
@@ -68,8 +68,8 @@ returns-in-Ok-Some-true-clause-told g c =
     rw (c.in-Ok-Some-true.field-0-is, c.in-Ok-Some-true.field-0-0-test) at (c.in-Ok-Some-true.ensures from i old c.rounds.invariant) in
     part_told p from first i i2 out written asked now c.args.transcript.now c.take_round.new.transcript (Over Done) round
 
-pub returns-in-Ok-None-clause-told : goal.returns-in-Ok-None-clause-told
-returns-in-Ok-None-clause-told g c =
+pub returns-in-Ok-None-clause-exchanges : goal.returns-in-Ok-None-clause-exchanges
+returns-in-Ok-None-clause-exchanges g c =
     let p = g.P.Protocol.rules in
     let from = at c.args.count.now c.args.buffer.now.items in
     let to = at c.rounds.turns c.take_round.new.buffer.items in
@@ -100,8 +100,8 @@ returns-in-Ok-None-clause-waits g c same =
     let held = round.0.held in
     (room, search (rules, held))
 
-pub returns-in-Err-clause-told : goal.returns-in-Err-clause-told
-returns-in-Err-clause-told g c =
+pub returns-in-Err-clause-exchanges : goal.returns-in-Err-clause-exchanges
+returns-in-Err-clause-exchanges g c =
     let p = g.P.Protocol.rules in
     let from = at c.args.count.now c.args.buffer.now.items in
     let to = at c.args.count.now c.take_round.new.buffer.items in
@@ -112,8 +112,8 @@ returns-in-Err-clause-told g c =
     let old = moment out asked c.args.transcript.now in
     let now = g.A.Answer.asked c.take_round.new.answerer in
     let mid = moment (g.W.Write.contents c.take_round.new.writer) now c.take_round.new.transcript in
-    let written = g.W.Write.contents c.give_up.new.writer in
-    let new = moment written now c.give_up.new.transcript in
-    let paused : HasPaused p c.in-Err.trouble from i i2 old mid = c.in-Err.ensures from i old c.rounds.invariant in
-    part_told p from to i i2 out written asked now c.args.transcript.now c.give_up.new.transcript (Over c.give_up.result)
-    (gave_up p c.in-Err.trouble from to i i2 old mid new c.give_up.result paused refl (c.give_up.ensures now))
+    let written = g.W.Write.contents c.abort.new.writer in
+    let new = moment written now c.abort.new.transcript in
+    let paused : HasPaused p c.in-Err.error from i i2 old mid = c.in-Err.ensures from i old c.rounds.invariant in
+    part_told p from to i i2 out written asked now c.args.transcript.now c.abort.new.transcript (Over c.abort.result)
+    (gave_up p c.in-Err.error from to i i2 old mid new c.abort.result paused refl (c.abort.ensures now))

@@ -3,7 +3,7 @@ use Rattle.std.proofs.lemmas.Result.{err_from_is_err_and}
 use Rattle.act_sessions.specs.declared.request.Demand.TheVariants as demand
 use Rattle.act_sessions.specs.Rules.{Answered}
 use Rattle.act_sessions.specs.Session.{moment}
-use Rattle.act_sessions.specs.Told.{told_in}
+use Rattle.act_sessions.specs.Exchange.{exchanges_in}
 use Rattle.act_sessions.proofs.Turning.{turn_said, turn_starved, asked_one, gives_ok, listed_with, only_memory}
 use Rattle.act_sessions.proofs.session.take_command.Goals as goal
 
@@ -38,4 +38,4 @@ returns g c =
     (rw (c.is_last-last.ensures, c.ends_turn.ensures, c.most.ensures) refl)
     (c.deref.ensures.value ∙ text)
     (asked_one p old mid c.args.command c.args.closes answer c.ask-answer.ensures listed)
-    refl c.make_ready.ensures.written refl (ap (λ v. told_in v.items) c.say.ensures.asked)
+    refl c.make_ready.ensures.written refl (ap (λ v. exchanges_in v.items) c.say.ensures.asked)

@@ -1,7 +1,7 @@
 use Rattle.std.proofs.Common.{refl, ap, ◌∙◌}
 use Rattle.act_sessions.specs.Rules.{Refused}
 use Rattle.act_sessions.specs.Session.{moment}
-use Rattle.act_sessions.specs.Told.{told_in}
+use Rattle.act_sessions.specs.Exchange.{exchanges_in}
 use Rattle.act_sessions.proofs.Turning.{turn_said, asked_none, gives_ok}
 use Rattle.act_sessions.proofs.session.take_fault.Goals as goal
 
@@ -15,4 +15,4 @@ returns g c asked =
     (rw (c.is_last-last.ensures, c.most.ensures) refl)
     (c.deref.ensures.value ∙ text)
     (asked_none old c.args.fault c.args.closes)
-    refl refl refl (ap (λ v. told_in v.items) c.say.ensures.asked)
+    refl refl refl (ap (λ v. exchanges_in v.items) c.say.ensures.asked)

@@ -4,7 +4,7 @@ use Rattle.gated_journal.specs.Choice.{part}
 use Rattle.gated_journal.specs.TwoAreas.{area_on, start_of}
 use Rattle.gated_journal.specs.Whole.{IsChosen}
 use Rattle.gated_journal.specs.declared.chosen.Chosen.{Chosen}
-use Rattle.act_store.specs.Spelled.{IsHalf, IsSpelled}
+use Rattle.act_store.specs.Encoded.{IsHalf, IsEncoded}
 use Rattle.act_store.specs.declared.decoded_area.DecodedArea.{DecodedArea}
 use Rattle.act_store.proofs.Opening.{no_table_in}
 use Rattle.act_store.proofs.ReadTwice.{read_twice}
@@ -25,7 +25,7 @@ returns-in-None-clause-no_table g c = λ _ honest2.
     let len = c.in_ok-len.len in
     let chosen = c.in_ok-chosen.chosen in
     let area = c.area.result in
-    let honest1 = c.spelled_at.ensures.only_read.was_honest honest2 in
+    let honest1 = c.encoded_at.ensures.only_read.was_honest honest2 in
     let honest0 = c.choose.ensures.only_read.was_honest honest1 in
     let some_len : c.area_length.result ≡ Some len = search rules in
     let some_chosen : c.in_ok-choose.field-0 ≡ Some chosen = search rules in
@@ -36,9 +36,9 @@ returns-in-None-clause-no_table g c = λ _ honest2.
     ∙ ap (λ (l : List ℕ). part (start_of len chosen.side) len l) (c.choose.ensures.only_read.same_seen honest1) in
     no_table_in len file (g.met.D.Disk.seen_length d0 honest0 ∙ sym c.len.ensures ∙ half.0) chosen
     (subst (λ (o : Option Chosen). IsChosen len o file) some_chosen (c.in_ok-choose.ensures.found honest1)) half.1
-    (subst (λ (l : List ℕ). IsSpelled l None) there
-    (subst (λ (o : Option DecodedArea). IsSpelled (part area.start area.len (disk.seen d1)) o) c.in-None.is
-    (c.in_ok-spelled.ensures.spelled honest2)))
+    (subst (λ (l : List ℕ). IsEncoded l None) there
+    (subst (λ (o : Option DecodedArea). IsEncoded (part area.start area.len (disk.seen d1)) o) c.in-None.is
+    (c.in_ok-encoded.ensures.encoded honest2)))
 
 pub returns-in-Some-clause-found : goal.returns-in-Some-clause-found
 returns-in-Some-clause-found g c = λ honest2.
@@ -49,7 +49,7 @@ returns-in-Some-clause-found g c = λ honest2.
     let len = c.in_ok-len.len in
     let chosen = c.in_ok-chosen.chosen in
     let area = c.area.result in
-    let honest1 = c.spelled_at.ensures.only_read.was_honest honest2 in
+    let honest1 = c.encoded_at.ensures.only_read.was_honest honest2 in
     let honest0 = c.choose.ensures.only_read.was_honest honest1 in
     let some_len : c.area_length.result ≡ Some len = search rules in
     let some_chosen : c.in_ok-choose.field-0 ≡ Some chosen = search rules in
@@ -63,13 +63,13 @@ returns-in-Some-clause-found g c = λ honest2.
       long = g.met.D.Disk.seen_length d0 honest0 ∙ sym c.len.ensures ∙ half.0;
       stands = is_chosen.0;
       gate = is_chosen.1;
-      spelled = subst (λ (l : List ℕ). IsSpelled l (Some c.in-Some.spelled)) there
-          (subst (λ (o : Option DecodedArea). IsSpelled (part area.start area.len (disk.seen d1)) o) c.in-Some.is
-          (c.in_ok-spelled.ensures.spelled honest2));
+      encoded = subst (λ (l : List ℕ). IsEncoded l (Some c.in-Some.encoded)) there
+          (subst (λ (o : Option DecodedArea). IsEncoded (part area.start area.len (disk.seen d1)) o) c.in-Some.is
+          (c.in_ok-encoded.ensures.encoded honest2));
     }
 
 pub returns-in-Some-clause-only_read : goal.returns-in-Some-clause-only_read
 returns-in-Some-clause-only_read g c =
     let disk = g.D.Disk in
     read_twice disk.honest disk.seen disk.size disk.moment disk.images disk.images_since g.met.D.Disk.counts_now c.args.disk.now
-    c.choose.new.disk c.spelled_at.new.disk c.choose.ensures.only_read c.spelled_at.ensures.only_read
+    c.choose.new.disk c.encoded_at.new.disk c.choose.ensures.only_read c.encoded_at.ensures.only_read

@@ -4,7 +4,7 @@ use Rattle.run_plan.specs.PlanOf.{legs_faults, planned_job}
 use Rattle.acts_ops.specs.Check.{plan_lines}
 use Rattle.acts_ops.proofs.check.write_jobs.Given as goal
 
--- the lines so far, before those of the jobs that are left, none of which has a fault
+-- the lines so far come before those of the remaining jobs, which have no faults
 abbrev pub invariant-loop-job : goal.invariant-loop-job
 invariant-loop-job g l =
     (out : List ℕ) × Appends (g.W.Write.contents l.initial.writer) (g.W.Write.contents l.writer) out

@@ -4,7 +4,7 @@ use Rattle.acts_ops.specs.Check.{leg_lines}
 use Rattle.acts_ops.proofs.Checks.{numbered_lines}
 use Rattle.acts_ops.proofs.check.write_legs.Given as goal
 
--- the lines so far, before those of the legs that are left
+-- the lines so far come before those of the remaining legs
 abbrev pub invariant-loop-number : goal.invariant-loop-number
 invariant-loop-number g l =
     (out : List ℕ) × Appends (g.W.Write.contents l.initial.writer) (g.W.Write.contents l.writer) out

@@ -10,8 +10,8 @@ returns-in_err-input-clause-refused g c =
     unread c.from_residual.result c.in_err-input.field-0.0 (g.R.Read.remaining c.args.reader.now) c.from_residual.ensures.1
     c.in_err-input.ensures.err
 
-pub returns-then-len-gt-MOST_BYTES-clause-refused : goal.returns-then-len-gt-MOST_BYTES-clause-refused
-returns-then-len-gt-MOST_BYTES-clause-refused g c =
+pub returns-then-len-gt-MAX_BYTES-clause-refused : goal.returns-then-len-gt-MAX_BYTES-clause-refused
+returns-then-len-gt-MAX_BYTES-clause-refused g c =
     let long : most_bytes < length c.in_ok-input.input.items = omega arith in
     too_long _ _ c.in_ok-input.input.items c.in_ok-input.ensures.bytes long
 

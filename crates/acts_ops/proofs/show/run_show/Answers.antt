@@ -1,7 +1,7 @@
 use Rattle.std.proofs.Common.{[], ap, refl, subst, inl, ◌∙◌}
 use Rattle.std.proofs.KnownBytes.{Appends-nil}
 use Rattle.run_table.specs.TableState.{TableState}
-use Rattle.act_store.specs.Images.{StandsFor}
+use Rattle.act_store.specs.Images.{RecoversTo}
 use Rattle.act_store.specs.StoreState.{table_of}
 use Rattle.acts_ops.specs.Show.{shown}
 use Rattle.acts_ops.proofs.Showing.{opened_table, shown_faults, shows_told, stands_somewhere}
@@ -18,8 +18,8 @@ pub returns-in-Ok-clause-written : goal.returns-in-Ok-clause-written
 returns-in-Ok-clause-written g c = λ honest.
     let s = c.in-Ok.store in
     let image = g.D.Disk.seen c.args.disk in
-    let stands : StandsFor (table_of s) image =
-    subst (λ (t : TableState). StandsFor t image) (opened_table s c.in-Ok.ensures.begun.0) (c.in-Ok.ensures.base (subst g.D.Disk.honest c.into_disk.ensures honest)) in
+    let stands : RecoversTo (table_of s) image =
+    subst (λ (t : TableState). RecoversTo t image) (opened_table s c.in-Ok.ensures.begun.0) (c.in-Ok.ensures.base (subst g.D.Disk.honest c.into_disk.ensures honest)) in
     shows_told (shown c.args.form c.args.what) image (table_of s) (g.W.Write.contents c.args.writer.now) (g.W.Write.contents c.show_store-ended.new.writer)
     c.show_store-ended.result stands c.show_store-ended.ensures
 

@@ -10,9 +10,9 @@ loop-init g c = (
   omega arith,
   first_round c.args.hooks.now c.args.runners.now c.args.sessions (g.O.Write.contents c.args.out.now)
       (g.O.Write.contents c.tell_ready.new.out) (g.O.Write.contents c.serve_round.new.out) c.in_ok-round.round.broken
-      c.in_ok-round.round.store.history c.in_ok-tell_ready.ensures.told c.in_ok-round.ensures.told
+      c.in_ok-round.round.store.history c.in_ok-tell_ready.ensures.announced c.in_ok-round.ensures.announced
       (record {
-        visits = c.in_ok-first.first.items;
+        connections = c.in_ok-first.first.items;
         count = c.in_ok-first.ensures.count;
         by_turns = c.in_ok-first.ensures.by_turns;
         held = c.in_ok-round.ensures.held;
@@ -33,7 +33,7 @@ loop-preserved g c =
       omega (arith, c.loop-test.true),
       subst (λ b. HaveTurned c.args.hooks.now c.args.runners.now c.args.sessions (c.loop.counter + 1) b before after history) (sym broken)
           (next_round c.args.hooks.now c.args.runners.now c.args.sessions c.loop.counter c.loop.broken now before
-          (g.O.Write.contents c.loop.out) after c.loop.round.store.history history c.loop.invariant.1 c.in_ok-round-2.ensures.told
+          (g.O.Write.contents c.loop.out) after c.loop.round.store.history history c.loop.invariant.1 c.in_ok-round-2.ensures.announced
           c.in_ok-round-2.ensures.ended),
     )
 

@@ -2,7 +2,7 @@ use Rattle.std.proofs.Common.{◌≡◌}
 use Rattle.act_store.specs.Checkpoints.{left_of}
 use Rattle.acts_serve.proofs.upgrade.make_checkpoint.Given as goal
 
--- the history and its begin are as they were, and so many bytes are left of the checkpoint
+-- the history and its base are unchanged, and `left` bytes of the checkpoint remain
 abbrev pub invariant-loop-left : goal.invariant-loop-left
 invariant-loop-left g l =
     (l.store.history ≡ l.fn.store.history) × (l.store.base ≡ l.fn.store.base) × (l.left ≡ left_of l.store.begun)

@@ -3,7 +3,7 @@ use Rattle.matrix_expand.specs.Combinations.{choice_count}
 use Rattle.matrix_expand.specs.Numbered.{axes_of}
 use Rattle.matrix_expand.proofs.axis.axes.Given as goal
 
--- the stride is the number of choices of the variables that are left
+-- the stride is the number of choices of the remaining variables
 abbrev pub invariant-loop-variable : goal.invariant-loop-variable
 invariant-loop-variable l = record {
   some : 0 < l.stride;

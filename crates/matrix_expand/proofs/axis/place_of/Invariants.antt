@@ -2,7 +2,7 @@ use Rattle.std.proofs.Common.{◌≤◌, ◌-◌, length}
 use Rattle.matrix_expand.proofs.Rising.{IsBelow, IsAbove}
 use Rattle.matrix_expand.proofs.axis.place_of.Given as goal
 
--- the name is at none of the places before low, and at none from high on
+-- the name is at no index below low and at none from high on
 abbrev pub invariant-loop-low : goal.invariant-loop-low
 invariant-loop-low l = record {
   in_order : l.low ≤ l.high;

@@ -2,7 +2,7 @@ use Rattle.std.proofs.Common.{◌≡◌, ◌≤◌, ◌+◌, ◌-◌, ◌++◌, 
 use Rattle.matrix_expand.specs.Entries.{merged}
 use Rattle.matrix_expand.proofs.entry.merge.Given as goal
 
--- what is merged and what is left
+-- the merged entries so far, followed by the merge of the remaining ones, are all entries
 abbrev pub invariant-loop-i : goal.invariant-loop-i
 invariant-loop-i l = record {
   left_in : l.i ≤ length l.left;

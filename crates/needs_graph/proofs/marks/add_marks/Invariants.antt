@@ -1,7 +1,7 @@
 use Rattle.std.proofs.Common.{◌≡◌, take}
-use Rattle.needs_graph.specs.Marks.{either}
+use Rattle.needs_graph.specs.JobBitmap.{either}
 use Rattle.needs_graph.proofs.marks.add_marks.Given as goal
 
--- the first of the others have been added
+-- the first marks of the second set are added
 abbrev pub invariant-loop-i : goal.invariant-loop-i
 invariant-loop-i l = l.marks ≡ either l.initial.marks (take l.i l.others)

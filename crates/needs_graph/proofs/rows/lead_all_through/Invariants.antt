@@ -1,7 +1,7 @@
 use Rattle.std.proofs.Common.{◌≡◌, ◌++◌, map, take, drop}
-use Rattle.needs_graph.specs.Marks.{through}
+use Rattle.needs_graph.specs.JobBitmap.{through}
 use Rattle.needs_graph.proofs.rows.lead_all_through.Given as goal
 
--- the rows so far lead through the job, and the others are as they were
+-- the rows so far pass through the job, and the others are unchanged
 abbrev pub invariant-loop-row : goal.invariant-loop-row
 invariant-loop-row l = l.rows ≡ map (through l.job l.others) (take l.row-index l.initial.rows) ++ drop l.row-index l.initial.rows

@@ -4,6 +4,6 @@ use Rattle.needs_graph.specs.Needs.{is_job}
 use Rattle.needs_graph.specs.Rows.{needs_row}
 use Rattle.needs_graph.proofs.rows.needs_row.Given as goal
 
--- the ids so far are jobs', and these are marked
+-- the ids so far are known, and their jobs are marked
 abbrev pub invariant-loop-id : goal.invariant-loop-id
 invariant-loop-id l = (l.row ≡ needs_row l.jobs (take l.id-index l.ids)) × (list_all (is_job l.jobs) (take l.id-index l.ids) ≡ true)

@@ -15,15 +15,15 @@ returns-in_err-origin-clause-gives c =
 pub invariant_of-result : goal.invariant_of-result
 invariant_of-result c =
     let body = c.args.body.items in
-    let told = rw c.as_slice.ensures.value at c.in_ok-origin.ensures.gives in
+    let lease_reply = rw c.as_slice.ensures.value at c.in_ok-origin.ensures.gives in
     let from = rw c.as_slice.ensures.value at c.in_ok-origin.ensures.origin in
     rw c.in_ok-new.ensures.ok
-    (no_fault (faults_of body) (plan_of body) _ told, from, sym (same_value (faults_of body) (plan_of body) _ told))
+    (no_fault (faults_of body) (plan_of body) _ lease_reply, from, sym (same_value (faults_of body) (plan_of body) _ lease_reply))
 
 pub returns-clause-gives : goal.returns-clause-gives
 returns-clause-gives c =
     let body = c.args.body.items in
-    let told = rw c.as_slice.ensures.value at c.in_ok-origin.ensures.gives in
-    let none = no_fault (faults_of body) (plan_of body) _ told in
+    let lease_reply = rw c.as_slice.ensures.value at c.in_ok-origin.ensures.gives in
+    let none = no_fault (faults_of body) (plan_of body) _ lease_reply in
     let kept = c.in_ok-new.ensures.ok in
     rw (none, kept) refl

@@ -11,7 +11,7 @@ mapped : {X : Type 0} (now : X → RunnerState) (o : Option X) → is_some (opti
 mapped now None = refl
 mapped now (Some x) = refl
 
--- whether the runner at the place has the name is whether one has it
+-- the runner at the index has the name exactly if some runner has it
 known_by : {X : Type 0} (now : X → RunnerState) (o : Option X) (found : Option RunnerState) (b : Bool) → option_map now o ≡ found
     → b ≡ is_some o → is_some found ≡ b
 known_by now o found b there is = ap (λ (r : Option RunnerState). is_some r) (sym there) ∙ mapped now o ∙ sym is

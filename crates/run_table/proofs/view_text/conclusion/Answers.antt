@@ -1,6 +1,6 @@
 use Rattle.std.proofs.Common.{ap, ◌∙◌}
 use Rattle.needs_graph.specs.Results.{conclusion_of}
-use Rattle.workflow_runs.proofs.Doors.{results_of_cells}
+use Rattle.run_states.proofs.Doors.{results_of_cells}
 use Rattle.run_table.proofs.view_text.conclusion.Goals as goal
 
 pub returns : goal.returns

@@ -3,7 +3,7 @@ use Rattle.std.specs.Prelude.{sum_by}
 use Rattle.table_text.specs.Lengths.{command_length}
 use Rattle.table_text.proofs.lengths.commands_length.Given as goal
 
--- the commands so far have been counted, each with 65,677 bytes at most
+-- the commands so far have been counted, with at most 65,677 bytes each
 abbrev pub invariant-loop-asked : goal.invariant-loop-asked
 invariant-loop-asked l = record {
   length : l.total ≡ sum_by command_length (take l.asked-index l.commands);

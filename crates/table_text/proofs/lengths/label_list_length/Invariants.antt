@@ -3,7 +3,7 @@ use Rattle.std.specs.Prelude.{sum_by}
 use Rattle.table_text.specs.Lengths.{text_length}
 use Rattle.table_text.proofs.lengths.label_list_length.Given as goal
 
--- the labels so far have been counted, each with 68 bytes at most
+-- the labels so far have been counted, with at most 68 bytes each
 abbrev pub invariant-loop-label : goal.invariant-loop-label
 invariant-loop-label l = record {
   length : l.total ≡ sum_by text_length (take l.label-index l.list);

@@ -12,6 +12,6 @@ pub loop-value-preserved : goal.loop-value-preserved
 loop-value-preserved g c = record {
   each = all_more g.T.Push.takes c.args.list.now c.loop-value.value-index _ c.loop-value-test.true c.loop-value.invariant.each
       (subst g.T.Push.takes c.value-item.is c.in_ok-push_to.ensures.takes);
-  bytes = bytes_more g.T.Push.spelling _ _ _ c.args.list.now c.loop-value.value-index _ _ c.loop-value-test.true c.value-item.is
+  bytes = bytes_more g.T.Push.encoding _ _ _ c.args.list.now c.loop-value.value-index _ _ c.loop-value-test.true c.value-item.is
       c.loop-value.invariant.bytes c.in_ok-push_to.ensures.bytes;
 }

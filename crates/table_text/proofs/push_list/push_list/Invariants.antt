@@ -6,5 +6,5 @@ use Rattle.table_text.proofs.push_list.push_list.Given as goal
 abbrev pub invariant-loop-value : goal.invariant-loop-value
 invariant-loop-value g l = record {
   each : AllByRecursion g.T.Push.takes (take l.value-index l.list);
-  bytes : l.out.items ≡ l.initial.out.items ++ flat_map g.T.Push.spelling (take l.value-index l.list);
+  bytes : l.out.items ≡ l.initial.out.items ++ flat_map g.T.Push.encoding (take l.value-index l.list);
 }

@@ -1,6 +1,6 @@
 use Rattle.std.proofs.Common.{ℕ, ◌≤◌, sym, subst}
 use Rattle.std.specs.List.{AllByRecursion}
-use Rattle.run_table.specs.Stored.{stored_runner}
+use Rattle.stored_tables.specs.Stored.{stored_runner}
 use Rattle.run_table.specs.TableState.{RunnerState}
 use Rattle.table_text.specs.Tables.{run, runner}
 use Rattle.table_text.specs.Writing.{KeptHasBytes, RunHasBytes}

@@ -9,6 +9,6 @@ pub returns-in-Ok-clause-front : goal.returns-in-Ok-clause-front
 returns-in-Ok-clause-front c = found_at_front command command_at command_reads c.args.bytes.now _ (λ i. omega (arith, c.type_inv.bytes i))
     c.in-Ok.ensures
 
-pub returns-in-Err-NoSpelling-clause-front : goal.returns-in-Err-NoSpelling-clause-front
-returns-in-Err-NoSpelling-clause-front c = none_at_front command command_at command_reads c.args.bytes.now
-    (rw c.in-Err-NoSpelling.field-0-is at c.in-Err-NoSpelling.ensures)
+pub returns-in-Err-NoEncoding-clause-front : goal.returns-in-Err-NoEncoding-clause-front
+returns-in-Err-NoEncoding-clause-front c = none_at_front command command_at command_reads c.args.bytes.now
+    (rw c.in-Err-NoEncoding.field-0-is at c.in-Err-NoEncoding.ensures)

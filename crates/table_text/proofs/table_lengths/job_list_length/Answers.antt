@@ -1,5 +1,5 @@
 use Rattle.std.proofs.Common.{arith, subst, sym}
-use Rattle.workflow_runs.specs.Cells.{JobCells}
+use Rattle.run_states.specs.Cells.{JobCells}
 use Rattle.table_text.specs.TableLengths.{job_length}
 use Rattle.table_text.specs.Writing.{JobHasBytes}
 use Rattle.table_text.proofs.LengthLaws.{sum_more}

@@ -4,8 +4,8 @@ use Rattle.std.specs.List.{AllByRecursion}
 use Rattle.std.proofs.lemmas.List.{length-map}
 use Rattle.run_plan.specs.PlanOf.{faults_of}
 use Rattle.run_plan.specs.declared.command.Command.TheVariants as asked
-use Rattle.workflow_runs.specs.Cells.{JobCells, states}
-use Rattle.workflow_runs.proofs.Found.{each_of_map}
+use Rattle.run_states.specs.Cells.{JobCells, states}
+use Rattle.run_states.proofs.Found.{each_of_map}
 use Rattle.table_text.specs.Lengths.{fields_length}
 use Rattle.table_text.specs.TableLengths.{job_length}
 use Rattle.table_text.specs.Writing.{JobHasBytes}

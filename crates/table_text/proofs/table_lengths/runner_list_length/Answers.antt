@@ -1,5 +1,5 @@
 use Rattle.std.proofs.Common.{arith}
-use Rattle.run_table.specs.Stored.{stored_runner}
+use Rattle.stored_tables.specs.Stored.{stored_runner}
 use Rattle.run_table.specs.TableState.{RunnerState}
 use Rattle.table_text.specs.TableLengths.{runner_length}
 use Rattle.table_text.proofs.LengthLaws.{sum_more}

@@ -1,9 +1,9 @@
 use Rattle.std.proofs.Common.{◌≡◌, ◌≤◌, ap, arith, length, sym, ◌∙◌, subst}
 use Rattle.std.specs.Prelude.{List, sum_by}
 use Rattle.std.specs.List.{AllByRecursion}
-use Rattle.run_table.specs.Stored.{stored_runner, stored_table}
+use Rattle.stored_tables.specs.Stored.{stored_runner, stored_table}
 use Rattle.run_table.specs.TableState.{RunnerState}
-use Rattle.workflow_runs.specs.RunState.{RunState}
+use Rattle.run_states.specs.RunState.{RunState}
 use Rattle.table_text.specs.TableLengths.{run_length, runner_length}
 use Rattle.table_text.specs.Writing.{RunHasBytes}
 use Rattle.table_text.proofs.TableKnown.{runs_have_bytes}

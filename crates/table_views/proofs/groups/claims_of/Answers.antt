@@ -1,9 +1,11 @@
+use Rattle.std.specs.Prelude.{refl}
 use Rattle.std.proofs.Common.{◌∙◌, ℕ, ◌<◌, length, map, sym, arith, ap}
-use Rattle.workflow_runs.specs.FirstOf.{placed}
-use Rattle.workflow_runs.specs.Moves.{Holder}
-use Rattle.workflow_runs.specs.RunState.{RunState}
-use Rattle.table_views.proofs.Claimed.{leg_claimed, run_claimed}
+use Rattle.run_states.specs.FirstOf.{placed}
+use Rattle.run_states.specs.RunState.{RunState}
+use Rattle.run_states.specs.Places.{leg_place}
+use Rattle.table_views.proofs.Claimed.{leg_claimed, place_read, run_claimed}
 use Rattle.table_views.proofs.groups.claims_of.Goals as goal
+use Rattle.run_states.specs.declared.holder.Holder.TheVariants.{Run}
 
 pub loop-r-preserved : goal.loop-r-preserved
 loop-r-preserved c =
@@ -12,6 +14,8 @@ loop-r-preserved c =
 
 pub loop-place-preserved : goal.loop-place-preserved
 loop-place-preserved c =
-    leg_claimed c.args.runs.now (map (λ (x : ℕ × RunState). Holder.a_run x.0) (placed c.args.runs.now)) c.args.places.now
-    c.loop-place.place-index c.place-item.result _ _ (omega (arith, c.loop-place-test.true)) (sym c.place-item.is) c.loop-place.invariant
-    c.in_ok-push_claim-2.ensures.added
+    let places = c.args.places.now in
+    let i = c.loop-place.place-index in
+    let lt : i < length places = omega (arith, c.loop-place-test.true) in
+    leg_claimed c.args.runs.now (map (λ (x : ℕ × RunState). Run x.0) (placed c.args.runs.now)) places i _ _ _ lt
+    (place_read places i (leg_place 0 0 0) _ lt refl) c.loop-place.invariant c.in_ok-push_claim-2.ensures.added

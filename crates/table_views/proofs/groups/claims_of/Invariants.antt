@@ -1,19 +1,19 @@
 use Rattle.std.proofs.Common.{◌≡◌, ℕ, ◌++◌, map, take}
 use Rattle.std.specs.Prelude.{filter_map}
-use Rattle.workflow_runs.specs.FirstOf.{placed}
-use Rattle.workflow_runs.specs.Moves.{Holder}
-use Rattle.workflow_runs.specs.RunState.{RunState}
+use Rattle.run_states.specs.FirstOf.{placed}
+use Rattle.run_states.specs.RunState.{RunState}
 use Rattle.table_views.specs.Claims.{claim_of, said}
 use Rattle.table_views.proofs.groups.claims_of.Given as goal
+use Rattle.run_states.specs.declared.holder.Holder.TheVariants.{Run, Leg}
 
--- those of the runs so far
+-- the claims of the runs so far
 abbrev pub invariant-loop-r : goal.invariant-loop-r
 invariant-loop-r l =
-    map said l.claims.items ≡ filter_map (claim_of l.runs) (map (λ (x : ℕ × RunState). Holder.a_run x.0) (placed (take l.r l.runs)))
+    map said l.claims.items ≡ filter_map (claim_of l.runs) (map (λ (x : ℕ × RunState). Run x.0) (placed (take l.r l.runs)))
 
--- those of all runs, and of the legs so far
+-- the claims of all runs and of the legs so far
 abbrev pub invariant-loop-place : goal.invariant-loop-place
 invariant-loop-place l =
     map said l.claims.items
-    ≡ filter_map (claim_of l.runs) (map (λ (x : ℕ × RunState). Holder.a_run x.0) (placed l.runs)
-    ++ map (λ p. Holder.a_leg p) (take l.place-index l.places))
+    ≡ filter_map (claim_of l.runs) (map (λ (x : ℕ × RunState). Run x.0) (placed l.runs)
+    ++ map (λ p. Leg p) (take l.place-index l.places))

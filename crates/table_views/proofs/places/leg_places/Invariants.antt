@@ -1,7 +1,7 @@
 use Rattle.std.proofs.Common.{◌≡◌, take}
 use Rattle.std.specs.List.{All, flat_map}
-use Rattle.workflow_runs.specs.FirstOf.{placed}
-use Rattle.workflow_runs.specs.Places.{leg_places_of_run}
+use Rattle.run_states.specs.FirstOf.{placed}
+use Rattle.run_states.specs.Places.{leg_places_of_run}
 use Rattle.table_views.specs.Placed.{IsWithin}
 use Rattle.table_views.proofs.places.leg_places.Given as goal
 

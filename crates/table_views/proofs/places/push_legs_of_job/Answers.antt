@@ -1,9 +1,10 @@
 use Rattle.std.proofs.Common.{◌≡◌, ◌∙◌, ℕ, ◌++◌, ◌∷◌, [], ◌<◌, ◌^◌, length, map, take, ap, sym, subst, arith}
 use Rattle.std.specs.List.{All}
 use Rattle.std.proofs.lemmas.List.Elements.{All-append, All-cons, All-nil}
-use Rattle.workflow_runs.specs.FirstOf.{placed}
-use Rattle.workflow_runs.specs.Places.{LegPlace, leg_place}
-use Rattle.workflow_runs.specs.RunState.{LegState}
+use Rattle.run_states.specs.FirstOf.{placed}
+use Rattle.run_states.specs.Places.{leg_place}
+use Rattle.run_states.specs.declared.place.LegPlace.{LegPlace}
+use Rattle.run_states.specs.RunState.{LegState}
 use Rattle.table_views.specs.Placed.{IsWithin}
 use Rattle.table_views.proofs.Placing.{added_more, one_place_more}
 use Rattle.table_views.proofs.places.push_legs_of_job.Goals as goal

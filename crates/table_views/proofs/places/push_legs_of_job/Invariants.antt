@@ -1,8 +1,8 @@
 use Rattle.std.proofs.Common.{◌≡◌, ℕ, ◌++◌, map, take}
 use Rattle.std.specs.List.{All}
-use Rattle.workflow_runs.specs.FirstOf.{placed}
-use Rattle.workflow_runs.specs.Places.{leg_place}
-use Rattle.workflow_runs.specs.RunState.{LegState}
+use Rattle.run_states.specs.FirstOf.{placed}
+use Rattle.run_states.specs.Places.{leg_place}
+use Rattle.run_states.specs.RunState.{LegState}
 use Rattle.table_views.specs.Placed.{IsWithin}
 use Rattle.table_views.proofs.places.push_legs_of_job.Given as goal
 

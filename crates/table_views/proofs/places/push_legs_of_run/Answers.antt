@@ -1,9 +1,9 @@
 use Rattle.std.proofs.Common.{◌≡◌, ◌∙◌, ◌++◌, ◌<◌, length, take, get_or, ap, sym, arith}
 use Rattle.std.proofs.lemmas.List.{get_or-map, length-map}
 use Rattle.std.specs.List.{flat_map}
-use Rattle.workflow_runs.specs.Cells.{JobCells, states}
-use Rattle.workflow_runs.specs.FirstOf.{placed}
-use Rattle.workflow_runs.specs.Places.{leg_places_of_job}
+use Rattle.run_states.specs.Cells.{JobCells, states}
+use Rattle.run_states.specs.FirstOf.{placed}
+use Rattle.run_states.specs.Places.{leg_places_of_job}
 use Rattle.table_views.proofs.Placing.{added_more, one_more}
 use Rattle.table_views.proofs.places.push_legs_of_run.Goals as goal
 

@@ -1,8 +1,8 @@
 use Rattle.std.proofs.Common.{◌≡◌, ◌++◌, take}
 use Rattle.std.specs.List.{All, flat_map}
-use Rattle.workflow_runs.specs.Cells.{states}
-use Rattle.workflow_runs.specs.FirstOf.{placed}
-use Rattle.workflow_runs.specs.Places.{leg_places_of_job}
+use Rattle.run_states.specs.Cells.{states}
+use Rattle.run_states.specs.FirstOf.{placed}
+use Rattle.run_states.specs.Places.{leg_places_of_job}
 use Rattle.table_views.specs.Placed.{IsWithin}
 use Rattle.table_views.proofs.places.push_legs_of_run.Given as goal
 

@@ -3,7 +3,7 @@ use Rattle.std.proofs.lemmas.List.{take_rest}
 use Rattle.httparse.specs.Grammar.{HasNoRequest}
 use Rattle.httparse.specs.Spans.{IsRequestOf, IsRequestWithin}
 use Rattle.webhook_sessions.specs.Asking.{request_after}
-use Rattle.webhook_sessions.specs.Found.{IsFound}
+use Rattle.webhook_sessions.specs.FoundRequest.{IsFound}
 use Rattle.webhook_sessions.specs.Heading.{heading_of}
 use Rattle.webhook_sessions.proofs.Heads.{bad_where_long, bad_for_good, next_by, head_found, heading_found}
 use Rattle.webhook_sessions.proofs.request.next_request.Goals as goal
@@ -32,7 +32,7 @@ returns-in-Ok-Partial-2 c =
     let bytes = c.args.bytes.now in
     let front = take c.min.result bytes in
     let none : HasNoRequest front = rw c.in-Ok-Partial.field-0-is at c.in-Ok-Partial.ensures.partial in
-    rw c.unread.ensures (omega arith, bad_where_long bytes front (ap (λ n. take n bytes) c.min.ensures) c.if-bytes-lt-MOST_HEAD.false none)
+    rw c.unread.ensures (omega arith, bad_where_long bytes front (ap (λ n. take n bytes) c.min.ensures) c.if-bytes-lt-MAX_HEAD.false none)
 
 pub returns-in-Err : goal.returns-in-Err
 returns-in-Err c =

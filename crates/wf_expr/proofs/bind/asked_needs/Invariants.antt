@@ -2,7 +2,7 @@ use Rattle.std.proofs.Common.{◌≡◌, ◌++◌, drop}
 use Rattle.wf_expr.specs.Bound.{asked_needs}
 use Rattle.wf_expr.proofs.bind.asked_needs.Given as goal
 
--- the needs so far and those that the operands that are left ask are those that all of them ask
+-- the needs so far, followed by those of the remaining operands, are those of all operands
 abbrev pub invariant-loop-operand : goal.invariant-loop-operand
 invariant-loop-operand g l =
     let values = g.C.Context.values l.known.context.now in

@@ -4,7 +4,7 @@ use Rattle.wf_expr.specs.Comparison.{folded}
 use Rattle.wf_expr.proofs.ComparisonLemmas.{IsLeft}
 use Rattle.wf_expr.proofs.comparison.are_bound_text.Given as goal
 
--- the pieces that are left are what is left of the text where all are the whole
+-- all pieces make up the text if and only if the remaining pieces make up the rest of the text
 abbrev pub invariant-loop-piece : goal.invariant-loop-piece
 invariant-loop-piece g l =
     IsLeft l.case (bound_piece_text (g.R.NeedResults.result_of l.results)) (drop l.piece-index l.pieces) l.left

@@ -3,6 +3,6 @@ use Rattle.std.specs.Prelude.{sum_by}
 use Rattle.wf_expr.specs.Profile.{reference_count}
 use Rattle.wf_expr.proofs.profile.are_few.Given as goal
 
--- the references so far and what is left of the number make 32
+-- the references so far and the remaining allowance add up to 32
 abbrev pub invariant-loop-piece : goal.invariant-loop-piece
 invariant-loop-piece l = sum_by reference_count (take l.piece-index l.pieces) + l.left ≡ 32

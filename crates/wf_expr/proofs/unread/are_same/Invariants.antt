@@ -1,7 +1,7 @@
 use Rattle.std.proofs.Common.{◌≡◌, ◌↔◌, length}
 use Rattle.wf_expr.proofs.unread.are_same.Given as goal
 
--- the bytes so far are the same
+-- the bytes so far are equal
 abbrev pub invariant-loop-byte : goal.invariant-loop-byte
 invariant-loop-byte g l = (l.one ≡ l.other) ↔ (l.fn.one ≡ l.fn.other)
 

@@ -4,7 +4,7 @@ use Rattle.serde_json.specs.View.{view}
 use Rattle.wf_reader.specs.MatrixOf.{is_variable_name, variable_faults, variable_of}
 use Rattle.wf_reader.proofs.matrix.read_variables.Given as goal
 
--- the variables among the members so far have no fault and have given their values
+-- the variables so far have no faults and their values are read
 abbrev pub invariant-loop-name : goal.invariant-loop-name
 invariant-loop-name l = record {
   left : flat_map (λ e. variable_faults (string_bytes e.0, view e.1))

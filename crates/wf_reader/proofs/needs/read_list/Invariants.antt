@@ -4,7 +4,7 @@ use Rattle.wf_reader.specs.Faults.{text_faults}
 use Rattle.wf_reader.specs.Json.{text_in}
 use Rattle.wf_reader.proofs.needs.read_list.Given as goal
 
--- the values so far are texts, and the ids
+-- the values so far are texts and their ids are read
 abbrev pub invariant-loop-value : goal.invariant-loop-value
 invariant-loop-value l = record {
   left : flat_map (λ v. text_faults (view v)) l.values ≡ flat_map (λ v. text_faults (view v)) (drop l.value-index l.values);

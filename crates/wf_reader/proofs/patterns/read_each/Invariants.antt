@@ -3,7 +3,7 @@ use Rattle.serde_json.specs.View.{view}
 use Rattle.wf_reader.specs.Patterns.{pattern_faults, pattern_of}
 use Rattle.wf_reader.proofs.patterns.read_each.Given as goal
 
--- the objects so far have no fault and have given their pairs
+-- the objects so far have no faults and their pairs are read
 abbrev pub invariant-loop-value : goal.invariant-loop-value
 invariant-loop-value l = record {
   left : flat_map (λ v. pattern_faults (view v)) l.values ≡ flat_map (λ v. pattern_faults (view v)) (drop l.value-index l.values);

@@ -4,6 +4,6 @@ use Rattle.std.specs.List.{flat_map}
 use Rattle.wf_value.specs.SpacedText.{spaced}
 use Rattle.wf_value.proofs.refusal.push_spaced.Given as goal
 
--- the texts so far have been added
+-- the texts so far are appended
 abbrev pub invariant-loop-text : goal.invariant-loop-text
 invariant-loop-text l = string_bytes l.target ≡ string_bytes l.initial.target ++ flat_map spaced (take l.text-index l.texts)

@@ -2,7 +2,7 @@ use Rattle.std.proofs.Common.{◌≡◌, length}
 use Rattle.wf_reader.specs.Condition.{up_to_spaces}
 use Rattle.workflow_lint.proofs.condition.up_to_spaces.Given as goal
 
--- what was cut off was a space
+-- the removed character is a space
 abbrev pub invariant-loop-text : goal.invariant-loop-text
 invariant-loop-text l = up_to_spaces l.text ≡ up_to_spaces l.fn.text
 

@@ -5,7 +5,7 @@ use Rattle.workflow_lint.specs.Checks.{found_by, items_at}
 use Rattle.workflow_lint.specs.Paths.{item_path}
 use Rattle.workflow_lint.proofs.lists.check_items.Given as goal
 
--- what is found so far, before what is found in the items that are left
+-- the findings so far, followed by those of the remaining items, are all findings
 abbrev pub invariant-loop-i : goal.invariant-loop-i
 invariant-loop-i l =
     l.found.items ++ flat_map (λ item. found_by l.check (item_path l.path item.0) item.1) (enumerate_from l.i (map view (drop l.i l.values)))

@@ -3,7 +3,7 @@ use Rattle.serde_json.specs.View.{view}
 use Rattle.workflow_lint.specs.Checks.{found_by, members_at}
 use Rattle.workflow_lint.proofs.lists.check_members.Given as goal
 
--- what is found so far, before what is found in the members that are left
+-- the findings so far, followed by those of the remaining members, are all findings
 abbrev pub invariant-loop-name : goal.invariant-loop-name
 invariant-loop-name l =
     l.found.items ++ members_at (found_by l.check) l.path (map (λ e. (string_bytes e.0, view e.1)) l.name-iterator)

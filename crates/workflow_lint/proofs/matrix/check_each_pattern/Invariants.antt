@@ -6,7 +6,7 @@ use Rattle.workflow_lint.specs.InMatrix.{pattern_at}
 use Rattle.workflow_lint.specs.Paths.{item_path}
 use Rattle.workflow_lint.proofs.matrix.check_each_pattern.Given as goal
 
--- what is found so far, before what is found in the objects that are left
+-- the findings so far, followed by those of the remaining objects, are all findings
 abbrev pub invariant-loop-i : goal.invariant-loop-i
 invariant-loop-i l =
     l.found.items ++ flat_map (λ item. pattern_at (item_path l.path item.0) item.1) (enumerate_from l.i (map view (drop l.i l.values)))

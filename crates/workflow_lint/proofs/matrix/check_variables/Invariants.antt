@@ -6,7 +6,7 @@ use Rattle.workflow_lint.specs.Checks.{members_at}
 use Rattle.workflow_lint.specs.InMatrix.{variable_at}
 use Rattle.workflow_lint.proofs.matrix.check_variables.Given as goal
 
--- what is found so far, before what is found in the variables that are left
+-- the findings so far, followed by those of the remaining variables, are all findings
 abbrev pub invariant-loop-name : goal.invariant-loop-name
 invariant-loop-name l =
     l.found.items ++ members_at variable_at l.path

@@ -4,7 +4,7 @@ use Rattle.run_plan.specs.PlanOf.{needs_of_job}
 use Rattle.workflow_lint.specs.Plans.{need_found, unknown_in}
 use Rattle.workflow_lint.proofs.plan.check_needs_of.Given as goal
 
--- what is found so far, before what is found in the names that are left
+-- the findings so far, followed by those of the remaining ids, are all findings
 abbrev pub invariant-loop-i : goal.invariant-loop-i
 invariant-loop-i l =
     l.found.items ++ flat_map (need_found (map needs_of_job l.jobs) l.job.id) (enumerate_from l.i (map (λ n. n) (drop l.i l.needs)))

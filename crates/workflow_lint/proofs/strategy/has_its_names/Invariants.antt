@@ -3,7 +3,7 @@ use Rattle.std.specs.List.{list_all}
 use Rattle.wf_reader.specs.Strategy.{is_strategy_name}
 use Rattle.workflow_lint.proofs.strategy.has_its_names.Given as goal
 
--- the names so far are all of a strategy
+-- the names so far are members of a strategy
 abbrev pub invariant-loop-name : goal.invariant-loop-name
 invariant-loop-name l =
     list_all (λ e. is_strategy_name (string_bytes e.0)) l.members.entries

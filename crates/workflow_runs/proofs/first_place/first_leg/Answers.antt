@@ -1,5 +1,5 @@
 use Rattle.std.proofs.Common.{sym, ◌∙◌}
-use Rattle.workflow_runs.proofs.LegCounts.{no_leg_moves}
+use Rattle.run_states.proofs.LegCounts.{no_leg_moves}
 use Rattle.workflow_runs.proofs.first_place.first_leg.Goals as goal
 
 pub returns-else-has_moving_leg : goal.returns-else-has_moving_leg

@@ -1,8 +1,8 @@
 use Rattle.std.specs.List.{list_all}
 use Rattle.std.proofs.Common.{ap, sym, ◌∙◌}
 use Rattle.std.proofs.lemmas.List.Folds.{list_all-map}
-use Rattle.workflow_runs.specs.Cells.{JobCells}
-use Rattle.workflow_runs.specs.Rules.{is_settled}
+use Rattle.run_states.specs.Cells.{JobCells}
+use Rattle.run_states.specs.Rules.{is_settled}
 use Rattle.workflow_runs.proofs.first_place.has_settled_jobs.Goals as goal
 
 pub returns : goal.returns

@@ -1,9 +1,9 @@
 use Rattle.std.proofs.Common.{◌-◌, length}
-use Rattle.workflow_runs.specs.WithinRun.{fit_in_run}
+use Rattle.run_states.specs.WithinRun.{fit_in_run}
 use Rattle.workflow_runs.proofs.Firsts.{NoneBefore}
 use Rattle.workflow_runs.proofs.fit.first_fit.Given as goal
 
--- none so far is the one
+-- no run so far has a leg that fits
 abbrev pub invariant-loop-r : goal.invariant-loop-r
 invariant-loop-r l = NoneBefore (fit_in_run l.labels l.runs) l.runs l.from
 

@@ -1,7 +1,7 @@
 use Rattle.std.proofs.Common.{◌≡◌}
-use Rattle.workflow_runs.specs.WithinRun.{first_leased, lease_in_run}
+use Rattle.run_states.specs.WithinRun.{first_leased, lease_in_run}
 use Rattle.workflow_runs.proofs.fit.lease_in_run.Given as goal
 
--- the first that has the lease is still to come
+-- the first leg that has the lease is still to come
 abbrev pub invariant-loop-place : goal.invariant-loop-place
 invariant-loop-place l = first_leased l.lease l.place-iterator ≡ lease_in_run l.lease l.r l.run

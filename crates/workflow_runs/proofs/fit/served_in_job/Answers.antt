@@ -1,41 +1,22 @@
-use Rattle.std.specs.Prelude.{◌&&◌, ◌<◌, ℕ, Bool, List, Some, length}
-use Rattle.std.proofs.Common.{arith, ap, subst, sym, ◌∙◌}
-use Rattle.workflow_runs.specs.Fitting.{is_ready, is_served}
-use Rattle.workflow_runs.specs.Places.{LegPlace}
-use Rattle.workflow_runs.specs.RunState.{JobState, LegState, RunState}
-use Rattle.workflow_runs.specs.WithinRun.{served_in_job}
-use Rattle.workflow_runs.proofs.Firsts.{leg_answers, leg_passed, no_leg_answers}
-use Rattle.workflow_runs.specs.Words.{planned_legs}
+use Rattle.std.specs.List.{AllByRecursion}
+use Rattle.std.proofs.Common.{ap, subst, sym, ◌∙◌}
+use Rattle.run_states.specs.PlacedLegs.{PlacedLeg}
+use Rattle.run_states.specs.RunState.{JobState}
+use Rattle.run_states.specs.WithinRun.{served_in_job}
+use Rattle.workflow_runs.proofs.PlacedLegs.{IsInJob, all_in_job, first_passing, first_passing_in_job}
+use Rattle.workflow_runs.proofs.Sought.{serves}
 use Rattle.workflow_runs.proofs.fit.served_in_job.Goals as goal
 
--- whether a leg is ready and served
-abbrev serves : List (List ℕ) → List RunState → LegPlace → LegState → Bool
-serves labels runs p leg = is_ready leg.phase && is_served labels runs p
-
-pub returns-then-fits-clause-found : goal.returns-then-fits-clause-found
-returns-then-fits-clause-found c =
+pub loop-place-init : goal.loop-place-init
+loop-place-init c =
+    let labels = c.args.labels.now in
+    let runs = c.args.runs.now in
     let job : JobState = c.args.job.now.state in
-    ap Some c.new-place.ensures
-    ∙ leg_answers (serves c.args.labels.now c.args.runs.now) (λ p. p) c.args.r c.args.j c.planned_legs-legs.result.now c.loop-l.l
-    c.index-legs-l.result c.new-place.result c.fits.result c.loop-l.invariant (omega arith) c.index-legs-l.is c.new-place.ensures
-    c.fits.ensures c.if-fits.true
-    ∙ ap (λ legs. served_in_job c.args.labels.now c.args.runs.now c.args.r c.args.j (record job { legs = legs })) c.planned_legs-legs.ensures.legs
-
-pub loop-l-preserved : goal.loop-l-preserved
-loop-l-preserved c =
-    leg_passed (serves c.args.labels.now c.args.runs.now) (λ p. p) c.args.r c.args.j c.planned_legs-legs.result.now c.loop-l.l
-    c.index-legs-l.result c.new-place.result c.fits.result c.loop-l.invariant (omega arith) c.index-legs-l.is c.new-place.ensures
-    c.fits.ensures c.if-fits.false
-
-pub returns-clause-found : goal.returns-clause-found
-returns-clause-found c =
-    let job : JobState = c.args.job.now.state in
-    no_leg_answers (serves c.args.labels.now c.args.runs.now) (λ p. p) c.args.r c.args.j c.planned_legs-legs.result.now c.loop-l.l
-    c.loop-l.invariant (omega arith)
-    ∙ ap (λ legs. served_in_job c.args.labels.now c.args.runs.now c.args.r c.args.j (record job { legs = legs })) c.planned_legs-legs.ensures.legs
-
-pub fits-requires : goal.fits-requires
-fits-requires c =
-    let within : c.loop-l.l < length c.planned_legs-legs.result.now = omega arith in
-    let here : c.loop-l.l < planned_legs c.args.runs.now c.args.r c.args.j = omega (arith, within, c.planned_legs-legs.ensures.most, c.requires) in
-    subst (λ (p : LegPlace). p.leg < planned_legs c.args.runs.now p.run p.job) (sym c.new-place.ensures) here
+    let legs = c.planned_legs.result.now in
+    let to_come = c.into_iter-place-iterator.ensures.into_iter_gives ∙ c.of_job-place-items.ensures in (
+      ap (first_passing (serves labels runs) (λ p. p)) to_come
+          ∙ first_passing_in_job (serves labels runs) (λ p. p) c.args.r c.args.j legs
+          ∙ ap (λ ls. served_in_job labels runs c.args.r c.args.j (record job { legs = ls })) c.planned_legs.ensures.legs,
+      subst (AllByRecursion (λ (x : PlacedLeg). IsInJob c.args.r c.args.j c.args.job.now.room x.place)) (sym to_come)
+          (all_in_job c.args.r c.args.j c.args.job.now.room legs c.planned_legs.ensures.most),
+    )

@@ -1,10 +1,13 @@
-use Rattle.std.specs.Prelude.{◌&&◌, Some, None, if◌then◌else◌}
-use Rattle.workflow_runs.specs.Fitting.{is_ready, is_served}
-use Rattle.workflow_runs.specs.WithinRun.{leg_place}
-use Rattle.workflow_runs.proofs.Firsts.{NoneBefore}
+use Rattle.std.specs.Prelude.{◌≡◌}
+use Rattle.std.specs.List.{AllByRecursion}
+use Rattle.run_states.specs.PlacedLegs.{PlacedLeg}
+use Rattle.run_states.specs.WithinRun.{served_in_job}
+use Rattle.workflow_runs.proofs.PlacedLegs.{IsInJob, first_passing}
+use Rattle.workflow_runs.proofs.Sought.{serves}
 use Rattle.workflow_runs.proofs.fit.served_in_job.Given as goal
 
--- none so far is the one
-abbrev pub invariant-loop-l : goal.invariant-loop-l
-invariant-loop-l l = NoneBefore
-    (λ k leg. if is_ready leg.phase && is_served l.labels l.runs (leg_place l.r l.j k) then Some (leg_place l.r l.j k) else None) l.legs l.l
+-- the first that is served is still to come, and all that are to come are legs of the job
+abbrev pub invariant-loop-place : goal.invariant-loop-place
+invariant-loop-place l =
+    (first_passing (serves l.labels l.runs) (λ p. p) l.place-iterator ≡ served_in_job l.labels l.runs l.r l.j l.job.state)
+    × AllByRecursion (λ (x : PlacedLeg). IsInJob l.r l.j l.job.room x.place) l.place-iterator

@@ -13,7 +13,7 @@ pub returns-else-branch-clause-finishes : goal.returns-else-branch-clause-finish
 returns-else-branch-clause-finishes g c =
     let ok = c.in_ok-lacks_memory-in-Err.ensures in
     let e = c.in-Err.refusal in
-    let s = c.args.desked.now.store in
+    let s = c.args.locked.now.store in
     let due : refusal_of_finish s ≡ Some e = only_due (refusal_of_finish s) e c.in-Err.ensures.cause (ok.other c.if-branch.false) ok.passed.0 in
     let left = finish_left s c.check_finish.new.self.store e (λ full. c.in-Err.ensures.dropped (cc)) (λ other. rw (c.in-Err.ensures.unchanged ok.passed.0 other) refl) in
     inr (e, due, left, rw (← c.self.view_is) refl)

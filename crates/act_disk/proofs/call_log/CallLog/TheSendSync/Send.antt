@@ -1,4 +1,4 @@
--- It owns nothing, so it may go to another thread.
+-- It owns nothing, so it may move to another thread.
 use denote.Param.Send.{IsSend, owning_send}
 use Rattle.act_disk.specs.contracts.call_log.CallLog.{the_row, the_type}
 

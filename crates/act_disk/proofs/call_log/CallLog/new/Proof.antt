@@ -1,4 +1,4 @@
--- A value of no bytes, at no calls.
+-- A value of no bytes, with an empty list of calls.
 use Rattle.act_disk.proofs.Walks.{[], ◌∷◌, refl, proved, ftrue, vstruct, vnil, Val, ‵, raw, ◌$◌, ◌∵◌, !, qed, done, keep, suffices, join}
 use Rattle.act_disk.proofs.Walks.{enter, no_more, agg, returns, alloc_all, pass_all, free_all, look_at, sets, pure_i, nothing, on_entry}
 use Rattle.act_disk.proofs.Walks.{Stays, walk_of, says, ends_at}

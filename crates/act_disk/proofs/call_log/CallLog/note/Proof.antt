@@ -1,4 +1,4 @@
--- The body does nothing: the list that only clauses read has the call before the earlier ones.
+-- The body does nothing: the ghost list gains the call at its head.
 use Rattle.act_disk.proofs.Walks.{[], ◌∷◌, refl, proved, id⊢, ftrue, flft, named, vunit, ‵, ◌⊛◌, ◌$◌, ◌∵◌, !, qed, done, move, keep, use1}
 use Rattle.act_disk.proofs.Walks.{split, join, fsplit3, feq_i, suffices, frame, group, enter, of_opd, unit_lit, returns, alloc_all}
 use Rattle.act_disk.proofs.Walks.{pass_all, free_all, look_at, sets, mut_vals, mut_Tells, shr_vals, shr_Tells, plain, nothing, opens}

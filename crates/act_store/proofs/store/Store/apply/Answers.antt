@@ -3,8 +3,8 @@ use Rattle.std.specs.Prelude.{None, Some}
 use Rattle.run_table.specs.Step.{stepped}
 use Rattle.run_table.specs.TableState.{TableState}
 use Rattle.act_disk.specs.Images.{EachSince}
-use Rattle.act_disk.specs.Moments.{started}
-use Rattle.act_store.specs.StoreState.{StoreState, StandsForEither}
+use Rattle.act_disk.proofs.Moments.{started}
+use Rattle.act_store.specs.StoreState.{StoreState, RecoversToEither}
 use Rattle.act_store.specs.Plain.{refusal_of_apply}
 use Rattle.act_store.specs.Promise.{IsCounted}
 use Rattle.act_store.specs.StoreSeen.{as_state}
@@ -25,8 +25,8 @@ enter-requires g c =
     let admitted = is_admitted k command
     (subst (λ (v : StoreState g.row.D.Denot). refusal_of_apply v command ≡ None) (sym c.self.view_is) none) in
     record {
-      few = few_wait k s.table s.waiting counted command admitted;
-      fits = record_is_short k s.table s.waiting counted command admitted;
+      few = few_wait k s.table s.pending_batch counted command admitted;
+      fits = record_is_short k s.table s.pending_batch counted command admitted;
     }
 
 pub invariant_of-self-2 : goal.invariant_of-self-2
@@ -42,9 +42,9 @@ invariant_of-self-2 g c =
     let history = c.enter.new.history.items in
     let is : history ≡ s.history.items ++ entry ∷ [] = c.in_ok-reply.ensures.history in
     let table : c.enter.new.table ≡ (stepped s.table command).table = c.in_ok-reply.ensures.table in (
-      subst (λ (t : TableState). IsCounted (record k { history = history }) t c.enter.new.waiting) (sym table)
-          (counted_entered k s.table s.waiting counted command entry history refl refl is c.enter.new.waiting
-          c.in_ok-reply.ensures.waiting c.in_ok-reply.ensures.spelled admitted),
+      subst (λ (t : TableState). IsCounted (record k { history = history }) t c.enter.new.pending_batch) (sym table)
+          (counted_entered k s.table s.pending_batch counted command entry history refl refl is c.enter.new.pending_batch
+          c.in_ok-reply.ensures.pending_batch c.in_ok-reply.ensures.encoded admitted),
       c.self.invariant.1,
       λ honest. standing_entered g.D.Disk.images s.areas.side s.other k counted.size history entry is counted.covers admitted.live
           (c.self.invariant.2 honest),
@@ -56,9 +56,9 @@ pub returns-in-Some-clause-any_moment : goal.returns-in-Some-clause-any_moment
 returns-in-Some-clause-any_moment g c =
     let s = c.self.inside in
     let disk = g.D.Disk in
-    subst (λ (v : StoreState g.row.D.Denot). disk.honest v.disk → EachSince disk.moment disk.images_since v.disk v.disk (StandsForEither v))
+    subst (λ (v : StoreState g.row.D.Denot). disk.honest v.disk → EachSince disk.moment disk.images_since v.disk v.disk (RecoversToEither v))
     c.self.view_is
-    (λ honest. started disk.moment disk.images_since s.disk (StandsForEither (as_state s))
+    (λ honest. started disk.moment disk.images_since s.disk (RecoversToEither (as_state s))
     (λ i left. (c.self.invariant.2 honest).each i (g.met.D.Disk.only_now s.disk honest i left)))
 
 pub returns-in-Some-clause-no_fault : goal.returns-in-Some-clause-no_fault

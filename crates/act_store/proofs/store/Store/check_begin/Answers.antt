@@ -1,11 +1,11 @@
 use Rattle.std.proofs.Common.{rules, arith, ◌≡◌, ◌≤◌, ◌+◌, length, true, refl, subst, sym}
 use Rattle.std.specs.Prelude.{Some, option_map}
 use Rattle.act_disk.specs.Images.{EachSince}
-use Rattle.act_disk.specs.Moments.{started}
+use Rattle.act_disk.proofs.Moments.{started}
 use Rattle.gated_journal.specs.TwoAreas.{other, start_of}
 use Rattle.gated_journal.specs.declared.gate.Gate.TheVariants.{Closed}
 use Rattle.act_store.specs.Checkpoints.{first_gate, text_length}
-use Rattle.act_store.specs.StoreState.{StandsForEither, StoreState}
+use Rattle.act_store.specs.StoreState.{RecoversToEither, StoreState}
 use Rattle.act_store.specs.Promise.{IsBegun}
 use Rattle.act_store.specs.StoreSeen.{as_checkpoint, as_state}
 use Rattle.act_store.specs.declared.begun.Begun.{Begun}
@@ -16,14 +16,14 @@ use Rattle.act_store.proofs.RefusalsOfCheckpoints.{begins, none_begun}
 use Rattle.act_store.proofs.Snapshots.{held_none, if_none, snapshot_taken}
 use Rattle.act_store.proofs.store.Store.check_begin.Goals as goal
 
-pub front_of-requires : goal.front_of-requires
-front_of-requires g c =
+pub area_header-requires : goal.area_header-requires
+area_header-requires g c =
     let s = c.self.inside in
     let k = as_state s in
     let counted = c.self.invariant.0 in
     record {
-      few = few_runners k s.table s.waiting counted (begins s c.args.self.now c.self.view_is (search rules));
-      sound = table_sound k s.table s.waiting counted;
+      few = few_runners k s.table s.pending_batch counted (begins s c.args.self.now c.self.view_is (search rules));
+      sound = table_sound k s.table s.pending_batch counted;
     }
 
 pub invariant_of-self : goal.invariant_of-self
@@ -36,10 +36,10 @@ invariant_of-self g c =
     let may = begins s c.args.self.now c.self.view_is (search rules) in
     let since = begin_moments disk.honest disk.images s counted may.live c.self.invariant.2 d1 disk.moment disk.images_since
     c.close_other.ensures.any_moment k refl in (
-      counted_with k s.table s.waiting counted d1 (option_map as_checkpoint s.begun) true,
+      counted_with k s.table s.pending_batch counted d1 (option_map as_checkpoint s.begun) true,
       (λ impossible. absurd (cc impossible)),
-      (λ honest1. standing_failed k s.table s.waiting counted disk.images s.areas.side s.other d1 (option_map as_checkpoint s.begun)
-          (now_of disk.moment disk.images_since disk.images s.disk d1 (StandsForEither k) (g.met.D.Disk.counts_now d1 honest1)
+      (λ honest1. standing_failed k s.table s.pending_batch counted disk.images s.areas.side s.other d1 (option_map as_checkpoint s.begun)
+          (now_of disk.moment disk.images_since disk.images s.disk d1 (RecoversToEither k) (g.met.D.Disk.counts_now d1 honest1)
           (since (c.close_other.ensures.honest.0 honest1)))),
       if_none s.begun
           (IsBegun s.base.value s.history.items s.generation s.areas.len s.areas.side s.other (disk.honest d1) true (disk.seen d1))
@@ -57,18 +57,18 @@ invariant_of-self-in-Ok g c =
     let b : Begun = record { place = c.len.result; front = c.in_ok-front.front; put = 0 } in
     let place : c.len.result ≡ length s.history.items = search rules in
     let checkpoint = Some (as_checkpoint b) in (
-      counted_with k s.table s.waiting counted d1 checkpoint s.failed,
+      counted_with k s.table s.pending_batch counted d1 checkpoint s.failed,
       (λ _. search (rules, arith)),
       (λ honest1.
           let honest = c.close_other.ensures.honest.0 honest1 in
           let settled = (c.self.invariant.2 honest).settled may.live in
-          standing_with k s.table s.waiting counted disk.images s.areas.side Closed d1 checkpoint
-          (settled_again k s.table s.waiting counted disk.images s.areas.side s.other settled Closed d1
+          standing_with k s.table s.pending_batch counted disk.images s.areas.side Closed d1 checkpoint
+          (settled_again k s.table s.pending_batch counted disk.images s.areas.side s.other settled Closed d1
           (c.in-Ok.ensures.closed settled.head settled.bodies honest settled.each))),
       (
         snapshot_taken s.base.value s.table s.history.items s.generation s.areas.len b counted.table_is place refl may.newer
             (subst (λ t. first_gate (text_length t) + 1 ≤ s.areas.len) (sym counted.table_is) may.room)
-            c.in_ok-front.ensures.front c.in_ok-front.ensures.spells,
+            c.in_ok-front.ensures.front c.in_ok-front.ensures.encodes,
         λ honest1 live. record {
           closed = refl;
           held = held_none (disk.seen d1) (start_of s.areas.len (other s.areas.side) + 1) c.in_ok-front.front.items;
@@ -96,9 +96,9 @@ pub returns-in_err-front-clause-any_moment : goal.returns-in_err-front-clause-an
 returns-in_err-front-clause-any_moment g c =
     let s = c.self.inside in
     let disk = g.D.Disk in
-    subst (λ (v : StoreState g.row.D.Denot). disk.honest v.disk → EachSince disk.moment disk.images_since v.disk v.disk (StandsForEither v))
+    subst (λ (v : StoreState g.row.D.Denot). disk.honest v.disk → EachSince disk.moment disk.images_since v.disk v.disk (RecoversToEither v))
     c.self.view_is
-    (λ honest. started disk.moment disk.images_since s.disk (StandsForEither (as_state s))
+    (λ honest. started disk.moment disk.images_since s.disk (RecoversToEither (as_state s))
     (λ i left. (c.self.invariant.2 honest).each i (g.met.D.Disk.only_now s.disk honest i left)))
 
 pub returns-in-Err-clause-uncalled : goal.returns-in-Err-clause-uncalled

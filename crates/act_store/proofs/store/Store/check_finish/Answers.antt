@@ -1,15 +1,15 @@
 use Rattle.std.proofs.Common.{rules, arith, ◌≡◌, ◌+◌, ◌-◌, List, ℕ, [], length, true, refl, subst, sym}
 use Rattle.std.specs.Prelude.{option_map}
 use Rattle.act_disk.specs.Images.{EachSince}
-use Rattle.act_disk.specs.Moments.{started}
+use Rattle.act_disk.proofs.Moments.{started}
 use Rattle.gated_journal.specs.TwoAreas.{other}
 use Rattle.gated_journal.specs.declared.gate.Gate.TheVariants.{Open}
 use Rattle.gated_journal.specs.declared.side.Side.{Side}
-use Rattle.act_store.specs.Images.{StandsFor}
-use Rattle.act_store.specs.StoreState.{StoreState, StandsForEither, table_of}
+use Rattle.act_store.specs.Images.{RecoversTo}
+use Rattle.act_store.specs.StoreState.{StoreState, RecoversToEither, table_of}
 use Rattle.act_store.specs.Promise.{IsStanding}
 use Rattle.act_store.specs.StoreSeen.{as_checkpoint, as_state}
-use Rattle.act_store.specs.Waiting.{waits_of}
+use Rattle.act_store.specs.PendingBatch.{batch_state_of}
 use Rattle.act_store.specs.declared.layout.Layout.TheVariants as layouts
 use Rattle.act_store.proofs.Checkpointing.{counted_with, standing_failed}
 use Rattle.act_store.proofs.Committing.{none_left, now_of}
@@ -22,9 +22,9 @@ pub returns-in_err-last-clause-any_moment : goal.returns-in_err-last-clause-any_
 returns-in_err-last-clause-any_moment g c =
     let s = c.self.inside in
     let disk = g.D.Disk in
-    subst (λ (v : StoreState g.row.D.Denot). disk.honest v.disk → EachSince disk.moment disk.images_since v.disk v.disk (StandsForEither v))
+    subst (λ (v : StoreState g.row.D.Denot). disk.honest v.disk → EachSince disk.moment disk.images_since v.disk v.disk (RecoversToEither v))
     c.self.view_is
-    (λ honest. started disk.moment disk.images_since s.disk (StandsForEither (as_state s))
+    (λ honest. started disk.moment disk.images_since s.disk (RecoversToEither (as_state s))
     (λ i left. (c.self.invariant.2 honest).each i (g.met.D.Disk.only_now s.disk honest i left)))
 
 -- ---- where the device failed
@@ -35,19 +35,19 @@ invariant_of-self-in-Err g c =
     let disk = g.D.Disk in
     let k = as_state s in
     let counted = c.self.invariant.0 in
-    let d1 = c.turn.new.disk in
+    let d1 = c.switch.new.disk in
     let checkpoint = option_map as_checkpoint s.begun in
     let at = 1 + c.len.result in
     let bytes = c.as_slice.result.now in
     let f = finishing disk.honest disk.images disk.seen s c.self.invariant.0 c.self.invariant.2 c.self.invariant.3 c.args.self.now
     c.self.view_is (search rules) c.in-Some-begun.begun (search rules) c.deref.result.now (search rules) c.len.result (search rules)
-    c.as_slice.result.now c.in_ok-last.last.items c.as_slice.ensures.value c.in_ok-last.ensures.bytes c.in_ok-last.ensures.spelled in
-    let since = finish_moments disk.honest disk.images disk.seen s at bytes f d1 disk.moment disk.images_since c.turn.ensures.any_moment k refl in (
-      counted_with k s.table s.waiting counted d1 checkpoint true,
+    c.as_slice.result.now c.in_ok-last.last.items c.as_slice.ensures.value c.in_ok-last.ensures.bytes c.in_ok-last.ensures.encoded in
+    let since = finish_moments disk.honest disk.images disk.seen s at bytes f d1 disk.moment disk.images_since c.switch.ensures.any_moment k refl in (
+      counted_with k s.table s.pending_batch counted d1 checkpoint true,
       (λ impossible. absurd (cc impossible)),
-      (λ honest1. standing_failed k s.table s.waiting counted disk.images s.areas.side s.other d1 checkpoint
-          (now_of disk.moment disk.images_since disk.images s.disk d1 (StandsForEither k) (g.met.D.Disk.counts_now d1 honest1)
-          (since (c.turn.ensures.honest.0 honest1)))),
+      (λ honest1. standing_failed k s.table s.pending_batch counted disk.images s.areas.side s.other d1 checkpoint
+          (now_of disk.moment disk.images_since disk.images s.disk d1 (RecoversToEither k) (g.met.D.Disk.counts_now d1 honest1)
+          (since (c.switch.ensures.honest.0 honest1)))),
       begun_broken s.base.value s.history.items s.generation s.areas.len s.areas.side s.other (disk.honest s.disk) s.failed
           (disk.seen s.disk) s.begun c.self.invariant.3 (disk.honest d1) (disk.seen d1),
     )
@@ -60,11 +60,11 @@ returns-in-Err-clause-any_moment g c =
     let bytes = c.as_slice.result.now in
     let f = finishing disk.honest disk.images disk.seen s c.self.invariant.0 c.self.invariant.2 c.self.invariant.3 c.args.self.now
     c.self.view_is (search rules) c.in-Some-begun.begun (search rules) c.deref.result.now (search rules) c.len.result (search rules)
-    c.as_slice.result.now c.in_ok-last.last.items c.as_slice.ensures.value c.in_ok-last.ensures.bytes c.in_ok-last.ensures.spelled in
-    finish_moments disk.honest disk.images disk.seen s at bytes f c.turn.new.disk disk.moment disk.images_since c.turn.ensures.any_moment
+    c.as_slice.result.now c.in_ok-last.last.items c.as_slice.ensures.value c.in_ok-last.ensures.bytes c.in_ok-last.ensures.encoded in
+    finish_moments disk.honest disk.images disk.seen s at bytes f c.switch.new.disk disk.moment disk.images_since c.switch.ensures.any_moment
     c.args.self.now c.self.view_is
 
--- ---- once it was done
+-- ---- once it is completed
 
 pub invariant_of-self-in-Ok : goal.invariant_of-self-in-Ok
 invariant_of-self-in-Ok g c =
@@ -74,21 +74,21 @@ invariant_of-self-in-Ok g c =
     let bytes = c.as_slice.result.now in
     let f = finishing disk.honest disk.images disk.seen s c.self.invariant.0 c.self.invariant.2 c.self.invariant.3 c.args.self.now
     c.self.view_is (search rules) c.in-Some-begun.begun (search rules) c.deref.result.now (search rules) c.len.result (search rules)
-    c.as_slice.result.now c.in_ok-last.last.items c.as_slice.ensures.value c.in_ok-last.ensures.bytes c.in_ok-last.ensures.spelled in
-    let d1 = c.turn.new.disk in
+    c.as_slice.result.now c.in_ok-last.last.items c.as_slice.ensures.value c.in_ok-last.ensures.bytes c.in_ok-last.ensures.encoded in
+    let d1 = c.switch.new.disk in
     let covered = c.len-self-inside.result in
     let used = 1 + c.len.result + c.len-in-Ok.result - 1 in
     let all : covered ≡ length s.history.items = search rules in
     let here : used ≡ at + length bytes - 1 = search (rules, arith) in
     let left = c.truncate.new.self in
-    let nothing : left ≡ waits_of [] = none_left left c.truncate.ensures.count c.truncate.ensures.spelled in
+    let nothing : left ≡ batch_state_of [] = none_left left c.truncate.ensures.count c.truncate.ensures.encoded in
     let turned : c.other.result ≡ other s.areas.side = c.other.ensures in (
       counted_finished disk.honest disk.images disk.seen s at bytes f d1 covered used all here left nothing,
       (λ _. search (rules, arith)),
       (λ honest1.
           subst (λ (x : Side). IsStanding disk.images x Open (done disk.honest disk.images disk.seen s at bytes f d1 covered used)) (sym turned)
           (standing_finished disk.honest disk.images disk.seen s at bytes f d1 covered used all here
-          (finish_settles disk.honest disk.images disk.seen s at bytes f d1 c.in-Ok.ensures.turned (c.turn.ensures.honest.0 honest1)))),
+          (finish_settles disk.honest disk.images disk.seen s at bytes f d1 c.in-Ok.ensures.turned (c.switch.ensures.honest.0 honest1)))),
       _,
     )
 
@@ -100,8 +100,8 @@ returns-clause-any_moment g c =
     let bytes = c.as_slice.result.now in
     let f = finishing disk.honest disk.images disk.seen s c.self.invariant.0 c.self.invariant.2 c.self.invariant.3 c.args.self.now
     c.self.view_is (search rules) c.in-Some-begun.begun (search rules) c.deref.result.now (search rules) c.len.result (search rules)
-    c.as_slice.result.now c.in_ok-last.last.items c.as_slice.ensures.value c.in_ok-last.ensures.bytes c.in_ok-last.ensures.spelled in
-    finish_moments disk.honest disk.images disk.seen s at bytes f c.turn.new.disk disk.moment disk.images_since c.turn.ensures.any_moment
+    c.as_slice.result.now c.in_ok-last.last.items c.as_slice.ensures.value c.in_ok-last.ensures.bytes c.in_ok-last.ensures.encoded in
+    finish_moments disk.honest disk.images disk.seen s at bytes f c.switch.new.disk disk.moment disk.images_since c.switch.ensures.any_moment
     c.args.self.now c.self.view_is
 
 pub returns-clause-stands : goal.returns-clause-stands
@@ -112,9 +112,9 @@ returns-clause-stands g c = λ honest1.
     let bytes = c.as_slice.result.now in
     let f = finishing disk.honest disk.images disk.seen s c.self.invariant.0 c.self.invariant.2 c.self.invariant.3 c.args.self.now
     c.self.view_is (search rules) c.in-Some-begun.begun (search rules) c.deref.result.now (search rules) c.len.result (search rules)
-    c.as_slice.result.now c.in_ok-last.last.items c.as_slice.ensures.value c.in_ok-last.ensures.bytes c.in_ok-last.ensures.spelled in
-    let d1 = c.turn.new.disk in
-    subst (λ (v : StoreState g.row.D.Denot). (image : List ℕ) → disk.images d1 image → StandsFor (table_of v) image) c.self.view_is
+    c.as_slice.result.now c.in_ok-last.last.items c.as_slice.ensures.value c.in_ok-last.ensures.bytes c.in_ok-last.ensures.encoded in
+    let d1 = c.switch.new.disk in
+    subst (λ (v : StoreState g.row.D.Denot). (image : List ℕ) → disk.images d1 image → RecoversTo (table_of v) image) c.self.view_is
     (settled_stands s.areas.len (other s.areas.side) Open (s.generation + 1) (at + length bytes - 1) layouts.Second (table_of (as_state s))
     (disk.images d1) f.counted.size
-    (finish_settles disk.honest disk.images disk.seen s at bytes f d1 c.in-Ok.ensures.turned (c.turn.ensures.honest.0 honest1)))
+    (finish_settles disk.honest disk.images disk.seen s at bytes f d1 c.in-Ok.ensures.turned (c.switch.ensures.honest.0 honest1)))

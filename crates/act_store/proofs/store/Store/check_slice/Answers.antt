@@ -2,7 +2,7 @@ use Rattle.std.proofs.Common.{rules, arith, ◌≡◌, ◌≤◌, length, true, 
 use Rattle.std.specs.Prelude.{Some}
 use Rattle.gated_journal.specs.Whole.{StandsWhole}
 use Rattle.gated_journal.specs.declared.gate.Gate.TheVariants.{Closed}
-use Rattle.act_store.specs.StoreState.{StandsForEither}
+use Rattle.act_store.specs.StoreState.{RecoversToEither}
 use Rattle.act_store.specs.Promise.{IsBegun, IsSnapshot}
 use Rattle.act_store.specs.StoreSeen.{as_checkpoint, as_state}
 use Rattle.act_store.specs.declared.begun.Begun.{Begun}
@@ -28,10 +28,10 @@ invariant_of-self-in-Err g c =
     let since =
     slice_moments disk.honest disk.images s counted live c.self.invariant.2 d1 disk.moment disk.images_since
     (λ honest. (so.1 honest live).closed) c.put_slice.ensures.any_moment k refl in (
-      counted_with k s.table s.waiting counted d1 (Some (as_checkpoint next)) true,
+      counted_with k s.table s.pending_batch counted d1 (Some (as_checkpoint next)) true,
       (λ impossible. absurd (cc impossible)),
-      (λ honest1. standing_failed k s.table s.waiting counted disk.images s.areas.side s.other d1 (Some (as_checkpoint next))
-          (now_of disk.moment disk.images_since disk.images s.disk d1 (StandsForEither k) (g.met.D.Disk.counts_now d1 honest1)
+      (λ honest1. standing_failed k s.table s.pending_batch counted disk.images s.areas.side s.other d1 (Some (as_checkpoint next))
+          (now_of disk.moment disk.images_since disk.images s.disk d1 (RecoversToEither k) (g.met.D.Disk.counts_now d1 honest1)
           (since (c.put_slice.ensures.honest.0 honest1)))),
       (
         subst (λ (x : Begun). IsSnapshot s.base.value s.history.items s.generation s.areas.len x) (sym same) so.0,
@@ -52,13 +52,13 @@ invariant_of-self-in-Ok g c =
     let so = it_is s.begun b (IsBegun s.base.value s.history.items s.generation s.areas.len s.areas.side s.other (disk.honest s.disk) s.failed
     (disk.seen s.disk)) (search rules) c.self.invariant.3 in
     let within : next.put ≤ length b.front.items = search (rules, arith) in (
-      counted_with k s.table s.waiting counted d1 (Some (as_checkpoint next)) s.failed,
+      counted_with k s.table s.pending_batch counted d1 (Some (as_checkpoint next)) s.failed,
       (λ _. search (rules, arith)),
       (λ honest1.
           let honest = c.put_slice.ensures.honest.0 honest1 in
           let settled = (c.self.invariant.2 honest).settled live in
-          standing_with k s.table s.waiting counted disk.images s.areas.side s.other d1 (Some (as_checkpoint next))
-          (slice_settles k s.table s.waiting counted disk.images s.areas.side s.other settled d1 (so.1 honest live).closed
+          standing_with k s.table s.pending_batch counted disk.images s.areas.side s.other d1 (Some (as_checkpoint next))
+          (slice_settles k s.table s.pending_batch counted disk.images s.areas.side s.other settled d1 (so.1 honest live).closed
           (λ each. now_of disk.moment disk.images_since disk.images s.disk d1
           (λ i. StandsWhole s.areas.len s.areas.side Closed i settled.head settled.bodies) (g.met.D.Disk.counts_now d1 honest1)
           (c.put_slice.ensures.any_moment settled.head settled.bodies honest each)))),

@@ -1,10 +1,10 @@
 use Rattle.std.proofs.Common.{rules, ◌≡◌, ℕ, List, ◌+◌, ◌<◌, ◌^◌, ◌∙◌, ◌-◌, length, true, false, refl, arith, ap, subst, sym}
-use Rattle.act_store.specs.Images.{StandsFor}
-use Rattle.act_store.specs.StoreState.{StoreState, StandForCovered, StandsForEither, table_of}
+use Rattle.act_store.specs.Images.{RecoversTo}
+use Rattle.act_store.specs.StoreState.{StoreState, StandForCovered, RecoversToEither, table_of}
 use Rattle.act_store.specs.Plain.{committed, used_after}
 use Rattle.act_store.specs.Promise.{IsCounted, IsSettled, IsStanding}
 use Rattle.act_store.specs.StoreSeen.{as_state}
-use Rattle.act_store.specs.Waiting.{body_of}
+use Rattle.act_store.specs.PendingBatch.{body_of}
 use Rattle.act_store.proofs.Checkpointing.{counted_with, standing_failed}
 use Rattle.act_store.proofs.Committing.{now_of, none_waits, all_stands, counted_committed, commit_moments}
 use Rattle.act_store.proofs.Committing.{commit_settles, more, used_is, same_committed}
@@ -20,10 +20,10 @@ returns-then-is_empty-clause-stands g c =
     let disk = g.D.Disk in
     let k = as_state s in
     let counted = c.self.invariant.0 in
-    let none : s.waiting.count ≡ 0 = search (rules, arith) in
-    subst (λ (v : StoreState g.row.D.Denot). disk.honest v.disk → (image : List ℕ) → disk.images v.disk image → StandsFor (table_of v) image)
+    let none : s.pending_batch.count ≡ 0 = search (rules, arith) in
+    subst (λ (v : StoreState g.row.D.Denot). disk.honest v.disk → (image : List ℕ) → disk.images v.disk image → RecoversTo (table_of v) image)
     c.self.view_is
-    (λ honest image now. all_stands k s.table s.waiting counted (none_waits k s.table s.waiting counted none) image
+    (λ honest image now. all_stands k s.table s.pending_batch counted (none_waits k s.table s.pending_batch counted none) image
     ((c.self.invariant.2 honest).each image now))
 
 pub grow-requires-clause-fits : goal.grow-requires-clause-fits
@@ -31,13 +31,13 @@ grow-requires-clause-fits g c =
     let s = c.self.inside in
     let k = as_state s in
     let counted = c.self.invariant.0 in
-    let some : 0 < s.waiting.count = search (rules, arith) in
+    let some : 0 < s.pending_batch.count = search (rules, arith) in
     let bytes = c.as_slice-bytes.ensures in
     omega (
       arith,
-      used_is k s.table s.waiting counted some (length c.as_slice-bytes.result.now)
-          (ap (λ (l : List ℕ). length l) (bytes.bytes some) ∙ length_record (body_of s.waiting)),
-      counted.record_fits (more k s.table s.waiting counted some),
+      used_is k s.table s.pending_batch counted some (length c.as_slice-bytes.result.now)
+          (ap (λ (l : List ℕ). length l) (bytes.bytes some) ∙ length_record (body_of s.pending_batch)),
+      counted.record_fits (more k s.table s.pending_batch counted some),
     )
 
 pub returns-in-Err-clause-any_moment : goal.returns-in-Err-clause-any_moment
@@ -64,11 +64,11 @@ invariant_of-self g c =
     let since = commit_moments disk.honest disk.images s counted (search rules) (search (rules, arith)) c.self.invariant.2
     c.as_slice-bytes.result.now c.as_slice-bytes.ensures.bytes c.as_slice-bytes.ensures.short d1 disk.moment
     disk.images_since c.grow.ensures.any_moment k refl in (
-      counted_with k s.table s.waiting counted d1 k.begun true,
+      counted_with k s.table s.pending_batch counted d1 k.begun true,
       (λ impossible. absurd (cc impossible)),
       λ honest1.
-          standing_failed k s.table s.waiting counted disk.images s.areas.side s.other d1 k.begun
-          (now_of disk.moment disk.images_since disk.images s.disk d1 (StandsForEither k) (g.met.D.Disk.counts_now d1 honest1)
+          standing_failed k s.table s.pending_batch counted disk.images s.areas.side s.other d1 k.begun
+          (now_of disk.moment disk.images_since disk.images s.disk d1 (RecoversToEither k) (g.met.D.Disk.counts_now d1 honest1)
           (since (c.grow.ensures.honest.0 honest1))),
       begun_broken s.base.value s.history.items s.generation s.areas.len s.areas.side s.other (disk.honest s.disk) s.failed
           (disk.seen s.disk) s.begun c.self.invariant.3 (disk.honest d1) (disk.seen d1),
@@ -84,14 +84,14 @@ is_committed : (g : Over) (c : goal.After-truncate g)
     }
 is_committed g c =
     let s = c.self.inside in
-    let some : 0 < s.waiting.count = search (rules, arith) in
+    let some : 0 < s.pending_batch.count = search (rules, arith) in
     let bytes = c.as_slice-bytes.result.now in
     let all : c.len-self-inside.result ≡ length s.history.items = search rules in
     same_committed (as_state s) c.grow.new.disk c.len-self-inside.result (s.used + length bytes) all
-    (used_is (as_state s) s.table s.waiting c.self.invariant.0 some (length bytes)
-    (ap (λ (l : List ℕ). length l) (c.as_slice-bytes.ensures.bytes some) ∙ length_record (body_of s.waiting)))
+    (used_is (as_state s) s.table s.pending_batch c.self.invariant.0 some (length bytes)
+    (ap (λ (l : List ℕ). length l) (c.as_slice-bytes.ensures.bytes some) ∙ length_record (body_of s.pending_batch)))
 
--- all images are settled at all entries
+-- all images agree on all entries
 settled : (g : Over) (c : goal.After-truncate g) → g.D.Disk.honest c.grow.new.disk
     → IsSettled c.self.inside.areas.len c.self.inside.areas.side c.self.inside.other c.self.inside.generation
     (used_after (as_state c.self.inside)) c.self.inside.layout (table_of (as_state c.self.inside)) (g.D.Disk.images c.grow.new.disk)
@@ -113,7 +113,7 @@ invariant_of-self-in-Ok g c =
     × (v.failed ≡ false → disk.fault_count v.disk < 2 ^ 64 - 1)
     × (disk.honest v.disk → IsStanding disk.images s.areas.side s.other v))
     (is_committed g c) (
-      counted_committed k s.table s.waiting counted (search (rules, arith)) d1 c.truncate.new.self c.truncate.ensures.count c.truncate.ensures.spelled,
+      counted_committed k s.table s.pending_batch counted (search (rules, arith)) d1 c.truncate.new.self c.truncate.ensures.count c.truncate.ensures.encoded,
       (λ _. search (rules, arith)),
       λ honest1. standing_fresh disk.images s.areas.side s.other k counted.size d1 (settled g c honest1),
     ) in (
@@ -132,7 +132,7 @@ returns-in-Ok-clause-stands g c = λ honest1.
     let s = c.self.inside in
     let k = as_state s in
     let images = g.D.Disk.images c.grow.new.disk in
-    subst (λ (v : StoreState g.row.D.Denot). (image : List ℕ) → images image → StandsFor (table_of v) image) c.self.view_is
+    subst (λ (v : StoreState g.row.D.Denot). (image : List ℕ) → images image → RecoversTo (table_of v) image) c.self.view_is
     (settled_stands s.areas.len s.areas.side s.other s.generation (used_after k) s.layout (table_of k) images c.self.invariant.0.size
     (settled g c honest1))
 

@@ -2,7 +2,7 @@ use Rattle.std.proofs.Common.{rules, false, arith, ◌≡◌, [], ℕ, List, sym
 use Rattle.std.specs.Prelude.{None}
 use Rattle.run_table.specs.Sound.{IsSound}
 use Rattle.run_table.specs.TableState.{TableState}
-use Rattle.act_store.specs.Images.{StandsAt, StandsFor}
+use Rattle.act_store.specs.Images.{StandsAt, RecoversTo}
 use Rattle.act_store.proofs.Beginning.{counted_begun, standing_begun}
 use Rattle.act_store.proofs.Opening.{found_at, found_settled, found_stands}
 use Rattle.act_store.proofs.Settling.{settled_at}
@@ -14,18 +14,18 @@ invariant_of-result g c =
     let d1 = c.find.new.disk in
     let file = disk.seen c.args.disk in
     let found = c.in-Ok.found in
-    let spelled = found.spelled in
+    let encoded = found.encoded in
     let base = c.of.result.value in
-    let same : spelled.table ≡ base = search rules in
+    let same : encoded.table ≡ base = search rules in
     let none : c.new.result.items ≡ [] = c.new.ensures.items in
     let area = c.in-Ok.ensures.area in (
-      counted_begun d1 found.area base spelled.used spelled.generation spelled.layout None false c.new.result.items none
-          (subst (λ (t : TableState). IsSound t) same c.in-Ok.ensures.sound) spelled.table same c.new-2.result
+      counted_begun d1 found.area base encoded.used encoded.generation encoded.layout None false c.new.result.items none
+          (subst (λ (t : TableState). IsSound t) same c.in-Ok.ensures.sound) encoded.table same c.new-2.result
           c.new-2.ensures area.0 area.1,
       (λ _. search (rules, arith)),
-      λ honest. standing_begun d1 found.area base spelled.used spelled.generation spelled.layout None false c.new.result.items none disk.images found.chosen.side
+      λ honest. standing_begun d1 found.area base encoded.used encoded.generation encoded.layout None false c.new.result.items none disk.images found.chosen.side
           found.chosen.other area.0
-          (settled_at found.area found.chosen.side found.chosen.other spelled.generation spelled.used spelled.layout spelled.table base
+          (settled_at found.area found.chosen.side found.chosen.other encoded.generation encoded.used encoded.layout encoded.table base
           (disk.images d1) same
           (found_settled found file (c.in-Ok.ensures.found honest) (disk.images d1) (c.in-Ok.ensures.stable honest))),
       _,
@@ -34,22 +34,22 @@ invariant_of-result g c =
 pub returns-clause-base : goal.returns-clause-base
 returns-clause-base g c = λ honest.
     let file = g.D.Disk.seen c.args.disk in
-    let same : c.in-Ok.found.spelled.table ≡ c.of.result.value = search rules in
-    subst (λ (t : TableState). StandsFor t file) same
+    let same : c.in-Ok.found.encoded.table ≡ c.of.result.value = search rules in
+    subst (λ (t : TableState). RecoversTo t file) same
     (found_stands c.in-Ok.found file (c.in-Ok.ensures.found honest) c.in-Ok.ensures.area.0)
 
 pub returns-clause-stands : goal.returns-clause-stands
 returns-clause-stands g c = λ honest image now.
     let file = g.D.Disk.seen c.args.disk in
-    let same : c.in-Ok.found.spelled.table ≡ c.of.result.value = search rules in
-    subst (λ (l : List ℕ). StandsFor c.of.result.value l) (sym ((c.in-Ok.ensures.stable honest image).0 now))
-    (subst (λ (t : TableState). StandsFor t file) same
+    let same : c.in-Ok.found.encoded.table ≡ c.of.result.value = search rules in
+    subst (λ (l : List ℕ). RecoversTo c.of.result.value l) (sym ((c.in-Ok.ensures.stable honest image).0 now))
+    (subst (λ (t : TableState). RecoversTo t file) same
     (found_stands c.in-Ok.found file (c.in-Ok.ensures.found honest) c.in-Ok.ensures.area.0))
 
 pub returns-clause-place : goal.returns-clause-place
 returns-clause-place g c = λ honest.
     let file = g.D.Disk.seen c.args.disk in
     let found = c.in-Ok.found in
-    let same : found.spelled.table ≡ c.of.result.value = search rules in
-    subst (λ (t : TableState). StandsAt found.spelled.generation found.spelled.used found.spelled.layout t file) same
+    let same : found.encoded.table ≡ c.of.result.value = search rules in
+    subst (λ (t : TableState). StandsAt found.encoded.generation found.encoded.used found.encoded.layout t file) same
     (found_at found file (c.in-Ok.ensures.found honest) c.in-Ok.ensures.area.0)

@@ -13,5 +13,5 @@ returns-then-runners g c =
     let s = c.self.inside in
     subst (λ (v : StoreState g.row.D.Denot). false ≡ not (nat_lt v.area (first_gate (text_length (table_of v)) + 1))) c.self.view_is
     (no_room s.areas.len (first_gate (text_length (table_of (as_state s))) + 1)
-    (too_many (as_state s) s.table s.waiting c.self.invariant.0 (length c.runners.result.now)
+    (too_many (as_state s) s.table s.pending_batch c.self.invariant.0 (length c.runners.result.now)
     (ap (λ (l : List RunnerState). length l) c.runners.ensures.runners) c.if-runners.true))

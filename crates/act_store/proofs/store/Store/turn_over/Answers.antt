@@ -26,13 +26,13 @@ invariant_of-self g c =
     let now = c.clear.new.self.items in
     let checkpoint = option_map as_checkpoint s.begun in (
       counted_begun s.disk s.areas.len base s.used s.generation s.layout checkpoint s.failed now c.clear.ensures.items
-          (subst (λ (t : TableState). IsSound t) same (table_sound k s.table s.waiting counted)) s.table same s.waiting
-          (nothing_waits k s.table s.waiting counted may.all) counted.size counted.gate_fits,
+          (subst (λ (t : TableState). IsSound t) same (table_sound k s.table s.pending_batch counted)) s.table same s.pending_batch
+          (nothing_waits k s.table s.pending_batch counted may.all) counted.size counted.gate_fits,
       c.self.invariant.1,
       λ honest. standing_begun s.disk s.areas.len base s.used s.generation s.layout checkpoint s.failed now c.clear.ensures.items disk.images
           s.areas.side s.other counted.size
           (settled_at s.areas.len s.areas.side s.other s.generation s.used s.layout (covered_table k) base (disk.images s.disk)
-          (all_table k s.table s.waiting counted may.all ∙ same) ((c.self.invariant.2 honest).settled may.live)),
+          (all_table k s.table s.pending_batch counted may.all ∙ same) ((c.self.invariant.2 honest).settled may.live)),
       if_none s.begun
           (IsBegun base now s.generation s.areas.len s.areas.side s.other (disk.honest s.disk) s.failed (disk.seen s.disk))
           (none_begun s.begun may.none),

@@ -1,6 +1,6 @@
 use Rattle.std.proofs.Common.{◌+◌}
 use Rattle.act_disk.specs.Images.{From}
-use Rattle.act_disk.specs.Moments.{weakened}
+use Rattle.act_disk.proofs.Moments.{weakened}
 use Rattle.gated_journal.specs.Appends.{Appends}
 use Rattle.gated_journal.specs.OnDisk.{MayHaveGrown}
 use Rattle.gated_journal.proofs.Areas.{may_have_grown, has_grown}

@@ -1,7 +1,6 @@
 use Rattle.group_name.proofs.Folding.{same_groups}
 use Rattle.group_name.proofs.group_key.GroupKeySame.same.Goals as goal
 
--- src/group_key.rt:51:5
 pub returns-then-same : goal.returns-then-same
 returns-then-same c =
     let both = same_groups c.self.view_is c.other.view_is c.self.invariant c.other.invariant in (

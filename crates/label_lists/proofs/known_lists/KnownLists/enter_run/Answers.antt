@@ -1,8 +1,10 @@
-use Rattle.std.proofs.Common.{◌<◌, length, set, refl, sym, subst, ◌∙◌}
+use Rattle.std.proofs.Common.{◌≡◌, ◌↔◌, ◌<◌, false, IfOk, length, set, refl, sym, subst, ◌∙◌}
 use Rattle.std.proofs.lemmas.List.{length-set}
 use Rattle.std.proofs.lemmas.Option.{slice_get_read}
-use Rattle.label_lists.specs.Known.{KnownState, OnlyEnters}
+use Rattle.label_lists.specs.Asking.{IsPassed}
+use Rattle.label_lists.specs.Known.{KnownState, OnlyEnters, asks_at}
 use Rattle.label_lists.proofs.Marked.{still_marked}
+use Rattle.label_lists.proofs.Passed.{passed_there}
 use Rattle.label_lists.proofs.Writes.{asked_still, entered_now, entered_still, offers_kept}
 use Rattle.label_lists.proofs.known_lists.KnownLists.enter_run.Goals as goal
 
@@ -43,3 +45,12 @@ returns-clause-asks c =
     let within = subst (λ (s : KnownState). k < length s.asking) (sym c.self.view_is) c.requires in
     let there = slice_get_read asking (length asking) k old refl within c.index_mut.ensures.value in
     entered_now asking k old new within there c.args.run c.enter.result c.enter.ensures.entered
+
+pub returns-clause-refused : goal.returns-clause-refused
+returns-clause-refused c =
+    let asking = c.self.inside.asking.items in
+    let k = c.args.number in
+    let within = subst (λ (s : KnownState). k < length s.asking) (sym c.self.view_is) c.requires in
+    let there = slice_get_read asking (length asking) k c.index_mut.result.now refl within c.index_mut.ensures.value in
+    subst (λ (s : KnownState). IfOk c.enter.result (λ has. (has ≡ false) ↔ IsPassed (asks_at s.asking k) c.args.run)) c.self.view_is
+    (passed_there asking k c.index_mut.result.now c.args.run c.enter.result there c.enter.ensures.refused)

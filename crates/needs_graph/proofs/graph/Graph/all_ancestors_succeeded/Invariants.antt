@@ -3,7 +3,7 @@ use Rattle.needs_graph.specs.Ancestors.{is_ancestor}
 use Rattle.needs_graph.specs.Conditions.{has_succeeded}
 use Rattle.needs_graph.proofs.graph.Graph.all_ancestors_succeeded.Given as goal
 
--- no ancestor so far lacks success
+-- every ancestor so far has succeeded
 abbrev pub invariant-loop-other : goal.invariant-loop-other
 invariant-loop-other g l =
     (k : ℕ) → k < l.other

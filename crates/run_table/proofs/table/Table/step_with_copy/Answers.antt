@@ -1,5 +1,5 @@
 use Rattle.std.proofs.Common.{◌≡◌, ◌∙◌, List, ap, subst, sym}
-use Rattle.workflow_runs.specs.RunState.{RunState}
+use Rattle.run_states.specs.RunState.{RunState}
 use Rattle.run_table.specs.Sound.{IsSound}
 use Rattle.run_table.specs.TableState.{TableState}
 use Rattle.run_table.specs.declared.table.Table.TheInside.{Inside}
@@ -8,10 +8,10 @@ use Rattle.run_table.proofs.table.Table.step_with_copy.Goals as goal
 
 pub invariant_of-self : goal.invariant_of-self
 invariant_of-self c =
-    let content = c.self-inside.inside.0.0 in
-    let begun : TableState = record { last_lease = content.last_lease; runs = c.forget_tries.new.self; runners = content.runners } in
-    let same : begun ≡ c.self.inside.content =
-    ap (λ (rs : List RunState). record { last_lease = content.last_lease; runs = rs; runners = content.runners }) c.forget_tries.ensures
-    ∙ ap (λ (i : Inside). i.content) c.self-inside.view_is in
+    let table_data = c.self-inside.inside.0.0 in
+    let begun : TableState = record { last_lease = table_data.last_lease; runs = c.forget_tries.new.self; runners = table_data.runners } in
+    let same : begun ≡ c.self.inside.table_data =
+    ap (λ (rs : List RunState). record { last_lease = table_data.last_lease; runs = rs; runners = table_data.runners }) c.forget_tries.ensures
+    ∙ ap (λ (i : Inside). i.table_data) c.self-inside.view_is in
     pair_stays_sound begun c.step_with_copy.new.self c.args.command.now c.step_with_copy.result c.step_with_copy.ensures.step c.step_with_copy.ensures.err
     (subst (λ t. IsSound t) (sym same) c.self.invariant)

@@ -1,8 +1,8 @@
 use Rattle.std.proofs.Common.{sym, ◌∙◌, ap, subst}
 use Rattle.std.specs.List.{AllByRecursion, flat_map}
 use Rattle.std.proofs.lemmas.List.Folds.{flat_map-map}
-use Rattle.workflow_runs.specs.Cells.{JobCells}
-use Rattle.workflow_runs.proofs.Found.{each_of_map}
+use Rattle.run_states.specs.Cells.{JobCells}
+use Rattle.run_states.proofs.Found.{each_of_map}
 use Rattle.table_text.specs.Commands.{admit}
 use Rattle.table_text.specs.Tables.{flag_byte, job, run_byte}
 use Rattle.table_text.specs.Writing.{JobHasBytes}
@@ -24,6 +24,6 @@ pub returns-clause-bytes : goal.returns-clause-bytes
 returns-clause-bytes c =
     run_bytes _ _ _ _ _ _ _ _ _ _ _ _ _ _ _ _ c.in_ok-push_admit.ensures.bytes c.in_ok-push_number.ensures.bytes
     c.in_ok-push_byte.ensures.bytes c.in_ok-push_byte-2.ensures.bytes c.in_ok-push_list.ensures.bytes
-    (ap admit.spelling c.prepared.ensures) c.attempt.ensures (c.run_byte.ensures ∙ ap run_byte c.phase.ensures)
+    (ap admit.encoding c.prepared.ensures) c.attempt.ensures (c.run_byte.ensures ∙ ap run_byte c.phase.ensures)
     (c.flag_byte.ensures ∙ ap flag_byte c.is_stopping.ensures)
-    (sym (flat_map-map job.spelling (λ (j : JobCells). j.state) c.jobs.result.now) ∙ ap (flat_map job.spelling) c.jobs.ensures)
+    (sym (flat_map-map job.encoding (λ (j : JobCells). j.state) c.jobs.result.now) ∙ ap (flat_map job.encoding) c.jobs.ensures)

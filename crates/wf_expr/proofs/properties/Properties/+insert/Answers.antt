@@ -9,7 +9,7 @@ use Rattle.wf_expr.proofs.PropertyLemmas.{changed-others, changed-same, nested-o
 use Rattle.wf_expr.proofs.PropertyLemmas.{set-itself, set-itself-others, on-ok, on-err, on-ok-both}
 use Rattle.wf_expr.proofs.properties.Properties.+insert.Goals as goal
 
--- ---- where the first name is there: its inner tree is another
+-- ---- if the first name is present, its inner tree changes
 
 named : (t : ℕ) (c : goal.After-self-in-Some-1 t) → c.args.path.now ≡ c.name-item.result ∷ rest c.args.path.now
 named t c = first-and-rest c.args.path.now c.name-item.result (omega arith) c.name-item.is
@@ -45,7 +45,7 @@ returns-in-Some-clause-others t c =
 pub returns-in-Some-clause-err : goal.returns-in-Some-clause-err
 returns-in-Some-clause-err t c = on-err c.insert.result c.insert.ensures.err (changed-same _ _ _ _ _ (changes t c) (was t c))
 
--- ---- the path of no name
+-- ---- the empty path
 
 pub returns-in-empty-clause-value : goal.returns-in-empty-clause-value
 returns-in-empty-clause-value t c = set-itself _ c.args.path.now c.in-empty.len_below
@@ -53,7 +53,7 @@ returns-in-empty-clause-value t c = set-itself _ c.args.path.now c.in-empty.len_
 pub returns-in-empty-clause-others : goal.returns-in-empty-clause-others
 returns-in-empty-clause-others t c = set-itself-others _ c.args.self.now c.args.path.now c.in-empty.len_below refl
 
--- ---- where the first name is not there
+-- ---- if the first name is absent
 
 pub returns-in_ok-inner-in-len1-up-clause-others : goal.returns-in_ok-inner-in-len1-up-clause-others
 returns-in_ok-inner-in-len1-up-clause-others t c =

@@ -2,6 +2,6 @@ use Rattle.std.proofs.Common.{◌≡◌, drop}
 use Rattle.wf_expr.specs.Properties.{value_at}
 use Rattle.wf_expr.proofs.properties.Properties.get.Given as goal
 
--- the tree so far gives the names that are left what the whole gives the path
+-- the current tree has, for the remaining names, the value of the whole path
 abbrev pub invariant-loop-name : goal.invariant-loop-name
 invariant-loop-name l = value_at l.tree (drop l.name-index l.path) ≡ value_at l.self l.path

@@ -3,20 +3,20 @@ use Rattle.std.specs.Fmt.{decimal}
 use Rattle.run_plan.specs.Admitted.{Admitted}
 use Rattle.label_lists.specs.Lists.{ListsState, OnlyGrows as ListsGrow}
 use Rattle.run_marks.specs.Marked.{SameMarks}
-use Rattle.workflow_runs.specs.Asks.{RunSays}
+use Rattle.run_states.specs.GroupOf.{RunFacts}
+use Rattle.run_states.specs.RunNumber.{events, number_of_next, same_workflow}
+use Rattle.run_states.specs.RunState.{RunState}
+use Rattle.run_bindings.specs.Bindings.{RunSays}
+use Rattle.run_bindings.specs.GroupNumbers.{OnlyEnters}
+use Rattle.run_bindings.proofs.GroupNumbers.{each_more, each_stays}
+use Rattle.run_bindings.proofs.LabelNumbers.{grows_more}
 use Rattle.workflow_runs.specs.Counted.{count_of}
 use Rattle.workflow_runs.specs.Delivered.{FindsFirst}
 use Rattle.workflow_runs.specs.FoundHolders.{AllAreFound, OnlyLists}
-use Rattle.workflow_runs.specs.GroupNumbers.{OnlyEnters}
-use Rattle.workflow_runs.specs.GroupOf.{RunFacts}
 use Rattle.workflow_runs.specs.MarkedRuns.{OnlyGrows}
-use Rattle.workflow_runs.specs.RunNumber.{events, number_of_next, same_workflow}
-use Rattle.workflow_runs.specs.RunState.{RunState}
 use Rattle.workflow_runs.specs.RunsKept.{RunsAreKept}
 use Rattle.workflow_runs.specs.declared.runs.group_holders.GroupHolders.{GroupHolders}
 use Rattle.workflow_runs.specs.declared.runs.marks.RunMarks.{RunMarks}
-use Rattle.workflow_runs.proofs.GroupNumbers.{each_more, each_stays}
-use Rattle.workflow_runs.proofs.LabelNumbers.{grows_more}
 use Rattle.workflow_runs.proofs.Indexed.{counted_more, events_more}
 use Rattle.workflow_runs.proofs.MarkedRuns.{marks_grown, marks_more}
 use Rattle.workflow_runs.proofs.RunNumbers.{count_of_map}
@@ -24,12 +24,12 @@ use Rattle.workflow_runs.proofs.StillBound.{all_added, found_added, kept_entered
 use Rattle.workflow_runs.proofs.runs.Runs.add_counted.Goals as goal
 use Rattle.workflow_runs.proofs.runs.Runs.add_counted.Goals.{In_ok-reserve}
 
--- the runs are kept as before where memory is refused
+-- an error keeps the runs as before
 still_kept : (c : In_ok-reserve)
-    → RunsAreKept c.self.inside.runs.items c.self.inside.numbers.items c.self.inside.asks.items c.make_room.new.self
+    → RunsAreKept c.self.inside.runs.items c.self.inside.numbers.items c.self.inside.bindings.items c.make_room.new.self
     c.self.inside.marks
 still_kept c =
-    kept_in c.self.inside.runs.items c.as_slice-runs.result.now c.self.inside.numbers.items c.self.inside.asks.items c.self.inside.index
+    kept_in c.self.inside.runs.items c.as_slice-runs.result.now c.self.inside.numbers.items c.self.inside.bindings.items c.self.inside.index
     c.make_room.new.self c.self.inside.marks c.as_slice-runs.ensures.value c.self.invariant c.make_room.ensures.finds c.make_room.ensures.counted
     c.make_room.ensures.groups c.make_room.ensures.lists
 
@@ -42,9 +42,9 @@ invariant_of-self-in_err-reserve-3 c =
     rw (c.reserve.ensures.items, c.reserve-2.ensures.items, c.reserve-3.ensures.items)
     (still_kept (goal.at.invariant_of-self-in_err-reserve-3 c).In_ok-reserve)
 
--- room for marks alone is no change
+-- more room for marks changes nothing
 roomier : (c : In_ok-reserve) (marks : RunMarks) → OnlyGrows c.self.inside.marks marks
-    → RunsAreKept c.self.inside.runs.items c.self.inside.numbers.items c.self.inside.asks.items c.make_room.new.self marks
+    → RunsAreKept c.self.inside.runs.items c.self.inside.numbers.items c.self.inside.bindings.items c.make_room.new.self marks
 roomier c marks grows =
     let were = still_kept c in
     record {
@@ -58,59 +58,59 @@ roomier c marks grows =
       offered = were.offered;
     }
 
-pub invariant_of-self-in_err-cover : goal.invariant_of-self-in_err-cover
-invariant_of-self-in_err-cover c =
+pub invariant_of-self-in_err-reserve_up_to : goal.invariant_of-self-in_err-reserve_up_to
+invariant_of-self-in_err-reserve_up_to c =
     rw (c.reserve.ensures.items, c.reserve-2.ensures.items, c.reserve-3.ensures.items)
-    (roomier (goal.at-invariant_of-self-in_err-cover c).In_ok-reserve c.cover.new.self c.cover.ensures.grows)
+    (roomier (goal.at-invariant_of-self-in_err-reserve_up_to c).In_ok-reserve c.reserve_up_to.new.self c.reserve_up_to.ensures.grows)
 
--- nor is room for lists of labels
+-- more room for lists of labels changes nothing
 covered : (c : In_ok-reserve) (marks : RunMarks) (lists : ListsState) → OnlyGrows c.self.inside.marks marks
     → ListsGrow c.make_room.new.self.lists lists
-    → RunsAreKept c.self.inside.runs.items c.self.inside.numbers.items c.self.inside.asks.items
+    → RunsAreKept c.self.inside.runs.items c.self.inside.numbers.items c.self.inside.bindings.items
     (record c.make_room.new.self { lists = lists }) marks
 covered c marks lists grows more =
-    kept_grown c.self.inside.runs.items c.self.inside.numbers.items c.self.inside.asks.items c.make_room.new.self marks lists more
+    kept_grown c.self.inside.runs.items c.self.inside.numbers.items c.self.inside.bindings.items c.make_room.new.self marks lists more
     (roomier c marks grows)
 
-pub invariant_of-self-in_err-cover-2 : goal.invariant_of-self-in_err-cover-2
-invariant_of-self-in_err-cover-2 c =
+pub invariant_of-self-in_err-reserve_up_to-2 : goal.invariant_of-self-in_err-reserve_up_to-2
+invariant_of-self-in_err-reserve_up_to-2 c =
     rw (c.reserve.ensures.items, c.reserve-2.ensures.items, c.reserve-3.ensures.items)
-    (covered (goal.at.invariant_of-self-in_err-cover-2 c).In_ok-reserve c.cover.new.self c.cover-2.new.self c.cover.ensures.grows
-    c.cover-2.ensures.grows)
+    (covered (goal.at.invariant_of-self-in_err-reserve_up_to-2 c).In_ok-reserve c.reserve_up_to.new.self c.reserve_up_to-2.new.self c.reserve_up_to.ensures.grows
+    c.reserve_up_to-2.ensures.grows)
 
--- nor are groups that are entered
+-- entering groups changes nothing
 entered : (c : In_ok-reserve) (marks : RunMarks) (lists : ListsState) (groups : GroupHolders) → OnlyGrows c.self.inside.marks marks
     → ListsGrow c.make_room.new.self.lists lists
     → OnlyEnters c.make_room.new.self.groups.book.entries groups.book.entries
     → SameMarks c.make_room.new.self.groups.unlisted groups.unlisted
     → length c.make_room.new.self.groups.unlisted ≤ length groups.unlisted
-    → RunsAreKept c.self.inside.runs.items c.self.inside.numbers.items c.self.inside.asks.items
+    → RunsAreKept c.self.inside.runs.items c.self.inside.numbers.items c.self.inside.bindings.items
     (record c.make_room.new.self { groups = groups; lists = lists }) marks
 entered c marks lists groups grows more enters same room =
-    kept_entered c.self.inside.runs.items c.self.inside.numbers.items c.self.inside.asks.items
+    kept_entered c.self.inside.runs.items c.self.inside.numbers.items c.self.inside.bindings.items
     (record c.make_room.new.self { lists = lists }) marks groups enters same room (covered c marks lists grows more)
 
 pub invariant_of-self-in_err-grouped : goal.invariant_of-self-in_err-grouped
 invariant_of-self-in_err-grouped c =
     rw (c.reserve.ensures.items, c.reserve-2.ensures.items, c.reserve-3.ensures.items)
-    (entered (goal.at.invariant_of-self-in_err-grouped c).In_ok-reserve c.cover.new.self c.cover-2.new.self c.enter.new.self
-    c.cover.ensures.grows c.cover-2.ensures.grows c.enter.ensures.enters c.enter.ensures.marks c.enter.ensures.room)
+    (entered (goal.at.invariant_of-self-in_err-grouped c).In_ok-reserve c.reserve_up_to.new.self c.reserve_up_to-2.new.self c.enter.new.self
+    c.reserve_up_to.ensures.grows c.reserve_up_to-2.ensures.grows c.enter.ensures.enters c.enter.ensures.marks c.enter.ensures.room)
 
--- nor are lists
-pub invariant_of-self-in_err-asks : goal.invariant_of-self-in_err-asks
-invariant_of-self-in_err-asks c =
+-- entering lists changes nothing
+pub invariant_of-self-in_err-bindings : goal.invariant_of-self-in_err-bindings
+invariant_of-self-in_err-bindings c =
     rw (c.reserve.ensures.items, c.reserve-2.ensures.items, c.reserve-3.ensures.items)
-    (entered (goal.at.invariant_of-self-in_err-asks c).In_ok-reserve c.cover.new.self c.with_lists.new.lists c.enter.new.self
-    c.cover.ensures.grows (grows_more _ _ _ c.cover-2.ensures.grows c.with_lists.ensures.grows) c.enter.ensures.enters
+    (entered (goal.at.invariant_of-self-in_err-bindings c).In_ok-reserve c.reserve_up_to.new.self c.with_lists.new.lists c.enter.new.self
+    c.reserve_up_to.ensures.grows (grows_more _ _ _ c.reserve_up_to-2.ensures.grows c.with_lists.ensures.grows) c.enter.ensures.enters
     c.enter.ensures.marks c.enter.ensures.room)
 
 pub with_lists-requires : goal.with_lists-requires
-with_lists-requires c = c.in_ok-cover-2.ensures.places c.len-r.result (omega arith)
+with_lists-requires c = c.in_ok-reserve_up_to-2.ensures.places c.len-r.result (omega arith)
 
 pub offer_run-requires : goal.offer_run-requires
-offer_run-requires c = λ j l. (c.in_ok-asks.ensures.lists j l).place
+offer_run-requires c = λ j l. (c.in_ok-bindings.ensures.lists j l).place
 
--- the run is kept with its number and with what it asks; it is found by its delivery, counted, and marked
+-- the run is stored with its number and its bindings; it is found by its delivery, counted, and marked
 pub invariant_of-self-2 : goal.invariant_of-self-2
 invariant_of-self-2 c =
     let items = c.self.inside.runs.items in
@@ -127,8 +127,8 @@ invariant_of-self-2 c =
     let groups = c.list_run.new.self in
     let entries = c.with_lists.new.lists in
     let lists = c.offer_run.new.lists in
-    let were = entered (goal.at.invariant_of-self-2 c).In_ok-reserve c.cover.new.self entries held c.cover.ensures.grows
-    (grows_more _ _ _ c.cover-2.ensures.grows c.with_lists.ensures.grows) c.enter.ensures.enters c.enter.ensures.marks
+    let were = entered (goal.at.invariant_of-self-2 c).In_ok-reserve c.reserve_up_to.new.self entries held c.reserve_up_to.ensures.grows
+    (grows_more _ _ _ c.reserve_up_to-2.ensures.grows c.with_lists.ensures.grows) c.enter.ensures.enters c.enter.ensures.marks
     c.enter.ensures.room in
     let counted = were.counted in
     let next : c.in_ok-number.number ≡ number_of_next items event =
@@ -145,17 +145,17 @@ invariant_of-self-2 c =
       run_attempt = decimal c.args.run.attempt;
     } in
     let asked : RunSays facts c.in_ok-asked.asked = search rules in
-    let says : RunSays facts c.in_ok-asks.asks = c.in_ok-asks.ensures.says facts (c.in_ok-grouped.ensures.says facts asked) in
+    let says : RunSays facts c.in_ok-bindings.bindings = c.in_ok-bindings.ensures.says facts (c.in_ok-grouped.ensures.says facts asked) in
     let r = c.len-r.result in
     let end : r ≡ length items = search rules in
     let kept =
-    all_added items c.args.run c.self.inside.numbers.items c.self.inside.asks.items c.in_ok-number.number c.in_ok-asks.asks room
+    all_added items c.args.run c.self.inside.numbers.items c.self.inside.bindings.items c.in_ok-number.number c.in_ok-bindings.bindings room
     (c.self.invariant.numbered, c.self.invariant.bound) next says in
     let seen : c.as_slice-runs-2.result.now ≡ items ++ c.args.run ∷ [] = search rules in
     let only : OnlyLists (items ++ c.args.run ∷ []) held groups =
     subst (λ (runs : List RunState). OnlyLists runs held groups) seen c.list_run.ensures.others in
-    let all : AllAreFound (items ++ c.args.run ∷ []) groups.book.entries groups.unlisted c.in_ok-asks.asks r =
-    subst (λ (runs : List RunState). AllAreFound runs groups.book.entries groups.unlisted c.in_ok-asks.asks r) seen
+    let all : AllAreFound (items ++ c.args.run ∷ []) groups.book.entries groups.unlisted c.in_ok-bindings.bindings r =
+    subst (λ (runs : List RunState). AllAreFound runs groups.book.entries groups.unlisted c.in_ok-bindings.bindings r) seen
     c.list_run.ensures.all in
     rw (
       c.push_reserved.ensures.items,
@@ -170,13 +170,13 @@ invariant_of-self-2 c =
       found = found;
       counted = counted_more items c.args.run counts c.add.new.self.counts counted
           (λ other. c.add.ensures.counted event other c.requires.workflow number);
-      marked = marks_more items c.args.run c.cover.new.self c.stir.new.self r 0 end c.in_ok-cover.ensures.covers c.stir.ensures were.marked;
-      grouped = each_stays held.book.entries groups.book.entries (c.self.inside.asks.items ++ c.in_ok-asks.asks ∷ [])
+      marked = marks_more items c.args.run c.reserve_up_to.new.self c.mark_dirty.new.self r 0 end c.in_ok-reserve_up_to.ensures.covers c.mark_dirty.ensures were.marked;
+      grouped = each_stays held.book.entries groups.book.entries (c.self.inside.bindings.items ++ c.in_ok-bindings.bindings ∷ [])
           only.numbers
-          (each_more held.book.entries c.self.inside.asks.items c.in_ok-asks.asks
-          (c.in_ok-asks.ensures.numbers held.book.entries c.in_ok-grouped.ensures.numbers) were.grouped);
-      listed = found_added items c.args.run c.self.inside.asks.items c.in_ok-asks.asks held groups r end were.bound.as_many only all
+          (each_more held.book.entries c.self.inside.bindings.items c.in_ok-bindings.bindings
+          (c.in_ok-bindings.ensures.numbers held.book.entries c.in_ok-grouped.ensures.numbers) were.grouped);
+      listed = found_added items c.args.run c.self.inside.bindings.items c.in_ok-bindings.bindings held groups r end were.bound.as_many only all
           c.in_ok-grouped.ensures.covers were.listed;
-      offered = offered_added items c.args.run c.self.inside.asks.items c.in_ok-asks.asks entries lists r end were.bound.as_many
-          c.in_ok-asks.ensures.lists c.offer_run.ensures.all c.offer_run.ensures.others were.offered;
+      offered = offered_added items c.args.run c.self.inside.bindings.items c.in_ok-bindings.bindings entries lists r end were.bound.as_many
+          c.in_ok-bindings.ensures.lists c.offer_run.ensures.all c.offer_run.ensures.others were.offered;
     })

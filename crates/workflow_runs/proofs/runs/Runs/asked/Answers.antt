@@ -1,22 +1,22 @@
 use Rattle.std.specs.Prelude.{◌≡◌, None}
 use Rattle.std.proofs.Common.{ap, sym, ◌∙◌, rules}
-use Rattle.workflow_runs.specs.Holders.{holder_in_words, run_of}
-use Rattle.workflow_runs.specs.Places.{run_at}
-use Rattle.workflow_runs.proofs.BoundSays.{SaysBoth, flag_by, group_by, no_flag, no_group, said_there}
+use Rattle.run_states.specs.Holders.{run_of}
+use Rattle.run_states.specs.Places.{run_at}
+use Rattle.run_bindings.proofs.BoundSays.{SaysBoth, flag_by, group_by, no_flag, no_group, said_there}
 use Rattle.workflow_runs.proofs.runs.Runs.asked.Goals as goal
 use Rattle.workflow_runs.proofs.runs.Runs.asked.Goals.{In_ok-run}
 
 pub returns-in_err-run : goal.returns-in_err-run
 returns-in_err-run c =
-    let h = holder_in_words c.args.holder.now in
+    let h = c.args.holder.now in
     let nothing : run_at c.args.self.now (run_of h) ≡ None = search rules in
     let gone : c.from_residual.result ≡ None = search rules in
     record { group = rw gone (sym (no_group c.args.self.now h nothing)); cancels = rw gone (sym (no_flag c.args.self.now h nothing)) }
 
--- what is kept there says the group and the flag
-said : (c : In_ok-run) → SaysBoth c.args.self.now (holder_in_words c.args.holder.now) c.in_ok-run.run'.now c.in_ok-run.asks.now
+-- the bindings there give the group and the flag
+said : (c : In_ok-run) → SaysBoth c.args.self.now c.args.holder.now c.in_ok-run.run'.now c.in_ok-run.bindings.now
 said c =
-    said_there c.args.self.now (holder_in_words c.args.holder.now) c.in_ok-run.run'.now c.in_ok-run.asks.now c.run.result c.run.ensures
+    said_there c.args.self.now c.args.holder.now c.in_ok-run.run'.now c.in_ok-run.bindings.now c.run.result c.run.ensures
     (search rules) c.in_ok-run.ensures.says
 
 pub returns-in_err-asked : goal.returns-in_err-asked

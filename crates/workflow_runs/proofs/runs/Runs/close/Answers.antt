@@ -1,10 +1,10 @@
 use Rattle.std.specs.Prelude.{filter_map}
 use Rattle.std.proofs.Common.{ap, sym, ◌∙◌}
 use Rattle.needs_graph.specs.Results.{gathered}
-use Rattle.workflow_runs.specs.FirstOf.{placed}
-use Rattle.workflow_runs.specs.Places.{with_job}
-use Rattle.workflow_runs.specs.Rules.{leg_end, settled_as}
-use Rattle.workflow_runs.proofs.Transitions.{job_closed}
+use Rattle.run_states.specs.FirstOf.{placed}
+use Rattle.run_states.specs.Places.{with_job}
+use Rattle.run_states.specs.Rules.{leg_end, settled_as}
+use Rattle.run_states.proofs.Transitions.{job_closed}
 use Rattle.workflow_runs.proofs.runs.Runs.close.Goals as goal
 
 pub returns-in-Some : goal.returns-in-Some

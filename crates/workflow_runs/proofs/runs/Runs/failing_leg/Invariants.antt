@@ -1,7 +1,10 @@
-use Rattle.workflow_runs.specs.WithinRun.{failing}
-use Rattle.workflow_runs.proofs.Firsts.{NoneBefore}
+use Rattle.std.specs.Prelude.{◌≡◌}
+use Rattle.run_states.specs.FirstOf.{first_some, placed}
+use Rattle.run_states.specs.WithinRun.{failing}
+use Rattle.workflow_runs.proofs.JobResult.{fails_at}
+use Rattle.workflow_runs.proofs.PlacedLegs.{first_passing}
 use Rattle.workflow_runs.proofs.runs.Runs.failing_leg.Given as goal
 
--- none so far fails the job
-abbrev pub invariant-loop-l : goal.invariant-loop-l
-invariant-loop-l l = NoneBefore (λ k leg. failing l.self l.r l.j (k, leg)) l.legs l.l
+-- the first that fails the job is still to come
+abbrev pub invariant-loop-place : goal.invariant-loop-place
+invariant-loop-place l = first_passing (fails_at l.self) (λ p. p.leg) l.place-iterator ≡ first_some (failing l.self l.r l.j) (placed l.legs)

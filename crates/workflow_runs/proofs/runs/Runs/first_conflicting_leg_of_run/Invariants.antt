@@ -1,11 +1,11 @@
 use Rattle.std.proofs.Common.{◌≡◌}
-use Rattle.workflow_runs.specs.Holders.{holder_in_words, is_conflicting}
-use Rattle.workflow_runs.specs.Moves.{Holder}
+use Rattle.run_states.specs.Holders.{is_conflicting}
 use Rattle.workflow_runs.proofs.Meant.{first_left, first_of_run}
 use Rattle.workflow_runs.proofs.runs.Runs.first_conflicting_leg_of_run.Given as goal
+use Rattle.run_states.specs.declared.holder.Holder.TheVariants.{Leg}
 
--- the first that is meant is still to come
+-- the first conflicting leg is still to come
 abbrev pub invariant-loop-place : goal.invariant-loop-place
 invariant-loop-place l =
-    first_left (λ p. is_conflicting l.self (holder_in_words l.holder) l.whom (Holder.a_leg p)) l.place-iterator
-    ≡ first_of_run (λ p. is_conflicting l.self (holder_in_words l.holder) l.whom (Holder.a_leg p)) l.self l.r
+    first_left (λ p. is_conflicting l.self l.holder l.whom (Leg p)) l.place-iterator
+    ≡ first_of_run (λ p. is_conflicting l.self l.holder l.whom (Leg p)) l.self l.r

@@ -1,13 +1,12 @@
 use Rattle.std.proofs.Common.{◌≡◌, ℕ, ◌<◌, ◌-◌, false, length}
-use Rattle.workflow_runs.specs.Holders.{holder_in_words}
-use Rattle.workflow_runs.specs.Moves.{Holder}
 use Rattle.workflow_runs.specs.SlotHolders.{is_marked_conflicting}
 use Rattle.workflow_runs.proofs.runs.Runs.first_marked_run.Given as goal
+use Rattle.run_states.specs.declared.holder.Holder.TheVariants.{Run}
 
--- none so far is meant
+-- no run so far conflicts
 abbrev pub invariant-loop-r : goal.invariant-loop-r
 invariant-loop-r l =
-    (k : ℕ) → k < l.from → is_marked_conflicting l.marks l.self (holder_in_words l.holder) l.whom (Holder.a_run k) ≡ false
+    (k : ℕ) → k < l.from → is_marked_conflicting l.marks l.self l.holder l.whom (Run k) ≡ false
 
 abbrev pub decreases-loop-r : goal.decreases-loop-r
 decreases-loop-r l = length l.self - l.from

@@ -1,6 +1,6 @@
 use Rattle.std.proofs.Common.{◌≡◌, ◌-◌, length}
-use Rattle.workflow_runs.specs.LookAgain.{NoneBefore}
-use Rattle.workflow_runs.specs.WithinRun.{first_in_run}
+use Rattle.run_states.specs.Resuming.{NoneBefore}
+use Rattle.run_states.specs.WithinRun.{first_in_run}
 use Rattle.workflow_runs.proofs.runs.Runs.first_place.Given as goal
 
 -- the runs stay as they are, and no rule applies in those that were passed

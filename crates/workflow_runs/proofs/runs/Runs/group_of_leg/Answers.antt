@@ -1,6 +1,6 @@
 use Rattle.std.proofs.Common.{◌≡◌, ◌∙◌, Option, Ok, ap, false, sym, rules}
 use Rattle.group_name.specs.Group.{Group}
-use Rattle.workflow_runs.proofs.GroupKeys.{no_group_planned}
+use Rattle.run_bindings.proofs.GroupKeys.{no_group_planned}
 use Rattle.workflow_runs.proofs.runs.Runs.group_of_leg.Goals as goal
 
 pub returns-then-not-is_planned : goal.returns-then-not-is_planned

@@ -1,11 +1,11 @@
 use Rattle.std.proofs.Common.{◌≡◌, ◌∙◌, Option, Ok, None, ap, subst, sym, rules}
 use Rattle.std.specs.Option.{option_copied}
-use Rattle.workflow_runs.specs.Moves.{Holder}
 use Rattle.wf_value.specs.Gives.{Gives}
 use Rattle.group_name.specs.Group.{Group}
-use Rattle.workflow_runs.proofs.BoundSays.{no_group}
-use Rattle.workflow_runs.proofs.GroupKeys.{group_of_that_run, has_number}
+use Rattle.run_bindings.proofs.BoundSays.{no_group}
+use Rattle.run_bindings.proofs.GroupKeys.{group_of_that_run, has_number}
 use Rattle.workflow_runs.proofs.runs.Runs.group_of_run.Goals as goal
+use Rattle.run_states.specs.declared.holder.Holder.TheVariants.{Run}
 
 pub returns-in-Some-number : goal.returns-in-Some-number
 returns-in-Some-number c =
@@ -22,4 +22,4 @@ pub returns-in_default : goal.returns-in_default
 returns-in_default c =
     let nothing : c.run.result ≡ None = search rules in
     ap (λ (o : Option Group). Ok o)
-    (no_group c.args.self.now (Holder.a_run c.args.r) (sym c.run.ensures.run ∙ ap (λ o. option_copied o) nothing))
+    (no_group c.args.self.now (Run c.args.r) (sym c.run.ensures.run ∙ ap (λ o. option_copied o) nothing))

@@ -1,11 +1,11 @@
 use Rattle.std.proofs.Common.{◌≡◌, ◌+◌, ℕ, ap, subst, sym, rules}
 use Rattle.std.specs.Prelude.{Some}
 use Rattle.std.specs.Fmt.{decimal}
-use Rattle.workflow_runs.specs.Asks.{RunSays}
-use Rattle.workflow_runs.specs.NewRun.{again}
-use Rattle.workflow_runs.specs.Places.{run_at}
-use Rattle.workflow_runs.specs.RunState.{RunState}
-use Rattle.workflow_runs.proofs.GroupKeys.{number_of_that_run}
+use Rattle.run_states.specs.NewRun.{again}
+use Rattle.run_states.specs.Places.{run_at}
+use Rattle.run_states.specs.RunState.{RunState}
+use Rattle.run_bindings.specs.Bindings.{RunSays}
+use Rattle.run_bindings.proofs.GroupKeys.{number_of_that_run}
 use Rattle.workflow_runs.proofs.runs.Runs.next_attempt.Goals as goal
 
 pub returns-clause-says : goal.returns-clause-says

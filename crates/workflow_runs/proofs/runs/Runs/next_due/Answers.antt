@@ -1,9 +1,9 @@
 use Rattle.std.specs.Prelude.{List}
 use Rattle.std.proofs.Common.{arith, ap, sym, ◌∙◌, inl, inr}
 use Rattle.std.proofs.lemmas.Bool.{cases_lt}
-use Rattle.workflow_runs.specs.LookAgain.{ask}
-use Rattle.workflow_runs.specs.RunState.{RunState}
-use Rattle.workflow_runs.specs.WithinRun.{first_in_run}
+use Rattle.run_states.specs.Resuming.{apply_at}
+use Rattle.run_states.specs.RunState.{RunState}
+use Rattle.run_states.specs.WithinRun.{first_in_run}
 use Rattle.workflow_runs.proofs.MarkedRuns.{if_none, if_some, past_rests, unmarked_rests}
 use Rattle.workflow_runs.proofs.runs.Runs.next_due.Goals as goal
 
@@ -11,7 +11,7 @@ pub returns-clause-between : goal.returns-clause-between
 returns-clause-between c =
     if_some c.next_below.result _ _
     (λ r unmarked i from to.
-    ap (λ (xs : List RunState). ask (first_in_run xs) xs i) (sym c.self.view_is)
+    ap (λ (xs : List RunState). apply_at (first_in_run xs) xs i) (sym c.self.view_is)
     ∙ unmarked_rests c.self.inside.runs.items _ c.self.invariant.marked.due i (unmarked i from to))
     c.next_below.ensures.between
 
@@ -21,7 +21,7 @@ returns-clause-none c =
     (λ unmarked i from.
     elim (cases_lt i c.len.result) [
       | inl within ↦
-          ap (λ (xs : List RunState). ask (first_in_run xs) xs i) (sym c.self.view_is)
+          ap (λ (xs : List RunState). apply_at (first_in_run xs) xs i) (sym c.self.view_is)
           ∙ unmarked_rests c.self.inside.runs.items _ c.self.invariant.marked.due i (unmarked i from within)
       | inr past ↦ past_rests c.args.self.now i (omega (arith, past, c.len.ensures.len))
     ])

@@ -1,8 +1,8 @@
 use Rattle.std.specs.Prelude.{◌≡◌, ◌≤◌, ◌<◌, ℕ, List, IfNone, IfSome, None, length}
 use Rattle.std.proofs.Common.{ap, subst, sym, ◌∙◌}
-use Rattle.workflow_runs.specs.LookAgain.{ask}
-use Rattle.workflow_runs.specs.RunState.{RunState}
-use Rattle.workflow_runs.specs.WithinRun.{fit_in_run}
+use Rattle.run_states.specs.Resuming.{apply_at}
+use Rattle.run_states.specs.RunState.{RunState}
+use Rattle.run_states.specs.WithinRun.{fit_in_run}
 use Rattle.workflow_runs.proofs.NoneOffered.{next_between, next_from, next_none}
 use Rattle.workflow_runs.proofs.runs.Runs.next_offering.Goals as goal
 
@@ -14,16 +14,16 @@ pub returns-clause-between : goal.returns-clause-between
 returns-clause-between c =
     let labels = c.args.labels.now in
     subst (λ (xs : List RunState). IfSome c.below.result
-    (λ r. (i : ℕ) → c.args.from ≤ i → i < r → ask (fit_in_run labels xs) xs i ≡ None)) c.self.view_is
-    (next_between labels c.self.inside.runs.items c.self.inside.asks.items c.self.inside.index.lists c.self.invariant.bound
+    (λ r. (i : ℕ) → c.args.from ≤ i → i < r → apply_at (fit_in_run labels xs) xs i ≡ None)) c.self.view_is
+    (next_between labels c.self.inside.runs.items c.self.inside.bindings.items c.self.inside.index.lists c.self.invariant.bound
     c.self.invariant.offered c.args.from c.first_offering-found.result c.first_offering-found.ensures.passed c.below.result
     c.below.ensures.same)
 
 pub returns-clause-none : goal.returns-clause-none
 returns-clause-none c =
     let labels = c.args.labels.now in
-    subst (λ (xs : List RunState). IfNone c.below.result ((i : ℕ) → c.args.from ≤ i → ask (fit_in_run labels xs) xs i ≡ None))
+    subst (λ (xs : List RunState). IfNone c.below.result ((i : ℕ) → c.args.from ≤ i → apply_at (fit_in_run labels xs) xs i ≡ None))
     c.self.view_is
-    (next_none labels c.self.inside.runs.items c.self.inside.asks.items c.self.inside.index.lists c.self.invariant.bound
+    (next_none labels c.self.inside.runs.items c.self.inside.bindings.items c.self.inside.index.lists c.self.invariant.bound
     c.self.invariant.offered c.args.from c.first_offering-found.result c.first_offering-found.ensures.passed c.len.result
     (c.len.ensures.len ∙ ap length (sym c.self.view_is)) c.below.result c.below.ensures.none)

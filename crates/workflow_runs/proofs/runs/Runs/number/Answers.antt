@@ -1,7 +1,7 @@
 use Rattle.std.specs.Prelude.{◌≡◌, List, option_map, slice_get}
 use Rattle.std.proofs.Common.{ap, subst, ◌∙◌}
-use Rattle.workflow_runs.specs.RunNumber.{events, run_number}
-use Rattle.workflow_runs.specs.RunState.{RunState}
+use Rattle.run_states.specs.RunNumber.{events, run_number}
+use Rattle.run_states.specs.RunState.{RunState}
 use Rattle.workflow_runs.proofs.RunNumbers.{number_at}
 use Rattle.workflow_runs.proofs.runs.Runs.number.Goals as goal
 

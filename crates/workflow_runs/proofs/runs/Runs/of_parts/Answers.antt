@@ -2,9 +2,9 @@ use Rattle.std.proofs.Common.{◌≡◌, ◌++◌, ◌∷◌, [], ℕ, Option, a
 use Rattle.std.specs.Prelude.{MatchOption, length}
 use Rattle.std.proofs.lemmas.List.{length-take, take_all}
 use Rattle.run_plan.specs.PlanOf.{plan_of}
-use Rattle.workflow_runs.specs.AsPlanned.{IsAsPlanned}
-use Rattle.workflow_runs.specs.RunState.{RunState}
-use Rattle.workflow_runs.proofs.OneAfterAnother.{all_passed, grown_same, one_passed, read_at}
+use Rattle.run_states.specs.AsPlanned.{IsAsPlanned}
+use Rattle.run_states.specs.RunState.{RunState}
+use Rattle.run_states.proofs.OneAfterAnother.{all_passed, grown_same, one_passed, read_at}
 use Rattle.workflow_runs.proofs.runs.Runs.of_parts.Goals as goal
 use Rattle.wf_value.proofs.PassedOn.{same_Ok}
 

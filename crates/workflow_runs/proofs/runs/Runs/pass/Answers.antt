@@ -1,6 +1,7 @@
 use Rattle.std.proofs.Common.{◌≡◌, ◌∙◌, List, ap, false}
-use Rattle.workflow_runs.specs.MarkedRuns.{is_active, is_so_at}
-use Rattle.workflow_runs.specs.RunState.{RunState}
+use Rattle.run_states.specs.ActiveRuns.{is_active}
+use Rattle.run_states.specs.RunState.{RunState}
+use Rattle.workflow_runs.specs.MarkedRuns.{is_so_at}
 use Rattle.workflow_runs.proofs.FoundHolders.{found_unmarked}
 use Rattle.workflow_runs.proofs.MarkedRuns.{not_so_there, unmarked}
 use Rattle.workflow_runs.proofs.runs.Runs.pass.Goals as goal
@@ -9,7 +10,7 @@ pub invariant_of-self : goal.invariant_of-self
 invariant_of-self c =
     let are = c.self.invariant in
     let runs = c.self.inside.runs.items in
-    let asks = c.self.inside.asks.items in
+    let bindings = c.self.inside.bindings.items in
     let r = c.args.r in
     let marks = c.self.inside.marks in
     let groups = c.self.inside.index.groups in
@@ -28,7 +29,7 @@ invariant_of-self c =
         due = are.marked.due;
       };
       grouped = are.grouped;
-      listed = found_unmarked runs asks groups.book.entries groups.unlisted unlisted.new.self r rests unlisted.ensures.puts
+      listed = found_unmarked runs bindings groups.book.entries groups.unlisted unlisted.new.self r rests unlisted.ensures.puts
           unlisted.ensures.keeps are.listed;
       offered = are.offered;
     }

@@ -1,7 +1,7 @@
 use Rattle.std.proofs.Common.{◌≡◌, Ok, ap, subst}
 use Rattle.std.specs.Prelude.{None, option_map}
-use Rattle.workflow_runs.specs.NewRun.{again}
-use Rattle.workflow_runs.specs.Places.{run_at}
+use Rattle.run_states.specs.NewRun.{again}
+use Rattle.run_states.specs.Places.{run_at}
 use Rattle.workflow_runs.proofs.NextAttempt.{not_there}
 use Rattle.workflow_runs.proofs.runs.Runs.rerun.Goals as goal
 

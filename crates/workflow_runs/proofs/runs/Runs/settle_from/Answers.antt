@@ -1,15 +1,15 @@
 use Rattle.std.specs.Prelude.{◌≡◌, ◌<◌, List, Option, Some, None, IfSome, is_some, option_map, if◌then◌else◌}
 use Rattle.std.proofs.Common.{ap, subst, sym, refl, ◌∙◌}
-use Rattle.workflow_runs.specs.Groups.{HasOneEach}
-use Rattle.workflow_runs.specs.LookAgain.{RestBefore}
-use Rattle.workflow_runs.specs.Moves.{Transition}
-use Rattle.workflow_runs.specs.Settling.{first_rule, remaining_phases, settled}
-use Rattle.workflow_runs.specs.SoundRuns.{RunsAreSound}
-use Rattle.workflow_runs.specs.RunState.{RunState}
-use Rattle.workflow_runs.specs.declared.place.JobPlace.{JobPlace}
+use Rattle.run_states.specs.Groups.{HasOneEach}
+use Rattle.run_states.specs.Resuming.{RestBefore}
+use Rattle.run_states.specs.Moves.{Transition}
+use Rattle.run_states.specs.RunState.{RunState}
+use Rattle.run_states.specs.Settling.{first_rule, remaining_phases, settled}
+use Rattle.run_states.specs.SoundRuns.{RunsAreSound}
+use Rattle.run_states.specs.declared.place.JobPlace.{JobPlace}
+use Rattle.run_states.proofs.Optional.{from_map}
 use Rattle.workflow_runs.proofs.Lowered.{first_rule_lowers}
 use Rattle.workflow_runs.proofs.OneEachRules.{first_rule_one_each}
-use Rattle.workflow_runs.proofs.Optional.{from_map}
 use Rattle.workflow_runs.proofs.Rests.{settled_after_rule, settled_at_rest}
 use Rattle.workflow_runs.proofs.SettlingKeeps.{first_rule_settles}
 use Rattle.workflow_runs.proofs.SoundRuns.{runs_that_fit, sound_runs}

@@ -1,13 +1,13 @@
 use Rattle.std.proofs.Common.{◌≡◌, List}
-use Rattle.workflow_runs.specs.Groups.{HasOneEach}
-use Rattle.workflow_runs.specs.LookAgain.{RestBefore}
-use Rattle.workflow_runs.specs.Settling.{settled, remaining_phases}
-use Rattle.workflow_runs.specs.SoundRuns.{RunsAreSound}
-use Rattle.workflow_runs.specs.RunState.{RunState}
-use Rattle.workflow_runs.specs.declared.place.JobPlace.{JobPlace}
+use Rattle.run_states.specs.Groups.{HasOneEach}
+use Rattle.run_states.specs.Resuming.{RestBefore}
+use Rattle.run_states.specs.RunState.{RunState}
+use Rattle.run_states.specs.Settling.{settled, remaining_phases}
+use Rattle.run_states.specs.SoundRuns.{RunsAreSound}
+use Rattle.run_states.specs.declared.place.JobPlace.{JobPlace}
 use Rattle.workflow_runs.proofs.runs.Runs.settle_from.Given as goal
 
--- settling from here gives what settling from the start gives, and no rule applies before the place to look from
+-- settling from here gives what settling from the start gives, and no rule applies before `from`
 pub record Settling (start runs : List RunState) (from : JobPlace) : Type 0 where
   pub same_end : settled runs ≡ settled start
   pub sound : RunsAreSound runs

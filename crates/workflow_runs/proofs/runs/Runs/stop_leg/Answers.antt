@@ -1,7 +1,7 @@
 use Rattle.std.proofs.Common.{ap, sym, ◌∙◌}
-use Rattle.workflow_runs.specs.Places.{with_leg}
-use Rattle.workflow_runs.specs.Stops.{stopped}
-use Rattle.workflow_runs.proofs.Transitions.{with_leg_none, with_leg_read}
+use Rattle.run_states.specs.Places.{with_leg}
+use Rattle.run_states.specs.Stops.{stopped}
+use Rattle.run_states.proofs.Transitions.{with_leg_none, with_leg_read}
 use Rattle.workflow_runs.proofs.runs.Runs.stop_leg.Goals as goal
 
 pub returns-in-Some : goal.returns-in-Some

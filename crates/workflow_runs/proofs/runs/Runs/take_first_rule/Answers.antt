@@ -1,10 +1,10 @@
 use Rattle.std.specs.Prelude.{List, option_map}
 use Rattle.std.proofs.Common.{ap, subst, sym, ◌∙◌}
-use Rattle.workflow_runs.specs.Groups.{HasOneEach}
-use Rattle.workflow_runs.specs.Moves.{Transition}
-use Rattle.workflow_runs.specs.RunState.{RunState}
-use Rattle.workflow_runs.specs.Settling.{first_place, first_rule}
-use Rattle.workflow_runs.specs.SoundRuns.{RunsAreSound}
+use Rattle.run_states.specs.Groups.{HasOneEach}
+use Rattle.run_states.specs.Moves.{Transition}
+use Rattle.run_states.specs.RunState.{RunState}
+use Rattle.run_states.specs.Settling.{first_place, first_rule}
+use Rattle.run_states.specs.SoundRuns.{RunsAreSound}
 use Rattle.workflow_runs.proofs.runs.Runs.take_first_rule.Goals as goal
 
 pub take_first_rule_at-requires-clause-sound : goal.take_first_rule_at-requires-clause-sound

@@ -1,20 +1,20 @@
 use Rattle.std.specs.Prelude.{◌≡◌, List, Some, IfSome, Bool, option_and_then}
 use Rattle.std.proofs.Common.{ap, subst, sym, ◌∙◌}
-use Rattle.workflow_runs.specs.LookAgain.{RestBefore, may_wake_others, resume_point}
-use Rattle.workflow_runs.specs.Moves.{Transition}
-use Rattle.workflow_runs.specs.Rules.{rule_at}
-use Rattle.workflow_runs.specs.Settling.{first_place, first_rule}
-use Rattle.workflow_runs.specs.SoundRuns.{RunsAreSound}
-use Rattle.workflow_runs.specs.RunState.{RunState}
-use Rattle.workflow_runs.specs.declared.place.JobPlace.{JobPlace}
-use Rattle.workflow_runs.specs.declared.place.Place.{Place}
-use Rattle.workflow_runs.proofs.LookedAgain.{rest_after_rule}
-use Rattle.workflow_runs.proofs.Transitions.{first_rule_taken}
-use Rattle.workflow_runs.proofs.Optional.{from_map}
+use Rattle.run_states.specs.Resuming.{RestBefore, may_wake_others, resume_point}
+use Rattle.run_states.specs.Moves.{Transition}
+use Rattle.run_states.specs.Rules.{rule_at}
+use Rattle.run_states.specs.RunState.{RunState}
+use Rattle.run_states.specs.Settling.{first_place, first_rule}
+use Rattle.run_states.specs.SoundRuns.{RunsAreSound}
+use Rattle.run_states.specs.declared.place.JobPlace.{JobPlace}
+use Rattle.run_states.specs.declared.place.RuleSite.{RuleSite}
+use Rattle.run_states.proofs.Optional.{from_map}
+use Rattle.run_states.proofs.Transitions.{first_rule_taken}
+use Rattle.workflow_runs.proofs.Resumed.{rest_after_rule}
 use Rattle.workflow_runs.proofs.SoundRuns.{runs_that_fit}
 use Rattle.workflow_runs.proofs.runs.Runs.take_first_rule_at.Goals as goal
 
-rest_again : (runs new : List RunState) (place : Place) (freed : Bool) (again : JobPlace) → RunsAreSound runs
+rest_again : (runs new : List RunState) (place : RuleSite) (freed : Bool) (again : JobPlace) → RunsAreSound runs
     → first_place runs ≡ Some place
     → IfSome (rule_at runs place) (λ next. new ≡ next.runs) → freed ≡ may_wake_others runs place → again ≡ resume_point freed new place
     → RestBefore new again

@@ -2,24 +2,27 @@ use Rattle.std.specs.Prelude.{ℕ, List, Option, Some, IfSome, false, slice_get,
 use Rattle.std.proofs.Common.{ap, subst, sym, ◌≡◌, ◌∙◌, ◌<◌, length, length-set, arith, rules}
 use Rattle.std.proofs.lemmas.Option.{slice_get_read}
 use Rattle.run_marks.specs.Marked.{is_marked}
-use Rattle.workflow_runs.specs.Changes.{changed}
-use Rattle.workflow_runs.specs.FoundHolders.{HoldersAreFound, IsFound, Stands, StillFound, newcomer}
-use Rattle.workflow_runs.specs.LabelNumbers.{IsOffered, IsReadyAt, LegsAreOffered, offered_by}
+use Rattle.run_states.specs.Changes.{changed}
+use Rattle.run_states.specs.Changes.{newcomer}
+use Rattle.run_states.specs.Changes.{offered_by}
+use Rattle.run_states.specs.Places.{with_run}
+use Rattle.run_states.specs.declared.place.LegPlace.{LegPlace}
+use Rattle.run_states.specs.RunState.{RunState}
+use Rattle.run_states.specs.declared.frees.Frees.{Frees}
+use Rattle.run_states.specs.declared.holder.Holder.{Holder}
+use Rattle.run_states.proofs.Doors.{changed_within}
+use Rattle.run_bindings.specs.LabelNumbers.{IsOffered, IsReadyAt, LegsAreOffered}
+use Rattle.workflow_runs.specs.FoundHolders.{HoldersAreFound, IsFound, Stands, StillFound}
 use Rattle.workflow_runs.specs.LettingGo.{LetsGoOnly, freed}
 use Rattle.workflow_runs.specs.MarkedRuns.{RunsAreMarked}
-use Rattle.workflow_runs.specs.Places.{LegPlace, with_run}
-use Rattle.workflow_runs.specs.RunState.{RunState}
-use Rattle.workflow_runs.specs.declared.frees.Frees.{Frees}
-use Rattle.workflow_runs.specs.declared.holder.Holder.{Holder}
-use Rattle.workflow_runs.proofs.Doors.{changed_within}
 use Rattle.workflow_runs.proofs.FoundHolders.{found_after}
 use Rattle.workflow_runs.proofs.KeptBack.{RunsStillFor}
 use Rattle.workflow_runs.proofs.LegsOffered.{has_place, offered_after}
 use Rattle.workflow_runs.proofs.LettingGo.{freed_of_run, only_freed_go}
 use Rattle.workflow_runs.proofs.MarkedRuns.{marks_after_change, not_so}
 use Rattle.workflow_runs.proofs.ReadyBefore.{ready_before}
-use Rattle.workflow_runs.proofs.StillBound.{still_kept}
 use Rattle.workflow_runs.proofs.Stays.{changed_admitted, changed_attempt}
+use Rattle.workflow_runs.proofs.StillBound.{still_kept}
 use Rattle.workflow_runs.proofs.StoodBefore.{stood_before}
 use Rattle.workflow_runs.proofs.Woken.{marks_woken, unwoken_still}
 use Rattle.workflow_runs.proofs.runs.Runs.write.Goals as goal
@@ -27,7 +30,7 @@ use Rattle.workflow_runs.proofs.runs.Runs.write.Goals as goal
 pub invariant_of-self : goal.invariant_of-self
 invariant_of-self c =
     let items = c.self.inside.runs.items in
-    let asks = c.self.inside.asks.items in
+    let bindings = c.self.inside.bindings.items in
     let r = c.args.r in
     let change = c.args.change in
     let goes = c.freed-freed.result in
@@ -45,51 +48,51 @@ invariant_of-self c =
     subst (λ (f : Frees). LetsGoOnly f items (slice_set items r new)) (sym is_freed)
     (subst (λ (rs : List RunState). LetsGoOnly (freed items r change) items rs) (sym is_next) (only_freed_go items r change)) in
     let seen : c.as_slice-runs.result.now ≡ items = c.as_slice-runs.ensures.value in
-    let asked_at : slice_get asks r ≡ Some c.index-asks.result.now =
-    slice_get_read asks (length asks) r c.index-asks.result.now refl (omega (arith, within, c.self.invariant.bound.as_many))
-    c.index-asks.ensures in
-    let itself : IfSome (newcomer r change) (IsFound groups.book.entries groups.unlisted c.index-asks.result.now) =
-    subst (λ (one : Option Holder). IfSome one (IsFound groups.book.entries groups.unlisted c.index-asks.result.now))
+    let asked_at : slice_get bindings r ≡ Some c.index-bindings.result.now =
+    slice_get_read bindings (length bindings) r c.index-bindings.result.now refl (omega (arith, within, c.self.invariant.bound.as_many))
+    c.index-bindings.ensures in
+    let itself : IfSome (newcomer r change) (IsFound groups.book.entries groups.unlisted c.index-bindings.result.now) =
+    subst (λ (one : Option Holder). IfSome one (IsFound groups.book.entries groups.unlisted c.index-bindings.result.now))
     c.newcomer-newcomer.ensures c.list_newcomer.ensures.itself in
     let others : StillFound items held.book.entries held.unlisted groups.book.entries groups.unlisted =
     subst (λ (rs : List RunState). StillFound rs held.book.entries held.unlisted groups.book.entries groups.unlisted) seen
     c.list_newcomer.ensures.others in
-    let found : HoldersAreFound (slice_set items r new) asks groups.book.entries groups.unlisted =
-    found_after items (slice_set items r new) asks held.book.entries groups.book.entries held.unlisted groups.unlisted r change
-    c.index-asks.result.now (length-set items r new) c.list_newcomer.ensures.room asked_at
+    let found : HoldersAreFound (slice_set items r new) bindings groups.book.entries groups.unlisted =
+    found_after items (slice_set items r new) bindings held.book.entries groups.book.entries held.unlisted groups.unlisted r change
+    c.index-bindings.result.now (length-set items r new) c.list_newcomer.ensures.room asked_at
     (λ h stands. stood_before items r change h (subst (λ (rs : List RunState). Stands rs h) is_next stands)) itself others
     c.self.invariant.listed in
     let was = c.self.inside.index.lists in
     let lists = c.offer.new.lists in
-    let one : IfSome (offered_by r change) (IsOffered lists c.index-asks.result.now) =
-    subst (λ (leg : Option LegPlace). IfSome leg (IsOffered lists c.index-asks.result.now)) c.offered-offered.ensures c.offer.ensures.itself in
-    let offered : LegsAreOffered (slice_set items r new) asks lists =
-    offered_after items (slice_set items r new) asks was lists r change c.index-asks.result.now asked_at
+    let one : IfSome (offered_by r change) (IsOffered lists c.index-bindings.result.now) =
+    subst (λ (leg : Option LegPlace). IfSome leg (IsOffered lists c.index-bindings.result.now)) c.offered-offered.ensures c.offer.ensures.itself in
+    let offered : LegsAreOffered (slice_set items r new) bindings lists =
+    offered_after items (slice_set items r new) bindings was lists r change c.index-bindings.result.now asked_at
     (λ p ready. ready_before items r change p (subst (λ (rs : List RunState). IsReadyAt rs p) is_next ready)) one c.offer.ensures.others
     c.self.invariant.offered in
     let woken = c.wake_freed.new.self in
     let count = length c.as_slice-runs.result.now in
     let many : count ≡ length items = ap length seen in
     let marked_woken : RunsAreMarked items woken =
-    marks_woken items goes held c.index-asks.result.now count c.self.inside.marks woken c.wake_freed.ensures c.self.invariant.marked in
+    marks_woken items goes held c.index-bindings.result.now count c.self.inside.marks woken c.wake_freed.ensures c.self.invariant.marked in
     let still : (s : ℕ) → is_marked woken.due s ≡ false → RunsStillFor items (slice_set items r new) s =
-    unwoken_still items asks held c.self.invariant.bound c.self.invariant.grouped c.self.invariant.listed c.self.inside.marks woken.due r
-    count c.index-asks.result.now many asked_at c.self.invariant.marked.waiting (slice_set items r new) goes c.wake_freed.ensures.woken
+    unwoken_still items bindings held c.self.invariant.bound c.self.invariant.grouped c.self.invariant.listed c.self.inside.marks woken.due r
+    count c.index-bindings.result.now many asked_at c.self.invariant.marked.waiting (slice_set items r new) goes c.wake_freed.ensures.woken
     (λ one is. freed_of_run items r change one (sym is_freed ∙ is)) only in
-    still_kept items _ asks c.self.inside.index groups lists c.self.inside.marks c.stir.new.self r old new c.list_newcomer.ensures.numbers
+    still_kept items _ bindings c.self.inside.index groups lists c.self.inside.marks c.mark_dirty.new.self r old new c.list_newcomer.ensures.numbers
     found offered within c.index_mut-run.ensures.value
     (ap (λ x. x.admitted) c.change.ensures ∙ changed_admitted change old)
     (ap (λ x. x.attempt) c.change.ensures ∙ changed_attempt change old)
-    (λ same. marks_after_change items new woken c.stir.new.self r 0 same
-    (λ s other none. still s (not_so (is_marked woken.due s) (is_marked c.stir.new.self.due s) (c.stir.ensures.due s) none)) c.stir.ensures
+    (λ same. marks_after_change items new woken c.mark_dirty.new.self r 0 same
+    (λ s other none. still s (not_so (is_marked woken.due s) (is_marked c.mark_dirty.new.self.due s) (c.mark_dirty.ensures.due s) none)) c.mark_dirty.ensures
     marked_woken)
     c.self.invariant
 
 pub offer-requires : goal.offer-requires
 offer-requires c =
-    let asks = c.self.inside.asks.items in
+    let bindings = c.self.inside.bindings.items in
     let r = c.args.r in
-    let asked_at : slice_get asks r ≡ Some c.index-asks.result.now =
-    slice_get_read asks (length asks) r c.index-asks.result.now refl (search rules) c.index-asks.ensures in
-    has_place c.self.inside.index.lists r c.args.change c.index-asks.result.now
-    (c.self.invariant.offered.numbers r c.index-asks.result.now asked_at) c.offered-offered.result c.offered-offered.ensures
+    let asked_at : slice_get bindings r ≡ Some c.index-bindings.result.now =
+    slice_get_read bindings (length bindings) r c.index-bindings.result.now refl (search rules) c.index-bindings.ensures in
+    has_place c.self.inside.index.lists r c.args.change c.index-bindings.result.now
+    (c.self.invariant.offered.numbers r c.index-bindings.result.now asked_at) c.offered-offered.result c.offered-offered.ensures

@@ -2,7 +2,7 @@ use Rattle.std.proofs.Common.{◌∙◌, Option, Ok, subst}
 use Rattle.wf_value.specs.Gives.{Gives}
 use Rattle.std.specs.Fmt.{decimal}
 use Rattle.group_name.specs.Group.{Group}
-use Rattle.workflow_runs.proofs.GroupKeys.{named_for_run}
+use Rattle.run_bindings.proofs.GroupKeys.{named_for_run}
 use Rattle.workflow_runs.proofs.runs.group_keys.group_of_event.Goals as goal
 
 pub returns : goal.returns

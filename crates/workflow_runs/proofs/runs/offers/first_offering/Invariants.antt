@@ -1,8 +1,8 @@
 use Rattle.std.proofs.Common.{◌≤◌, ◌<◌, ◌-◌, ◌^◌, IfSome}
-use Rattle.workflow_runs.proofs.FirstOffering.{PassedUpTo}
+use Rattle.run_bindings.proofs.FirstOffering.{PassedUpTo}
 use Rattle.workflow_runs.proofs.runs.offers.first_offering.Given as goal
 
--- the first one for the lists so far
+-- the first run for the lists so far
 abbrev pub invariant-loop-n : goal.invariant-loop-n
 invariant-loop-n l =
     (l.number < 2 ^ 63) × IfSome l.first (λ s. l.from ≤ s) × PassedUpTo l.lists l.labels l.from l.number l.first

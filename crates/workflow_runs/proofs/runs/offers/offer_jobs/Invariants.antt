@@ -1,6 +1,6 @@
 use Rattle.std.proofs.Common.{true}
-use Rattle.workflow_runs.specs.Cells.{states}
-use Rattle.workflow_runs.specs.LabelNumbers.{OnlyPuts}
+use Rattle.run_states.specs.Cells.{states}
+use Rattle.run_bindings.specs.LabelNumbers.{OnlyPuts}
 use Rattle.workflow_runs.proofs.OffersList.{JobsOfferUpTo}
 use Rattle.workflow_runs.proofs.runs.offers.offer_jobs.Given as goal
 

@@ -2,9 +2,9 @@ use Rattle.std.specs.Prelude.{◌≡◌, false, length, nat_eq, refl}
 use Rattle.std.proofs.Common.{arith, sym, ◌∙◌}
 use Rattle.std.proofs.lemmas.Bool.Decides.{Decides-eqb}
 use Rattle.std.proofs.lemmas.Option.{slice_get_read}
-use Rattle.workflow_runs.specs.Fitting.{is_ready}
-use Rattle.workflow_runs.specs.LabelNumbers.{leg_offers, list_number}
-use Rattle.workflow_runs.proofs.FoundHolders.{not_same}
+use Rattle.run_states.specs.Fitting.{is_ready}
+use Rattle.run_states.proofs.NamedOnce.{not_same}
+use Rattle.run_bindings.specs.LabelNumbers.{leg_offers, list_number}
 use Rattle.workflow_runs.proofs.OffersList.{and_false, and_then_false, and_true, none_passes, one_more_fails, one_passes}
 use Rattle.workflow_runs.proofs.runs.offers.offers_in_legs.Goals.{else-is_ready-via-then-is_ready+else-list_number-number}
 use Rattle.workflow_runs.proofs.runs.offers.offers_in_legs.Goals.{else-is_ready-via-else-is_ready}

@@ -1,6 +1,6 @@
 use Rattle.std.proofs.Common.{arith}
 use Rattle.std.proofs.lemmas.Option.{slice_get_within}
-use Rattle.workflow_runs.proofs.LabelNumbers.{one_more_put, puts_more}
+use Rattle.run_bindings.proofs.LabelNumbers.{one_more_put, puts_more}
 use Rattle.workflow_runs.proofs.runs.offers.put_each.Goals as goal
 
 pub put-requires : goal.put-requires

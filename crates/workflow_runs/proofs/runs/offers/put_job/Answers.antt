@@ -1,8 +1,8 @@
 use Rattle.std.specs.Prelude.{◌≡◌, ℕ, List, Option, Some, None, length, slice_get, refl}
 use Rattle.std.proofs.Common.{ap, subst, sym, ◌∙◌}
 use Rattle.label_lists.specs.Lists.{HasPlace, may_offer}
-use Rattle.workflow_runs.specs.LabelNumbers.{number_in}
-use Rattle.workflow_runs.proofs.LabelNumbers.{own_number, past_number, puts_more, whole_number}
+use Rattle.run_bindings.specs.LabelNumbers.{number_in}
+use Rattle.run_bindings.proofs.LabelNumbers.{own_number, past_number, puts_more, whole_number}
 use Rattle.workflow_runs.proofs.runs.offers.put_job.Goals as goal
 
 pub put_each-requires : goal.put_each-requires

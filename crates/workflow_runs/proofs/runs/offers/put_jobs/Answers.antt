@@ -2,7 +2,7 @@ use Rattle.std.specs.Prelude.{◌≡◌, ℕ, Some, length, slice_get, refl}
 use Rattle.std.proofs.Common.{arith, subst}
 use Rattle.std.proofs.lemmas.Option.{slice_get_read}
 use Rattle.label_lists.specs.Lists.{HasPlace}
-use Rattle.workflow_runs.proofs.LabelNumbers.{of_job, one_more_job, puts_more}
+use Rattle.run_bindings.proofs.LabelNumbers.{of_job, one_more_job, puts_more}
 use Rattle.workflow_runs.proofs.runs.offers.put_jobs.Goals as goal
 
 pub put_job-requires : goal.put_job-requires

@@ -2,8 +2,8 @@ use Rattle.std.specs.Prelude.{ℕ, length}
 use Rattle.std.proofs.Common.{arith, ap, subst, ◌∙◌, inl, inr}
 use Rattle.std.proofs.lemmas.Bool.{cases_lt}
 use Rattle.label_lists.specs.Lists.{HasPlace, may_offer}
-use Rattle.workflow_runs.specs.LabelNumbers.{list_number}
-use Rattle.workflow_runs.proofs.LabelNumbers.{of_none, puts_more}
+use Rattle.run_bindings.specs.LabelNumbers.{list_number}
+use Rattle.run_bindings.proofs.LabelNumbers.{of_none, puts_more}
 use Rattle.workflow_runs.proofs.runs.offers.put_run.Goals as goal
 
 pub put-requires : goal.put-requires

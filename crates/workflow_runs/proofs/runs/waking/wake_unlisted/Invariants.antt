@@ -2,7 +2,7 @@ use Rattle.std.proofs.Common.{◌≡◌, ℕ, ◌<◌, ◌-◌, true, length}
 use Rattle.run_marks.specs.Marked.{is_marked}
 use Rattle.workflow_runs.proofs.runs.waking.wake_unlisted.Given as goal
 
--- those before the place that is looked at are woken
+-- the waiting unlisted runs before `from` are due
 abbrev pub invariant-loop-r : goal.invariant-loop-r
 invariant-loop-r l =
     ((i : ℕ) → is_marked l.fn.due i ≡ true → is_marked l.due i ≡ true)

@@ -1,22 +1,23 @@
 use Rattle.std.specs.Prelude.{◌≡◌, ◌<◌, ℕ, length}
 use Rattle.std.specs.Option.{option_map_or}
 use Rattle.std.proofs.Common.{arith, subst, sym, ◌∙◌}
-use Rattle.workflow_runs.specs.Places.{LegPlace, job_at}
-use Rattle.workflow_runs.specs.RunState.{JobState}
-use Rattle.workflow_runs.specs.declared.holder.Holder.TheVariants.{Leg}
+use Rattle.run_states.specs.Places.{job_at}
+use Rattle.run_states.specs.declared.place.LegPlace.{LegPlace}
+use Rattle.run_states.specs.RunState.{JobState}
+use Rattle.run_states.specs.declared.holder.Holder.TheVariants.{Leg}
 use Rattle.workflow_runs.proofs.ListedRuns.{IsFoundIfStanding, leg_more, leg_within, lists_more}
 use Rattle.workflow_runs.proofs.runs.group_holders.GroupHolders.list_legs.Goals as goal
 
 pub loop-l-preserved : goal.loop-l-preserved
 loop-l-preserved c =
     let runs = c.args.runs.now in
-    let asks = c.args.asks.now in
+    let bindings = c.args.bindings.now in
     let old = c.loop-l.self in
     let new = c.list_if_standing.new.self in
     let lists = c.list_if_standing.ensures.others in
-    let one = subst (λ (p : LegPlace). IsFoundIfStanding runs new asks (Leg p)) c.new.ensures c.list_if_standing.ensures.itself in (
+    let one = subst (λ (p : LegPlace). IsFoundIfStanding runs new bindings (Leg p)) c.new.ensures c.list_if_standing.ensures.itself in (
       lists_more runs c.args.self.now old new c.loop-l.invariant.0 lists,
-      leg_more runs old new asks c.args.r c.args.j lists c.loop-l.l c.loop-l.invariant.1 one,
+      leg_more runs old new bindings c.args.r c.args.j lists c.loop-l.l c.loop-l.invariant.1 one,
     )
 
 pub returns-clause-all : goal.returns-clause-all

@@ -10,12 +10,12 @@ loop-j-preserved c =
     let new = c.list_legs.new.self in
     let lists = c.list_legs.ensures.others in (
       lists_more runs c.args.self.now old new c.loop-j.invariant.0 lists,
-      (λ stands. lists.found _ c.args.asks.now stands (c.loop-j.invariant.1 stands)),
-      job_more runs old new c.args.asks.now c.args.r c.loop-j.j lists c.loop-j.invariant.2 c.list_legs.ensures.all,
+      (λ stands. lists.found _ c.args.bindings.now stands (c.loop-j.invariant.1 stands)),
+      job_more runs old new c.args.bindings.now c.args.r c.loop-j.j lists c.loop-j.invariant.2 c.list_legs.ensures.all,
     )
 
 pub returns-clause-all : goal.returns-clause-all
 returns-clause-all c =
     let end : c.loop-j.j ≡ c.job_count-j-end.result = omega arith in
-    all_found c.args.runs.now c.loop-j.self c.args.asks.now c.args.r c.loop-j.j (end ∙ c.job_count-j-end.ensures) c.loop-j.invariant.1
+    all_found c.args.runs.now c.loop-j.self c.args.bindings.now c.args.r c.loop-j.j (end ∙ c.job_count-j-end.ensures) c.loop-j.invariant.1
     c.loop-j.invariant.2

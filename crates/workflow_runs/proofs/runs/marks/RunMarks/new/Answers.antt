@@ -1,5 +1,6 @@
 use Rattle.std.specs.Prelude.{[]}
-use Rattle.workflow_runs.specs.MarkedRuns.{is_active, is_due, someone_waits}
+use Rattle.run_states.specs.ActiveRuns.{is_active, someone_waits}
+use Rattle.workflow_runs.specs.MarkedRuns.{is_due}
 use Rattle.workflow_runs.proofs.MarkedRuns.{nothing_to_mark}
 use Rattle.workflow_runs.proofs.runs.marks.RunMarks.new.Goals as goal
 

@@ -1,0 +1,329 @@
+ghost use Rattle.std.specs.Prelude.{◌≡◌, ◌⊎◌, ◌+◌, ◌-◌, ◌*◌, ◌<◌, ◌≤◌, ◌^◌, ℕ, List, [], ◌∷◌, ◌++◌, length, true, false, Err, IfErr, IfOk, IfSome, OnErr, OnOk, Some};
+ghost use mathlib.Core.List.{IsPrefix};
+ghost use Rattle.wf_value.specs.Gives.{no_memory};
+ghost use Rattle.act_disk.specs.Failed.{device_failed};
+ghost use Rattle.act_disk.specs.Images.{EachSince};
+ghost use Rattle.act_store.specs.Checkpoints.{IsFinished, begun_at, dropped, left_of, refusal_of_begin, refusal_of_finish, refusal_of_slice, sliced, text_length};
+ghost use Rattle.act_store.specs.Entries.{IsLegal};
+ghost use Rattle.act_store.specs.GroupsOfHistory.{KeepsGroups};
+ghost use Rattle.act_store.specs.Images.{RecoversTo};
+ghost use Rattle.act_store.specs.StoreState.{RecoversToEither, table_of};
+ghost use Rattle.act_store.specs.declared.entry.Entry.{Entry};
+ghost use Rattle.act_desk.specs.Answered.{unsettled};
+ghost use Rattle.act_store.specs.Plain.{area_full, broken, entered, entry_of, failed_earlier, history_full, old_layout, refusal_of_apply};
+ghost use Rattle.act_store.specs.FaultCauses.{TellsFault};
+ghost use Rattle.act_desk.specs.Begins.{IsLonger};
+ghost use Rattle.act_desk.specs.Shown.{IsKnown, IsReplyTo, StandsIn};
+
+use crate::named::Named;
+use crate::pending::Pending;
+use crate::prefix::{Head, HistoryPrefix};
+use crate::seat::Seat;
+use act_disk::Disk;
+use act_store::{Receipt, Store};
+use run_plan::{Command, Reply};
+use std::alloc::Global;
+use std::marker::Model;
+use std::snapshot::Snapshot;
+use std::sync::ledger::{Book, Ledger};
+use wf_value::{Code, Refusal};
+
+/// The value under the lock of a desk: the store, the number of released replies, and the books of two ledgers. The seats' shares of
+/// entries add up to the length of the history. Their shares of replies add up to the number of released replies, which is at most the
+/// number of covered entries.
+#[derive(Drop)]
+pub struct LockedStore<D: Disk, E: Named, T: Ledger> {
+    store: Store<D>,
+    released: u64,
+    entries: Book<E>,
+    replies: Book<T>,
+    /// The whole history, unless `lost` is set.
+    prefix: HistoryPrefix<E>,
+    lost: bool,
+}
+
+impl<D: Disk, E: Named, T: Ledger> Model for LockedStore<D, E, T> {
+    ghost use Rattle.std.specs.Prelude.{◌≡◌, ◌≤◌, false, length};
+    ghost use Rattle.act_desk.specs.Shown.{Shown};
+
+    ghost Value = { Shown D };
+
+    ghost view = { λ d. record { store = d.store; entered = d.entries.total; answered = d.replies.total; released = d.released; lost = d.lost } };
+
+    ghost invariant = { λ d. (d.entries.total ≡ length d.store.history) × (d.replies.total ≡ d.released) × (d.released ≤ d.store.covered)
+        × (length d.store.history ≤ 100000) × (d.lost ≡ false → d.prefix ≡ d.store.history) };
+}
+
+impl<D: Disk, E: Named, T: Ledger> LockedStore<D, E, T> {
+    pub(crate) fn new(
+        store: Store<D>,
+        entries: Book<E>,
+        replies: Book<T>,
+        prefix: HistoryPrefix<E>,
+    ) -> LockedStore<D, E, T>
+        requires store { store.history ≡ [] }
+        requires books { (entries.total ≡ 0) × (replies.total ≡ 0) }
+        requires prefix { prefix ≡ [] }
+        ensures { result ≡ record { store = store; entered = 0; answered = 0; released = 0; lost = false } }
+    {
+        LockedStore {
+            store,
+            released: 0,
+            entries,
+            replies,
+            prefix,
+            lost: false,
+        }
+    }
+
+    /// The store, and its history as a prefix, unless `lost` is set.
+    pub fn into_parts(self) -> (Store<D>, Option<HistoryPrefix<E>>)
+        ensures store { result.0 ≡ self.store }
+        ensures prefix { IfSome result.1 (λ prefix. prefix ≡ self.store.history) }
+    {
+        let LockedStore {
+            store,
+            prefix,
+            lost,
+            ..
+        } = self;
+        let whole = if lost { None } else { Some(prefix) };
+        (store, whole)
+    }
+
+    /// How many entries are covered. The clauses are the invariant of the lock.
+    pub fn covered(&self) -> u64
+        ensures value { result ≡ self.now.store.covered }
+        ensures within { self.now.store.covered ≤ length self.now.store.history }
+        ensures legal { IsLegal self.now.store.base self.now.store.history }
+        ensures groups { KeepsGroups self.now.store.base self.now.store.history }
+        ensures promise { D.honest self.now.store.disk → (c : List ℕ) → D.images self.now.store.disk c → RecoversToEither self.now.store c }
+        ensures entered { self.now.entered ≡ length self.now.store.history }
+        ensures answered { self.now.answered ≡ self.now.released }
+        ensures released { self.now.released ≤ self.now.store.covered }
+    {
+        self.store.covered()
+    }
+
+    /// Whether less than half of an area is left for the next record.
+    pub fn is_pressed(&self) -> bool
+        ensures pressed { result ≡ true → 2 * (self.now.store.area - self.now.store.used - 6) < self.now.store.area }
+        ensures free { result ≡ false → self.now.store.area ≤ 2 * (self.now.store.area - self.now.store.used - 6) }
+    {
+        let (area, room) = (self.store.area(), self.store.room());
+        room < area - room
+    }
+
+    /// Begins a checkpoint of the store, as `Store::check_begin` does. It enters no command and releases no reply.
+    pub fn check_begin(&mut self, alloc: Global) -> Result<u64, Refusal>
+        ensures any_moment { D.honest self.old.store.disk
+            → EachSince D.moment D.images_since self.old.store.disk self.new.store.disk (RecoversToEither self.old.store) }
+        ensures begun { OnOk result (self.new.store ≡ begun_at self.old.store self.new.store.disk) }
+        ensures left { IfOk result (λ left. left ≡ 17 + text_length (table_of self.old.store)) }
+        ensures faults { TellsFault result (D.fault_count self.old.store.disk) (D.fault_count self.new.store.disk) }
+        ensures refused { IfSome (refusal_of_begin self.old.store) (λ refusal. result ≡ Err refusal) }
+        ensures cause { IfErr result (λ e. (e ≡ no_memory) ⊎ (e ≡ device_failed) ⊎ (refusal_of_begin self.old.store ≡ Some e)) }
+        ensures broken { result ≡ Err device_failed → self.new.store ≡ broken self.old.store self.new.store.disk }
+        ensures unchanged { IfErr result (λ e. (e ≡ device_failed → ⊥) → self.new ≡ self.old) }
+        ensures same { self.new ≡ record self.old { store = self.new.store } }
+        ensures history { (self.new.store.history ≡ self.old.store.history) × (self.new.store.base ≡ self.old.store.base) }
+    {
+        self.store.check_begin(alloc)
+    }
+
+    /// Writes a slice of the checkpoint in progress, as `Store::check_slice` does.
+    pub fn check_slice(&mut self) -> Result<u64, Refusal>
+        ensures any_moment { D.honest self.old.store.disk
+            → EachSince D.moment D.images_since self.old.store.disk self.new.store.disk (RecoversToEither self.old.store) }
+        ensures sliced { OnOk result (self.new.store ≡ sliced self.old.store self.new.store.disk) }
+        ensures left { IfOk result (λ left. left ≡ left_of self.new.store.begun) }
+        ensures faults { TellsFault result (D.fault_count self.old.store.disk) (D.fault_count self.new.store.disk) }
+        ensures refused { IfSome (refusal_of_slice self.old.store) (λ refusal. (result ≡ Err refusal) × (self.new ≡ self.old)) }
+        ensures cause { IfErr result (λ e. (e ≡ device_failed) ⊎ (refusal_of_slice self.old.store ≡ Some e)) }
+        ensures broken { result ≡ Err device_failed → self.new.store ≡ broken self.old.store self.new.store.disk }
+        ensures same { self.new ≡ record self.old { store = self.new.store } }
+        ensures history { (self.new.store.history ≡ self.old.store.history) × (self.new.store.base ≡ self.old.store.base) }
+    {
+        self.store.check_slice()
+    }
+
+    /// Finishes the checkpoint in progress, as `Store::check_finish` does. The replies of the entries that it covers are still withheld.
+    pub fn check_finish(&mut self, alloc: Global) -> Result<u64, Refusal>
+        ensures any_moment { D.honest self.old.store.disk
+            → EachSince D.moment D.images_since self.old.store.disk self.new.store.disk (RecoversToEither self.old.store) }
+        ensures stands { OnOk result (D.honest self.new.store.disk → (c : List ℕ) → D.images self.new.store.disk c → RecoversTo (table_of self.old.store) c) }
+        ensures finished { OnOk result (IsFinished self.old.store self.new.store) }
+        ensures count { IfOk result (λ count. count ≡ length self.old.store.history) }
+        ensures covered { OnOk result (self.new.store.covered ≡ length self.old.store.history) }
+        ensures faults { TellsFault result (D.fault_count self.old.store.disk) (D.fault_count self.new.store.disk) }
+        ensures refused { IfSome (refusal_of_finish self.old.store) (λ refusal. result ≡ Err refusal) }
+        ensures dropped { result ≡ Err area_full → self.new.store ≡ dropped self.old.store }
+        ensures broken { result ≡ Err device_failed → self.new.store ≡ broken self.old.store self.new.store.disk }
+        ensures unchanged { IfErr result (λ e. (e ≡ device_failed → ⊥) → (e ≡ area_full → ⊥) → self.new ≡ self.old) }
+        ensures cause { IfErr result (λ e. (e ≡ no_memory) ⊎ (e ≡ device_failed) ⊎ (refusal_of_finish self.old.store ≡ Some e)) }
+        ensures same { self.new ≡ record self.old { store = self.new.store } }
+        ensures history { (self.new.store.history ≡ self.old.store.history) × (self.new.store.base ≡ self.old.store.base) }
+    {
+        self.store.check_finish(alloc)
+    }
+
+    /// Enters a command for a seat and withholds its reply. It makes no device call.
+    ///
+    /// It is refused as by `Store::apply`, with 52, 46, 57, 47 or 50; then nothing changes.
+    #[tactic(auto, using(crate::proofs::Causes::causes))]
+    pub fn enter(
+        &mut self,
+        alloc: Global,
+        head: &Head<E>,
+        seat: &mut Seat<E, T>,
+        command: Command,
+    ) -> Result<Pending<E>, Refusal>
+        ensures entered { OnOk result (self.new.store ≡ entered self.old.store seat.old.number command) }
+        ensures pending { IfOk result (λ p. (p.seat ≡ seat.old.number) × (p.command ≡ command) × (p.place ≡ length self.new.store.history)) }
+        ensures seen { IfOk result (λ p. IsPrefix p.seen seat.new.seen) }
+        ensures counted { OnOk result (seat.new.entered ≡ seat.old.entered + 1) }
+        ensures same { (seat.new.released ≡ seat.old.released) × (seat.new.number ≡ seat.old.number) × IsPrefix seat.old.seen seat.new.seen }
+        ensures released { self.new.released ≡ self.old.released }
+        ensures refused { IfSome (refusal_of_apply self.old.store command) (λ refusal. OnOk result ⊥ × IfErr result (λ e. e ≡ refusal)) }
+        ensures cause { IfErr result (λ e. (e ≡ no_memory) ⊎ (refusal_of_apply self.old.store command ≡ Some e)) }
+        ensures kind { IfErr result (λ e. (e ≡ no_memory) ⊎ (e ≡ history_full) ⊎ (e ≡ old_layout) ⊎ (e ≡ area_full) ⊎ (e ≡ failed_earlier)) }
+        ensures unchanged { OnErr result ((self.new ≡ self.old) × (seat.new ≡ seat.old)) }
+        // The history is given up only if a longer one was seen, and only then the entry is not shown.
+        ensures lost { self.new.lost ≡ true → (self.old.lost ≡ true) ⊎ IsLonger self.old.store.history seat.new.seen }
+        ensures shown { IfOk result (λ p. p.shown ≡ false → self.new.lost ≡ true) }
+    {
+        let asked = Snapshot::of(&command);
+        let number = seat.number();
+        let LockedStore {
+            store,
+            entries,
+            prefix,
+            lost,
+            ..
+        } = self;
+        let receipt = store.apply(alloc, number, command)?;
+        seat.count_entry(entries);
+        let shown = show(lost, prefix, head, store);
+        seat.see(prefix);
+        Ok(Pending {
+            seat: number,
+            command: asked,
+            receipt,
+            prefix: prefix.again(),
+            shown,
+        })
+    }
+
+    /// Makes the entry of a pending command durable, unless it is covered, and releases its reply. For a covered entry it makes no device
+    /// call.
+    ///
+    /// The result is 52 if the device failed earlier and the entry is not covered, 51 if it fails in this call, and 60 if as many replies
+    /// are released as entries are covered, which no history of this desk reaches. A refusal counts no reply.
+    pub fn cover(&mut self, seat: &mut Seat<E, T>, pending: Pending<E>) -> Result<Reply, Refusal>
+        ensures reply { IfOk result (λ reply. IsReplyTo pending.command reply × StandsIn pending.seen pending reply) }
+        ensures stands { IfOk result (λ reply. StandsIn self.new.store.history pending reply) }
+        ensures covered { OnOk result (pending.place ≤ self.new.store.covered) }
+        ensures released { OnOk result ((seat.new.released ≡ seat.old.released + 1) × (self.new.released ≡ self.old.released + 1)) }
+        ensures unreleased { OnErr result ((seat.new.released ≡ seat.old.released) × (self.new.released ≡ self.old.released)) }
+        ensures same { (seat.new.entered ≡ seat.old.entered) × (seat.new.number ≡ seat.old.number) × (seat.new.seen ≡ seat.old.seen) }
+        ensures history { (self.new.store.history ≡ self.old.store.history) × (self.new.store.base ≡ self.old.store.base) }
+        ensures kept { self.new.lost ≡ self.old.lost }
+        ensures no_call { pending.place ≤ self.old.store.covered → self.new.store ≡ self.old.store }
+        ensures cause { IfErr result (λ e. (e ≡ failed_earlier) ⊎ (e ≡ device_failed) ⊎ (e ≡ unsettled)) }
+        ensures failed { IfErr result (λ e. e ≡ failed_earlier → self.old.store.failed ≡ true) }
+        ensures fault { IfErr result (λ e. e ≡ device_failed → D.fault_count self.new.store.disk ≡ D.fault_count self.old.store.disk + 1) }
+        ensures excess { IfErr result (λ e. e ≡ unsettled → IsKnown self.old pending → self.new.store.covered ≤ self.new.released) }
+    {
+        if let Err(refusal) = self.reach(pending.place()) {
+            pending.spend();
+            return Err(refusal);
+        }
+        self.tell(seat, pending)
+    }
+
+    /// Makes all entries durable, unless those up to a position are covered.
+    fn reach(&mut self, place: u64) -> Result<(), Refusal>
+        ensures covered { OnOk result (place ≤ length self.old.store.history → place ≤ self.new.store.covered) }
+        ensures same { self.new ≡ record self.old { store = self.new.store } }
+        ensures history { (self.new.store.history ≡ self.old.store.history) × (self.new.store.base ≡ self.old.store.base) }
+        ensures no_call { place ≤ self.old.store.covered → self.new.store ≡ self.old.store }
+        ensures failed { self.old.store.failed ≡ true → self.new.store ≡ self.old.store }
+        ensures cause { IfErr result (λ e. ((e ≡ failed_earlier) × (self.old.store.failed ≡ true))
+            ⊎ ((e ≡ device_failed) × (D.fault_count self.new.store.disk ≡ D.fault_count self.old.store.disk + 1))) }
+    {
+        if self.store.covered() < place {
+            self.store.commit()?;
+        }
+        Ok(())
+    }
+
+    /// Releases the reply of a pending command. It is refused with 60 if as many replies are released as entries are covered, if its entry
+    /// is not covered, or if the entry is not known to be in this history.
+    #[tactic(auto, using(crate::proofs::Prefixes::prefix_get))]
+    fn tell(&mut self, seat: &mut Seat<E, T>, pending: Pending<E>) -> Result<Reply, Refusal>
+        ensures reply { IfOk result (λ reply. IsReplyTo pending.command reply × StandsIn pending.seen pending reply) }
+        ensures stands { IfOk result (λ reply. StandsIn self.old.store.history pending reply) }
+        ensures covered { OnOk result (pending.place ≤ self.old.store.covered) }
+        ensures released { OnOk result ((seat.new ≡ record seat.old { released = seat.old.released + 1 })
+            × (self.new ≡ record self.old { released = self.old.released + 1; answered = self.old.answered + 1 })) }
+        ensures unreleased { OnErr result ((seat.new ≡ seat.old) × (self.new ≡ self.old)) }
+        ensures refused { IfErr result (λ e. e ≡ unsettled) }
+        ensures excess { OnErr result (IsKnown self.old pending → pending.place ≤ self.old.store.covered → self.old.store.covered ≤ self.old.released) }
+    {
+        let known = pending.shown && self.knows(&pending.prefix);
+        let excess = self.released >= self.store.covered();
+        let Pending {
+            seat: _,
+            command: _,
+            receipt: Receipt { reply, place },
+            prefix: _,
+            shown: _,
+        } = pending;
+        if !known || excess || self.store.covered() < place {
+            return Err(Refusal::Numbered(Code::Unsettled));
+        }
+        let LockedStore {
+            released,
+            replies,
+            ..
+        } = self;
+        seat.count_reply(replies);
+        *released += 1;
+        Ok(reply)
+    }
+
+    /// Whether a list is known to be a prefix of the history.
+    fn knows(&self, prefix: &HistoryPrefix<E>) -> bool
+        ensures known { result ≡ true → IsPrefix prefix.now self.now.store.history }
+        ensures unknown { result ≡ false → self.now.lost ≡ false → length self.now.store.history < length prefix.now }
+    {
+        !self.lost && prefix.begins(&self.prefix)
+    }
+}
+
+/// Appends the last entry of the history to the prefix that has all entries before it, and returns whether it did. If not, the history is
+/// lost.
+fn show<D: Disk, E: Named>(
+    lost: &mut bool,
+    prefix: &mut HistoryPrefix<E>,
+    head: &Head<E>,
+    store: &Store<D>,
+) -> bool
+    requires last { lost.old ≡ false → ((e : Entry) × (store.now.history ≡ prefix.old ++ e ∷ [])) }
+    requires few { lost.old ≡ false → length prefix.old < 2 ^ 62 }
+    ensures shown { result ≡ true → prefix.new ≡ store.now.history }
+    ensures lost { lost.new ≡ false → result ≡ true }
+    ensures given_up { result ≡ false → lost.new ≡ true }
+    ensures kept { result ≡ true → lost.new ≡ false }
+    ensures longer { result ≡ false → lost.old ≡ false → IsLonger prefix.old prefix.new }
+{
+    if *lost {
+        return false;
+    }
+    let shown = match store.entry(store.entries()) {
+        Some(entry) => prefix.add(head, entry),
+        None => false,
+    };
+    *lost = !shown;
+    shown
+}

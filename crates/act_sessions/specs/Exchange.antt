@@ -1,0 +1,62 @@
+-- What a session submits, and the answers it gets.
+use Rattle.std.specs.Prelude.{◌≡◌, ◌⊎◌, ℕ, Bool, false, ◌==◌, List, [], ◌∷◌, ◌++◌, map, Result, Ok, Err, ⊤, true}
+use Rattle.std.specs.List.{list_any}
+use Rattle.wf_value.specs.Gives.{no_memory}
+use Rattle.wf_value.specs.RefusalText.{refusal_number}
+use Rattle.wf_value.specs.declared.refusal.Refusal.{Refusal}
+use Rattle.run_plan.specs.declared.command.Command.{Command}
+use Rattle.run_plan.specs.declared.reply.Reply.{Reply}
+use Rattle.act_sessions.specs.declared.transcript.LoggedExchange.{LoggedExchange}
+use Rattle.act_sessions.specs.declared.transcript.Transcript.{Transcript}
+
+-- a reply, or why the command was refused
+abbrev pub Response : Type 0
+Response = Result Reply Refusal
+
+-- a command and its answer
+abbrev pub Exchange : Type 0
+Exchange = Command × Response
+
+-- One command was submitted: it is listed with its answer. A command answered out of memory may be missing.
+abbrev pub Asks : List Exchange → List Exchange → Command → Response → Type 0
+Asks old new c r = (new ≡ old ++ (c, r) ∷ []) ⊎ ((r ≡ Err no_memory) × (new ≡ old))
+
+-- These commands were submitted in order, each once, and are listed. The last one may be missing if it was answered out of memory.
+abbrev pub AreAsked : List Exchange → List Exchange → List Exchange → Type 0
+AreAsked old new exchanges =
+    (new ≡ old ++ exchanges)
+    ⊎ ((front : List Exchange) × (c : Command) × (exchanges ≡ front ++ (c, Err no_memory) ∷ []) × (new ≡ old ++ front))
+
+-- these answers do not say whether the command was entered
+abbrev pub open_numbers : List ℕ
+open_numbers = 50 ∷ 51 ∷ 52 ∷ 60 ∷ []
+
+abbrev pub leaves_open : Response → Bool
+leaves_open (Ok reply) = false
+leaves_open (Err refusal) = list_any (λ n. n == refusal_number refusal) open_numbers
+
+-- Each answer settles whether its command was entered.
+abbrev pub NoneOpen : List Exchange → Type 0
+NoneOpen [] = ⊤
+NoneOpen (t ∷ exchanges) = (leaves_open t.1 ≡ false) × NoneOpen exchanges
+
+-- Each answer but the last settles whether its command was entered.
+abbrev pub OnlyLastOpen : List Exchange → Type 0
+OnlyLastOpen [] = ⊤
+OnlyLastOpen (t ∷ []) = ⊤
+OnlyLastOpen (t ∷ u ∷ exchanges) = (leaves_open t.1 ≡ false) × OnlyLastOpen (u ∷ exchanges)
+
+-- The last answer, if there is one, settles whether its command was entered.
+abbrev pub IsShut : List LoggedExchange → Type 0
+IsShut asked = (asked ≡ []) ⊎ ((front : List LoggedExchange) × (last : LoggedExchange) × (asked ≡ front ++ last ∷ []) × (leaves_open last.answer ≡ false))
+
+-- There is a last answer, and it leaves it unknown whether its command was entered.
+abbrev pub IsLeftOpen : List LoggedExchange → Type 0
+IsLeftOpen asked = (front : List LoggedExchange) × (last : LoggedExchange) × (asked ≡ front ++ last ∷ []) × (leaves_open last.answer ≡ true)
+
+abbrev pub exchanges_in : List LoggedExchange → List Exchange
+exchanges_in asked = map (λ a. (a.command, a.answer)) asked
+
+-- the commands of a transcript, with their answers
+abbrev pub exchanges_by : Transcript → List Exchange
+exchanges_by t = exchanges_in t.asked.items

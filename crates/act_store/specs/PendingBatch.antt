@@ -1,0 +1,37 @@
+-- The entries that are pending until a commit, and the record that a commit writes of them.
+use Rattle.std.specs.Prelude.{◌≡◌, ℕ, ◌+◌, ◌-◌, List, [], ◌++◌, length, take, drop, flat_map, Option, Some, None}
+use Rattle.std.specs.Int.{to_be_bytes, w32}
+use Rattle.run_plan.specs.declared.command.Command.{Command}
+use Rattle.table_text.specs.Commands.{command_bytes}
+
+-- the number of pending commands, and their encodings in a row
+pub record BatchState : Type 0 where
+  pub count : ℕ
+  pub encoded : List ℕ
+
+abbrev pub batch_state_of : List Command → BatchState
+batch_state_of commands = record { count = length commands; encoded = flat_map command_bytes commands }
+
+-- with one more command
+abbrev pub with_command : BatchState → Command → BatchState
+with_command waits command = record { count = waits.count + 1; encoded = waits.encoded ++ command_bytes command }
+
+-- the body of the record: the count in four bytes, and the encodings
+abbrev pub body_of : BatchState → List ℕ
+body_of waits = to_be_bytes w32 waits.count ++ waits.encoded
+
+-- ---- the representation
+
+-- the bytes after the count in the body of a record, if there is one
+abbrev pub encoded_in : Option (List ℕ) → List ℕ
+encoded_in None = []
+encoded_in (Some body) = drop 4 body
+
+-- The record has this count in its body. If no command is pending there may be no record.
+abbrev pub IsRecordOf : ℕ → Option (List ℕ) → Type 0
+IsRecordOf count None = count ≡ 0
+IsRecordOf count (Some body) = body ≡ to_be_bytes w32 count ++ drop 4 body
+
+-- The bytes of a record between the first eight, its length and the count, and the last one, its gate.
+abbrev pub encoded_between : List ℕ → List ℕ
+encoded_between bytes = take (length bytes - 9) (drop 8 bytes)

@@ -1,0 +1,189 @@
+ghost use Rattle.std.specs.Prelude.{◌≡◌, ◌+◌, ◌<◌, ◌≤◌, ◌^◌, ◌==◌, List, [], ◌∷◌, ◌++◌, length, take, drop, slice_index, vec_len, IfErr};
+ghost use Rattle.std.specs.Prelude.{IfOk, IfSome, OnErr, OnOk, None};
+ghost use Rattle.std.specs.Int.{to_be_bytes, w32};
+ghost use Rattle.wf_value.specs.Gives.{no_memory};
+ghost use Rattle.gated_journal.specs.Appends.{record_of};
+ghost use Rattle.run_plan.specs.declared.command.Command.{Command};
+ghost use Rattle.table_text.specs.Commands.{IsEncoded, command_bytes};
+ghost use Rattle.act_store.specs.Plain.{batch_length};
+ghost use Rattle.act_store.specs.PendingBatch.{body_of, encoded_between, encoded_in, batch_state_of, with_command};
+
+use crate::lengths::{COUNT, GATE, LENGTH};
+use gated_journal::Record;
+use run_plan::Command;
+use std::alloc::{AllocError, Global};
+use std::marker::Model;
+use table_text::{command_length, write_command};
+use wf_value::Refusal;
+
+/// The offset of the command count in a record: after its length.
+const COUNT_AT: usize = LENGTH as usize;
+
+/// The length of a record without commands.
+const EMPTY: usize = (LENGTH + COUNT + GATE) as usize;
+
+/// The pending commands, encoded in their record, which grows in place.
+///
+/// Contracts see the number of commands and their encodings.
+#[derive(Drop)]
+pub struct PendingBatch {
+    /// The record. There is none before the first command. A record without commands keeps its capacity.
+    record: Option<Record>,
+    /// The number of commands in it.
+    count: u32,
+}
+
+impl Model for PendingBatch {
+    ghost use Rattle.act_store.specs.PendingBatch.{IsRecordOf, BatchState, encoded_in};
+
+    ghost Value = { BatchState };
+
+    ghost view = { λ w. record { count = w.count; encoded = encoded_in w.record } };
+
+    ghost invariant = { λ w. IsRecordOf w.count w.record };
+}
+
+impl PendingBatch {
+    /// No pending commands. Takes no memory.
+    pub(crate) fn new() -> PendingBatch
+        ensures { result ≡ batch_state_of [] }
+    {
+        PendingBatch {
+            record: None,
+            count: 0,
+        }
+    }
+
+    pub(crate) fn is_empty(&self) -> bool
+        ensures { result ≡ (self.now.count == 0) }
+    {
+        self.count == 0
+    }
+
+    /// The number of pending commands.
+    pub(crate) fn count(&self) -> u32
+        ensures { result ≡ self.now.count }
+    {
+        self.count
+    }
+
+    /// The length of their encodings in bytes.
+    pub(crate) fn encoded_len(&self) -> usize
+        ensures length { result ≡ length self.now.encoded }
+        ensures most { result < 2 ^ 32 }
+    {
+        match &self.record {
+            Some(record) => record.as_slice().len() - EMPTY,
+            None => 0,
+        }
+    }
+
+    /// The length of the batch of the commands with one more.
+    pub(crate) fn batch_length_with(&self, command: &Command) -> u64
+        ensures length { (commands : List Command) → self.now ≡ batch_state_of commands
+            → result ≡ batch_length (commands ++ command.now ∷ []) }
+        ensures most { result < 2 ^ 33 }
+    {
+        COUNT + self.encoded_len() as u64 + command_length(command)
+    }
+
+    /// The record of the commands, if any are pending.
+    pub(crate) fn as_slice(&self) -> &[u8]
+        ensures bytes { 0 < self.now.count → result.now ≡ record_of (body_of self.now) }
+        ensures short { 0 < self.now.count → length (body_of self.now) < 2 ^ 32 }
+    {
+        match &self.record {
+            Some(record) => record.as_slice(),
+            None => &[],
+        }
+    }
+
+    /// Adds a command. Running out of memory changes nothing.
+    pub(crate) fn add(&mut self, alloc: Global, command: &Command) -> Result<(), Refusal>
+        requires few { self.old.count + 1 < 2 ^ 32 }
+        requires fits { 4 + length self.old.encoded + length (command_bytes command.now) < 2 ^ 32 }
+        ensures added { OnOk result (self.new ≡ with_command self.old command.now) }
+        ensures encoded { OnOk result (IsEncoded command.now) }
+        ensures unchanged { OnErr result (self.new ≡ self.old) }
+        ensures refused { IfErr result (λ e. e ≡ no_memory) }
+    {
+        let mut bytes = bytes_of(alloc, self.record.take())?;
+        if let Err(refusal) = append(&mut bytes, command) {
+            self.record = Some(record_with(bytes, self.count));
+            return Err(refusal);
+        }
+        self.count += 1;
+        self.record = Some(record_with(bytes, self.count));
+        Ok(())
+    }
+
+    /// Drops all commands but the first `count`, whose encodings have `encoded` bytes. The memory is kept.
+    pub(crate) fn truncate(&mut self, count: u32, encoded: usize)
+        requires count_within { count ≤ self.old.count }
+        requires encoded_within { encoded ≤ length self.old.encoded }
+        ensures count { self.new.count ≡ count }
+        ensures encoded { self.new.encoded ≡ take encoded self.old.encoded }
+    {
+        let Some(record) = self.record.take() else {
+            return;
+        };
+        let mut bytes = record.into_bytes();
+        bytes.truncate(EMPTY + encoded);
+        self.record = Some(record_with(bytes, count));
+        self.count = count;
+    }
+}
+
+/// The bytes of a record, or of one without commands if there is none.
+fn bytes_of(alloc: Global, held: Option<Record>) -> Result<Vec<u8>, AllocError>
+    requires { IfSome held (λ body. 4 ≤ length body) }
+    ensures long { IfOk result (λ bytes. vec_len bytes ≡ 9 + length (encoded_in held)) }
+    ensures encoded { IfOk result (λ bytes. encoded_between bytes.items ≡ encoded_in held) }
+    ensures none { OnErr result (held ≡ None) }
+{
+    match held {
+        Some(record) => Ok(record.into_bytes()),
+        None => vec![in alloc; 0; EMPTY],
+    }
+}
+
+/// Appends the encoding of a command, and moves the last byte after it.
+fn append(bytes: &mut Vec<u8>, command: &Command) -> Result<(), Refusal>
+    requires { 9 ≤ vec_len bytes.old }
+    ensures long { OnOk result (vec_len bytes.new ≡ vec_len bytes.old + length (command_bytes command.now)) }
+    ensures appended { OnOk result (encoded_between bytes.new.items ≡ encoded_between bytes.old.items ++ command_bytes command.now) }
+    ensures encoded { OnOk result (IsEncoded command.now) }
+    ensures unchanged { OnErr result (bytes.new.items ≡ bytes.old.items) }
+    ensures refused { IfErr result (λ e. e ≡ no_memory) }
+{
+    let gate = bytes.len() - 1;
+    write_command(bytes, command)?;
+    move_to_end(bytes.as_mut_slice(), gate);
+    Ok(())
+}
+
+/// Moves a byte after those that follow it.
+fn move_to_end(bytes: &mut [u8], place: usize)
+    requires { place < length bytes.old }
+    ensures { bytes.new ≡ take place bytes.old ++ (drop (place + 1) bytes.old ++ slice_index bytes.old place ∷ []) }
+{
+    bytes[place..].rotate_left(1);
+}
+
+/// The record with this count whose encodings are the bytes between the first eight and the last one.
+fn record_with(bytes: Vec<u8>, count: u32) -> Record
+    requires long { 9 ≤ vec_len bytes }
+    requires short { vec_len bytes < 2 ^ 32 + 5 }
+    ensures { result ≡ to_be_bytes w32 count ++ encoded_between bytes.items }
+{
+    let mut bytes = bytes;
+    write_count(bytes.as_mut_slice(), count);
+    Record::of(bytes)
+}
+
+fn write_count(bytes: &mut [u8], count: u32)
+    requires { 8 ≤ length bytes.old }
+    ensures { bytes.new ≡ take 4 bytes.old ++ (to_be_bytes w32 count ++ drop 8 bytes.old) }
+{
+    bytes[COUNT_AT..COUNT_AT + COUNT as usize].copy_from_slice(&count.to_be_bytes());
+}

@@ -1,0 +1,14 @@
+pub mod Binding
+pub mod BoundSays
+pub mod Digits
+pub mod FirstOffering
+pub mod FlagsSaid
+pub mod GroupKeys
+pub mod GroupNumbers
+pub mod KeptLabels
+pub mod KnownSays
+pub mod LabelNumbers
+mod PlainLabels
+pub mod PlannedLegs
+pub mod ShortLabels
+pub mod Under

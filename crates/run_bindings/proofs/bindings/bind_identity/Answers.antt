@@ -1,0 +1,12 @@
+use Rattle.std.proofs.Common.{ap, sym, ◌∙◌, List}
+use Rattle.std.specs.Prelude.{length, slice_get}
+use Rattle.run_bindings.specs.declared.bindings.JobBindings.{JobBindings}
+use Rattle.run_bindings.proofs.bindings.bind_identity.Goals as goal
+
+pub returns-clause-says : goal.returns-clause-says
+returns-clause-says c = record {
+  own = c.in_ok-own.ensures.says;
+  as_many = ap length c.new.ensures ∙ c.in_ok-jobs.ensures.many;
+  jobs = λ j bindings at job planned.
+      c.in_ok-jobs.ensures.says j bindings (ap (λ (kept : List JobBindings). slice_get kept j) (sym c.new.ensures) ∙ at) job planned;
+}

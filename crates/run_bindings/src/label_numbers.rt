@@ -1,0 +1,165 @@
+//! The numbers of the lists of labels that the legs of a run ask for. A leg whose labels depend on the results of jobs has no number: its
+//! labels are known only once the results are.
+
+ghost use Rattle.std.specs.Prelude.{◌≡◌, ℕ, IfOk, IfSome, OnOk, Some, length, option_and_then, slice_get, true};
+ghost use Rattle.label_lists.specs.Lists.{HasPlace, OnlyGrows, may_offer};
+ghost use Rattle.wf_value.specs.Gives.{ErrsOnlyByMemory};
+ghost use Rattle.run_bindings.specs.LabelNumbers.{AreListsOf, IsListOf, OnlyPuts, kept_texts, list_number, number_in, texts_in};
+
+use crate::bindings::JobBindings;
+use crate::resolved_labels::ResolvedLabels;
+use label_lists::LabelLists;
+use std::alloc::Global;
+use wf_value::{Chars, Refusal, Sequence, TryCopy};
+
+/// The number of each leg's list, if the legs of the job may differ; otherwise `whole` is the number for all legs. The number is 0 if the
+/// list is not known, or if the run cannot be marked under the list's own number.
+#[derive(Drop)]
+pub struct ListNumbers {
+    pub whole: usize,
+    pub legs: Sequence<usize>,
+}
+
+/// The number of the list of leg `l` of the job.
+fn number_in(job: &ListNumbers, l: usize) -> usize
+    ensures { result ≡ number_in job.now l }
+{
+    match job.legs.as_slice().get(l) {
+        Some(number) => *number,
+        None => job.whole,
+    }
+}
+
+/// The number of the list of leg `l` of job `j`.
+pub fn list_number(numbers: &[ListNumbers], j: usize, l: usize) -> usize
+    ensures { result ≡ list_number numbers.now j l }
+{
+    match numbers.get(j) {
+        Some(job) => number_in(job, l),
+        None => 0,
+    }
+}
+
+// ---- entering
+
+/// Enters a list of labels that run `r` asks for, and returns the number under which the run is marked for it: that of the list, or 0.
+fn enter_list(
+    alloc: Global,
+    labels: &Sequence<Chars>,
+    lists: &mut LabelLists,
+    r: usize,
+) -> Result<usize, Refusal>
+    requires { HasPlace lists.old 0 r }
+    ensures err { ErrsOnlyByMemory result }
+    ensures grows { OnlyGrows lists.old lists.new }
+    ensures number { IfOk result (IsListOf lists.new r (Some labels.now)) }
+{
+    let labels = labels.copy(alloc)?;
+    lists.enter(alloc, labels, r)
+}
+
+/// Enters the list that all legs of a job ask for, if there is one. Otherwise returns 0.
+fn enter_plain(
+    alloc: Global,
+    plain: &Option<Sequence<Chars>>,
+    lists: &mut LabelLists,
+    r: usize,
+) -> Result<usize, Refusal>
+    requires { HasPlace lists.old 0 r }
+    ensures err { ErrsOnlyByMemory result }
+    ensures grows { OnlyGrows lists.old lists.new }
+    ensures number { IfOk result (IsListOf lists.new r plain.now) }
+{
+    match plain {
+        Some(labels) => enter_list(alloc, labels, lists, r),
+        None => Ok(0),
+    }
+}
+
+/// Enters the list of a leg if it is known. Otherwise returns 0.
+fn enter_kept(
+    alloc: Global,
+    wanted: &ResolvedLabels,
+    lists: &mut LabelLists,
+    r: usize,
+) -> Result<usize, Refusal>
+    requires { HasPlace lists.old 0 r }
+    ensures err { ErrsOnlyByMemory result }
+    ensures grows { OnlyGrows lists.old lists.new }
+    ensures number { IfOk result (IsListOf lists.new r (kept_texts wanted.now)) }
+{
+    match wanted {
+        ResolvedLabels::Known(labels) => enter_list(alloc, labels, lists, r),
+        ResolvedLabels::ByResults(_) => Ok(0),
+    }
+}
+
+fn enter_legs(
+    alloc: Global,
+    labels: &[ResolvedLabels],
+    lists: &mut LabelLists,
+    r: usize,
+) -> Result<Vec<usize>, Refusal>
+    requires { HasPlace lists.old 0 r }
+    ensures err { ErrsOnlyByMemory result }
+    ensures grows { OnlyGrows lists.old lists.new }
+    ensures many { IfOk result (λ legs. length legs.items ≡ length labels.now) }
+    ensures numbers { IfOk result (λ legs. (l n : ℕ) → slice_get legs.items l ≡ Some n
+        → IsListOf lists.new r (option_and_then kept_texts (slice_get labels.now l)) n) }
+{
+    let mut legs = Vec::with_capacity(alloc, labels.len())?;
+    for l in 0..labels.len() {
+        let number = enter_kept(alloc, &labels[l], lists, r)?;
+        legs.push(number)?;
+    }
+    Ok(legs)
+}
+
+fn enter_job(
+    alloc: Global,
+    job: &JobBindings,
+    lists: &mut LabelLists,
+    r: usize,
+) -> Result<ListNumbers, Refusal>
+    requires { HasPlace lists.old 0 r }
+    ensures err { ErrsOnlyByMemory result }
+    ensures grows { OnlyGrows lists.old lists.new }
+    ensures numbers { IfOk result (λ numbers. (l : ℕ) → IsListOf lists.new r (texts_in job.now l) (number_in numbers l)) }
+{
+    let whole = enter_plain(alloc, &job.plain, lists, r)?;
+    let legs = enter_legs(alloc, job.labels.as_slice(), lists, r)?;
+    Ok(ListNumbers {
+        whole,
+        legs: Sequence::new(legs),
+    })
+}
+
+/// Enters the lists that the legs of run `r` ask for, job by job. On an `Err` (50, out of memory) some may have been entered.
+pub(crate) fn enter_jobs(
+    alloc: Global,
+    jobs: &[JobBindings],
+    lists: &mut LabelLists,
+    r: usize,
+) -> Result<Vec<ListNumbers>, Refusal>
+    requires { HasPlace lists.old 0 r }
+    ensures err { ErrsOnlyByMemory result }
+    ensures grows { OnlyGrows lists.old lists.new }
+    ensures numbers { IfOk result (λ numbers. AreListsOf lists.new r jobs.now numbers.items) }
+{
+    let mut numbers = Vec::with_capacity(alloc, jobs.len())?;
+    for j in 0..jobs.len() {
+        let job = enter_job(alloc, &jobs[j], lists, r)?;
+        numbers.push(job)?;
+    }
+    Ok(numbers)
+}
+
+impl TryCopy for ListNumbers {
+    fn copy(&self, alloc: Global) -> Result<Self, Refusal> {
+        let legs = Vec::from_slice(alloc, self.legs.as_slice())?;
+        Ok(ListNumbers {
+            whole: self.whole,
+            legs: Sequence::new(legs),
+        })
+    }
+}

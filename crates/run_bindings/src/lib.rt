@@ -1,0 +1,25 @@
+//! What a run and its legs ask of concurrency groups and of runners: their contexts, and the templates bound in them when an attempt
+//! begins.
+#![tactic(auto)]
+
+mod bindings;
+mod flags;
+mod github_context;
+pub mod group_numbers;
+mod groups;
+pub mod label_numbers;
+mod leg_context;
+mod leg_needs;
+mod leg_view;
+pub mod named_group;
+mod plain_labels;
+pub mod resolved_labels;
+mod run_context;
+mod run_identity;
+
+pub use bindings::{JobBindings, RunBindings};
+pub use groups::{BoundFlag, GroupRequest};
+pub use label_numbers::ListNumbers;
+pub use leg_view::LegView;
+pub use resolved_labels::ResolvedLabels;
+pub use run_context::RunContext;

@@ -1,0 +1,7 @@
+use Rattle.std.proofs.Common.{◌≡◌, take}
+use Rattle.std.specs.Str.Parse.{digits_value}
+use Rattle.run_plan.proofs.decimal.value_of.Given as goal
+
+-- the value of the digits so far
+abbrev pub invariant-loop-b : goal.invariant-loop-b
+invariant-loop-b l = l.value ≡ digits_value 10 (take l.b-index l.digits)

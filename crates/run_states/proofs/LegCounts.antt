@@ -1,0 +1,269 @@
+-- The counts of a job's legs: what they say, and how a change of the legs changes them.
+use Rattle.std.specs.Prelude.{◌≡◌, ◌+◌, ◌&&◌, ◌||◌, ℕ, zero, suc, List, [], ◌∷◌, map, replicate, Bool, true, false}
+use Rattle.std.specs.Prelude.{Option, Some, None, nat_lt, not, if◌then◌else◌, cond, refl, is_some}
+use Rattle.std.specs.List.{list_all, list_any, enumerate_from}
+use Rattle.std.specs.Option.{option_or}
+use Rattle.std.proofs.Common.{arith, ap, sym, ◌∙◌}
+use Rattle.std.proofs.lemmas.Bool.{or_parts, true≢false}
+use Rattle.std.proofs.lemmas.Bool.Decides.{nat_tests}
+use Rattle.std.proofs.lemmas.List.Sums.{sum_by-cons}
+use Rattle.run_states.specs.ActiveRuns.{is_active_leg}
+use Rattle.run_states.specs.FirstOf.{first_some}
+use Rattle.run_states.specs.Fitting.{is_ready}
+use Rattle.run_states.specs.Groups.{leg_holds, leg_waits}
+use Rattle.run_states.specs.LegCounts.{AreCounted, is_moving_leg, legs_in, legs_of_room}
+use Rattle.run_states.specs.Parallel.{is_at_work}
+use Rattle.run_states.specs.Places.{leg_place}
+use Rattle.run_states.specs.RunState.{LegState, RunState}
+use Rattle.run_states.specs.StateWords.{is_new, leg_has_ended, new_leg, outcome_of}
+use Rattle.run_states.specs.Stops.{stopped, stopped_phase}
+use Rattle.run_states.specs.WithinRun.{first_of_legs, goes_on, goes_on_in}
+use Rattle.run_states.specs.declared.leg_counts.LegCounts.{LegCounts}
+use Rattle.run_states.specs.declared.phases.LegPhase.{LegPhase}
+use Rattle.run_states.specs.declared.phases.LegPhase.TheVariants as leg
+use Rattle.run_states.specs.declared.place.RuleSite.{RuleSite}
+use Rattle.run_states.specs.declared.place.RuleSite.TheVariants.{AtLeg}
+
+-- ---- whether there is a leg, by the count
+
+-- what one leg adds to the count
+abbrev counted_one : Bool → ℕ
+counted_one b = cond b 1 0
+
+counted_cons : (test : LegPhase → Bool) (l : LegState) (legs : List LegState)
+    → legs_in test (l ∷ legs) ≡ counted_one (test l.phase) + legs_in test legs
+counted_cons test l legs = sum_by-cons (λ (z : LegState). counted_one (test z.phase)) l legs
+
+some_counted : (b : Bool) (n : ℕ) → nat_lt 0 (counted_one b + n) ≡ (b || nat_lt 0 n)
+some_counted true n = let some : nat_lt 0 (1 + n) ≡ true = grind (arith, nat_tests) in some
+some_counted false n = let none : 0 + n ≡ n = omega arith in ap (nat_lt 0) none
+
+pub any_counted : (test : LegPhase → Bool) (legs : List LegState) → nat_lt 0 (legs_in test legs) ≡ list_any (λ l. test l.phase) legs
+any_counted test [] = refl
+any_counted test (l ∷ legs) =
+    ap (nat_lt 0) (counted_cons test l legs) ∙ some_counted (test l.phase) (legs_in test legs)
+    ∙ ap (λ b. test l.phase || b) (any_counted test legs)
+
+four_ways : (a b c d : Bool) → ((a || b) || (c || d)) ≡ ((a || c) || (b || d))
+four_ways true b c d = refl
+four_ways false true true d = refl
+four_ways false true false d = refl
+four_ways false false c d = refl
+
+pub any_either : {X : Type 0} (p q : X → Bool) (xs : List X) → (list_any p xs || list_any q xs) ≡ list_any (λ x. p x || q x) xs
+any_either p q [] = refl
+any_either p q (x ∷ xs) =
+    four_ways (p x) (list_any p xs) (q x) (list_any q xs) ∙ ap (λ b. (p x || q x) || b) (any_either p q xs)
+
+any_same : {X : Type 0} (p q : X → Bool) (xs : List X) → ((x : X) → p x ≡ q x) → list_any p xs ≡ list_any q xs
+any_same p q [] same = refl
+any_same p q (x ∷ xs) same = ap (λ b. b || list_any p xs) (same x) ∙ ap (λ b. q x || b) (any_same p q xs same)
+
+-- a leg that holds its group is ready or has a runner at work
+holds_either : (phase : LegPhase) → (is_ready phase || is_at_work phase) ≡ leg_holds phase
+holds_either leg.New = refl
+holds_either leg.Waiting = refl
+holds_either leg.Ready = refl
+holds_either leg.Running = refl
+holds_either leg.Stopping = refl
+holds_either (leg.Ended o) = refl
+
+pub any_holds : (legs : List LegState) → (list_any (λ l. is_ready l.phase) legs || list_any (λ l. is_at_work l.phase) legs)
+    ≡ list_any (λ l. leg_holds l.phase) legs
+any_holds legs =
+    any_either (λ l. is_ready l.phase) (λ l. is_at_work l.phase) legs
+    ∙ any_same (λ l. is_ready l.phase || is_at_work l.phase) (λ l. leg_holds l.phase) legs (λ l. holds_either l.phase)
+
+pub any_active : (legs : List LegState) → (list_any (λ l. leg_waits l.phase) legs || list_any (λ l. leg_holds l.phase) legs)
+    ≡ list_any is_active_leg legs
+any_active legs = any_either (λ l. leg_waits l.phase) (λ l. leg_holds l.phase) legs
+
+pub any_moving : (legs : List LegState) → (list_any (λ l. is_new l.phase) legs || list_any (λ l. leg_waits l.phase) legs)
+    ≡ list_any is_moving_leg legs
+any_moving legs = any_either (λ l. is_new l.phase) (λ l. leg_waits l.phase) legs
+
+-- a leg that has ended is neither new nor active
+ended_neither : (phase : LegPhase) (e : LegState) → e.phase ≡ phase
+    → (not (is_new phase) && not (leg_waits phase || leg_holds phase)) ≡ leg_has_ended e
+ended_neither leg.New e is = ap (λ p. is_some (outcome_of p)) (sym is)
+ended_neither leg.Waiting e is = ap (λ p. is_some (outcome_of p)) (sym is)
+ended_neither leg.Ready e is = ap (λ p. is_some (outcome_of p)) (sym is)
+ended_neither leg.Running e is = ap (λ p. is_some (outcome_of p)) (sym is)
+ended_neither leg.Stopping e is = ap (λ p. is_some (outcome_of p)) (sym is)
+ended_neither (leg.Ended o) e is = ap (λ p. is_some (outcome_of p)) (sym is)
+
+not_either : (a b : Bool) → not (a || b) ≡ (not a && not b)
+not_either true b = refl
+not_either false b = refl
+
+neither : (a b c d : Bool) → (not (a || b) && not (c || d)) ≡ ((not a && not c) && (not b && not d))
+neither true b c d = refl
+neither false true true d = refl
+neither false false true d = refl
+neither false b false d = refl
+
+pub all_ended : (legs : List LegState)
+    → (not (list_any (λ l. is_new l.phase) legs) && not (list_any is_active_leg legs)) ≡ list_all leg_has_ended legs
+all_ended [] = refl
+all_ended (l ∷ legs) =
+    neither (is_new l.phase) (list_any (λ z. is_new z.phase) legs) (is_active_leg l) (list_any is_active_leg legs)
+    ∙ ap (λ b. b && (not (list_any (λ z. is_new z.phase) legs) && not (list_any is_active_leg legs))) (ended_neither l.phase l refl)
+    ∙ ap (λ b. leg_has_ended l && b) (all_ended legs)
+
+-- ---- what the counts say
+
+module _ (legs : List LegState) (counts : LegCounts) (are : AreCounted legs counts) where
+  pub ready_counted : nat_lt 0 counts.ready ≡ list_any (λ l. is_ready l.phase) legs
+  ready_counted = ap (nat_lt 0) are.ready ∙ any_counted is_ready legs
+
+  pub waiting_counted : nat_lt 0 counts.waiting ≡ list_any (λ l. leg_waits l.phase) legs
+  waiting_counted = ap (nat_lt 0) are.waiting ∙ any_counted leg_waits legs
+
+  new_counted : nat_lt 0 counts.newcomers ≡ list_any (λ l. is_new l.phase) legs
+  new_counted = ap (nat_lt 0) are.newcomers ∙ any_counted is_new legs
+
+  pub holding_counted : (nat_lt 0 counts.ready || nat_lt 0 counts.at_work) ≡ list_any (λ l. leg_holds l.phase) legs
+  holding_counted =
+      ap (λ b. b || nat_lt 0 counts.at_work) ready_counted
+      ∙ ap (λ b. list_any (λ l. is_ready l.phase) legs || b) (ap (nat_lt 0) are.at_work ∙ any_counted is_at_work legs)
+      ∙ any_holds legs
+
+  pub active_counted : (nat_lt 0 counts.waiting || (nat_lt 0 counts.ready || nat_lt 0 counts.at_work)) ≡ list_any is_active_leg legs
+  active_counted =
+      ap (λ b. b || (nat_lt 0 counts.ready || nat_lt 0 counts.at_work)) waiting_counted
+      ∙ ap (λ b. list_any (λ l. leg_waits l.phase) legs || b) holding_counted ∙ any_active legs
+
+  pub moving_counted : (nat_lt 0 counts.newcomers || nat_lt 0 counts.waiting) ≡ list_any is_moving_leg legs
+  moving_counted =
+      ap (λ b. b || nat_lt 0 counts.waiting) new_counted
+      ∙ ap (λ b. list_any (λ l. is_new l.phase) legs || b) waiting_counted ∙ any_moving legs
+
+  pub ended_counted :
+      not (nat_lt 0 counts.newcomers || (nat_lt 0 counts.waiting || (nat_lt 0 counts.ready || nat_lt 0 counts.at_work)))
+      ≡ list_all leg_has_ended legs
+  ended_counted =
+      ap (λ b. not (b || (nat_lt 0 counts.waiting || (nat_lt 0 counts.ready || nat_lt 0 counts.at_work)))) new_counted
+      ∙ ap (λ b. not (list_any (λ l. is_new l.phase) legs || b)) active_counted
+      ∙ not_either (list_any (λ l. is_new l.phase) legs) (list_any is_active_leg legs) ∙ all_ended legs
+
+-- ---- after a change
+
+counted_new : (test : LegPhase → Bool) (n : ℕ) → legs_in test (replicate n new_leg) ≡ (if test leg.New then n else 0)
+counted_new test zero =
+    elim (test leg.New) as (λ b. ◌≡◌ {A = ℕ} 0 (if b then 0 else 0)) [
+      | true ↦ refl
+      | false ↦ refl
+    ]
+counted_new test (suc n) =
+    counted_cons test new_leg (replicate n new_leg)
+    ∙ ap (λ m. counted_one (test leg.New) + m) (counted_new test n)
+    ∙ elim (test leg.New) as (λ b. counted_one b + (if b then n else 0) ≡ (if b then suc n else 0)) [
+      | true ↦ omega arith
+      | false ↦ omega arith
+    ]
+
+pub all_new_counted : (n : ℕ) (counts : LegCounts) → counts.newcomers ≡ n → counts.waiting ≡ 0 → counts.ready ≡ 0 → counts.at_work ≡ 0
+    → AreCounted (replicate n new_leg) counts
+all_new_counted n counts newcomers waiting ready at_work = record {
+  newcomers = newcomers ∙ sym (counted_new is_new n);
+  waiting = waiting ∙ sym (counted_new leg_waits n);
+  ready = ready ∙ sym (counted_new is_ready n);
+  at_work = at_work ∙ sym (counted_new is_at_work n);
+}
+
+-- all legs are stopped
+stopped_not : (test : LegPhase → Bool) → ((phase : LegPhase) → test (stopped_phase phase) ≡ false) → (legs : List LegState)
+    → legs_in test (map stopped legs) ≡ 0
+stopped_not test none [] = refl
+stopped_not test none (l ∷ legs) =
+    let all : legs_in test (map stopped (l ∷ legs)) ≡ counted_one (test (stopped_phase l.phase)) + legs_in test (map stopped legs) =
+    counted_cons test (stopped l) (map stopped legs) in
+    let first : counted_one (test (stopped_phase l.phase)) ≡ 0 = ap (λ b. counted_one b) (none l.phase) in
+    let rest = stopped_not test none legs in
+    omega (arith, all, first, rest)
+
+stopped_same : (test : LegPhase → Bool) → ((phase : LegPhase) → test (stopped_phase phase) ≡ test phase) → (legs : List LegState)
+    → legs_in test (map stopped legs) ≡ legs_in test legs
+stopped_same test same [] = refl
+stopped_same test same (l ∷ legs) =
+    let all : legs_in test (map stopped (l ∷ legs)) ≡ counted_one (test (stopped_phase l.phase)) + legs_in test (map stopped legs) =
+    counted_cons test (stopped l) (map stopped legs) in
+    let first : counted_one (test (stopped_phase l.phase)) ≡ counted_one (test l.phase) = ap (λ b. counted_one b) (same l.phase) in
+    let before = counted_cons test l legs in
+    let rest = stopped_same test same legs in
+    omega (arith, all, first, before, rest)
+
+new_not : (phase : LegPhase) → is_new (stopped_phase phase) ≡ false
+new_not leg.New = refl
+new_not leg.Waiting = refl
+new_not leg.Ready = refl
+new_not leg.Running = refl
+new_not leg.Stopping = refl
+new_not (leg.Ended o) = refl
+
+waits_not : (phase : LegPhase) → leg_waits (stopped_phase phase) ≡ false
+waits_not leg.New = refl
+waits_not leg.Waiting = refl
+waits_not leg.Ready = refl
+waits_not leg.Running = refl
+waits_not leg.Stopping = refl
+waits_not (leg.Ended o) = refl
+
+ready_not : (phase : LegPhase) → is_ready (stopped_phase phase) ≡ false
+ready_not leg.New = refl
+ready_not leg.Waiting = refl
+ready_not leg.Ready = refl
+ready_not leg.Running = refl
+ready_not leg.Stopping = refl
+ready_not (leg.Ended o) = refl
+
+work_same : (phase : LegPhase) → is_at_work (stopped_phase phase) ≡ is_at_work phase
+work_same leg.New = refl
+work_same leg.Waiting = refl
+work_same leg.Ready = refl
+work_same leg.Running = refl
+work_same leg.Stopping = refl
+work_same (leg.Ended o) = refl
+
+pub stopped_counted : (has_legs : Bool) (room : List LegState) (before after : LegCounts) → after.newcomers ≡ 0 → after.waiting ≡ 0
+    → after.ready ≡ 0 → after.at_work ≡ before.at_work → AreCounted (legs_of_room has_legs room) before
+    → AreCounted (legs_of_room has_legs (map stopped room)) after
+stopped_counted true room before after newcomers waiting ready at_work are = record {
+  newcomers = newcomers ∙ sym (stopped_not is_new new_not room);
+  waiting = waiting ∙ sym (stopped_not leg_waits waits_not room);
+  ready = ready ∙ sym (stopped_not is_ready ready_not room);
+  at_work = at_work ∙ are.at_work ∙ sym (stopped_same is_at_work work_same room);
+}
+stopped_counted false room before after newcomers waiting ready at_work are = record {
+  newcomers = newcomers;
+  waiting = waiting;
+  ready = ready;
+  at_work = at_work ∙ are.at_work;
+}
+
+-- ---- if no leg is new or waits, no rule applies to any
+
+module _ (runs : List RunState) (r j : ℕ) where
+  no_rule : (phase : LegPhase) (n : ℕ) (l : LegState) → l.phase ≡ phase → is_new phase ≡ false → leg_waits phase ≡ false
+      → goes_on runs (leg_place r j n) l ≡ false
+  no_rule leg.New n l is new waits = absurd (true≢false new)
+  no_rule leg.Waiting n l is new waits = absurd (true≢false waits)
+  no_rule leg.Ready n l is new waits = ap (λ p. goes_on_in p runs (leg_place r j n)) is
+  no_rule leg.Running n l is new waits = ap (λ p. goes_on_in p runs (leg_place r j n)) is
+  no_rule leg.Stopping n l is new waits = ap (λ p. goes_on_in p runs (leg_place r j n)) is
+  no_rule (leg.Ended o) n l is new waits = ap (λ p. goes_on_in p runs (leg_place r j n)) is
+
+  abbrev of_leg : ℕ × LegState → Option RuleSite
+  of_leg l = if goes_on runs (leg_place r j l.0) l.1 then Some (AtLeg (leg_place r j l.0)) else None
+
+  none_from : (n : ℕ) (legs : List LegState) → list_any is_moving_leg legs ≡ false → first_some of_leg (enumerate_from n legs) ≡ None
+  none_from n [] none = refl
+  none_from n (l ∷ legs) none =
+      let parts = or_parts (is_moving_leg l) (list_any is_moving_leg legs) none in
+      let leg = or_parts (is_new l.phase) (leg_waits l.phase) parts.0 in
+      ap (λ b. option_or (if b then Some (AtLeg (leg_place r j n)) else None) (first_some of_leg (enumerate_from (n + 1) legs)))
+      (no_rule l.phase n l refl leg.0 leg.1)
+      ∙ none_from (n + 1) legs parts.1
+
+  pub no_leg_moves : (legs : List LegState) → list_any is_moving_leg legs ≡ false → None ≡ first_of_legs runs r j legs
+  no_leg_moves legs none = sym (none_from 0 legs none)

@@ -1,0 +1,22 @@
+pub mod AnyOf
+pub mod Changed
+pub mod DirectNeeds
+pub mod Doors
+pub mod Found
+pub mod JobKeeps
+pub mod JobPhases
+pub mod LeaseReads
+pub mod LegCounts
+pub mod LegFacts
+pub mod LegReads
+pub mod NamedOnce
+mod NeedsLeft
+pub mod NeedsSettled
+pub mod OneAfterAnother
+pub mod Optional
+pub mod RoomsRead
+pub mod RunFits
+pub mod Settles
+pub mod StopKeeps
+pub mod StoppedRuns
+pub mod Transitions

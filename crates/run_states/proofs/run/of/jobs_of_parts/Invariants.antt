@@ -1,0 +1,10 @@
+use Rattle.std.proofs.Common.{◌≡◌, take}
+use Rattle.run_states.specs.AsPlanned.{HasItsRoom}
+use Rattle.run_states.specs.Cells.{legs_planned, rooms, states}
+use Rattle.run_states.proofs.OneAfterAnother.{SoFar}
+use Rattle.run_states.proofs.run.of.jobs_of_parts.Given as goal
+
+-- the jobs so far, each with its room
+abbrev pub invariant-loop-j : goal.invariant-loop-j
+invariant-loop-j l =
+    (states l.jobs.items ≡ take l.j l.parts) × (rooms l.jobs.items ≡ take l.j (legs_planned l.plan)) × SoFar (HasItsRoom l.plan) l.parts l.j

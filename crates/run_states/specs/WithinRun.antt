@@ -1,0 +1,95 @@
+-- The first place where a rule applies, and the first leg that a search finds, run by run and job by job. Whether a rule applies depends on
+-- other runs only for a waiting run and for a waiting leg, which need a group without a running holder. A leg's labels depend on the events
+-- of other runs, and on nothing else of theirs.
+use Rattle.std.specs.Prelude.{ℕ, ◌&&◌, List, Bool, true, false, Option, Some, None, if◌then◌else◌}
+use Rattle.std.specs.List.{list_all}
+use Rattle.std.specs.Option.{option_or, option_map_or}
+use Rattle.needs_graph.specs.Results.{fails_job}
+use Rattle.run_states.specs.FirstOf.{placed, first_some}
+use Rattle.run_states.specs.Fitting.{is_ready, is_served, has_lease}
+use Rattle.run_states.specs.Groups.{may_start}
+use Rattle.run_states.specs.Parallel.{has_room}
+use Rattle.run_states.specs.PlacedLegs.{PlacedLeg, placed_legs_of_run}
+pub use Rattle.run_states.specs.Places.{leg_place}
+pub use Rattle.run_states.specs.declared.place.LegPlace.{LegPlace}
+use Rattle.run_states.specs.Rules.{leg_end}
+pub use Rattle.run_states.specs.RunConditions.{condition_in, may_run_in, needs_settled_in}
+use Rattle.run_states.specs.RunState.{LegState, JobState, RunState}
+use Rattle.run_states.specs.StateWords.{is_live, is_blocked, is_done, is_settled}
+use Rattle.run_states.specs.declared.phases.LegPhase.{LegPhase}
+use Rattle.run_states.specs.declared.phases.LegPhase.TheVariants as leg
+use Rattle.run_states.specs.declared.phases.RunPhase.{RunPhase}
+use Rattle.run_states.specs.declared.phases.RunPhase.TheVariants as run
+use Rattle.run_states.specs.declared.place.RuleSite.{RuleSite}
+use Rattle.run_states.specs.declared.place.RuleSite.TheVariants.{Opening, AtLeg, Closing, Whole}
+use Rattle.run_states.specs.declared.holder.Holder.TheVariants.{Run, Leg}
+
+-- ---- the first place where a rule applies
+
+-- whether a rule applies to the leg there
+abbrev pub goes_on_in : LegPhase → List RunState → LegPlace → Bool
+goes_on_in leg.New runs p = true
+goes_on_in leg.Waiting runs p = may_start runs (Leg p)
+goes_on_in _ runs p = false
+
+abbrev pub goes_on : List RunState → LegPlace → LegState → Bool
+goes_on runs p l = goes_on_in l.phase runs p
+
+abbrev pub first_of_legs : List RunState → ℕ → ℕ → List LegState → Option RuleSite
+first_of_legs runs r j legs =
+    first_some (λ l. if goes_on runs (leg_place r j l.0) l.1 then Some (AtLeg (leg_place r j l.0)) else None) (placed legs)
+
+-- in a job that does not open: its first leg to which a rule applies, or else where it finishes
+abbrev pub first_of_open : List RunState → ℕ → ℕ → JobState → Option RuleSite
+first_of_open runs r j job = option_or (first_of_legs runs r j job.legs) (if is_done job then Some (Closing r j) else None)
+
+abbrev pub first_in_job : List RunState → ℕ → RunState → ℕ → JobState → Option RuleSite
+first_in_job runs r run j job =
+    if is_blocked job.phase && needs_settled_in run j then Some (Opening r j) else first_of_open runs r j job
+
+abbrev pub first_in_jobs : List RunState → ℕ → RunState → List JobState → Option RuleSite
+first_in_jobs runs r run jobs = first_some (λ j. first_in_job runs r run j.0 j.1) (placed jobs)
+
+-- whether a rule applies to the run itself
+abbrev pub whole_goes_on_in : RunPhase → List RunState → ℕ → RunState → Bool
+whole_goes_on_in run.Waiting runs r x = may_start runs (Run r)
+whole_goes_on_in run.Live runs r x = list_all is_settled x.jobs
+whole_goes_on_in run.Ended runs r x = false
+
+abbrev pub first_of_whole : List RunState → ℕ → RunState → Option RuleSite
+first_of_whole runs r x = if whole_goes_on_in x.phase runs r x then Some (Whole r) else None
+
+abbrev pub first_in_run : List RunState → ℕ → RunState → Option RuleSite
+first_in_run runs r x = option_or (if is_live x.phase then first_in_jobs runs r x x.jobs else None) (first_of_whole runs r x)
+
+-- ---- the first leg that fits
+
+-- the first ready leg that the runner can serve
+abbrev pub served_in_job : List (List ℕ) → List RunState → ℕ → ℕ → JobState → Option LegPlace
+served_in_job labels runs r j job =
+    first_some (λ l. if is_ready l.1.phase && is_served labels runs (leg_place r j l.0) then Some (leg_place r j l.0) else None)
+    (placed job.legs)
+
+abbrev pub fit_in_job : List (List ℕ) → List RunState → ℕ → ℕ → JobState → Option LegPlace
+fit_in_job labels runs r j job = if has_room runs r j job then served_in_job labels runs r j job else None
+
+abbrev pub fit_in_jobs : List (List ℕ) → List RunState → ℕ → List JobState → Option LegPlace
+fit_in_jobs labels runs r jobs = first_some (λ j. fit_in_job labels runs r j.0 j.1) (placed jobs)
+
+abbrev pub fit_in_run : List (List ℕ) → List RunState → ℕ → RunState → Option LegPlace
+fit_in_run labels runs r run = fit_in_jobs labels runs r run.jobs
+
+-- ---- the first leg that fails its job
+
+-- the index of the leg, if it fails its job
+abbrev pub failing : List RunState → ℕ → ℕ → ℕ × LegState → Option ℕ
+failing runs r j l = if option_map_or fails_job (leg_end runs r j l) false then Some l.0 else None
+
+-- ---- the leg with a lease
+
+-- the place of the first of these legs that has the lease
+abbrev pub first_leased : ℕ → List PlacedLeg → Option LegPlace
+first_leased lease legs = first_some (λ x. if has_lease lease x.leg then Some x.place else None) legs
+
+abbrev pub lease_in_run : ℕ → ℕ → RunState → Option LegPlace
+lease_in_run lease r run = first_leased lease (placed_legs_of_run (r, run))

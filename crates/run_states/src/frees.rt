@@ -1,0 +1,32 @@
+//! Which holders a change of a run may release.
+
+ghost use Rattle.std.specs.Prelude.{◌≡◌, if◌then◌else◌};
+ghost use Rattle.run_states.specs.declared.frees.Frees.TheVariants.{Any as AnyInWords, Nobody as NobodyInWords, One as OneInWords};
+
+use crate::holder::Holder;
+
+/// Which holders a change of a run may release from their concurrency groups: none, a given one, or any.
+#[derive(Clone, Copy)]
+pub enum Frees {
+    Nobody,
+    One(Holder),
+    Any,
+}
+
+impl Frees {
+    pub fn one_if(lets_go: bool, holder: Holder) -> Self
+        ensures { result ≡ (if lets_go then OneInWords holder else NobodyInWords) }
+    {
+        if lets_go {
+            Frees::One(holder)
+        } else {
+            Frees::Nobody
+        }
+    }
+
+    pub fn any_if(lets_go: bool) -> Self
+        ensures { result ≡ (if lets_go then AnyInWords else NobodyInWords) }
+    {
+        if lets_go { Frees::Any } else { Frees::Nobody }
+    }
+}

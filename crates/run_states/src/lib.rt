@@ -1,0 +1,24 @@
+//! A run, its jobs and their legs: their phases, the effect of each change, and the parts in which they are stored.
+#![tactic(auto)]
+
+mod change;
+pub mod direct_needs;
+mod frees;
+mod holder;
+mod job;
+mod leg;
+pub mod leg_counts;
+mod phases;
+mod place;
+mod run;
+mod run_parts;
+
+pub use change::Change;
+pub use frees::Frees;
+pub use holder::{Holder, HolderFilter};
+pub use job::Job;
+pub use leg::Leg;
+pub use phases::{JobPhase, LegPhase, RunPhase};
+pub use place::{JobPlace, LegPlace, RuleSite};
+pub use run::Run;
+pub use run_parts::{JobParts, RunParts};

@@ -1,0 +1,38 @@
+ghost use Rattle.std.specs.Prelude.{◌≡◌};
+
+/// The place of a leg: the index of its run in the table, of its job in the run and of the leg in the job, each from 0.
+#[derive(Clone, Copy)]
+pub struct LegPlace {
+    pub run: usize,
+    pub job: usize,
+    pub leg: usize,
+}
+
+impl LegPlace {
+    ghost use Rattle.run_states.specs.Places.{leg_place};
+
+    pub fn new(run: usize, job: usize, leg: usize) -> Self
+        ensures { result ≡ leg_place run job leg }
+    {
+        LegPlace { run, job, leg }
+    }
+}
+
+/// The place of a job: the index of its run in the table and of the job in the run, each from 0.
+#[derive(Clone, Copy)]
+pub struct JobPlace {
+    pub run: usize,
+    pub job: usize,
+}
+
+/// Where settling looks for a rule.
+#[derive(Clone, Copy)]
+pub enum RuleSite {
+    /// Where a job opens: the indices of its run and of the job.
+    Opening(usize, usize),
+    AtLeg(LegPlace),
+    /// Where a job finishes with its result: the indices of its run and of the job.
+    Closing(usize, usize),
+    /// The run itself.
+    Whole(usize),
+}

@@ -1,0 +1,469 @@
+ghost use Rattle.std.specs.Prelude.{◌≡◌, ◌&&◌, ◌<◌, None, Ok, is_some, length, map, not, option_map, slice_get, true};
+ghost use Rattle.std.specs.List.{list_any, slice_index_or};
+ghost use Rattle.wf_value.specs.Gives.{Gives};
+ghost use Rattle.run_plan.specs.PlanOf.{plan_of};
+ghost use Rattle.run_states.specs.ActiveRuns.{has_active_leg, has_ready_leg, has_waiting_leg, is_active, offers_legs, someone_waits};
+ghost use Rattle.run_states.specs.Cells.{blocked_cells, legs_planned, rooms, states};
+ghost use Rattle.run_states.specs.Changes.{changed};
+ghost use Rattle.run_states.specs.FirstOf.{changed_at};
+ghost use Rattle.run_states.specs.HoldingLegs.{has_legs_at, has_legs_behind, holds_by_a_leg, holds_by_a_leg_of, job_asks};
+ghost use Rattle.run_states.specs.JobResults.{results_so_far};
+ghost use Rattle.run_states.specs.Resuming.{job_again};
+ghost use Rattle.run_states.specs.NewRun.{again, is_delivered_as, new_run, run_in_attempt};
+ghost use Rattle.run_states.specs.Rules.{opened, settled_as, run_in_phase};
+ghost use Rattle.run_states.specs.Settling.{legs_in_plan};
+ghost use Rattle.run_states.specs.Stops.{cancelled, is_open_at, stopped_run, told_to_stop, with_job_stopped};
+ghost use Rattle.run_states.specs.Stops.{with_jobs_stopped, with_stopped_legs};
+ghost use Rattle.run_states.specs.WithinRun.{condition_in, may_run_in, needs_settled_in};
+
+mod needs;
+mod of;
+
+use crate::change::Change;
+use crate::job::Job;
+use crate::leg::Leg;
+use crate::phases::RunPhase;
+use crate::run::needs::{count_needs, settle_among};
+use run_plan::{DeliveryId, Number, PlannedJob, Prepared};
+use std::alloc::Global;
+use std::marker::Model;
+use wf_value::{Condition, JobResult, Refusal, TryCopy, copy_items};
+
+/// A run: what was admitted, and the state of its present attempt.
+#[derive(Drop)]
+pub struct Run {
+    prepared: Prepared,
+    attempt: Number,
+    phase: RunPhase,
+    /// Whether the run has been asked to stop.
+    stopping: bool,
+    jobs: Vec<Job>,
+}
+
+impl Model for Run {
+    ghost use Rattle.run_plan.specs.PlanOf.{plan_of};
+    ghost use Rattle.run_states.specs.Cells.{states};
+    ghost use Rattle.run_states.specs.NeedsLeft.{ArePlanned};
+    ghost use Rattle.run_states.specs.RunState.{RunState};
+
+    ghost Value = { RunState };
+
+    ghost view = { λ r. record { admitted = r.prepared; attempt = r.attempt; phase = r.phase; stopping = r.stopping; jobs = states r.jobs.items } };
+
+    ghost invariant = { λ r. ArePlanned (plan_of r.prepared.body) r.jobs.items };
+}
+
+impl Run {
+    /// A waiting run in its first attempt, with all its jobs blocked.
+    pub fn of_event(alloc: Global, prepared: &Prepared) -> Result<Self, Refusal>
+        ensures { Gives (λ r. r) result (Ok (new_run prepared.now)) }
+    {
+        Run::in_attempt(alloc, prepared, Number::new(1))
+    }
+
+    /// The next attempt of the run: waiting, with all its jobs blocked.
+    pub fn again(&self, alloc: Global) -> Result<Self, Refusal>
+        requires { self.now.attempt < 1000 }
+        ensures { Gives (λ r. r) result (Ok (again self.now)) }
+    {
+        let next = Number::new(self.attempt.get() + 1);
+        Run::in_attempt(alloc, &self.prepared, next)
+    }
+
+    /// A waiting run in this attempt, with all its jobs blocked.
+    fn in_attempt(alloc: Global, prepared: &Prepared, attempt: Number) -> Result<Self, Refusal>
+        ensures { Gives (λ r. r) result (Ok (run_in_attempt attempt prepared.now)) }
+    {
+        let plan = prepared.plan();
+        let mut jobs = blocked_jobs(alloc, plan.as_slice())?;
+        count_needs(&mut jobs, plan.graph());
+        Ok(Run {
+            prepared: prepared.share()?,
+            attempt,
+            phase: RunPhase::Waiting,
+            stopping: false,
+            jobs,
+        })
+    }
+
+    pub fn prepared(&self) -> &Prepared
+        ensures { result.now ≡ self.now.admitted }
+    {
+        &self.prepared
+    }
+
+    pub fn attempt(&self) -> Number
+        ensures { result ≡ self.now.attempt }
+    {
+        self.attempt
+    }
+
+    pub fn is_delivered_as(&self, delivery: &DeliveryId) -> bool
+        ensures { result ≡ is_delivered_as delivery.now self.now }
+    {
+        self.prepared.delivery().as_str() == delivery.as_str()
+    }
+
+    pub fn phase(&self) -> RunPhase
+        ensures { result ≡ self.now.phase }
+    {
+        self.phase
+    }
+
+    pub fn is_stopping(&self) -> bool
+        ensures { result ≡ self.now.stopping }
+    {
+        self.stopping
+    }
+
+    pub fn jobs(&self) -> &[Job]
+        ensures { states result.now ≡ self.now.jobs }
+    {
+        self.jobs.as_slice()
+    }
+
+    /// Like `jobs`; the contract adds that each has room for the legs of its plan.
+    pub fn planned_jobs(&self) -> &[Job]
+        ensures jobs { states result.now ≡ self.now.jobs }
+        ensures rooms { rooms result.now ≡ legs_planned (plan_of self.now.admitted.body) }
+    {
+        self.jobs.as_slice()
+    }
+
+    pub fn job_count(&self) -> usize
+        ensures { result ≡ length self.now.jobs }
+    {
+        self.jobs.len()
+    }
+
+    pub fn job(&self, j: usize) -> Option<&Job>
+        ensures { option_map (λ job. job.now.state) result ≡ slice_get self.now.jobs j }
+    {
+        self.jobs.get(j)
+    }
+
+    /// Whether all jobs that job `j` needs directly have finished.
+    pub fn needs_have_settled(&self, j: usize) -> bool
+        ensures { result ≡ needs_settled_in self.now j }
+    {
+        match self.jobs.get(j) {
+            Some(job) => job.needs_left() == 0,
+            None => true,
+        }
+    }
+
+    /// The job at which settling resumes after a rule at job `j`: the first job that needs it, if `j` has finished and that one is before
+    /// it, and otherwise `j`.
+    pub fn job_again(&self, j: usize) -> usize
+        ensures { result ≡ job_again self.now j }
+    {
+        if !is_settled_at(self.jobs(), j) {
+            return j;
+        }
+        match self.prepared.plan().graph().first_dependent(j) {
+            Some(first) => j.min(first),
+            None => j,
+        }
+    }
+
+    fn planned(&self, j: usize) -> Option<&PlannedJob>
+        ensures { option_map (λ p. p.now) result ≡ slice_get (plan_of self.now.admitted.body) j }
+    {
+        self.prepared.plan().as_slice().get(j)
+    }
+
+    fn condition(&self, j: usize) -> Condition
+        ensures { result ≡ condition_in self.now j }
+    {
+        match self.planned(j) {
+            Some(job) => job.condition,
+            None => Condition::Never,
+        }
+    }
+
+    /// Whether the condition of job `j` holds, given the results of all its ancestors.
+    pub fn may_run(&self, j: usize) -> bool
+        ensures { result ≡ may_run_in self.now j }
+    {
+        let condition = self.condition(j);
+        let graph = self.prepared.plan().graph();
+        graph.decide(j, condition, self.jobs(), self.stopping)
+    }
+
+    /// Whether one of its legs is ready.
+    pub fn offers_legs(&self) -> bool
+        ensures { result ≡ offers_legs self.now }
+    {
+        have_ready_leg(self.jobs())
+    }
+
+    /// Whether it waits for its group, or one of its legs does.
+    pub fn someone_waits(&self) -> bool
+        ensures { result ≡ someone_waits self.now }
+    {
+        self.phase.waits() || have_waiting_leg(self.jobs())
+    }
+
+    /// Whether it waits or is live, or one of its legs waits for its group or holds it.
+    pub fn is_active(&self) -> bool
+        ensures { result ≡ is_active self.now }
+    {
+        self.phase.waits() || self.phase.is_live() || have_active_leg(self.jobs())
+    }
+
+    /// Whether one of its legs holds the group that its job asks for.
+    pub fn holds_by_a_leg(&self) -> bool
+        ensures { result ≡ holds_by_a_leg self.now }
+    {
+        for j in 0..self.job_count() {
+            if self.holds_by_a_leg_of(j) {
+                return true;
+            }
+        }
+        false
+    }
+
+    fn holds_by_a_leg_of(&self, j: usize) -> bool
+        ensures { result ≡ holds_by_a_leg_of self.now j }
+    {
+        match self.job(j) {
+            Some(job) => self.job_asks(j) && job.has_holding_leg(),
+            None => false,
+        }
+    }
+
+    /// Whether job `j` asks for a group.
+    fn job_asks(&self, j: usize) -> bool
+        ensures { result ≡ job_asks self.now j }
+    {
+        match self.planned(j) {
+            Some(planned) => planned.concurrency.is_some(),
+            None => false,
+        }
+    }
+
+    /// Whether a job that needs job `j` directly has legs, or the plan has no job `j`.
+    pub fn has_legs_behind(&self, j: usize) -> bool
+        ensures { result ≡ has_legs_behind j self.now }
+    {
+        let graph = self.prepared.plan().graph();
+        j >= graph.job_count() || self.have_legs(graph.dependents(j))
+    }
+
+    /// Whether a job at one of these indices has legs.
+    fn have_legs(&self, places: &[usize]) -> bool
+        ensures { result ≡ list_any (has_legs_at self.now) places.now }
+    {
+        places.iter().any(|place| self.has_legs_at(*place))
+    }
+
+    fn has_legs_at(&self, j: usize) -> bool
+        ensures { result ≡ has_legs_at self.now j }
+    {
+        match self.job(j) {
+            Some(job) => job.has_legs(),
+            None => false,
+        }
+    }
+
+    // ---- changes
+
+    /// Applies the change to the run.
+    pub fn change(&mut self, change: Change)
+        ensures { self.new ≡ changed change self.old }
+    {
+        match change {
+            Change::Phase(phase) => self.set_phase(phase),
+            Change::Open(j) => self.open_job(j),
+            Change::Settle(j, settled) => self.settle_job(j, settled),
+            Change::Stop => self.stop(),
+            Change::StopLegs(j) => self.stop_legs(j),
+            Change::PutLeg(j, l, leg) => self.set_leg(j, l, leg),
+        }
+    }
+
+    pub(crate) fn set_phase(&mut self, phase: RunPhase)
+        ensures { self.new ≡ run_in_phase phase self.old }
+    {
+        self.phase = phase;
+    }
+
+    /// Opens job `j` with all legs of its plan.
+    #[tactic(auto, using(crate::proofs::Doors::job_written))]
+    pub(crate) fn open_job(&mut self, j: usize)
+        ensures { self.new ≡ record self.old {
+          jobs = changed_at j (opened (legs_in_plan (plan_of self.old.admitted.body) j)) self.old.jobs;
+        } }
+    {
+        if j < self.jobs.len() {
+            let job = &mut self.jobs[j];
+            let had_settled = job.is_settled();
+            job.open();
+            if had_settled {
+                count_needs(&mut self.jobs, self.prepared.plan().graph());
+            }
+        }
+    }
+
+    /// Finishes job `j` with this result.
+    pub(crate) fn settle_job(&mut self, j: usize, settled: JobResult)
+        ensures { self.new ≡ record self.old { jobs = changed_at j (settled_as settled) self.old.jobs } }
+    {
+        settle_among(&mut self.jobs, self.prepared.plan().graph(), j, settled);
+    }
+
+    /// Stops all legs of job `j`.
+    #[tactic(auto, using(crate::proofs::Doors::job_written))]
+    pub(crate) fn stop_legs(&mut self, j: usize)
+        ensures { self.new ≡ record self.old { jobs = changed_at j with_stopped_legs self.old.jobs } }
+    {
+        if j < self.jobs.len() {
+            let job = &mut self.jobs[j];
+            job.stop_legs();
+        }
+    }
+
+    /// Stops the run: a waiting run ends, and a live one is asked to stop.
+    pub(crate) fn stop(&mut self)
+        ensures { self.new ≡ stopped_run self.old }
+    {
+        match self.phase() {
+            RunPhase::Waiting => self.cancel(),
+            RunPhase::Live => {
+                if !self.is_stopping() {
+                    self.tell_to_stop();
+                }
+            }
+            RunPhase::Ended => {}
+        }
+    }
+
+    /// Ends a run that has not begun. All its jobs finish as cancelled.
+    fn cancel(&mut self)
+        ensures { self.new ≡ cancelled self.old }
+    {
+        self.settle_all(JobResult::Cancelled);
+        self.set_phase(RunPhase::Ended);
+    }
+
+    /// Finishes all jobs with the same result.
+    fn settle_all(&mut self, settled: JobResult)
+        ensures { self.new ≡ record self.old { jobs = map (settled_as settled) self.old.jobs } }
+    {
+        for j in 0..self.job_count() {
+            self.settle_job(j, settled);
+        }
+    }
+
+    fn tell_to_stop(&mut self)
+        ensures { self.new ≡ told_to_stop self.old }
+    {
+        self.set_stopping();
+        self.stop_jobs();
+    }
+
+    fn set_stopping(&mut self)
+        ensures { self.new ≡ record self.old { stopping = true } }
+    {
+        self.stopping = true;
+    }
+
+    /// Stops the legs of each open job whose condition is false.
+    fn stop_jobs(&mut self)
+        ensures { self.new ≡ with_jobs_stopped self.old }
+    {
+        for j in 0..self.job_count() {
+            self.stop_job(j);
+        }
+    }
+
+    /// Stops the legs of job `j` if it is open and its condition is false.
+    fn stop_job(&mut self, j: usize)
+        ensures { self.new ≡ with_job_stopped j self.old }
+    {
+        if self.is_to_stop(j) {
+            self.stop_legs(j);
+        }
+    }
+
+    /// Whether job `j` is open and its condition is false.
+    fn is_to_stop(&self, j: usize) -> bool
+        ensures { result ≡ (is_open_at self.now j && not (may_run_in self.now j)) }
+    {
+        self.is_open_at(j) && !self.may_run(j)
+    }
+
+    fn is_open_at(&self, j: usize) -> bool
+        ensures { result ≡ is_open_at self.now j }
+    {
+        match self.job(j) {
+            Some(job) => job.phase().is_open(),
+            None => false,
+        }
+    }
+
+    /// Replaces leg `l` of job `j`, if there is one.
+    #[tactic(auto, using(crate::proofs::Doors::job_written))]
+    pub(crate) fn set_leg(&mut self, j: usize, l: usize, leg: Leg)
+        ensures { self.new ≡ record self.old {
+          jobs = changed_at j (λ job. record job { legs = changed_at l (λ _. leg) job.legs }) self.old.jobs;
+        } }
+    {
+        if j < self.jobs.len() {
+            let job = &mut self.jobs[j];
+            job.set_leg(l, leg);
+        }
+    }
+}
+
+impl TryCopy for Run {
+    /// Shares the event and copies the jobs.
+    fn copy(&self, alloc: Global) -> Result<Self, Refusal> {
+        Ok(Run {
+            prepared: self.prepared.share()?,
+            attempt: self.attempt,
+            phase: self.phase,
+            stopping: self.stopping,
+            jobs: copy_items(alloc, &self.jobs)?,
+        })
+    }
+}
+
+/// The jobs of a plan, all blocked, each with room for its legs.
+fn blocked_jobs(alloc: Global, plan: &[PlannedJob]) -> Result<Vec<Job>, Refusal>
+    ensures { Gives (λ jobs. jobs.items) result (Ok (map blocked_cells plan.now)) }
+{
+    let mut jobs = Vec::with_capacity(alloc, plan.len())?;
+    for planned in plan {
+        jobs.push(Job::blocked(alloc, planned.legs.as_slice().len())?)?;
+    }
+    Ok(jobs)
+}
+
+fn have_ready_leg(jobs: &[Job]) -> bool
+    ensures { result ≡ list_any (λ job. has_ready_leg job.state) jobs.now }
+{
+    jobs.iter().any(|job| job.has_ready_leg())
+}
+
+fn have_waiting_leg(jobs: &[Job]) -> bool
+    ensures { result ≡ list_any (λ job. has_waiting_leg job.state) jobs.now }
+{
+    jobs.iter().any(|job| job.has_waiting_leg())
+}
+
+fn have_active_leg(jobs: &[Job]) -> bool
+    ensures { result ≡ list_any (λ job. has_active_leg job.state) jobs.now }
+{
+    jobs.iter().any(|job| job.has_active_leg())
+}
+
+/// Whether the job at this index has finished.
+fn is_settled_at(jobs: &[Job], place: usize) -> bool
+    ensures { result ≡ is_some (slice_index_or (results_so_far (states jobs.now)) place None) }
+{
+    match jobs.get(place) {
+        Some(job) => job.is_settled(),
+        None => false,
+    }
+}

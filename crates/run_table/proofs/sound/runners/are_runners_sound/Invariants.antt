@@ -1,7 +1,0 @@
-use Rattle.run_table.specs.OneByOne.{RunnerIsSound}
-use Rattle.workflow_runs.proofs.OneAfterAnother.{SoFar}
-use Rattle.run_table.proofs.sound.runners.are_runners_sound.Given as goal
-
--- each runner so far is sound
-abbrev pub invariant-loop-k : goal.invariant-loop-k
-invariant-loop-k l = SoFar (RunnerIsSound l.leases l.runs) l.runners l.k

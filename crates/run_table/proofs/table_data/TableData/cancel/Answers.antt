@@ -1,0 +1,17 @@
+use Rattle.std.specs.Prelude.{◌-◌}
+use Rattle.std.proofs.Common.{ap, ◌∙◌}
+use Rattle.run_table.specs.TableState.{TableState}
+use Rattle.run_states.specs.Places.{with_run}
+use Rattle.run_states.specs.Stops.{stopped_run}
+use Rattle.run_table.proofs.BeforeSettling.{so_settles, stopped_may_settle}
+use Rattle.run_table.proofs.table_data.TableData.cancel.Goals as goal
+
+pub settle-requires : goal.settle-requires
+settle-requires c =
+    let t = c.args.self.now in
+    let may =
+    so_settles (with_run (c.args.id - 1) stopped_run t.runs) c.stop.new.self
+    (c.stop.ensures ∙ ap (λ n. with_run n stopped_run c.self.inside.runs) c.place_of.ensures
+    ∙ ap (λ (s : TableState). with_run (c.args.id - 1) stopped_run s.runs) c.self.view_is)
+    (stopped_may_settle t (c.args.id - 1) c.requires) in
+    record { sound = may.sound; one_each = may.one_each }

@@ -1,0 +1,17 @@
+use Rattle.std.proofs.Common.{ap, sym, ◌∙◌, Ok}
+use Rattle.wf_value.proofs.PassedOn.{same_Ok}
+use Rattle.run_table.specs.TableState.{RunnerState, TableState}
+use Rattle.run_table.specs.PlaceNamed.{place_named}
+use Rattle.run_table.proofs.ServedNothing.{served_nothing}
+use Rattle.run_table.proofs.table_data.TableData.serve_nothing.Goals as goal
+
+pub put-requires : goal.put-requires
+put-requires c =
+    c.requires.place ∙ ap (λ (t : TableState). place_named t.runners c.args.claim.now.runner) (sym c.self.view_is)
+    ∙ ap (λ (r : RunnerState). place_named c.self.inside.runners r.name) (same_Ok _ _ c.in_ok-runner.ensures)
+
+pub returns-clause-step : goal.returns-clause-step
+returns-clause-step c =
+    ap Ok
+    (served_nothing c.args.self.now c.args.claim.now c.self.inside.last_lease c.self.inside.runs c.self.inside.runners c.put.new.self
+    c.in_ok-runner.runner c.requires.sound c.self.view_is (same_Ok _ _ c.in_ok-runner.ensures) (same_Ok _ _ c.in_ok-put.ensures.put))

@@ -1,0 +1,57 @@
+//! What is kept of a lease with the reply to its claim, and whether a leg has it.
+
+ghost use Rattle.std.specs.Option.{option_map_or};
+ghost use Rattle.std.specs.Prelude.{◌≡◌, ◌<◌, Ok, false};
+ghost use Rattle.wf_value.specs.Gives.{Gives};
+ghost use Rattle.run_states.specs.Fitting.{has_lease};
+ghost use Rattle.run_states.specs.Places.{leg_at};
+ghost use Rattle.run_table.specs.Step.{kept_lease, lease_at};
+
+use crate::table_data::id_of;
+use run_plan::{KeptLease, Lease, Number};
+use run_states::LegPlace;
+use std::alloc::Global;
+use wf_value::Refusal;
+use workflow_runs::runs::Runs;
+
+/// The kept form of a lease that was granted in an attempt of its run.
+pub fn kept_lease(
+    alloc: Global,
+    runs: &Runs,
+    attempt: Number,
+    place: LegPlace,
+    lease: Number,
+) -> Result<KeptLease, Refusal>
+    requires { place.run < 100000 }
+    ensures { Gives (λ k. k) result (Ok (kept_lease runs.now attempt place lease)) }
+{
+    Ok(KeptLease {
+        lease_reply: lease_at(alloc, runs, place, lease)?,
+        attempt,
+        job: place.job,
+    })
+}
+
+/// The lease as it is sent to the runner that gets the leg.
+fn lease_at(alloc: Global, runs: &Runs, place: LegPlace, lease: Number) -> Result<Lease, Refusal>
+    requires { place.run < 100000 }
+    ensures { Gives (λ l. l) result (Ok (lease_at runs.now place lease)) }
+{
+    Ok(Lease {
+        lease,
+        run: id_of(place.run),
+        job: runs.job_id(alloc, place.run, place.job)?,
+        leg: place.leg,
+        combo: runs.combo(alloc, place)?,
+    })
+}
+
+/// Whether the leg at a place has the lease.
+pub fn leg_has_lease(runs: &Runs, place: LegPlace, lease: Number) -> bool
+    ensures { result ≡ option_map_or (has_lease lease) (leg_at runs.now place) false }
+{
+    match runs.leg(place) {
+        Some(leg) => leg.has_lease(lease),
+        None => false,
+    }
+}

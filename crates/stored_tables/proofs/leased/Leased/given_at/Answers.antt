@@ -1,0 +1,37 @@
+use Rattle.std.proofs.Common.{ap, sym, subst, ◌∙◌, rules}
+use Rattle.std.specs.Bool.{Decides}
+use Rattle.run_table.specs.Sound.{IsOfALeg}
+use Rattle.run_table.specs.Step.{kept_lease}
+use Rattle.stored_tables.specs.Stored.{place_in_runs}
+use Rattle.run_states.specs.declared.place.LegPlace.{LegPlace}
+use Rattle.run_states.proofs.OneAfterAnother.{not_so}
+use Rattle.stored_tables.proofs.PartsRead.{given_lease, no_given, run_within}
+use Rattle.stored_tables.proofs.leased.Leased.given_at.Goals as goal
+use Rattle.stored_tables.proofs.leased.Leased.given_at.Goals.{After-is_of_a_leg}
+use Rattle.wf_value.proofs.PassedOn.{same_Ok}
+
+decided : (c : After-is_of_a_leg) → Decides c.is_of_a_leg.result
+    (IsOfALeg c.args.self.now.last c.args.self.now.runs.now
+    (kept_lease c.args.self.now.runs.now c.args.stored.now.attempt (place_in_runs c.args.stored.now) c.args.lease))
+decided c =
+    subst (λ (q : LegPlace). Decides c.is_of_a_leg.result (IsOfALeg c.args.self.now.last c.args.self.now.runs.now
+    (kept_lease c.args.self.now.runs.now c.args.stored.now.attempt q c.args.lease)))
+    c.place_in_runs-place.ensures.place c.is_of_a_leg.ensures
+
+pub returns-then-not-is_of_a_leg-clause-of : goal.returns-then-not-is_of_a_leg-clause-of
+returns-then-not-is_of_a_leg-clause-of c =
+    no_given c.args.self.now.last c.args.lease c.args.self.now.runs.now c.args.stored.now
+    (not_so c.is_of_a_leg.result (decided (goal.at.returns-then-not-is_of_a_leg-clause-of c).After-is_of_a_leg) (search rules))
+
+pub kept_lease-requires : goal.kept_lease-requires
+kept_lease-requires c =
+    run_within c.args.self.now.last c.args.self.now.runs.now c.args.stored.now.attempt c.place_in_runs-place.result c.args.lease
+    c.requires.few (c.is_of_a_leg.ensures.0 (search rules))
+
+pub returns-clause-of : goal.returns-clause-of
+returns-clause-of c =
+    let runs = c.args.self.now.runs.now in
+    let stored = c.args.stored.now in
+    given_lease c.args.self.now.last c.args.lease runs stored c.in_ok-kept.kept c.place_in_runs-place.ensures.run
+    ((decided (goal.at.returns-clause-of c).After-is_of_a_leg).0 (search rules))
+    (ap (λ p. kept_lease runs stored.attempt p c.args.lease) (sym c.place_in_runs-place.ensures.place) ∙ same_Ok _ _ c.in_ok-kept.ensures)

@@ -1,0 +1,35 @@
+use Rattle.std.proofs.Common.{◌≡◌, List, arith, ap, false, true, get_or, length, subst, rules}
+use Rattle.std.proofs.lemmas.Bool.Decides.{Decides-like}
+use Rattle.run_states.specs.RunState.{RunState}
+use Rattle.stored_tables.proofs.DeliveriesFound.{IsFoundAt, differ_found, found_differ}
+use Rattle.run_states.proofs.OneAfterAnother.{none_yet, one_passed, passed, stopped_at}
+use Rattle.stored_tables.proofs.sound.deliveries.do_deliveries_differ.Goals as goal
+
+pub loop-r-init : goal.loop-r-init
+loop-r-init c = none_yet (IsFoundAt c.args.runs.now) c.args.runs.now
+
+pub returns-then-not-is_found : goal.returns-then-not-is_found
+returns-then-not-is_found c =
+    let runs = c.args.runs.now in
+    let fails : c.is_found.result ≡ false = search rules in
+    let at = subst (λ (xs : List RunState). c.index-all-r.result ≡ get_or xs c.loop-r.r c.index-all-r.result) c.as_slice-all.ensures.runs
+    c.index-all-r.is in
+    Decides-like false (found_differ runs) (differ_found runs)
+    (stopped_at (IsFoundAt runs) runs c.loop-r.r c.index-all-r.result c.is_found.result
+    (omega (arith, ap length c.as_slice-all.ensures.runs)) at
+    c.is_found.ensures fails)
+
+pub loop-r-preserved : goal.loop-r-preserved
+loop-r-preserved c =
+    let runs = c.args.runs.now in
+    let at = subst (λ (xs : List RunState). c.index-all-r.result ≡ get_or xs c.loop-r.r c.index-all-r.result) c.as_slice-all.ensures.runs
+    c.index-all-r.is in
+    one_passed (IsFoundAt runs) runs c.loop-r.r c.index-all-r.result c.loop-r.invariant
+    (omega (arith, ap length c.as_slice-all.ensures.runs)) at
+    (c.is_found.ensures.0 (search rules))
+
+pub returns : goal.returns
+returns c =
+    let runs = c.args.runs.now in
+    Decides-like true (found_differ runs) (differ_found runs)
+    (passed (IsFoundAt runs) runs c.loop-r.r c.loop-r.invariant (omega (arith, ap length c.as_slice-all.ensures.runs)))

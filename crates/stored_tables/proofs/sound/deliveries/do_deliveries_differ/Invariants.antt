@@ -1,0 +1,7 @@
+use Rattle.stored_tables.proofs.DeliveriesFound.{IsFoundAt}
+use Rattle.run_states.proofs.OneAfterAnother.{SoFar}
+use Rattle.stored_tables.proofs.sound.deliveries.do_deliveries_differ.Given as goal
+
+-- a look-up by delivery finds each run so far
+abbrev pub invariant-loop-r : goal.invariant-loop-r
+invariant-loop-r l = SoFar (IsFoundAt l.runs) l.runs l.r

@@ -1,0 +1,7 @@
+use Rattle.stored_tables.specs.OneByOne.{RunnerIsSound}
+use Rattle.run_states.proofs.OneAfterAnother.{SoFar}
+use Rattle.stored_tables.proofs.sound.runners.are_runners_sound.Given as goal
+
+-- each runner so far is sound
+abbrev pub invariant-loop-k : goal.invariant-loop-k
+invariant-loop-k l = SoFar (RunnerIsSound l.leases l.runs) l.runners l.k

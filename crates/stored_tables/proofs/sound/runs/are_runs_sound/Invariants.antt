@@ -1,0 +1,7 @@
+use Rattle.stored_tables.specs.OneByOne.{RunIsSound}
+use Rattle.run_states.proofs.OneAfterAnother.{SoFar}
+use Rattle.stored_tables.proofs.sound.runs.are_runs_sound.Given as goal
+
+-- each run so far is sound
+abbrev pub invariant-loop-r : goal.invariant-loop-r
+invariant-loop-r l = SoFar (RunIsSound l.runs) l.all l.r

@@ -1,0 +1,132 @@
+//! Builds the leases that are kept as replies from their stored parts.
+
+ghost use Rattle.std.specs.BTreeMap.{get};
+ghost use Rattle.std.specs.Bool.{Decides};
+ghost use Rattle.std.specs.Ordering.{nat_cmp};
+ghost use Rattle.std.specs.Prelude.{◌≡◌, ◌≤◌, IfOk, MatchOption, None, Some, length, nat_lt, option_map};
+ghost use Rattle.wf_value.specs.Gives.{ErrsOnlyByMemory};
+ghost use Rattle.run_plan.specs.declared.last_command.KeptLease.{KeptLease as Kept};
+ghost use Rattle.stored_tables.specs.ByLease.{FindsLegs};
+ghost use Rattle.run_table.specs.Sound.{IsOfALeg};
+ghost use Rattle.run_table.specs.Step.{kept_lease};
+ghost use Rattle.stored_tables.specs.Stored.{place_in_runs};
+ghost use Rattle.stored_tables.specs.TableOf.{IsLeaseAs};
+ghost use Rattle.run_states.specs.AsPlanned.{AreAsPlanned};
+ghost use Rattle.run_states.specs.Places.{run_at};
+ghost use Rattle.run_states.specs.Words.{planned_legs};
+
+use crate::parts::{StoredLease, StoredPlace};
+use crate::sound::jobs::planned_legs;
+use run_plan::{KeptLease, Number};
+use run_states::LegPlace;
+use run_table::{kept_lease, leg_has_lease};
+use std::alloc::Global;
+use std::collections::BTreeMap;
+use wf_value::Refusal;
+use workflow_runs::runs::Runs;
+
+/// What a stored lease is checked against: the last lease, the runs, and the places of their legs by lease.
+#[derive(Drop)]
+pub(crate) struct Leased<'a> {
+    pub alloc: Global,
+    pub last: u32,
+    pub runs: &'a Runs,
+    pub legs: &'a BTreeMap<u32, LegPlace>,
+}
+
+impl<'a> Leased<'a> {
+    /// The kept lease, or `None` if its number is above the last or no leg may have had it.
+    pub(crate) fn lease(&self, parts: &StoredLease) -> Result<Option<KeptLease>, Refusal>
+        requires legs { FindsLegs self.now.runs.now (get nat_cmp self.now.legs.now) }
+        requires planned { AreAsPlanned self.now.runs.now }
+        ensures err { ErrsOnlyByMemory result }
+        ensures of { IfOk result (λ found. MatchOption found
+            ((kept : Kept) → IsLeaseAs self.now.last self.now.runs.now parts.now kept → ⊥)
+            (λ kept. IsLeaseAs self.now.last self.now.runs.now parts.now kept)) }
+    {
+        let lease = parts.lease;
+        if lease.get() > self.last {
+            return Ok(None);
+        }
+        match parts.place.as_ref() {
+            Some(place) => self.given_at(lease, place),
+            None => self.present(lease),
+        }
+    }
+
+    /// The lease, at the leg that has it.
+    fn present(&self, lease: Number) -> Result<Option<KeptLease>, Refusal>
+        requires last { lease ≤ self.now.last }
+        requires legs { FindsLegs self.now.runs.now (get nat_cmp self.now.legs.now) }
+        requires planned { AreAsPlanned self.now.runs.now }
+        ensures err { ErrsOnlyByMemory result }
+        ensures of { IfOk result (λ found. MatchOption found
+            ((kept : Kept) → IsLeaseAs self.now.last self.now.runs.now (record { lease = lease; place = None }) kept → ⊥)
+            (λ kept. IsLeaseAs self.now.last self.now.runs.now (record { lease = lease; place = None }) kept)) }
+    {
+        let Some(place) = self.legs.get(&lease.get()) else {
+            return Ok(None);
+        };
+        let Some(attempt) = attempt_of(self.runs, *place) else {
+            return Ok(None);
+        };
+        let kept = kept_lease(self.alloc, self.runs, attempt, *place, lease)?;
+        Ok(Some(kept))
+    }
+
+    /// The lease, at the place where it was granted, or `None` if there is no such leg.
+    fn given_at(&self, lease: Number, stored: &StoredPlace) -> Result<Option<KeptLease>, Refusal>
+        requires last { lease ≤ self.now.last }
+        requires few { length self.now.runs.now ≤ 100000 }
+        ensures err { ErrsOnlyByMemory result }
+        ensures of { IfOk result (λ found. MatchOption found
+            ((kept : Kept) → IsLeaseAs self.now.last self.now.runs.now (record { lease = lease; place = Some stored.now }) kept → ⊥)
+            (λ kept. IsLeaseAs self.now.last self.now.runs.now (record { lease = lease; place = Some stored.now }) kept)) }
+    {
+        let place = place_in_runs(stored);
+        let attempt = stored.attempt;
+        if !self.is_of_a_leg(lease, attempt, place) {
+            return Ok(None);
+        }
+        let kept = kept_lease(self.alloc, self.runs, attempt, place, lease)?;
+        Ok(Some(kept))
+    }
+
+    /// Whether the plan has the leg at the place, and the leg may have been granted the lease in this attempt.
+    fn is_of_a_leg(&self, lease: Number, attempt: Number, place: LegPlace) -> bool
+        requires { lease ≤ self.now.last }
+        ensures { Decides result (IsOfALeg self.now.last self.now.runs.now (kept_lease self.now.runs.now attempt place lease)) }
+    {
+        let Some(present) = attempt_of(self.runs, place) else {
+            return false;
+        };
+        if !is_planned(self.runs, place) {
+            return false;
+        }
+        if attempt.get() != present.get() {
+            return attempt.get() < present.get();
+        }
+        leg_has_lease(self.runs, place, lease)
+    }
+}
+
+fn place_in_runs(stored: &StoredPlace) -> LegPlace
+    ensures place { result ≡ place_in_runs stored.now }
+    ensures run { 1 ≤ stored.now.run }
+{
+    LegPlace::new(stored.run.get() as usize - 1, stored.job, stored.leg)
+}
+
+fn is_planned(runs: &Runs, place: LegPlace) -> bool
+    ensures { result ≡ nat_lt place.leg (planned_legs runs.now place.run place.job) }
+{
+    place.leg < planned_legs(runs, place.run, place.job)
+}
+
+/// The current attempt of a leg's run.
+fn attempt_of(runs: &Runs, place: LegPlace) -> Option<Number>
+    ensures { result ≡ option_map (λ x. x.attempt) (run_at runs.now place.run) }
+{
+    let run = runs.as_slice().get(place.run)?;
+    Some(run.attempt())
+}

@@ -1,0 +1,107 @@
+//! Tests the rules of each job: it has the legs that its phase requires, it has none before its needed jobs are
+//! finished, and at most as many of them are at work as its plan allows.
+
+ghost use Rattle.std.specs.Bool.{Decides};
+ghost use Rattle.std.specs.Prelude.{◌≡◌};
+ghost use Rattle.run_states.specs.Cells.{states};
+ghost use Rattle.stored_tables.specs.OneByOne.{EachJobIsSound, IsWithinParallel, JobIsSound, NeedsAreFirst};
+ghost use Rattle.run_states.specs.Rules.{result_at};
+ghost use Rattle.run_states.specs.SoundRuns.{LegsFit, MayLackLegs};
+ghost use Rattle.run_states.specs.Words.{needs_have_settled, planned_legs};
+ghost use Rattle.run_states.specs.declared.phases.JobPhase.TheVariants.{Settled};
+
+use run_states::{Job, JobPhase};
+use wf_value::JobResult;
+use workflow_runs::runs::Runs;
+
+/// Whether a job that never opened may finish with this result.
+fn may_lack_legs(settled: JobResult) -> bool
+    ensures { Decides result (MayLackLegs settled) }
+{
+    match settled {
+        JobResult::Success | JobResult::Failure => false,
+        JobResult::Cancelled | JobResult::Skipped => true,
+    }
+}
+
+/// The number of legs that the run's plan has for the job.
+pub(crate) fn planned_legs(runs: &Runs, r: usize, j: usize) -> usize
+    ensures { result ≡ planned_legs runs.now r j }
+{
+    match runs.planned(r, j) {
+        Some(planned) => planned.legs.as_slice().len(),
+        None => 0,
+    }
+}
+
+/// Whether a finished job either has no legs and may lack them, or has all of them, ended, with this result.
+fn settled_legs_fit(runs: &Runs, r: usize, j: usize, job: &Job, settled: JobResult) -> bool
+    ensures { Decides result (LegsFit (planned_legs runs.now r j) (result_at runs.now r j job.now.state) (Settled settled)
+        job.now.state.legs) }
+{
+    let legs = job.legs();
+    if legs.is_empty() && may_lack_legs(settled) {
+        return true;
+    }
+    legs.len() == planned_legs(runs, r, j)
+        && job.have_legs_ended()
+        && settled == runs.result(r, j, legs)
+}
+
+/// Whether the job has the legs that its phase requires.
+fn legs_fit(runs: &Runs, r: usize, j: usize, job: &Job) -> bool
+    ensures { Decides result (LegsFit (planned_legs runs.now r j) (result_at runs.now r j job.now.state) job.now.state.phase
+        job.now.state.legs) }
+{
+    match job.phase() {
+        JobPhase::Blocked => job.legs().is_empty(),
+        JobPhase::Open => job.legs().len() == planned_legs(runs, r, j),
+        JobPhase::Settled(settled) => settled_legs_fit(runs, r, j, job, settled),
+    }
+}
+
+fn needs_have_settled(runs: &Runs, r: usize, j: usize) -> bool
+    ensures { result ≡ needs_have_settled runs.now r j }
+{
+    match runs.as_slice().get(r) {
+        Some(run) => run.needs_have_settled(j),
+        None => true,
+    }
+}
+
+/// Whether the job has no legs, or its needed jobs are finished.
+fn needs_are_first(runs: &Runs, r: usize, j: usize, job: &Job) -> bool
+    ensures { Decides result (NeedsAreFirst runs.now r j job.now.state) }
+{
+    job.legs().is_empty() || needs_have_settled(runs, r, j)
+}
+
+/// Whether at most as many legs of the job are at work as its plan allows.
+fn is_within_parallel(runs: &Runs, r: usize, j: usize, job: &Job) -> bool
+    ensures { Decides result (IsWithinParallel runs.now r j job.now.state) }
+{
+    match runs.most_at_work(r, j) {
+        Some(most) => job.legs_at_work() <= usize::from(most),
+        None => true,
+    }
+}
+
+fn is_job_sound(runs: &Runs, r: usize, j: usize, job: &Job) -> bool
+    ensures { Decides result (JobIsSound runs.now r j job.now.state) }
+{
+    legs_fit(runs, r, j, job)
+        && needs_are_first(runs, r, j, job)
+        && is_within_parallel(runs, r, j, job)
+}
+
+pub(crate) fn are_jobs_sound(runs: &Runs, r: usize, jobs: &[Job]) -> bool
+    ensures { Decides result (EachJobIsSound runs.now r (states jobs.now)) }
+{
+    for j in 0..jobs.len() {
+        let job = &jobs[j];
+        if !is_job_sound(runs, r, j, job) {
+            return false;
+        }
+    }
+    true
+}

@@ -1,0 +1,39 @@
+//! Makes a table of the parts as which it is stored.
+
+ghost use Rattle.std.specs.Prelude.{IfOk, MatchOption};
+ghost use Rattle.wf_value.specs.Gives.{ErrsOnlyByMemory};
+ghost use Rattle.stored_tables.specs.TableOf.{IsNoTable, IsStoredAs};
+
+use crate::parts::TableParts;
+use crate::runners::runners_of;
+use crate::sound::is_sound;
+use crate::sound::leases::{Leases, legs_by_lease, runners_by_lease};
+use run_table::Table;
+use std::alloc::Global;
+use wf_value::Refusal;
+use workflow_runs::runs::Runs;
+
+impl TableParts {
+    /// The table that is stored as these parts, or `None` if they are the parts of no table. It takes as much memory as
+    /// the parts; the only error is 50.
+    pub fn table(&self, alloc: Global) -> Result<Option<Table>, Refusal>
+        ensures err { ErrsOnlyByMemory result }
+        ensures of { IfOk result (λ found. MatchOption found (IsNoTable self.now) (λ table. IsStoredAs self.now table)) }
+    {
+        let Some(runs) = Runs::of_parts(alloc, self.runs.as_slice())? else {
+            return Ok(None);
+        };
+        let legs = legs_by_lease(alloc, &runs)?;
+        let last = self.last_lease;
+        let of_runners = self.runners.as_slice();
+        let Some(runners) = runners_of(alloc, last, &runs, &legs, of_runners)? else {
+            return Ok(None);
+        };
+        let held = runners_by_lease(alloc, runners.as_slice())?;
+        let leases = Leases { last, legs, held };
+        if !is_sound(alloc, &leases, &runs, runners.as_slice())? {
+            return Ok(None);
+        }
+        Ok(Some(Table::of_sound(last, runs, runners)))
+    }
+}
