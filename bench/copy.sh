@@ -1,11 +1,11 @@
-# What the benchmarks and some sweeps share; each sources it. Their programs are no crates of the repository, since what they print differs from
-# run to run: one is built in a copy of the crates that it stands on, with what earlier checks left in them, and the copy goes at the end.
+# What the benchmarks and some sweeps share; they source it. Their programs are not crates of the repository, since their output differs from
+# run to run. Each is built in a copy of the crates that it uses, with what earlier checks left in them; the copy is removed at the end.
 here=$(cd "$(dirname "$0")" && pwd)
 top=$(cd "$(dirname "${BASH_SOURCE[0]}")/.." && pwd)
 scratch=$(mktemp -d)
 trap 'rm -rf "$scratch"' EXIT
 
-below() { # CRATE..: the repository's own crates among these, and all of its own that they stand on
+below() { # CRATE..: the repository's own crates among these, and all of its own that they use
     local seen=' ' crate
     while [ $# -gt 0 ]; do
         crate=$1
@@ -17,7 +17,7 @@ below() { # CRATE..: the repository's own crates among these, and all of its own
     echo "$seen"
 }
 
-copy_for() { # PROGRAM SOURCE CRATE..: the crates that PROGRAM stands on, and PROGRAM itself, of one file beside the script
+copy_for() { # PROGRAM SOURCE CRATE..: copies the crates that PROGRAM uses, and PROGRAM itself, which is one file beside the script
     local program=$1 source=$2 crate
     shift 2
     mkdir -p "$scratch/crates/$program/src"
@@ -30,11 +30,11 @@ copy_for() { # PROGRAM SOURCE CRATE..: the crates that PROGRAM stands on, and PR
     cp "$here/$source" "$scratch/crates/$program/src/main.rt"
 }
 
-build() { # PROGRAM: proves and builds it, and what is below it and not proved yet; $built is its path then
+build() { # PROGRAM: proves and builds it, and what it uses and is not proved yet; $built is its path
     built=$scratch/crates/$1/out/$1
-    # It is run at once, without the arguments that it may want: what counts is that it is there.
+    # This also runs it, without the arguments that it may need: only the program matters here.
     (cd "$scratch/crates/$1" && rt fmt && rt run --jobs 1) < /dev/null > "$scratch/log" 2>&1 || [ -x "$built" ] && return
-    # What was loaded says nothing of why it is not proved.
+    # The lines on what was loaded do not say why it is not proved.
     grep -v '^\(statements\|library\|rt: .*: begins with\|fn .*: proved\)' "$scratch/log" | tail -n 60 >&2
     exit 1
 }

@@ -11,7 +11,7 @@ SKIP = re.compile(r'\[(?:skip ci|ci skip|no ci|skip actions|actions skip)\]|^ski
 
 
 class NoService(Exception):
-    """The service does not answer, or with a number that asks for another try."""
+    """The service does not answer, or asks for another try."""
 
 
 def log(*words):
@@ -19,7 +19,7 @@ def log(*words):
 
 
 def trimmed(value, without_lists):
-    """The value without addresses, and where it is said without lists."""
+    """The value without addresses, and without lists if asked."""
     if isinstance(value, list):
         return [trimmed(item, without_lists) for item in value]
     if not isinstance(value, dict):
@@ -29,7 +29,7 @@ def trimmed(value, without_lists):
 
 
 def body_of(envelope, payload):
-    """The bytes of an event, with as much of the payload as there is room for; None where there is none."""
+    """The bytes of an event, with as much of the payload as fits; None if nothing fits."""
     scalars = {name: value for name, value in payload.items() if not isinstance(value, (dict, list))}
     for event in trimmed(payload, False), trimmed(payload, True), scalars, {}:
         envelope['github'] = {**envelope['github'], 'event': event}
@@ -56,7 +56,7 @@ class Bridge:
     def __init__(self, options):
         self.options, self.spool, self.asked, self.wake = options, options.spool, {}, threading.Event()
         self.spool.mkdir(parents=True, exist_ok=True)
-        for unfinished in self.spool.glob('*.new'):  # nobody was told that these were accepted
+        for unfinished in self.spool.glob('*.new'):  # these were never acknowledged
             unfinished.unlink()
 
     def is_signed(self, body, signature):
@@ -65,7 +65,7 @@ class Bridge:
         return bool(secret) and hmac.compare_digest(wanted.encode(), signature.encode(errors='replace'))
 
     def accept(self, event, delivery, payload):
-        """Keeps a delivery where a crash leaves it, and waits a while for what becomes of it."""
+        """Stores a delivery durably, and waits a while for its outcome."""
         name = f'{time.time_ns()}-{delivery}'
         answer = self.asked[name] = queue.Queue()
         with open(self.spool / (name + '.new'), 'w') as file:
@@ -89,10 +89,10 @@ class Bridge:
             self.handle_all()
         except BaseException:
             traceback.print_exc()
-            os._exit(1)  # what accepts deliveries does not go on alone
+            os._exit(1)  # do not accept deliveries that nobody handles
 
     def handle_all(self):
-        """Handles the deliveries one by one in their order, again and again until each is done. Where there is no service none overtakes another."""
+        """Handles the deliveries one by one in order, again and again until each is done. Without a service none overtakes another."""
         pause = 0.5
         while True:
             self.wake.clear()
@@ -150,7 +150,7 @@ class Bridge:
             connection.close()
 
     def start(self, path, event, delivery, occasion, connection):
-        """Posts the event of one workflow where `on` starts it, and says what came of it."""
+        """Posts the event of one workflow if `on` starts it, and gives the outcome."""
         payload = occasion.payload
         repository = payload['repository']['full_name']
         try:
@@ -177,7 +177,7 @@ class Bridge:
 
 
 class Handler(http.server.BaseHTTPRequestHandler):
-    timeout = 30  # seconds without a byte of the client
+    timeout = 30  # seconds without a byte from the client
 
     def do_POST(self):
         length = self.headers.get('Content-Length', '')
@@ -210,17 +210,17 @@ class Handler(http.server.BaseHTTPRequestHandler):
 
 
 def main():
-    parser = argparse.ArgumentParser(description='Takes webhooks of GitHub on 127.0.0.1, and posts events to acts.')
-    parser.add_argument('--port', type=int, default=8090, help='where webhooks come (8090)')
+    parser = argparse.ArgumentParser(description='Takes webhooks from GitHub on 127.0.0.1, and posts events to acts.')
+    parser.add_argument('--port', type=int, default=8090, help='the port for webhooks (8090)')
     parser.add_argument('--secret-file', type=pathlib.Path, required=True, help="a file with the webhook's secret")
     parser.add_argument('--mirrors', type=pathlib.Path, required=True, help='a folder with a bare clone OWNER/NAME.git of each repository')
     parser.add_argument('--spool', type=pathlib.Path, required=True, help='a folder for deliveries that are not done yet')
     parser.add_argument('--acts', default='127.0.0.1:8080', metavar='HOST:PORT', help='the hook port of acts (127.0.0.1:8080)')
-    parser.add_argument('--vars', type=pathlib.Path, help='a JSON object of repositories, with the object `vars` of each')
+    parser.add_argument('--vars', type=pathlib.Path, help='a file with a JSON object of repositories, with the object `vars` of each')
     parser.add_argument('--forks', action='store_true', help='take pull requests of forks too')
-    parser.add_argument('--wait', type=float, default=8, help='seconds that an answer waits for what becomes of a delivery (8)')
+    parser.add_argument('--wait', type=float, default=8, help='seconds that an answer waits for the outcome of a delivery (8)')
     parser.add_argument('--pause', type=float, default=30, help='seconds between two tries, at most; the first comes after 1 (30)')
-    parser.add_argument('--keep', type=float, default=3600, help='seconds for which a commit may be missing in the mirror (3600)')
+    parser.add_argument('--keep', type=float, default=3600, help='seconds for which a commit may be missing from the mirror (3600)')
     options = parser.parse_args()
     if not options.secret_file.read_bytes().strip():
         parser.error('the file of the secret is empty')

@@ -1,8 +1,8 @@
-"""Evaluates GitHub's expressions as far as whoever sends an event knows what they refer to."""
+"""Evaluates GitHub's expressions as far as the sender of an event knows what they refer to."""
 import json, re
 
 class Rest(str):
-    """A value that is not known here. The text says what is known of its truth: `true`, `false`, a condition of the service, or `?` for nothing."""
+    """A value that is not known here. The text is what is known of its truth: `true`, `false`, a condition of the service, or `?` for nothing."""
 
 
 class Each(list):
@@ -29,14 +29,14 @@ def text_of(value):
 
 
 def truth(value):
-    """Whether a value counts as true; None where that is not known."""
+    """Whether a value counts as true; None if that is not known."""
     if isinstance(value, Rest):
         return {'true': True, 'always()': True, 'false': False}.get(value)
     return isinstance(value, (list, dict)) or bool(value) and value == value
 
 
 def compare(op, left, right):
-    """Texts compare without case, and values of two kinds as numbers."""
+    """Texts compare without case, and values of different kinds as numbers."""
     if isinstance(left, (list, dict)) and isinstance(right, (list, dict)):
         return (left is right) == (op == '==') if op in ('==', '!=') else False
     left, right = (left.lower(), right.lower()) if isinstance(left, str) and isinstance(right, str) else (number(left), number(right))
@@ -60,7 +60,7 @@ FUNCTIONS = {
 
 
 class Expression:
-    """Evaluates a text as it reads it. `asks_status` says whether it has one of the functions of which a condition without one has `success()`."""
+    """Evaluates a text while it reads it. `asks_status` says whether it has a status function; a condition without one gets `success()`."""
 
     def __init__(self, text, contexts):
         self.tokens, self.contexts, self.asks_status = [], contexts, False
@@ -93,7 +93,7 @@ class Expression:
     def joined(self, op, left, right):
         if op not in ('||', '&&'):
             return Rest('?') if isinstance(left, Rest) or isinstance(right, Rest) else compare(op, left, right)
-        decisive = op == '||'  # a left side of this truth is the value
+        decisive = op == '||'  # a left side with this truth value decides
         if truth(left) is not None:
             return left if truth(left) == decisive else right
         if truth(right) is not None:
@@ -164,7 +164,7 @@ FAULTS = ValueError, TypeError, IndexError, RecursionError
 
 
 def evaluate(text, contexts):
-    """The value of an expression, or `Rest` where something in it is not known here."""
+    """The value of an expression, or `Rest` if something in it is not known here."""
     try:
         return Expression(text, contexts).value
     except FAULTS:
@@ -172,7 +172,7 @@ def evaluate(text, contexts):
 
 
 def condition(text, contexts):
-    """What a condition comes to: a truth value, one of the service's conditions, or `Rest('?')`."""
+    """The value of a condition: a truth value, one of the service's conditions, or `Rest('?')`."""
     try:
         read = Expression(text, contexts)
     except FAULTS:
@@ -180,5 +180,5 @@ def condition(text, contexts):
     if truth(read.value) is None:
         return read.value
     if truth(read.value) and read.asks_status:
-        return Rest('always()')  # and not `true`, which has `success()` before it
+        return Rest('always()')  # not `true`, which means `success()`
     return truth(read.value)

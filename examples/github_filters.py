@@ -10,7 +10,7 @@ def pattern(text):
     """The regular expression of a pattern without its `!`."""
     parts = []
     for token in GLOB.findall(text):
-        if token in ('?', '+'):  # of the character or the brackets before it
+        if token in ('?', '+'):  # applies to the character or the brackets before it
             if not parts or parts[-1][-1] in '*?+' and parts[-1][0] != '\\':
                 raise ValueError(f'{text} is no pattern: nothing stands before {token}')
             parts[-1] = f'(?:{parts[-1]}){token}'
@@ -24,7 +24,7 @@ def as_list(value):
 
 
 def chosen(name, patterns):
-    """Whether the patterns choose the name: the last one that fits it decides, and one with `!` takes it out."""
+    """Whether the patterns select the name: the last one that matches decides, and one with `!` excludes it."""
     hit = False
     for text in map(str, as_list(patterns)):
         if pattern(text.removeprefix('!')).fullmatch(name):
@@ -33,7 +33,7 @@ def chosen(name, patterns):
 
 
 def passes(filters, kind, names):
-    """Whether one of the names passes the filters of a kind: `branches`, `tags` or `paths`, or that with `-ignore`."""
+    """Whether one of the names passes the filters of a kind: `branches`, `tags` or `paths`, or the same with `-ignore`."""
     if kind in filters and kind + '-ignore' in filters:
         raise ValueError(f'{kind} and {kind}-ignore together')
     if kind in filters:
@@ -54,8 +54,8 @@ def triggers_of(on):
 
 
 def not_wanted(on, event, action, kind, name, changed):
-    """Why `on` does not start the workflow; None where it does. The event was on a branch or tag (KIND, NAME); `changed()` gives the files that
-    it changed, or None where they are not known."""
+    """Why `on` does not start the workflow; None if it does. The event is on a branch or tag (KIND, NAME); `changed()` gives the files that
+    it changed, or None if they are not known."""
     triggers = triggers_of(on)
     if event not in triggers:
         return f'`on` does not name {event}'
@@ -77,7 +77,7 @@ def not_wanted(on, event, action, kind, name, changed):
 
 
 def inputs_of(on, given):
-    """The inputs of a `workflow_dispatch`, with their defaults, each of its type."""
+    """The inputs of a `workflow_dispatch`, with their defaults, each with its type."""
     inputs = {}
     for name, form in (triggers_of(on)['workflow_dispatch'].get('inputs') or {}).items():
         form = form or {}

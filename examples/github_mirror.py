@@ -5,11 +5,11 @@ EMPTY_TREE = '4b825dc642cb6eb9a060e54bf8d69288fbee4904'
 
 
 class NoCommit(Exception):
-    """The mirror has no such commit, or not yet."""
+    """The mirror does not have this commit, or not yet."""
 
 
 class Mirror:
-    """A bare clone of a repository, which is fetched for each delivery where it has a remote."""
+    """A bare clone of a repository. If it has a remote, it is fetched for each delivery."""
 
     def __init__(self, folder):
         self.folder = folder
@@ -24,7 +24,7 @@ class Mirror:
         return done.stdout.decode(errors='replace')
 
     def ask(self, *words):
-        """The answer without its line feed; None where git refuses."""
+        """The answer without its line feed; None if git fails."""
         try:
             return self.git(*words).rstrip('\n')
         except subprocess.CalledProcessError:
@@ -46,7 +46,7 @@ class Mirror:
 
 
 class Occasion:
-    """Where an event was: `kind` and `name` of the branch or tag by which `on` filters, the values of `github` that say it, and its newest commit."""
+    """Where an event happened: `kind` and `name` of the branch or tag by which `on` filters, the values of `github` for it, and its newest commit."""
 
     def __init__(self, event, payload, mirror):
         self.payload, self.mirror, self.pull = payload, mirror, payload.get('pull_request') if event == 'pull_request' else None
@@ -56,7 +56,7 @@ class Occasion:
             ref, self.kind, self.name = f'refs/pull/{payload["number"]}/merge', 'branches', base_ref
             self.head = mirror.commit(self.pull['head']['sha'])
             merge = (mirror.ask('rev-list', '--parents', '--max-count=1', ref) or '').split()
-            self.commit = merge[0] if self.head in merge[2:] else self.head  # where its second parent is another, the merge is of an earlier push
+            self.commit = merge[0] if self.head in merge[2:] else self.head  # with another second parent, the merge is of an earlier push
         else:
             ref = payload['ref'] if payload['ref'].startswith('refs/') else 'refs/heads/' + payload['ref']
             self.kind, self.name = 'tags' if ref.startswith('refs/tags/') else 'branches', ref.split('/', 2)[2]
@@ -65,8 +65,8 @@ class Occasion:
                        'base_ref': base_ref, 'head_ref': head_ref}
 
     def changed(self):
-        """The files that a pull request changes; of a branch that was there those in which it differs from before, of a new one those in which it
-        differs from the parent of the first commit that was pushed. None where nothing is known to compare with."""
+        """The files that a pull request changes; for an existing branch those in which it differs from before, for a new one those in which it
+        differs from the parent of the first commit that was pushed. None if there is nothing to compare with."""
         if self.pull:
             return self.mirror.changed([f'{self.pull["base"]["sha"]}...{self.head}'])
         before, commits = self.payload['before'], self.payload.get('commits')

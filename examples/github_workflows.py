@@ -1,4 +1,4 @@
-"""A workflow of a repository as the service takes it: YAML as JSON, and constants in the place of what the sender of the event knows."""
+"""A workflow of a repository as the service takes it: YAML as JSON, with constants in place of what the sender of the event knows."""
 import json, re, subprocess
 from github_expressions import Rest, condition, evaluate, text_of
 try:
@@ -11,11 +11,11 @@ LONGEST = 1 << 20  # characters of a workflow as JSON
 PIECE = re.compile(r"\$\{\{((?:'[^']*'|[^'])*?)\}\}", re.S)
 NAME = '[A-Za-z_][A-Za-z0-9_-]*'
 OPERAND = rf"(?:'(?:[^']|'')*'|(?:github|inputs|vars|strategy|matrix)(?: *\. *{NAME})+|needs *\. *{NAME} *\. *result)"
-PROFILE = re.compile(rf' *{OPERAND}(?: *\|\| *{OPERAND})* *')  # what the service reads between the braces
+PROFILE = re.compile(rf' *{OPERAND}(?: *\|\| *{OPERAND})* *')  # what the service accepts between the braces
 
 if yaml:
     class Loader(yaml.SafeLoader):
-        """Plain words as YAML 1.2 has them, as GitHub does: `on` and `yes` are texts, and `010` is ten. PyYAML has those of YAML 1.1."""
+        """Plain words as in YAML 1.2 and at GitHub: `on` and `yes` are texts, and `010` is ten. PyYAML follows YAML 1.1."""
         yaml_implicit_resolvers = {}
 
     for tag, form in (('null', '~|null|Null|NULL|'), ('bool', 'true|True|TRUE|false|False|FALSE'), ('int', '[-+]?[0-9]+|0o[0-7]+|0x[0-9a-fA-F]+'),
@@ -25,7 +25,7 @@ if yaml:
 
 
 def read(text):
-    """The object that a workflow's YAML writes. What is wrong with it is a `ValueError`."""
+    """The object of a workflow's YAML. A fault in it is a `ValueError`."""
     try:
         if yaml:
             value = yaml.load(text, Loader)
@@ -36,7 +36,7 @@ def read(text):
     if not isinstance(value, dict):
         raise ValueError('not YAML of an object')
     size = 0
-    for piece in json.JSONEncoder().iterencode(value):  # piece by piece, since a few aliases of aliases can write a text without end
+    for piece in json.JSONEncoder().iterencode(value):  # piece by piece, since a few aliases of aliases can make a huge text
         size += len(piece)
         if size > LONGEST:
             raise ValueError(f'refused 24, over {LONGEST:,} characters as JSON')
@@ -44,7 +44,7 @@ def read(text):
 
 
 def quoted(value):
-    """The value so that the service reads no expression in it."""
+    """The value, escaped so that the service finds no expression in it."""
     if isinstance(value, dict):
         return {name: quoted(item) for name, item in value.items()}
     if isinstance(value, list):
@@ -53,7 +53,7 @@ def quoted(value):
 
 
 class Known:
-    """Puts constants for what the contexts give. `notes` has what stays outside the profile: refusal, place and text."""
+    """Replaces with constants what the contexts give. `notes` lists what the service does not take: refusal, place and text."""
 
     def __init__(self, contexts):
         self.contexts, self.notes = contexts, []
@@ -97,7 +97,7 @@ class Known:
                 self.notes += [(19, f'{place}.matrix.{name}[{i}]', value) for i, value in enumerate(values) if isinstance(value, (list, dict, float))]
 
     def template(self, value, place):
-        """A text that is one piece becomes a list or an object, and in a strategy any kind; the service wants texts elsewhere."""
+        """A text that is one expression becomes a list or an object, and in a strategy a value of any kind; elsewhere the service wants texts."""
         if isinstance(value, dict):
             return {name: self.template(item, f'{place}.{name}') for name, item in value.items()}
         if isinstance(value, list):

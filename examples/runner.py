@@ -1,23 +1,23 @@
 #!/usr/bin/env python3
-"""A runner for `acts serve`, on Linux, of the standard library alone. docs/RUNNERS.md says why it does each thing as it does."""
+"""A runner for `acts serve`, on Linux, with the standard library only. docs/RUNNERS.md says why it works as it does."""
 import argparse, contextlib, glob, json, os, re, shutil, signal, socket, subprocess, sys, time
 
 SHELLS = {None: ['bash', '-ec'], 'bash': ['bash', '--noprofile', '--norc', '-eo', 'pipefail', '-c'], 'sh': ['sh', '-ec']}
 
 def keep(path, text):
-    """Writes a file of this folder, which is there as a whole or not at all, also after a crash of the machine."""
+    """Writes a file of this folder, which is there whole or not at all, also after a crash of the machine."""
     with open(path + '.new', 'w') as file:
         print(text, file=file)
     subprocess.run(['sync', file.name], check=True)
     os.rename(file.name, path)
     subprocess.run(['sync', '.'], check=True)
 
-def read(path): # the empty text where it is not there
+def read(path): # the empty text if there is none
     with contextlib.suppress(OSError), open(path, errors='replace') as file:
         return file.read()
     return ''
 
-def group_of(process): # of one that has ended none, also where nobody has waited for it
+def group_of(process): # None for one that has ended, zombies included
     state, _, group = (read(f'/proc/{process}/stat').rpartition(') ')[2].split() or 'Z--')[:3]
     return None if state in 'ZX' else group
 
@@ -30,7 +30,7 @@ def end(group):
                 os.killpg(int(group), signals.pop())
         time.sleep(0.05)
 
-def clear(group=None): # takes away what is known of a leg: how the steps ended before that they began
+def clear(group=None): # forgets a leg: first how the steps ended, then that they began
     end(group)
     for path in glob.glob('status') + glob.glob('begun'):
         os.remove(path)
@@ -41,7 +41,7 @@ def variables(values, prefix=''):
     return {prefix + re.sub(r'\W', '_', name).upper(): value for name, value in texts.items()} if prefix else texts
 
 def run_steps(run, name, combo, body):
-    """Runs the steps of a job in turn, each in the folder `work` or below it, and says whether all that were to succeed did."""
+    """Runs the steps of a job one by one, each in the folder `work` or below it, and says whether the job succeeded."""
     workflow, job, work, good = body['workflow'], body['workflow']['jobs'][name], os.path.abspath('work'), True
     github = {'actions': True, 'repository': body['repo'], 'workflow': workflow.get('name', body['path']), 'run_id': run, 'job': name, 'workspace': work}
     given = {'CI': 'true', 'COMBO': combo} | variables(json.loads(combo), 'MATRIX_') | variables(body.get('github', {}) | github, 'GITHUB_')
@@ -58,7 +58,7 @@ def run_steps(run, name, combo, body):
     return good
 
 def be_leg():
-    """Runs the steps of the leg that this folder holds, and leaves there that they began, and how they ended."""
+    """Runs the steps of the leg in this folder, and notes there that they began, and how they ended."""
     lease, run, job, _, combo, body = json.loads(read('leg'))
     keep('begun', f'{os.getpid()} {lease}')
     shutil.rmtree('work', ignore_errors=True)
@@ -69,7 +69,7 @@ class Runner:
     place, kept, forgotten = '', True, False
 
     def ask(self, line):
-        """The answer to a line, and the body behind that of FETCH. A line is said until it is answered, each time over a stream of its own."""
+        """The answer to a line, and the body after that of FETCH. Sends the line until it is answered, each time over a stream of its own."""
         while True:
             with contextlib.suppress(OSError), socket.create_connection(('127.0.0.1', self.port), timeout=60) as stream, stream.makefile('rb') as file:
                 stream.sendall(line.encode() + b'\n')
@@ -81,14 +81,14 @@ class Runner:
             time.sleep(1)
 
     def work(self, lease, run, job, leg, combo):
-        """Has the steps of a leg run by a process with a group of its own, or takes up those that run: how they ended, or None if the lease was taken."""
+        """Starts the steps of a leg in a process group of their own, or takes up those that run. Gives how they ended, or None if the lease was taken."""
         self.place, token, beat = f'run {run} {job} {leg}', f'ACTS_LEG={os.getcwd()} ', f'BEAT {self.name} {lease}'
-        lock = open('starting', 'w') # which the process of the steps holds to its end: that of an earlier life may not have begun yet
+        lock = open('starting', 'w') # held by the process of the steps to its end: that of an earlier life may not have begun yet
         while not read('begun').endswith(f' {lease}\n') and subprocess.call(['flock', '-n', str(lock.fileno())], pass_fds=[lock.fileno()]):
             time.sleep(0.02)
         group, begun = read('begun').split() or (None, None)
         if group and not any(token + begun in read(path).split('\0') for path in glob.glob('/proc/[0-9]*/environ')):
-            group = None # all of it has ended, and the number may be another's by now
+            group = None # all of it has ended, and the number may have been reused
         if begun not in (None, lease):
             clear(group)
         answer, asked = self.ask(beat)[0], time.monotonic()
@@ -107,7 +107,7 @@ class Runner:
         return None if answer.startswith('refused') else 'cancelled' if answer == 'stop' and result == 'failure' else result
 
     def go_on(self, line):
-        """Says a numbered line, which is kept before: what is to be said next, or None where there is nothing to do."""
+        """Keeps a numbered line and sends it. Gives the line to send next, or None if there is nothing to do."""
         keep('words', line)
         kept, self.kept = self.kept, False
         answer, last, claim = self.ask(line)[0].split(' ', 5), int(line.split()[2]), f'CLAIM {self.name} %d {self.labels}'
@@ -117,11 +117,11 @@ class Runner:
         if answer[0] == 'ok':
             print(f'{self.name}: {self.place or "lease " + line.split()[3]} {line.split()[4]}: ok', flush=True)
             clear()
-        elif answer[0] == 'nothing' and not kept: # what an earlier life may have been told is asked anew at once
+        elif answer[0] == 'nothing' and not kept: # may be an old answer, so ask again at once
             if self.once:
                 return print(f'{self.name}: nothing')
             time.sleep(self.pause)
-        elif answer[1:] in (['42'], ['44']): # 42: a lease that was forgotten, which the claim that got it gets again
+        elif answer[1:] in (['42'], ['44']): # 42: a forgotten lease, which its claim gets again
             self.forgotten = answer[1] == '42'
             last -= 2 if self.forgotten else 1
         elif answer[0] == 'refused':
@@ -130,20 +130,20 @@ class Runner:
 
 def main():
     parser = argparse.ArgumentParser(description=__doc__)
-    parser.add_argument('port', type=int, help='the port that `acts serve` has for runners')
+    parser.add_argument('port', type=int, help='the runner port of `acts serve`')
     parser.add_argument('name', help='the name of this runner')
     parser.add_argument('labels', help='its labels, joined by commas')
-    parser.add_argument('--once', action='store_true', help='end where there is nothing to do')
-    parser.add_argument('--pause', type=float, default=5, help='seconds until it asks again where there is nothing to do (5)')
+    parser.add_argument('--once', action='store_true', help='end when there is nothing to do')
+    parser.add_argument('--pause', type=float, default=5, help='seconds until it asks again when there is nothing to do (5)')
     parser.add_argument('--beat', type=float, default=20, help='seconds between two beats (20)')
-    parser.add_argument('--state', default=os.path.expanduser('~/.local/state/acts'), help='where the folder of its name stands, for what it needs after a kill')
+    parser.add_argument('--state', default=os.path.expanduser('~/.local/state/acts'), help='the folder below which its folder NAME keeps its state')
     runner = parser.parse_args(namespace=Runner())
     os.makedirs(os.path.join(runner.state, runner.name), exist_ok=True)
     os.chdir(os.path.join(runner.state, runner.name))
     lock = open('lock', 'w')
     if subprocess.call(['flock', '-w', '5', str(lock.fileno())], pass_fds=[lock.fileno()]):
         sys.exit(f'{runner.name}: it runs already')
-    line = read('words').strip() or f'CLAIM {runner.name} 999999999 {runner.labels}' # out of its turn: the last number is answered
+    line = read('words').strip() or f'CLAIM {runner.name} 999999999 {runner.labels}' # out of turn: the answer has the last number
     while line:
         line = runner.go_on(line)
 

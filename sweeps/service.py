@@ -20,7 +20,7 @@ class Ended(Exception):
 
 
 def free_port():
-    """A port of this machine that nobody has, below those that the system gives to clients, one of which could take it meanwhile."""
+    """A free port of this machine, below those that the system gives to clients, since a client could take it meanwhile."""
     while True:
         with socket.socket() as it:
             try:
@@ -71,14 +71,14 @@ def kill_all():
 
 class Service:
     """A process of `acts serve`. It is ready, or it has ended already. SETTINGS are variables of its environment, LIMIT is `ulimit -v`, LIMITS are
-    such words of the shell as `ulimit -n 64`, USER is the id of the user that it runs as, and ENDLESS the words that stand for `--rounds`."""
+    shell commands such as `ulimit -n 64`, USER is the id of its user, and ENDLESS are the arguments in place of `--rounds`."""
 
     def __init__(self, acts, path, sessions, rounds=1, settings=None, limit=None, limits=(), user=None, endless=None):
         self.hooks, self.runners = free_ports()
-        self.seen, told = os.pipe()
+        self.seen, write_end = os.pipe()
         self.said = b''
-        # A shell may know descriptors of one digit alone, and a path of one is not for another user.
-        first = [f'exec 9>&{told};' if told < 10 else f'exec 9> /proc/self/fd/{told};']
+        # A shell may only know descriptors of one digit, and another user can't use the path of one.
+        first = [f'exec 9>&{write_end};' if write_end < 10 else f'exec 9> /proc/self/fd/{write_end};']
         if limit is not None:
             first.append(f'ulimit -v {limit};')
         first += [f'{words};' for words in limits]
@@ -86,26 +86,26 @@ class Service:
         words = ['serve', path, '--hook-port', str(self.hooks), '--runner-port', str(self.runners), '--sessions', str(sessions)]
         words += ['--rounds', str(rounds)] if endless is None else endless
         self.child = subprocess.Popen(['sh', '-c', ' '.join(first) + ' exec "$0" "$@"', acts, *words], stdout=subprocess.PIPE, stderr=subprocess.PIPE,
-                                      pass_fds=(told,), user=user, group=user, extra_groups=None if user is None else [])
+                                      pass_fds=(write_end,), user=user, group=user, extra_groups=None if user is None else [])
         started.append(self.child)
-        os.close(told)
+        os.close(write_end)
         self.ready = self.child.stdout.readline() == b'ready\n'
 
     def wait_failure(self, timeout):
-        """Waits until a library has failed a call, and answers when it did. None: it has not."""
+        """Waits until a library has failed a call, and gives the moment. None: it has not."""
         if not select.select([self.seen], [], [], timeout)[0]:
             return None
         self.said += os.read(self.seen, 64)
         return float(self.said or 'nan')
 
     def has_failed(self):
-        """Whether a library told that it failed a call, of a service that has ended."""
+        """Whether a library has failed a call of a service that has ended."""
         self.said += os.read(self.seen, 64)
         os.close(self.seen)
         return self.said != b''
 
     def end(self, timeout=60):
-        """Waits for its end: the status, what it wrote after `ready`, standard error, and whether a library told that it failed a call."""
+        """Waits for its end: the status, what it wrote after `ready`, standard error, and whether a library has failed a call."""
         try:
             out, err = self.child.communicate(timeout=timeout)
         except subprocess.TimeoutExpired:
@@ -122,7 +122,7 @@ class Service:
 
 
 class Forever(Service):
-    """A process of `acts serve --forever`. What it prints of its histories is kept as it comes: `settled` has how many entries each had."""
+    """A process of `acts serve --forever`. What it prints of its histories is kept as it comes: `settled` has the number of entries of each."""
 
     def __init__(self, acts, path, seats, turn_over=None, idle=None, **how):
         words = ['--forever']
@@ -149,8 +149,8 @@ class Forever(Service):
             return self.news.wait_for(lambda: len(self.settled) >= count, timeout)
 
     def end(self, timeout=60):
-        """Waits for its end by itself: the status, what it printed that is no `settled COUNT`, standard error, and whether a library told that it
-        failed a call."""
+        """Waits until it ends by itself: the status, what it printed besides `settled COUNT`, standard error, and whether a library has failed
+        a call."""
         try:
             status = self.child.wait(timeout)
         except subprocess.TimeoutExpired:
@@ -163,7 +163,7 @@ class Forever(Service):
         return status, b''.join(self.strange).decode(), err, self.has_failed()
 
     def kill(self):
-        """Ends it as a crash would. What was wrong until then, or None: it has ended before, or said what it should not."""
+        """Ends it as a crash does. What was wrong until then (it has ended before, or said something wrong), or None."""
         before = self.child.poll()
         self.child.kill()
         status, out, err, _ = self.end()
@@ -172,14 +172,14 @@ class Forever(Service):
         return None
 
     def processor_time(self):
-        """The seconds of a processor that it has had."""
+        """The processor seconds that it has used."""
         with open(f'/proc/{self.child.pid}/stat') as file:
             fields = file.read().rsplit(')', 1)[1].split()
         return (int(fields[11]) + int(fields[12])) / os.sysconf('SC_CLK_TCK')
 
 
 def room_for_streams(count):
-    """Raises the limit of open files, for this process and those that it starts, as far as it may be. Whether there is room for so many."""
+    """Raises the limit of open files as far as possible, for this process and those that it starts. Whether there is room for so many."""
     soft, hard = resource.getrlimit(resource.RLIMIT_NOFILE)
     if soft < count and soft != resource.RLIM_INFINITY:
         soft = count if hard == resource.RLIM_INFINITY else min(count, hard)
@@ -205,7 +205,7 @@ class Client:
         self.held += got
 
     def until(self, end):
-        """What comes up to an end, and that."""
+        """What comes up to and including an end."""
         while end not in self.held:
             self.more()
         front, self.held = self.held.split(end, 1)
@@ -229,7 +229,7 @@ class Client:
             raise Ended(self.held) from None
 
     def ask(self, what):
-        """Sends what is one request, or one line, and waits for its answer."""
+        """Sends one request, or one line, and waits for its answer."""
         self.send(what)
         return self.answer()
 
@@ -237,7 +237,7 @@ class Client:
         self.stream.close()
 
     def reset(self):
-        """Ends the stream by a reset in place of an end."""
+        """Ends the stream by a reset."""
         self.stream.setsockopt(socket.SOL_SOCKET, socket.SO_LINGER, struct.pack('ii', 1, 0))
         self.stream.close()
 
@@ -256,7 +256,7 @@ class Hook(Client):
     """A sender of requests, which is answered before it sends the next."""
 
     def answer(self):
-        """The status, and what is answered, without its line feed."""
+        """The status, and the answer without its line feed."""
         head = self.until(b'\r\n\r\n').decode()
         length = int(head.split('Content-Length: ')[1].split('\r\n')[0])
         return int(head.split(' ')[1]), self.take(length).decode().rstrip('\n')
@@ -305,8 +305,8 @@ def views(entries):
 
 
 def play(service, commands):
-    """Asks commands in turn, over one stream on each port. How many were answered as they are to be, what the next one was answered, or
-    None where all were, or the stream or the service ended, and the clients."""
+    """Asks commands in turn, over one stream on each port. How many got the wanted answers; the answer to the next one, or None if all did, or
+    the stream or the service ended; and the clients."""
     clients = {}
     try:
         clients['hook'] = service.hook()

@@ -1,4 +1,4 @@
-/* The same bytes by the system's own calls: the record of so many look-ups behind the present gate, a sync, the gate, a sync, once
+/* The same bytes by system calls alone: the record of so many look-ups after the current gate, a sync, the gate, a sync, once
  * and then COUNT times, of which it prints the seconds.
  * Arguments: FILE COUNT COMMANDS; FILE is that of a store with no record. */
 #define _GNU_SOURCE
@@ -10,8 +10,8 @@
 #include <time.h>
 #include <unistd.h>
 
-#define MOST 4096
-#define FIRST_GATE 30 /* behind the head of 18 bytes, and the empty table's text of 12 */
+#define MAX_COMMANDS 4096
+#define FIRST_GATE 30 /* after the head of 18 bytes and the empty table's text of 12 */
 
 static size_t put4(unsigned char *at, uint32_t n) {
     n = __builtin_bswap32(n);
@@ -32,14 +32,14 @@ static size_t record(unsigned char *bytes, uint32_t commands) {
 }
 
 int main(int argc, char **argv) {
-    unsigned char bytes[9 + 5 * MOST];
+    unsigned char bytes[9 + 5 * MAX_COMMANDS];
     const unsigned char gate = 0xA5;
     struct timespec start, end;
     if (argc != 4) return 2;
     unsigned long count = strtoul(argv[2], NULL, 10);
     unsigned long commands = strtoul(argv[3], NULL, 10);
     int fd = open(argv[1], O_RDWR | O_CLOEXEC);
-    if (fd < 0 || commands > MOST) return 1;
+    if (fd < 0 || commands > MAX_COMMANDS) return 1;
     size_t size = record(bytes, commands);
     off_t at = FIRST_GATE;
     for (unsigned long i = 0; i <= count; i++) {

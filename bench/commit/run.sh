@@ -1,8 +1,8 @@
 #!/bin/bash
-# Commits of 1 and of 32 look-ups through `act_store::Store` over a `FileDisk`, entering them included, beside a plain loop in C that
-# writes the same bytes by the same four calls of the system, in turn, on one file system: into a file as `Store::init` leaves it, whose
-# blocks come with the writes, and into one whose blocks stand. Prints the medians and their ratios, and whether the files are the same.
-# Usage: bench/commit/run.sh [FOLDER [COUNT [ROUNDS]]]; FOLDER lies on the file system to be measured.
+# Commits of 1 and of 32 look-ups through `act_store::Store` over a `FileDisk`, entering them included, alternately with a plain loop in C
+# that writes the same bytes by the same four system calls, on one file system: into a file as `Store::init` leaves it, whose blocks come
+# with the writes, and into one whose blocks are there already. Prints the medians, their ratios, and whether the files are the same.
+# Usage: bench/commit/run.sh [FOLDER [COUNT [ROUNDS]]]; FOLDER is on the file system to be measured.
 set -eu
 . "$(dirname "$0")/../copy.sh"
 folder=${1:-$here/out}

@@ -1,6 +1,6 @@
 #!/bin/bash
-# The calls of the system that `FileDisk` makes: opening, a file of zeros, and an append of a body behind a
-# gate, by strace. It prints the lines of one run, from the open of the file on.
+# The system calls that `FileDisk` makes, by strace: opening, a file of zeros, and an append of a body after a
+# gate. It prints the lines of one run, from the opening of the file on.
 # Usage: bench/disk/calls.sh; needs strace.
 set -eu
 . "$(dirname "$0")/../copy.sh"

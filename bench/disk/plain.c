@@ -1,4 +1,4 @@
-/* The same appends by the system's own calls, with a fourth word in a file that was filled with zeros first. */
+/* The same appends by system calls alone; with a fourth word, in a file that is filled with zeros first. */
 #define _GNU_SOURCE
 #include <fcntl.h>
 #include <stdio.h>

@@ -1,8 +1,8 @@
 #!/bin/bash
-# Appends of 1, 64 and 4,096 bytes with a sync each: `FileDisk` beside a plain loop in C, in turn, on one
-# file system, to a file that grows and to one that was filled with zeros first. Prints for each the median
-# of the times of both and their ratio.
-# Usage: bench/disk/run.sh [FOLDER [COUNT [ROUNDS]]]; FOLDER lies on the file system to be measured.
+# Appends of 1, 64 and 4,096 bytes with a sync each: `FileDisk` alternately with a plain loop in C, on one
+# file system, to a file that grows and to one that is filled with zeros first. Prints for each the median
+# times of both and their ratio.
+# Usage: bench/disk/run.sh [FOLDER [COUNT [ROUNDS]]]; FOLDER is on the file system to be measured.
 set -eu
 . "$(dirname "$0")/../copy.sh"
 folder=${1:-$here/out}

@@ -1,6 +1,7 @@
-//! A plain fold over a script, to measure `acts play` against: a table in maps and sets of std, without contracts, a store or a refusal
-//! for want of memory. It knows what the scripts of `bench/play` need, and no more: admissions, claims, reports and looks; needs, matrices
-//! of variables, groups of runs. It reads no template and no condition, and fails no leg. The model of all commands is `sweeps/compared/plain.py`.
+//! A plain fold over a script, the baseline for `acts play`: a table in the maps and sets of std, without contracts, without a store, and
+//! without refusals when memory runs out. It supports only what the scripts of `bench/play` need: admissions, claims, reports and looks;
+//! needs, matrices of variables, groups of runs. It reads no templates and no conditions. `sweeps/compared/plain.py` is the model of all
+//! commands.
 
 use std::collections::{BTreeSet, HashMap};
 use std::io::{Read, Write};
@@ -157,7 +158,7 @@ impl Json {
     }
 }
 
-// What a body plans.
+// The plan of a body.
 
 struct PlannedJob {
     id: String,
@@ -197,13 +198,13 @@ fn planned_jobs(jobs: &Json) -> Option<Vec<PlannedJob>> {
     let Json::Object(members) = jobs else { return None };
     let mut members: Vec<_> = members.iter().collect();
     members.sort_by(|one, other| one.0.cmp(&other.0));
-    let places: HashMap<&str, usize> = members.iter().enumerate().map(|(place, job)| (job.0.as_str(), place)).collect();
+    let indexes: HashMap<&str, usize> = members.iter().enumerate().map(|(index, job)| (job.0.as_str(), index)).collect();
     let planned = |(id, job): &&(String, Json)| {
         let needs = job.member("needs").map_or(Some(Vec::new()), Json::texts)?;
         Some(PlannedJob {
             id: id.clone(),
             labels: job.member("runs-on")?.texts()?,
-            needs: needs.iter().map(|id| places.get(id.as_str()).copied()).collect::<Option<_>>()?,
+            needs: needs.iter().map(|id| indexes.get(id.as_str()).copied()).collect::<Option<_>>()?,
             combos: combos(job)?,
         })
     };
@@ -216,8 +217,8 @@ fn event_of(body: &str) -> Option<Event> {
     let path = body.member("path")?.text()?;
     let workflow = body.member("workflow")?;
     let concurrency = workflow.member("concurrency");
-    let group = concurrency.and_then(|asked| asked.text().or_else(|| asked.member("group")?.text()));
-    let cancels = concurrency.and_then(|asked| asked.member("cancel-in-progress"));
+    let group = concurrency.and_then(|value| value.text().or_else(|| value.member("group")?.text()));
+    let cancels = concurrency.and_then(|value| value.member("cancel-in-progress"));
     Some(Event {
         workflow: (repo.to_owned(), path.to_owned()),
         group: group.filter(|name| !name.is_empty()).map(|name| format!("{repo}\n{}", name.to_lowercase())),
@@ -244,11 +245,12 @@ enum Phase {
 }
 
 struct Job {
-    /// How many of the jobs that it needs have not settled.
-    unsettled: usize,
+    /// The number of jobs that it needs and that have not ended.
+    open_needs: usize,
     result: Option<&'static str>,
     legs: Vec<Leg>,
-    unended: usize,
+    /// The number of legs that have not ended.
+    open_legs: usize,
 }
 
 struct Run {
@@ -260,7 +262,8 @@ struct Run {
     stopping: bool,
     claimed: bool,
     jobs: Vec<Job>,
-    unsettled: usize,
+    /// The number of jobs that have not ended.
+    open_jobs: usize,
 }
 
 #[derive(Default)]
@@ -277,7 +280,7 @@ struct Runner {
     lease: Option<usize>,
 }
 
-type Place = (usize, usize, usize);
+type LegIndex = (usize, usize, usize);
 
 #[derive(Default)]
 struct Table {
@@ -286,24 +289,24 @@ struct Table {
     workflows: HashMap<(String, String), usize>,
     groups: HashMap<String, Group>,
     runners: HashMap<String, Runner>,
-    ready: BTreeSet<Place>,
-    leases: HashMap<usize, Place>,
+    ready: BTreeSet<LegIndex>,
+    leases: HashMap<usize, LegIndex>,
     last_lease: usize,
 }
 
 impl Table {
     fn admit(&mut self, delivery: &str, body: &str) -> String {
         let Some(event) = event_of(body) else { return "refused 10".to_owned() };
-        if let Some(place) = self.deliveries.get(delivery) {
-            return format!("created {}", place + 1);
+        if let Some(run) = self.deliveries.get(delivery) {
+            return format!("created {}", run + 1);
         }
         let r = self.runs.len();
         let number = self.workflows.entry(event.workflow.clone()).or_insert(0);
         *number += 1;
-        let blocked = |job: &PlannedJob| Job { unsettled: job.needs.len(), result: None, legs: Vec::new(), unended: job.combos.len() };
+        let blocked = |job: &PlannedJob| Job { open_needs: job.needs.len(), result: None, legs: Vec::new(), open_legs: job.combos.len() };
         let jobs: Vec<Job> = event.jobs.iter().map(blocked).collect();
         let run = Run {
-            unsettled: jobs.len(),
+            open_jobs: jobs.len(),
             number: *number,
             body: body.to_owned(),
             phase: Phase::Waiting,
@@ -355,7 +358,7 @@ impl Table {
         }
         self.runs[r].phase = Phase::Live;
         for j in 0..self.runs[r].jobs.len() {
-            if self.runs[r].jobs[j].unsettled == 0 {
+            if self.runs[r].jobs[j].open_needs == 0 {
                 self.open(r, j);
             }
         }
@@ -366,14 +369,14 @@ impl Table {
         let failed = run.event.jobs[j].needs.iter().any(|need| run.jobs[*need].result != Some("success"));
         if run.stopping || failed {
             let result = if run.stopping { "cancelled" } else { "skipped" };
-            return self.settle(r, j, result);
+            return self.end_job(r, j, result);
         }
         let count = run.event.jobs[j].combos.len();
         run.jobs[j].legs = vec![Leg::Ready; count];
         self.ready.extend((0..count).map(|l| (r, j, l)));
     }
 
-    /// Told to stop, a run loses its ready legs; the running ones are to stop.
+    /// Stops a run: its ready legs are cancelled, and its running legs are asked to stop.
     fn stop(&mut self, r: usize) {
         if self.runs[r].stopping {
             return;
@@ -384,7 +387,7 @@ impl Table {
                 match self.runs[r].jobs[j].legs[l] {
                     Leg::Ready => {
                         self.ready.remove(&(r, j, l));
-                        self.end((r, j, l), "cancelled");
+                        self.end_leg((r, j, l), "cancelled");
                     }
                     Leg::Running => self.runs[r].jobs[j].legs[l] = Leg::Stopping,
                     Leg::Stopping | Leg::Ended(_) => {}
@@ -393,36 +396,36 @@ impl Table {
         }
     }
 
-    fn end(&mut self, place: Place, result: &'static str) {
-        let (r, j, l) = place;
+    fn end_leg(&mut self, leg: LegIndex, result: &'static str) {
+        let (r, j, l) = leg;
         let job = &mut self.runs[r].jobs[j];
         job.legs[l] = Leg::Ended(result);
-        job.unended -= 1;
-        if job.unended == 0 {
+        job.open_legs -= 1;
+        if job.open_legs == 0 {
             let worst = ["failure", "cancelled"].into_iter().find(|worst| job.legs.contains(&Leg::Ended(worst)));
-            self.settle(r, j, worst.unwrap_or("success"));
+            self.end_job(r, j, worst.unwrap_or("success"));
         }
     }
 
-    fn settle(&mut self, r: usize, j: usize, result: &'static str) {
+    fn end_job(&mut self, r: usize, j: usize, result: &'static str) {
         let run = &mut self.runs[r];
         run.jobs[j].result = Some(result);
-        run.unsettled -= 1;
-        if run.unsettled == 0 {
-            return self.finish(r);
+        run.open_jobs -= 1;
+        if run.open_jobs == 0 {
+            return self.end_run(r);
         }
         for dependent in 0..self.runs[r].jobs.len() {
             let run = &mut self.runs[r];
             if run.event.jobs[dependent].needs.contains(&j) {
-                run.jobs[dependent].unsettled -= 1;
-                if run.jobs[dependent].unsettled == 0 {
+                run.jobs[dependent].open_needs -= 1;
+                if run.jobs[dependent].open_needs == 0 {
                     self.open(r, dependent);
                 }
             }
         }
     }
 
-    fn finish(&mut self, r: usize) {
+    fn end_run(&mut self, r: usize) {
         self.runs[r].phase = Phase::Ended;
         if self.runs[r].event.group.is_none() {
             return;
@@ -434,8 +437,8 @@ impl Table {
         }
     }
 
-    /// The kept reply, or a refusal, where the number is not the next one.
-    fn out_of_turn(&self, name: &str, number: usize, command: &str) -> Option<String> {
+    /// The kept reply, or a refusal if the number is not the runner's next one.
+    fn repeated_or_refused(&self, name: &str, number: usize, command: &str) -> Option<String> {
         let runner = self.runners.get(name);
         let last = runner.map_or(0, |runner| runner.number);
         match runner {
@@ -451,40 +454,40 @@ impl Table {
     }
 
     fn claim(&mut self, line: &str, name: &str, number: usize, labels: &str) -> String {
-        if let Some(reply) = self.out_of_turn(name, number, line) {
+        if let Some(reply) = self.repeated_or_refused(name, number, line) {
             return reply;
         }
         if self.runners.get(name).is_some_and(|runner| runner.lease.is_some()) {
             return "refused 42".to_owned();
         }
         let has = |wanted: &String| labels.split(',').any(|label| label.eq_ignore_ascii_case(wanted));
-        let fits = |place: &&Place| self.runs[place.0].event.jobs[place.1].labels.iter().all(has);
-        let Some(place) = self.ready.iter().find(fits).copied() else {
+        let fits = |leg: &&LegIndex| self.runs[leg.0].event.jobs[leg.1].labels.iter().all(has);
+        let Some(leg) = self.ready.iter().find(fits).copied() else {
             self.keep(name, number, line, "nothing", None);
             return "nothing".to_owned();
         };
-        self.ready.remove(&place);
+        self.ready.remove(&leg);
         self.last_lease += 1;
-        self.leases.insert(self.last_lease, place);
-        let run = &mut self.runs[place.0];
+        self.leases.insert(self.last_lease, leg);
+        let run = &mut self.runs[leg.0];
         run.claimed = true;
-        run.jobs[place.1].legs[place.2] = Leg::Running;
-        let job = &run.event.jobs[place.1];
-        let reply = format!("lease {} {} {} {} {}", self.last_lease, place.0 + 1, job.id, place.2, job.combos[place.2]);
+        run.jobs[leg.1].legs[leg.2] = Leg::Running;
+        let job = &run.event.jobs[leg.1];
+        let reply = format!("lease {} {} {} {} {}", self.last_lease, leg.0 + 1, job.id, leg.2, job.combos[leg.2]);
         self.keep(name, number, line, &reply, Some(self.last_lease));
         reply
     }
 
     fn done(&mut self, line: &str, name: &str, number: usize, lease: usize, result: &'static str) -> String {
-        if let Some(reply) = self.out_of_turn(name, number, line) {
+        if let Some(reply) = self.repeated_or_refused(name, number, line) {
             return reply;
         }
         if self.runners.get(name).and_then(|runner| runner.lease) != Some(lease) {
             return "refused 44".to_owned();
         }
         self.keep(name, number, line, "ok", None);
-        if let Some(place) = self.leases.remove(&lease) {
-            self.end(place, result);
+        if let Some(leg) = self.leases.remove(&lease) {
+            self.end_leg(leg, result);
         }
         "ok".to_owned()
     }

@@ -1,6 +1,6 @@
 #!/bin/bash
-# `acts play` beside a plain fold in Rust over the scripts of `bench/play`, whose answers both have to give: the ratio of their processor
-# times. Usage: bench/fold/run.sh ACTS. Needs `rustc` and Python 3.
+# `acts play` beside a plain fold in Rust over the scripts of `bench/play`; both have to give the same answers. Prints the ratio of their
+# processor times. Usage: bench/fold/run.sh ACTS. Needs `rustc` and Python 3.
 set -eu
 here=$(cd "$(dirname "$0")" && pwd)
 scratch=$(mktemp -d)

@@ -1,4 +1,4 @@
-"""Writes an area of 64 MiB that records fill: FILE BODY, where each record has so many bytes as its body."""
+"""Writes an area of 64 MiB that is full of records: FILE BODY, where BODY is how many bytes the body of each record has."""
 
 import sys
 

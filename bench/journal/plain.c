@@ -1,4 +1,4 @@
-/* The same by the system's own calls: a write behind the gate, a sync, the gate, a sync; or one read, or a read and
+/* The same by system calls alone: a write after the gate, a sync, the gate, a sync; or one read, or a read and
  * a loop over the records. Arguments: FILE SIZE COUNT; of SIZE 0, with COUNT 1 a read, and with 2 the loop too. */
 #define _GNU_SOURCE
 #include <fcntl.h>
@@ -57,12 +57,12 @@ int main(int argc, char **argv) {
     size_t size = strtoul(argv[2], NULL, 10);
     unsigned long count = strtoul(argv[3], NULL, 10);
     int fd = open(argv[1], O_RDWR | O_CLOEXEC);
-    /* as the disk does that is measured: without it the file would be in the cache here, and there not */
+    /* as the measured disk does: without it the file would be in the cache here, and not there */
     posix_fadvise(fd, 0, 0, POSIX_FADV_DONTNEED);
     if (fd < 0 || fstat(fd, &file) != 0) return 1;
     char *bytes = malloc(file.st_size);
     if (bytes == NULL) return 1;
-    memset(bytes, 1, file.st_size); /* with zeros it would be made a calloc, and the pages come with the read */
+    memset(bytes, 1, file.st_size); /* with zeros the compiler would make it a calloc, and the pages would come with the read */
     clock_gettime(CLOCK_MONOTONIC, &start);
     if (size == 0 ? read_all(fd, bytes, file.st_size) : append(fd, size, count)) return 1;
     size_t at = size == 0 && count == 2 ? first_closed((unsigned char *)bytes, file.st_size) : 0;

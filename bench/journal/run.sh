@@ -1,9 +1,9 @@
 #!/bin/bash
-# Appends of 1, 14, 109 and 4,096 bytes with both syncs, through `gated_journal::Area`, beside a plain loop
-# in C of the same four calls of the system, in turn, on one file system; and a read with a scan of a full
-# area of 64 MiB, and a read with a loop over the records in C, each beside one read of it in C. Prints the median
-# of an append's times, the least of the others, and their ratios.
-# Usage: bench/journal/run.sh [FOLDER [COUNT [ROUNDS]]]; FOLDER lies on the file system to be measured.
+# Appends of 1, 14, 109 and 4,096 bytes with both syncs, through `gated_journal::Area`, alternately with a plain
+# loop in C of the same four system calls, on one file system; and a read with a scan of a full area of 64 MiB,
+# and a read with a loop over the records in C, each beside one read of it in C. Prints the median time of an
+# append, the least time of the others, and their ratios.
+# Usage: bench/journal/run.sh [FOLDER [COUNT [ROUNDS]]]; FOLDER is on the file system to be measured.
 set -eu
 . "$(dirname "$0")/../copy.sh"
 folder=${1:-$here/out}

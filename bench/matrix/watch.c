@@ -1,4 +1,4 @@
-// Watches the allocator. At each line that the program prints, says on descriptor 9 how many bytes are live, and the most that
+// Watches the allocator. For each line that the program prints, it writes to descriptor 9 how many bytes are live, and the most that
 // were live since the line before.
 #define _GNU_SOURCE
 #include <dlfcn.h>

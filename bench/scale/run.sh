@@ -1,7 +1,7 @@
 #!/bin/bash
 # What each command costs in tables of 1,000, 10,000 and 100,000 runs, through `Table::step`: microseconds, and their ratio to those at the
-# first size in the same run, for five shapes of tables. Each table is brought to its size by commands. Beside it the memory of a run. Of runs that
-# are run again the size is the number of attempts.
+# first size in the same run, for five shapes of tables; and the memory of a run. Commands bring each table to its size. For runs that are run
+# again the size is the number of attempts.
 # Usage: bench/scale/run.sh [SIZE..]; each SIZE is from 900 to 100,000.
 set -eu
 . "$(dirname "$0")/../copy.sh"

@@ -15,7 +15,7 @@
 #include <time.h>
 #include <unistd.h>
 
-#define MOST_PAIRS 256
+#define MAX_PAIRS 256
 #define BODY "{\"repo\":\"o/r\",\"path\":\"ci.json\",\"workflow\":{\"jobs\":{\"build\":{\"runs-on\":\"l%ld\"}}}}"
 
 static int ports[2];
@@ -101,7 +101,7 @@ static void *work(void *given) {
 }
 
 int main(int argc, char **argv) {
-    pthread_t threads[MOST_PAIRS];
+    pthread_t threads[MAX_PAIRS];
     double start, end;
     if (argc != 5 && argc != 6) return 2;
     ports[0] = atoi(argv[1]);
@@ -109,7 +109,7 @@ int main(int argc, char **argv) {
     long pairs = atol(argv[3]);
     lifecycles = atol(argv[4]);
     if (argc == 6) sessions = atol(argv[5]);
-    if (pairs < 1 || pairs > MOST_PAIRS || sessions < 1) return 2;
+    if (pairs < 1 || pairs > MAX_PAIRS || sessions < 1) return 2;
     took = calloc(pairs * lifecycles * sessions * 4, sizeof *took);
     if (took == NULL) fail("memory");
     pthread_barrier_init(&begin, NULL, pairs + 1);

@@ -13,13 +13,13 @@
 #include <time.h>
 #include <unistd.h>
 
-#define MOST_SESSIONS 32
+#define MAX_SESSIONS 32
 
 static int ports[2];
 static long lines;
-static _Atomic long counts[MOST_SESSIONS];
+static _Atomic long counts[MAX_SESSIONS];
 static atomic_int over;
-static long sessions, at_end[MOST_SESSIONS];
+static long sessions, at_end[MAX_SESSIONS];
 static struct timespec end;
 static pthread_barrier_t begin;
 
@@ -67,14 +67,14 @@ static void *work(void *given) {
 }
 
 int main(int argc, char **argv) {
-    pthread_t threads[MOST_SESSIONS];
+    pthread_t threads[MAX_SESSIONS];
     struct timespec start;
     if (argc != 5) return 2;
     ports[0] = atoi(argv[1]);
     ports[1] = atoi(argv[2]);
     sessions = atol(argv[3]);
     lines = atol(argv[4]);
-    if (sessions < 1 || sessions > MOST_SESSIONS || lines < 1 || lines > 1000) return 2;
+    if (sessions < 1 || sessions > MAX_SESSIONS || lines < 1 || lines > 1000) return 2;
     pthread_barrier_init(&begin, NULL, sessions + 1);
     for (long i = 0; i < sessions; i++) pthread_create(&threads[i], NULL, work, (void *)i);
     pthread_barrier_wait(&begin);

@@ -1,6 +1,6 @@
 /* A loop that makes the system calls of the service and nothing else: a thread a session, and for each request a write and a sync of a
  * record, a write and a sync of its gate, under one lock, and an answer of the service's length. It reads no request: the clients are
- * those of load.c, which take turns.
+ * those of load.c, which alternate.
  * Arguments: FILE HOOK_PORT RUNNER_PORT SESSIONS [ROUNDS] */
 #define _GNU_SOURCE
 #include <arpa/inet.h>
@@ -13,7 +13,7 @@
 #include <sys/socket.h>
 #include <unistd.h>
 
-#define MOST 64
+#define MAX_SESSIONS 64
 
 static int file, listeners[2];
 static off_t at = 30;
@@ -67,8 +67,8 @@ static void serve_one(int is_hook, int listener) {
     if (stream < 0) exit(1);
     setsockopt(stream, IPPROTO_TCP, TCP_NODELAY, &on, sizeof on);
     for (ssize_t size; (size = read(stream, request, sizeof request)) > 0;) {
-        int told = is_hook ? answer_http(request, answer, sizeof answer) : answer_line(request, answer, sizeof answer);
-        if (write(stream, answer, told) != told) exit(1);
+        int length = is_hook ? answer_http(request, answer, sizeof answer) : answer_line(request, answer, sizeof answer);
+        if (write(stream, answer, length) != length) exit(1);
     }
     close(stream);
 }
@@ -80,12 +80,12 @@ static void *serve(void *given) {
 }
 
 int main(int argc, char **argv) {
-    pthread_t threads[MOST];
+    pthread_t threads[MAX_SESSIONS];
     if (argc != 5 && argc != 6) return 2;
     if (argc == 6) rounds = atol(argv[5]);
     file = open(argv[1], O_RDWR | O_CLOEXEC);
     long sessions = 2 * atol(argv[4]);
-    if (file < 0 || sessions < 2 || sessions > MOST) return 1;
+    if (file < 0 || sessions < 2 || sessions > MAX_SESSIONS) return 1;
     listeners[0] = listen_on(atoi(argv[2]));
     listeners[1] = listen_on(atoi(argv[3]));
     puts("ready");

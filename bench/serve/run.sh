@@ -2,10 +2,10 @@
 # Lifecycles a second (an event posted, its leg claimed and reported done, the run looked at) over `acts serve` on loopback and a file, at
 # 1, 8 and 32 pairs of a session of HTTP and one of runner lines, as it is and with 1 ms more at each sync, beside a loop in C that makes
 # the same system calls (`plain.c`). Prints the medians, their ratios to one pair and to the loop, how many processors the service and its
-# clients had in the mean, how many entries a commit of the service has, and how long 99 of 100 answers take at most. Needs a C compiler.
-# Usage: bench/serve/run.sh ACTS [FOLDER [ROUNDS]]; FOLDER lies on the file system to be measured. LIMIT=SECONDS bounds each server and
-# each load. EARLIER=PROGRAM has another program take turns with both, and prints the ratio to it. RUNS=N (0) begins at so many finished
-# runs, and needs Python 3. HISTORIES=N (1) has so many rounds in each run. PAIRS and EXTRA name other pairs and microseconds.
+# clients had on average, how many entries a commit of the service has, and how long 99 of 100 answers take at most. Needs a C compiler.
+# Usage: bench/serve/run.sh ACTS [FOLDER [ROUNDS]]; FOLDER is on the file system to be measured. LIMIT=SECONDS bounds each server and each
+# load. With EARLIER=PROGRAM a third program takes its turn, and the ratio to it is printed. RUNS=N (0) begins with N finished runs, and
+# needs Python 3. HISTORIES=N (1) makes N rounds in each run. PAIRS and EXTRA name other numbers of pairs and other microseconds.
 set -euo pipefail
 export LC_ALL=C
 here=$(cd "$(dirname "$0")" && pwd)
@@ -18,13 +18,13 @@ runners=$((hooks + 1))
 runs=${RUNS:-0}
 histories=${HISTORIES:-1}
 area=$((runs > 0 ? 67108864 : 8388608))
-# The loop takes the file of the program.
+# The loop uses the file of the program.
 declare -A programs=([acts]=$acts [plain]=$acts)
 [ -z "${EARLIER:-}" ] || programs[earlier]=$(realpath "$EARLIER")
 mkdir -p "$folder"
 scratch=$(mktemp -d)
 server=
-# `timeout` hands the signal on to the server that it started.
+# `timeout` passes the signal on to the server that it started.
 trap '[ -z "$server" ] || kill "$server" 2> /dev/null || true; rm -rf "$scratch"' EXIT
 cc -O2 -pthread -o "$scratch/load" "$here/load.c"
 cc -O2 -pthread -o "$scratch/plain" "$here/plain.c"
@@ -38,7 +38,7 @@ fail() { # WHAT
 start() { # PROGRAM EXTRA PAIRS: starts a server, which ends with its sessions, and waits until it listens
     local words=("$scratch/plain" "$folder/store" "$hooks" "$runners" "$3" "$histories")
     [ "$1" = plain ] || words=("${programs[$1]}" serve "$folder/store" --hook-port "$hooks" --runner-port "$runners" --sessions "$3" --rounds "$histories")
-    # What the server before has said is gone before this one is started: its `ready` is not this one's.
+    # The output of the server before is removed first: its `ready` is not this one's.
     : > "$scratch/said"
     rm -f "$scratch/syncs"
     timeout "$limit" env SYNCS="$scratch/syncs" SLOW_SYNC="$2" LD_PRELOAD="$scratch/slow_sync.so" "${words[@]}" >> "$scratch/said" &
@@ -49,7 +49,7 @@ start() { # PROGRAM EXTRA PAIRS: starts a server, which ends with its sessions, 
     done
 }
 
-ticks() { # the processor time of all processes that were waited for, in seconds
+ticks() { # the processor time of all processes that have been waited for, in seconds
     times > "$scratch/times"
     tail -n 1 "$scratch/times" | sed 's/[ms]/ /g' | awk '{ print 60 * ($1 + $3) + $2 + $4 }'
 }
@@ -69,7 +69,7 @@ one() { # PROGRAM EXTRA PAIRS: one run; adds its lifecycles a second, the proces
     ticks > "$scratch/after"
     read -r before < "$scratch/before"
     read -r after < "$scratch/after"
-    # A lifecycle has four entries. The opening syncs once, and a commit twice.
+    # A lifecycle has four entries. Opening syncs once, a commit twice.
     awk -v b="$before" -v a="$after" -v f="$from" -v t="$EPOCHREALTIME" -v s="$(od -An -td8 -N8 "$scratch/syncs")" \
         '{ print $1 / $2, (a - b) / (t - f), 4 * $1 / ((s - 1) / 2), 1000 * $4 }' "$scratch/took" >> "$scratch/of_$1"
 }

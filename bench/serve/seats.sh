@@ -1,9 +1,9 @@
 #!/bin/bash
 # Sessions of runner lines over `acts serve` that ask for a body that is not there, line by line: answers a second at 1, 8 and 32 sessions, as
-# it is and with 1 ms more at each sync, as a ratio to one session in the same run, entries a commit, and the fewest answers of a session as
-# a part of the most when the first one is done. Needs a C compiler.
-# Usage: bench/serve/seats.sh ACTS [FOLDER [ROUNDS [LINES]]]; FOLDER lies on the file system to be measured. LIMIT=SECONDS bounds each server
-# and each load.
+# it is and with 1 ms more at each sync; their ratio to one session in the same run; entries a commit; and, when the first session is done, the
+# fewest answers of a session as a part of the most. Needs a C compiler.
+# Usage: bench/serve/seats.sh ACTS [FOLDER [ROUNDS [LINES]]]; FOLDER is on the file system to be measured. LIMIT=SECONDS bounds each server and
+# each load.
 set -euo pipefail
 here=$(cd "$(dirname "$0")" && pwd)
 acts=$(realpath "$1")
@@ -15,7 +15,7 @@ hooks=${HOOK_PORT:-20490}
 mkdir -p "$folder"
 scratch=$(mktemp -d)
 server=
-# `timeout` hands the signal on to the server that it started.
+# `timeout` passes the signal on to the server that it started.
 trap '[ -z "$server" ] || kill "$server" 2> /dev/null || true; rm -rf "$scratch"' EXIT
 cc -O2 -pthread -o "$scratch/looks" "$here/looks.c"
 cc -O2 -shared -fPIC -o "$scratch/slow_sync.so" "$here/slow_sync.c" -ldl
@@ -39,7 +39,7 @@ one() { # EXTRA SESSIONS: the answers a second, entries a commit, and fewest of 
     timeout "$limit" "$scratch/looks" "$hooks" "$((hooks + 1))" "$2" "$lines" > "$scratch/took" || fail "the clients ended with status $?"
     wait "$server" || fail "the service ended with status $?"
     server=
-    # The opening syncs once, and a commit twice.
+    # Opening syncs once, a commit twice.
     paste -d ' ' "$scratch/took" <(sed -n 's/^settled //p' "$scratch/said") <(od -An -td8 -N8 "$scratch/syncs") |
         awk '{ printf "%d %.2f %.2f\n", $2 / $1, $5 / (($6 - 1) / 2), $3 / $4 }'
 }

@@ -1,5 +1,5 @@
-/* For LD_PRELOAD: each sync takes SLOW_SYNC microseconds more, and is counted in the first eight bytes of the file SYNCS, where one is named.
- * The program may end without a word, so the count stands in the file at any moment. */
+/* For LD_PRELOAD: each sync takes SLOW_SYNC microseconds more, and is counted in the first eight bytes of the file SYNCS, if one is named.
+ * The program may be killed, so the file has the count at any moment. */
 #define _GNU_SOURCE
 #include <dlfcn.h>
 #include <fcntl.h>

@@ -25,16 +25,16 @@ static void put(struct bytes *out, const char *from, size_t len) {
     out->len += len;
 }
 
-// The length of the head at the front, or 0; whether it closes the session, and how long the body is.
+// The length of the head at the beginning, or 0; whether it closes the session, and how long the body is.
 static size_t head(const char *in, size_t len, int *closes, size_t *body, const char **target, size_t *target_len) {
     const char *end = memmem(in, len, "\r\n\r\n", 4);
     if (!end) return 0;
     const char *space = memchr(in, ' ', len), *line = memchr(in, '\n', len);
     if (!space || !line || line > end + 2) return 0;
     *target = space + 1;
-    const char *behind = memchr(*target, ' ', line - *target);
-    if (!behind) return 0;
-    *target_len = behind - *target;
+    const char *after_target = memchr(*target, ' ', line - *target);
+    if (!after_target) return 0;
+    *target_len = after_target - *target;
     *closes = line[-2] == '0';
     *body = 0;
     for (const char *at = line + 1; at < end;) {

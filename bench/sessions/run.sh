@@ -1,7 +1,7 @@
 #!/bin/bash
-# Sessions of 64 requests `GET /runs/1` in one stream through `webhook_sessions` over a fake, beside a plain loop in C over the same bytes, in
-# turn: the medians of the time of a request, and whether both write the same bytes. Then what the allocator holds in a session of one
-# event, at most, by the size of its body (`bench/matrix/watch.c`): over what stood before it, beside the bytes of its request.
+# Sessions of 64 requests `GET /runs/1` in one stream through `webhook_sessions` over a fake, alternately with a plain loop in C over the same
+# bytes: the median time of a request, and whether both write the same bytes. Then what the allocator holds at most in a session of one
+# event, by the size of its body (`bench/matrix/watch.c`): beyond what it held before, beside the bytes of its request.
 # Usage: bench/sessions/run.sh [SESSIONS [ROUNDS]]
 set -eu
 . "$(dirname "$0")/../copy.sh"

@@ -1,5 +1,5 @@
 #!/bin/bash
-# Prints how the time of `Template::parse` grows: 65,536 bytes against 8,192 (8 times the bytes).
+# Prints how the time of `Template::parse` grows: 65,536 bytes against 8,192, an eighth of the bytes.
 set -eu
 . "$(dirname "$0")/../copy.sh"
 copy_for templates_bench main.rt.txt wf_value wf_expr

@@ -7,11 +7,11 @@
     sweeps/compared/plain.py lines AREA [--preload SCRIPT] < BYTES
 
 It folds the lines over a table of lists and dictionaries, and finds everything by going over the whole table from the first run: no store, no
-index, no limit of memory. `hook` and `lines` play SCRIPT first, and then say what a session over the table writes that gets BYTES and the
-end of its input; AREA is ignored. It is written from the two pages, and of heads from the grammar of `httparse`, so where the
-program and this differ, one of them does not do what the pages say. It needs Python 3.9 or later and nothing else. Left out: an area that is
-full (47), which no script is long enough for, and more than 999,999,999 leases. Case folding is that of this Python's Unicode, which may
-be older than the program's.
+index, no limit of memory. `hook` and `lines` play SCRIPT first, and then print what a session over the table writes for BYTES and the end of
+its input; AREA is ignored. It is written from the two pages, and for heads from the grammar of `httparse`. So where the program and this
+differ, one of them does not do what the pages say. It needs Python 3.9 or later and nothing else. Left out: an area that is full (47), for
+which no script is long enough, and more than 999,999,999 leases. Case folding is that of this Python's Unicode, which may be older than the
+program's.
 """
 
 import itertools
@@ -28,11 +28,11 @@ FORMS = {'delivery': rb'[A-Za-z0-9-]{1,64}', 'event': rb'[a-z0-9_]{1,64}', 'runn
 COMMANDS = {'claim': ('runner', 'number', 'labels'), 'done': ('runner', 'number', 'number', 'result'), 'beat': ('runner', 'number'),
             'cancel': ('number',), 'lost': ('runner',), 'look': ('number',), 'fetch': ('number',), 'rerun': ('number', 'number')}
 ENDED = ('success', 'failure', 'cancelled')
-MOST_OF_A_SCRIPT, MOST_OF_A_BODY, MOST_OF_A_LINE, SLICE = 1 << 20, 65_536, 512, 4096
-MOST_ENTRIES, MOST_RUNS, MOST_ATTEMPTS, MOST_LINES = 100_000, 100_000, 1000, 1024
+MAX_SCRIPT_BYTES, MAX_BODY_BYTES, MAX_LINE_BYTES, SLICE = 1 << 20, 65_536, 512, 4096
+MAX_ENTRIES, MAX_RUNS, MAX_ATTEMPTS, MAX_LINES = 100_000, 100_000, 1000, 1024
 # Refusals of commands that end a session.
 ENDING = (46, 47, 48, 50, 51, 52, 57, 60)
-MOST_OF_A_HEAD, MOST_FIELDS, MOST_REQUESTS = 8192, 64, 64
+MAX_HEAD_BYTES, MAX_FIELDS, MAX_REQUESTS = 8192, 64, 64
 TOKEN, TARGET, VALUE = (re.compile(rb'[%s]*' % them) for them in (rb"!#$%&'*+\-.^_`|~0-9A-Za-z", rb'!-~\x80-\xff', rb'\t -~\x80-\xff'))
 PATHS = ((rb'/runs/(%s)' % FORMS['number'], b'GET', 200, 'look'), (rb'/runs/(%s)/body' % FORMS['number'], b'GET', 200, 'fetch'),
          (rb'/runs/(%s)/cancel' % FORMS['number'], b'POST', 202, 'cancel'),
@@ -43,7 +43,7 @@ PHRASES = {200: 'OK', 201: 'Created', 202: 'Accepted', 400: 'Bad Request', 404: 
 
 
 class Refused(Exception):
-    """A refusal: its number, and what stands behind it."""
+    """A refusal: its number, and what follows it."""
 
     def __str__(self):
         return ' '.join(map(str, ('refused', *self.args)))
@@ -57,7 +57,7 @@ def by_bytes(names):
 
 
 class Float:
-    """A number that is no signed whole number of 64 bits."""
+    """A number that is not a signed whole number of 64 bits."""
 
     def __init__(self, _):
         pass
@@ -163,7 +163,7 @@ class Template:
         return path
 
     def value(self, context):
-        """The scalar that the template has where a context gives paths their scalars."""
+        """The scalar of the template in a context that gives paths their scalars."""
         values = [('str', piece) if is_text(piece) else self.first_true(piece, context) for piece in self.pieces]
         if len(values) == 1 and not is_text(self.pieces[0]):
             return values[0]
@@ -345,7 +345,7 @@ class Event:
     """An admitted event."""
 
     def __init__(self, delivery, name, body):
-        need(len(body) <= MOST_OF_A_BODY, 24)
+        need(len(body) <= MAX_BODY_BYTES, 24)
         value = json_of(body)
         need(isinstance(value, dict), 11)
         for member in ('repo', 'path'):
@@ -436,7 +436,7 @@ class Run:
         return flag_of(self.plan[job].passes_over, self.context(job, leg))
 
     def end_leg(self, job, leg, result):
-        """A leg ends, and where it failed and is not passed over, the others of a job that fails fast are stopped."""
+        """A leg ends. If it failed and is not passed over, the others of a job that fails fast are stopped."""
         legs = self.jobs[job].legs
         legs[leg].phase = result
         if result == 'failure' and self.plan[job].fails_fast and not self.passes_over(job, leg):
@@ -483,7 +483,7 @@ def stop_leg(leg):
 
 
 class Runner:
-    """The number, the command and the reply that are kept of a runner, and what it holds: a lease, and its run, job and leg."""
+    """The last number, command and reply of a runner, and what it holds: a lease, and its run, job and leg."""
 
     def __init__(self):
         self.number, self.command, self.reply, self.holds, self.kept_lease = 0, None, None, None, False
@@ -496,7 +496,7 @@ class Table:
     # Concurrency groups.
 
     def holders(self, group):
-        """All runs and legs of a group that wait for it or have it."""
+        """All runs and legs that wait for a group or hold it."""
         for run in self.runs:
             if run.group == group and run.phase != 'ended':
                 yield run
@@ -507,7 +507,7 @@ class Table:
         return group is None or not any(it.phase != 'waiting' for it in self.holders(group))
 
     def arrive(self, newcomer, group, cancels):
-        """The others that wait for the group end, and with `cancel-in-progress` who has it is stopped."""
+        """The others that wait for the group end, and with `cancel-in-progress` its holder is stopped."""
         if group is None:
             return
         others = [it for it in self.holders(group) if it is not newcomer]
@@ -527,7 +527,7 @@ class Table:
             pass
 
     def rule(self, run):
-        """Takes the first rule that applies in a run. Whether one did."""
+        """Applies the first rule that applies in a run. Whether one did."""
         if run.phase == 'ended' or (run.phase == 'waiting' and not self.may_start(run.group)):
             return False
         if run.phase == 'waiting':
@@ -589,7 +589,7 @@ class Table:
         for run in self.runs:
             if run.event.delivery == event.delivery:
                 return f'created {run.place}'
-        need(len(self.runs) < MOST_RUNS, 48)
+        need(len(self.runs) < MAX_RUNS, 48)
         number = 1 + sum((run.event.repo, run.event.path) == (event.repo, event.path) for run in self.runs)
         run = Run(len(self.runs) + 1, number, event)
         run.phase, run.jobs, run.group = 'ended', [], None
@@ -598,7 +598,7 @@ class Table:
         return f'created {run.place}'
 
     def in_turn(self, name, number, command):
-        """The runner of a numbered command, and the kept reply where the command is its last one once more."""
+        """The runner of a numbered command, and the kept reply if the command is its last one again."""
         runner = self.runners.get(name) or Runner()
         if (number, command) == (runner.number, runner.command):
             return runner, runner.reply
@@ -691,7 +691,7 @@ class Table:
         if attempt != run.attempt:
             if attempt != run.attempt + 1:
                 raise Refused(43, run.attempt)
-            need(run.attempt < MOST_ATTEMPTS, 48)
+            need(run.attempt < MAX_ATTEMPTS, 48)
             need(run.phase == 'ended', 49)
             self.begin_run(run)
         return f'again {place} {attempt}'
@@ -726,13 +726,13 @@ def command_of(line):
 
 
 class Store:
-    """The table, how many entries its history has, and how many bytes of a checkpoint are to be written, where one is begun."""
+    """The table, how many entries its history has, and how many bytes are left to write if a checkpoint is begun."""
 
     def __init__(self):
         self.table, self.entries, self.left = Table(), 0, None
 
     def answer(self, line):
-        """The bytes of the answer to a line, without the line feed behind them."""
+        """The bytes of the answer to a line, without the line feed after them."""
         try:
             steps = {b'commit': self.commit, b'begin': self.begin, b'slice': self.slice, b'finish': self.finish}
             reply = steps[line]() if line in steps else self.ask(*command_of(line))
@@ -745,7 +745,7 @@ class Store:
         return [run.view() for run in self.table.runs]
 
     def ask(self, word, fields):
-        need(self.entries < MOST_ENTRIES, 46)
+        need(self.entries < MAX_ENTRIES, 46)
         self.entries += 1
         return getattr(self.table, word)(*fields)
 
@@ -779,8 +779,8 @@ def play(script, store):
 
 def check(workflow):
     """The lines of `acts check`."""
-    need(len(workflow) <= MOST_OF_A_SCRIPT, 76)
-    need(len(workflow) <= MOST_OF_A_BODY, 24)
+    need(len(workflow) <= MAX_SCRIPT_BYTES, 76)
+    need(len(workflow) <= MAX_BODY_BYTES, 24)
     planned = Workflow(json_of(workflow))
     planned.plan()
     return ''.join(f'{job.name} {place} {combination_text(leg)}\n' for job in planned.jobs for place, leg in enumerate(job.legs)).encode()
@@ -816,7 +816,7 @@ class Head:
             value = self.run(VALUE)
             self.new_line()
             self.fields.append((name.lower(), value.strip(b' \t')))
-            need(len(self.fields) <= MOST_FIELDS, 70)
+            need(len(self.fields) <= MAX_FIELDS, 70)
         self.new_line()
 
     def byte(self):
@@ -855,7 +855,7 @@ class Head:
             raise Answered(411, 71, True)
         if len(given) > 1 or (given and not re.fullmatch(rb'[0-9]{1,9}', given[0])):
             raise Answered(400, 71, True)
-        if given and int(given[0]) > MOST_OF_A_BODY:
+        if given and int(given[0]) > MAX_BODY_BYTES:
             raise Answered(413, 24, True)
         if (self.method, self.target) == (b'POST', b'/events'):
             if not given:
@@ -914,13 +914,13 @@ def answer_to(head, body, store, ends):
 
 
 class Session:
-    """A session over a store that nobody else asks meanwhile. It gets bytes as they come; `over` says that it has ended."""
+    """A session over a store that no other session uses. It gets bytes as they arrive; `over` says that it has ended."""
 
     def __init__(self, store):
         self.store, self.held, self.turns, self.over = store, b'', 0, False
 
     def hear(self, data):
-        """What is written once these bytes have come."""
+        """The bytes that it writes once these bytes have arrived."""
         out, self.held = b'', self.held + data
         while not self.over and (answer := self.next()) is not None:
             out += answer
@@ -936,12 +936,12 @@ class Requests(Session):
     """A session of HTTP."""
 
     def next(self):
-        """The answer to the request that stands first in what is held, or None where that is not whole."""
+        """The answer to the first request of the held bytes, or None if it is not whole."""
         try:
-            head = Head(self.held[:MOST_OF_A_HEAD])
+            head = Head(self.held[:MAX_HEAD_BYTES])
             length = head.length()
         except Cut:
-            return None if len(self.held) < MOST_OF_A_HEAD else self.end(400, 70)
+            return None if len(self.held) < MAX_HEAD_BYTES else self.end(400, 70)
         except Refused:
             return self.end(400, 70)
         except Answered as answer:
@@ -950,7 +950,7 @@ class Requests(Session):
             return None
         body, self.held = self.held[head.at:head.at + length], self.held[head.at + length:]
         self.turns += 1
-        answer, self.over = answer_to(head, body, self.store, head.closes() or self.turns == MOST_REQUESTS)
+        answer, self.over = answer_to(head, body, self.store, head.closes() or self.turns == MAX_REQUESTS)
         return answer
 
 
@@ -958,10 +958,10 @@ class Lines(Session):
     """A session of runner lines."""
 
     def next(self):
-        """The answer to the line that stands first in what is held, or None where that is not whole."""
-        end = self.held.find(b'\n', 0, MOST_OF_A_LINE)
+        """The answer to the first line of what is held, or None if that is not whole."""
+        end = self.held.find(b'\n', 0, MAX_LINE_BYTES)
         if end < 0:
-            self.over = len(self.held) >= MOST_OF_A_LINE
+            self.over = len(self.held) >= MAX_LINE_BYTES
             return b'refused 75\n' if self.over else None
         line, self.held = self.held[:end].removesuffix(b'\r'), self.held[end + 1:]
         word, *fields = line.split(b' ', 1)
@@ -969,7 +969,7 @@ class Lines(Session):
         answer = self.store.answer(word.lower() + b' ' + fields[0]) if known else b'refused 75'
         refused = re.fullmatch(rb'refused (\d+)', answer)
         self.turns += 1
-        self.over = self.turns == MOST_LINES or (refused is not None and int(refused[1]) in ENDING)
+        self.over = self.turns == MAX_LINES or (refused is not None and int(refused[1]) in ENDING)
         return answer + b'\n'
 
 
@@ -979,7 +979,7 @@ def main():
     store, out = Store(), b''
     try:
         if what == 'play':
-            need(len(given) <= MOST_OF_A_SCRIPT, 76)
+            need(len(given) <= MAX_SCRIPT_BYTES, 76)
             out = play(given, store)
         elif what == 'check':
             out = check(given)

@@ -4,9 +4,9 @@
     sweeps/compared/scripts.py SEED LINES             a script of so many lines
     sweeps/compared/scripts.py SEED LINES --workflow  a workflow
 
-A script is made line by line beside the plain model, so that most runners ask in turn for what there is: claims and reports with the next number,
-leases that are held, runs that have ended. Some lines are out of turn, repeated or no commands. Most workflows have no fault; of the others
-a member or some bytes were changed. The store's own lines (`commit`, `begin`, `slice`, `finish`) stand among the others.
+A script is made line by line together with the plain model, so most runners ask in turn for what there is: claims and reports with the next
+number, leases that are held, runs that have ended. Some lines are out of turn, repeated or no commands. Most workflows have no fault; in the
+others a member or some bytes were changed. The store's own lines (`commit`, `begin`, `slice`, `finish`) are among the others.
 """
 
 import json
@@ -133,8 +133,8 @@ def break_one(dice, made):
         it[member] = value
 
 
-def spelled(dice, value):
-    """The bytes of a value, of which some are changed at times."""
+def encoded(dice, value):
+    """The bytes of a value; at times some are changed."""
     data = json.dumps(value, ensure_ascii=chance(dice, 0.5), separators=dice.choice(((',', ':'), (', ', ': ')))).encode()
     if chance(dice, 0.04):
         at = dice.randrange(len(data))
@@ -154,11 +154,11 @@ def body(dice):
         change(dice, made)
     elif chance(dice, 0.1):
         break_one(dice, made['workflow'])
-    return spelled(dice, made)
+    return encoded(dice, made)
 
 
 class Script:
-    """A script that is made beside the model."""
+    """A script that is made together with the model."""
 
     def __init__(self, seed):
         self.dice, self.store, self.lines, self.deliveries = random.Random(f'script {seed}'), plain.Store(), [], 0
@@ -176,7 +176,7 @@ class Script:
         return runner.holds[0] if runner and runner.holds and chance(self.dice, 0.95) else self.dice.randint(1, self.table.last_lease + 1)
 
     def step(self):
-        """A line for the store: mostly the next one of a checkpoint."""
+        """A line for the store: mostly the next step of a checkpoint."""
         if chance(self.dice, 0.4):
             return self.dice.choice((b'commit', b'commit', b'begin', b'slice', b'finish'))
         return b'begin' if self.store.left is None else b'slice' if self.store.left else b'finish'
@@ -233,7 +233,7 @@ def workflow_text(seed):
         change(dice, made)
     elif chance(dice, 0.3):
         break_one(dice, made)
-    return spelled(dice, made)
+    return encoded(dice, made)
 
 
 def main():

@@ -1,14 +1,14 @@
-"""What the comparisons over `acts serve` share that hold sessions whose bytes are made up."""
+"""What the comparisons over `acts serve` with made-up sessions share."""
 
 import socket
 import threading
 
 SECONDS = 60
-MOST_OF_A_LINE = 512
+MAX_LINE_BYTES = 512
 
 
 def free_ports():
-    """Two ports of this machine that nobody has."""
+    """Two free ports of this machine."""
     with socket.socket() as one, socket.socket() as other:
         one.bind(('127.0.0.1', 0))
         other.bind(('127.0.0.1', 0))
@@ -16,15 +16,15 @@ def free_ports():
 
 
 def taken(given):
-    """What a session reads of its bytes: 512 without a line feed end it."""
+    """What a session reads of its bytes: 512 without a line feed end the session."""
     at = 0
-    while (end := given.find(b'\n', at, at + MOST_OF_A_LINE) + 1) > 0:
+    while (end := given.find(b'\n', at, at + MAX_LINE_BYTES) + 1) > 0:
         at = end
-    return given[: at + MOST_OF_A_LINE]
+    return given[: at + MAX_LINE_BYTES]
 
 
 def pieces(given, dice):
-    """1 to 8 bytes, or 1 to 4,096 in one piece of four."""
+    """Pieces of 1 to 8 bytes, and one in four of 1 to 4,096."""
     at = 0
     while at < len(given):
         size = dice.randint(1, dice.choice((8, 8, 8, 4096)))
@@ -43,7 +43,7 @@ def send(stream, given, dice):
 
 
 def said(port, given, dice):
-    """What a session writes that gets these bytes and then the end of its input, and whether its end came without a reset."""
+    """What a session writes for these bytes and then the end of its input, and whether its stream ended without a reset."""
     with socket.create_connection(('127.0.0.1', port), timeout=SECONDS) as stream:
         stream.setsockopt(socket.IPPROTO_TCP, socket.TCP_NODELAY, 1)
         sender = threading.Thread(target=send, args=(stream, given, dice))

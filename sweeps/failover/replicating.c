@@ -1,7 +1,7 @@
 // For LD_PRELOAD: the file PRIMARY as a device that a second machine has too, as the file REPLICA. What is synced is written there before the
-// call returns. Before the call of it whose number is STOP_AT, counting from 1, the first machine is gone: of each write that was not synced
-// nothing, all, a front or some sectors of 512 bytes are on the second one, by SEED, and the process ends with status 9. Where LAG is set, a
-// device that does not wait for the second machine: it is so many syncs behind.
+// call returns. Before call STOP_AT, counting from 1, the first machine fails: of each write that was not synced the second machine has
+// nothing, all, the beginning or some sectors of 512 bytes, by SEED, and the process ends with status 9. If LAG is set, the device does not wait
+// for the second machine, and is LAG syncs behind.
 #define _GNU_SOURCE
 #include <dlfcn.h>
 #include <fcntl.h>
@@ -58,7 +58,7 @@ static void put_some(const struct part *part) {
     }
 }
 
-// Under the lock. Counts a call; the first machine may be gone before it.
+// Under the lock. Counts a call; the first machine may fail before it.
 static void count_call(void) {
     if (++calls != stop_at) return;
     if (lag == 0)

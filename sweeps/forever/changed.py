@@ -1,7 +1,7 @@
 """Sessions whose bytes were changed, over histories that turn over every one to five commands, beside a single round of `acts serve` on the same bytes.
 
-`sweeps/compared/mutations/make` makes them; each meets two fresh services, to which it is sent in pieces by chance. What comes back, and the runs that the file shows,
-have to be the same. Where a stream was reset, the last answers may be lost on the way: there a front of the other's will do, and how often is told.
+`sweeps/compared/mutations/make` makes them; each is sent to two fresh services, in random pieces. What comes back, and the runs that the file shows, have to
+be the same. If a stream was reset, the last answers may be lost on the way: then a prefix of the other's answers will do, and the sweep prints how often.
 """
 
 import collections
@@ -13,13 +13,13 @@ import threading
 
 from checking import Wrong, expect, module, served, stopped
 
-AREA, MOST_CUT_SHORT = 262_144, 0.05
+AREA, MAX_CUT_SHORT = 262_144, 0.05
 make = module('make', '../compared/mutations/make')
 mutations = module('mutations', '../compared/mutations/run')
 
 
 def beat(service, over):
-    """Asks what changes nothing, so that histories turn over, until `over`."""
+    """Asks things that change nothing, so that histories turn over, until `over`."""
     while not over.is_set():
         client = service.runner()
         try:
@@ -31,7 +31,7 @@ def beat(service, over):
 
 
 class Lane:
-    """What a process tries."""
+    """What one process tries."""
 
     def __init__(self, acts, folder):
         self.acts, self.path = acts, os.path.join(folder, f'store{os.getpid()}')
@@ -113,6 +113,6 @@ def check(acts, folder, amount):
                 expect(not kind.startswith('WRONG'), kind)
                 kinds[kind] += 1
                 turned += histories
-        expect(kinds['cut short by a reset'] <= max(2, MOST_CUT_SHORT * count), 'resets have cut short', kinds)
-        told = ', '.join(f'{times} {kind}' for kind, times in sorted(kinds.items()))
-        yield f'{count} changed sessions of {what} beside a single round: {told}; {turned} histories turned over'
+        expect(kinds['cut short by a reset'] <= max(2, MAX_CUT_SHORT * count), 'resets have cut short', kinds)
+        summary = ', '.join(f'{times} {kind}' for kind, times in sorted(kinds.items()))
+        yield f'{count} changed sessions of {what} beside a single round: {summary}; {turned} histories turned over'

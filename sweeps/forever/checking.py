@@ -1,4 +1,4 @@
-"""What the checks of a service without end share: how they say that something is wrong, and how they do several things at a time."""
+"""What the checks of a service without end share: how they report a fault, and how they do several things at a time."""
 
 import importlib.machinery
 import importlib.util
@@ -21,7 +21,7 @@ def module(name, path):
 
 
 class Wrong(Exception):
-    """What is not as it has to be."""
+    """Something is not as it has to be."""
 
 
 def expect(holds, *what):
@@ -30,7 +30,7 @@ def expect(holds, *what):
 
 
 def at_once(tasks, seconds):
-    """Does tasks at the same time, each in a thread, and waits so long for all. The first fault of one is raised."""
+    """Does tasks at the same time, each in a thread, and waits so long for all. Raises the first fault of one."""
     faults = []
 
     def do(task):
@@ -61,13 +61,13 @@ def opened(acts, folder, seats, area=8 << 20, **how):
 
 
 def stopped(service):
-    """Kills a service that has to be there until then."""
+    """Kills a service that has to be running until then."""
     fault = service.kill()
     expect(fault is None, fault)
 
 
 def turned_over(service, client):
-    """Has a runner ask until one more history has turned over; and its client, which may be another one behind the end of its session."""
+    """Lets a runner ask until one more history has turned over. Gives its client, which is another one if its session has ended."""
     wanted = len(service.settled) + 1
     while len(service.settled) < wanted:
         try:

@@ -1,4 +1,4 @@
-"""What ends the process, with which status: a port that is taken, a file that is no store, a standard output that is gone, and words that do not fit."""
+"""What ends the process, and with which status: a port that is taken, a file that is no store, a closed standard output, and wrong arguments."""
 
 import os
 import socket
@@ -42,7 +42,7 @@ def before_it_is_ready(acts, folder, path):
 
 
 def without_output(acts, path):
-    """Nobody reads what the service prints: it ends once it has something to tell."""
+    """Nobody reads what the service prints: it ends once it has something to print."""
     service = served.Service(acts, path, 2, endless=['--forever', '--turn-over', '5'])
     expect(service.ready, 'not ready')
     service.child.stdout.close()

@@ -1,8 +1,8 @@
-"""Services a write or a sync of whose file fails at random under load, one after the other over the same file.
+"""Services over the same file, one after the other, each with a write or a sync that fails at random under load.
 
-`sweeps/stops/failing.c` has the call fail whose number is said, alone or with all behind it, and of a write nothing or half is written. Each client that
-has asked before has to be answered, by its reply, 51 or 52; the service ends by itself with 51 or 52, status 1, within seconds; and the next one
-opens the file.
+`sweeps/stops/failing.c` fails the call with a given number, alone or with all after it, and of a write nothing or half is written. Each client that
+has asked before has to get its reply, 51 or 52; the service ends by itself with 51 or 52, status 1, within seconds; and the next one opens the
+file.
 """
 
 import collections
@@ -17,11 +17,11 @@ from load import Load
 
 SEATS, AREA = killed.SEATS, killed.AREA
 SECONDS = 5
-MOST_CALLS, MOST_RUNS = 400, 700
+MAX_CALLS, MAX_RUNS = 400, 700
 
 
 def meet(acts, path, load, dice, settings):
-    """One service, one of whose calls fails. How it ended, how long after the fault, and whether the fault came before it was ready."""
+    """One service with one failing call. How it ended, how long after the fault, and whether the fault came before it was ready."""
     service = served.Forever(acts, path, SEATS, turn_over=killed.TURN_OVER, settings=settings)
     if not service.ready:
         status, out, err, failed = service.end(SECONDS)
@@ -29,12 +29,12 @@ def meet(acts, path, load, dice, settings):
         return 'at the opening', 0.0, 0
     load.begin(service, 1 << 30)
     fault = service.wait_failure(60)
-    expect(fault is not None, settings, 'no call has failed for 60 seconds, after', load.told.answers, 'answers')
+    expect(fault is not None, settings, 'no call has failed for 60 seconds, after', load.log.answers, 'answers')
     try:
         status, out, err, failed = service.end(SECONDS)
     except subprocess.TimeoutExpired:
         load.end()
-        expect(False, settings, 'the service goes on', SECONDS, 'seconds behind a call that failed')
+        expect(False, settings, 'the service goes on', SECONDS, 'seconds after a call failed')
     took = time.monotonic() - fault
     load.end()
     expect(status == 1 and out == '' and err in ('acts: refused 51\n', 'acts: refused 52\n') and failed, settings, 'the end', status, out, err)
@@ -49,17 +49,17 @@ def check(acts, folder, amount):
     while failed < amount.faults:
         load, stores = Load(f'{amount.seed} fault {stores}'), stores + 1
         served.init(acts, path, AREA)
-        while failed < amount.faults and len(load.told.runs) < MOST_RUNS:
-            settings = {'LD_PRELOAD': shim, 'FAIL_AT': dice.randint(1, 3 if dice.random() < 0.1 else MOST_CALLS)}
+        while failed < amount.faults and len(load.log.runs) < MAX_RUNS:
+            settings = {'LD_PRELOAD': shim, 'FAIL_AT': dice.randint(1, 3 if dice.random() < 0.1 else MAX_CALLS)}
             settings.update({name: 1 for name in ('FAIL_AFTER', 'FAIL_HALF') if dice.random() < 0.5})
-            end, took, told = meet(acts, path, load, dice, settings)
+            end, took, refusals = meet(acts, path, load, dice, settings)
             load.look_at(served.show(acts, path))
-            failed, slowest, refused = failed + 1, max(slowest, took), refused + told
+            failed, slowest, refused = failed + 1, max(slowest, took), refused + refusals
             ends[end] += 1
         service = killed.begin(acts, path)
         load.settle(service)
         stopped(service)
         load.all_ended(served.show(acts, path))
     kinds = ', '.join(f'{count} {end}' for end, count in sorted(ends.items()))
-    yield (f'{failed} calls failed over {stores} stores: services ended {kinds}, {slowest:.1f} s behind the call at the longest; '
+    yield (f'{failed} calls failed over {stores} stores: services ended {kinds}, {slowest:.1f} s after the call at most; '
            f'{refused} clients were refused 51 or 52, none was left without an answer, nothing was lost')

@@ -1,4 +1,4 @@
-"""When a history turns over: behind so many commands, or behind 64 MiB of bodies that were sent or answered; and what it is said to have had."""
+"""When a history turns over: after so many commands, or after 64 MiB of bodies that were sent or answered; and the printed number of its entries."""
 
 import os
 import time
@@ -7,12 +7,12 @@ from checking import at_once, expect, opened, served, stopped
 
 SEATS, TURN_OVER, COMMANDS, CLIENTS = 4, 100, 1000, 8
 BODY = served.BODY + b' ' * 60_000
-# The bytes behind which a history turns over, and how much later it may.
+# The bytes after which a history turns over, and how much later it may.
 BYTES, MORE = 64 << 20, 8 << 20
 
 
 def by_commands(acts, folder):
-    """Eight clients ask a thousand commands together. No history has fewer than it may have, and all of them together have what was asked."""
+    """Eight clients ask a thousand commands together. No history has fewer than it may have, and all of them together have all that was asked."""
     service, _ = opened(acts, folder, SEATS, turn_over=TURN_OVER)
 
     def ask():
@@ -25,7 +25,7 @@ def by_commands(acts, folder):
     expect(service.wait_settled(1), 'no history has turned over')
     time.sleep(0.5)
     settled = list(service.settled)
-    # A seat may answer what it holds already: a read of lines has 512 bytes.
+    # A seat may still answer what it has read: a read of lines has 512 bytes.
     most = TURN_OVER + SEATS * (512 // len(b'BEAT nobody 1\n') + 1)
     expect(all(TURN_OVER <= count <= most for count in settled), 'histories of', settled, 'entries')
     expect(0 <= COMMANDS - sum(settled) <= most, COMMANDS, 'commands in histories of', settled, 'entries')
@@ -54,7 +54,7 @@ def bodies(service):
 
 
 def by_bytes(acts, folder, what):
-    """Bodies of 60,000 bytes are sent, or asked for, until a history turns over. What it keeps of them would else take all memory."""
+    """Bodies of 60,000 bytes are sent, or asked for, until a history turns over. Otherwise what it keeps of them would take all memory."""
     service, path = opened(acts, folder, SEATS, area=64 << 20)
     hook = service.hook()
     expect(hook.ask(served.event('d1', BODY)) == (201, 'created 1'), 'an event')
@@ -62,13 +62,13 @@ def by_bytes(acts, folder, what):
     asked = 1
     while not service.settled and asked * len(BODY) < BYTES + MORE:
         asked += what(service)
-    expect(service.wait_settled(1, 5), 'no history has turned over behind', asked * len(BODY), 'bytes of', what.__name__)
+    expect(service.wait_settled(1, 5), 'no history has turned over after', asked * len(BODY), 'bytes of', what.__name__)
     first = service.settled[0] * len(BODY)
-    expect(BYTES - MORE <= first <= BYTES + MORE, 'a history turned over behind', first, 'bytes of', what.__name__)
+    expect(BYTES - MORE <= first <= BYTES + MORE, 'a history turned over after', first, 'bytes of', what.__name__)
     stopped(service)
     expect(len(served.show(acts, path)) == 1, 'a second run')
     os.remove(path)
-    return f'{what.__name__} of {len(BODY)} bytes: a history turned over behind {service.settled[0]} of them, {first / (1 << 20):.1f} MiB'
+    return f'{what.__name__} of {len(BODY)} bytes: a history turned over after {service.settled[0]} of them, {first / (1 << 20):.1f} MiB'
 
 
 def check(acts, folder, amount):

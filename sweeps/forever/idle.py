@@ -1,11 +1,11 @@
-"""`--idle 2`: who says nothing for two seconds is let go, as at the end of its input, and nobody else."""
+"""`--idle 2`: a client that says nothing for two seconds is disconnected, as at the end of its input, and no other is."""
 
 import time
 
 from checking import at_once, expect, opened, served, stopped
 
 IDLE, SECONDS = 2, 7
-# The earliest and the latest end of a silent one, in seconds.
+# The earliest and the latest end of a silent client, in seconds.
 EARLIEST, LATEST = 1.8, 4.5
 
 
@@ -28,7 +28,7 @@ def check(acts, folder, amount):
         client.close()
 
     def goes_on(client, what, answer, pause):
-        """Asks now and then, with a pause that is shorter than a silence may be; or sends a byte at a time."""
+        """Asks now and then, with pauses shorter than the limit; or sends a byte at a time."""
         start, asked = time.monotonic(), 0
         while time.monotonic() - start < SECONDS:
             pieces = [what] if pause else [bytes([byte]) for byte in what]
@@ -41,10 +41,10 @@ def check(acts, folder, amount):
         client.close()
 
     look = b'GET /runs/9 HTTP/1.1\r\n\r\n'
-    told = b'HTTP/1.1 404 Not Found\r\nContent-Type: text/plain\r\nContent-Length: 11\r\n\r\nrefused 40\n'
+    seen = b'HTTP/1.1 404 Not Found\r\nContent-Type: text/plain\r\nContent-Length: 11\r\n\r\nrefused 40\n'
     tasks = [lambda said=said: let_go(service.runner(), said) for said in (b'', b'BEAT r', b'BEAT nobody 1\n')]
     tasks += [lambda said=said: let_go(service.hook(), said) for said in (b'', look[:9], served.event('d1')[:-3])]
-    tasks += [lambda: goes_on(service.runner(), b'BEAT nobody 1\n', b'refused 45\n', IDLE / 2), lambda: goes_on(service.hook(), look, told, IDLE / 2)]
+    tasks += [lambda: goes_on(service.runner(), b'BEAT nobody 1\n', b'refused 45\n', IDLE / 2), lambda: goes_on(service.hook(), look, seen, IDLE / 2)]
     tasks += [lambda: goes_on(service.runner(), b'BEAT r 1\n', b'refused 45\n', 0)]
     at_once(tasks, 60)
     stopped(service)

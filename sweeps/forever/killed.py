@@ -1,4 +1,4 @@
-"""Services that are ended by `kill -9` under load, one after the other over the same file, over histories that turn over every 150 commands."""
+"""Services over the same file, one after the other, that end by `kill -9` under load, with histories that turn over every 150 commands."""
 
 import os
 import random
@@ -9,7 +9,7 @@ from checking import Wrong, expect, served, stopped
 from load import Load
 
 SEATS, TURN_OVER, AREA = 4, 150, 262_144
-MOST_ANSWERS, MOST_RUNS = 500, 700
+MAX_ANSWERS, MAX_RUNS = 500, 700
 
 
 def begin(acts, path):
@@ -20,7 +20,7 @@ def begin(acts, path):
 
 
 def checkpoints_in(path):
-    """How many checkpoints stand in the file: the generations behind an open gate count them."""
+    """How many checkpoints the file has had: the generations after an open gate count them."""
     with open(path, 'rb') as file:
         heads = []
         for place in (0, AREA):
@@ -48,26 +48,26 @@ class Chain:
         self.early += 1
 
     def kill(self):
-        """Kills a service behind a number of answers, or about when a history turns over, and looks at what the file shows."""
+        """Kills a service after a number of answers, or about when a history turns over, and looks at what the file shows."""
         service = begin(self.acts, self.path)
-        self.load.begin(service, self.dice.randint(1, MOST_ANSWERS))
+        self.load.begin(service, self.dice.randint(1, MAX_ANSWERS))
         if self.dice.random() < 0.3:
             service.wait_settled(self.dice.randint(1, 3), 20)
             time.sleep(self.dice.random() * 0.003)
         else:
-            self.load.told.over.wait(30)
+            self.load.log.over.wait(30)
             time.sleep(self.dice.random() * 0.01)
         fault = service.kill()
         self.load.end()
         expect(fault is None, fault)
-        self.kills, self.turned, self.answers = self.kills + 1, self.turned + len(service.settled), self.answers + self.load.told.answers
+        self.kills, self.turned, self.answers = self.kills + 1, self.turned + len(service.settled), self.answers + self.load.log.answers
         self.load.look_at(served.show(self.acts, self.path))
 
     def is_long(self):
-        return len(self.load.told.runs) >= MOST_RUNS
+        return len(self.load.log.runs) >= MAX_RUNS
 
     def end(self):
-        """A last service, over which all is brought to its end."""
+        """A last service, over which everything is finished."""
         service = begin(self.acts, self.path)
         self.load.settle(service)
         stopped(service)
@@ -88,8 +88,8 @@ def check(acts, folder, amount):
         chain.end()
         chains.append((chain, checkpoints_in(path)))
         os.remove(path)
-    runs, leases = (sum(len(getattr(chain.load.told, name)) for chain, _ in chains) for name in ('runs', 'leases'))
-    again = sum(attempt - 1 for chain, _ in chains for attempt in chain.load.told.begun.values())
+    runs, leases = (sum(len(getattr(chain.load.log, name)) for chain, _ in chains) for name in ('runs', 'leases'))
+    again = sum(attempt - 1 for chain, _ in chains for attempt in chain.load.log.begun.values())
     yield (f'{kills} services killed, {sum(chain.early for chain, _ in chains)} of them as they began, over {len(chains)} stores; '
-           f'{sum(chain.turned for chain, _ in chains)} histories had turned over, {sum(count for _, count in chains)} checkpoints stand, '
+           f'{sum(chain.turned for chain, _ in chains)} histories had turned over, {sum(count for _, count in chains)} checkpoints in the files, '
            f'{sum(chain.answers for chain, _ in chains)} answers; {runs} runs of as many deliveries, run again {again} times, {leases} leases, none lost and none twice')

@@ -1,8 +1,8 @@
 """More clients than can be accepted, and a service that is given few threads.
 
-With `ulimit -n 64` a hundred clients come to a port, and without it 1,120: those who are accepted are answered, the others once these have gone, and meanwhile
-the service rests. As a user of its own with few threads (RLIMIT_NPROC, which binds no administrator) it either ends with 50 before its first client, or serves
-both ports. One that finds no thread later on, since its limit was lowered, goes on, and serves all once the limit is as it was.
+With `ulimit -n 64` a hundred clients come to a port, and without it 1,120: those that are accepted are answered, the others once these have gone, and meanwhile
+the service rests. As a user of its own with few threads (RLIMIT_NPROC, which does not bind root) it either ends with 50 before its first client, or serves
+both ports. One that finds no thread later on, since its limit was lowered, goes on, and serves all clients once the limit is restored.
 """
 
 import collections
@@ -23,7 +23,7 @@ BEAT, TOLD = b'BEAT nobody 1\n', b'refused 45\n'
 
 
 def answered(waiting, seconds):
-    """Those of the clients who are given an answer before nothing has come for so many seconds."""
+    """The clients that get an answer before nothing has come for so many seconds."""
     got, poll, clients = [], select.poll(), {client.stream.fileno(): client for client in waiting}
     for client in waiting:
         poll.register(client.stream, select.POLLIN)
@@ -37,7 +37,7 @@ def answered(waiting, seconds):
 
 
 def more_than_are_accepted(acts, folder, what, count, least, limits=()):
-    """So many clients come to a port, of whom LEAST have to be accepted at once."""
+    """So many clients come to a port; LEAST of them have to be accepted at once."""
     service, path = opened(acts, folder, SEATS, limits=limits)
     waiting = [service.runner() for _ in range(count)]
     for client in waiting:
@@ -58,7 +58,7 @@ def more_than_are_accepted(acts, folder, what, count, least, limits=()):
     for client in now:
         client.close()
     hook = service.hook()
-    expect(hook.ask(served.event('d1')) == (201, 'created 1'), 'an event behind all')
+    expect(hook.ask(served.event('d1')) == (201, 'created 1'), 'an event after all')
     hook.close()
     stopped(service)
     os.remove(path)
@@ -80,7 +80,7 @@ def works(service, name):
 
 @contextlib.contextmanager
 def threads(count):
-    """What is started meanwhile may have so many threads, with all of its user. An administrator is not bound."""
+    """What is started meanwhile may have so many threads, counted over all of its user. Root is not bound."""
     limits = resource.getrlimit(resource.RLIMIT_NPROC)
     resource.setrlimit(resource.RLIMIT_NPROC, (count, limits[1]))
     try:
@@ -90,7 +90,7 @@ def threads(count):
 
 
 def of_a_user(acts, folder):
-    """The program and a store for a user who is nobody else."""
+    """The program and a store for a user of its own."""
     user, place = 200_000 + os.getpid() % 100_000, os.path.join(folder, 'of_a_user')
     os.chmod(folder, 0o755)
     os.makedirs(place, exist_ok=True)
@@ -102,7 +102,7 @@ def of_a_user(acts, folder):
 
 
 def with_threads(acts, folder, limit):
-    """What becomes of a service that may have so many threads."""
+    """What happens to a service that may have so many threads."""
     user, path = of_a_user(acts, folder)
     with threads(limit):
         service = served.Forever(acts, path, SEATS, turn_over=20, user=user)
@@ -131,7 +131,7 @@ def few_threads(acts, folder):
 
 
 def limit_threads(service, user, count):
-    """Has a service that runs have so many threads from now on. An administrator may lack the right to, and its own user has it."""
+    """Limits a running service to so many threads. Root may lack the right to do so; the service's own user has it."""
     subprocess.run(['prlimit', f'--pid={service.child.pid}', f'--nproc={count}:'], check=True, cwd='/', user=user, group=user, extra_groups=[])
 
 
@@ -155,11 +155,11 @@ def threads_later(acts, folder):
     expect(service.child.poll() is None, 'a service that found no thread has ended')
     limit_threads(service, user, 64)
     start = time.monotonic()
-    works(service, 'behind')
+    works(service, 'after')
     took = time.monotonic() - start
     expect(took < SECONDS, 'once threads can be had again all is answered after', f'{took:.1f} s')
     stopped(service)
-    return f'no further thread for 3 s: {asked} clients were answered meanwhile, and all once there were threads again, the last {took:.2f} s behind'
+    return f'no further thread for 3 s: {asked} clients were answered meanwhile, and all once there were threads again, the last {took:.2f} s later'
 
 
 def check(acts, folder, amount):

@@ -1,8 +1,8 @@
-"""Senders and runners that go on over one service after the other, and what they were told. Whatever was told has to stand.
+"""Senders and runners that go on over one service after the other, and what they were answered. All answers have to hold.
 
-A sender posts events, looks at their runs, posts some once more, and has some run again. A runner claims, asks whether to go on, and reports. Where a
-service ends before an answer, both say the same again to the next one: a delivery gets the run that it has, an attempt is answered as it was, and a
-runner's last command gets the reply that it got. So no delivery makes two runs, no attempt begins twice, each leg is leased once, and no number of a
+A sender posts events, looks at their runs, posts some once more, and re-runs some. A runner claims, asks whether to go on, and reports. If a service
+ends before an answer, both repeat their request to the next one: a delivery gets the run that it has, an attempt is answered as before, and a
+runner's last command gets its reply again. So no delivery makes two runs, no attempt begins twice, each leg is leased once, and no number of a
 runner is out of turn.
 """
 
@@ -30,16 +30,16 @@ def succeeded(run, attempt):
     return f'run {run} {number} completed success build:success(success)'
 
 
-class Told:
-    """What was answered, of all clients."""
+class AnswerLog:
+    """What all clients were answered."""
 
     def __init__(self):
         self.lock, self.runs, self.leases, self.done = threading.Lock(), {}, {}, collections.Counter()
-        self.wanted, self.begun = {}, {} # of runs that are run again: the last attempt that was asked for, and the last that was answered
+        self.wanted, self.begun = {}, {} # of re-runs: the last attempt that was asked for, and the last that was answered
         self.enough, self.answers, self.over, self.ends = 0, 0, threading.Event(), threading.Event()
 
     def begin(self, enough):
-        """So many answers, and then `over` is set."""
+        """Counts answers, and sets `over` after so many."""
         self.enough, self.answers = enough, 0
         self.over.clear()
         self.ends.clear()
@@ -79,16 +79,16 @@ class Told:
 
 
 class Client:
-    """One who asks, over one stream after the other. `asked` is when it had sent what it was not answered yet."""
+    """A client over one stream after the other. `asked` is the time at which it sent what is not answered yet."""
 
-    def __init__(self, told, name, dice):
-        self.told, self.name, self.dice, self.asked, self.refused = told, name, dice, None, None
+    def __init__(self, log, name, dice):
+        self.log, self.name, self.dice, self.asked, self.refused = log, name, dice, None, None
 
     def come(self, service):
-        """Asks until the service is gone or refuses, or no more is to be asked."""
+        """Sends requests until the service is gone or refuses, or nothing is left to send."""
         self.refused, self.asked = None, None
         try:
-            while not self.told.ends.is_set() and not self.refused:
+            while not self.log.ends.is_set() and not self.refused:
                 client = self.connect(service)
                 try:
                     self.talk(client)
@@ -100,12 +100,12 @@ class Client:
             pass
 
     def ask(self, client, what):
-        """The answer, or None where the device has failed."""
+        """The answer, or None if the device has failed."""
         client.send(what)
         self.asked = time.monotonic()
         status, answer = client.answer()
         self.asked = None
-        self.told.count()
+        self.log.count()
         if answer in REFUSED:
             expect(status in (None, 503), self.name, 'was answered', status, answer)
             self.refused = answer
@@ -123,36 +123,36 @@ class Sender(Client):
 
     def talk(self, client):
         for _ in range(REQUESTS):
-            if self.told.ends.is_set():
+            if self.log.ends.is_set():
                 return
             mine = self.dice.randrange(self.next) if self.next and self.dice.random() < 0.2 else self.next
             delivery = f'{self.name}-{mine}'
             if mine == self.next and self.next and self.dice.random() < 0.3:
-                answer = self.ask(client, served.look(self.told.runs[f'{self.name}-{self.next - 1}']))
+                answer = self.ask(client, served.look(self.log.runs[f'{self.name}-{self.next - 1}']))
                 expect(answer is None or answer.startswith('run '), self.name, 'looks and is answered', answer)
             elif self.next and self.dice.random() < 0.3:
-                answer = self.rerun(client, self.told.runs[f'{self.name}-{self.dice.randrange(self.next)}'])
+                answer = self.rerun(client, self.log.runs[f'{self.name}-{self.dice.randrange(self.next)}'])
             else:
                 self.sent = max(self.sent, mine + 1)
                 answer = self.ask(client, served.event(delivery))
                 if answer is not None:
                     found = re.fullmatch(r'created (\d+)', answer)
                     expect(found, 'the delivery', delivery, 'is answered', answer)
-                    self.told.created(delivery, int(found[1]))
+                    self.log.created(delivery, int(found[1]))
                     self.next = max(self.next, mine + 1)
             if answer is None:
                 return
 
     def rerun(self, client, run):
-        """Has a run of its own run again, or asks for the attempt at which it is."""
-        present = self.told.begun.get(run, 1)
+        """Re-runs a run of its own, or asks for its current attempt again."""
+        present = self.log.begun.get(run, 1)
         attempt = present if self.dice.random() < 0.3 else present + 1
-        self.told.wants(run, attempt)
+        self.log.wants(run, attempt)
         answer = self.ask(client, served.rerun(run, attempt))
         if answer == f'again {run} {attempt}':
-            self.told.again(run, attempt)
+            self.log.again(run, attempt)
         else:
-            # where an answer was lost, the run may be at the next attempt already
+            # if an answer was lost, the run may be at the next attempt already
             allowed = ('refused 49',) if attempt > present else (f'refused 43 {present + 1}',)
             expect(answer is None or answer in allowed, 'attempt', attempt, 'of run', run, 'is answered', answer)
         return answer
@@ -168,7 +168,7 @@ class Runner(Client):
 
     def talk(self, client):
         for _ in range(LINES):
-            if self.told.ends.is_set() and self.line is None:
+            if self.log.ends.is_set() and self.line is None:
                 return
             if self.line is None and self.lease and self.dice.random() < 0.3:
                 answer = self.ask(client, f'BEAT {self.name} {self.lease}\n'.encode())
@@ -179,7 +179,7 @@ class Runner(Client):
                 return
 
     def command(self, client):
-        """The claim or report that it is at, for the first time or once more."""
+        """Its current claim or report, for the first time or again."""
         if self.line is None:
             self.number += 1
             self.line = f'DONE {self.name} {self.number} {self.lease} success\n' if self.lease else f'CLAIM {self.name} {self.number} linux\n'
@@ -188,11 +188,11 @@ class Runner(Client):
             return None
         if self.lease:
             expect(answer == 'ok', self.line, 'is answered', answer)
-            self.told.ended(self.run)
+            self.log.ended(self.run)
             self.lease = self.run = None
         elif found := re.fullmatch(r'lease (\d+) (\d+) build 0 {}', answer):
             self.lease, self.run = int(found[1]), int(found[2])
-            self.told.leased(self.lease, self.run, (self.name, self.number))
+            self.log.leased(self.lease, self.run, (self.name, self.number))
         else:
             expect(answer == 'nothing', self.line, 'is answered', answer)
             time.sleep(0.002)
@@ -217,14 +217,14 @@ class Load:
     """All clients, over one store."""
 
     def __init__(self, seed):
-        self.told = Told()
-        self.senders = [Sender(self.told, f's{place}', random.Random(f'{seed} s{place}')) for place in range(SENDERS)]
-        self.runners = [Runner(self.told, f'r{place}', random.Random(f'{seed} r{place}')) for place in range(RUNNERS)]
+        self.log = AnswerLog()
+        self.senders = [Sender(self.log, f's{place}', random.Random(f'{seed} s{place}')) for place in range(SENDERS)]
+        self.runners = [Runner(self.log, f'r{place}', random.Random(f'{seed} r{place}')) for place in range(RUNNERS)]
         self.threads, self.faults = [], []
 
     def begin(self, service, enough):
-        """Has all clients come to a service; behind so many answers `told.over` is set."""
-        self.told.begin(enough)
+        """Connects all clients to a service; after so many answers `log.over` is set."""
+        self.log.begin(enough)
         self.threads = [threading.Thread(target=self.come, args=(client, service), daemon=True) for client in self.clients()]
         for thread in self.threads:
             thread.start()
@@ -237,7 +237,7 @@ class Load:
             client.come(service)
         except Wrong as wrong:
             self.faults.append(wrong)
-            self.told.over.set()
+            self.log.over.set()
 
     def end(self):
         """Waits for all clients: the service is gone, or they ask no more."""
@@ -247,24 +247,24 @@ class Load:
         expect(not self.faults, *self.faults[:1])
 
     def look_at(self, shown):
-        """What was answered stands in the views of the file, and no delivery has two runs."""
+        """The views of the file have what was answered, and no delivery has two runs."""
         views = dict(enumerate(shown, 1))
-        told = self.told
+        log = self.log
         expect(len(views) <= sum(sender.sent for sender in self.senders), len(views), 'runs of', sum(sender.sent for sender in self.senders), 'deliveries')
-        for delivery, run in told.runs.items():
+        for delivery, run in log.runs.items():
             expect(run in views, 'LOST: run', run, 'of the delivery', delivery)
-        leased = collections.Counter(run for run, _ in told.leases.values())
+        leased = collections.Counter(run for run, _ in log.leases.values())
         for run, view in views.items():
             attempt = attempt_in(view)
-            expect(told.begun.get(run, 1) <= attempt <= told.wanted.get(run, 1), 'LOST, or begun twice: an attempt up to', told.wanted.get(run, 1), view)
-            expect(told.done[run] <= leased[run] <= attempt, leased[run], 'leases and', told.done[run], 'reports', view)
+            expect(log.begun.get(run, 1) <= attempt <= log.wanted.get(run, 1), 'LOST, or begun twice: an attempt up to', log.wanted.get(run, 1), view)
+            expect(log.done[run] <= leased[run] <= attempt, leased[run], 'leases and', log.done[run], 'reports', view)
             expect(leased[run] < attempt or 'open(ready)' not in view, 'LOST: the last of', leased[run], 'leases', view)
-            expect(told.done[run] < attempt or view == succeeded(run, attempt), 'LOST: a report', view)
+            expect(log.done[run] < attempt or view == succeeded(run, attempt), 'LOST: a report', view)
 
     def settle(self, service):
-        """Has each client ask again what it was not answered, and the runners go on until nothing is left. Then each run has ended."""
-        self.told.begin(0)
-        self.told.ends.set()
+        """Lets each client repeat what was not answered, and the runners go on until nothing is left. Then each run has ended."""
+        self.log.begin(0)
+        self.log.ends.set()
         hook = service.hook()
         asked = 0
         for sender in self.senders:
@@ -274,18 +274,18 @@ class Load:
                     hook, asked = service.hook(), 0
                 delivery = f'{sender.name}-{place}'
                 answer = hook.ask(served.event(delivery))
-                self.told.created(delivery, int(answer[1].removeprefix('created ')))
+                self.log.created(delivery, int(answer[1].removeprefix('created ')))
                 sender.next, asked = max(sender.next, place + 1), asked + 1
         hook.close()
         at_once([lambda runner=runner: runner.drain(service) for runner in self.runners], 60)
 
     def all_ended(self, shown):
-        """Behind `settle` there is a run for each delivery, each was leased once in each attempt, and has ended."""
+        """After `settle` there is a run for each delivery; each was leased once in each attempt, and has ended."""
         self.look_at(shown)
         count = sum(sender.sent for sender in self.senders)
-        expect(len(shown) == count == len(self.told.runs), len(shown), 'runs of', count, 'deliveries, of which', len(self.told.runs), 'were answered')
-        expect(sorted(self.told.runs.values()) == list(range(1, count + 1)), 'the ids of the runs')
-        leased = collections.Counter(run for run, _ in self.told.leases.values())
+        expect(len(shown) == count == len(self.log.runs), len(shown), 'runs of', count, 'deliveries, of which', len(self.log.runs), 'were answered')
+        expect(sorted(self.log.runs.values()) == list(range(1, count + 1)), 'the ids of the runs')
+        leased = collections.Counter(run for run, _ in self.log.leases.values())
         for run, view in enumerate(shown, 1):
             attempts = attempt_in(view)
-            expect(leased[run] == self.told.done[run] == attempts, leased[run], 'leases and', self.told.done[run], 'reports of', view)
+            expect(leased[run] == self.log.done[run] == attempts, leased[run], 'leases and', self.log.done[run], 'reports of', view)

@@ -1,4 +1,4 @@
-"""Long sessions, and requests that are cut, over many histories: each is given the bytes that a session without a cut is given."""
+"""Long sessions, and requests that are cut, over many histories: each gets the bytes that a session without a cut gets."""
 
 import copy
 import json
@@ -30,7 +30,7 @@ def event(delivery, given, name='push'):
 
 
 class Talker:
-    """A client, beside the session of the model that it has to be like."""
+    """A client, with the session of the model that it has to equal."""
 
     def __init__(self, client, session, name):
         self.client, self.session, self.name, self.bytes = client, session, name, 0
@@ -50,19 +50,19 @@ class Talker:
         return wanted
 
     def end(self, more):
-        """The session is over: nothing more is answered, and the stream has an end."""
+        """The session is over: nothing more is answered, and the stream ends."""
         expect(self.session.over, self.name, 'has a session that goes on')
         try:
             self.client.send(more)
         except served.Ended:
             pass
         got, _ = self.client.rest()
-        expect(got == b'', self.name, 'was given', got, 'behind the end of its session')
+        expect(got == b'', self.name, 'was given', got, 'after the end of its session')
         self.client.close()
 
 
 def runner_line(dice, table, name, labels):
-    """Something that a runner says: mostly what fits to where it is."""
+    """Something that a runner says: mostly what fits its state."""
     runner = table.runners.get(name.encode()) or plain.Runner()
     number, lease = runner.number + 1, runner.holds[0] if runner.holds else dice.randint(1, 9)
     kind = dice.randint(0, 99)
@@ -119,13 +119,13 @@ def pieces(dice, data):
 
 
 def one_of_each(acts, folder, turn_over, dice):
-    """A session of 64 requests and one of 1,024 lines, by turns, over histories of so many commands. Answers what it came to."""
+    """A session of 64 requests and one of 1,024 lines, alternately, over histories of so many commands. Gives a summary."""
     service, path = opened(acts, folder, SEATS, turn_over=turn_over)
     store, deliveries = plain.Store(), (f'd{n}' for n in range(1, 100))
     hook = Talker(service.hook(), plain.Requests(store), 'the sender')
     runner = Talker(service.runner(), plain.Lines(store), 'the runner')
-    for turn in range(plain.MOST_LINES):
-        if turn % (plain.MOST_LINES // plain.MOST_REQUESTS) == 0:
+    for turn in range(plain.MAX_LINES):
+        if turn % (plain.MAX_LINES // plain.MAX_REQUESTS) == 0:
             hook.say(*pieces(dice, hook_request(dice, store.table, deliveries)))
         runner.say(*pieces(dice, runner_line(dice, store.table, 'r1', 'linux,X64').encode()))
     hook.end(request('GET /runs/1 HTTP/1.1'))
@@ -140,7 +140,7 @@ def one_of_each(acts, folder, turn_over, dice):
 
 
 def prepared(service):
-    """A store for many sessions: run 1 has ended, run 2 is at work, run 3 waits, and 30 are for a runner of the name `mine`."""
+    """A store for many sessions: run 1 has ended, run 2 is at work, run 3 waits, and 30 are for a runner named `mine`."""
     store = plain.Store()
     hook, runner = Talker(service.hook(), plain.Requests(store), 'the first sender'), Talker(service.runner(), plain.Lines(store), 'the first runner')
     for place in range(1, 4):
@@ -155,7 +155,7 @@ def prepared(service):
 
 
 def all_at_once(talker, data, more, dice):
-    """Sends a whole session and what is behind it without waiting, and compares what came up to the end."""
+    """Sends a whole session and bytes after it without waiting, and compares what came up to the end."""
     wanted = talker.session.hear(data)
     expect(talker.session.over, talker.name, 'has a session that goes on')
 
@@ -181,7 +181,7 @@ def difference(got, wanted):
 
 
 def lines_ahead(dice, store, name):
-    """The lines of a whole session, none of which shows what others do: of runs they ask for the first alone, which has ended."""
+    """The lines of a whole session, none of which shows what others do: they ask for the first run only, which has ended."""
     given, session = b'', plain.Lines(store)
     while not session.over:
         line = runner_line(dice, store.table, name, 'mine' if name == 'mine' else 'none').encode()
@@ -192,11 +192,11 @@ def lines_ahead(dice, store, name):
 
 
 def requests_ahead(dice, table, place):
-    """The requests of a whole session. The first sender posts events; the others ask what stays as it is."""
+    """The requests of a whole session. The first sender posts events; the others ask for what does not change."""
     if place == 0:
-        return b''.join(event(f'e{number}', body('nobody')) for number in range(plain.MOST_REQUESTS))
+        return b''.join(event(f'e{number}', body('nobody')) for number in range(plain.MAX_REQUESTS))
     return b''.join(dice.choice((look_alike(dice, table, 1), request('GET /runs/1 HTTP/1.1'), request('GET /runs/3/body HTTP/1.1'),
-                                 request('POST /runs/1/cancel HTTP/1.1'))) for _ in range(plain.MOST_REQUESTS))
+                                 request('POST /runs/1/cancel HTTP/1.1'))) for _ in range(plain.MAX_REQUESTS))
 
 
 def pipelined(acts, folder, turn_over, dice):
@@ -206,7 +206,7 @@ def pipelined(acts, folder, turn_over, dice):
     before, talkers, tasks = len(service.settled), [], []
     for place in range(8):
         name, own = 'mine' if place == 0 else f'p{place}', copy.deepcopy(store)
-        given = lines_ahead(dice, own, name) if place % 2 == 0 else b'FETCH 1\n' * plain.MOST_LINES
+        given = lines_ahead(dice, own, name) if place % 2 == 0 else b'FETCH 1\n' * plain.MAX_LINES
         talkers.append(Talker(service.runner(), plain.Lines(copy.deepcopy(store)), f'the runner {name}'))
         tasks.append((talkers[-1], given, b'BEAT nobody 1\n' * 3, random.Random(f'runner {place}')))
     for place in range(8):
@@ -221,7 +221,7 @@ def pipelined(acts, folder, turn_over, dice):
 
 
 class Cut:
-    """Clients that are cut: each says a part of something, a history turns over, and it says the rest."""
+    """Clients that are cut: each sends a part of something, a history turns over, and it sends the rest."""
 
     def __init__(self, service, store):
         self.service, self.store, self.other, self.talker, self.sessions = service, store, service.runner(), None, 0
@@ -230,7 +230,7 @@ class Cut:
         """The session that it goes on with, or a new one."""
         if self.talker is None or self.talker.session.over or not isinstance(self.talker.session, kind):
             self.end()
-            self.talker = Talker(self.service.hook() if kind is plain.Requests else self.service.runner(), kind(self.store), 'who is cut')
+            self.talker = Talker(self.service.hook() if kind is plain.Requests else self.service.runner(), kind(self.store), 'that is cut')
             self.sessions += 1
         return self.talker
 
@@ -249,7 +249,7 @@ class Cut:
 
 
 def cut_at_each_byte(acts, folder):
-    """A request, and a line, is cut at each of its bytes, and a history turns over there; and then at all bytes."""
+    """A request and a line are cut at each of their bytes, and a history turns over there; and then at all bytes."""
     service, path = opened(acts, folder, SEATS, turn_over=2)
     store, given = plain.Store(), body('linux')
     cut, last, beat = Cut(service, store), event('c999', given), b'BEAT runner-1 99\n'
@@ -282,7 +282,7 @@ def halves(acts, folder, dice):
         other = turned_over(service, other)
     dice.shuffle(clients)
     for client, kind, data, cut in clients:
-        talker = Talker(client, kind(store), 'who sent a half')
+        talker = Talker(client, kind(store), 'that sent a half')
         talker.session.hear(data[:cut])
         talker.say(data[cut:])
         client.close()

@@ -1,4 +1,4 @@
-"""A thousand clients on each port, and four seats: each is answered, sixteen busy ones get about as much as one another, and the others are not forgotten."""
+"""A thousand clients on each port, and four seats: each is answered, sixteen busy ones get about the same share, and the others are not forgotten."""
 
 import threading
 import time
@@ -12,7 +12,7 @@ ASKS = {'runner': (b'FETCH 999999999\n', (None, 'refused 40'), 1024), 'hook': (b
 
 
 def ask_each(clients, port):
-    """Each asks once, one after the other. How long the slowest was not answered."""
+    """Each asks once, one after the other. How long the slowest waited for its answer."""
     what, wanted, _ = ASKS[port]
     slowest = 0.0
     for client in clients:
@@ -24,7 +24,7 @@ def ask_each(clients, port):
 
 
 class Busy:
-    """One that asks and asks, so many things at a time, in one session after the other."""
+    """A client that asks all the time, so many things at once, in one session after the other."""
 
     def __init__(self, service, port, client, ahead, over):
         self.service, self.port, self.client, self.ahead, self.over, self.answers = service, port, client, ahead, over, 0
@@ -47,7 +47,7 @@ class Busy:
 
 
 def busy_ones(service, clients, port, ahead):
-    """Has the first clients be busy for some seconds, and others ask now and then."""
+    """Keeps the first clients busy for some seconds, while others ask now and then."""
     over, busy, slowest = threading.Event(), [], [0.0]
     busy = [Busy(service, port, client, ahead, over) for client in clients[:BUSY]]
 

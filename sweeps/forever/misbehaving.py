@@ -1,5 +1,5 @@
-"""Clients that misbehave, a crowd of each kind on both ports beside eight that do not, over one service with four seats on each port; and one who
-holds the only seat that there is. The good ones are answered within seconds, each crowd is let go, and the service goes on.
+"""Clients that misbehave, a crowd of each kind on both ports beside eight good ones, over one service with four seats on each port; and one that holds
+the only seat. The good ones are answered within seconds, each crowd is disconnected, and the service goes on.
 """
 
 import os
@@ -14,7 +14,7 @@ BIG = served.BODY + b' ' * 60_000
 
 
 class Crowd:
-    """Those who misbehave, on one port, until `over`."""
+    """Clients that misbehave, on one port, until `over`."""
 
     def __init__(self, service, port, over):
         self.service, self.port, self.over = service, port, over
@@ -30,15 +30,15 @@ class Crowd:
         client.close()
 
     def reset(self):
-        """Halves of requests, one after the other, each with a reset in place of an end."""
+        """Halves of requests, one after the other, each with a reset."""
         while not self.over.is_set():
             client = self.come()
             client.send(self.request[:len(self.request) // 2])
             time.sleep(0.02)
             client.reset()
 
-    def reset_behind(self):
-        """A reset in place of reading the answer."""
+    def reset_afterwards(self):
+        """A reset instead of reading the answer."""
         while not self.over.is_set():
             client = self.come()
             client.send((b'GET /runs/1 HTTP/1.1\r\n\r\n' if self.port == 'hook' else b'FETCH 1\n') * 5)
@@ -51,7 +51,7 @@ class Crowd:
             time.sleep(0.005)
 
     def dribble(self):
-        """A byte now and then, and an end before the request has one."""
+        """A byte now and then, and the end of the stream before the end of the request."""
         client = self.come()
         for byte in self.request[:-1]:
             client.send(bytes([byte]))
@@ -60,28 +60,28 @@ class Crowd:
         client.close()
 
     def half_close(self):
-        """The end of what is sent behind a request: it is answered, and then the stream ends."""
+        """The sending half is closed after a request: it is answered, and then the stream ends."""
         while not self.over.is_set():
             client = self.come()
             client.send(b'GET /runs/999 HTTP/1.1\r\n\r\n' if self.port == 'hook' else b'FETCH 999\n')
             client.stream.shutdown(socket.SHUT_WR)
             got, whole = client.rest()
-            expect(got.endswith(b'refused 40\n') and whole, 'behind the end of its sending half a client was given', got, '' if whole else 'and a reset')
+            expect(got.endswith(b'refused 40\n') and whole, 'after the end of its sending half a client was given', got, '' if whole else 'and a reset')
             client.close()
             time.sleep(0.01)
 
-    def send_behind(self):
-        """What ends the session, and then many bytes that nobody answers."""
+    def send_afterwards(self):
+        """The end of the session, and then many bytes that nobody answers."""
         last, answer = self.last
         while not self.over.is_set():
             client = self.come()
             client.send(last + b'x' * 262_144)
             got, whole = client.rest()
-            expect(got.endswith(answer) and got.count(b'refused') == 1 and whole, 'behind its end a session was given', got[-200:], '' if whole else 'and a reset')
+            expect(got.endswith(answer) and got.count(b'refused') == 1 and whole, 'after its end a session was given', got[-200:], '' if whole else 'and a reset')
             client.close()
 
     def stay(self):
-        """What ends the session, and then bytes for as long as it can."""
+        """The end of the session, and then bytes for as long as it can."""
         last, answer = self.last
         client = self.come()
         client.send(last)
@@ -156,13 +156,13 @@ def meet(service, kind, count, longest):
 
 
 def stay_until_cut_off(service):
-    """How long one on each port can go on behind the end of its session, which is less than 40 seconds."""
+    """How long one on each port can go on after the end of its session, which is less than 40 seconds."""
     took, over = [], threading.Event()
 
     def stay(port):
         start = time.monotonic()
         Crowd(service, port, over).stay()
-        expect(not over.is_set(), port, 'goes on behind the end of its session for 40 seconds')
+        expect(not over.is_set(), port, 'goes on after the end of its session for 40 seconds')
         took.append(time.monotonic() - start)
 
     timer = threading.Timer(40, over.set)
@@ -210,17 +210,17 @@ def check(acts, folder, amount):
     hook = service.hook()
     expect(hook.ask(served.event('big', BIG)) == (201, 'created 1'), 'an event')
     hook.close()
-    kinds = (('say_nothing', 100), ('close_at_once', 8), ('reset', 16), ('reset_behind', 4), ('dribble', 40), ('half_close', 8), ('send_behind', 8),
+    kinds = (('say_nothing', 100), ('close_at_once', 8), ('reset', 16), ('reset_afterwards', 4), ('dribble', 40), ('half_close', 8), ('send_afterwards', 8),
              ('stay', 8), ('never_read', 2))
     for kind, count in kinds:
         slowest = meet(service, kind, count, amount.longest)
         yield f'{2 * count} that {kind.replace("_", " ")}: eight good clients were answered {2 * GOOD * TURNS} times, {milliseconds(slowest)} at the longest'
     one, other = stay_until_cut_off(service)
-    yield f'two that stay behind the end of their session were cut off after {one:.1f} and {other:.1f} s'
+    yield f'two that stay after the end of their session were cut off after {one:.1f} and {other:.1f} s'
     stopped(service)
     runs = len(served.show(acts, path))
-    expect(runs == 1 + len(kinds) * GOOD * TURNS, runs, 'runs stand')
-    for kind in ('stay', 'send_behind', 'never_read'):
+    expect(runs == 1 + len(kinds) * GOOD * TURNS, runs, 'runs in the file')
+    for kind in ('stay', 'send_afterwards', 'never_read'):
         os.remove(path)
         wait = milliseconds(ask_beside(acts, folder, kind, amount.longest))
         yield f'one that does {kind.replace("_", " ")} on the only seat: another one waits for {wait} at the longest'

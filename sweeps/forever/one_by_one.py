@@ -1,4 +1,4 @@
-"""Two hundred connections one after the other beside 24 silent clients on four seats: nobody holds them up, and the silent ones are answered behind them."""
+"""Two hundred connections one after the other beside 24 silent clients on four seats: nobody holds them up, and the silent ones are answered after them."""
 
 import time
 

@@ -1,7 +1,7 @@
 """Services that are refused one growth of memory each, over histories that turn over every three commands.
 
-A run is played to its end over one stream on each port, and once more from where it stopped over the next ones. Who is refused is answered 50, or comes to the
-end of the stream; and the service goes on, but for one that ends with 50 before its first client. At the end the one run stands once.
+A run is played to its end over one stream on each port, and then from where it stopped over the next ones. A refused client is answered 50, or comes to the
+end of the stream; and the service goes on, unless it ends with 50 before its first client. At the end there is one run.
 """
 
 import collections
@@ -19,7 +19,7 @@ def failed(service):
 
 
 def play(service):
-    """Plays all commands, in one session on each port after the other where one is refused. How many were answered, and how many sessions it took."""
+    """Plays all commands, in another session on each port after each refusal. How many were answered, and how many sessions it took."""
     done, sessions, commands = 0, 0, refused.WHOLE
     while done < len(commands) and sessions < SESSIONS:
         try:
@@ -33,13 +33,13 @@ def play(service):
 
 
 def try_growth(acts, path, shim, growth):
-    """Refuses a growth. What it came to, or None where there is no such one."""
+    """Refuses a growth. The outcome, or None if there is no such growth."""
     served.init(acts, path, AREA)
     service = served.Forever(acts, path, SEATS, turn_over=TURN_OVER, settings={'LD_PRELOAD': shim, 'FAIL_AT': growth})
     done, sessions = play(service) if service.ready else (0, 0)
     if done == 0:
-        status, out, err, told = service.end(10)
-        expect((status, out, err, told) == (1, '', 'acts: refused 50\n', True), 'growth', growth, 'the end before the first client', status, out, err)
+        status, out, err, failed = service.end(10)
+        expect((status, out, err, failed) == (1, '', 'acts: refused 50\n', True), 'growth', growth, 'the end before the first client', status, out, err)
         return 'the service ended with 50 before its first client'
     was_refused = failed(service)
     expect(done == len(refused.WHOLE), 'growth', growth, 'only', done, 'commands were answered in', sessions, 'sessions')

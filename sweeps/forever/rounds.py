@@ -1,5 +1,5 @@
-"""Rounds, where `--forever` is not said: a stream that failed ends no service, but the next round comes, and the status is 61 once the last has ended.
-A round in which no session could be started, since there are no threads, ends it with 50.
+"""Rounds, without `--forever`: a stream that fails does not end the service; the next round comes, and the service ends with 61 after the last one.
+A round in which no session can be started, since there are no threads, ends it with 50.
 """
 
 import os
@@ -36,7 +36,7 @@ def check(acts, folder, amount):
         except (served.Ended, OSError) as end:
             raise Wrong(f'round {turn + 1}: {end!r}; the service ended with {service.end(5)}') from None
     status, out, err, _ = service.end()
-    expect((status, out, err) == (1, 'settled 2\n' * ROUNDS, 'acts: refused 61\n'), 'behind a reset in the first round: status', status, out, err)
+    expect((status, out, err) == (1, 'settled 2\n' * ROUNDS, 'acts: refused 61\n'), 'after a reset in the first round: status', status, out, err)
     expect(len(served.show(acts, path)) == ROUNDS, 'the runs')
     yield f'a reset in the first of {ROUNDS} rounds: all come, and the status is 61 then'
     if os.getuid() != 0:

@@ -1,4 +1,4 @@
-// Refuses one growth: the one whose number stands in FAIL_AT, counting from 1. Says on descriptor 9 that it did.
+// Refuses one growth: number FAIL_AT, counting from 1. Says on descriptor 9 that it did.
 #define _GNU_SOURCE
 #include <dlfcn.h>
 #include <stdatomic.h>

@@ -1,6 +1,6 @@
-// For LD_PRELOAD: fails the write or sync of a file whose number stands in FAIL_AT, counting from 1, and where FAIL_AFTER is set all behind
-// it too. Where FAIL_HALF is set, half of the bytes of a write that fails are written. Says on descriptor 9 when it first did, in seconds of the
-// clock that only goes forward. Where FAIL_KILLS is set the process is killed there, in place of a call that fails.
+// For LD_PRELOAD: fails write or sync number FAIL_AT of a file, counting from 1, and if FAIL_AFTER is set all after it too. If FAIL_HALF is set,
+// half of the bytes of a failing write are written. Says on descriptor 9 when it first failed one, in seconds of the monotonic clock. If
+// FAIL_KILLS is set, the process is killed there instead of a failing call.
 #define _GNU_SOURCE
 #include <dlfcn.h>
 #include <errno.h>

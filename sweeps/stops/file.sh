@@ -1,5 +1,5 @@
 #!/bin/bash
-# Plays a script over a store in a file with each write and sync of the file failing in turn, and plays the rest: `sweeps/stops/over_a_file`
+# Plays a script over a store in a file with each write and sync of the file failing in turn, and then the rest: `sweeps/stops/over_a_file`
 # says how. The program is proved first. Needs Python 3 and a C compiler.
 # Usage: sweeps/stops/file.sh [SCRIPT [AREA [FOLDER]]]
 set -eu

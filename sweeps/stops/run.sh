@@ -1,18 +1,19 @@
 #!/bin/bash
-# Plays a script over stores in memory, stops it inside each call of the disk, with each fill of what was not synced, and has each call
-# fail, by itself and with all after it. Each image opens to the entries that were covered or to all; a fault is answered 51 and all
-# behind it 52; the disk then opens so too, and the rest of the script, played over that, with the step that failed once more, leads to the
-# table of the whole. All of this is done over a new store, and again over an empty one of the first layout, which the checkpoint leaves. The script is the sixteen runs of the rows with a checkpoint among them, where none is named; a name ends in
-# `.script`, and the answers stand beside it. It is a trial run of the sweep's own program, so nothing of that is proved, and each opening
-# costs by the bytes of the disk: with areas of 4,096 bytes, which the sixteen runs fit, it takes some minutes, and its output comes at the
-# end. The same over a file is `sweeps/stops/file.sh`, and over a service and its file `sweeps/stops/served`.
+# Plays a script over stores in memory, crashes it inside each call of the disk, with each fill of what was not synced, and fails each call,
+# alone and with all after it. Each image opens to the entries that were covered or to all; a fault is answered 51 and all after it 52; the
+# disk then opens so too, and the rest of the script, played over it with the failed step repeated, leads to the table of the whole. All of
+# this is done over a new store, and again over an empty one of the first layout, which the checkpoint replaces. Without SCRIPT it is the
+# sixteen runs of the rows with a checkpoint among them; a name ends in `.script`, and the answers are beside it. It is a trial run of the
+# sweep's own program, so nothing of that is proved. Each opening costs by the bytes of the disk: with areas of 4,096 bytes, which the
+# sixteen runs fit, it takes some minutes, and its output comes at the end. `sweeps/stops/file.sh` does the same over a file, and
+# `sweeps/stops/served` over a service and its file.
 # Usage: sweeps/stops/run.sh [SCRIPT [AREA]]
 set -eu
 . "$(dirname "$0")/../../bench/copy.sh"
 script=$(realpath "${1:-$top/crates/acts_rows/data/store/checkpoint_among_sixteen_runs.script}")
 area=${2:-4096}
 copy_for stops_sweep main.rt.txt act_disk act_store command_lines run_plan wf_value anyhow
-for part in lines script stops faults; do cp "$here/$part.rt.txt" "$scratch/crates/stops_sweep/src/$part.rt"; done
+for part in lines script crashes faults; do cp "$here/$part.rt.txt" "$scratch/crates/stops_sweep/src/$part.rt"; done
 cd "$scratch/crates/stops_sweep"
 rt fmt > /dev/null
 rt try --steps 1 --seconds 7200 -- "$area" < "$script" > "$scratch/said" 2> "$scratch/log" || { tail -n 5 "$scratch/said" "$scratch/log" >&2; exit 1; }

@@ -1,18 +1,18 @@
 #!/bin/bash
-# Plays each case of a folder over a store on a disk in memory, and compares what is printed with what the case says: a script NAME, the
-# words `disk`, `crash` or `faults` and AREA, a line each, in NAME.args, and what is wanted in NAME.stdout. With no such file it prints what
-# came. `disk` prints the answers with the writes and syncs below each, from the first answer on, and the digest (SHA-256) of the two areas;
-# `crash` prints for each of these calls and each fill of an image a line CALL WORD KIND FILL N: the image opens to the table of N entries;
-# `faults` lets each of these calls fail, by itself and with all behind it, opens what is seen then and the image of each fill, and prints
-# `N calls, M images as wanted`, with a line before it for each image that opens to no front of the history with what was covered.
-# What is wanted comes from another program, since the plain model has no disk; `sweeps/stops/run.sh` judges the same images by itself.
-# Usage: sweeps/compared/disk/run.sh FOLDER. It is a trial run, so nothing is proved; overflows, indexes and accesses are checked as it goes.
+# Plays each case of a folder over a store on a disk in memory, and compares the output with that of the case. A case is a script NAME; the
+# words `disk`, `crash` or `faults` and AREA, a line each, in NAME.args; and the wanted output in NAME.stdout. Without that file it prints
+# the output. `disk` prints each answer with the writes and syncs of its command below it, and the digest (SHA-256) of the two areas.
+# `crash` prints a line CALL WORD KIND FILL N for each of these calls and each fill of an image: the image opens to the table of N entries.
+# `faults` fails each of these calls, alone and with all after it, opens what is seen then and the image of each fill, and prints `N calls,
+# M images as wanted`, after a line for each image that opens to no prefix of the history with all that was covered.
+# The wanted output comes from another program, since the plain model has no disk; `sweeps/stops/run.sh` judges the same images by itself.
+# Usage: sweeps/compared/disk/run.sh FOLDER. It is a trial run: nothing is proved, and overflows, indexes and accesses are checked at run time.
 set -eu
 . "$(dirname "$0")/../../../bench/copy.sh"
 cases=$(cd "$1" && pwd)
 copy_for compared_disk main.rt.txt wf_value act_disk act_store table_text acts_ops sha2 anyhow
 for part in script crash faults; do cp "$here/$part.rt.txt" "$scratch/crates/compared_disk/src/$part.rt"; done
-# Lines are read as `acts` reads them, and a store shows its table and its disk, which no contract speaks of: so nothing of theirs is proved.
+# Lines are read as `acts` reads them, and a store shows its table and its disk, which no contract describes; so none of this is proved.
 rm -rf "$scratch"/crates/*/proofs
 shown='    pub fn table(\&self) -> \&Table {\n        \&self.table\n    }\n\n    pub fn disk(\&self) -> \&D {\n        \&self.disk\n    }\n'
 sed -i 's/^pub use check::/pub use answer::{Answer, answer_line, answer_to};\n&/' "$scratch/crates/acts_ops/src/lib.rt"

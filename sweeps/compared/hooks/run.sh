@@ -1,8 +1,8 @@
 #!/bin/bash
 # Plays made-up webhook sessions over a store in memory, in random pieces, and compares what is written with what another program says.
 # MAKE prints the bytes of a session for a seed and a number of requests (`MAKE SEED REQUESTS --what hook`), as
-# `sweeps/compared/mutations/make` does, and SAY what a session over those bytes writes (`SAY hook 262144`, the bytes on standard input), as
-# `sweeps/compared/plain.py` does. CASES=FOLDER keeps the sessions there, and takes those that stand there. The program is proved first.
+# `sweeps/compared/mutations/make` does. SAY prints what a session over those bytes writes (`SAY hook 262144`, the bytes on standard input),
+# as `sweeps/compared/plain.py` does. CASES=FOLDER keeps the sessions there and uses those that are there. The program is proved first.
 # Usage: sweeps/compared/hooks/run.sh MAKE SAY [COUNT [FIRST]]
 set -eu
 . "$(dirname "$0")/../../../bench/copy.sh"

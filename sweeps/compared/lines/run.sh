@@ -1,9 +1,10 @@
 #!/bin/bash
 # Plays made-up sessions of runner lines over a store in memory, in random pieces, and compares what is written with what another program
 # says. MAKE prints a script for a seed and a number of lines (`MAKE SEED LINES`), and the bytes of a session over a store that took a script
-# (`MAKE SEED LINES --what lines --preload SCRIPT`), as `sweeps/compared/mutations/make` does; SAY what a session over those bytes writes (`SAY
-# lines AREA --preload SCRIPT`, the bytes on standard input), as `sweeps/compared/plain.py` does. The program is proved first. The script that is taken first has `admit` lines alone; in every second session no line is one. CASES=FOLDER
-# keeps the sessions there, and takes those that stand there.
+# (`MAKE SEED LINES --what lines --preload SCRIPT`), as `sweeps/compared/mutations/make` does. SAY prints what a session over those bytes
+# writes (`SAY lines AREA --preload SCRIPT`, the bytes on standard input), as `sweeps/compared/plain.py` does. The program is proved first.
+# The script played first has `admit` lines only; in every second session it is empty. CASES=FOLDER keeps the sessions there and uses those
+# that are there.
 # Usage: sweeps/compared/lines/run.sh MAKE SAY [COUNT [FIRST]]
 set -eu
 . "$(dirname "$0")/../../../bench/copy.sh"

@@ -1,4 +1,4 @@
-"""The bytes of stores, spelled from docs/FORMATS.md: numbers and texts, the commands of events and runners, tables of the first layout, records, areas."""
+"""The bytes of stores, encoded by docs/FORMATS.md: numbers and texts, the commands of events and runners, tables of the first layout, records, areas."""
 
 from service import BODY
 
@@ -51,7 +51,7 @@ def job(state, *legs):
 
 
 def run(place, phase, stops, *jobs, attempt=b''):
-    """A run. The first layout spells no attempt."""
+    """A run. The first layout has no attempt."""
     return event(place) + attempt + bytes([phase, stops]) + b''.join(jobs)
 
 
@@ -68,7 +68,7 @@ def succeeded(place, lease):
 
 
 def runner(name, last, command, reply, lease=0, holds=0):
-    """A runner of the first layout: the byte of the reply that is kept has its lease behind it."""
+    """A runner of the first layout: after the byte of the kept reply comes its lease."""
     return text(name) + number(last) + command + bytes([reply]) + number(lease) + number(holds)
 
 
@@ -90,5 +90,5 @@ def area(length, generation, words, *records, layout=1):
 
 
 def file(words, *records, length=4096, generation=1, other=None, layout=1):
-    """Two areas, of which the other is closed where nothing is said of it."""
+    """Two areas; the other one is closed unless given."""
     return area(length, generation, words, *records, layout=layout) + (bytes(length) if other is None else other)
