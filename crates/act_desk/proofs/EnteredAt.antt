@@ -10,20 +10,20 @@ use Rattle.act_store.specs.declared.entry.Entry.{Entry}
 use Rattle.act_store.specs.declared.receipt.Receipt.{Receipt}
 use Rattle.act_desk.specs.Shown.{IsReplyTo}
 
-last_stands : (history : List Entry) (e : Entry) → slice_get (history ++ e ∷ []) (length history + 1 - 1) ≡ Some e
-last_stands history e =
+last_is_entered : (history : List Entry) (e : Entry) → slice_get (history ++ e ∷ []) (length history + 1 - 1) ≡ Some e
+last_is_entered history e =
     let long = length-append history (e ∷ []) in
     let place : length history + 1 - 1 ≡ length history = omega arith in
     ap (slice_get (history ++ e ∷ [])) place ∙ slice_get-get_or (history ++ e ∷ []) (length history) e (omega arith)
     ∙ ap Some (get_or-append_seam history e [] e)
 
-pub stands : {D : Type 0} (s t : StoreState D) (command : Command) (seat : ℕ) (receipt : Receipt) (prefix : List Entry)
+pub in_history : {D : Type 0} (s t : StoreState D) (command : Command) (seat : ℕ) (receipt : Receipt) (prefix : List Entry)
     → t ≡ entered s seat command → receipt ≡ receipt_of s command → prefix ≡ t.history
     → slice_get prefix (receipt.place - 1) ≡ Some (record { seat = seat; command = command; reply = receipt.reply })
-stands {D} s t command seat receipt prefix new given same =
+in_history {D} s t command seat receipt prefix new given same =
     subst (λ (r : Receipt). slice_get prefix (r.place - 1) ≡ Some (record { seat = seat; command = command; reply = r.reply })) (sym given)
     (ap (λ (f : List Entry). slice_get f (length s.history + 1 - 1)) (same ∙ ap (λ (u : StoreState D). u.history) new)
-    ∙ last_stands s.history (entry_of s seat command))
+    ∙ last_is_entered s.history (entry_of s seat command))
 
 pub gives_reply : {D : Type 0} (s : StoreState D) (command : Command) (receipt : Receipt) → receipt ≡ receipt_of s command
     → IsReplyTo command receipt.reply

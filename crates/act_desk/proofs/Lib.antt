@@ -9,5 +9,5 @@ pub mod GivenUp
 pub mod Lists
 pub mod Parts
 pub mod Sending
-pub mod StandsLater
+pub mod EnteredLater
 pub mod Unfailed

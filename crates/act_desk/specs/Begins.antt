@@ -8,8 +8,8 @@ abbrev pub IsLonger : List Entry → List Entry → Type 0
 IsLonger prefix history = IsPrefix prefix history × (length prefix < length history)
 
 -- the entry is at some position of the history
-abbrev pub Stands : List Entry → Entry → Type 0
-Stands history entry = (place : ℕ) × (slice_get history place ≡ Some entry)
+abbrev pub IsEntered : List Entry → Entry → Type 0
+IsEntered history entry = (place : ℕ) × (slice_get history place ≡ Some entry)
 
 -- the entry is the last one
 abbrev pub EndsWith : List Entry → Entry → Type 0

@@ -41,8 +41,8 @@ abbrev pub IsReplyTo : Command → Reply → Type 0
 IsReplyTo command reply = (table : TableState) × (reply ≡ (stepped table command).reply)
 
 -- The entry with this reply is in the history, at its position.
-abbrev pub StandsIn : List Entry → Awaited → Reply → Type 0
-StandsIn history pending reply =
+abbrev pub IsAnsweredBy : List Entry → Awaited → Reply → Type 0
+IsAnsweredBy history pending reply =
     slice_get history (pending.place - 1) ≡ Some (record { seat = pending.seat; command = pending.command; reply = reply })
 
 -- The prefix seen at entry is known to be a prefix of the history under the lock. This holds for each pending command of a desk unless

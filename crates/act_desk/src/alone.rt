@@ -1,7 +1,7 @@
 ghost use Rattle.std.specs.Prelude.{◌≡◌, ◌⊎◌, ℕ, List, [], Err, IfErr, IfNone, IfOk, IfSome, OnOk};
 ghost use Rattle.wf_value.specs.Gives.{no_memory};
 ghost use Rattle.wf_value.specs.RefusalText.{ids_of_cycle};
-ghost use Rattle.act_sessions.specs.Exchange.{Asks};
+ghost use Rattle.act_sessions.specs.Exchange.{Submits};
 ghost use Rattle.act_store.specs.Images.{RecoversTo};
 ghost use Rattle.act_store.specs.Plain.{committed, entered, refusal_of_apply};
 ghost use Rattle.act_store.specs.StoreState.{table_of};
@@ -68,7 +68,7 @@ impl<D: Disk> Answer for Alone<D> {
     /// although the entry exists. All other refusals are those of the store: 46, 47, 50, 52 and 57 before the command is entered, 51 after
     /// it.
     fn ask(&mut self, command: Command) -> Result<Reply, Refusal>
-        ensures asks { Asks self.old.asked self.new.asked command result }
+        ensures asks { Submits self.old.asked self.new.asked command result }
         ensures answered { IfOk result (λ reply. IsAnswered self.old.store self.new.store 0 command reply) }
         ensures survives { OnOk result (D.honest self.new.store.disk → (c : List ℕ) → D.images self.new.store.disk c → RecoversTo (table_of self.new.store) c) }
         ensures entered { MayHaveEntered self.old.store self.new.store 0 command }

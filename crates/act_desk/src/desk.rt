@@ -4,8 +4,8 @@ ghost use Rattle.wf_value.specs.Gives.{no_memory};
 ghost use Rattle.act_disk.specs.Failed.{device_failed};
 ghost use Rattle.act_store.specs.Plain.{area_full, failed_earlier, history_full, old_layout};
 ghost use Rattle.act_desk.specs.Answered.{unsettled};
-ghost use Rattle.act_desk.specs.Begins.{Stands};
-ghost use Rattle.act_desk.specs.Shown.{IsReplyTo, StandsIn};
+ghost use Rattle.act_desk.specs.Begins.{IsEntered};
+ghost use Rattle.act_desk.specs.Shown.{IsReplyTo, IsAnsweredBy};
 
 use crate::desk_state::{DeskState, WakeReason};
 use crate::flush::Flush;
@@ -34,7 +34,7 @@ pub struct Desk<D: Disk, E: Named, T: Ledger> {
     head: Head<E>,
     desk_state: Mutex<DeskState<D, E, T>>,
     /// A leader is done.
-    turned: Condvar,
+    signal: Condvar,
     /// As many seats as the leader waits for are back.
     gathered: Condvar,
     /// How many seats are in flight: entering a command, or leaving with a reply.
@@ -65,7 +65,7 @@ impl<D: Disk, E: Named, T: Ledger> Desk<D, E, T> {
         Desk {
             head,
             desk_state: Mutex::new(DeskState::new(locked, seats)),
-            turned: Condvar::new(),
+            signal: Condvar::new(),
             gathered: Condvar::new(),
             in_flight: Mutex::new(0),
             quiesced: Condvar::new(),
@@ -138,7 +138,7 @@ impl<D: Disk, E: Named, T: Ledger> Desk<D, E, T> {
         seat: &mut Seat<E, T>,
         pending: Pending<E>,
     ) -> Result<Reply, Refusal>
-        ensures reply { IfOk result (λ reply. IsReplyTo pending.command reply × StandsIn pending.seen pending reply) }
+        ensures reply { IfOk result (λ reply. IsReplyTo pending.command reply × IsAnsweredBy pending.seen pending reply) }
         ensures released { OnOk result (seat.new.released ≡ seat.old.released + 1) }
         ensures unreleased { OnErr result (seat.new.released ≡ seat.old.released) }
         ensures cause { IfErr result (λ e. (e ≡ failed_earlier) ⊎ (e ≡ device_failed) ⊎ (e ≡ unsettled)) }
@@ -154,7 +154,7 @@ impl<D: Disk, E: Named, T: Ledger> Desk<D, E, T> {
         }
         drop(guard);
         match turn {
-            WakeReason::Leads => self.turned.notify_all(),
+            WakeReason::Leads => self.signal.notify_all(),
             WakeReason::Woke => self.moved(rt),
             WakeReason::Found => {}
         }
@@ -179,7 +179,7 @@ impl<D: Disk, E: Named, T: Ledger> Desk<D, E, T> {
             if guard.linger.is_over() {
                 self.gathered.notify_one();
             }
-            guard = self.turned.wait(rt, guard);
+            guard = self.signal.wait(rt, guard);
             let counted = guard.wakes(turn);
             if guard.is_covered(place) {
                 return (
@@ -197,7 +197,7 @@ impl<D: Disk, E: Named, T: Ledger> Desk<D, E, T> {
         }
         guard.leads();
         self.linger(rt, guard);
-        self.wait_until_still(rt);
+        self.wait_until_quiesced(rt);
         (self.desk_state.lock(rt), WakeReason::Leads)
     }
 
@@ -211,7 +211,7 @@ impl<D: Disk, E: Named, T: Ledger> Desk<D, E, T> {
         drop(guard);
     }
 
-    fn wait_until_still(&self, rt: &impl Wait) {
+    fn wait_until_quiesced(&self, rt: &impl Wait) {
         drop(
             self.quiesced
                 .wait_while(rt, self.in_flight.lock(rt), |in_flight| *in_flight > 0),
@@ -258,14 +258,14 @@ impl<D: Disk, E: Named, T: Ledger> Desk<D, E, T> {
         if guard.has_news(covered) {
             return false;
         }
-        (guard, _) = self.turned.wait_timeout(rt, guard, most);
+        (guard, _) = self.signal.wait_timeout(rt, guard, most);
         !guard.has_news(covered)
     }
 
     /// Wakes a waiting flusher to check whether it has to stop, once the sessions have ended.
     pub(crate) fn wake_flusher(&self, rt: &impl Wait) {
         self.desk_state.lock(rt).ended = true;
-        self.turned.notify_all();
+        self.signal.notify_all();
     }
 
     /// Enters a command, and returns its reply once its entry is covered.
@@ -280,7 +280,7 @@ impl<D: Disk, E: Named, T: Ledger> Desk<D, E, T> {
         command: Command,
     ) -> Result<Reply, Refusal>
         ensures reply { IfOk result (λ reply. IsReplyTo command reply) }
-        ensures stands { IfOk result (λ reply. Stands seat.new.seen (record { seat = seat.old.number; command = command; reply = reply })) }
+        ensures in_history { IfOk result (λ reply. IsEntered seat.new.seen (record { seat = seat.old.number; command = command; reply = reply })) }
         ensures entered { OnOk result (seat.new.entered ≡ seat.old.entered + 1) }
         ensures released { OnOk result (seat.new.released ≡ seat.old.released + 1) }
         ensures unreleased { OnErr result (seat.new.released ≡ seat.old.released) }

@@ -1,8 +1,8 @@
-ghost use Rattle.std.specs.Prelude.{◌≡◌, ◌⊎◌, ◌+◌, ◌≤◌, IfErr, IfOk, OnErr, OnOk, IfSome};
+ghost use Rattle.std.specs.Prelude.{◌≡◌, ◌⊎◌, ◌+◌, IfErr, IfOk, OnErr, OnOk};
 ghost use Rattle.act_disk.specs.Failed.{device_failed};
 ghost use Rattle.act_store.specs.Plain.{failed_earlier};
 ghost use Rattle.act_desk.specs.Answered.{unsettled};
-ghost use Rattle.act_desk.specs.Shown.{IsReplyTo, StandsIn};
+ghost use Rattle.act_desk.specs.Shown.{IsReplyTo, IsAnsweredBy};
 
 use crate::linger::Linger;
 use crate::locked::LockedStore;
@@ -94,7 +94,7 @@ impl<D: Disk, E: Named, T: Ledger> DeskState<D, E, T> {
         pending: Pending<E>,
         turn: WakeReason,
     ) -> (Result<Reply, Refusal>, u64)
-        ensures reply { IfOk result.0 (λ reply. IsReplyTo pending.command reply × StandsIn pending.seen pending reply) }
+        ensures reply { IfOk result.0 (λ reply. IsReplyTo pending.command reply × IsAnsweredBy pending.seen pending reply) }
         ensures released { OnOk result.0 (seat.new.released ≡ seat.old.released + 1) }
         ensures unreleased { OnErr result.0 (seat.new.released ≡ seat.old.released) }
         ensures cause { IfErr result.0 (λ e. (e ≡ failed_earlier) ⊎ (e ≡ device_failed) ⊎ (e ≡ unsettled)) }

@@ -10,10 +10,10 @@ ghost use Rattle.act_store.specs.Images.{RecoversTo};
 ghost use Rattle.act_store.specs.StoreState.{RecoversToEither, table_of};
 ghost use Rattle.act_store.specs.declared.entry.Entry.{Entry};
 ghost use Rattle.act_desk.specs.Answered.{unsettled};
-ghost use Rattle.act_store.specs.Plain.{area_full, broken, entered, entry_of, failed_earlier, history_full, old_layout, refusal_of_apply};
+ghost use Rattle.act_store.specs.Plain.{area_full, broken, entered, failed_earlier, history_full, old_layout, refusal_of_apply};
 ghost use Rattle.act_store.specs.FaultCauses.{TellsFault};
 ghost use Rattle.act_desk.specs.Begins.{IsLonger};
-ghost use Rattle.act_desk.specs.Shown.{IsKnown, IsReplyTo, StandsIn};
+ghost use Rattle.act_desk.specs.Shown.{IsKnown, IsReplyTo, IsAnsweredBy};
 
 use crate::named::Named;
 use crate::pending::Pending;
@@ -44,6 +44,7 @@ pub struct LockedStore<D: Disk, E: Named, T: Ledger> {
 
 impl<D: Disk, E: Named, T: Ledger> Model for LockedStore<D, E, T> {
     ghost use Rattle.std.specs.Prelude.{◌≡◌, ◌≤◌, false, length};
+    ghost use Rattle.act_store.specs.declared.apply.TheConstants.{MAX_ENTRIES};
     ghost use Rattle.act_desk.specs.Shown.{Shown};
 
     ghost Value = { Shown D };
@@ -51,7 +52,7 @@ impl<D: Disk, E: Named, T: Ledger> Model for LockedStore<D, E, T> {
     ghost view = { λ d. record { store = d.store; entered = d.entries.total; answered = d.replies.total; released = d.released; lost = d.lost } };
 
     ghost invariant = { λ d. (d.entries.total ≡ length d.store.history) × (d.replies.total ≡ d.released) × (d.released ≤ d.store.covered)
-        × (length d.store.history ≤ 100000) × (d.lost ≡ false → d.prefix ≡ d.store.history) };
+        × (length d.store.history ≤ MAX_ENTRIES) × (d.lost ≡ false → d.prefix ≡ d.store.history) };
 }
 
 impl<D: Disk, E: Named, T: Ledger> LockedStore<D, E, T> {
@@ -220,8 +221,8 @@ impl<D: Disk, E: Named, T: Ledger> LockedStore<D, E, T> {
     /// The result is 52 if the device failed earlier and the entry is not covered, 51 if it fails in this call, and 60 if as many replies
     /// are released as entries are covered, which no history of this desk reaches. A refusal counts no reply.
     pub fn cover(&mut self, seat: &mut Seat<E, T>, pending: Pending<E>) -> Result<Reply, Refusal>
-        ensures reply { IfOk result (λ reply. IsReplyTo pending.command reply × StandsIn pending.seen pending reply) }
-        ensures stands { IfOk result (λ reply. StandsIn self.new.store.history pending reply) }
+        ensures reply { IfOk result (λ reply. IsReplyTo pending.command reply × IsAnsweredBy pending.seen pending reply) }
+        ensures stands { IfOk result (λ reply. IsAnsweredBy self.new.store.history pending reply) }
         ensures covered { OnOk result (pending.place ≤ self.new.store.covered) }
         ensures released { OnOk result ((seat.new.released ≡ seat.old.released + 1) × (self.new.released ≡ self.old.released + 1)) }
         ensures unreleased { OnErr result ((seat.new.released ≡ seat.old.released) × (self.new.released ≡ self.old.released)) }
@@ -261,8 +262,8 @@ impl<D: Disk, E: Named, T: Ledger> LockedStore<D, E, T> {
     /// is not covered, or if the entry is not known to be in this history.
     #[tactic(auto, using(crate::proofs::Prefixes::prefix_get))]
     fn tell(&mut self, seat: &mut Seat<E, T>, pending: Pending<E>) -> Result<Reply, Refusal>
-        ensures reply { IfOk result (λ reply. IsReplyTo pending.command reply × StandsIn pending.seen pending reply) }
-        ensures stands { IfOk result (λ reply. StandsIn self.old.store.history pending reply) }
+        ensures reply { IfOk result (λ reply. IsReplyTo pending.command reply × IsAnsweredBy pending.seen pending reply) }
+        ensures stands { IfOk result (λ reply. IsAnsweredBy self.old.store.history pending reply) }
         ensures covered { OnOk result (pending.place ≤ self.old.store.covered) }
         ensures released { OnOk result ((seat.new ≡ record seat.old { released = seat.old.released + 1 })
             × (self.new ≡ record self.old { released = self.old.released + 1; answered = self.old.answered + 1 })) }

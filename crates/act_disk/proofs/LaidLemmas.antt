@@ -9,11 +9,11 @@ abbrev pub grown : List ℕ → ℕ → List ℕ
 grown file len = file ++ replicate (len - length file) 0
 
 -- the prefix does not depend on how many zeros follow it
-front_same : (file : List ℕ) (at z w : ℕ) → at ≤ length file + z → at ≤ length file + w
+prefix_same : (file : List ℕ) (at z w : ℕ) → at ≤ length file + z → at ≤ length file + w
     → take at (file ++ replicate z 0) ≡ take at (file ++ replicate w 0)
-front_same [] at z w le le' = take-replicate at z 0 (omega arith) ∙ sym (take-replicate at w 0 (omega arith))
-front_same (x ∷ file) zero z w le le' = refl
-front_same (x ∷ file) (suc at) z w le le' = ap (λ (l : List ℕ). x ∷ l) (front_same file at z w (omega arith) (omega arith))
+prefix_same [] at z w le le' = take-replicate at z 0 (omega arith) ∙ sym (take-replicate at w 0 (omega arith))
+prefix_same (x ∷ file) zero z w le le' = refl
+prefix_same (x ∷ file) (suc at) z w le le' = ap (λ (l : List ℕ). x ∷ l) (prefix_same file at z w (omega arith) (omega arith))
 
 rest_same : (file : List ℕ) (len : ℕ) → drop len (grown file len) ≡ drop len file
 rest_same [] len =
@@ -30,7 +30,7 @@ laid_in : (at : ℕ) (bytes file : List ℕ)
     → take at (grown file (at + length bytes)) ++ bytes ++ drop (at + length bytes) (grown file (at + length bytes)) ≡ laid at bytes file
 laid_in at bytes file =
     let len = at + length bytes in
-    ap (λ (l : List ℕ). l ++ bytes ++ drop len (grown file len)) (front_same file at (len - length file) at (omega arith) (omega arith))
+    ap (λ (l : List ℕ). l ++ bytes ++ drop len (grown file len)) (prefix_same file at (len - length file) at (omega arith) (omega arith))
     ∙ ap (λ (l : List ℕ). take at (file ++ replicate at 0) ++ bytes ++ l) (rest_same file len)
 
 -- what a `Vec` of n items holds once the slice of its items is `new`

@@ -38,10 +38,10 @@ filled_more at count k buf new file within short first second =
     let whole = take count buf ++ (new ++ after) in
     let size : length (take count buf) ≡ count = length-take-le count buf within in
     let begin : take count whole ≡ take count buf = take_at (take count buf) (new ++ after) count size in
-    let behind : drop count whole ≡ new ++ after = drop_at (take count buf) (new ++ after) count size in
+    let suffix : drop count whole ≡ new ++ after = drop_at (take count buf) (new ++ after) count size in
     take-add count k whole
     ∙ ap (λ (l : List ℕ). l ++ take k (drop count whole)) (begin ∙ first)
-    ∙ ap (λ (l : List ℕ). take count (drop at file) ++ take k l) behind
+    ∙ ap (λ (l : List ℕ). take count (drop at file) ++ take k l) suffix
     ∙ ap (λ (l : List ℕ). take count (drop at file) ++ l) (
     take-append-le k new after short ∙ second
     ∙ ap (λ (m : ℕ). take m (drop (at + count) file)) (length-take-le k new short)

@@ -4,7 +4,7 @@ use Rattle.std.proofs.Common.{replicate, refl, sym, ◌∙◌, ap, subst, arith,
 use Rattle.std.proofs.lemmas.List.{length-append, length-take-le, length-drop, length-replicate, take_at, drop_at, drop-drop}
 use Rattle.std.proofs.Math.Seq.{take-add}
 use Rattle.act_disk.specs.Images.{Torn, From, Follows}
-use Rattle.act_disk.proofs.Kept.{front_kept, rest_kept}
+use Rattle.act_disk.proofs.Kept.{prefix_kept, rest_kept}
 use Rattle.act_disk.specs.Laid.{laid, torn_refl}
 use Rattle.act_disk.specs.Past.{elapses_same, elapses_push, elapses_then}
 use Rattle.act_disk.specs.SystemCalls.{FileCall, Wrote, WriteFailed, Grew, GrowthFailed, contents, MayLeave, MayHaveLeft}
@@ -17,31 +17,31 @@ torn_within at n at' n' a b c from to first second = record {
   no_longer = omega (arith, first.no_longer, second.no_longer);
   before =
       let m = min at (length a) in
-      front_kept at' n' b c second m (omega (arith, first.no_shorter)) (omega arith) ∙ first.before;
+      prefix_kept at' n' b c second m (omega (arith, first.no_shorter)) (omega arith) ∙ first.before;
   after = rest_kept at' n' b c second (at + n) to ∙ first.after;
 }
 
 -- two adjacent writes are one write of both texts
-pub laid_behind : (at : ℕ) (a b file : List ℕ) → laid (at + length a) b (laid at a file) ≡ laid at (a ++ b) file
-laid_behind at a b file =
+pub laid_past : (at : ℕ) (a b file : List ℕ) → laid (at + length a) b (laid at a file) ≡ laid at (a ++ b) file
+laid_past at a b file =
     let zeros = replicate at 0 in
-    let front = take at (file ++ zeros) in
+    let prefix = take at (file ++ zeros) in
     let rest = drop (at + length a) file in
-    let was = front ++ a ++ rest in
+    let was = prefix ++ a ++ rest in
     let more = replicate (at + length a) 0 in
-    let size-front : length front ≡ at =
+    let size-prefix : length prefix ≡ at =
     length-take-le at (file ++ zeros) (omega (arith, length-append file zeros, length-replicate {A = ℕ} at 0)) in
-    let size : length (front ++ a) ≡ at + length a = omega (arith, length-append front a, size-front) in
+    let size : length (prefix ++ a) ≡ at + length a = omega (arith, length-append prefix a, size-prefix) in
     let end : at + length a + length b ≡ at + length (a ++ b) = omega (arith, length-append a b) in
-    let first : take (at + length a) (was ++ more) ≡ front ++ a =
-    ap (λ (l : List ℕ). take (at + length a) l) (append_assoc (front ++ a) rest more)
-    ∙ take_at (front ++ a) (rest ++ more) (at + length a) size in
+    let first : take (at + length a) (was ++ more) ≡ prefix ++ a =
+    ap (λ (l : List ℕ). take (at + length a) l) (append_assoc (prefix ++ a) rest more)
+    ∙ take_at (prefix ++ a) (rest ++ more) (at + length a) size in
     let last : drop (at + length a + length b) was ≡ drop (at + length (a ++ b)) file =
-    sym (drop-drop (length b) (at + length a) was) ∙ ap (λ (l : List ℕ). drop (length b) l) (drop_at (front ++ a) rest (at + length a) size)
+    sym (drop-drop (length b) (at + length a) was) ∙ ap (λ (l : List ℕ). drop (length b) l) (drop_at (prefix ++ a) rest (at + length a) size)
     ∙ drop-drop (length b) (at + length a) file ∙ ap (λ (k : ℕ). drop k file) end in
     ap (λ (l : List ℕ). l ++ b ++ drop (at + length a + length b) was) first
-    ∙ ap (λ (l : List ℕ). (front ++ a) ++ b ++ l) last
-    ∙ ap (λ (l : List ℕ). l ++ drop (at + length (a ++ b)) file) (append_assoc front a b)
+    ∙ ap (λ (l : List ℕ). (prefix ++ a) ++ b ++ l) last
+    ∙ ap (λ (l : List ℕ). l ++ drop (at + length (a ++ b)) file) (append_assoc prefix a b)
 
 module _ (left : List ℕ → Type 0) (held : List ℕ) where
   abbrev Images : List FileCall → List ℕ → Type 0
@@ -141,8 +141,8 @@ module _ (left : List ℕ → Type 0) (held : List ℕ) where
     size-rest : length rest ≡ length bytes - count
     size-rest = length-drop count bytes
 
-    size-front : length (take count bytes) ≡ count
-    size-front = length-take-le count bytes within
+    size-prefix : length (take count bytes) ≡ count
+    size-prefix = length-take-le count bytes within
 
     follows_more : (new : List FileCall) → Follows (Torn (at + count) (length rest)) (Images mid) (Images new)
         → Follows (Torn at (length bytes)) (Images old) (Images new)
@@ -161,8 +161,8 @@ module _ (left : List ℕ → Type 0) (held : List ℕ) where
     contents_more : (n : ℕ) → laid (at + count) (take n rest) (contents held mid) ≡ laid at (take (count + n) bytes) (contents held old)
     contents_more n =
         ap (λ (file : List ℕ). laid (at + count) (take n rest) file) so_far.put
-        ∙ ap (λ (k : ℕ). laid (at + k) (take n rest) (laid at (take count bytes) (contents held old))) (sym size-front)
-        ∙ laid_behind at (take count bytes) (take n rest) (contents held old)
+        ∙ ap (λ (k : ℕ). laid (at + k) (take n rest) (laid at (take count bytes) (contents held old))) (sym size-prefix)
+        ∙ laid_past at (take count bytes) (take n rest) (contents held old)
         ∙ ap (λ (l : List ℕ). laid at l (contents held old)) (sym (take-add count n bytes))
 
     module _ (n : ℕ) (new : List FileCall) (second : Puts left held (at + count) rest n mid new) where

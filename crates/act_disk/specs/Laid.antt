@@ -14,36 +14,36 @@ pub torn_refl : (at n : ℕ) (file : List ℕ) → Torn at n file file
 torn_refl at n file = record { no_shorter = omega arith; no_longer = omega arith; before = refl; after = refl }
 
 module _ (at : ℕ) (bytes file : List ℕ) where
-  abbrev front : List ℕ
-  front = take at (file ++ replicate at 0)
+  abbrev prefix : List ℕ
+  prefix = take at (file ++ replicate at 0)
 
   abbrev rest : List ℕ
   rest = drop (at + length bytes) file
 
-  length-front : length front ≡ at
-  length-front =
+  length-prefix : length prefix ≡ at
+  length-prefix =
       length-take-le at (file ++ replicate at 0) (omega (arith, length-append file (replicate at 0), length-replicate {A = ℕ} at 0))
 
-  length-written : length (front ++ bytes) ≡ at + length bytes
-  length-written = omega (arith, length-append front bytes, length-front)
+  length-written : length (prefix ++ bytes) ≡ at + length bytes
+  length-written = omega (arith, length-append prefix bytes, length-prefix)
 
-  split : laid at bytes file ≡ front ++ (bytes ++ rest)
-  split = append_assoc front bytes rest
+  split : laid at bytes file ≡ prefix ++ (bytes ++ rest)
+  split = append_assoc prefix bytes rest
 
   pub length-laid : length (laid at bytes file) ≡ max (length file) (at + length bytes)
-  length-laid = omega (arith, length-append (front ++ bytes) rest, length-written, length-drop (at + length bytes) file)
+  length-laid = omega (arith, length-append (prefix ++ bytes) rest, length-written, length-drop (at + length bytes) file)
 
   pub laid_holds : Holds (laid at bytes file) at bytes
   laid_holds =
       ap (λ (l : List ℕ). take (length bytes) (drop at l)) split
-      ∙ ap (λ (l : List ℕ). take (length bytes) l) (drop_at front (bytes ++ rest) at length-front)
+      ∙ ap (λ (l : List ℕ). take (length bytes) l) (drop_at prefix (bytes ++ rest) at length-prefix)
       ∙ take_at bytes rest (length bytes) refl
 
   laid_before : take (min at (length file)) (laid at bytes file) ≡ take (min at (length file)) file
   laid_before =
       let m = min at (length file) in
       ap (λ (l : List ℕ). take m l) split
-      ∙ take-append-le m front (bytes ++ rest) (omega (arith, length-front))
+      ∙ take-append-le m prefix (bytes ++ rest) (omega (arith, length-prefix))
       ∙ take-take m at (file ++ replicate at 0) (omega arith)
       ∙ take-append-le m file (replicate at 0) (omega arith)
 
@@ -53,7 +53,7 @@ module _ (at : ℕ) (bytes file : List ℕ) where
       let reach : at + n ≡ (at + length bytes) + more = omega arith in
       ap (λ (k : ℕ). drop k (laid at bytes file)) reach
       ∙ sym (drop-drop more (at + length bytes) (laid at bytes file))
-      ∙ ap (λ (l : List ℕ). drop more l) (drop_at (front ++ bytes) rest (at + length bytes) length-written)
+      ∙ ap (λ (l : List ℕ). drop more l) (drop_at (prefix ++ bytes) rest (at + length bytes) length-written)
       ∙ drop-drop more (at + length bytes) file
       ∙ ap (λ (k : ℕ). drop k file) (sym reach)
 

@@ -44,7 +44,8 @@ impl<S: Start> FileDisk<HostFile<S>> {
         Ok(disk)
     }
 
-    fn opened(opened: io::Result<File>) -> Result<Self, Refusal>
+    /// Takes a file that was opened, so that a caller can open it in its own way. It is refused with 61 if the file could not be opened.
+    pub fn opened(opened: io::Result<File>) -> Result<Self, Refusal>
         ensures calls { IfOk result (λ disk. calls_of (file_of disk) ≡ Measured (len_of disk) ∷ []) }
         ensures faults { IfOk result (λ disk. faults_of disk ≡ 0) }
         ensures live { IfOk result (λ disk. failed_of disk ≡ false) }
@@ -67,7 +68,7 @@ fn drop_clean_pages(file: &File) {
 }
 
 /// Makes the names in a file's folder durable.
-fn sync_folder<R: Files<File = File>>(rt: &R, path: &str) -> io::Result<()> {
+pub fn sync_folder<R: Files<File = File>>(rt: &R, path: &str) -> io::Result<()> {
     let folder = match Path::new(path).parent() {
         Some(folder) if !folder.as_str().is_empty() => folder,
         _ => Path::new("."),

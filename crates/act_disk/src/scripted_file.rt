@@ -10,7 +10,7 @@ use std::marker::Model;
 
 /// How a call on a scripted file goes.
 #[derive(Clone, Copy)]
-pub enum Turn {
+pub enum ScriptedCall {
     Whole,
     /// At most this many bytes, and at least one. A call that moves no bytes completes.
     Short(usize),
@@ -25,7 +25,7 @@ pub enum Turn {
 #[derive(Drop)]
 pub struct ScriptedFile {
     bytes: Vec<u8>,
-    script: Vec<Turn>,
+    script: Vec<ScriptedCall>,
     done: usize,
     log: CallLog,
 }
@@ -43,7 +43,7 @@ impl Model for ScriptedFile {
 
 impl ScriptedFile {
     /// An empty file.
-    pub fn new(alloc: Global, script: Vec<Turn>) -> Self
+    pub fn new(alloc: Global, script: Vec<ScriptedCall>) -> Self
         ensures { result ≡ [] }
     {
         ScriptedFile {
@@ -63,52 +63,57 @@ impl ScriptedFile {
     }
 
     /// How many steps of the script were taken.
-    pub fn turns(&self) -> usize {
+    pub fn scripted_calls(&self) -> usize {
         self.done
     }
 }
 
 /// Takes the next step of a script.
-fn next_turn(script: &[Turn], done: &mut usize) -> Turn {
+fn next_call(script: &[ScriptedCall], done: &mut usize) -> ScriptedCall {
     match script.get(*done) {
-        Some(turn) => {
+        Some(scripted_call) => {
             *done += 1;
-            *turn
+            *scripted_call
         }
-        None => Turn::Whole,
+        None => ScriptedCall::Whole,
     }
 }
 
 /// How many of these bytes a step moves.
-fn moved(turn: Turn, count: usize) -> Result<usize, CallError>
+fn moved(scripted_call: ScriptedCall, count: usize) -> Result<usize, CallError>
     ensures within { IfOk result (λ moved. moved ≤ count) }
     ensures some { 0 < count → IfOk result (λ moved. 0 < moved) }
 {
-    match turn {
-        Turn::Whole => Ok(count),
-        Turn::Short(most) => Ok(count.min(most.max(1))),
-        Turn::Interrupted => Err(CallError::Interrupted),
-        Turn::Failed => Err(CallError::Failed),
+    match scripted_call {
+        ScriptedCall::Whole => Ok(count),
+        ScriptedCall::Short(most) => Ok(count.min(most.max(1))),
+        ScriptedCall::Interrupted => Err(CallError::Interrupted),
+        ScriptedCall::Failed => Err(CallError::Failed),
     }
 }
 
 /// Whether a call that moves no bytes completes.
-fn is_done(turn: Turn) -> Result<(), CallError> {
-    match turn {
-        Turn::Whole | Turn::Short(_) => Ok(()),
-        Turn::Interrupted => Err(CallError::Interrupted),
-        Turn::Failed => Err(CallError::Failed),
+fn is_done(scripted_call: ScriptedCall) -> Result<(), CallError> {
+    match scripted_call {
+        ScriptedCall::Whole | ScriptedCall::Short(_) => Ok(()),
+        ScriptedCall::Interrupted => Err(CallError::Interrupted),
+        ScriptedCall::Failed => Err(CallError::Failed),
     }
 }
 
 /// Copies bytes of a file from `at` on, as many as the step moves and the file has. It fails at the end of the file.
-fn give(file: &[u8], turn: Turn, at: u64, buf: &mut [u8]) -> Result<usize, CallError>
+fn give(
+    file: &[u8],
+    scripted_call: ScriptedCall,
+    at: u64,
+    buf: &mut [u8],
+) -> Result<usize, CallError>
     requires { 0 < length buf.old }
     ensures count { IfOk result (λ count. (0 < count) × (count ≤ length buf.old)) }
     ensures bytes { IfOk result (λ count. take count buf.new ≡ take count (drop at file.now)) }
 {
     let at = at as usize;
-    let most = moved(turn, buf.len())?;
+    let most = moved(scripted_call, buf.len())?;
     if at >= file.len() {
         return Err(CallError::Failed);
     }
@@ -118,13 +123,18 @@ fn give(file: &[u8], turn: Turn, at: u64, buf: &mut [u8]) -> Result<usize, CallE
 }
 
 /// Writes bytes into a file, as many as the step moves.
-fn take_in(file: &mut Vec<u8>, turn: Turn, at: u64, bytes: &[u8]) -> Result<usize, CallError>
+fn take_in(
+    file: &mut Vec<u8>,
+    scripted_call: ScriptedCall,
+    at: u64,
+    bytes: &[u8],
+) -> Result<usize, CallError>
     ensures count { IfOk result (λ count. count ≤ length bytes.now) }
     ensures some { 0 < length bytes.now → IfOk result (λ count. 0 < count) }
     ensures laid { IfOk result (λ count. file.new.items ≡ laid at (take count bytes.now) file.old.items) }
     ensures same { IfErr result (λ e. e ≡ CallError.Interrupted → file.new.items ≡ file.old.items) }
 {
-    match moved(turn, bytes.len()) {
+    match moved(scripted_call, bytes.len()) {
         Ok(count) => match lay(file, at, &bytes[..count]) {
             Ok(()) => Ok(count),
             Err(_) => Err(CallError::Failed),
@@ -149,8 +159,8 @@ impl SystemFile for ScriptedFile {
     ghost held_is_left = { refl };
 
     fn len(&mut self) -> Result<u64, CallError> {
-        let turn = next_turn(&self.script, &mut self.done);
-        let answer = match is_done(turn) {
+        let scripted_call = next_call(&self.script, &mut self.done);
+        let answer = match is_done(scripted_call) {
             Ok(()) => Ok(self.bytes.len() as u64),
             Err(error) => Err(error),
         };
@@ -159,40 +169,40 @@ impl SystemFile for ScriptedFile {
     }
 
     fn read_at(&mut self, at: u64, buf: &mut [u8]) -> Result<usize, CallError> {
-        let turn = next_turn(&self.script, &mut self.done);
-        let answer = give(&self.bytes, turn, at, buf);
+        let scripted_call = next_call(&self.script, &mut self.done);
+        let answer = give(&self.bytes, scripted_call, at, buf);
         self.log.gave(at, buf, answer);
         answer
     }
 
     fn write_at(&mut self, at: u64, bytes: &[u8]) -> Result<usize, CallError> {
-        let turn = next_turn(&self.script, &mut self.done);
-        let answer = take_in(&mut self.bytes, turn, at, bytes);
+        let scripted_call = next_call(&self.script, &mut self.done);
+        let answer = take_in(&mut self.bytes, scripted_call, at, bytes);
         self.log.wrote(at, bytes, answer);
         answer
     }
 
     fn set_len(&mut self, len: u64) -> Result<(), CallError> {
-        let turn = next_turn(&self.script, &mut self.done);
-        let answer = extend(&mut self.bytes, turn, len);
+        let scripted_call = next_call(&self.script, &mut self.done);
+        let answer = extend(&mut self.bytes, scripted_call, len);
         self.log.grew(len, answer);
         answer
     }
 
     fn sync_data(&mut self) -> Result<(), CallError> {
-        let turn = next_turn(&self.script, &mut self.done);
-        let answer = is_done(turn);
+        let scripted_call = next_call(&self.script, &mut self.done);
+        let answer = is_done(scripted_call);
         self.log.synced(answer);
         answer
     }
 }
 
 /// Extends a file with zeros, if the step completes.
-fn extend(file: &mut Vec<u8>, turn: Turn, len: u64) -> Result<(), CallError>
+fn extend(file: &mut Vec<u8>, scripted_call: ScriptedCall, len: u64) -> Result<(), CallError>
     ensures ok { OnOk result (file.new.items ≡ laid len [] file.old.items) }
     ensures same { IfErr result (λ e. e ≡ CallError.Interrupted → file.new.items ≡ file.old.items) }
 {
-    is_done(turn)?;
+    is_done(scripted_call)?;
     match lay(file, len, &[]) {
         Ok(()) => Ok(()),
         Err(_) => Err(CallError::Failed),

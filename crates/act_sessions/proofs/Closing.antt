@@ -5,7 +5,7 @@ use Rattle.std.specs.Io.KnownBytes.{Consumes}
 use Rattle.act_sessions.specs.declared.transcript.Ending.{Ending}
 use Rattle.act_sessions.specs.declared.transcript.Ending.TheVariants.{Done, Memory, Broken}
 use Rattle.act_sessions.specs.declared.transcript.Part.{Part}
-use Rattle.act_sessions.specs.declared.transcript.Part.TheVariants.{Waits, Over}
+use Rattle.act_sessions.specs.declared.transcript.Part.TheVariants.{AwaitsInput, Over}
 use Rattle.act_sessions.specs.declared.transcript.Transcript.{Transcript}
 use Rattle.act_sessions.specs.Ends.{Ends, EndsOver, EndsOverSome, HasEnded, HasFailed, HasFinished}
 use Rattle.act_sessions.specs.Rules.{Rules, Turn, texts, exchanges_of}
@@ -125,14 +125,14 @@ failed p i i2 output written asked exchanges t cut = (
 pub part_told : {F : Type 0} (p : Rules F) (from to : Place) (i i2 output written : Option (List ℕ)) (asked now : List Exchange) (old new : Transcript) (end : Part)
     → IsPart p from i i2 (moment output asked old) (moment written now new) to end
     → (exchanges : List Exchange) × AreAsked asked now exchanges × (exchanges_by new ≡ exchanges_by old ++ exchanges) × OnlyLastOpen exchanges
-part_told p from to i i2 output written asked now old new Waits (goes, waits, end) =
+part_told p from to i i2 output written asked now old new AwaitsInput (goes, waits, end) =
     (exchanges_of goes.turns, inl goes.asked_all, goes.listed_all, only_open p from.turns goes.turns goes.unended)
 part_told p from to i i2 output written asked now old new (Over how) (turns, rest, out, did, ends) =
     (exchanges_of turns, did.asked_all, did.listed_all, only_over p from.turns how turns rest out ends)
 
 -- the only part of a session, which waits at the end of the input
 pub waited : {F : Type 0} (p : Rules F) (to : Place) (i i2 output written : Option (List ℕ)) (asked exchanges : List Exchange) (t : Transcript)
-    → IsPart p first i i2 (start output asked) (moment written exchanges t) to Waits → IsDone p i i2 (start output asked) (moment written exchanges t)
+    → IsPart p first i i2 (start output asked) (moment written exchanges t) to AwaitsInput → IsDone p i i2 (start output asked) (moment written exchanges t)
 waited p to i i2 output written asked exchanges t (goes, waits, end) = (
   goes.turns,
   to.held,

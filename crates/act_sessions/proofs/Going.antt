@@ -7,14 +7,14 @@ use Rattle.std.proofs.KnownBytes.{Consumes-nil, Consumes-trans, Appends-nil, App
 use Rattle.act_sessions.specs.declared.request.Request.{Request}
 use Rattle.act_sessions.specs.declared.transcript.Ending.{Ending}
 use Rattle.act_sessions.specs.declared.transcript.Ending.TheVariants as ending
-use Rattle.act_sessions.specs.declared.transcript.Part.TheVariants.{Waits, Over}
+use Rattle.act_sessions.specs.declared.transcript.Part.TheVariants.{AwaitsInput, Over}
 use Rattle.act_sessions.specs.declared.error.SessionError.{SessionError}
 use Rattle.act_sessions.specs.declared.error.SessionError.TheVariants.{Memory, Broken}
 use Rattle.act_sessions.specs.Hearing.{Hears}
 use Rattle.act_sessions.specs.Rules.{Rules, Turn, request_of, exchanges_at, exchanges_of, is_last, Reads, turn_text, texts, IsSteady}
 use Rattle.act_sessions.specs.Session.{Moment, Place, Writes, Did, Goes, IsPart}
 use Rattle.act_sessions.specs.Exchange.{AreAsked}
-use Rattle.act_sessions.specs.Turns.{WritesNone, AsksTurn, TakesTurn, Aborts, HasPaused}
+use Rattle.act_sessions.specs.Turns.{WritesNone, SubmitsTurn, TakesTurn, Aborts, HasPaused}
 use Rattle.act_sessions.proofs.Listing.{Reads_snoc, Reads_grows, IsOpen_snoc, IsEnded_snoc, texts_snoc, exchanges_snoc, all_listed, AreAsked_after, min_twice}
 
 abbrev pub at : ℕ → List ℕ → Place
@@ -64,7 +64,7 @@ did_waiting p steady from to i i1 i2 old new piece goes more short = record {
 -- a request was answered
 did_turn : {F : Type 0} (p : Rules F) → IsSteady p → (from to : Place) (i i1 i2 : Option (List ℕ)) (old mid new : Moment)
     (piece left text : List ℕ) (t : Turn F) → (goes : Goes p from i i1 old mid to) → Consumes i1 i2 piece
-    → p.reads (to.held ++ piece) (request_of t) left → length left ≤ p.limit → AsksTurn mid new t → Writes mid new text
+    → p.reads (to.held ++ piece) (request_of t) left → length left ≤ p.limit → SubmitsTurn mid new t → Writes mid new text
     → Did p from i i2 old new (goes.turns ++ t ∷ []) left (texts p from.turns goes.turns ++ text)
 did_turn p steady from to i i1 i2 old mid new piece left text t goes more r short asks writes = record {
   read = goes.read ++ piece;
@@ -122,7 +122,7 @@ over_by_last p steady from to i i1 i2 old mid new buffer n piece left r goes mor
 -- the end of the input
 pub waits_at_end : {F : Type 0} (p : Rules F) → IsSteady p → (from : Place) (i i1 i2 : Option (List ℕ)) (old new : Moment) (buffer : List ℕ) (n : ℕ)
     (piece left : List ℕ) → Goes p from i i1 old new (at n buffer) → Consumes i1 i2 piece → length (buffer ++ piece) ≤ p.limit → p.waits left
-    → buffer ++ piece ≡ left → IsAtEnd i2 → IsPart p from i i2 old new (at n left) Waits
+    → buffer ++ piece ≡ left → IsAtEnd i2 → IsPart p from i i2 old new (at n left) AwaitsInput
 waits_at_end p steady from i i1 i2 old new buffer n piece left goes more short waits e end =
     let did = did_waiting p steady from (at n buffer) i i1 i2 old new piece goes more short in (
       record {
@@ -238,7 +238,7 @@ gave_up p Memory from to i i2 old mid new ending.Broken (turns, rest, out, did, 
       same_did p from i i2 old mid new turns rest out text (out ++ text) did (Writes_trans old mid new out text did.wrote_all writes) refl same listed,
       inr (passed, are, words, inl says, k, ap (λ l. l ++ text) is),
     )
-gave_up p Broken from to i i2 old mid new ending.Broken (turns, rest, out, did, front) same (none, listed) =
-    (turns, rest, out, did_no_more p from i i2 old mid new turns rest out did none same listed, front)
+gave_up p Broken from to i i2 old mid new ending.Broken (turns, rest, out, did, prefix) same (none, listed) =
+    (turns, rest, out, did_no_more p from i i2 old mid new turns rest out did none same listed, prefix)
 gave_up p Broken from to i i2 old mid new ending.Done paused same gives = absurd gives
 gave_up p Broken from to i i2 old mid new ending.Memory paused same gives = absurd gives

@@ -5,10 +5,10 @@ use Rattle.std.specs.Io.KnownBytes.{Consumes, Appends, IsAtEnd}
 use Rattle.act_sessions.specs.declared.transcript.Ending.{Ending}
 use Rattle.act_sessions.specs.declared.transcript.Ending.TheVariants.{Done, Memory, Broken}
 use Rattle.act_sessions.specs.declared.transcript.Part.{Part}
-use Rattle.act_sessions.specs.declared.transcript.Part.TheVariants.{Waits, Over}
+use Rattle.act_sessions.specs.declared.transcript.Part.TheVariants.{AwaitsInput, Over}
 use Rattle.act_sessions.specs.Exchange.{Exchange, AreAsked}
 use Rattle.act_sessions.specs.Rules.{Rules, Turn, exchanges_at, exchanges_of, is_last, Reads, IsOpen, IsEnded, turn_text, texts, IsSteady}
-use Rattle.act_sessions.specs.Session.{Moment, Place, Writes, Did, Goes, IsPart, ArePassed, IsOver, IsFront, IsUnheard, ComesNext, EndsSo}
+use Rattle.act_sessions.specs.Session.{Moment, Place, Writes, Did, Goes, IsPart, ArePassed, IsOver, IsPrefix, IsUnheard, ComesNext, EndsSo}
 use Rattle.act_sessions.specs.Joined.{added, IsJoined}
 use Rattle.act_sessions.proofs.Going.{Writes_trans}
 use Rattle.act_sessions.proofs.Listing.{Reads_grows, AreAsked_after}
@@ -43,7 +43,7 @@ added_is (a ∷ old) new exchanges e = rw e (added_is old (old ++ exchanges) exc
 -- commands appended to one list can be appended to another
 rebased : (old new other exchanges : List Exchange) → AreAsked old new exchanges → AreAsked other (other ++ added old new) exchanges
 rebased old new other exchanges (inl e) = inl (ap (λ l. other ++ l) (added_is old new exchanges e))
-rebased old new other exchanges (inr (front, c, is, e)) = inr (front, c, is, ap (λ l. other ++ l) (added_is old new front e))
+rebased old new other exchanges (inr (prefix, c, is, e)) = inr (prefix, c, is, ap (λ l. other ++ l) (added_is old new prefix e))
 
 -- a stream that was cut yields what its two pieces yield
 read_on : (x y : List ℕ) (i1 i2 : Option (List ℕ)) (read more : List ℕ) → Consumes (Some x) i1 read → IsAtEnd i1 → Consumes (Some y) i2 more
@@ -143,8 +143,8 @@ module _ (F : Type 0) (p : Rules F) (steady : IsSteady p) (from to : Place) (x y
       let same_place : to.turns + length passed ≡ from.turns + length (goes.turns ++ passed) = let l = length-append goes.turns passed in let c = goes.counted in omega arith in
       inr (t, ap (λ l. goes.turns ++ l) e ∙ sym (append_assoc goes.turns passed (t ∷ [])), is ∙ ap (λ m. turn_text p (is_last p m t) t) same_place)
 
-  front_on : (turns : List (Turn F)) (out : List ℕ) → IsFront p to.turns turns out → IsFront p from.turns (goes.turns ++ turns) (texts p from.turns goes.turns ++ out)
-  front_on turns out (passed, are, text, next, k, e) =
+  prefix_on : (turns : List (Turn F)) (out : List ℕ) → IsPrefix p to.turns turns out → IsPrefix p from.turns (goes.turns ++ turns) (texts p from.turns goes.turns ++ out)
+  prefix_on turns out (passed, are, text, next, k, e) =
       (goes.turns ++ passed, passed_on turns passed are, text, next_on turns passed text next, k, texts_on passed out (take k text) e)
 
   unheard_on : (turns : List (Turn F)) (rest out : List ℕ) → IsUnheard p to.turns turns rest out
@@ -157,7 +157,7 @@ module _ (F : Type 0) (p : Rules F) (steady : IsSteady p) (from to : Place) (x y
   ends_on Done turns rest out over = over_on turns out over
   ends_on Memory turns rest out (silent, passed, are, e) = (silent, goes.turns ++ passed, passed_on turns passed are, texts_all passed out e)
   ends_on Broken turns rest out (inl unheard) = inl (unheard_on turns rest out unheard)
-  ends_on Broken turns rest out (inr front) = inr (front_on turns out front)
+  ends_on Broken turns rest out (inr prefix) = inr (prefix_on turns out prefix)
 
   is_joined : (out : List ℕ) → IsJoined mid begin new (whole_of mid begin new out)
   unfolding whole_of
@@ -165,7 +165,7 @@ module _ (F : Type 0) (p : Rules F) (steady : IsSteady p) (from to : Place) (x y
 
   pub two_parts : (last : Place) (r : Part) → IsPart p to (Some y) i2 begin new last r
       → (whole : Moment) × IsJoined mid begin new whole × IsPart p from (Some (x ++ y)) i2 old whole last r
-  two_parts last Waits (more, waits, at_end) =
+  two_parts last AwaitsInput (more, waits, at_end) =
       (whole_of mid begin new (texts p to.turns more.turns), is_joined (texts p to.turns more.turns), (goes_on_from last more, waits, at_end))
   two_parts last (Over how) (turns, rest, out, did, ends) = (
     whole_of mid begin new out,

@@ -49,13 +49,13 @@ head_response [] = Err no_memory
 head_response (x ∷ xs) = x.1
 
 -- a command missing from the list was answered out of memory
-missing : (x : Exchange) (front : List Exchange) (c : Command) → x ∷ [] ≡ front ++ (c, Err no_memory) ∷ [] → x.1 ≡ Err no_memory
+missing : (x : Exchange) (prefix : List Exchange) (c : Command) → x ∷ [] ≡ prefix ++ (c, Err no_memory) ∷ [] → x.1 ≡ Err no_memory
 unfolding head_response
 missing x [] c e = ap head_response e
-missing x (y ∷ front) c e = absurd (omega (arith, ap length e, length-append front ((c, Err no_memory) ∷ [])))
+missing x (y ∷ prefix) c e = absurd (omega (arith, ap length e, length-append prefix ((c, Err no_memory) ∷ [])))
 
-none_missing : (front : List Exchange) (c : Command) → [] ≡ front ++ (c, Err no_memory) ∷ [] → ⊥
-none_missing front c e = omega (arith, ap length e, length-append front ((c, Err no_memory) ∷ []))
+none_missing : (prefix : List Exchange) (c : Command) → [] ≡ prefix ++ (c, Err no_memory) ∷ [] → ⊥
+none_missing prefix c e = omega (arith, ap length e, length-append prefix ((c, Err no_memory) ∷ []))
 
 wrong : (a b d : Bool) → b ≡ true → ((a || b) || d) ≡ false → ⊥
 wrong true b d h e = elim_true e

@@ -2,7 +2,7 @@
 use Rattle.std.proofs.Common.{ℕ, Bool, true, false, List, Ok, Err, arith}
 use Rattle.std.specs.Prelude.{Option, Some, None}
 use Rattle.act_sessions.specs.declared.request.Request.{Request}
-use Rattle.act_sessions.specs.declared.transcript.Part.TheVariants.{Waits}
+use Rattle.act_sessions.specs.declared.transcript.Part.TheVariants.{AwaitsInput}
 use Rattle.act_sessions.specs.declared.error.SessionError.{SessionError}
 use Rattle.act_sessions.specs.Hearing.{Awaits}
 use Rattle.act_sessions.specs.Rules.{Rules, IsSteady}
@@ -28,7 +28,7 @@ round_failed p steady from i i1 i2 old mid new buffer n left q e goes (piece, mo
 
 -- the input ended
 pub round_at_end : {F : Type 0} (p : Rules F) → IsSteady p → (from : Place) (i i1 i2 : Option (List ℕ)) (old mid : Moment) (buffer : List ℕ) (n : ℕ)
-    (left : List ℕ) → Goes p from i i1 old mid (at n buffer) → Awaits p i1 i2 buffer left (Ok None) → IsPart p from i i2 old mid (at n left) Waits
+    (left : List ℕ) → Goes p from i i1 old mid (at n buffer) → Awaits p i1 i2 buffer left (Ok None) → IsPart p from i i2 old mid (at n left) AwaitsInput
 round_at_end p steady from i i1 i2 old mid buffer n left goes (piece, more, short, (waits, e, end)) =
     waits_at_end p steady from i i1 i2 old mid buffer n piece left goes more short waits e end
 

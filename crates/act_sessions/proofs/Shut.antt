@@ -42,13 +42,13 @@ only_cons : (t : Exchange) (exchanges : List Exchange) → leaves_open t.1 ≡ f
 only_cons t [] h only = tt
 only_cons t (u ∷ exchanges) h only = (h, only)
 
-only_behind : (front exchanges : List Exchange) → NoneOpen front → OnlyLastOpen exchanges → OnlyLastOpen (front ++ exchanges)
-only_behind [] exchanges none only = only
-only_behind (t ∷ front) exchanges none only = only_cons t (front ++ exchanges) none.0 (only_behind front exchanges none.1 only)
+only_after : (prefix exchanges : List Exchange) → NoneOpen prefix → OnlyLastOpen exchanges → OnlyLastOpen (prefix ++ exchanges)
+only_after [] exchanges none only = only
+only_after (t ∷ prefix) exchanges none only = only_cons t (prefix ++ exchanges) none.0 (only_after prefix exchanges none.1 only)
 
-none_behind : (front exchanges : List Exchange) → NoneOpen front → NoneOpen exchanges → NoneOpen (front ++ exchanges)
-none_behind [] exchanges none more = more
-none_behind (t ∷ front) exchanges none more = (none.0, none_behind front exchanges none.1 more)
+none_after : (prefix exchanges : List Exchange) → NoneOpen prefix → NoneOpen exchanges → NoneOpen (prefix ++ exchanges)
+none_after [] exchanges none more = more
+none_after (t ∷ prefix) exchanges none more = (none.0, none_after prefix exchanges none.1 more)
 
 none_of : {F : Type 0} (p : Rules F) (n : ℕ) (ts : List (Turn F)) → IsOpen p n ts → NoneOpen (exchanges_of ts)
 none_of p n [] h = tt
@@ -62,10 +62,10 @@ only_at (Refused f closes) = tt
 only_passed : {F : Type 0} (p : Rules F) (n : ℕ) (turns passed : List (Turn F)) → ArePassed p n turns passed → OnlyLastOpen (exchanges_of turns)
 only_passed p n turns passed (unended, inl e) =
     subst (λ ts. OnlyLastOpen (exchanges_of ts)) (sym e)
-    (subst OnlyLastOpen (append-nil (exchanges_of passed)) (only_behind (exchanges_of passed) [] (none_of p n passed unended) tt))
+    (subst OnlyLastOpen (append-nil (exchanges_of passed)) (only_after (exchanges_of passed) [] (none_of p n passed unended) tt))
 only_passed p n turns passed (unended, inr (t, e)) =
     subst OnlyLastOpen (sym (ap exchanges_of e ∙ exchanges_append passed (t ∷ []) ∙ ap (λ l. exchanges_of passed ++ l) (append-nil (exchanges_at t))))
-    (only_behind (exchanges_of passed) (exchanges_at t) (none_of p n passed unended) (only_at t))
+    (only_after (exchanges_of passed) (exchanges_at t) (none_of p n passed unended) (only_at t))
 
 only_ended : {F : Type 0} (p : Rules F) (n : ℕ) (ts : List (Turn F)) → IsEnded p n ts → OnlyLastOpen (exchanges_of ts)
 only_ended p n [] h = absurd h
@@ -87,37 +87,37 @@ only_over p n Broken turns rest out (inr (passed, are, text, next, k, wrote)) = 
 
 -- a list of parts
 
-none_shut : (front : List Exchange) (t : Exchange) → OnlyLastOpen (front ++ t ∷ []) → leaves_open t.1 ≡ false → NoneOpen (front ++ t ∷ [])
+none_shut : (prefix : List Exchange) (t : Exchange) → OnlyLastOpen (prefix ++ t ∷ []) → leaves_open t.1 ≡ false → NoneOpen (prefix ++ t ∷ [])
 none_shut [] t only h = (h, tt)
 none_shut (u ∷ []) t only h = (only.0, (h, tt))
-none_shut (u ∷ v ∷ front) t only h = (only.0, none_shut (v ∷ front) t only.1 h)
+none_shut (u ∷ v ∷ prefix) t only h = (only.0, none_shut (v ∷ prefix) t only.1 h)
 
 none_told : (asked : List LoggedExchange) → OnlyLastOpen (exchanges_in asked) → IsShut asked → NoneOpen (exchanges_in asked)
 none_told asked only (inl e) = subst (λ l. NoneOpen (exchanges_in l)) (sym e) tt
-none_told asked only (inr (front, last, is, h)) =
-    let exchanges = ap exchanges_in is ∙ exchanges_in_snoc front last in
-    subst NoneOpen (sym exchanges) (none_shut (exchanges_in front) (last.command, last.answer) (subst OnlyLastOpen exchanges only) h)
+none_told asked only (inr (prefix, last, is, h)) =
+    let exchanges = ap exchanges_in is ∙ exchanges_in_snoc prefix last in
+    subst NoneOpen (sym exchanges) (none_shut (exchanges_in prefix) (last.command, last.answer) (subst OnlyLastOpen exchanges only) h)
 
 pub none_only : (exchanges : List Exchange) → NoneOpen exchanges → OnlyLastOpen exchanges
-none_only exchanges none = subst OnlyLastOpen (append-nil exchanges) (only_behind exchanges [] none tt)
+none_only exchanges none = subst OnlyLastOpen (append-nil exchanges) (only_after exchanges [] none tt)
 
 -- an out-of-memory answer leaves it unknown whether its command was entered
-none_last : (front : List Exchange) (c : Command) → NoneOpen (front ++ (c, Err no_memory) ∷ []) → ⊥
+none_last : (prefix : List Exchange) (c : Command) → NoneOpen (prefix ++ (c, Err no_memory) ∷ []) → ⊥
 none_last [] c none = cc
-none_last (t ∷ front) c none = none_last front c none.1
+none_last (t ∷ prefix) c none = none_last prefix c none.1
 
 module _ (begin asked now : List Exchange) (old new : Transcript) (exchanges : List Exchange) (before : asked ≡ begin ++ exchanges_by old) (none : NoneOpen (exchanges_by old))
     (are : AreAsked asked now exchanges) (listed : exchanges_by new ≡ exchanges_by old ++ exchanges) (only : OnlyLastOpen exchanges) where
   pub parts_only : OnlyLastOpen (exchanges_by new)
-  parts_only = subst OnlyLastOpen (sym listed) (only_behind (exchanges_by old) exchanges none only)
+  parts_only = subst OnlyLastOpen (sym listed) (only_after (exchanges_by old) exchanges none only)
 
   parts_asked_by : AreAsked asked now exchanges → AreAsked begin now (exchanges_by new)
   parts_asked_by (inl e) = inl (e ∙ ap (λ l. l ++ exchanges) before ∙ append_assoc begin (exchanges_by old) exchanges ∙ ap (λ l. begin ++ l) (sym listed))
-  parts_asked_by (inr (front, c, is, e)) = inr (
-    exchanges_by old ++ front,
+  parts_asked_by (inr (prefix, c, is, e)) = inr (
+    exchanges_by old ++ prefix,
     c,
-    listed ∙ ap (λ l. exchanges_by old ++ l) is ∙ sym (append_assoc (exchanges_by old) front _),
-    e ∙ ap (λ l. l ++ front) before ∙ append_assoc begin (exchanges_by old) front,
+    listed ∙ ap (λ l. exchanges_by old ++ l) is ∙ sym (append_assoc (exchanges_by old) prefix _),
+    e ∙ ap (λ l. l ++ prefix) before ∙ append_assoc begin (exchanges_by old) prefix,
   )
 
   pub parts_asked : AreAsked begin now (exchanges_by new)
@@ -128,7 +128,7 @@ module _ (begin asked now : List Exchange) (old new : Transcript) (exchanges : L
 
   parts_gone : IsShut new.asked.items → AreAsked begin now (exchanges_by new) → now ≡ begin ++ exchanges_by new
   parts_gone shut (inl e) = e
-  parts_gone shut (inr (front, c, is, e)) = absurd (none_last front c (subst NoneOpen is (parts_none shut)))
+  parts_gone shut (inr (prefix, c, is, e)) = absurd (none_last prefix c (subst NoneOpen is (parts_none shut)))
 
   pub parts_go_on : IsShut new.asked.items → (now ≡ begin ++ exchanges_by new) × NoneOpen (exchanges_by new)
   parts_go_on shut = (parts_gone shut parts_asked, parts_none shut)

@@ -18,14 +18,14 @@ abbrev pub Exchange : Type 0
 Exchange = Command × Response
 
 -- One command was submitted: it is listed with its answer. A command answered out of memory may be missing.
-abbrev pub Asks : List Exchange → List Exchange → Command → Response → Type 0
-Asks old new c r = (new ≡ old ++ (c, r) ∷ []) ⊎ ((r ≡ Err no_memory) × (new ≡ old))
+abbrev pub Submits : List Exchange → List Exchange → Command → Response → Type 0
+Submits old new c r = (new ≡ old ++ (c, r) ∷ []) ⊎ ((r ≡ Err no_memory) × (new ≡ old))
 
 -- These commands were submitted in order, each once, and are listed. The last one may be missing if it was answered out of memory.
 abbrev pub AreAsked : List Exchange → List Exchange → List Exchange → Type 0
 AreAsked old new exchanges =
     (new ≡ old ++ exchanges)
-    ⊎ ((front : List Exchange) × (c : Command) × (exchanges ≡ front ++ (c, Err no_memory) ∷ []) × (new ≡ old ++ front))
+    ⊎ ((prefix : List Exchange) × (c : Command) × (exchanges ≡ prefix ++ (c, Err no_memory) ∷ []) × (new ≡ old ++ prefix))
 
 -- these answers do not say whether the command was entered
 abbrev pub open_numbers : List ℕ
@@ -48,11 +48,11 @@ OnlyLastOpen (t ∷ u ∷ exchanges) = (leaves_open t.1 ≡ false) × OnlyLastOp
 
 -- The last answer, if there is one, settles whether its command was entered.
 abbrev pub IsShut : List LoggedExchange → Type 0
-IsShut asked = (asked ≡ []) ⊎ ((front : List LoggedExchange) × (last : LoggedExchange) × (asked ≡ front ++ last ∷ []) × (leaves_open last.answer ≡ false))
+IsShut asked = (asked ≡ []) ⊎ ((prefix : List LoggedExchange) × (last : LoggedExchange) × (asked ≡ prefix ++ last ∷ []) × (leaves_open last.answer ≡ false))
 
 -- There is a last answer, and it leaves it unknown whether its command was entered.
 abbrev pub IsLeftOpen : List LoggedExchange → Type 0
-IsLeftOpen asked = (front : List LoggedExchange) × (last : LoggedExchange) × (asked ≡ front ++ last ∷ []) × (leaves_open last.answer ≡ true)
+IsLeftOpen asked = (prefix : List LoggedExchange) × (last : LoggedExchange) × (asked ≡ prefix ++ last ∷ []) × (leaves_open last.answer ≡ true)
 
 abbrev pub exchanges_in : List LoggedExchange → List Exchange
 exchanges_in asked = map (λ a. (a.command, a.answer)) asked

@@ -4,7 +4,7 @@ use Rattle.std.specs.Io.KnownBytes.{Consumes, Appends, IsAtEnd}
 use Rattle.act_sessions.specs.declared.transcript.Ending.{Ending}
 use Rattle.act_sessions.specs.declared.transcript.Ending.TheVariants.{Done, Memory, Broken}
 use Rattle.act_sessions.specs.declared.transcript.Part.{Part}
-use Rattle.act_sessions.specs.declared.transcript.Part.TheVariants.{Waits, Over}
+use Rattle.act_sessions.specs.declared.transcript.Part.TheVariants.{AwaitsInput, Over}
 use Rattle.act_sessions.specs.declared.transcript.Transcript.{Transcript}
 use Rattle.act_sessions.specs.Rules.{Rules, Turn, Reads, is_last, IsOpen, IsEnded, turn_text, texts, exchanges_of}
 use Rattle.act_sessions.specs.Exchange.{AreAsked, Exchange, exchanges_by}
@@ -91,8 +91,8 @@ abbrev pub IsUnheard : {F : Type 0} → Rules F → ℕ → List (Turn F) → Li
 IsUnheard p n turns rest out = IsOpen p n turns × p.waits rest × (out ≡ texts p n turns)
 
 -- A write failed: the texts of the passed turns were written whole, then a prefix of what comes next.
-abbrev pub IsFront : {F : Type 0} → Rules F → ℕ → List (Turn F) → List ℕ → Type 0
-IsFront {F} p n turns out =
+abbrev pub IsPrefix : {F : Type 0} → Rules F → ℕ → List (Turn F) → List ℕ → Type 0
+IsPrefix {F} p n turns out =
     (passed : List (Turn F)) × ArePassed p n turns passed × (text : List ℕ) × ComesNext p n turns passed text × (k : ℕ)
     × (out ≡ texts p n passed ++ take k text)
 
@@ -101,7 +101,7 @@ IsFront {F} p n turns out =
 abbrev pub HasStopped : {F : Type 0} → Rules F → ℕ → Ending → List (Turn F) → List ℕ → List ℕ → Type 0
 HasStopped p n Done turns rest out = ⊥
 HasStopped {F} p n Memory turns rest out = (p.out_of_memory_response ≡ None) × (passed : List (Turn F)) × ArePassed p n turns passed × (out ≡ texts p n passed)
-HasStopped p n Broken turns rest out = IsUnheard p n turns rest out ⊎ IsFront p n turns out
+HasStopped p n Broken turns rest out = IsUnheard p n turns rest out ⊎ IsPrefix p n turns out
 
 -- a session that returned `Ok`
 abbrev pub IsDone : {F : Type 0} → Rules F → Option (List ℕ) → Option (List ℕ) → Moment → Moment → Type 0
@@ -122,6 +122,6 @@ EndsSo p n Broken turns rest out = HasStopped p n Broken turns rest out
 -- A part of a session, from a place on. Either it is at another place, where it waits for more bytes than its input has. Or the session is
 -- over: by its bytes, out of memory, or after a failed read or write.
 abbrev pub IsPart : {F : Type 0} → Rules F → Place → Option (List ℕ) → Option (List ℕ) → Moment → Moment → Place → Part → Type 0
-IsPart p from input input_new old new to Waits = Goes p from input input_new old new to × p.waits to.held × IsAtEnd input_new
+IsPart p from input input_new old new to AwaitsInput = Goes p from input input_new old new to × p.waits to.held × IsAtEnd input_new
 IsPart {F} p from input input_new old new to (Over how) =
     (turns : List (Turn F)) × (rest : List ℕ) × (out : List ℕ) × Did p from input input_new old new turns rest out × EndsSo p from.turns how turns rest out

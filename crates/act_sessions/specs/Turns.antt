@@ -3,7 +3,7 @@ use Rattle.std.specs.Prelude.{◌≡◌, ◌⊎◌, ℕ, ◌+◌, Bool, true, fa
 use Rattle.act_sessions.specs.declared.request.Request.{Request}
 use Rattle.act_sessions.specs.declared.transcript.Ending.{Ending}
 use Rattle.act_sessions.specs.declared.transcript.Ending.TheVariants.{Done, Memory, Broken}
-use Rattle.act_sessions.specs.declared.transcript.Part.TheVariants.{Waits, Over}
+use Rattle.act_sessions.specs.declared.transcript.Part.TheVariants.{AwaitsInput, Over}
 use Rattle.act_sessions.specs.declared.error.SessionError.{SessionError}
 use Rattle.act_sessions.specs.declared.error.SessionError.TheVariants as error
 use Rattle.act_sessions.specs.Rules.{Rules, Turn, request_of, exchanges_at, is_last, turn_text, texts}
@@ -15,22 +15,22 @@ abbrev pub WritesNone : Moment → Moment → Type 0
 WritesNone m n = (n.output ≡ m.output) × (n.count ≡ m.count)
 
 -- the turn's command, if it has one, was submitted and recorded
-abbrev pub AsksTurn : {F : Type 0} → Moment → Moment → Turn F → Type 0
-AsksTurn m n t = AreAsked m.asked n.asked (exchanges_at t) × (n.listed ≡ m.listed ++ exchanges_at t)
+abbrev pub SubmitsTurn : {F : Type 0} → Moment → Moment → Turn F → Type 0
+SubmitsTurn m n t = AreAsked m.asked n.asked (exchanges_at t) × (n.listed ≡ m.listed ++ exchanges_at t)
 
 -- no command was submitted
-abbrev pub AsksNone : Moment → Moment → Type 0
-AsksNone m n = (n.asked ≡ m.asked) × (n.listed ≡ m.listed)
+abbrev pub SubmitsNone : Moment → Moment → Type 0
+SubmitsNone m n = (n.asked ≡ m.asked) × (n.listed ≡ m.listed)
 
 -- A turn after n others, for a request. It was the last or not; or the session ran out of memory before or after its command was
 -- submitted; or a write failed.
 abbrev pub TakesTurn : {F : Type 0} → Rules F → ℕ → Request F → Moment → Moment → Result Bool SessionError → Type 0
 TakesTurn {F} p n r old new (Ok last) =
-    (t : Turn F) × (request_of t ≡ r) × (is_last p n t ≡ last) × AsksTurn old new t × Writes old new (turn_text p last t)
+    (t : Turn F) × (request_of t ≡ r) × (is_last p n t ≡ last) × SubmitsTurn old new t × Writes old new (turn_text p last t)
 TakesTurn {F} p n r old new (Err error.Memory) =
-    WritesNone old new × (AsksNone old new ⊎ ((t : Turn F) × (request_of t ≡ r) × AsksTurn old new t))
+    WritesNone old new × (SubmitsNone old new ⊎ ((t : Turn F) × (request_of t ≡ r) × SubmitsTurn old new t))
 TakesTurn {F} p n r old new (Err error.Broken) =
-    (t : Turn F) × (request_of t ≡ r) × AsksTurn old new t × (k : ℕ) × Writes old new (take k (turn_text p (is_last p n t) t))
+    (t : Turn F) × (request_of t ≡ r) × SubmitsTurn old new t × (k : ℕ) × Writes old new (take k (turn_text p (is_last p n t) t))
 
 -- A text was written whole, or a prefix of it.
 abbrev pub Says : Moment → Moment → List ℕ → Bool → Result Bool SessionError → Type 0
@@ -63,5 +63,5 @@ HasPaused {F} p e from input input_new old new =
 abbrev pub EndsRound : {F : Type 0} → Rules F → Place → Option (List ℕ) → Option (List ℕ) → Moment → Moment → List ℕ → ℕ → Result (Option Bool) SessionError → Type 0
 EndsRound p from input input_new old new buffer n (Ok (Some true)) = IsPart p from input input_new old new first (Over Done)
 EndsRound p from input input_new old new buffer n (Ok (Some false)) = Goes p from input input_new old new (record { turns = n + 1; held = buffer })
-EndsRound p from input input_new old new buffer n (Ok None) = IsPart p from input input_new old new (record { turns = n; held = buffer }) Waits
+EndsRound p from input input_new old new buffer n (Ok None) = IsPart p from input input_new old new (record { turns = n; held = buffer }) AwaitsInput
 EndsRound p from input input_new old new buffer n (Err e) = HasPaused p e from input input_new old new

@@ -1,5 +1,5 @@
 ghost use Rattle.std.specs.Prelude.{List};
-ghost use Rattle.act_sessions.specs.Exchange.{Asks, Exchange};
+ghost use Rattle.act_sessions.specs.Exchange.{Submits, Exchange};
 
 use run_plan::{Command, Reply};
 use wf_value::Refusal;
@@ -12,5 +12,5 @@ pub trait Answer {
     /// Submits one command, which is then listed with its answer. A command answered with 50 may be missing from the list, and may still
     /// have been carried out.
     fn ask(&mut self, command: Command) -> Result<Reply, Refusal>
-        ensures { Asks (asked self.old) (asked self.new) command result };
+        ensures { Submits (asked self.old) (asked self.new) command result };
 }

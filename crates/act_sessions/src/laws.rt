@@ -29,7 +29,7 @@ pub fn one_session_to_its_end<P: Protocol>()
 /// does over the whole stream.
 pub fn two_parts<P: Protocol>()
     ensures { (from to last : Place) (x y : List ℕ) (i1 i2 : Option (List ℕ)) (old mid begin new : Moment) (end : Part)
-        → IsPart P.rules from (Some x) i1 old mid to Part.Waits → begin.output ≡ mid.output
+        → IsPart P.rules from (Some x) i1 old mid to Part.AwaitsInput → begin.output ≡ mid.output
         → IsPart P.rules to (Some y) i2 begin new last end
         → (whole : Moment) × IsJoined mid begin new whole × IsPart P.rules from (Some (x ++ y)) i2 old whole last end }
 {}
@@ -38,7 +38,7 @@ pub fn two_parts<P: Protocol>()
 /// and cut otherwise.
 pub fn first_part<P: Protocol>()
     ensures waits { (i i2 output : Option (List ℕ)) (asked : List Exchange) (new : Moment) (last : Place)
-        → IsPart P.rules first i i2 (start output asked) new last Part.Waits → IsDone P.rules i i2 (start output asked) new }
+        → IsPart P.rules first i i2 (start output asked) new last Part.AwaitsInput → IsDone P.rules i i2 (start output asked) new }
     ensures over { (i i2 output : Option (List ℕ)) (asked : List Exchange) (new : Moment) (last : Place)
         → IsPart P.rules first i i2 (start output asked) new last (Part.Over Ending.Done) → IsDone P.rules i i2 (start output asked) new }
     ensures cut { (ending : Ending) → ending ≢ Ending.Done → (i i2 output : Option (List ℕ)) (asked : List Exchange) (new : Moment) (last : Place)

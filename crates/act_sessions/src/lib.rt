@@ -12,7 +12,7 @@ mod parts;
 mod protocol;
 mod request;
 mod session;
-mod standing;
+mod session_state;
 mod transcript;
 mod work;
 
@@ -23,6 +23,6 @@ pub use parts::{Parts, is_open, leaves_open, run_parts};
 pub use protocol::Protocol;
 pub use request::{Demand, FoundRequest, Request};
 pub use session::run;
-pub use standing::Standing;
+pub use session_state::SessionState;
 pub use transcript::{Ending, LoggedExchange, Part, SessionFault, Transcript};
 pub use work::Work;

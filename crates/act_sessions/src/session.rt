@@ -192,7 +192,7 @@ pub fn run_part<P: Protocol, R: Read, W: Write, A: Answer>(
     // What follows for an observer who knows nothing of the bytes.
     ensures exchanges { (exchanges : List Exchange) × AreAsked (A.asked answerer.old) (A.asked answerer.new) exchanges
         × (exchanges_by transcript.new ≡ exchanges_by transcript.old ++ exchanges) × OnlyLastOpen exchanges }
-    ensures waits { result ≡ Part.Waits → (count.new < P.rules.most) × (vec_len buffer.new ≤ P.rules.limit) }
+    ensures waits { result ≡ Part.AwaitsInput → (count.new < P.rules.most) × (vec_len buffer.new ≤ P.rules.limit) }
 {
     let _written = transcript.written;
     'rounds: for turns in *count..P::most() {
@@ -201,7 +201,7 @@ pub fn run_part<P: Protocol, R: Read, W: Write, A: Answer>(
             Ok(Some(false)) => {}
             Ok(None) => {
                 *count = turns;
-                return Part::Waits;
+                return Part::AwaitsInput;
             }
             Err(error) => return Part::Over(abort::<P, W>(writer, transcript, error)),
         }
@@ -235,7 +235,7 @@ pub fn run<P: Protocol, R: Read, W: Write, A: Answer>(
         &mut transcript,
     );
     match end {
-        Part::Waits => Ok(transcript.ended(Ending::Done)),
+        Part::AwaitsInput => Ok(transcript.ended(Ending::Done)),
         Part::Over(Ending::Done) => Ok(transcript.ended(Ending::Done)),
         Part::Over(ending) => Err(SessionFault {
             transcript: transcript.ended(ending),

@@ -26,7 +26,7 @@ pub enum Ending {
 #[derive(Clone, Copy, Debug, PartialEq, Eq)]
 pub enum Part {
     /// Its input ended before or inside a request. The session continues once there are more bytes.
-    Waits,
+    AwaitsInput,
     /// The session is over.
     Over(Ending),
 }

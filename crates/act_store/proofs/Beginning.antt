@@ -3,8 +3,8 @@ use Rattle.std.proofs.Common.{◌≡◌, inl, ℕ, ◌<◌, List, [], ◌∷◌,
 use Rattle.std.specs.Prelude.{Option}
 use Rattle.std.proofs.lemmas.List.{take_all}
 use Rattle.gated_journal.specs.Layout.{Head, Fits}
-use Rattle.gated_journal.specs.TwoAreas.{behind_gate}
-use Rattle.gated_journal.specs.Whole.{StandsWhole}
+use Rattle.gated_journal.specs.TwoAreas.{after_gate}
+use Rattle.gated_journal.specs.Whole.{RecoversWhole}
 use Rattle.gated_journal.specs.declared.gate.Gate.{Gate}
 use Rattle.gated_journal.specs.declared.gate.Gate.TheVariants.{Closed}
 use Rattle.gated_journal.specs.declared.side.Side.{Side}
@@ -17,12 +17,12 @@ use Rattle.act_store.specs.Images.{IsAreaLength, RecoversTo}
 use Rattle.act_store.specs.Layouts.{current_version}
 use Rattle.act_store.specs.StoreState.{Checkpoint, StoreState}
 use Rattle.act_store.specs.Meaning.{MeansTable}
-use Rattle.act_store.specs.Promise.{IsCounted, IsSettled, IsStanding}
+use Rattle.act_store.specs.Promise.{IsCounted, IsSettled, IsConsistent}
 use Rattle.act_store.specs.PendingBatch.{BatchState, batch_state_of}
 use Rattle.act_store.specs.declared.entry.Entry.{Entry}
 use Rattle.act_store.specs.declared.layout.Layout.{Layout}
 use Rattle.act_store.specs.declared.layout.Layout.TheVariants as layouts
-use Rattle.act_store.proofs.Settling.{settled_at, settled_stands}
+use Rattle.act_store.proofs.Settling.{settled_at, settled_recovers}
 use Rattle.act_store.proofs.TextOfTable.{empty_encodes, empty_text}
 
 abbrev pub begun : {D : Type 0} → D → ℕ → TableState → ℕ → ℕ → Layout → Option Checkpoint → Bool → List Entry → StoreState D
@@ -59,16 +59,16 @@ module _ {D : Type 0} (disk : D) (area : ℕ) (base : TableState) (used generati
         pending_batch_is = nothing;
       })
 
-  pub standing_begun : (images : D → List ℕ → Type 0) (side : Side) (gate : Gate) → IsAreaLength area
+  pub consistent_begun : (images : D → List ℕ → Type 0) (side : Side) (gate : Gate) → IsAreaLength area
       → IsSettled area side gate generation used layout base (images disk)
-      → IsStanding images side gate (begun disk area base used generation layout checkpoint failed history)
-  standing_begun images side gate size settled =
-      subst (λ (h : List Entry). IsStanding images side gate (begun disk area base used generation layout checkpoint failed h)) (sym none)
+      → IsConsistent images side gate (begun disk area base used generation layout checkpoint failed history)
+  consistent_begun images side gate size settled =
+      subst (λ (h : List Entry). IsConsistent images side gate (begun disk area base used generation layout checkpoint failed h)) (sym none)
       (let first : take 0 [] ≡ [] = take_all 0 [] (omega arith) in
       let here = settled_at area side gate generation used layout base (table_after base (take 0 [])) (images disk)
       (ap (λ (l : List Entry). table_after base l) (sym first)) settled in
       record {
-        each = λ c now. inl (settled_stands area side gate generation used layout (table_after base (take 0 [])) (images disk) size here c now);
+        each = λ c now. inl (settled_recovers area side gate generation used layout (table_after base (take 0 [])) (images disk) size here c now);
         settled = λ _. here;
       })
 
@@ -89,14 +89,14 @@ means_first = record {
 }
 
 -- the bytes of the first area
-pub first_bytes : 0 ∷ behind_gate first_head []
+pub first_bytes : 0 ∷ after_gate first_head []
     ≡ 0 ∷ 2 ∷ 0 ∷ 0 ∷ 0 ∷ 0 ∷ 0 ∷ 0 ∷ 0 ∷ 1 ∷ 0 ∷ 0 ∷ 0 ∷ 0 ∷ 0 ∷ 0 ∷ 0 ∷ 12 ∷ 0 ∷ 0 ∷ 0 ∷ 0 ∷ 0 ∷ 0 ∷ 0 ∷ 0 ∷ 0 ∷ 0 ∷ 0 ∷ 0 ∷ 0 ∷ []
 first_bytes = refl
 
 pub first_fits : Fits first_head []
 first_fits = record { generation = omega arith; text = omega arith; each = _ }
 
-pub first_settled : (area : ℕ) (images : List ℕ → Type 0) → ((c : List ℕ) → images c → StandsWhole area First Closed c first_head [])
+pub first_settled : (area : ℕ) (images : List ℕ → Type 0) → ((c : List ℕ) → images c → RecoversWhole area First Closed c first_head [])
     → IsSettled area First Closed 1 30 layouts.Second empty images
 first_settled area images each = record {
   head = first_head;
@@ -108,7 +108,7 @@ first_settled area images each = record {
   means = means_first;
 }
 
-pub first_stands : (area : ℕ) (images : List ℕ → Type 0) → IsAreaLength area
-    → ((c : List ℕ) → images c → StandsWhole area First Closed c first_head []) → (c : List ℕ) → images c → RecoversTo empty c
-first_stands area images size each =
-    settled_stands area First Closed 1 30 layouts.Second empty images size (first_settled area images each)
+pub first_recovers : (area : ℕ) (images : List ℕ → Type 0) → IsAreaLength area
+    → ((c : List ℕ) → images c → RecoversWhole area First Closed c first_head []) → (c : List ℕ) → images c → RecoversTo empty c
+first_recovers area images size each =
+    settled_recovers area First Closed 1 30 layouts.Second empty images size (first_settled area images each)

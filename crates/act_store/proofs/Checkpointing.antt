@@ -6,7 +6,7 @@ use Rattle.std.proofs.lemmas.List.{take_all, length-map}
 use Rattle.act_disk.specs.Images.{EachSince}
 use Rattle.act_disk.proofs.Moments.{weakened}
 use Rattle.gated_journal.specs.Layout.{Head}
-use Rattle.gated_journal.specs.Whole.{StandsWhole, WholeEither}
+use Rattle.gated_journal.specs.Whole.{RecoversWhole, WholeEither}
 use Rattle.gated_journal.specs.declared.gate.Gate.{Gate}
 use Rattle.gated_journal.specs.declared.gate.Gate.TheVariants.{Open, Closed}
 use Rattle.gated_journal.specs.declared.side.Side.{Side}
@@ -21,13 +21,13 @@ use Rattle.table_text.proofs.LengthLaws.{length_text}
 use Rattle.act_store.specs.Checkpoints.{first_gate, text_length}
 use Rattle.act_store.specs.Entries.{commands_of, table_after}
 use Rattle.act_store.specs.StoreState.{Checkpoint, StoreState, RecoversToEither, covered_table, table_of}
-use Rattle.act_store.specs.Promise.{IsCounted, IsSettled, IsStanding}
+use Rattle.act_store.specs.Promise.{IsCounted, IsSettled, IsConsistent}
 use Rattle.act_store.specs.StoreSeen.{as_state}
 use Rattle.act_store.specs.PendingBatch.{BatchState, batch_state_of}
 use Rattle.act_store.specs.declared.entry.Entry.{Entry}
 use Rattle.act_store.specs.declared.store.Store.TheInside.{Inside}
 use Rattle.act_store.proofs.RefusalsOfCheckpoints.{MayBegin}
-use Rattle.act_store.proofs.Settling.{settled_stands, recovers_to}
+use Rattle.act_store.proofs.Settling.{settled_recovers, recovers_to}
 
 -- ---- the text of a table has room for the number of its runners
 
@@ -49,13 +49,13 @@ runners_within t =
     let rs = map stored_runner t.runners in
     let last = word_bytes t.last_lease in
     let runs = word_bytes (length t.runs) ++ flat_map run.encoding t.runs in
-    let behind = word_bytes (length rs) ++ flat_map runner.encoding rs in
+    let suffix = word_bytes (length rs) ++ flat_map runner.encoding rs in
     omega (
       arith,
       runners_some rs,
       length-map t.runners stored_runner,
-      length-append last (runs ++ behind),
-      length-append runs behind,
+      length-append last (runs ++ suffix),
+      length-append runs suffix,
       length-append (word_bytes (length rs)) (flat_map runner.encoding rs),
     )
 
@@ -100,17 +100,17 @@ module _ {D : Type 0} (s : StoreState D) (table : TableState) (pending_batch : B
     pending_batch_is = counted.pending_batch_is;
   }
 
-  pub standing_failed : (images : D → List ℕ → Type 0) (side : Side) (gate : Gate) (disk : D) (checkpoint : Option Checkpoint)
+  pub consistent_failed : (images : D → List ℕ → Type 0) (side : Side) (gate : Gate) (disk : D) (checkpoint : Option Checkpoint)
       → ((c : List ℕ) → images disk c → RecoversToEither s c)
-      → IsStanding images side gate (record s { disk = disk; begun = checkpoint; failed = true })
-  standing_failed images side gate disk checkpoint each = record { each = each; settled = λ impossible. absurd (cc impossible) }
+      → IsConsistent images side gate (record s { disk = disk; begun = checkpoint; failed = true })
+  consistent_failed images side gate disk checkpoint each = record { each = each; settled = λ impossible. absurd (cc impossible) }
 
   -- where all images agree again on the covered entries
-  pub standing_with : (images : D → List ℕ → Type 0) (side : Side) (gate : Gate) (disk : D) (checkpoint : Option Checkpoint)
+  pub consistent_with : (images : D → List ℕ → Type 0) (side : Side) (gate : Gate) (disk : D) (checkpoint : Option Checkpoint)
       → IsSettled s.area side gate s.generation s.used s.layout (covered_table s) (images disk)
-      → IsStanding images side gate (record s { disk = disk; begun = checkpoint })
-  standing_with images side gate disk checkpoint settled = record {
-    each = λ c now. inl (settled_stands s.area side gate s.generation s.used s.layout (covered_table s) (images disk) counted.size settled c now);
+      → IsConsistent images side gate (record s { disk = disk; begun = checkpoint })
+  consistent_with images side gate disk checkpoint settled = record {
+    each = λ c now. inl (settled_recovers s.area side gate s.generation s.used s.layout (covered_table s) (images disk) counted.size settled c now);
     settled = λ _. settled;
   }
 
@@ -118,7 +118,7 @@ module _ {D : Type 0} (s : StoreState D) (table : TableState) (pending_batch : B
       (settled : IsSettled s.area side gate s.generation s.used s.layout (covered_table s) (images s.disk)) where
     -- the same head and bodies, with the current state of the other gate
     pub settled_again : (now : Gate) (disk : D)
-        → ((c : List ℕ) → images disk c → StandsWhole s.area side now c settled.head settled.bodies)
+        → ((c : List ℕ) → images disk c → RecoversWhole s.area side now c settled.head settled.bodies)
         → IsSettled s.area side now s.generation s.used s.layout (covered_table s) (images disk)
     settled_again now disk each = record {
       head = settled.head;
@@ -130,48 +130,48 @@ module _ {D : Type 0} (s : StoreState D) (table : TableState) (pending_batch : B
       means = settled.means;
     }
 
-    whole_stands : (now : Gate) (c : List ℕ) → StandsWhole s.area side now c settled.head settled.bodies → RecoversToEither s c
-    whole_stands now c stands =
-        inl (recovers_to s.area side now settled.head settled.bodies (covered_table s) c counted.size stands settled.means)
+    whole_recovers : (now : Gate) (c : List ℕ) → RecoversWhole s.area side now c settled.head settled.bodies → RecoversToEither s c
+    whole_recovers now c recovers =
+        inl (recovers_to s.area side now settled.head settled.bodies (covered_table s) c counted.size recovers settled.means)
 
     -- after a slice, with the other gate closed
     pub slice_settles : (disk : D) → gate ≡ Closed
-        → (((c : List ℕ) → images s.disk c → StandsWhole s.area side Closed c settled.head settled.bodies)
-        → (c : List ℕ) → images disk c → StandsWhole s.area side Closed c settled.head settled.bodies)
+        → (((c : List ℕ) → images s.disk c → RecoversWhole s.area side Closed c settled.head settled.bodies)
+        → (c : List ℕ) → images disk c → RecoversWhole s.area side Closed c settled.head settled.bodies)
         → IsSettled s.area side gate s.generation s.used s.layout (covered_table s) (images disk)
     slice_settles disk closed goes_on =
-        settled_again gate disk (λ c now. subst (λ (g : Gate). StandsWhole s.area side g c settled.head settled.bodies) (sym closed)
-        (goes_on (λ c now. subst (λ (g : Gate). StandsWhole s.area side g c settled.head settled.bodies) closed (settled.each c now)) c now))
+        settled_again gate disk (λ c now. subst (λ (g : Gate). RecoversWhole s.area side g c settled.head settled.bodies) (sym closed)
+        (goes_on (λ c now. subst (λ (g : Gate). RecoversWhole s.area side g c settled.head settled.bodies) closed (settled.each c now)) c now))
 
-    close_stands : (c : List ℕ) → WholeEither s.area side settled.head settled.bodies c → RecoversToEither s c
-    close_stands c either = ⊎_elim (whole_stands Open c) (whole_stands Closed c) either
+    close_recovers : (c : List ℕ) → WholeEither s.area side settled.head settled.bodies c → RecoversToEither s c
+    close_recovers c either = ⊎_elim (whole_recovers Open c) (whole_recovers Closed c) either
 
 -- each image since a call began, in terms of the store's view
 module _ {D : Type 0} (honest : D → Type 0) (images : D → List ℕ → Type 0) (s : Inside D)
     (counted : IsCounted (as_state s) s.table s.pending_batch) (live : s.failed ≡ false)
-    (standing : honest s.disk → IsStanding images s.areas.side s.other (as_state s)) (disk : D)
+    (active_side : honest s.disk → IsConsistent images s.areas.side s.other (as_state s)) (disk : D)
     (moment : D → ℕ) (images_since : D → ℕ → List ℕ → Type 0) where
   pub begin_moments : ((head : Head) (bodies : List (List ℕ)) → honest s.disk
-      → ((c : List ℕ) → images s.disk c → StandsWhole s.areas.len s.areas.side s.other c head bodies)
+      → ((c : List ℕ) → images s.disk c → RecoversWhole s.areas.len s.areas.side s.other c head bodies)
       → EachSince moment images_since s.disk disk (WholeEither s.areas.len s.areas.side head bodies))
       → (v : StoreState D) → as_state s ≡ v → honest v.disk → EachSince moment images_since v.disk disk (RecoversToEither v)
   begin_moments closes v is =
       subst (λ (k : StoreState D). honest k.disk → EachSince moment images_since k.disk disk (RecoversToEither k)) is (λ is_honest.
-      let settled = (standing is_honest).settled live in
+      let settled = (active_side is_honest).settled live in
       weakened moment images_since s.disk disk (WholeEither s.areas.len s.areas.side settled.head settled.bodies)
       (RecoversToEither (as_state s)) (closes settled.head settled.bodies is_honest settled.each)
-      (close_stands (as_state s) s.table s.pending_batch counted images s.areas.side s.other settled))
+      (close_recovers (as_state s) s.table s.pending_batch counted images s.areas.side s.other settled))
 
   pub slice_moments : (honest s.disk → s.other ≡ Closed)
       → ((head : Head) (bodies : List (List ℕ)) → honest s.disk
-      → ((c : List ℕ) → images s.disk c → StandsWhole s.areas.len s.areas.side Closed c head bodies)
-      → EachSince moment images_since s.disk disk (λ c. StandsWhole s.areas.len s.areas.side Closed c head bodies))
+      → ((c : List ℕ) → images s.disk c → RecoversWhole s.areas.len s.areas.side Closed c head bodies)
+      → EachSince moment images_since s.disk disk (λ c. RecoversWhole s.areas.len s.areas.side Closed c head bodies))
       → (v : StoreState D) → as_state s ≡ v → honest v.disk → EachSince moment images_since v.disk disk (RecoversToEither v)
   slice_moments closed puts v is =
       subst (λ (k : StoreState D). honest k.disk → EachSince moment images_since k.disk disk (RecoversToEither k)) is (λ is_honest.
-      let settled = (standing is_honest).settled live in
-      weakened moment images_since s.disk disk (λ c. StandsWhole s.areas.len s.areas.side Closed c settled.head settled.bodies)
+      let settled = (active_side is_honest).settled live in
+      weakened moment images_since s.disk disk (λ c. RecoversWhole s.areas.len s.areas.side Closed c settled.head settled.bodies)
       (RecoversToEither (as_state s))
       (puts settled.head settled.bodies is_honest (λ c now.
-      subst (λ (g : Gate). StandsWhole s.areas.len s.areas.side g c settled.head settled.bodies) (closed is_honest) (settled.each c now)))
-      (whole_stands (as_state s) s.table s.pending_batch counted images s.areas.side s.other settled Closed))
+      subst (λ (g : Gate). RecoversWhole s.areas.len s.areas.side g c settled.head settled.bodies) (closed is_honest) (settled.each c now)))
+      (whole_recovers (as_state s) s.table s.pending_batch counted images s.areas.side s.other settled Closed))

@@ -7,7 +7,7 @@ use Rattle.act_disk.specs.Images.{EachSince}
 use Rattle.act_disk.proofs.Moments.{weakened}
 use Rattle.gated_journal.specs.Appends.{record_of}
 use Rattle.gated_journal.specs.Layout.{Head, opened}
-use Rattle.gated_journal.specs.Whole.{StandsWhole, WholeOrGrew}
+use Rattle.gated_journal.specs.Whole.{RecoversWhole, WholeOrGrew}
 use Rattle.gated_journal.specs.declared.gate.Gate.{Gate}
 use Rattle.gated_journal.specs.declared.side.Side.{Side}
 use Rattle.run_table.specs.TableState.{TableState}
@@ -17,7 +17,7 @@ use Rattle.act_store.specs.Images.{RecoversTo}
 use Rattle.act_store.specs.Layouts.{HasCommand}
 use Rattle.act_store.specs.StoreState.{StoreState, RecoversToEither, covered_table, pending_commands, table_of}
 use Rattle.act_store.specs.Plain.{committed, used_after}
-use Rattle.act_store.specs.Promise.{IsCounted, IsSettled, IsStanding}
+use Rattle.act_store.specs.Promise.{IsCounted, IsSettled, IsConsistent}
 use Rattle.act_store.specs.StoreSeen.{as_state}
 use Rattle.act_store.specs.PendingBatch.{BatchState, body_of, batch_state_of}
 use Rattle.act_store.specs.declared.entry.Entry.{Entry}
@@ -46,8 +46,8 @@ module _ {D : Type 0} (s : StoreState D) (table : TableState) (pending_batch : B
   pub none_waits : pending_batch.count ≡ 0 → s.covered ≡ length s.history
   none_waits none = omega (arith, none, count_is, counted.covers)
 
-  pub all_stands : s.covered ≡ length s.history → (c : List ℕ) → RecoversToEither s c → RecoversTo (table_of s) c
-  all_stands all c either =
+  pub all_recovers : s.covered ≡ length s.history → (c : List ℕ) → RecoversToEither s c → RecoversTo (table_of s) c
+  all_recovers all c either =
       let same : covered_table s ≡ table_of s =
       ap (λ (l : List Entry). table_after s.base l) (take_all s.covered s.history (omega (arith, all))) in
       ⊎_elim (λ covered. subst (λ (t : TableState). RecoversTo t c) same covered) (λ here. here) either
@@ -90,11 +90,11 @@ module _ {D : Type 0} (s : StoreState D) (table : TableState) (pending_batch : B
           (subst (λ (b : List ℕ). WholeOrGrew s.area side gate settled.head settled.bodies b c) waits either)
 
       commit_settled : (disk : D)
-          → ((c : List ℕ) → images disk c → StandsWhole s.area side gate c settled.head (settled.bodies ++ body_of pending_batch ∷ []))
+          → ((c : List ℕ) → images disk c → RecoversWhole s.area side gate c settled.head (settled.bodies ++ body_of pending_batch ∷ []))
           → IsSettled s.area side gate s.generation (used_after s) s.layout (table_of s) (images disk)
       commit_settled disk each =
           resettled images side gate s counted.size settled takes counted.in_layout disk (used_after s) refl
-          (subst (λ (b : List ℕ). (c : List ℕ) → images disk c → StandsWhole s.area side gate c settled.head (settled.bodies ++ b ∷ []))
+          (subst (λ (b : List ℕ). (c : List ℕ) → images disk c → RecoversWhole s.area side gate c settled.head (settled.bodies ++ b ∷ []))
           waits each)
 
 -- a store with the counts after a commit
@@ -107,20 +107,20 @@ same_committed s disk covered used all is =
 -- The effect of a commit that appends these bytes, the record of the pending entries, to the active area.
 module _ {D : Type 0} (honest : D → Type 0) (images : D → List ℕ → Type 0) (s : Inside D)
     (counted : IsCounted (as_state s) s.table s.pending_batch) (live : s.failed ≡ false) (some : 0 < s.pending_batch.count)
-    (standing : honest s.disk → IsStanding images s.areas.side s.other (as_state s)) (bytes : List ℕ)
+    (active_side : honest s.disk → IsConsistent images s.areas.side s.other (as_state s)) (bytes : List ℕ)
     (record_is : 0 < s.pending_batch.count → bytes ≡ record_of (body_of s.pending_batch))
     (short : 0 < s.pending_batch.count → length (body_of s.pending_batch) < 2 ^ 32) (disk : D) where
   -- what an append of the bytes guarantees, as a record of any body, for any contents of the area
   abbrev Promises : (Gate → Head → List (List ℕ) → List ℕ → Type 0) → Type 0
   Promises what =
       (gate : Gate) (head : Head) (bodies : List (List ℕ)) (body : List ℕ) → honest s.disk
-      → ((c : List ℕ) → images s.disk c → StandsWhole s.areas.len s.areas.side gate c head bodies) → s.used ≡ length (opened head bodies)
+      → ((c : List ℕ) → images s.disk c → RecoversWhole s.areas.len s.areas.side gate c head bodies) → s.used ≡ length (opened head bodies)
       → bytes ≡ record_of body → length body < 2 ^ 32 → what gate head bodies body
 
   promised : (what : Gate → Head → List (List ℕ) → List ℕ → Type 0) → Promises what → (is_honest : honest s.disk)
-      → what s.other ((standing is_honest).settled live).head ((standing is_honest).settled live).bodies (body_of s.pending_batch)
+      → what s.other ((active_side is_honest).settled live).head ((active_side is_honest).settled live).bodies (body_of s.pending_batch)
   promised what grows is_honest =
-      let settled = (standing is_honest).settled live in
+      let settled = (active_side is_honest).settled live in
       grows s.other settled.head settled.bodies (body_of s.pending_batch) is_honest settled.each settled.used_is (record_is some) (short some)
 
   -- each image since the commit began, in terms of the store's view
@@ -133,7 +133,7 @@ module _ {D : Type 0} (honest : D → Type 0) (images : D → List ℕ → Type 
         → EachSince moment images_since v.disk disk (RecoversToEither v)
     commit_moments grows v is =
         subst (λ (k : StoreState D). honest k.disk → EachSince moment images_since k.disk disk (RecoversToEither k)) is (λ is_honest.
-        let settled = (standing is_honest).settled live in
+        let settled = (active_side is_honest).settled live in
         weakened moment images_since s.disk disk
         (WholeOrGrew s.areas.len s.areas.side s.other settled.head settled.bodies (body_of s.pending_batch)) (RecoversToEither (as_state s))
         (promised grows_since grows is_honest)
@@ -142,10 +142,10 @@ module _ {D : Type 0} (honest : D → Type 0) (images : D → List ℕ → Type 
   -- after a completed commit, all images agree on all entries
   abbrev grown_now : Gate → Head → List (List ℕ) → List ℕ → Type 0
   grown_now gate head bodies body =
-      (c : List ℕ) → images disk c → StandsWhole s.areas.len s.areas.side gate c head (bodies ++ body ∷ [])
+      (c : List ℕ) → images disk c → RecoversWhole s.areas.len s.areas.side gate c head (bodies ++ body ∷ [])
 
   pub commit_settles : Promises grown_now → honest s.disk
       → IsSettled s.areas.len s.areas.side s.other s.generation (used_after (as_state s)) s.layout (table_of (as_state s)) (images disk)
   commit_settles grows is_honest =
-      commit_settled (as_state s) s.table s.pending_batch counted some images s.areas.side s.other ((standing is_honest).settled live) disk
+      commit_settled (as_state s) s.table s.pending_batch counted some images s.areas.side s.other ((active_side is_honest).settled live) disk
       (promised grown_now grows is_honest)

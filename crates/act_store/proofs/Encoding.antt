@@ -9,7 +9,7 @@ use Rattle.run_table.specs.Sound.{IsSound}
 use Rattle.run_table.specs.TableState.{TableState}
 use Rattle.table_laws.proofs.ReachedTables.{after_is_sound}
 use Rattle.act_store.specs.Layouts.{layout_of}
-use Rattle.act_store.specs.Meaning.{MeansTable, SpellCommands}
+use Rattle.act_store.specs.Meaning.{MeansTable, EncodeCommands}
 use Rattle.act_store.specs.Replayed.{IsReplayed}
 use Rattle.act_store.specs.Encoded.{IsEncoded, EncodesArea}
 use Rattle.act_store.specs.TableText.{EncodesTable}
@@ -63,9 +63,9 @@ module _ (area : List ℕ) (head : Head) (records : List ℕ) (gate : ℕ) (scan
     pub none_replayed : (first : TableState) → IsReplayed layout records first None → EncodesNone area
     none_replayed first none other others table reads means =
         let here =
-        subst (λ (l : Layout). SpellCommands l others means.commands) (layout_again other others table reads means) means.batched in
+        subst (λ (l : Layout). EncodeCommands l others means.commands) (layout_again other others table reads means) means.batched in
         none scanned.bodies means.commands scanned.reads.fits.each scanned.records_are
-        (subst (λ (l : List (List ℕ)). SpellCommands layout l means.commands) (same other others reads).1 here)
+        (subst (λ (l : List (List ℕ)). EncodeCommands layout l means.commands) (same other others reads).1 here)
 
     pub some_replayed : (first table : TableState) → EncodesTable layout first head.text → IsReplayed layout records first (Some table)
         → EncodesArea area head.generation gate layout table

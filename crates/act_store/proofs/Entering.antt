@@ -86,21 +86,21 @@ module _ {D : Type 0} (s : StoreState D) (table : TableState) (pending_batch : B
       )
 
 module _ {D : Type 0} (s : StoreState D) (table : TableState) (pending_batch : BatchState) (counted : IsCounted s table pending_batch)
-    (command : Command) (entry : Entry) (history : List Entry) (asked : entry.command ≡ command)
+    (command : Command) (entry : Entry) (history : List Entry) (requested : entry.command ≡ command)
     (reply : entry.reply ≡ (stepped table command).reply) (is : history ≡ s.history ++ entry ∷ []) where
   pending_more : commands_of (drop s.covered history) ≡ pending_commands s ++ command ∷ []
   pending_more =
       ap (λ (l : List Entry). commands_of (drop s.covered l)) is
       ∙ ap (λ (l : List Entry). commands_of l) (drop-append-le s.covered s.history (entry ∷ []) counted.covers)
       ∙ commands-append (drop s.covered s.history) (entry ∷ [])
-      ∙ ap (λ (c : Command). pending_commands s ++ c ∷ []) asked
+      ∙ ap (λ (c : Command). pending_commands s ++ c ∷ []) requested
 
   long : length history ≡ length s.history + 1
   long = omega (arith, ap (λ (l : List Entry). length l) is, length-append s.history (entry ∷ []))
 
   told : entry.reply ≡ (stepped (table_of s) entry.command).reply
   told = reply ∙ ap (λ (t : TableState). (stepped t command).reply) counted.table_is
-      ∙ ap (λ (c : Command). (stepped (table_of s) c).reply) (sym asked)
+      ∙ ap (λ (c : Command). (stepped (table_of s) c).reply) (sym requested)
 
   pub counted_entered : (more : BatchState) → more ≡ with_command pending_batch command → IsEncoded command
       → IsAdmitted s command → IsCounted (record s { history = history }) (stepped table command).table more
@@ -109,7 +109,7 @@ module _ {D : Type 0} (s : StoreState D) (table : TableState) (pending_batch : B
     legal = subst (λ (l : List Entry). IsLegal s.base l) (sym is) (legal_more s.base s.history entry counted.legal told);
     table_is =
         ap (λ (t : TableState). (stepped t command).table) counted.table_is
-        ∙ ap (λ (c : Command). (stepped (table_of s) c).table) (sym asked)
+        ∙ ap (λ (c : Command). (stepped (table_of s) c).table) (sym requested)
         ∙ sym (table_more s.base s.history entry) ∙ ap (λ (l : List Entry). table_after s.base l) (sym is);
     covers = omega (arith, long, counted.covers);
     most = omega (arith, long, admitted.fewer);

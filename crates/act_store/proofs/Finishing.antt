@@ -10,20 +10,20 @@ use Rattle.act_disk.specs.Images.{EachSince, Holds}
 use Rattle.act_disk.proofs.Moments.{weakened}
 use Rattle.gated_journal.specs.Layout.{Fits, Head, head_bytes, record_bytes}
 use Rattle.gated_journal.specs.TwoAreas.{other, start_of, Completes}
-use Rattle.gated_journal.specs.Whole.{StandsWhole, WholeOrTurned}
+use Rattle.gated_journal.specs.Whole.{RecoversWhole, WholeOrSwitched}
 use Rattle.gated_journal.specs.declared.gate.Gate.{Gate}
 use Rattle.gated_journal.specs.declared.gate.Gate.TheVariants.{Open, Closed}
 use Rattle.run_plan.specs.declared.command.Command.{Command}
 use Rattle.run_table.specs.Histories.{after}
 use Rattle.run_table.specs.TableState.{TableState}
 use Rattle.table_text.specs.Commands.{IsEncoded, batch, command_bytes}
-use Rattle.act_store.specs.Checkpoints.{first_gate, gate_behind, refusal_of_finish}
+use Rattle.act_store.specs.Checkpoints.{first_gate, gate_after, refusal_of_finish}
 use Rattle.act_store.specs.Entries.{commands_of, table_after}
 use Rattle.act_store.specs.Layouts.{HasCommand, batch_format, current_version, layout_of}
 use Rattle.act_store.specs.StoreState.{StoreState, RecoversToEither, covered_table, table_of}
 use Rattle.act_store.specs.LastPart.{bodies_of, last_part}
 use Rattle.act_store.specs.Meaning.{MeansTable}
-use Rattle.act_store.specs.Promise.{IsBegun, IsCounted, IsPut, IsSettled, IsSnapshot, IsStanding}
+use Rattle.act_store.specs.Promise.{IsBegun, IsCounted, IsPut, IsSettled, IsSnapshot, IsConsistent}
 use Rattle.act_store.specs.StoreSeen.{as_checkpoint, as_state}
 use Rattle.act_store.specs.PendingBatch.{BatchState, batch_state_of}
 use Rattle.act_store.specs.declared.begun.Begun.{Begun}
@@ -37,12 +37,12 @@ use Rattle.act_store.proofs.LastPart.{from_on}
 use Rattle.act_store.proofs.Meanings.{means_more}
 use Rattle.act_store.proofs.Records.{length_batch}
 use Rattle.act_store.proofs.RefusalsOfCheckpoints.{MayFinish, may_finish}
-use Rattle.act_store.proofs.Settling.{settled_at, settled_stands, recovers_to}
+use Rattle.act_store.proofs.Settling.{settled_at, settled_recovers, recovers_to}
 use Rattle.act_store.proofs.Snapshots.{it_is, length_head}
 
 -- ---- the space for the last part
 
-length_bodies : (commands : List Command) (text : ℕ) → first_gate text + length (record_bytes (bodies_of commands)) ≡ gate_behind text commands
+length_bodies : (commands : List Command) (text : ℕ) → first_gate text + length (record_bytes (bodies_of commands)) ≡ gate_after text commands
 length_bodies [] text = omega arith
 length_bodies (c ∷ cs) text =
     let body = batch.encoding (c ∷ cs) in
@@ -51,20 +51,20 @@ length_bodies (c ∷ cs) text =
     omega (arith, four, length-append (number ++ body) [], length-append number body)
 
 -- the test of that space
-pub fits_is : (len front encoded area : ℕ) (entries : List Entry) → 0 < length entries → 17 ≤ front → len ≡ front
+pub fits_is : (len prefix encoded area : ℕ) (entries : List Entry) → 0 < length entries → 17 ≤ prefix → len ≡ prefix
     → encoded ≡ length (flat_map command_bytes (commands_of entries))
-    → nat_lt (len + 10 + encoded) area ≡ not (nat_lt area (gate_behind (front - 17) (commands_of entries) + 1))
-fits_is len front encoded area [] some head same is = absurd (omega (arith, some))
-fits_is len front encoded area (e ∷ es) some head same is =
+    → nat_lt (len + 10 + encoded) area ≡ not (nat_lt area (gate_after (prefix - 17) (commands_of entries) + 1))
+fits_is len prefix encoded area [] some head same is = absurd (omega (arith, some))
+fits_is len prefix encoded area (e ∷ es) some head same is =
     let cs = commands_of (e ∷ es) in
-    let end = gate_behind (front - 17) cs + 1 in
+    let end = gate_after (prefix - 17) cs + 1 in
     let place : end ≡ len + 10 + encoded + 1 = omega (arith, head, same, is, length_batch cs) in
     elim (cases_Bool (nat_lt area end)) [
       | inl full ↦ le-ltb (len + 10 + encoded) area (omega (arith, place, ltb-true area end full)) ∙ sym (ap (λ (x : Bool). not x) full)
       | inr fits ↦ lt-ltb (len + 10 + encoded) area (omega (arith, place, ltb-false area end fits)) ∙ sym (ap (λ (x : Bool). not x) fits)
     ]
 
-short_bodies : (area text : ℕ) (commands : List Command) → area ≤ 1073741824 → gate_behind text commands ≤ area
+short_bodies : (area text : ℕ) (commands : List Command) → area ≤ 1073741824 → gate_after text commands ≤ area
     → AllByRecursion (λ (body : List ℕ). length body < 2 ^ 32) (bodies_of commands)
 short_bodies area text [] most room = _
 short_bodies area text (c ∷ cs) most room = (omega (arith, most, room), _)
@@ -84,25 +84,25 @@ means_with head table (c ∷ cs) few encoded second means =
 pub record Finishes {D : Type 0} (honest : D → Type 0) (images : D → List ℕ → Type 0) (seen : D → List ℕ) (s : Inside D) (at : ℕ)
     (bytes : List ℕ) : Type 0 where
   pub counted : IsCounted (as_state s) s.table s.pending_batch
-  pub standing : honest s.disk → IsStanding images s.areas.side s.other (as_state s)
+  pub active_side : honest s.disk → IsConsistent images s.areas.side s.other (as_state s)
   pub b : Begun
   pub snapshot : IsSnapshot s.base.value s.history.items s.generation s.areas.len b
   pub may : MayFinish (as_state s) (as_checkpoint b)
   pub put : honest s.disk → IsPut s.areas.len s.areas.side s.other (seen s.disk) b
-  pub place : at ≡ 1 + length b.front.items
+  pub place : at ≡ 1 + length b.prefix.items
   pub is : bytes ≡ last_part (commands_of (drop b.place s.history.items))
   pub encoded : AllByRecursion IsEncoded (commands_of (drop b.place s.history.items))
 
 -- What is known as a checkpoint is finished, in that form.
 pub finishing : {D : Type 0} (honest : D → Type 0) (images : D → List ℕ → Type 0) (seen : D → List ℕ) (s : Inside D)
-    → IsCounted (as_state s) s.table s.pending_batch → (honest s.disk → IsStanding images s.areas.side s.other (as_state s))
+    → IsCounted (as_state s) s.table s.pending_batch → (honest s.disk → IsConsistent images s.areas.side s.other (as_state s))
     → IfSome s.begun (IsBegun s.base.value s.history.items s.generation s.areas.len s.areas.side s.other (honest s.disk) s.failed (seen s.disk))
     → (v : StoreState D) → as_state s ≡ v → refusal_of_finish v ≡ None → (b : Begun) → s.begun ≡ Some b
-    → (history : List Entry) → history ≡ s.history.items → (len : ℕ) → len ≡ length b.front.items → (bytes last : List ℕ) → bytes ≡ last
+    → (history : List Entry) → history ≡ s.history.items → (len : ℕ) → len ≡ length b.prefix.items → (bytes last : List ℕ) → bytes ≡ last
     → last ≡ last_part (commands_of (take (length history - b.place) (drop b.place history)))
     → AllByRecursion IsEncoded (commands_of (take (length history - b.place) (drop b.place history)))
     → Finishes honest images seen s (1 + len) bytes
-finishing {D} honest images seen s counted standing begun v view none b some history value len front bytes last same is encoded =
+finishing {D} honest images seen s counted active_side begun v view none b some history value len prefix bytes last same is encoded =
     let may = may_finish (as_state s) (as_checkpoint b) (ap (λ (o : Option Begun). option_map as_checkpoint o) some)
     (subst (λ (k : StoreState D). refusal_of_finish k ≡ None) (sym view) none) in
     let so = it_is s.begun b
@@ -110,12 +110,12 @@ finishing {D} honest images seen s counted standing begun v view none b some his
     let on = from_on b.place s.history.items history value in
     record {
       counted = counted;
-      standing = standing;
+      active_side = active_side;
       b = b;
       snapshot = so.0;
       may = may;
       put = λ is_honest. so.1 is_honest may.live;
-      place = omega (arith, front);
+      place = omega (arith, prefix);
       is = same ∙ subst (λ (h : List Entry). last ≡ last_part (commands_of h)) on is;
       encoded = subst (λ (h : List Entry). AllByRecursion IsEncoded (commands_of h)) on encoded;
     }
@@ -134,16 +134,16 @@ module _ {D : Type 0} (honest : D → Type 0) (images : D → List ℕ → Type 
   abbrev first : TableState
   first = table_after s.base.value (take f.b.place s.history.items)
 
-  long_front : length f.b.front.items ≡ 17 + length f.snapshot.text
-  long_front = ap (λ (l : List ℕ). length l) f.snapshot.front_is ∙ length_head (s.generation + 1) f.snapshot.text
+  long_prefix : length f.b.prefix.items ≡ 17 + length f.snapshot.text
+  long_prefix = ap (λ (l : List ℕ). length l) f.snapshot.prefix_is ∙ length_head (s.generation + 1) f.snapshot.text
 
   -- there is space for the gate after the last part
-  room : gate_behind (length f.snapshot.text) cs + 1 ≤ s.areas.len
+  room : gate_after (length f.snapshot.text) cs + 1 ≤ s.areas.len
   room =
-      let same : length f.b.front.items - 17 ≡ length f.snapshot.text = omega (arith, long_front) in
-      subst (λ (n : ℕ). gate_behind n cs + 1 ≤ s.areas.len) same f.may.room
+      let same : length f.b.prefix.items - 17 ≡ length f.snapshot.text = omega (arith, long_prefix) in
+      subst (λ (n : ℕ). gate_after n cs + 1 ≤ s.areas.len) same f.may.room
 
-  end : first_gate (length f.snapshot.text) + length (record_bytes others) ≡ gate_behind (length f.snapshot.text) cs
+  end : first_gate (length f.snapshot.text) + length (record_bytes others) ≡ gate_after (length f.snapshot.text) cs
   end = length_bodies cs (length f.snapshot.text)
 
   fits_next : Fits next others
@@ -178,27 +178,27 @@ module _ {D : Type 0} (honest : D → Type 0) (images : D → List ℕ → Type 
 
   module _ (is_honest : honest s.disk) where
     settled : IsSettled s.areas.len s.areas.side s.other s.generation s.used s.layout (covered_table (as_state s)) (images s.disk)
-    settled = (f.standing is_honest).settled f.may.live
+    settled = (f.active_side is_honest).settled f.may.live
 
-    shut : (c : List ℕ) → images s.disk c → StandsWhole s.areas.len s.areas.side Closed c settled.head settled.bodies
-    shut c now = subst (λ (g : Gate). StandsWhole s.areas.len s.areas.side g c settled.head settled.bodies) (f.put is_honest).closed
+    shut : (c : List ℕ) → images s.disk c → RecoversWhole s.areas.len s.areas.side Closed c settled.head settled.bodies
+    shut c now = subst (λ (g : Gate). RecoversWhole s.areas.len s.areas.side g c settled.head settled.bodies) (f.put is_honest).closed
         (settled.each c now)
 
     completes : Completes s.areas.len s.areas.side (seen s.disk) at bytes settled.head next others
     completes =
-        let all : f.b.put ≡ length f.b.front.items = omega (arith, f.snapshot.put, f.may.none_left) in
+        let all : f.b.put ≡ length f.b.prefix.items = omega (arith, f.snapshot.put, f.may.none_left) in
         record {
-          front = f.b.front.items;
+          prefix = f.b.prefix.items;
           held = subst (λ (l : List ℕ). Holds (seen s.disk) (start_of s.areas.len (other s.areas.side) + 1) l)
-              (take_all f.b.put f.b.front.items (omega (arith, all))) (f.put is_honest).held;
+              (take_all f.b.put f.b.prefix.items (omega (arith, all))) (f.put is_honest).held;
           place = f.place;
-          whole = ap (λ (l : List ℕ). l ++ bytes) f.snapshot.front_is ∙ ap (λ (l : List ℕ). head_bytes next ++ l) f.is
+          whole = ap (λ (l : List ℕ). l ++ bytes) f.snapshot.prefix_is ∙ ap (λ (l : List ℕ). head_bytes next ++ l) f.is
               ∙ sym (append_assoc (head_bytes next) (record_bytes others) (0 ∷ []));
           fits = fits_next;
           newer = omega (arith, settled.generation_is);
         }
 
-    either_of : (c : List ℕ) → WholeOrTurned s.areas.len s.areas.side settled.head settled.bodies next others c
+    either_of : (c : List ℕ) → WholeOrSwitched s.areas.len s.areas.side settled.head settled.bodies next others c
         → RecoversToEither (as_state s) c
     either_of c either = ⊎_elim
         (λ old. inl (recovers_to s.areas.len s.areas.side Closed settled.head settled.bodies (covered_table (as_state s)) c
@@ -210,37 +210,37 @@ module _ {D : Type 0} (honest : D → Type 0) (images : D → List ℕ → Type 
   abbrev pub Turns : (Head → Head → List (List ℕ) → List (List ℕ) → Type 0) → Type 0
   Turns what =
       (head next : Head) (bodies others : List (List ℕ)) → honest s.disk
-      → ((c : List ℕ) → images s.disk c → StandsWhole s.areas.len s.areas.side Closed c head bodies)
+      → ((c : List ℕ) → images s.disk c → RecoversWhole s.areas.len s.areas.side Closed c head bodies)
       → Completes s.areas.len s.areas.side (seen s.disk) at bytes head next others → what head next bodies others
 
   module _ (disk : D) where
     -- each image since the start, in terms of the store's view
     pub finish_moments : (moment : D → ℕ) (images_since : D → ℕ → List ℕ → Type 0)
         → Turns (λ head next bodies others. EachSince moment images_since s.disk disk
-        (WholeOrTurned s.areas.len s.areas.side head bodies next others))
+        (WholeOrSwitched s.areas.len s.areas.side head bodies next others))
         → (v : StoreState D) → as_state s ≡ v → honest v.disk → EachSince moment images_since v.disk disk (RecoversToEither v)
     finish_moments moment images_since turns v same =
         subst (λ (k : StoreState D). honest k.disk → EachSince moment images_since k.disk disk (RecoversToEither k)) same (λ is_honest.
         weakened moment images_since s.disk disk
-        (WholeOrTurned s.areas.len s.areas.side (settled is_honest).head (settled is_honest).bodies next others)
+        (WholeOrSwitched s.areas.len s.areas.side (settled is_honest).head (settled is_honest).bodies next others)
         (RecoversToEither (as_state s))
         (turns (settled is_honest).head next (settled is_honest).bodies others is_honest (shut is_honest) (completes is_honest))
         (either_of is_honest))
 
     -- ---- once it is completed
 
-    used_is : at + length bytes - 1 ≡ gate_behind (length f.snapshot.text) cs
+    used_is : at + length bytes - 1 ≡ gate_after (length f.snapshot.text) cs
     used_is =
-        omega (arith, f.place, long_front, end, ap (λ (l : List ℕ). length l) f.is, length-append (record_bytes others) (0 ∷ []))
+        omega (arith, f.place, long_prefix, end, ap (λ (l : List ℕ). length l) f.is, length-append (record_bytes others) (0 ∷ []))
 
     -- and it is where the checkpoint says
-    pub used_of : at + length bytes - 1 ≡ gate_behind (as_checkpoint f.b).text cs
+    pub used_of : at + length bytes - 1 ≡ gate_after (as_checkpoint f.b).text cs
     used_of =
-        let same : length f.b.front.items - 17 ≡ length f.snapshot.text = omega (arith, long_front) in
-        used_is ∙ ap (λ (n : ℕ). gate_behind n cs) (sym same)
+        let same : length f.b.prefix.items - 17 ≡ length f.snapshot.text = omega (arith, long_prefix) in
+        used_is ∙ ap (λ (n : ℕ). gate_after n cs) (sym same)
 
     pub finish_settles : Turns (λ head next bodies others. (c : List ℕ) → images disk c
-        → StandsWhole s.areas.len (other s.areas.side) Open c next others) → honest s.disk
+        → RecoversWhole s.areas.len (other s.areas.side) Open c next others) → honest s.disk
         → IsSettled s.areas.len (other s.areas.side) Open (s.generation + 1) (at + length bytes - 1) layouts.Second (table_of (as_state s))
         (images disk)
     finish_settles turns is_honest = record {
@@ -252,8 +252,8 @@ module _ {D : Type 0} (honest : D → Type 0) (images : D → List ℕ → Type 
             arith,
             used_is,
             end,
-            long_front,
-            ap (λ (l : List ℕ). length l) f.snapshot.front_is,
+            long_prefix,
+            ap (λ (l : List ℕ). length l) f.snapshot.prefix_is,
             length-append (head_bytes next) (record_bytes others),
           );
       generation_is = refl;
@@ -289,10 +289,10 @@ module _ {D : Type 0} (honest : D → Type 0) (images : D → List ℕ → Type 
             pending_batch_is = nothing ∙ ap (λ (l : List Entry). batch_state_of (commands_of l)) (sym none);
           }
 
-      pub standing_finished : IsSettled s.areas.len (other s.areas.side) Open (s.generation + 1) (at + length bytes - 1)
+      pub consistent_finished : IsSettled s.areas.len (other s.areas.side) Open (s.generation + 1) (at + length bytes - 1)
           layouts.Second (table_of (as_state s)) (images disk)
-          → IsStanding images (other s.areas.side) Open (done covered used)
-      standing_finished now =
+          → IsConsistent images (other s.areas.side) Open (done covered used)
+      consistent_finished now =
           let same : table_of (as_state s) ≡ covered_table (done covered used) =
           ap (λ (l : List Entry). table_after s.base.value l) (sym (take_all covered s.history.items (omega (arith, all)))) in
           let again = settled_at s.areas.len (other s.areas.side) Open (s.generation + 1) used layouts.Second (table_of (as_state s))
@@ -300,7 +300,7 @@ module _ {D : Type 0} (honest : D → Type 0) (images : D → List ℕ → Type 
           (subst (λ (n : ℕ). IsSettled s.areas.len (other s.areas.side) Open (s.generation + 1) n layouts.Second (table_of (as_state s)) (images disk))
           (sym here) now) in
           record {
-            each = λ c there. inl (settled_stands s.areas.len (other s.areas.side) Open (s.generation + 1) used layouts.Second
+            each = λ c there. inl (settled_recovers s.areas.len (other s.areas.side) Open (s.generation + 1) used layouts.Second
                 (covered_table (done covered used)) (images disk) f.counted.size again c there);
             settled = λ _. again;
           }

@@ -1,4 +1,4 @@
-mod AreaFronts
+mod AreaPrefixes
 mod Beginning
 mod Checkpointing
 mod Committing

@@ -7,10 +7,10 @@ use Rattle.gated_journal.specs.Layout.{Head}
 use Rattle.run_plan.specs.declared.command.Command.{Command}
 use Rattle.run_table.specs.Histories.{after}
 use Rattle.run_table.specs.TableState.{TableState}
-use Rattle.table_laws.proofs.LeasesStay.{after_both}
+use Rattle.group_histories.proofs.LeasesStay.{after_both}
 use Rattle.table_text.specs.Commands.{batch}
 use Rattle.act_store.specs.Layouts.{batch_format}
-use Rattle.act_store.specs.Meaning.{SpellCommands, MeansTable}
+use Rattle.act_store.specs.Meaning.{EncodeCommands, MeansTable}
 use Rattle.act_store.specs.declared.layout.Layout.{Layout}
 use Rattle.act_store.proofs.InLayout.{same_encoding}
 
@@ -19,7 +19,7 @@ all_push P [] x all here = (here, tt)
 all_push P (y ∷ xs) x all here = (all.0, all_push P xs x all.1 here)
 
 pub encode_more : (layout : Layout) (bodies : List (List ℕ)) (commands more : List Command) → (batch_format layout).Takes more
-    → SpellCommands layout bodies commands → SpellCommands layout (bodies ++ (batch_format layout).encoding more ∷ []) (commands ++ more)
+    → EncodeCommands layout bodies commands → EncodeCommands layout (bodies ++ (batch_format layout).encoding more ∷ []) (commands ++ more)
 encode_more layout bodies commands more takes encoded = record {
   batches = encoded.batches ++ more ∷ [];
   takes = all_push (batch_format layout).Takes encoded.batches more encoded.takes takes;
@@ -39,7 +39,7 @@ means_more head bodies table more means takes = record {
   first = means.first;
   text = means.text;
   commands = means.commands ++ more;
-  batched = subst (λ (b : List ℕ). SpellCommands means.layout (bodies ++ b ∷ []) (means.commands ++ more)) (same_encoding means.layout more)
+  batched = subst (λ (b : List ℕ). EncodeCommands means.layout (bodies ++ b ∷ []) (means.commands ++ more)) (same_encoding means.layout more)
       (encode_more means.layout bodies means.commands more takes means.batched);
   table_is = after_both means.first means.commands more ∙ ap (λ (t : TableState). after t more) means.table_is;
 }

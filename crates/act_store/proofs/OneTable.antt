@@ -10,7 +10,7 @@ use Rattle.run_table.specs.Histories.{after}
 use Rattle.run_table.specs.TableState.{TableState}
 use Rattle.act_store.specs.Images.{RecoversTo}
 use Rattle.act_store.specs.Layouts.{batch_format}
-use Rattle.act_store.specs.Meaning.{MeansTable, SpellCommands}
+use Rattle.act_store.specs.Meaning.{MeansTable, EncodeCommands}
 use Rattle.act_store.specs.TableText.{EncodesTable}
 use Rattle.act_store.specs.declared.layout.Layout.{Layout}
 use Rattle.act_store.proofs.InLayout.{batches_begin_none, one_layout}
@@ -32,8 +32,8 @@ module _ (layout : Layout) where
       (ap (λ (l : List ℕ). l ++ []) first) in
       ap (λ (x : List Command). x ∷ one) heads.1 ∙ ap (λ (l : List (List Command)). b ∷ l) (same_batches one two f.1 s.1 rest)
 
-same_commands : (layout : Layout) (bodies : List (List ℕ)) (one two : List Command) → SpellCommands layout bodies one
-    → SpellCommands layout bodies two → one ≡ two
+same_commands : (layout : Layout) (bodies : List (List ℕ)) (one two : List Command) → EncodeCommands layout bodies one
+    → EncodeCommands layout bodies two → one ≡ two
 same_commands layout bodies one two first second =
     first.commands_are
     ∙ ap (λ (l : List (List Command)). flat_map (λ b. b) l)
@@ -45,7 +45,7 @@ one_meaning : (head : Head) (bodies : List (List ℕ)) (one two : TableState) �
 one_meaning head bodies one two first second =
     let same : second.layout ≡ first.layout = one_layout head second.layout first.layout second.layout_is first.layout_is in
     let text = subst (λ (l : Layout). EncodesTable l second.first head.text) same second.text in
-    let batched = subst (λ (l : Layout). SpellCommands l bodies second.commands) same second.batched in
+    let batched = subst (λ (l : Layout). EncodeCommands l bodies second.commands) same second.batched in
     sym first.table_is
     ∙ ap (λ (t : TableState). after t first.commands) (one_text first.layout first.first second.first head.text first.text text)
     ∙ ap (λ (l : List Command). after second.first l) (same_commands first.layout bodies first.commands second.commands first.batched batched)
@@ -55,7 +55,7 @@ pub one_table : (image : List ℕ) (one two : TableState) → RecoversTo one ima
 one_table image one two first second =
     let lens : second.len ≡ first.len = omega (arith, first.long, second.long) in
     let encodes = subst (λ (n : ℕ). Encodes n second.side image second.head second.bodies) lens second.encodes in
-    let sides : second.side ≡ first.side = cc (encodes.stands, first.encodes.stands) in
+    let sides : second.side ≡ first.side = cc (encodes.recovers, first.encodes.recovers) in
     let reads = subst (λ (s : Side). Reads (area_on first.len s image) second.head second.bodies) sides encodes.reads in
     let same = one_reading (area_on first.len first.side image) second.head first.head second.bodies first.bodies reads
     first.encodes.reads in

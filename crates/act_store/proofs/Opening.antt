@@ -4,10 +4,10 @@ use Rattle.std.specs.Prelude.{Some}
 use Rattle.act_disk.specs.Images.{Only}
 use Rattle.gated_journal.specs.Layout.{Head, Reads}
 use Rattle.gated_journal.specs.TwoAreas.{area_on, Encodes}
-use Rattle.gated_journal.specs.Whole.{IsChosen, StandsWhole}
+use Rattle.gated_journal.specs.Whole.{IsChosen, RecoversWhole}
 use Rattle.gated_journal.specs.declared.chosen.Chosen.{Chosen}
 use Rattle.gated_journal.specs.declared.side.Side.{Side}
-use Rattle.act_store.specs.Images.{HasNoArea, HasNoTable, IsAreaLength, StandsAt, RecoversTo}
+use Rattle.act_store.specs.Images.{HasNoArea, HasNoTable, IsAreaLength, RecoversFrom, RecoversTo}
 use Rattle.act_store.specs.Opened.{IsFound}
 use Rattle.act_store.specs.Promise.{IsSettled}
 use Rattle.act_store.specs.Encoded.{EncodesArea}
@@ -19,22 +19,22 @@ module _ (len : ℕ) (file : List ℕ) (long : length file ≡ len + len) where
   same_len other is = omega (arith, long, is)
 
   module _ (chosen : Chosen) (is_chosen : IsChosen len (Some chosen) file) where
-    one_stands : IsAreaLength len → HasNoArea file → ⊥
-    one_stands size nothing = let shut = nothing len long size in absurd (cc (shut, is_chosen.0))
+    one_recovers : IsAreaLength len → HasNoArea file → ⊥
+    one_recovers size nothing = let shut = nothing len long size in absurd (cc (shut, is_chosen.0))
 
     reads_there : (side : Side) (head : Head) (bodies : List (List ℕ)) → Encodes len side file head bodies
         → Reads (area_on len chosen.side file) head bodies
     reads_there side head bodies encodes =
-        let same : side ≡ chosen.side = cc (encodes.stands, is_chosen.0) in
+        let same : side ≡ chosen.side = cc (encodes.recovers, is_chosen.0) in
         subst (λ (s : Side). Reads (area_on len s file) head bodies) same encodes.reads
 
     pub no_table_in : IsAreaLength len → EncodesNone (area_on len chosen.side file) → HasNoTable file
     no_table_in size none = record {
-      some = one_stands size;
-      none = λ table stands.
-          let encodes = subst (λ (n : ℕ). Encodes n stands.side file stands.head stands.bodies) (same_len stands.len stands.long)
-          stands.encodes in
-          none stands.head stands.bodies table (reads_there stands.side stands.head stands.bodies encodes) stands.means;
+      some = one_recovers size;
+      none = λ table recovers.
+          let encodes = subst (λ (n : ℕ). Encodes n recovers.side file recovers.head recovers.bodies) (same_len recovers.len recovers.long)
+          recovers.encodes in
+          none recovers.head recovers.bodies table (reads_there recovers.side recovers.head recovers.bodies encodes) recovers.means;
     }
 
 module _ (found : LocatedArea) (file : List ℕ) (is_found : IsFound found file) where
@@ -42,10 +42,10 @@ module _ (found : LocatedArea) (file : List ℕ) (is_found : IsFound found file)
       found.encoded.layout found.encoded.table
   encoded = is_found.encoded
 
-  whole : StandsWhole found.area found.chosen.side found.chosen.other file encoded.head encoded.bodies
+  whole : RecoversWhole found.area found.chosen.side found.chosen.other file encoded.head encoded.bodies
   whole = record {
-    stands = record {
-      encodes = record { long = omega (arith, is_found.long); stands = is_found.stands; reads = encoded.reads };
+    recovers = record {
+      encodes = record { long = omega (arith, is_found.long); recovers = is_found.recovers; reads = encoded.reads };
       other_gate = is_found.gate;
     };
     whole = is_found.long;
@@ -57,7 +57,7 @@ module _ (found : LocatedArea) (file : List ℕ) (is_found : IsFound found file)
   found_settled images only = record {
     head = encoded.head;
     bodies = encoded.bodies;
-    each = λ c now. subst (λ (l : List ℕ). StandsWhole found.area found.chosen.side found.chosen.other l encoded.head encoded.bodies)
+    each = λ c now. subst (λ (l : List ℕ). RecoversWhole found.area found.chosen.side found.chosen.other l encoded.head encoded.bodies)
         (sym ((only c).0 now)) whole;
     used_is = encoded.used_is;
     generation_is = encoded.generation_is;
@@ -65,23 +65,23 @@ module _ (found : LocatedArea) (file : List ℕ) (is_found : IsFound found file)
     means = encoded.means;
   }
 
-  pub found_stands : IsAreaLength found.area → RecoversTo found.encoded.table file
-  found_stands size = record {
+  pub found_recovers : IsAreaLength found.area → RecoversTo found.encoded.table file
+  found_recovers size = record {
     len = found.area;
     long = is_found.long;
     size = size;
     side = found.chosen.side;
     head = encoded.head;
     bodies = encoded.bodies;
-    encodes = record { long = omega (arith, is_found.long); stands = is_found.stands; reads = encoded.reads };
+    encodes = record { long = omega (arith, is_found.long); recovers = is_found.recovers; reads = encoded.reads };
     means = encoded.means;
   }
 
   -- the table of the area that was found
-  pub found_at : IsAreaLength found.area → StandsAt found.encoded.generation found.encoded.used found.encoded.layout found.encoded.table file
-  unfolding found_stands
+  pub found_at : IsAreaLength found.area → RecoversFrom found.encoded.generation found.encoded.used found.encoded.layout found.encoded.table file
+  unfolding found_recovers
   found_at size = record {
-    stands = found_stands size;
+    recovers = found_recovers size;
     generation_is = encoded.generation_is;
     used_is = encoded.used_is;
     layout_is = encoded.layout_is;

@@ -20,7 +20,7 @@ use Rattle.act_store.specs.declared.entry.Entry.{Entry}
 use Rattle.act_store.specs.declared.step.Played.{Played}
 use Rattle.act_store.specs.declared.step.Played.TheVariants as told
 use Rattle.act_store.specs.declared.step.Step.{Step}
-use Rattle.act_store.specs.declared.step.Step.TheVariants as asked
+use Rattle.act_store.specs.declared.step.Step.TheVariants as requested
 
 -- ---- one more step
 
@@ -42,9 +42,9 @@ module _ {D : Type 0} (during : StoreState D → Played → StoreState D → Typ
       → step ≡ get_or steps i step → all ≡ answers ++ answer ∷ [] → Plays during old (take i steps) answers mid → Takes mid step answer new
       → during mid answer new → Plays during old (take (i + 1) steps) all new
   plays_next mid new i answers all step answer below is all_is plays takes so =
-      let front : take (i + 1) steps ≡ take i steps ++ step ∷ [] =
+      let prefix : take (i + 1) steps ≡ take i steps ++ step ∷ [] =
       take_more steps i step below ∙ ap (λ (s : Step). take i steps ++ s ∷ []) (sym is) in
-      subst (λ (l : List Step). Plays during old l all new) (sym front)
+      subst (λ (l : List Step). Plays during old l all new) (sym prefix)
       (subst (λ (l : List Played). Plays during old (take i steps ++ step ∷ []) l new) (sym all_is)
       (plays_more during old mid new (take i steps) answers step answer plays takes so))
 
@@ -97,11 +97,11 @@ module _ {D : Type 0} where
       (record { base = refl; more = []; history = sym (append-nil old.history); covers = within; within = omega arith })
 
   left_grows : (old new : StoreState D) (step : Step) (e : Refusal) → new ≡ left_by old step e → old.covered ≤ length old.history → Grows old new
-  left_grows old new (asked.Apply command) e left within = same_grows old new within left
-  left_grows old new asked.Commit e left within = same_grows old new within left
-  left_grows old new asked.Begin e left within = same_grows old new within left
-  left_grows old new asked.Slice e left within = same_grows old new within left
-  left_grows old new asked.Finish e left within = by_test (is_area_full e) left
+  left_grows old new (requested.Apply command) e left within = same_grows old new within left
+  left_grows old new requested.Commit e left within = same_grows old new within left
+  left_grows old new requested.Begin e left within = same_grows old new within left
+  left_grows old new requested.Slice e left within = same_grows old new within left
+  left_grows old new requested.Finish e left within = by_test (is_area_full e) left
     where
       by_test : (b : Bool) → new ≡ (if b then dropped old else old) → Grows old new
       by_test true drops = checkpoint_grows old new old.disk None old.failed within drops
@@ -115,21 +115,21 @@ module _ {D : Type 0} where
 
   replied_grows : (old new : StoreState D) (step : Step) (reply : Reply) → Replies old step reply new → old.covered ≤ length old.history
       → Grows old new
-  replied_grows old new (asked.Apply command) reply replies within = entered_grows old new command within replies.0
-  replied_grows old new asked.Commit reply replies within = absurd replies
-  replied_grows old new asked.Begin reply replies within = absurd replies
-  replied_grows old new asked.Slice reply replies within = absurd replies
-  replied_grows old new asked.Finish reply replies within = absurd replies
+  replied_grows old new (requested.Apply command) reply replies within = entered_grows old new command within replies.0
+  replied_grows old new requested.Commit reply replies within = absurd replies
+  replied_grows old new requested.Begin reply replies within = absurd replies
+  replied_grows old new requested.Slice reply replies within = absurd replies
+  replied_grows old new requested.Finish reply replies within = absurd replies
 
   counted_grows : (old new : StoreState D) (step : Step) (count : ℕ) → Counts old step count new → old.covered ≤ length old.history
       → Grows old new
-  counted_grows old new (asked.Apply command) count counts within = absurd counts
-  counted_grows old new asked.Commit count counts within = covers_grows old new count within counts
-  counted_grows old new asked.Begin count counts within =
+  counted_grows old new (requested.Apply command) count counts within = absurd counts
+  counted_grows old new requested.Commit count counts within = covers_grows old new count within counts
+  counted_grows old new requested.Begin count counts within =
       checkpoint_grows old new new.disk (Some (taken old)) old.failed within counts.0
-  counted_grows old new asked.Slice count counts within =
+  counted_grows old new requested.Slice count counts within =
       checkpoint_grows old new new.disk (option_map with_slice old.begun) old.failed within counts.0
-  counted_grows old new asked.Finish count counts within = finished_grows old new old.begun within counts.0
+  counted_grows old new requested.Finish count counts within = finished_grows old new old.begun within counts.0
 
   pub takes_grows : (old new : StoreState D) (step : Step) (answer : Played) → Takes old step answer new → old.covered ≤ length old.history
       → Grows old new
@@ -158,9 +158,9 @@ module _ {D : Type 0} where
 
   -- ---- what images recover to, as entries are added
 
-  front_same : (old new : StoreState D) → Grows old new → (count : ℕ) → count ≤ length old.history
+  prefix_same : (old new : StoreState D) → Grows old new → (count : ℕ) → count ≤ length old.history
       → table_after old.base (take count old.history) ≡ table_after new.base (take count new.history)
-  front_same old new grows count least =
+  prefix_same old new grows count least =
       ap (λ (l : List Entry). table_after old.base l)
       (sym (ap (λ (l : List Entry). take count l) grows.history ∙ take-append-le count old.history grows.more least))
       ∙ ap (λ (t : TableState). table_after t (take count new.history)) (sym grows.base)
@@ -176,15 +176,15 @@ module _ {D : Type 0} where
         count = old.covered;
         from = omega arith;
         within = omega (arith, within, length_grows old new grows);
-        stands = subst (λ (t : TableState). RecoversTo t c) (front_same old new grows old.covered within) covered;
+        recovers = subst (λ (t : TableState). RecoversTo t c) (prefix_same old new grows old.covered within) covered;
       })
       (λ all. record {
         count = length old.history;
         from = within;
         within = length_grows old new grows;
-        stands = subst (λ (t : TableState). RecoversTo t c)
+        recovers = subst (λ (t : TableState). RecoversTo t c)
             (ap (λ (l : List Entry). table_after old.base l) (sym (take_all (length old.history) old.history (omega arith)))
-            ∙ front_same old new grows (length old.history) (omega arith)) all;
+            ∙ prefix_same old new grows (length old.history) (omega arith)) all;
       }) either
 
   -- the store as it is
@@ -243,7 +243,7 @@ module _ {D : Type 0} where
           count = some.count;
           from = omega (arith, some.from, first.covers);
           within = some.within;
-          stands = some.stands;
+          recovers = some.recovers;
         })
 
     -- ---- the effect of a play, whatever its result
@@ -252,7 +252,7 @@ module _ {D : Type 0} where
       pub grows : Grows old new
       pub stays_honest : honest new.disk ↔ honest old.disk
       pub any_moment : honest old.disk → EachSince moment images_since old.disk new.disk (RecoversToSome new.base new.history old.covered)
-      pub stands : honest new.disk → (c : List ℕ) → images new.disk c → RecoversToSome new.base new.history new.covered c
+      pub recovers : honest new.disk → (c : List ℕ) → images new.disk c → RecoversToSome new.base new.history new.covered c
 
     pub play_leaves : (images : D → List ℕ → Type 0) → ((disk : D) → honest disk → (c : List ℕ) → images_since disk (moment disk) c
         → images disk c) → {V : Type 0} (items : V → List Played) (result : Result V Refusal) (old new : StoreState D) (steps : List Step)
@@ -270,5 +270,5 @@ module _ {D : Type 0} where
               let still = stays.1 is_honest in
               moments_of old new some.first some.answers some.plays within is_honest
               (λ c left. promise still c (only new.disk still c left));
-          stands = λ still c now. either_now new grows.within c (promise still c now);
+          recovers = λ still c now. either_now new grows.within c (promise still c now);
         }

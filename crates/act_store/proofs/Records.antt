@@ -33,26 +33,26 @@ written_over now was n same long =
     ap (λ (l : List ℕ). take n (now ++ l)) (drop_of_length-le was (omega (arith, same, long))) ∙ take_at now [] n same
 
 -- One more encoding is appended in the place of the last byte, and that byte follows it.
-pub encoded_behind : (bytes more now : List ℕ) (gate last : ℕ) → length bytes ≡ gate + 1 → 8 ≤ gate
+pub encoded_after : (bytes more now : List ℕ) (gate last : ℕ) → length bytes ≡ gate + 1 → 8 ≤ gate
     → now ≡ take gate (bytes ++ more) ++ (drop (gate + 1) (bytes ++ more) ++ last ∷ [])
     → encoded_between now ≡ encoded_between bytes ++ more
-encoded_behind bytes more now gate last long eight is =
-    let front = take gate bytes in
-    let encoded = drop 8 front ++ more in
-    let first : length front ≡ gate = length-take-le gate bytes (omega (arith, long)) in
-    let parts : now ≡ front ++ (more ++ last ∷ []) =
+encoded_after bytes more now gate last long eight is =
+    let prefix = take gate bytes in
+    let encoded = drop 8 prefix ++ more in
+    let first : length prefix ≡ gate = length-take-le gate bytes (omega (arith, long)) in
+    let parts : now ≡ prefix ++ (more ++ last ∷ []) =
     is ∙ ap (λ (l : List ℕ). l ++ (drop (gate + 1) (bytes ++ more) ++ last ∷ [])) (take-append-le gate bytes more (omega (arith, long)))
-    ∙ ap (λ (l : List ℕ). front ++ (l ++ last ∷ [])) (drop_at bytes more (gate + 1) long) in
-    let behind : drop 8 now ≡ encoded ++ last ∷ [] =
-    ap (λ (l : List ℕ). drop 8 l) parts ∙ drop-append-le 8 front (more ++ last ∷ []) (omega (arith, first, eight))
-    ∙ sym (append_assoc (drop 8 front) more (last ∷ [])) in
+    ∙ ap (λ (l : List ℕ). prefix ++ (l ++ last ∷ [])) (drop_at bytes more (gate + 1) long) in
+    let suffix : drop 8 now ≡ encoded ++ last ∷ [] =
+    ap (λ (l : List ℕ). drop 8 l) parts ∙ drop-append-le 8 prefix (more ++ last ∷ []) (omega (arith, first, eight))
+    ∙ sym (append_assoc (drop 8 prefix) more (last ∷ [])) in
     let size : length now ≡ length bytes + length more =
-    omega (arith, ap (λ (l : List ℕ). length l) parts, length-append front (more ++ last ∷ []), length-append more (last ∷ []), first, long)
+    omega (arith, ap (λ (l : List ℕ). length l) parts, length-append prefix (more ++ last ∷ []), length-append more (last ∷ []), first, long)
     in
     let count : length encoded ≡ length now - 9 =
-    omega (arith, length-append (drop 8 front) more, length-drop 8 front, first, size, long, eight) in
+    omega (arith, length-append (drop 8 prefix) more, length-drop 8 prefix, first, size, long, eight) in
     let some : gate ≡ 8 + (length bytes - 9) = omega (arith, long, eight) in
-    ap (λ (l : List ℕ). take (length now - 9) l) behind
+    ap (λ (l : List ℕ). take (length now - 9) l) suffix
     ∙ take_at encoded (last ∷ []) (length now - 9) count
     ∙ ap (λ (n : ℕ). drop 8 (take n bytes) ++ more) some
     ∙ ap (λ (l : List ℕ). l ++ more) (drop-take 8 (length bytes - 9) bytes)

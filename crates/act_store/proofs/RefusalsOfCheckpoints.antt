@@ -3,10 +3,10 @@ use Rattle.std.proofs.Common.{◌≡◌, inl, inr, ℕ, ◌+◌, ◌<◌, ◌≤
 use Rattle.std.proofs.Common.{Bool, not, true, false}
 use Rattle.std.specs.Prelude.{Option, Some, None, nat_lt, nat_le, is_some, option_map, if◌then◌else◌, ◌||◌}
 use Rattle.std.proofs.lemmas.Bool.{cases_Bool, leb-false, ltb-false}
-use Rattle.act_store.specs.Checkpoints.{first_gate, gate_behind, has_no_room, is_written, last_counter, refusal_of_begin, refusal_of_finish}
+use Rattle.act_store.specs.Checkpoints.{first_gate, gate_after, has_no_room, is_written, last_counter, refusal_of_begin, refusal_of_finish}
 use Rattle.act_store.specs.Checkpoints.{refusal_of_last, refusal_of_slice, since, text_length}
 use Rattle.act_store.specs.StoreState.{Checkpoint, StoreState, table_of}
-use Rattle.act_store.specs.Plain.{area_full, checkpoint_turn, failed_earlier, refusal_of_turning}
+use Rattle.act_store.specs.Plain.{area_full, checkpoint_order, failed_earlier, refusal_of_turn_over}
 use Rattle.act_store.specs.StoreSeen.{as_checkpoint, as_state}
 use Rattle.act_store.specs.declared.begun.Begun.{Begun}
 use Rattle.act_store.specs.declared.store.Store.TheInside.{Inside}
@@ -20,7 +20,7 @@ pub record MayBegin {D : Type 0} (s : StoreState D) : Type 0 where
   pub room : first_gate (text_length (table_of s)) + 1 ≤ s.area
 
 begin_of : (failed begun last full : Bool)
-    → (if failed then Some failed_earlier else (if begun then Some checkpoint_turn else
+    → (if failed then Some failed_earlier else (if begun then Some checkpoint_order else
     (if last then Some last_counter else (if full then Some area_full else None)))) ≡ None
     → (failed ≡ false) × (begun ≡ false) × (last ≡ false) × (full ≡ false)
 begin_of true begun last full none = absurd (cc none)
@@ -57,7 +57,7 @@ none_begun (Some b) none = absurd (cc none)
 -- ---- slice
 
 slice_of : (failed written : Bool)
-    → (if failed then Some failed_earlier else (if written then Some checkpoint_turn else None)) ≡ None → failed ≡ false
+    → (if failed then Some failed_earlier else (if written then Some checkpoint_order else None)) ≡ None → failed ≡ false
 slice_of true written none = absurd (cc none)
 slice_of false written none = refl
 
@@ -72,10 +72,10 @@ slices {D} s v view none = may_slice (as_state s) (subst (λ (k : StoreState D).
 pub record MayFinish {D : Type 0} (s : StoreState D) (checkpoint : Checkpoint) : Type 0 where
   pub live : s.failed ≡ false
   pub none_left : checkpoint.left ≤ 0
-  pub room : gate_behind checkpoint.text (since s checkpoint) + 1 ≤ s.area
+  pub room : gate_after checkpoint.text (since s checkpoint) + 1 ≤ s.area
 
 finish_of : (failed left full : Bool)
-    → (if failed then Some failed_earlier else (if left then Some checkpoint_turn else (if full then Some area_full else None))) ≡ None
+    → (if failed then Some failed_earlier else (if left then Some checkpoint_order else (if full then Some area_full else None))) ≡ None
     → (failed ≡ false) × (left ≡ false) × (full ≡ false)
 finish_of true left full none = absurd (cc none)
 finish_of false true full none = absurd (cc none)
@@ -90,25 +90,25 @@ may_finish s checkpoint is none =
     record {
       live = so.0;
       none_left = ltb-false 0 checkpoint.left so.1;
-      room = ltb-false s.area (gate_behind checkpoint.text (since s checkpoint) + 1) so.2;
+      room = ltb-false s.area (gate_after checkpoint.text (since s checkpoint) + 1) so.2;
     }
 
 -- ---- turn over
 
-pub record MayTurn {D : Type 0} (s : StoreState D) : Type 0 where
+pub record MayTurnOver {D : Type 0} (s : StoreState D) : Type 0 where
   pub live : s.failed ≡ false
   pub none : is_some s.begun ≡ false
   pub all : length s.history ≤ s.covered
 
-turning_of : (failed begun less : Bool)
-    → (if failed then Some failed_earlier else (if begun || less then Some checkpoint_turn else None)) ≡ None
+turn_over_of : (failed begun less : Bool)
+    → (if failed then Some failed_earlier else (if begun || less then Some checkpoint_order else None)) ≡ None
     → (failed ≡ false) × (begun ≡ false) × (less ≡ false)
-turning_of true begun less none = absurd (cc none)
-turning_of false true less none = absurd (cc none)
-turning_of false false true none = absurd (cc none)
-turning_of false false false none = (refl, refl, refl)
+turn_over_of true begun less none = absurd (cc none)
+turn_over_of false true less none = absurd (cc none)
+turn_over_of false false true none = absurd (cc none)
+turn_over_of false false false none = (refl, refl, refl)
 
-pub may_turn : {D : Type 0} (s : StoreState D) → refusal_of_turning s ≡ None → MayTurn s
-may_turn s none =
-    let so = turning_of s.failed (is_some s.begun) (nat_lt s.covered (length s.history)) none in
+pub may_turn_over : {D : Type 0} (s : StoreState D) → refusal_of_turn_over s ≡ None → MayTurnOver s
+may_turn_over s none =
+    let so = turn_over_of s.failed (is_some s.begun) (nat_lt s.covered (length s.history)) none in
     record { live = so.0; none = so.1; all = ltb-false s.covered (length s.history) so.2 }

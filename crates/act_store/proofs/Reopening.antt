@@ -11,26 +11,26 @@ use Rattle.run_plan.specs.declared.reply.Reply.TheVariants as reply
 use Rattle.run_table.specs.Histories.{after, replies}
 use Rattle.run_table.specs.Step.{step, stepped}
 use Rattle.run_table.specs.TableState.{TableState}
-use Rattle.table_laws.specs.ExactlyOnce.{HasTurn, IsRefused}
-use Rattle.table_laws.specs.Remembered.{AreNoLaterTurns, AreNoOtherAttempts, KnowsAttempt, KnowsDelivery, LastCommandIs}
+use Rattle.table_laws.specs.ExactlyOnce.{HasNumber, IsRefused}
+use Rattle.table_laws.specs.Remembered.{AreNoLaterNumbers, AreNoOtherAttempts, KnowsAttempt, KnowsDelivery, LastCommandIs}
 use Rattle.table_laws.proofs.KnownAttempts.{attempt_after, begun_is_known, known_attempt_is_answered}
-use Rattle.table_laws.proofs.LeasesStay.{after_both}
+use Rattle.group_histories.proofs.LeasesStay.{after_both}
 use Rattle.table_laws.proofs.Remembered.{answered_is_last, created_is_known, known_after, known_is_answered, last_after, last_is_answered}
 use Rattle.act_store.specs.Entries.{IsLegal, commands_of, replies_of, table_after}
-use Rattle.act_store.specs.Reopened.{FindsAgain, IsAcknowledged, LeadTo, Life, asked_in}
+use Rattle.act_store.specs.Reopened.{FindsAgain, IsAcknowledged, LeadTo, Life, requested_in}
 use Rattle.act_store.specs.declared.entry.Entry.{Entry}
 use Rattle.act_store.proofs.Histories.{commands-append}
 use Rattle.act_store.proofs.OneTable.{one_table}
 
 -- ---- the reply of an entry
 
-legal_at : (base : TableState) (before behind : List Entry) (entry : Entry) → IsLegal base (before ++ entry ∷ behind)
+legal_at : (base : TableState) (before suffix : List Entry) (entry : Entry) → IsLegal base (before ++ entry ∷ suffix)
     → entry.reply ≡ (stepped (table_after base before) entry.command).reply
-legal_at base [] behind entry legal = cc legal
-legal_at base (e ∷ before) behind entry legal =
-    let rest : replies_of (before ++ entry ∷ behind) ≡ replies (stepped base e.command).table (commands_of (before ++ entry ∷ behind)) =
+legal_at base [] suffix entry legal = cc legal
+legal_at base (e ∷ before) suffix entry legal =
+    let rest : replies_of (before ++ entry ∷ suffix) ≡ replies (stepped base e.command).table (commands_of (before ++ entry ∷ suffix)) =
     cc legal in
-    legal_at (stepped base e.command).table before behind entry rest
+    legal_at (stepped base e.command).table before suffix entry rest
 
 -- ---- the table at the end of the lives
 
@@ -38,60 +38,60 @@ found_is : (left found : TableState) → FindsAgain left found → found ≡ lef
 found_is left found again =
     ⊎_elim (λ same. same) (λ stood. one_table stood.0 found left stood.2 stood.1) again
 
-stands_after : (life : Life) (lives : List Life) (table : TableState) (leads : LeadTo life lives table)
-    → table ≡ after life.base (asked_in life lives table leads)
-stands_after life [] table leads = found_is (table_after life.base (take leads.count life.history)) table leads.found
-stands_after life (next ∷ lives) table leads =
+recovers_after : (life : Life) (lives : List Life) (table : TableState) (leads : LeadTo life lives table)
+    → table ≡ after life.base (requested_in life lives table leads)
+recovers_after life [] table leads = found_is (table_after life.base (take leads.count life.history)) table leads.found
+recovers_after life (next ∷ lives) table leads =
     let first = commands_of (take leads.0.count life.history) in
-    let others = asked_in next lives table leads.1 in
-    stands_after next lives table leads.1
+    let others = requested_in next lives table leads.1 in
+    recovers_after next lives table leads.1
     ∙ ap (λ (t : TableState). after t others) (found_is (after life.base first) next.base leads.0.found)
     ∙ sym (after_both life.base first others)
 
-front_at : (before behind : List Entry) (entry : Entry) (count : ℕ) → length before < count
-    → take count (before ++ entry ∷ behind) ≡ before ++ entry ∷ take (count - length before - 1) behind
-front_at [] behind entry zero less = absurd (omega (arith, less))
-front_at [] behind entry (suc count) less = ap (λ (n : ℕ). entry ∷ take n behind) (omega arith)
-front_at (e ∷ before) behind entry zero less = absurd (omega (arith, less))
-front_at (e ∷ before) behind entry (suc count) less =
+prefix_at : (before suffix : List Entry) (entry : Entry) (count : ℕ) → length before < count
+    → take count (before ++ entry ∷ suffix) ≡ before ++ entry ∷ take (count - length before - 1) suffix
+prefix_at [] suffix entry zero less = absurd (omega (arith, less))
+prefix_at [] suffix entry (suc count) less = ap (λ (n : ℕ). entry ∷ take n suffix) (omega arith)
+prefix_at (e ∷ before) suffix entry zero less = absurd (omega (arith, less))
+prefix_at (e ∷ before) suffix entry (suc count) less =
     let same : suc count - length (e ∷ before) - 1 ≡ count - length before - 1 = omega arith in
-    ap (λ (l : List Entry). e ∷ l) (front_at before behind entry count (omega (arith, less)))
-    ∙ ap (λ (n : ℕ). e ∷ before ++ entry ∷ take n behind) (sym same)
+    ap (λ (l : List Entry). e ∷ l) (prefix_at before suffix entry count (omega (arith, less)))
+    ∙ ap (λ (n : ℕ). e ∷ before ++ entry ∷ take n suffix) (sym same)
 
-module _ (life : Life) (before behind : List Entry) (entry : Entry) (acknowledged : IsAcknowledged life before entry behind) where
+module _ (life : Life) (before suffix : List Entry) (entry : Entry) (acknowledged : IsAcknowledged life before entry suffix) where
   -- an acknowledged entry is among the recovered ones
   kept : (count : ℕ) (more : List Command) → life.covered ≤ count
       → commands_of (take count life.history) ++ more
-      ≡ commands_of before ++ entry.command ∷ (commands_of (take (count - length before - 1) behind) ++ more)
+      ≡ commands_of before ++ entry.command ∷ (commands_of (take (count - length before - 1) suffix) ++ more)
   kept count more from =
       ap (λ (l : List Entry). commands_of l ++ more)
-      (ap (λ (l : List Entry). take count l) acknowledged.stands_at
-      ∙ front_at before behind entry count (omega (arith, acknowledged.covered, from)))
+      (ap (λ (l : List Entry). take count l) acknowledged.is_at
+      ∙ prefix_at before suffix entry count (omega (arith, acknowledged.covered, from)))
       ∙ ap (λ (l : List Command). l ++ more)
-      (commands-append before (entry ∷ take (count - length before - 1) behind))
-      ∙ append_assoc (commands_of before) (entry.command ∷ commands_of (take (count - length before - 1) behind)) more
+      (commands-append before (entry ∷ take (count - length before - 1) suffix))
+      ∙ append_assoc (commands_of before) (entry.command ∷ commands_of (take (count - length before - 1) suffix)) more
 
-  behind_it : (asked rest : List Command) → asked ≡ commands_of before ++ entry.command ∷ rest
-      → asked ≡ commands_of before ++ entry.command ∷ drop (length before + 1) asked
-  behind_it asked rest is =
-      let front = commands_of before ++ entry.command ∷ [] in
-      let parts : asked ≡ front ++ rest = is ∙ sym (append_assoc (commands_of before) (entry.command ∷ []) rest) in
-      let long : length front ≡ length before + 1 =
+  after_it : (requested rest : List Command) → requested ≡ commands_of before ++ entry.command ∷ rest
+      → requested ≡ commands_of before ++ entry.command ∷ drop (length before + 1) requested
+  after_it requested rest is =
+      let prefix = commands_of before ++ entry.command ∷ [] in
+      let parts : requested ≡ prefix ++ rest = is ∙ sym (append_assoc (commands_of before) (entry.command ∷ []) rest) in
+      let long : length prefix ≡ length before + 1 =
       omega (arith, length-append (commands_of before) (entry.command ∷ []), length-map before (λ (e : Entry). e.command)) in
       is ∙ ap (λ (l : List Command). commands_of before ++ entry.command ∷ l)
-      (sym (ap (λ (l : List Command). drop (length before + 1) l) parts ∙ drop_at front rest (length before + 1) long))
+      (sym (ap (λ (l : List Command). drop (length before + 1) l) parts ∙ drop_at prefix rest (length before + 1) long))
 
-  asked_parts : (lives : List Life) (table : TableState) (leads : LeadTo life lives table)
-      → asked_in life lives table leads
-      ≡ commands_of before ++ entry.command ∷ drop (length before + 1) (asked_in life lives table leads)
-  asked_parts [] table leads =
-      let asked = commands_of (take leads.count life.history) in
-      behind_it asked (commands_of (take (leads.count - length before - 1) behind) ++ [])
-      (sym (append-nil asked) ∙ kept leads.count [] leads.from)
-  asked_parts (next ∷ lives) table leads =
-      let others = asked_in next lives table leads.1 in
-      behind_it (commands_of (take leads.0.count life.history) ++ others)
-      (commands_of (take (leads.0.count - length before - 1) behind) ++ others) (kept leads.0.count others leads.0.from)
+  requested_parts : (lives : List Life) (table : TableState) (leads : LeadTo life lives table)
+      → requested_in life lives table leads
+      ≡ commands_of before ++ entry.command ∷ drop (length before + 1) (requested_in life lives table leads)
+  requested_parts [] table leads =
+      let requested = commands_of (take leads.count life.history) in
+      after_it requested (commands_of (take (leads.count - length before - 1) suffix) ++ [])
+      (sym (append-nil requested) ∙ kept leads.count [] leads.from)
+  requested_parts (next ∷ lives) table leads =
+      let others = requested_in next lives table leads.1 in
+      after_it (commands_of (take leads.0.count life.history) ++ others)
+      (commands_of (take (leads.0.count - length before - 1) suffix) ++ others) (kept leads.0.count others leads.0.from)
 
   first_legal : (lives : List Life) (table : TableState) → LeadTo life lives table → IsLegal life.base life.history
   first_legal [] table leads = leads.legal
@@ -104,54 +104,54 @@ module _ (life : Life) (before behind : List Entry) (entry : Entry) (acknowledge
     here = table_after life.base before
 
     abbrev later : List Command
-    later = drop (length before + 1) (asked_in life lives table leads)
+    later = drop (length before + 1) (requested_in life lives table leads)
 
     told : entry.reply ≡ (stepped here entry.command).reply
     told =
-        legal_at life.base before behind entry
-        (subst (λ (l : List Entry). IsLegal life.base l) acknowledged.stands_at (first_legal lives table leads))
+        legal_at life.base before suffix entry
+        (subst (λ (l : List Entry). IsLegal life.base l) acknowledged.is_at (first_legal lives table leads))
 
     found : table ≡ after (stepped here entry.command).table later
     found =
-        stands_after life lives table leads ∙ ap (λ (l : List Command). after life.base l) (asked_parts lives table leads)
+        recovers_after life lives table leads ∙ ap (λ (l : List Command). after life.base l) (requested_parts lives table leads)
         ∙ after_both life.base (commands_of before) (entry.command ∷ later)
 
     -- an admission that is repeated
     pub delivery_again : (id : ℕ) (event again : Admitted) → entry.command ≡ command.Admit event → entry.reply ≡ reply.Created id
         → again.delivery ≡ event.delivery → step table (command.Admit again) ≡ (table, reply.Created id)
-    delivery_again id event again asked created same =
+    delivery_again id event again requested created same =
         let given : (stepped here (command.Admit event)).reply ≡ reply.Created id =
-        ap (λ (c : Command). (stepped here c).reply) (sym asked) ∙ sym told ∙ created in
+        ap (λ (c : Command). (stepped here c).reply) (sym requested) ∙ sym told ∙ created in
         let is : after (stepped here (command.Admit event)).table later ≡ table =
-        ap (λ (c : Command). after (stepped here c).table later) (sym asked) ∙ sym found in
+        ap (λ (c : Command). after (stepped here c).table later) (sym requested) ∙ sym found in
         let known : KnowsDelivery table event.delivery id =
         subst (λ (x : TableState). KnowsDelivery x event.delivery id) is
         (known_after (stepped here (command.Admit event)).table later event.delivery id (created_is_known here event id given)) in
         known_is_answered table again id (subst (λ (d : List ℕ). KnowsDelivery table d id) (sym same) known)
 
     -- a runner's command
-    pub reply_again : (name : List ℕ) (number : ℕ) → HasTurn entry.command name number → (IsRefused entry.reply → ⊥)
-        → AreNoLaterTurns name number later (replies (stepped here entry.command).table later) → step table entry.command ≡ (table, entry.reply)
-    reply_again name number turn taken no_later =
+    pub reply_again : (name : List ℕ) (number : ℕ) → HasNumber entry.command name number → (IsRefused entry.reply → ⊥)
+        → AreNoLaterNumbers name number later (replies (stepped here entry.command).table later) → step table entry.command ≡ (table, entry.reply)
+    reply_again name number numbered taken no_later =
         let next = (stepped here entry.command).table in
         let given = (stepped here entry.command).reply in
-        let known = answered_is_last here entry.command name number turn (λ refused. taken (refused.0, told ∙ refused.1)) in
-        let still = last_after entry.command name number given turn next later known no_later in
+        let known = answered_is_last here entry.command name number numbered (λ refused. taken (refused.0, told ∙ refused.1)) in
+        let still = last_after entry.command name number given numbered next later known no_later in
         last_is_answered table entry.command name entry.reply
         (subst (λ (r : Reply). LastCommandIs table name entry.command r) (sym told)
         (subst (λ (x : TableState). LastCommandIs x name entry.command given) (sym found) still))
 
     -- a re-run
-    pub attempt_again : (asked : Attempt) → entry.command ≡ command.Rerun asked → entry.reply ≡ reply.Again asked
-        → AreNoOtherAttempts asked.run asked.attempt later (replies (stepped here entry.command).table later)
-        → step table (command.Rerun asked) ≡ (table, reply.Again asked)
-    attempt_again asked is given no_others =
+    pub attempt_again : (requested : Attempt) → entry.command ≡ command.Rerun requested → entry.reply ≡ reply.Again requested
+        → AreNoOtherAttempts requested.run requested.attempt later (replies (stepped here entry.command).table later)
+        → step table (command.Rerun requested) ≡ (table, reply.Again requested)
+    attempt_again requested is given no_others =
         let next = (stepped here entry.command).table in
-        let answered : (stepped here (command.Rerun asked)).reply ≡ reply.Again asked =
+        let answered : (stepped here (command.Rerun requested)).reply ≡ reply.Again requested =
         ap (λ (c : Command). (stepped here c).reply) (sym is) ∙ sym told ∙ given in
-        let known : KnowsAttempt next asked.run asked.attempt =
-        subst (λ (c : Command). KnowsAttempt (stepped here c).table asked.run asked.attempt) (sym is)
-        (begun_is_known here asked answered) in
-        known_attempt_is_answered table asked
-        (subst (λ (x : TableState). KnowsAttempt x asked.run asked.attempt) (sym found)
-        (attempt_after next later asked.run asked.attempt known no_others))
+        let known : KnowsAttempt next requested.run requested.attempt =
+        subst (λ (c : Command). KnowsAttempt (stepped here c).table requested.run requested.attempt) (sym is)
+        (begun_is_known here requested answered) in
+        known_attempt_is_answered table requested
+        (subst (λ (x : TableState). KnowsAttempt x requested.run requested.attempt) (sym found)
+        (attempt_after next later requested.run requested.attempt known no_others))

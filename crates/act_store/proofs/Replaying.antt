@@ -9,10 +9,10 @@ use Rattle.gated_journal.proofs.Parting.{all_parted, parts_more}
 use Rattle.run_plan.specs.declared.command.Command.{Command}
 use Rattle.run_table.specs.Histories.{after}
 use Rattle.run_table.specs.TableState.{TableState}
-use Rattle.table_laws.proofs.LeasesStay.{after_both}
+use Rattle.group_histories.proofs.LeasesStay.{after_both}
 use Rattle.table_text.specs.Format.{OpensWith as BeginsWith, Encodes}
 use Rattle.act_store.specs.Layouts.{batch_format}
-use Rattle.act_store.specs.Meaning.{SpellCommands}
+use Rattle.act_store.specs.Meaning.{EncodeCommands}
 use Rattle.act_store.specs.Replayed.{IsCarried, IsReplayed}
 use Rattle.act_store.specs.declared.layout.Layout.{Layout}
 use Rattle.act_store.proofs.InLayout.{batches_begin_none}
@@ -44,7 +44,7 @@ pub record SoFar (layout : Layout) (records rest : List ℕ) (first table : Tabl
   pub parted : List (List ℕ)
   pub commands : List Command
   pub parts : Parts records parted rest
-  pub encoded : SpellCommands layout parted commands
+  pub encoded : EncodeCommands layout parted commands
   pub table_is : after first commands ≡ table
 
 pub none_so_far : (layout : Layout) (records : List ℕ) (first : TableState) → SoFar layout records records first first
@@ -57,35 +57,35 @@ none_so_far layout records first = record {
 }
 
 module _ (layout : Layout) (records rest : List ℕ) (first table : TableState) (so : SoFar layout records rest first table) where
-  pub one_more : (body behind : List ℕ) (next : TableState) → OpensWith rest body behind → IsCarried layout body table (Some next)
-      → SoFar layout records behind first next
-  one_more body behind next opens carried =
+  pub one_more : (body suffix : List ℕ) (next : TableState) → OpensWith rest body suffix → IsCarried layout body table (Some next)
+      → SoFar layout records suffix first next
+  one_more body suffix next opens carried =
       let more = carried.0 in
       record {
         parted = so.parted ++ body ∷ [];
         commands = so.commands ++ more;
-        parts = parts_more records so.parted rest body behind so.parts opens;
-        encoded = subst (λ (b : List ℕ). SpellCommands layout (so.parted ++ b ∷ []) (so.commands ++ more)) (sym carried.1.1)
+        parts = parts_more records so.parted rest body suffix so.parts opens;
+        encoded = subst (λ (b : List ℕ). EncodeCommands layout (so.parted ++ b ∷ []) (so.commands ++ more)) (sym carried.1.1)
             (encode_more layout so.parted so.commands more carried.1.0 so.encoded);
         table_is = after_both first so.commands more ∙ ap (λ (t : TableState). after t more) so.table_is ∙ carried.2;
       }
 
-  pub at_end : ((body behind : List ℕ) → OpensWith rest body behind → ⊥) → IsReplayed layout records first (Some table)
+  pub at_end : ((body suffix : List ℕ) → OpensWith rest body suffix → ⊥) → IsReplayed layout records first (Some table)
   at_end none bodies short is =
       let all = all_parted bodies so.parted rest short (subst (λ (l : List ℕ). Parts l so.parted rest) is so.parts) none in
-      (so.commands, subst (λ (l : List (List ℕ)). SpellCommands layout l so.commands) all so.encoded, so.table_is)
+      (so.commands, subst (λ (l : List (List ℕ)). EncodeCommands layout l so.commands) all so.encoded, so.table_is)
 
   -- records begin with the parsed ones
-  starts : (parted bodies : List (List ℕ)) (behind : List ℕ) → AreShort parted → AreShort bodies
-      → record_bytes parted ++ behind ≡ record_bytes bodies
+  starts : (parted bodies : List (List ℕ)) (suffix : List ℕ) → AreShort parted → AreShort bodies
+      → record_bytes parted ++ suffix ≡ record_bytes bodies
       → (more : List (List ℕ)) × (parted ++ more ≡ bodies)
-  starts [] bodies behind one two same = (bodies, refl)
-  starts (a ∷ parted) [] behind one two same = absurd (cc same)
-  starts (a ∷ parted) (b ∷ bodies) behind one two same =
-      let tails : (framed a ++ record_bytes parted) ++ behind ≡ framed b ++ record_bytes bodies = cc same in
-      let frames = same_frames a b (record_bytes parted ++ behind) (record_bytes bodies) one.0 two.0
-      (sym (append_assoc (framed a) (record_bytes parted) behind) ∙ tails) in
-      let others = starts parted bodies behind one.1 two.1 frames.1 in
+  starts [] bodies suffix one two same = (bodies, refl)
+  starts (a ∷ parted) [] suffix one two same = absurd (cc same)
+  starts (a ∷ parted) (b ∷ bodies) suffix one two same =
+      let tails : (framed a ++ record_bytes parted) ++ suffix ≡ framed b ++ record_bytes bodies = cc same in
+      let frames = same_frames a b (record_bytes parted ++ suffix) (record_bytes bodies) one.0 two.0
+      (sym (append_assoc (framed a) (record_bytes parted) suffix) ∙ tails) in
+      let others = starts parted bodies suffix one.1 two.1 frames.1 in
       (others.0, ap (λ (l : List ℕ). l ∷ parted ++ others.0) frames.0 ∙ ap (λ (l : List (List ℕ)). b ∷ l) others.1)
 
   among : (batches : List (List Command)) (parted : List (List ℕ)) (body : List ℕ) (more : List (List ℕ))
@@ -98,9 +98,9 @@ module _ (layout : Layout) (records rest : List ℕ) (first table : TableState) 
   among (b ∷ batches) (p ∷ parted) body more takes same =
       let tails : (parted ++ body ∷ []) ++ more ≡ map (batch_format layout).encoding batches = cc same in among batches parted body more takes.1 tails
 
-  pub at_broken : (body behind : List ℕ) → OpensWith rest body behind → IsCarried layout body table None → IsReplayed layout records first None
-  at_broken body behind opens none bodies commands short is encoded =
-      let parts = parts_more records so.parted rest body behind so.parts opens in
-      let found = starts (so.parted ++ body ∷ []) bodies behind parts.short short (sym parts.split ∙ is) in
+  pub at_broken : (body suffix : List ℕ) → OpensWith rest body suffix → IsCarried layout body table None → IsReplayed layout records first None
+  at_broken body suffix opens none bodies commands short is encoded =
+      let parts = parts_more records so.parted rest body suffix so.parts opens in
+      let found = starts (so.parted ++ body ∷ []) bodies suffix parts.short short (sym parts.split ∙ is) in
       let one = among encoded.batches so.parted body found.0 encoded.takes (found.1 ∙ encoded.encoded) in
       none one.0 one.1

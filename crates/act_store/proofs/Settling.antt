@@ -5,7 +5,7 @@ use Rattle.std.proofs.lemmas.List.{take_all, take-append-le}
 use Rattle.std.specs.Int.{to_be_bytes, w32}
 use Rattle.std.specs.List.{AllByRecursion}
 use Rattle.gated_journal.specs.Layout.{Head, framed, opened}
-use Rattle.gated_journal.specs.Whole.{StandsWhole, WholeOrGrew}
+use Rattle.gated_journal.specs.Whole.{RecoversWhole, WholeOrGrew}
 use Rattle.gated_journal.specs.declared.gate.Gate.{Gate}
 use Rattle.gated_journal.specs.declared.side.Side.{Side}
 use Rattle.gated_journal.proofs.Grown.{opened-push}
@@ -13,12 +13,12 @@ use Rattle.run_table.specs.Histories.{after}
 use Rattle.run_table.specs.TableState.{TableState}
 use Rattle.table_text.specs.Commands.{batch}
 use Rattle.act_store.specs.Entries.{table_after}
-use Rattle.act_store.specs.Images.{IsAreaLength, StandsAt, RecoversTo}
-use Rattle.act_store.specs.StoreState.{StoreState, StandForCovered, RecoversToEither, covered_table, pending_commands, table_of}
+use Rattle.act_store.specs.Images.{IsAreaLength, RecoversFrom, RecoversTo}
+use Rattle.act_store.specs.StoreState.{StoreState, RecoverToCovered, RecoversToEither, covered_table, pending_commands, table_of}
 use Rattle.act_store.specs.Layouts.{HasCommand, batch_format}
 use Rattle.act_store.specs.Meaning.{MeansTable}
 use Rattle.act_store.specs.Plain.{committed, used_after}
-use Rattle.act_store.specs.Promise.{IsSettled, IsStanding}
+use Rattle.act_store.specs.Promise.{IsSettled, IsConsistent}
 use Rattle.act_store.specs.declared.entry.Entry.{Entry}
 use Rattle.act_store.specs.declared.layout.Layout.{Layout}
 use Rattle.act_store.proofs.Histories.{table_split}
@@ -41,38 +41,38 @@ length-opened head bodies body =
 
 -- an image that reads so recovers to the table it means
 pub recovers_to : (len : ℕ) (side : Side) (gate : Gate) (head : Head) (bodies : List (List ℕ)) (table : TableState) (c : List ℕ)
-    → IsAreaLength len → StandsWhole len side gate c head bodies → MeansTable head bodies table → RecoversTo table c
-recovers_to len side gate head bodies table c size stands means = record {
+    → IsAreaLength len → RecoversWhole len side gate c head bodies → MeansTable head bodies table → RecoversTo table c
+recovers_to len side gate head bodies table c size recovers means = record {
   len = len;
-  long = stands.whole;
+  long = recovers.whole;
   size = size;
   side = side;
   head = head;
   bodies = bodies;
-  encodes = stands.stands.encodes;
+  encodes = recovers.recovers.encodes;
   means = means;
 }
 
-pub settled_stands : (len : ℕ) (side : Side) (gate : Gate) (generation used : ℕ) (layout : Layout) (table : TableState) (images : List ℕ → Type 0)
+pub settled_recovers : (len : ℕ) (side : Side) (gate : Gate) (generation used : ℕ) (layout : Layout) (table : TableState) (images : List ℕ → Type 0)
     → IsAreaLength len → IsSettled len side gate generation used layout table images → (c : List ℕ) → images c → RecoversTo table c
-settled_stands len side gate generation used layout table images size settled c now =
+settled_recovers len side gate generation used layout table images size settled c now =
     recovers_to len side gate settled.head settled.bodies table c size (settled.each c now) settled.means
 
 -- and its area has that generation
 pub settled_at_used : (len : ℕ) (side : Side) (gate : Gate) (generation used : ℕ) (layout : Layout) (table : TableState) (images : List ℕ → Type 0)
-    → IsAreaLength len → IsSettled len side gate generation used layout table images → (c : List ℕ) → images c → StandsAt generation used layout table c
-unfolding settled_stands recovers_to
+    → IsAreaLength len → IsSettled len side gate generation used layout table images → (c : List ℕ) → images c → RecoversFrom generation used layout table c
+unfolding settled_recovers recovers_to
 settled_at_used len side gate generation used layout table images size settled c now = record {
-  stands = settled_stands len side gate generation used layout table images size settled c now;
+  recovers = settled_recovers len side gate generation used layout table images size settled c now;
   generation_is = settled.generation_is;
   used_is = settled.used_is;
   layout_is = settled.layout_is;
 }
 
-pub stand_covered : {D : Type 0} (images : D → List ℕ → Type 0) (side : Side) (gate : Gate) (s : StoreState D) → IsAreaLength s.area
-    → IsStanding images side gate s → StandForCovered images s
-stand_covered images side gate s size standing live =
-    settled_at_used s.area side gate s.generation s.used s.layout (covered_table s) (images s.disk) size (standing.settled live)
+pub recover_to_covered : {D : Type 0} (images : D → List ℕ → Type 0) (side : Side) (gate : Gate) (s : StoreState D) → IsAreaLength s.area
+    → IsConsistent images side gate s → RecoverToCovered images s
+recover_to_covered images side gate s size active_side live =
+    settled_at_used s.area side gate s.generation s.used s.layout (covered_table s) (images s.disk) size (active_side.settled live)
 
 -- an equal table
 pub settled_at : (len : ℕ) (side : Side) (gate : Gate) (generation used : ℕ) (layout : Layout) (one two : TableState) (images : List ℕ → Type 0)
@@ -113,7 +113,7 @@ module _ {D : Type 0} (images : D → List ℕ → Type 0) (side : Side) (gate :
 
     -- and after the append
     pub resettled : (disk : D) (used : ℕ) → used ≡ used_after s
-        → ((c : List ℕ) → images disk c → StandsWhole s.area side gate c settled.head (settled.bodies ++ body ∷ []))
+        → ((c : List ℕ) → images disk c → RecoversWhole s.area side gate c settled.head (settled.bodies ++ body ∷ []))
         → IsSettled s.area side gate s.generation used s.layout (table_of s) (images disk)
     resettled disk used is each = record {
       head = settled.head;
@@ -126,28 +126,28 @@ module _ {D : Type 0} (images : D → List ℕ → Type 0) (side : Side) (gate :
     }
 
   -- after a commit
-  pub standing_fresh : (disk : D) → IsSettled s.area side gate s.generation (used_after s) s.layout (table_of s) (images disk)
-      → IsStanding images side gate (committed s disk)
-  standing_fresh disk settled =
+  pub consistent_fresh : (disk : D) → IsSettled s.area side gate s.generation (used_after s) s.layout (table_of s) (images disk)
+      → IsConsistent images side gate (committed s disk)
+  consistent_fresh disk settled =
       let here = settled_at s.area side gate s.generation (used_after s) s.layout (table_of s) (covered_table (committed s disk)) (images disk)
       (sym (all_covered (length s.history) (omega arith))) settled in
       record {
-        each = λ c now. inr (settled_stands s.area side gate s.generation (used_after s) s.layout (table_of s) (images disk) size settled c now);
+        each = λ c now. inr (settled_recovers s.area side gate s.generation (used_after s) s.layout (table_of s) (images disk) size settled c now);
         settled = λ _. here;
       }
 
   -- with one more entry
-  pub standing_entered : (history : List Entry) (entry : Entry) → history ≡ s.history ++ entry ∷ [] → s.covered ≤ length s.history
-      → s.failed ≡ false → IsStanding images side gate s → IsStanding images side gate (record s { history = history })
-  standing_entered history entry is covers live standing =
-      let front : take s.covered history ≡ take s.covered s.history =
+  pub consistent_entered : (history : List Entry) (entry : Entry) → history ≡ s.history ++ entry ∷ [] → s.covered ≤ length s.history
+      → s.failed ≡ false → IsConsistent images side gate s → IsConsistent images side gate (record s { history = history })
+  consistent_entered history entry is covers live active_side =
+      let prefix : take s.covered history ≡ take s.covered s.history =
       ap (λ (l : List Entry). take s.covered l) is ∙ take-append-le s.covered s.history (entry ∷ []) covers in
       let same : covered_table s ≡ table_after s.base (take s.covered history) =
-      sym (ap (λ (l : List Entry). table_after s.base l) front) in
+      sym (ap (λ (l : List Entry). table_after s.base l) prefix) in
       let settled = settled_at s.area side gate s.generation s.used s.layout (covered_table s) (table_after s.base (take s.covered history))
-      (images s.disk) same (standing.settled live) in
+      (images s.disk) same (active_side.settled live) in
       record {
-        each = λ c now. inl (settled_stands s.area side gate s.generation s.used s.layout (table_after s.base (take s.covered history))
+        each = λ c now. inl (settled_recovers s.area side gate s.generation s.used s.layout (table_after s.base (take s.covered history))
             (images s.disk) size settled c now);
         settled = λ _. settled;
       }

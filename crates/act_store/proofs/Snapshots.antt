@@ -54,17 +54,17 @@ length_head generation text =
 pub snapshot_taken : (base table : TableState) (history : List Entry) (generation area : ℕ) (b : Begun)
     → table ≡ table_after base history → b.place ≡ length history → b.put ≡ 0 → generation < 18446744073709551615
     → first_gate (text_length table) + 1 ≤ area
-    → b.front.items ≡ head_bytes (record { version = current_version; generation = generation + 1; text = whole_table.encoding table })
+    → b.prefix.items ≡ head_bytes (record { version = current_version; generation = generation + 1; text = whole_table.encoding table })
     → EncodesTable layouts.Second table (whole_table.encoding table) → IsSnapshot base history generation area b
-snapshot_taken base table history generation area b is place put newer room front encodes = record {
+snapshot_taken base table history generation area b is place put newer room prefix encodes = record {
   text = whole_table.encoding table;
   encodes = subst (λ (t : TableState). EncodesTable layouts.Second t (whole_table.encoding table))
       (is ∙ ap (λ (l : List Entry). table_after base l) (sym (take_all b.place history (omega (arith, place))))) encodes;
-  front_is = front;
+  prefix_is = prefix;
   place = omega (arith, place);
   put = omega (arith, put);
   newer = omega (arith, newer);
-  fits = omega (arith, ap (λ (l : List ℕ). length l) front, length_head (generation + 1) (whole_table.encoding table), room);
+  fits = omega (arith, ap (λ (l : List ℕ). length l) prefix, length_head (generation + 1) (whole_table.encoding table), room);
 }
 
 empty_of : (l : List ℕ) → length l ≡ 0 → l ≡ []
@@ -88,23 +88,23 @@ slice_on items other from to less is =
     ∙ ap (λ (n : ℕ). take n items) (let whole : from + (to - from) ≡ to = omega (arith, less) in whole)
 
 pub snapshot_sliced : (base : TableState) (history : List Entry) (generation area : ℕ) (b next : Begun)
-    → next.front.items ≡ b.front.items → next.place ≡ b.place → next.put ≤ length b.front.items
+    → next.prefix.items ≡ b.prefix.items → next.place ≡ b.place → next.put ≤ length b.prefix.items
     → IsSnapshot base history generation area b → IsSnapshot base history generation area next
-snapshot_sliced base history generation area b next front place put snapshot = record {
+snapshot_sliced base history generation area b next prefix place put snapshot = record {
   text = snapshot.text;
   encodes = subst (λ (n : ℕ). EncodesTable layouts.Second (table_after base (take n history)) snapshot.text) (sym place) snapshot.encodes;
-  front_is = front ∙ snapshot.front_is;
+  prefix_is = prefix ∙ snapshot.prefix_is;
   place = omega (arith, place, snapshot.place);
-  put = omega (arith, put, ap (λ (l : List ℕ). length l) front);
+  put = omega (arith, put, ap (λ (l : List ℕ). length l) prefix);
   newer = snapshot.newer;
-  fits = omega (arith, snapshot.fits, ap (λ (l : List ℕ). length l) front);
+  fits = omega (arith, snapshot.fits, ap (λ (l : List ℕ). length l) prefix);
 }
 
-pub put_sliced : (area : ℕ) (side : Side) (gate : Gate) (seen : List ℕ) (b next : Begun) → next.front.items ≡ b.front.items
-    → gate ≡ Closed → Holds seen (start_of area (other side) + 1) (take next.put b.front.items) → IsPut area side gate seen next
-put_sliced area side gate seen b next front closed held = record {
+pub put_sliced : (area : ℕ) (side : Side) (gate : Gate) (seen : List ℕ) (b next : Begun) → next.prefix.items ≡ b.prefix.items
+    → gate ≡ Closed → Holds seen (start_of area (other side) + 1) (take next.put b.prefix.items) → IsPut area side gate seen next
+put_sliced area side gate seen b next prefix closed held = record {
   closed = closed;
-  held = subst (λ (l : List ℕ). Holds seen (start_of area (other side) + 1) (take next.put l)) (sym front) held;
+  held = subst (λ (l : List ℕ). Holds seen (start_of area (other side) + 1) (take next.put l)) (sym prefix) held;
 }
 
 -- ---- across the other calls
@@ -116,7 +116,7 @@ snapshot_entered base history more entry generation area b is snapshot = record 
   text = snapshot.text;
   encodes = subst (λ (l : List Entry). EncodesTable layouts.Second (table_after base l) snapshot.text)
       (sym (ap (λ (l : List Entry). take b.place l) is ∙ take-append-le b.place history (entry ∷ []) snapshot.place)) snapshot.encodes;
-  front_is = snapshot.front_is;
+  prefix_is = snapshot.prefix_is;
   place = omega (arith, snapshot.place, ap (λ (l : List Entry). length l) is, length-append history (entry ∷ []));
   put = snapshot.put;
   newer = snapshot.newer;
@@ -153,7 +153,7 @@ module _ (base : TableState) (history : List Entry) (generation area : ℕ) (sid
             let put = so.1 (before still) live in
             record {
               closed = put.closed;
-              held = beside (before still) 1 (take b.put b.front.items) (omega (arith, long (before still) live))
-                  (omega (arith, length-take-le b.put b.front.items so.0.put, so.0.put, so.0.fits)) put.held;
+              held = beside (before still) 1 (take b.put b.prefix.items) (omega (arith, long (before still) live))
+                  (omega (arith, length-take-le b.put b.prefix.items so.0.put, so.0.put, so.0.fits)) put.held;
             },
       )) here

@@ -6,7 +6,7 @@ use Rattle.run_table.specs.Step.{empty}
 use Rattle.stored_tables.specs.Stored.{stored_table}
 use Rattle.run_table.specs.TableState.{TableState}
 use Rattle.run_table.proofs.StepKeeps.{empty_is_sound}
-use Rattle.table_text.specs.Format.{OpensWith, StandsAtFront, word_bytes}
+use Rattle.table_text.specs.Format.{OpensWith, ReadsPrefix, word_bytes}
 use Rattle.table_text.specs.Tables.{table}
 use Rattle.table_text.specs.WholeTables.{whole_table}
 use Rattle.act_store.specs.Layouts.{table_format}
@@ -31,7 +31,7 @@ unfolding EncodesTable
 longer_text layout text rest found opens some other encodes =
     none_longer (table_format layout) (tables_begin_none layout) text rest found opens some other encodes
 
-pub no_text : (layout : Layout) (text : List ℕ) → StandsAtFront (table_format layout) text None → (other : TableState)
+pub no_text : (layout : Layout) (text : List ℕ) → ReadsPrefix (table_format layout) text None → (other : TableState)
     → EncodesTable layout other text → ⊥
 unfolding EncodesTable
 no_text layout text none other encodes = none_whole (table_format layout) text none other encodes

@@ -2,15 +2,15 @@
 use Rattle.std.proofs.Common.{◌≡◌, ℕ, ◌<◌, ◌≤◌, List, [], ◌∷◌, ◌++◌, length, refl, sym, ◌∙◌, ap, arith}
 use Rattle.std.specs.Prelude.{None}
 use Rattle.std.proofs.lemmas.List.{append-nil}
-use Rattle.table_text.specs.Format.{Format, NoneBeginsAnother, OpensWith, Encodes, StandsAtFront}
+use Rattle.table_text.specs.Format.{Format, NoneBeginsAnother, OpensWith, Encodes, ReadsPrefix}
 
 no_element : (l : List ℕ) → length l ≤ 0 → l ≡ []
 no_element [] none = refl
 no_element (x ∷ l) none = absurd (omega (arith, none))
 
-nothing_behind : (a rest : List ℕ) → a ++ rest ≡ a → rest ≡ []
-nothing_behind [] rest same = same
-nothing_behind (x ∷ a) rest same = nothing_behind a rest (cc same)
+nothing_after : (a rest : List ℕ) → a ++ rest ≡ a → rest ≡ []
+nothing_after [] rest same = same
+nothing_after (x ∷ a) rest same = nothing_after a rest (cc same)
 
 -- an encoding with nothing after it is the whole of the bytes
 pub whole : {A : Type 0} (format : Format A) (bytes rest : List ℕ) (x : A) → OpensWith format bytes x rest → length rest ≤ 0
@@ -20,7 +20,7 @@ whole format bytes rest x opens none =
     (opens.0, opens.1 ∙ ap (λ (l : List ℕ). format.encoding x ++ l) empty ∙ append-nil (format.encoding x))
 
 -- bytes that begin with no encoding encode nothing
-pub none_whole : {A : Type 0} (format : Format A) (bytes : List ℕ) → StandsAtFront format bytes None → (x : A) → Encodes format bytes x → ⊥
+pub none_whole : {A : Type 0} (format : Format A) (bytes : List ℕ) → ReadsPrefix format bytes None → (x : A) → Encodes format bytes x → ⊥
 none_whole format bytes none x encodes = none x [] (encodes.0, encodes.1 ∙ sym (append-nil (format.encoding x)))
 
 module _ {A : Type 0} (format : Format A) (begins_none : NoneBeginsAnother format) where
@@ -28,7 +28,7 @@ module _ {A : Type 0} (format : Format A) (begins_none : NoneBeginsAnother forma
   nothing_left bytes rest found x opens encodes =
       let same : format.encoding x ++ [] ≡ format.encoding found ++ rest = append-nil (format.encoding x) ∙ sym encodes.1 ∙ opens.1 in
       let one = begins_none (format.encoding x) (format.encoding found) [] rest x found (encodes.0, refl) (opens.0, refl) same in
-      nothing_behind (format.encoding found) rest (sym opens.1 ∙ encodes.1 ∙ one.0)
+      nothing_after (format.encoding found) rest (sym opens.1 ∙ encodes.1 ∙ one.0)
 
   -- bytes with an encoding and more after it encode nothing
   pub none_longer : (bytes rest : List ℕ) (found : A) → OpensWith format bytes found rest → 0 < length rest → (x : A)

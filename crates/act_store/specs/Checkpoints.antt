@@ -5,13 +5,15 @@ use Rattle.std.specs.Prelude.{true, Bool, IsSomeAnd, Option, Some, None}
 use Rattle.wf_value.specs.declared.code.Code.TheVariants.{LastCounter}
 use Rattle.wf_value.specs.declared.refusal.Refusal.{Refusal}
 use Rattle.wf_value.specs.declared.refusal.Refusal.TheVariants.{Numbered}
+use Rattle.gated_journal.specs.declared.lengths.TheConstants.{FRAME, GATE, HEAD}
 use Rattle.run_plan.specs.declared.command.Command.{Command}
 use Rattle.run_table.specs.TableState.{TableState}
 use Rattle.table_text.specs.WholeTables.{whole_table}
 use Rattle.act_store.specs.Entries.{commands_of}
 use Rattle.act_store.specs.StoreState.{Checkpoint, StoreState, table_of}
 use Rattle.act_store.specs.declared.layout.Layout.TheVariants as layouts
-use Rattle.act_store.specs.Plain.{area_full, batch_length, checkpoint_turn, failed_earlier}
+use Rattle.act_store.specs.Plain.{area_full, batch_length, checkpoint_order, failed_earlier}
+use Rattle.act_store.specs.declared.check_slice.TheConstants.{SLICE}
 
 abbrev pub last_counter : Refusal
 last_counter = Numbered LastCounter
@@ -20,27 +22,27 @@ last_counter = Numbered LastCounter
 abbrev pub text_length : TableState → ℕ
 text_length table = length (whole_table.encoding table)
 
--- the offset of the first record's gate in an area with a text of this length, after the area's own gate, a head of 17 bytes and the text
+-- the offset of the first record's gate in an area with a text of this length, after the area's own gate, its head and the text
 abbrev pub first_gate : ℕ → ℕ
-first_gate text = 18 + text
+first_gate text = GATE + HEAD + text
 
 -- ---- check_begin
 
 abbrev pub refusal_of_head : {D : Type 0} → StoreState D → Option Refusal
 refusal_of_head s =
     if nat_le 18446744073709551615 s.generation then Some last_counter
-    else (if nat_lt s.area (first_gate (text_length (table_of s)) + 1) then Some area_full else None)
+    else (if nat_lt s.area (first_gate (text_length (table_of s)) + GATE) then Some area_full else None)
 
 abbrev pub refusal_of_begin : {D : Type 0} → StoreState D → Option Refusal
 refusal_of_begin s =
-    if s.failed then Some failed_earlier else (if is_some s.begun then Some checkpoint_turn else refusal_of_head s)
+    if s.failed then Some failed_earlier else (if is_some s.begun then Some checkpoint_order else refusal_of_head s)
 
 -- the text of the table of all entries is taken, and nothing of it is written yet
 abbrev pub taken : {D : Type 0} → StoreState D → Checkpoint
 taken s = record {
   place = length s.history;
   text = text_length (table_of s);
-  left = 17 + text_length (table_of s);
+  left = HEAD + text_length (table_of s);
 }
 
 abbrev pub begun_at : {D : Type 0} → StoreState D → D → StoreState D
@@ -54,11 +56,11 @@ is_written None = true
 is_written (Some checkpoint) = checkpoint.left == 0
 
 abbrev pub refusal_of_slice : {D : Type 0} → StoreState D → Option Refusal
-refusal_of_slice s = if s.failed then Some failed_earlier else (if is_written s.begun then Some checkpoint_turn else None)
+refusal_of_slice s = if s.failed then Some failed_earlier else (if is_written s.begun then Some checkpoint_order else None)
 
--- up to 4,096 bytes are written
+-- up to `SLICE` bytes are written
 abbrev pub with_slice : Checkpoint → Checkpoint
-with_slice checkpoint = record checkpoint { left = checkpoint.left - 4096 }
+with_slice checkpoint = record checkpoint { left = checkpoint.left - SLICE }
 
 abbrev pub sliced : {D : Type 0} → StoreState D → D → StoreState D
 sliced s disk = record s { disk = disk; begun = option_map with_slice s.begun }
@@ -75,17 +77,17 @@ since s checkpoint = commands_of (drop checkpoint.place s.history)
 
 -- The offset of the gate after these commands, in an area with a text of this length. They are in one record; without commands there is
 -- none.
-abbrev pub gate_behind : ℕ → List Command → ℕ
-gate_behind text [] = first_gate text
-gate_behind text (command ∷ commands) = first_gate text + 5 + batch_length (command ∷ commands)
+abbrev pub gate_after : ℕ → List Command → ℕ
+gate_after text [] = first_gate text
+gate_after text (command ∷ commands) = first_gate text + FRAME + batch_length (command ∷ commands)
 
 abbrev pub has_no_room : {D : Type 0} → StoreState D → Checkpoint → Bool
-has_no_room s checkpoint = nat_lt s.area (gate_behind checkpoint.text (since s checkpoint) + 1)
+has_no_room s checkpoint = nat_lt s.area (gate_after checkpoint.text (since s checkpoint) + GATE)
 
 abbrev pub refusal_of_last : {D : Type 0} → StoreState D → Option Checkpoint → Option Refusal
-refusal_of_last s None = Some checkpoint_turn
+refusal_of_last s None = Some checkpoint_order
 refusal_of_last s (Some checkpoint) =
-    if nat_lt 0 checkpoint.left then Some checkpoint_turn else (if has_no_room s checkpoint then Some area_full else None)
+    if nat_lt 0 checkpoint.left then Some checkpoint_order else (if has_no_room s checkpoint then Some area_full else None)
 
 abbrev pub refusal_of_finish : {D : Type 0} → StoreState D → Option Refusal
 refusal_of_finish s = if s.failed then Some failed_earlier else refusal_of_last s s.begun
@@ -99,7 +101,7 @@ abbrev pub finished : {D : Type 0} → StoreState D → Checkpoint → D → Sto
 finished s checkpoint disk = record s {
   disk = disk;
   covered = length s.history;
-  used = gate_behind checkpoint.text (since s checkpoint);
+  used = gate_after checkpoint.text (since s checkpoint);
   generation = s.generation + 1;
   layout = layouts.Second;
   begun = None;

@@ -2,11 +2,11 @@
 -- a group is in progress and at most one is pending.
 use Rattle.std.specs.Prelude.{◌≡◌, ◌≤◌, List, ◌++◌, length}
 use Rattle.group_name.specs.Group.{Group}
-use Rattle.run_states.specs.Groups.{pending_in, running_in}
+use Rattle.run_states.specs.Groups.{pending_in, in_progress_in}
 use Rattle.run_table.specs.TableState.{TableState}
-use Rattle.table_laws.specs.GroupHistories.{all_moves, asks_for_cancelling}
-use Rattle.table_laws.specs.GroupLaw.{KeepsLaw}
-use Rattle.table_laws.specs.Names.{Names}
+use Rattle.group_histories.specs.GroupHistories.{all_moves, requests_cancellation}
+use Rattle.group_laws.specs.GroupLaw.{KeepsLaw}
+use Rattle.group_laws.specs.Names.{Names}
 use Rattle.act_store.specs.Entries.{commands_of, table_after}
 use Rattle.act_store.specs.declared.entry.Entry.{Entry}
 
@@ -14,9 +14,9 @@ use Rattle.act_store.specs.declared.entry.Entry.{Entry}
 -- and legs of the table. The moves of every group over that prefix, after those that represent its holders at the base, keep the group
 -- law. This holds for any names of the holders in the attempts of their runs.
 pub record KeepsGroups (base : TableState) (history : List Entry) : Type 0 where
-  pub one_pending : (before behind : List Entry) (g : Group) → history ≡ before ++ behind
+  pub one_pending : (before suffix : List Entry) (g : Group) → history ≡ before ++ suffix
       → length (pending_in (table_after base before).runs g) ≤ 1
-  pub one_running : (before behind : List Entry) (g : Group) → history ≡ before ++ behind
-      → length (running_in (table_after base before).runs g) ≤ 1
-  pub law : (names : Names) (before behind : List Entry) (g : Group) → history ≡ before ++ behind
-      → KeepsLaw (asks_for_cancelling names g base (commands_of before)) (all_moves names g base (commands_of before))
+  pub one_in_progress : (before suffix : List Entry) (g : Group) → history ≡ before ++ suffix
+      → length (in_progress_in (table_after base before).runs g) ≤ 1
+  pub law : (names : Names) (before suffix : List Entry) (g : Group) → history ≡ before ++ suffix
+      → KeepsLaw (requests_cancellation names g base (commands_of before)) (all_moves names g base (commands_of before))

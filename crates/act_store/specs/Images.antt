@@ -1,17 +1,18 @@
 -- The table that an image of a disk recovers to.
 use Rattle.std.specs.Prelude.{◌≡◌, ℕ, ◌+◌, ◌≤◌, List, length, None, Some}
 use Rattle.gated_journal.specs.Layout.{Head, opened}
-use Rattle.gated_journal.specs.TwoAreas.{standing, Encodes}
+use Rattle.gated_journal.specs.TwoAreas.{active_side, Encodes}
 use Rattle.gated_journal.specs.declared.side.Side.{Side}
 use Rattle.run_table.specs.TableState.{TableState}
 use Rattle.act_store.specs.Layouts.{layout_of}
 use Rattle.act_store.specs.Meaning.{MeansTable}
+use Rattle.act_store.specs.declared.init.TheConstants.{MAX_AREA, MIN_AREA}
 use Rattle.act_store.specs.declared.layout.Layout.{Layout}
 
 -- the possible lengths of an area
 pub record IsAreaLength (len : ℕ) : Type 0 where
-  pub least : 4096 ≤ len
-  pub most : len ≤ 1073741824
+  pub least : MIN_AREA ≤ len
+  pub most : len ≤ MAX_AREA
 
 -- The image is two areas long, and the active one encodes this table.
 pub record RecoversTo (table : TableState) (image : List ℕ) : Type 0 where
@@ -25,15 +26,15 @@ pub record RecoversTo (table : TableState) (image : List ℕ) : Type 0 where
   pub means : MeansTable head bodies table
 
 -- It recovers to this table from an area of this generation and this layout, whose first closed gate is at `used`.
-pub record StandsAt (generation used : ℕ) (layout : Layout) (table : TableState) (image : List ℕ) : Type 0 where
-  pub stands : RecoversTo table image
-  pub generation_is : generation ≡ stands.head.generation
-  pub used_is : used ≡ length (opened stands.head stands.bodies)
-  pub layout_is : layout_of stands.head.version ≡ Some layout
+pub record RecoversFrom (generation used : ℕ) (layout : Layout) (table : TableState) (image : List ℕ) : Type 0 where
+  pub recovers : RecoversTo table image
+  pub generation_is : generation ≡ recovers.head.generation
+  pub used_is : used ≡ length (opened recovers.head recovers.bodies)
+  pub layout_is : layout_of recovers.head.version ≡ Some layout
 
 -- The image has no active area: its length is not that of two areas, or no area is open.
 abbrev pub HasNoArea : List ℕ → Type 0
-HasNoArea image = (len : ℕ) → length image ≡ len + len → IsAreaLength len → standing len image ≡ None
+HasNoArea image = (len : ℕ) → length image ≡ len + len → IsAreaLength len → active_side len image ≡ None
 
 -- The active area encodes no table.
 pub record HasNoTable (image : List ℕ) : Type 0 where

@@ -1,4 +1,4 @@
-pub mod AreaFront
+pub mod AreaPrefix
 pub mod Checkpoints
 pub mod Entries
 pub mod GroupsOfHistory

@@ -10,7 +10,7 @@ use Rattle.act_store.specs.TableText.{EncodesTable}
 use Rattle.act_store.specs.declared.layout.Layout.{Layout}
 
 -- In this layout each body encodes a batch, and these are the commands of all batches, in order.
-pub record SpellCommands (layout : Layout) (bodies : List (List ℕ)) (commands : List Command) : Type 0 where
+pub record EncodeCommands (layout : Layout) (bodies : List (List ℕ)) (commands : List Command) : Type 0 where
   pub batches : List (List Command)
   pub takes : AllByRecursion (batch_format layout).Takes batches
   pub encoded : bodies ≡ map (batch_format layout).encoding batches
@@ -23,5 +23,5 @@ pub record MeansTable (head : Head) (bodies : List (List ℕ)) (table : TableSta
   pub first : TableState
   pub text : EncodesTable layout first head.text
   pub commands : List Command
-  pub batched : SpellCommands layout bodies commands
+  pub batched : EncodeCommands layout bodies commands
   pub table_is : after first commands ≡ table

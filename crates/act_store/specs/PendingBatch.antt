@@ -1,8 +1,10 @@
 -- The entries that are pending until a commit, and the record that a commit writes of them.
 use Rattle.std.specs.Prelude.{◌≡◌, ℕ, ◌+◌, ◌-◌, List, [], ◌++◌, length, take, drop, flat_map, Option, Some, None}
 use Rattle.std.specs.Int.{to_be_bytes, w32}
+use Rattle.gated_journal.specs.declared.lengths.TheConstants.{FRAME, LENGTH}
 use Rattle.run_plan.specs.declared.command.Command.{Command}
 use Rattle.table_text.specs.Commands.{command_bytes}
+use Rattle.act_store.specs.declared.pending_batch.TheConstants.{COUNT}
 
 -- the number of pending commands, and their encodings in a row
 pub record BatchState : Type 0 where
@@ -16,7 +18,7 @@ batch_state_of commands = record { count = length commands; encoded = flat_map c
 abbrev pub with_command : BatchState → Command → BatchState
 with_command waits command = record { count = waits.count + 1; encoded = waits.encoded ++ command_bytes command }
 
--- the body of the record: the count in four bytes, and the encodings
+-- the body of the record: the count and the encodings
 abbrev pub body_of : BatchState → List ℕ
 body_of waits = to_be_bytes w32 waits.count ++ waits.encoded
 
@@ -25,13 +27,13 @@ body_of waits = to_be_bytes w32 waits.count ++ waits.encoded
 -- the bytes after the count in the body of a record, if there is one
 abbrev pub encoded_in : Option (List ℕ) → List ℕ
 encoded_in None = []
-encoded_in (Some body) = drop 4 body
+encoded_in (Some body) = drop COUNT body
 
 -- The record has this count in its body. If no command is pending there may be no record.
 abbrev pub IsRecordOf : ℕ → Option (List ℕ) → Type 0
 IsRecordOf count None = count ≡ 0
-IsRecordOf count (Some body) = body ≡ to_be_bytes w32 count ++ drop 4 body
+IsRecordOf count (Some body) = body ≡ to_be_bytes w32 count ++ drop COUNT body
 
--- The bytes of a record between the first eight, its length and the count, and the last one, its gate.
+-- The bytes of a record between its length with the count and its gate.
 abbrev pub encoded_between : List ℕ → List ℕ
-encoded_between bytes = take (length bytes - 9) (drop 8 bytes)
+encoded_between bytes = take (length bytes - (FRAME + COUNT)) (drop (LENGTH + COUNT) bytes)

@@ -6,12 +6,15 @@ use Rattle.wf_value.specs.declared.refusal.Refusal.{Refusal}
 use Rattle.wf_value.specs.declared.refusal.Refusal.TheVariants.{Numbered}
 use Rattle.wf_value.specs.Gives.{no_memory}
 use Rattle.act_disk.specs.Failed.{device_failed}
+use Rattle.gated_journal.specs.declared.lengths.TheConstants.{FRAME, GATE}
 use Rattle.run_plan.specs.declared.command.Command.{Command}
 use Rattle.run_table.specs.Step.{empty, stepped}
 use Rattle.table_text.specs.Commands.{batch}
 use Rattle.act_store.specs.Layouts.{has_command}
 use Rattle.act_store.specs.StoreState.{StoreState, pending_commands, table_of}
+use Rattle.act_store.specs.declared.apply.TheConstants.{MAX_ENTRIES}
 use Rattle.act_store.specs.declared.entry.Entry.{Entry}
+use Rattle.act_store.specs.declared.init.TheConstants.{USED}
 use Rattle.act_store.specs.declared.layout.Layout.TheVariants as layouts
 use Rattle.act_store.specs.declared.receipt.Receipt.{Receipt}
 
@@ -30,17 +33,17 @@ abbrev pub old_layout : Refusal
 old_layout = Numbered OldLayout
 
 -- a checkpoint call or `turn_over` out of order
-abbrev pub checkpoint_turn : Refusal
-checkpoint_turn = Numbered CheckpointTurn
+abbrev pub checkpoint_order : Refusal
+checkpoint_order = Numbered CheckpointTurn
 
 -- the length of the batch of these commands
 abbrev pub batch_length : List Command → ℕ
 batch_length commands = length (batch.encoding commands)
 
--- The end of a record of these commands: an open gate, the length in four bytes, the batch, and the next gate. An entry is accepted only
+-- The end of a record of these commands: an open gate, the length, the batch, and the next gate. An entry is accepted only
 -- if its record fits, so a commit never fails for lack of space.
 abbrev pub record_end : {D : Type 0} → StoreState D → List Command → ℕ
-record_end s commands = s.used + 5 + batch_length commands + 1
+record_end s commands = s.used + FRAME + batch_length commands + GATE
 
 -- ---- apply
 
@@ -53,7 +56,7 @@ refusal_of_form s command = if has_command s.layout command then refusal_of_room
 
 abbrev pub refusal_of_apply : {D : Type 0} → StoreState D → Command → Option Refusal
 refusal_of_apply s command =
-    if s.failed then Some failed_earlier else (if nat_le 100000 (length s.history) then Some history_full else refusal_of_form s command)
+    if s.failed then Some failed_earlier else (if nat_le MAX_ENTRIES (length s.history) then Some history_full else refusal_of_form s command)
 
 -- the entry of a command at the end of the history
 abbrev pub entry_of : {D : Type 0} → StoreState D → ℕ → Command → Entry
@@ -73,7 +76,7 @@ refusal_of_commit s = if s.failed then Some failed_earlier else None
 
 -- the offset of the next record once the pending entries are in one
 abbrev pub used_after : {D : Type 0} → StoreState D → ℕ
-used_after s = s.used + 5 + batch_length (pending_commands s)
+used_after s = s.used + FRAME + batch_length (pending_commands s)
 
 -- all entries are covered
 abbrev pub committed : {D : Type 0} → StoreState D → D → StoreState D
@@ -86,10 +89,10 @@ broken s disk = record s { disk = disk; failed = true }
 -- ---- turn_over
 
 -- it is out of order while a checkpoint is in progress or an entry is not covered
-abbrev pub refusal_of_turning : {D : Type 0} → StoreState D → Option Refusal
-refusal_of_turning s =
+abbrev pub refusal_of_turn_over : {D : Type 0} → StoreState D → Option Refusal
+refusal_of_turn_over s =
     if s.failed then Some failed_earlier
-    else (if is_some s.begun || nat_lt s.covered (length s.history) then Some checkpoint_turn else None)
+    else (if is_some s.begun || nat_lt s.covered (length s.history) then Some checkpoint_order else None)
 
 -- the history restarts at the current table
 abbrev pub turned_over : {D : Type 0} → StoreState D → StoreState D
@@ -109,7 +112,7 @@ fresh disk area = record {
   base = empty;
   history = [];
   covered = 0;
-  used = 30;
+  used = USED;
   generation = 1;
   layout = layouts.Second;
   begun = None;

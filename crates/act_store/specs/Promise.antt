@@ -4,7 +4,7 @@ use Rattle.std.specs.List.{AllByRecursion}
 use Rattle.act_disk.specs.Images.{Holds}
 use Rattle.gated_journal.specs.Layout.{Head, head_bytes, opened}
 use Rattle.gated_journal.specs.TwoAreas.{other, start_of}
-use Rattle.gated_journal.specs.Whole.{StandsWhole}
+use Rattle.gated_journal.specs.Whole.{RecoversWhole}
 use Rattle.gated_journal.specs.declared.gate.Gate.{Gate}
 use Rattle.gated_journal.specs.declared.gate.Gate.TheVariants.{Closed}
 use Rattle.gated_journal.specs.declared.side.Side.{Side}
@@ -19,6 +19,7 @@ use Rattle.act_store.specs.Meaning.{MeansTable}
 use Rattle.act_store.specs.Plain.{record_end}
 use Rattle.act_store.specs.TableText.{EncodesTable}
 use Rattle.act_store.specs.PendingBatch.{BatchState, batch_state_of}
+use Rattle.act_store.specs.declared.apply.TheConstants.{MAX_ENTRIES}
 use Rattle.act_store.specs.declared.begun.Begun.{Begun}
 use Rattle.act_store.specs.declared.entry.Entry.{Entry}
 use Rattle.act_store.specs.declared.layout.Layout.{Layout}
@@ -29,7 +30,7 @@ pub record IsSettled (len : ℕ) (side : Side) (gate : Gate) (generation used : 
     (table : TableState) (images : List ℕ → Type 0) : Type 0 where
   pub head : Head
   pub bodies : List (List ℕ)
-  pub each : (c : List ℕ) → images c → StandsWhole len side gate c head bodies
+  pub each : (c : List ℕ) → images c → RecoversWhole len side gate c head bodies
   pub used_is : used ≡ length (opened head bodies)
   pub generation_is : generation ≡ head.generation
   pub layout_is : layout_of head.version ≡ Some layout
@@ -37,7 +38,7 @@ pub record IsSettled (len : ℕ) (side : Side) (gate : Gate) (generation used : 
 
 -- Each image recovers to the covered entries or to all. This also holds for a failed store, since its history grows no more. Until the
 -- store fails, all images agree on the covered entries, as the next record requires.
-pub record IsStanding {D : Type 0} (images : D → List ℕ → Type 0) (side : Side) (gate : Gate) (s : StoreState D) : Type 0 where
+pub record IsConsistent {D : Type 0} (images : D → List ℕ → Type 0) (side : Side) (gate : Gate) (s : StoreState D) : Type 0 where
   pub each : (c : List ℕ) → images s.disk c → RecoversToEither s c
   pub settled : s.failed ≡ false → IsSettled s.area side gate s.generation s.used s.layout (covered_table s) (images s.disk)
 
@@ -48,7 +49,7 @@ pub record IsCounted {D : Type 0} (s : StoreState D) (table : TableState) (pendi
   pub legal : IsLegal s.base s.history
   pub table_is : table ≡ table_of s
   pub covers : s.covered ≤ length s.history
-  pub most : length s.history ≤ 100000
+  pub most : length s.history ≤ MAX_ENTRIES
   pub size : IsAreaLength s.area
   pub gate_fits : s.used < s.area
   pub record_fits : s.covered < length s.history → record_end s (pending_commands s) ≤ s.area
@@ -61,16 +62,16 @@ pub record IsCounted {D : Type 0} (s : StoreState D) (table : TableState) (pendi
 pub record IsSnapshot (base : TableState) (history : List Entry) (generation area : ℕ) (b : Begun) : Type 0 where
   pub text : List ℕ
   pub encodes : EncodesTable layouts.Second (table_after base (take b.place history)) text
-  pub front_is : b.front.items ≡ head_bytes (record { version = current_version; generation = generation + 1; text = text })
+  pub prefix_is : b.prefix.items ≡ head_bytes (record { version = current_version; generation = generation + 1; text = text })
   pub place : b.place ≤ length history
-  pub put : b.put ≤ length b.front.items
+  pub put : b.put ≤ length b.prefix.items
   pub newer : generation + 1 < 2 ^ 64
-  pub fits : 2 + length b.front.items ≤ area
+  pub fits : 2 + length b.prefix.items ≤ area
 
 -- Its state on the disk: the gate of the other area is closed, and a read finds what was put after that gate.
 pub record IsPut (area : ℕ) (side : Side) (gate : Gate) (seen : List ℕ) (b : Begun) : Type 0 where
   pub closed : gate ≡ Closed
-  pub held : Holds seen (start_of area (other side) + 1) (take b.put b.front.items)
+  pub held : Holds seen (start_of area (other side) + 1) (take b.put b.prefix.items)
 
 -- Both, for a checkpoint of a store on an honest or dishonest disk. Once the store has failed, nothing is known of the disk.
 abbrev pub IsBegun : TableState → List Entry → ℕ → ℕ → Side → Gate → Type 0 → Bool → List ℕ → Begun → Type 0

@@ -31,11 +31,11 @@ LeadTo life [] table = EndsAt life table
 LeadTo life (next ∷ lives) table = EndsAt life next.base × LeadTo next lives table
 
 -- the recovered commands of these lives
-abbrev pub asked_in : (life : Life) (lives : List Life) (table : TableState) → LeadTo life lives table → List Command
-asked_in life [] table leads = commands_of (take leads.count life.history)
-asked_in life (next ∷ lives) table leads = commands_of (take leads.0.count life.history) ++ asked_in next lives table leads.1
+abbrev pub requested_in : (life : Life) (lives : List Life) (table : TableState) → LeadTo life lives table → List Command
+requested_in life [] table leads = commands_of (take leads.count life.history)
+requested_in life (next ∷ lives) table leads = commands_of (take leads.0.count life.history) ++ requested_in next lives table leads.1
 
 -- The entry is a covered one, after these.
-pub record IsAcknowledged (life : Life) (before : List Entry) (entry : Entry) (behind : List Entry) : Type 0 where
-  pub stands_at : life.history ≡ before ++ entry ∷ behind
+pub record IsAcknowledged (life : Life) (before : List Entry) (entry : Entry) (suffix : List Entry) : Type 0 where
+  pub is_at : life.history ≡ before ++ entry ∷ suffix
   pub covered : length before < life.covered

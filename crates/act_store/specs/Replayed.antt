@@ -7,7 +7,7 @@ use Rattle.run_table.specs.Histories.{after}
 use Rattle.run_table.specs.TableState.{TableState}
 use Rattle.table_text.specs.Format.{Encodes}
 use Rattle.act_store.specs.Layouts.{batch_format}
-use Rattle.act_store.specs.Meaning.{SpellCommands}
+use Rattle.act_store.specs.Meaning.{EncodeCommands}
 use Rattle.act_store.specs.declared.layout.Layout.{Layout}
 
 -- In this layout the body encodes a batch that leads from one table to the other, or it encodes none.
@@ -19,7 +19,7 @@ IsCarried layout body table None = (commands : List Command) → Encodes (batch_
 abbrev pub IsReplayed : Layout → List ℕ → TableState → Option TableState → Type 0
 IsReplayed layout records table (Some last) =
     (bodies : List (List ℕ)) → AllByRecursion (λ body. length body < 2 ^ 32) bodies → records ≡ record_bytes bodies
-    → (commands : List Command) × SpellCommands layout bodies commands × (after table commands ≡ last)
+    → (commands : List Command) × EncodeCommands layout bodies commands × (after table commands ≡ last)
 IsReplayed layout records table None =
     (bodies : List (List ℕ)) (commands : List Command) → AllByRecursion (λ body. length body < 2 ^ 32) bodies
-    → records ≡ record_bytes bodies → SpellCommands layout bodies commands → ⊥
+    → records ≡ record_bytes bodies → EncodeCommands layout bodies commands → ⊥

@@ -16,7 +16,7 @@ use Rattle.act_store.specs.Plain.{broken, committed, entered, refusal_of_apply, 
 use Rattle.act_store.specs.FaultCauses.{IsCause}
 use Rattle.act_store.specs.declared.entry.Entry.{Entry}
 use Rattle.act_store.specs.declared.step.Step.{Step}
-use Rattle.act_store.specs.declared.step.Step.TheVariants as asked
+use Rattle.act_store.specs.declared.step.Step.TheVariants as requested
 use Rattle.act_store.specs.declared.step.Played.{Played}
 use Rattle.act_store.specs.declared.step.Played.TheVariants as told
 
@@ -24,11 +24,11 @@ use Rattle.act_store.specs.declared.step.Played.TheVariants as told
 
 -- the cause of a refusal, whether or not memory is available
 abbrev pub refusal_of : {D : Type 0} → StoreState D → Step → Option Refusal
-refusal_of s (asked.Apply command) = refusal_of_apply s command
-refusal_of s asked.Commit = refusal_of_commit s
-refusal_of s asked.Begin = refusal_of_begin s
-refusal_of s asked.Slice = refusal_of_slice s
-refusal_of s asked.Finish = refusal_of_finish s
+refusal_of s (requested.Apply command) = refusal_of_apply s command
+refusal_of s requested.Commit = refusal_of_commit s
+refusal_of s requested.Begin = refusal_of_begin s
+refusal_of s requested.Slice = refusal_of_slice s
+refusal_of s requested.Finish = refusal_of_finish s
 
 abbrev pub is_area_full : Refusal → Bool
 is_area_full (Numbered AreaFull) = true
@@ -36,25 +36,25 @@ is_area_full _ = false
 
 -- The effect of a refused step: none, except that a finish without space for its record drops the checkpoint.
 abbrev pub left_by : {D : Type 0} → StoreState D → Step → Refusal → StoreState D
-left_by s (asked.Apply command) e = s
-left_by s asked.Commit e = s
-left_by s asked.Begin e = s
-left_by s asked.Slice e = s
-left_by s asked.Finish e = if is_area_full e then dropped s else s
+left_by s (requested.Apply command) e = s
+left_by s requested.Commit e = s
+left_by s requested.Begin e = s
+left_by s requested.Slice e = s
+left_by s requested.Finish e = if is_area_full e then dropped s else s
 
 abbrev pub MayTakeMemory : Step → Type 0
-MayTakeMemory (asked.Apply command) = ⊤
-MayTakeMemory asked.Commit = ⊥
-MayTakeMemory asked.Begin = ⊤
-MayTakeMemory asked.Slice = ⊥
-MayTakeMemory asked.Finish = ⊤
+MayTakeMemory (requested.Apply command) = ⊤
+MayTakeMemory requested.Commit = ⊥
+MayTakeMemory requested.Begin = ⊤
+MayTakeMemory requested.Slice = ⊥
+MayTakeMemory requested.Finish = ⊤
 
 abbrev pub MayCallDevice : {D : Type 0} → StoreState D → Step → Type 0
-MayCallDevice s (asked.Apply command) = ⊥
-MayCallDevice s asked.Commit = s.covered < length s.history
-MayCallDevice s asked.Begin = ⊤
-MayCallDevice s asked.Slice = ⊤
-MayCallDevice s asked.Finish = ⊤
+MayCallDevice s (requested.Apply command) = ⊥
+MayCallDevice s requested.Commit = s.covered < length s.history
+MayCallDevice s requested.Begin = ⊤
+MayCallDevice s requested.Slice = ⊤
+MayCallDevice s requested.Finish = ⊤
 
 -- The step was refused for its cause. Without a cause, either it ran out of memory and nothing changed, or the device failed and the store
 -- with it.
@@ -75,19 +75,19 @@ pub record Covers {D : Type 0} (old : StoreState D) (count : ℕ) (new : StoreSt
 
 -- a command is applied for seat 0
 abbrev pub Replies : {D : Type 0} → StoreState D → Step → Reply → StoreState D → Type 0
-Replies old (asked.Apply command) reply new = (new ≡ entered old 0 command) × (reply ≡ (stepped (table_of old) command).reply)
-Replies old asked.Commit reply new = ⊥
-Replies old asked.Begin reply new = ⊥
-Replies old asked.Slice reply new = ⊥
-Replies old asked.Finish reply new = ⊥
+Replies old (requested.Apply command) reply new = (new ≡ entered old 0 command) × (reply ≡ (stepped (table_of old) command).reply)
+Replies old requested.Commit reply new = ⊥
+Replies old requested.Begin reply new = ⊥
+Replies old requested.Slice reply new = ⊥
+Replies old requested.Finish reply new = ⊥
 
 -- the number of covered entries, or of bytes left to write
 abbrev pub Counts : {D : Type 0} → StoreState D → Step → ℕ → StoreState D → Type 0
-Counts old (asked.Apply command) count new = ⊥
-Counts old asked.Commit count new = Covers old count new
-Counts old asked.Begin count new = (new ≡ begun_at old new.disk) × (count ≡ 17 + text_length (table_of old))
-Counts old asked.Slice count new = (new ≡ sliced old new.disk) × (count ≡ left_of new.begun)
-Counts old asked.Finish count new = IsFinished old new × (count ≡ length old.history)
+Counts old (requested.Apply command) count new = ⊥
+Counts old requested.Commit count new = Covers old count new
+Counts old requested.Begin count new = (new ≡ begun_at old new.disk) × (count ≡ 17 + text_length (table_of old))
+Counts old requested.Slice count new = (new ≡ sliced old new.disk) × (count ≡ left_of new.begun)
+Counts old requested.Finish count new = IsFinished old new × (count ≡ length old.history)
 
 -- One step leads from one store to another, with this answer.
 abbrev pub Takes : {D : Type 0} → StoreState D → Step → Played → StoreState D → Type 0

@@ -3,7 +3,7 @@ use Rattle.std.specs.Prelude.{◌≡◌, ◌⊎◌, ℕ, ◌≤◌, List, length
 use Rattle.run_plan.specs.declared.command.Command.{Command}
 use Rattle.run_table.specs.TableState.{TableState}
 use Rattle.act_store.specs.Entries.{commands_of, table_after}
-use Rattle.act_store.specs.Images.{StandsAt, RecoversTo}
+use Rattle.act_store.specs.Images.{RecoversFrom, RecoversTo}
 use Rattle.act_store.specs.declared.entry.Entry.{Entry}
 use Rattle.act_store.specs.declared.layout.Layout.{Layout}
 
@@ -53,13 +53,13 @@ RecoversToEither s c = RecoversTo (covered_table s) c ⊎ RecoversTo (table_of s
 
 -- If the store has not failed, each image recovers to exactly the covered entries. It does so from the area of the store's generation and
 -- layout, whose records end where the next one goes.
-abbrev pub StandForCovered : {D : Type 0} → (D → List ℕ → Type 0) → StoreState D → Type 0
-StandForCovered images s =
-    s.failed ≡ false → (c : List ℕ) → images s.disk c → StandsAt s.generation s.used s.layout (covered_table s) c
+abbrev pub RecoverToCovered : {D : Type 0} → (D → List ℕ → Type 0) → StoreState D → Type 0
+RecoverToCovered images s =
+    s.failed ≡ false → (c : List ℕ) → images s.disk c → RecoversFrom s.generation s.used s.layout (covered_table s) c
 
 -- An image recovers to some first entries of a history, at least `least` of them.
 pub record RecoversToSome (base : TableState) (history : List Entry) (least : ℕ) (image : List ℕ) : Type 0 where
   pub count : ℕ
   pub from : least ≤ count
   pub within : count ≤ length history
-  pub stands : RecoversTo (table_after base (take count history)) image
+  pub recovers : RecoversTo (table_after base (take count history)) image

@@ -8,25 +8,26 @@ ghost use Rattle.table_text.specs.Commands.{IsEncoded, command_bytes};
 ghost use Rattle.act_store.specs.StoreState.{RecoversToEither};
 ghost use Rattle.act_store.specs.Plain.{entered, receipt_of, refusal_of_apply};
 ghost use Rattle.act_store.specs.PendingBatch.{with_command};
+ghost use Rattle.act_store.specs.declared.pending_batch.TheConstants.{COUNT};
 
 use crate::entry::Entry;
-use crate::lengths::{GATE, LENGTH};
 use crate::pending_batch::PendingBatch;
 use crate::receipt::Receipt;
 use crate::store::Store;
 use act_disk::Disk;
+use gated_journal::lengths::{GATE, LENGTH};
 use run_plan::{Command, Reply};
 use run_table::Table;
 use std::alloc::Global;
 use wf_value::{Code, Refusal};
 
 /// The most entries of a history.
-const MAX_ENTRIES: usize = 100_000;
+pub const MAX_ENTRIES: usize = 100_000;
 
 impl<D: Disk> Store<D> {
     /// Carries out a command and appends it to the history with its reply. It makes no device call.
     ///
-    /// It is refused, whether or not memory is available, with 52 if the device has failed; else with 46 if the history has 100,000
+    /// It is refused, whether or not memory is available, with 52 if the device has failed; else with 46 if the history has `MAX_ENTRIES`
     /// entries; else with 57 if the active area has the first layout and the command asks for an attempt; else with 47 if the record of
     /// all entries that are not covered, including this one, does not fit the area. The only other failure is out of memory, 50. A refused
     /// command is not entered, and the store does not change.
@@ -89,7 +90,7 @@ fn enter(
     command: Command,
 ) -> Result<Reply, Refusal>
     requires few { pending_batch.old.count + 1 < 2 ^ 32 }
-    requires fits { 4 + length pending_batch.old.encoded + length (command_bytes command) < 2 ^ 32 }
+    requires fits { COUNT + length pending_batch.old.encoded + length (command_bytes command) < 2 ^ 32 }
     ensures reply { IfOk result (λ reply. reply ≡ (stepped table.old command).reply) }
     ensures table { IfOk result (λ _. table.new ≡ (stepped table.old command).table) }
     ensures history { IfOk result (λ _. history.new.items ≡ history.old.items
@@ -120,7 +121,7 @@ fn make_room(
     command: &Command,
 ) -> Result<(), Refusal>
     requires few { pending_batch.old.count + 1 < 2 ^ 32 }
-    requires fits { 4 + length pending_batch.old.encoded + length (command_bytes command.now) < 2 ^ 32 }
+    requires fits { COUNT + length pending_batch.old.encoded + length (command_bytes command.now) < 2 ^ 32 }
     ensures room { OnOk result (vec_len history.new < vec_capacity history.new) }
     ensures pending_batch { OnOk result (pending_batch.new ≡ with_command pending_batch.old command.now) }
     ensures encoded { OnOk result (IsEncoded command.now) }

@@ -16,10 +16,10 @@ ghost use Rattle.act_store.specs.FaultCauses.{TellsFault};
 
 use crate::begun::Begun;
 use crate::layout::Layout;
-use crate::lengths::{GATE, HEAD};
 use crate::store::Store;
 use act_disk::Disk;
 use gated_journal::Gate;
+use gated_journal::lengths::{GATE, HEAD};
 use run_table::Table;
 use std::alloc::Global;
 use table_text::{table_length, write_table};
@@ -27,7 +27,7 @@ use wf_value::{Code, Refusal};
 
 impl<D: Disk> Store<D> {
     /// Begins a checkpoint: encodes the current table, and closes the gate of the other area if it is open; otherwise it makes no device
-    /// call. It returns how many bytes are to be written: 17 more than the text in the second layout.
+    /// call. It returns how many bytes are to be written: the head and the text in the second layout.
     ///
     /// It is refused, whether or not memory is available, with 52 if the device has failed; else with 56 if a checkpoint is in progress;
     /// else with 48 if the generation is the last one; else with 47 if the text does not fit an area. The only other failures are 50, and
@@ -50,7 +50,7 @@ impl<D: Disk> Store<D> {
         if let Some(refusal) = self.refusal_of_begin() {
             return Err(refusal);
         }
-        let front = area_header(alloc, self.generation + 1, &self.table)?;
+        let prefix = area_header(alloc, self.generation + 1, &self.table)?;
         let areas = self.areas;
         match areas.close_other(&mut self.disk, self.other) {
             Err(fault) => {
@@ -58,11 +58,11 @@ impl<D: Disk> Store<D> {
                 Err(Refusal::from(fault))
             }
             Ok(()) => {
-                let left = front.len() as u64;
+                let left = prefix.len() as u64;
                 self.other = Gate::Closed;
                 self.begun = Some(Begun {
                     place: self.history.len(),
-                    front,
+                    prefix,
                     put: 0,
                 });
                 Ok(left)
@@ -91,13 +91,13 @@ impl<D: Disk> Store<D> {
 
     /// Whether the text of the current table fits an area.
     fn text_fits(&self) -> bool
-        ensures { result ≡ not (nat_lt self.now.area (first_gate (text_length (table_of self.now)) + 1)) }
+        ensures { result ≡ not (nat_lt self.now.area (first_gate (text_length (table_of self.now)) + GATE)) }
     {
         // More runners cannot be encoded; their text would not fit.
         if self.table.runners().len() > u32::MAX as usize {
             return false;
         }
-        table_length(&self.table) <= self.areas.len - (HEAD + GATE)
+        table_length(&self.table) <= self.areas.len - (GATE + HEAD + GATE)
     }
 }
 
@@ -106,7 +106,7 @@ impl<D: Disk> Store<D> {
 fn area_header(alloc: Global, generation: u64, table: &Table) -> Result<Vec<u8>, Refusal>
     requires few { length table.now.runners ≤ 4294967295 }
     requires sound { IsSound table.now }
-    ensures front { IfOk result (λ bytes. bytes.items
+    ensures prefix { IfOk result (λ bytes. bytes.items
         ≡ head_bytes (record { version = current_version; generation = generation; text = whole_table.encoding table.now })) }
     ensures encodes { OnOk result (EncodesTable layouts.Second table.now (whole_table.encoding table.now)) }
     ensures refused { IfErr result (λ e. e ≡ no_memory) }

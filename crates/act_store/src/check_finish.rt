@@ -12,9 +12,10 @@ ghost use Rattle.act_store.specs.FaultCauses.{TellsFault};
 use crate::begun::Begun;
 use crate::last_part::{encoded_len, last_part};
 use crate::layout::Layout;
-use crate::lengths::{COUNT, GATE, LENGTH};
+use crate::pending_batch::COUNT;
 use crate::store::Store;
 use act_disk::Disk;
+use gated_journal::lengths::{GATE, HEAD, LENGTH};
 use gated_journal::{AreaPair, Gate};
 use std::alloc::Global;
 use wf_value::{Code, Refusal};
@@ -30,7 +31,7 @@ impl<D: Disk> Store<D> {
     pub fn check_finish(&mut self, alloc: Global) -> Result<u64, Refusal>
         ensures any_moment { D.honest self.old.disk
             → EachSince D.moment D.images_since self.old.disk self.new.disk (RecoversToEither self.old) }
-        ensures stands { OnOk result (D.honest self.new.disk → (c : List ℕ) → D.images self.new.disk c → RecoversTo (table_of self.old) c) }
+        ensures recovers { OnOk result (D.honest self.new.disk → (c : List ℕ) → D.images self.new.disk c → RecoversTo (table_of self.old) c) }
         ensures finished { OnOk result (IsFinished self.old self.new) }
         ensures covered { IfOk result (λ count. count ≡ length self.old.history) }
         ensures grows { self.old.covered ≤ self.new.covered }
@@ -54,7 +55,7 @@ impl<D: Disk> Store<D> {
         let Some(begun) = &self.begun else {
             return Err(Refusal::Numbered(Code::CheckpointTurn));
         };
-        let at = 1 + begun.front.len() as u64;
+        let at = 1 + begun.prefix.len() as u64;
         let last = last_part(alloc, &self.history[begun.place..])?;
         let areas = self.areas;
         match areas.switch(&mut self.disk, at, last.as_slice()) {
@@ -89,7 +90,7 @@ impl<D: Disk> Store<D> {
         let Some(begun) = &self.begun else {
             return Some(Refusal::Numbered(Code::CheckpointTurn));
         };
-        if begun.put < begun.front.len() {
+        if begun.put < begun.prefix.len() {
             return Some(Refusal::Numbered(Code::CheckpointTurn));
         }
         if !self.last_fits(begun) {
@@ -101,8 +102,8 @@ impl<D: Disk> Store<D> {
     /// Whether the record of the entries since a checkpoint was begun fits after its text.
     fn last_fits(&self, begun: &Begun) -> bool
         requires place { begun.now.place ≤ length self.now.history }
-        requires head { 17 ≤ length begun.now.front.items }
-        requires fits { 2 + length begun.now.front.items ≤ self.now.area }
+        requires head { HEAD ≤ length begun.now.prefix.items }
+        requires fits { 2 + length begun.now.prefix.items ≤ self.now.area }
         ensures { result ≡ not (has_no_room self.now (as_checkpoint begun.now)) }
     {
         let since = &self.history[begun.place..];
@@ -110,6 +111,6 @@ impl<D: Disk> Store<D> {
             return true;
         }
         let record = GATE + LENGTH + COUNT + encoded_len(since) + GATE;
-        begun.front.len() as u64 + record < self.areas.len
+        begun.prefix.len() as u64 + record < self.areas.len
     }
 }

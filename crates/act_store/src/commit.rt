@@ -2,7 +2,7 @@ ghost use Rattle.std.specs.Prelude.{◌≡◌, ◌↔◌, ◌+◌, ◌<◌, ◌�
 ghost use Rattle.act_disk.specs.Failed.{device_failed};
 ghost use Rattle.act_disk.specs.Images.{EachSince, CountsFault};
 ghost use Rattle.act_store.specs.Images.{RecoversTo};
-ghost use Rattle.act_store.specs.StoreState.{StandForCovered, RecoversToEither, table_of};
+ghost use Rattle.act_store.specs.StoreState.{RecoverToCovered, RecoversToEither, table_of};
 ghost use Rattle.act_store.specs.Plain.{broken, committed, failed_earlier};
 
 use crate::store::Store;
@@ -18,8 +18,8 @@ impl<D: Disk> Store<D> {
     pub fn commit(&mut self) -> Result<u64, Refusal>
         ensures any_moment { D.honest self.old.disk
             → EachSince D.moment D.images_since self.old.disk self.new.disk (RecoversToEither self.old) }
-        ensures stands { OnOk result (D.honest self.new.disk → (c : List ℕ) → D.images self.new.disk c → RecoversTo (table_of self.old) c) }
-        ensures exact { D.honest self.new.disk → StandForCovered D.images self.new }
+        ensures recovers { OnOk result (D.honest self.new.disk → (c : List ℕ) → D.images self.new.disk c → RecoversTo (table_of self.old) c) }
+        ensures exact { D.honest self.new.disk → RecoverToCovered D.images self.new }
         ensures covered { IfOk result (λ count. (count ≡ length self.old.history) × (self.new.covered ≡ count)) }
         ensures grows { self.old.covered ≤ self.new.covered }
         ensures failed { self.old.failed ≡ true → (result ≡ Err failed_earlier) × (self.new ≡ self.old) }

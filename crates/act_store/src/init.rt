@@ -15,9 +15,15 @@ use std::alloc::Global;
 use std::snapshot::Snapshot;
 use wf_value::{Code, Refusal};
 
+/// The least length of an area, in bytes.
+pub const MIN_AREA: u64 = 4_096;
+
+/// The greatest length of an area, in bytes.
+pub const MAX_AREA: u64 = 1_073_741_824;
+
 /// The contents of the first area of a new store, with a closed gate: the second layout, generation 1, the length-prefixed text of the
 /// empty table, and a closed gate.
-const FRONT: [u8; 31] = [
+const EMPTY_AREA: [u8; 31] = [
     0, 2, 0, 0, 0, 0, 0, 0, 0, 1, 0, 0, 0, 0, 0, 0, 0, 12, 0, 0, 0, 0, 0, 0, 0, 0, 0, 0, 0, 0, 0,
 ];
 
@@ -30,11 +36,11 @@ impl<D: Disk> Store<D> {
     /// A disk that is not empty is refused with 55. Every refusal returns the disk.
     pub fn init(alloc: Global, disk: D, area: u64) -> Result<Store<D>, (D, Refusal)>
         requires countable { D.fault_count disk < u64.MAX }
-        requires least { 4096 ≤ area }
-        requires most { area ≤ 1073741824 }
+        requires least { MIN_AREA ≤ area }
+        requires most { area ≤ MAX_AREA }
         ensures made { IfOk result (λ s. s ≡ fresh s.disk area) }
         ensures size { IfOk result (λ s. D.size s.disk ≡ area + area) }
-        ensures stands { IfOk result (λ s. D.honest s.disk → (c : List ℕ) → D.images s.disk c → RecoversTo empty c) }
+        ensures recovers { IfOk result (λ s. D.honest s.disk → (c : List ℕ) → D.images s.disk c → RecoversTo empty c) }
         ensures occupied { (D.size disk ≡ 0 → ⊥) → result ≡ Err (disk, disk_not_empty) }
         ensures refused { IfErr result (λ e. D.size disk ≡ 0 → (e.1 ≡ device_failed) × (D.fault_count e.0 ≡ D.fault_count disk + 1)) }
         ensures faults { IfOk result (λ s. D.fault_count s.disk ≡ D.fault_count disk) }
@@ -45,7 +51,7 @@ impl<D: Disk> Store<D> {
         if disk.len() != 0 {
             return Err((disk, Refusal::Numbered(Code::DiskNotEmpty)));
         }
-        match make_areas(&mut disk, area, &FRONT) {
+        match make_areas(&mut disk, area, &EMPTY_AREA) {
             Err(fault) => Err((disk, Refusal::from(fault))),
             Ok(()) => {
                 let table = Table::new(alloc);

@@ -5,6 +5,8 @@ ghost use Rattle.table_text.specs.Commands.{IsEncoded, command_bytes};
 ghost use Rattle.act_store.specs.Entries.{commands_of};
 ghost use Rattle.act_store.specs.LastPart.{last_part};
 ghost use Rattle.act_store.specs.PendingBatch.{batch_state_of};
+ghost use Rattle.act_store.specs.declared.apply.TheConstants.{MAX_ENTRIES};
+ghost use Rattle.act_store.specs.declared.pending_batch.TheConstants.{COUNT};
 
 use crate::entry::Entry;
 use crate::pending_batch::PendingBatch;
@@ -15,9 +17,9 @@ use wf_value::Refusal;
 
 /// The length of the encoded commands of some entries.
 pub(crate) fn encoded_len(entries: &[Entry]) -> u64
-    requires { length entries.now ≤ 100000 }
+    requires { length entries.now ≤ MAX_ENTRIES }
     ensures length { result ≡ length (flat_map command_bytes (commands_of entries.now)) }
-    ensures most { result ≤ 65677 * 100000 }
+    ensures most { result ≤ 65677 * MAX_ENTRIES }
 {
     let mut total: u64 = 0;
     for entry in entries {
@@ -28,8 +30,8 @@ pub(crate) fn encoded_len(entries: &[Entry]) -> u64
 
 /// The commands of some entries, encoded in a record.
 fn waiting_of(alloc: Global, entries: &[Entry]) -> Result<PendingBatch, Refusal>
-    requires few { length entries.now ≤ 100000 }
-    requires fits { 4 + length (flat_map command_bytes (commands_of entries.now)) < 2 ^ 32 }
+    requires few { length entries.now ≤ MAX_ENTRIES }
+    requires fits { COUNT + length (flat_map command_bytes (commands_of entries.now)) < 2 ^ 32 }
     ensures waits { IfOk result (λ waits. waits ≡ batch_state_of (commands_of entries.now)) }
     ensures encoded { OnOk result (AllByRecursion IsEncoded (commands_of entries.now)) }
     ensures refused { IfErr result (λ e. e ≡ no_memory) }
@@ -43,8 +45,8 @@ fn waiting_of(alloc: Global, entries: &[Entry]) -> Result<PendingBatch, Refusal>
 
 /// The last part that a checkpoint writes: one record of the entries, if there are any, and the gate after it.
 pub(crate) fn last_part(alloc: Global, entries: &[Entry]) -> Result<Vec<u8>, Refusal>
-    requires few { length entries.now ≤ 100000 }
-    requires fits { 4 + length (flat_map command_bytes (commands_of entries.now)) < 2 ^ 32 }
+    requires few { length entries.now ≤ MAX_ENTRIES }
+    requires fits { COUNT + length (flat_map command_bytes (commands_of entries.now)) < 2 ^ 32 }
     ensures bytes { IfOk result (λ bytes. bytes.items ≡ last_part (commands_of entries.now)) }
     ensures encoded { OnOk result (AllByRecursion IsEncoded (commands_of entries.now)) }
     ensures refused { IfErr result (λ e. e ≡ no_memory) }

@@ -8,11 +8,11 @@ ghost use Rattle.run_plan.specs.declared.reply.Reply.TheVariants as reply;
 ghost use Rattle.run_table.specs.Histories.{replies};
 ghost use Rattle.run_table.specs.Step.{step, stepped};
 ghost use Rattle.run_table.specs.TableState.{TableState};
-ghost use Rattle.table_laws.specs.ExactlyOnce.{HasTurn, IsRefused};
-ghost use Rattle.table_laws.specs.Remembered.{AreNoLaterTurns, AreNoOtherAttempts};
+ghost use Rattle.table_laws.specs.ExactlyOnce.{HasNumber, IsRefused};
+ghost use Rattle.table_laws.specs.Remembered.{AreNoLaterNumbers, AreNoOtherAttempts};
 ghost use Rattle.act_store.specs.Entries.{table_after};
 ghost use Rattle.act_store.specs.Images.{RecoversTo};
-ghost use Rattle.act_store.specs.Reopened.{IsAcknowledged, LeadTo, Life, asked_in};
+ghost use Rattle.act_store.specs.Reopened.{IsAcknowledged, LeadTo, Life, requested_in};
 ghost use Rattle.act_store.specs.declared.entry.Entry.{Entry};
 
 /// An image recovers to at most one table.
@@ -24,8 +24,8 @@ pub fn an_image_recovers_to_one_table()
 /// and the table does not change. This holds after any number of crashes and reopenings or turn-overs, and whatever commands come in
 /// between.
 pub fn a_delivery_makes_one_run()
-    ensures { (life : Life) (lives : List Life) (table : TableState) (before behind : List Entry) (entry : Entry) (run : ℕ)
-        (event again : Admitted) → LeadTo life lives table → IsAcknowledged life before entry behind
+    ensures { (life : Life) (lives : List Life) (table : TableState) (before suffix : List Entry) (entry : Entry) (run : ℕ)
+        (event again : Admitted) → LeadTo life lives table → IsAcknowledged life before entry suffix
         → entry.command ≡ command.Admit event → entry.reply ≡ reply.Created run → again.delivery ≡ event.delivery
         → step table (command.Admit again) ≡ (table, reply.Created run) }
 {}
@@ -33,21 +33,21 @@ pub fn a_delivery_makes_one_run()
 /// In the same way, a runner that repeats a command that an acknowledged entry carried out gets the reply of that entry, as long as no
 /// later entry carried out a later number of that runner. The table does not change.
 pub fn a_kept_reply_is_given_again()
-    ensures { (life : Life) (lives : List Life) (table : TableState) (before behind : List Entry) (entry : Entry) (number : ℕ)
-        (runner : List ℕ) → (leads : LeadTo life lives table) → IsAcknowledged life before entry behind
-        → HasTurn entry.command runner number → (IsRefused entry.reply → ⊥)
-        → AreNoLaterTurns runner number (drop (length before + 1) (asked_in life lives table leads))
-        (replies (stepped (table_after life.base before) entry.command).table (drop (length before + 1) (asked_in life lives table leads)))
+    ensures { (life : Life) (lives : List Life) (table : TableState) (before suffix : List Entry) (entry : Entry) (number : ℕ)
+        (runner : List ℕ) → (leads : LeadTo life lives table) → IsAcknowledged life before entry suffix
+        → HasNumber entry.command runner number → (IsRefused entry.reply → ⊥)
+        → AreNoLaterNumbers runner number (drop (length before + 1) (requested_in life lives table leads))
+        (replies (stepped (table_after life.base before) entry.command).table (drop (length before + 1) (requested_in life lives table leads)))
         → step table entry.command ≡ (table, entry.reply) }
 {}
 
 /// In the same way, a re-run that an acknowledged entry answered with its attempt is answered with that attempt again, as long as no later
 /// entry began another attempt of that run. The table does not change, so no second attempt begins.
 pub fn an_attempt_begins_once()
-    ensures { (life : Life) (lives : List Life) (table : TableState) (before behind : List Entry) (entry : Entry) (asked : Attempt)
-        → (leads : LeadTo life lives table) → IsAcknowledged life before entry behind
-        → entry.command ≡ command.Rerun asked → entry.reply ≡ reply.Again asked
-        → AreNoOtherAttempts asked.run asked.attempt (drop (length before + 1) (asked_in life lives table leads))
-        (replies (stepped (table_after life.base before) entry.command).table (drop (length before + 1) (asked_in life lives table leads)))
-        → step table (command.Rerun asked) ≡ (table, reply.Again asked) }
+    ensures { (life : Life) (lives : List Life) (table : TableState) (before suffix : List Entry) (entry : Entry) (requested : Attempt)
+        → (leads : LeadTo life lives table) → IsAcknowledged life before entry suffix
+        → entry.command ≡ command.Rerun requested → entry.reply ≡ reply.Again requested
+        → AreNoOtherAttempts requested.run requested.attempt (drop (length before + 1) (requested_in life lives table leads))
+        (replies (stepped (table_after life.base before) entry.command).table (drop (length before + 1) (requested_in life lives table leads)))
+        → step table (command.Rerun requested) ≡ (table, reply.Again requested) }
 {}

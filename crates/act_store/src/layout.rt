@@ -3,7 +3,7 @@
 ghost use Rattle.std.specs.Prelude.{◌≡◌, IfErr, IfOk};
 ghost use Rattle.std.specs.Option.{option_map};
 ghost use Rattle.wf_value.specs.Gives.{no_memory};
-ghost use Rattle.table_text.specs.Format.{StandsAtFront};
+ghost use Rattle.table_text.specs.Format.{ReadsPrefix};
 ghost use Rattle.act_store.specs.Layouts.{batch_format, has_command, layout_byte, layout_of, table_format};
 
 use run_plan::Command;
@@ -59,7 +59,7 @@ impl Layout {
         alloc: Global,
         bytes: &[u8],
     ) -> Result<Option<(Table, &[u8])>, Refusal>
-        ensures front { IfOk result (λ found. StandsAtFront (table_format self) bytes.now (option_map (λ f. (f.0, f.1.now)) found)) }
+        ensures prefix { IfOk result (λ found. ReadsPrefix (table_format self) bytes.now (option_map (λ f. (f.0, f.1.now)) found)) }
         ensures refused { IfErr result (λ e. e ≡ no_memory) }
     {
         match self {
@@ -74,7 +74,7 @@ impl Layout {
         alloc: Global,
         bytes: &[u8],
     ) -> Result<Option<(Vec<Command>, &[u8])>, Refusal>
-        ensures front { IfOk result (λ found. StandsAtFront (batch_format self) bytes.now (option_map (λ f. (f.0.items, f.1.now)) found)) }
+        ensures prefix { IfOk result (λ found. ReadsPrefix (batch_format self) bytes.now (option_map (λ f. (f.0.items, f.1.now)) found)) }
         ensures refused { IfErr result (λ e. e ≡ no_memory) }
     {
         match self {

@@ -3,7 +3,7 @@
 #![tactic(auto)]
 
 mod apply;
-mod area_front;
+mod area_prefix;
 mod begun;
 mod check_begin;
 mod check_finish;
@@ -15,7 +15,6 @@ mod init;
 mod last_part;
 pub mod laws;
 mod layout;
-mod lengths;
 mod located_area;
 mod open;
 mod pending_batch;
@@ -26,7 +25,9 @@ mod step;
 mod store;
 mod turn_over;
 
+pub use apply::MAX_ENTRIES;
 pub use entry::Entry;
+pub use init::{MAX_AREA, MIN_AREA};
 pub use layout::Layout;
 pub use playing::{play, take};
 pub use receipt::Receipt;

@@ -11,17 +11,18 @@ ghost use Rattle.act_store.specs.Plain.{RefusesOpening, TellsNoArea, no_area, no
 ghost use Rattle.act_store.specs.Encoded.{IsHalf, IsEncoded};
 ghost use Rattle.act_store.specs.FaultCauses.{TellsFault};
 
-use crate::area_front::read_front;
+use crate::area_prefix::read_prefix;
 use crate::decoded_area::{DecodedArea, encoded_in};
+use crate::init::{MAX_AREA, MIN_AREA};
 use act_disk::Disk;
 use gated_journal::{Area, AreaPair, Chosen, choose};
 use std::alloc::Global;
 use wf_value::{Code, Refusal};
 
 /// The least and the greatest length of a disk of two areas.
-const LEAST: u64 = 8_192;
+const LEAST: u64 = 2 * MIN_AREA;
 
-const MOST: u64 = 2_147_483_648;
+const MOST: u64 = 2 * MAX_AREA;
 
 /// Half of a disk's length, if that is the length of an area.
 fn area_length(size: u64) -> Option<u64>
@@ -58,7 +59,7 @@ fn encoded_at<D: Disk>(
     ensures faults { TellsFault result (D.fault_count disk.old) (D.fault_count disk.new) }
     ensures refused { IfErr result (λ e. (e ≡ no_memory) ⊎ (e ≡ device_failed)) }
 {
-    let bytes = read_front(alloc, disk, area)?;
+    let bytes = read_prefix(alloc, disk, area)?;
     encoded_in(alloc, bytes.as_slice())
 }
 
@@ -71,7 +72,7 @@ pub(crate) fn find<D: Disk>(alloc: Global, disk: &mut D) -> Result<LocatedArea, 
     ensures sound { IfOk result (λ found. IsSound found.encoded.table) }
     ensures no_area { result ≡ Err no_area → D.honest disk.new → HasNoArea (D.seen disk.old) }
     ensures no_table { result ≡ Err no_table → D.honest disk.new → HasNoTable (D.seen disk.old) }
-    ensures nothing_stands { IfErr result (λ e. D.honest disk.new → HasNoArea (D.seen disk.old) → TellsNoArea e) }
+    ensures tells_no_area { IfErr result (λ e. D.honest disk.new → HasNoArea (D.seen disk.old) → TellsNoArea e) }
     ensures refused { IfErr result RefusesOpening }
     ensures stable { OnOk result (D.honest disk.new → Only (D.seen disk.old) (D.images disk.new)) }
     ensures only_read { OnlyRead D.honest D.seen D.size D.moment D.images D.images_since disk.old disk.new }

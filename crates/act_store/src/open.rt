@@ -1,6 +1,6 @@
 ghost use Rattle.std.specs.Prelude.{◌≡◌, ◌<◌, ◌+◌, ℕ, List, [], IfErr, IfOk, None, false};
 ghost use Rattle.act_disk.specs.Images.{EachSince};
-ghost use Rattle.act_store.specs.Images.{HasNoArea, HasNoTable, StandsAt, RecoversTo};
+ghost use Rattle.act_store.specs.Images.{HasNoArea, HasNoTable, RecoversFrom, RecoversTo};
 ghost use Rattle.act_store.specs.Plain.{RefusesOpening, TellsNoArea, no_area, no_table};
 ghost use Rattle.act_store.specs.FaultCauses.{IsCause};
 
@@ -22,15 +22,15 @@ impl<D: Disk> Store<D> {
     pub fn open(alloc: Global, disk: D) -> Result<Store<D>, (D, Refusal)>
         requires { D.fault_count disk < u64.MAX }
         ensures base { IfOk result (λ s. D.honest s.disk → RecoversTo s.base (D.seen disk)) }
-        ensures stands { IfOk result (λ s. D.honest s.disk → (c : List ℕ) → D.images s.disk c → RecoversTo s.base c) }
+        ensures recovers { IfOk result (λ s. D.honest s.disk → (c : List ℕ) → D.images s.disk c → RecoversTo s.base c) }
         ensures begun { IfOk result (λ s. (s.history ≡ []) × (s.covered ≡ 0) × (s.failed ≡ false)) }
         ensures none_begun { IfOk result (λ s. s.begun ≡ None) }
         // The generation, the layout, and the offset of the next record are those of the active area.
-        ensures place { IfOk result (λ s. D.honest s.disk → StandsAt s.generation s.used s.layout s.base (D.seen disk)) }
+        ensures place { IfOk result (λ s. D.honest s.disk → RecoversFrom s.generation s.used s.layout s.base (D.seen disk)) }
         ensures size { IfOk result (λ s. D.size disk ≡ s.area + s.area) }
         ensures no_area { IfErr result (λ e. e.1 ≡ no_area → D.honest e.0 → HasNoArea (D.seen disk)) }
         ensures no_table { IfErr result (λ e. e.1 ≡ no_table → D.honest e.0 → HasNoTable (D.seen disk)) }
-        ensures nothing_stands { IfErr result (λ e. D.honest e.0 → HasNoArea (D.seen disk) → TellsNoArea e.1) }
+        ensures tells_no_area { IfErr result (λ e. D.honest e.0 → HasNoArea (D.seen disk) → TellsNoArea e.1) }
         ensures refused { IfErr result (λ e. RefusesOpening e.1) }
         ensures any_moment { IfOk result (λ s. D.honest s.disk → EachSince D.moment D.images_since disk s.disk (D.images disk)) }
         ensures any_moment_err { IfErr result (λ e. D.honest e.0 → EachSince D.moment D.images_since disk e.0 (D.images disk)) }

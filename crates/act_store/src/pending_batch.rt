@@ -8,19 +8,22 @@ ghost use Rattle.table_text.specs.Commands.{IsEncoded, command_bytes};
 ghost use Rattle.act_store.specs.Plain.{batch_length};
 ghost use Rattle.act_store.specs.PendingBatch.{body_of, encoded_between, encoded_in, batch_state_of, with_command};
 
-use crate::lengths::{COUNT, GATE, LENGTH};
 use gated_journal::Record;
+use gated_journal::lengths::{FRAME, LENGTH};
 use run_plan::Command;
 use std::alloc::{AllocError, Global};
 use std::marker::Model;
 use table_text::{command_length, write_command};
 use wf_value::Refusal;
 
+/// The length of the number that counts a record's commands. It stands before their encodings.
+pub(crate) const COUNT: u64 = 4;
+
 /// The offset of the command count in a record: after its length.
 const COUNT_AT: usize = LENGTH as usize;
 
 /// The length of a record without commands.
-const EMPTY: usize = (LENGTH + COUNT + GATE) as usize;
+const EMPTY: usize = (FRAME + COUNT) as usize;
 
 /// The pending commands, encoded in their record, which grows in place.
 ///
@@ -101,7 +104,7 @@ impl PendingBatch {
     /// Adds a command. Running out of memory changes nothing.
     pub(crate) fn add(&mut self, alloc: Global, command: &Command) -> Result<(), Refusal>
         requires few { self.old.count + 1 < 2 ^ 32 }
-        requires fits { 4 + length self.old.encoded + length (command_bytes command.now) < 2 ^ 32 }
+        requires fits { COUNT + length self.old.encoded + length (command_bytes command.now) < 2 ^ 32 }
         ensures added { OnOk result (self.new ≡ with_command self.old command.now) }
         ensures encoded { OnOk result (IsEncoded command.now) }
         ensures unchanged { OnErr result (self.new ≡ self.old) }
@@ -136,8 +139,8 @@ impl PendingBatch {
 
 /// The bytes of a record, or of one without commands if there is none.
 fn bytes_of(alloc: Global, held: Option<Record>) -> Result<Vec<u8>, AllocError>
-    requires { IfSome held (λ body. 4 ≤ length body) }
-    ensures long { IfOk result (λ bytes. vec_len bytes ≡ 9 + length (encoded_in held)) }
+    requires { IfSome held (λ body. COUNT ≤ length body) }
+    ensures long { IfOk result (λ bytes. vec_len bytes ≡ FRAME + COUNT + length (encoded_in held)) }
     ensures encoded { IfOk result (λ bytes. encoded_between bytes.items ≡ encoded_in held) }
     ensures none { OnErr result (held ≡ None) }
 {
@@ -149,7 +152,7 @@ fn bytes_of(alloc: Global, held: Option<Record>) -> Result<Vec<u8>, AllocError>
 
 /// Appends the encoding of a command, and moves the last byte after it.
 fn append(bytes: &mut Vec<u8>, command: &Command) -> Result<(), Refusal>
-    requires { 9 ≤ vec_len bytes.old }
+    requires { FRAME + COUNT ≤ vec_len bytes.old }
     ensures long { OnOk result (vec_len bytes.new ≡ vec_len bytes.old + length (command_bytes command.now)) }
     ensures appended { OnOk result (encoded_between bytes.new.items ≡ encoded_between bytes.old.items ++ command_bytes command.now) }
     ensures encoded { OnOk result (IsEncoded command.now) }
@@ -170,10 +173,10 @@ fn move_to_end(bytes: &mut [u8], place: usize)
     bytes[place..].rotate_left(1);
 }
 
-/// The record with this count whose encodings are the bytes between the first eight and the last one.
+/// The record with this count whose encodings are the bytes between the count and the gate.
 fn record_with(bytes: Vec<u8>, count: u32) -> Record
-    requires long { 9 ≤ vec_len bytes }
-    requires short { vec_len bytes < 2 ^ 32 + 5 }
+    requires long { FRAME + COUNT ≤ vec_len bytes }
+    requires short { vec_len bytes < 2 ^ 32 + FRAME }
     ensures { result ≡ to_be_bytes w32 count ++ encoded_between bytes.items }
 {
     let mut bytes = bytes;
@@ -182,8 +185,8 @@ fn record_with(bytes: Vec<u8>, count: u32) -> Record
 }
 
 fn write_count(bytes: &mut [u8], count: u32)
-    requires { 8 ≤ length bytes.old }
-    ensures { bytes.new ≡ take 4 bytes.old ++ (to_be_bytes w32 count ++ drop 8 bytes.old) }
+    requires { LENGTH + COUNT ≤ length bytes.old }
+    ensures { bytes.new ≡ take LENGTH bytes.old ++ (to_be_bytes w32 count ++ drop (LENGTH + COUNT) bytes.old) }
 {
     bytes[COUNT_AT..COUNT_AT + COUNT as usize].copy_from_slice(&count.to_be_bytes());
 }

@@ -3,9 +3,9 @@ ghost use Rattle.wf_value.specs.Gives.{no_memory};
 ghost use Rattle.act_disk.specs.Images.{EachSince};
 ghost use Rattle.act_store.specs.Entries.{IsLegal};
 ghost use Rattle.act_store.specs.GroupsOfHistory.{KeepsGroups};
-ghost use Rattle.act_store.specs.StoreState.{StandForCovered, RecoversToSome};
+ghost use Rattle.act_store.specs.StoreState.{RecoverToCovered, RecoversToSome};
 ghost use Rattle.act_store.specs.Steps.{Grows, PlayEnds, Survives, Takes};
-ghost use Rattle.act_store.specs.declared.step.Step.TheVariants as asked;
+ghost use Rattle.act_store.specs.declared.step.Step.TheVariants as requested;
 
 use crate::receipt::Receipt;
 use crate::step::{Played, Step};
@@ -31,9 +31,9 @@ pub fn play<D: Disk>(
         store.old steps.now result store.new }
     ensures any_moment { D.honest store.old.disk → EachSince D.moment D.images_since store.old.disk store.new.disk
         (RecoversToSome store.new.base store.new.history store.old.covered) }
-    ensures stands { D.honest store.new.disk → (c : List ℕ) → D.images store.new.disk c
+    ensures recovers { D.honest store.new.disk → (c : List ℕ) → D.images store.new.disk c
         → RecoversToSome store.new.base store.new.history store.new.covered c }
-    ensures exact { D.honest store.new.disk → StandForCovered D.images store.new }
+    ensures exact { D.honest store.new.disk → RecoverToCovered D.images store.new }
     ensures legal { IsLegal store.new.base store.new.history }
     ensures groups { KeepsGroups store.new.base store.new.history }
     ensures grows { Grows store.old store.new }
@@ -101,7 +101,7 @@ pub fn take<D: Disk>(alloc: Global, store: &mut Store<D>, step: Step) -> Played
 
 /// Applies a command for seat 0.
 fn take_apply<D: Disk>(alloc: Global, store: &mut Store<D>, command: Command) -> Played
-    ensures takes { Takes store.old (asked.Apply command) result store.new }
+    ensures takes { Takes store.old (requested.Apply command) result store.new }
     ensures survives { Survives D.honest D.moment D.fault_count D.images_since store.old result store.new }
 {
     match store.apply(alloc, 0, command) {
@@ -111,7 +111,7 @@ fn take_apply<D: Disk>(alloc: Global, store: &mut Store<D>, command: Command) ->
 }
 
 fn take_commit<D: Disk>(store: &mut Store<D>) -> Played
-    ensures takes { Takes store.old asked.Commit result store.new }
+    ensures takes { Takes store.old requested.Commit result store.new }
     ensures survives { Survives D.honest D.moment D.fault_count D.images_since store.old result store.new }
 {
     match store.commit() {
@@ -121,7 +121,7 @@ fn take_commit<D: Disk>(store: &mut Store<D>) -> Played
 }
 
 fn take_begin<D: Disk>(alloc: Global, store: &mut Store<D>) -> Played
-    ensures takes { Takes store.old asked.Begin result store.new }
+    ensures takes { Takes store.old requested.Begin result store.new }
     ensures survives { Survives D.honest D.moment D.fault_count D.images_since store.old result store.new }
 {
     match store.check_begin(alloc) {
@@ -131,7 +131,7 @@ fn take_begin<D: Disk>(alloc: Global, store: &mut Store<D>) -> Played
 }
 
 fn take_slice<D: Disk>(store: &mut Store<D>) -> Played
-    ensures takes { Takes store.old asked.Slice result store.new }
+    ensures takes { Takes store.old requested.Slice result store.new }
     ensures survives { Survives D.honest D.moment D.fault_count D.images_since store.old result store.new }
 {
     match store.check_slice() {
@@ -141,7 +141,7 @@ fn take_slice<D: Disk>(store: &mut Store<D>) -> Played
 }
 
 fn take_finish<D: Disk>(alloc: Global, store: &mut Store<D>) -> Played
-    ensures takes { Takes store.old asked.Finish result store.new }
+    ensures takes { Takes store.old requested.Finish result store.new }
     ensures survives { Survives D.honest D.moment D.fault_count D.images_since store.old result store.new }
 {
     match store.check_finish(alloc) {

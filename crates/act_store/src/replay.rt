@@ -26,12 +26,12 @@ pub(crate) fn replay(
 {
     let mut table = first;
     let mut rest = records;
-    while let Some((body, behind)) = record_at(rest) {
+    while let Some((body, suffix)) = record_at(rest) {
         match carry_body(alloc, layout, table, body)? {
             Some(next) => table = next,
             None => return Ok(None),
         }
-        rest = behind;
+        rest = suffix;
     }
     Ok(Some(table))
 }

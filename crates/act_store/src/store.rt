@@ -1,16 +1,17 @@
-ghost use Rattle.std.specs.Prelude.{◌≡◌, ◌≤◌, ◌==◌, ◌-◌, List, ℕ, if◌then◌else◌, length, slice_get, option_copied, None};
+ghost use Rattle.std.specs.Prelude.{◌≡◌, ◌≤◌, ◌==◌, ◌+◌, ◌-◌, List, ℕ, if◌then◌else◌, length, slice_get, option_copied, None};
+ghost use Rattle.gated_journal.specs.declared.lengths.TheConstants.{FRAME};
 ghost use Rattle.act_store.specs.Entries.{IsLegal};
 ghost use Rattle.act_store.specs.GroupsOfHistory.{KeepsGroups};
-ghost use Rattle.act_store.specs.StoreState.{StandForCovered, RecoversToEither, table_of};
+ghost use Rattle.act_store.specs.StoreState.{RecoverToCovered, RecoversToEither, table_of};
 ghost use Rattle.run_table.specs.Sound.{IsSound};
 ghost use Rattle.run_table.specs.Step.{seen};
 
 use crate::begun::Begun;
 use crate::entry::Entry;
 use crate::layout::Layout;
-use crate::lengths::{GATE, LENGTH};
 use crate::pending_batch::PendingBatch;
 use act_disk::Disk;
+use gated_journal::lengths::{GATE, LENGTH};
 use gated_journal::{AreaPair, Gate};
 use run_plan::Number;
 use run_table::{RunView, Table};
@@ -51,14 +52,14 @@ impl<D: Disk> Model for Store<D> {
 
     ghost Value = { StoreState D };
 
-    ghost use Rattle.act_store.specs.Promise.{IsBegun, IsCounted, IsStanding};
+    ghost use Rattle.act_store.specs.Promise.{IsBegun, IsCounted, IsConsistent};
     ghost use Rattle.act_store.specs.StoreSeen.{as_state};
 
     ghost view = { as_state };
 
     ghost invariant = { λ s. IsCounted {D = D} (as_state s) s.table s.pending_batch
         × (s.failed ≡ false → D.Disk.fault_count s.disk < 2 ^ 64 - 1)
-        × (D.Disk.honest s.disk → IsStanding D.Disk.images s.areas.side s.other (as_state s))
+        × (D.Disk.honest s.disk → IsConsistent D.Disk.images s.areas.side s.other (as_state s))
         × IfSome s.begun (IsBegun s.base.value s.history.items s.generation s.areas.len s.areas.side s.other
         (D.Disk.honest s.disk) s.failed (D.Disk.seen s.disk)) };
 }
@@ -77,7 +78,7 @@ impl<D: Disk> Store<D> {
         ensures within { self.now.covered ≤ length self.now.history }
         ensures legal { IsLegal self.now.base self.now.history }
         ensures groups { KeepsGroups self.now.base self.now.history }
-        ensures exact { D.honest self.now.disk → StandForCovered D.images self.now }
+        ensures exact { D.honest self.now.disk → RecoverToCovered D.images self.now }
         ensures promise { D.honest self.now.disk → (c : List ℕ) → D.images self.now.disk c → RecoversToEither self.now c }
     {
         self.covered as u64
@@ -109,7 +110,7 @@ impl<D: Disk> Store<D> {
 
     /// How many bytes the next record's commands and their count may take to fit the area.
     pub fn room(&self) -> u64
-        ensures { result ≡ self.now.area - self.now.used - 6 }
+        ensures { result ≡ self.now.area - self.now.used - (GATE + FRAME) }
     {
         (self.areas.len - self.used).saturating_sub(GATE + LENGTH + GATE)
     }

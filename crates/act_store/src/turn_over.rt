@@ -1,5 +1,5 @@
 ghost use Rattle.std.specs.Prelude.{◌≡◌, Err, IfErr, IfSome, OnErr, OnOk, Some};
-ghost use Rattle.act_store.specs.Plain.{refusal_of_turning, turned_over};
+ghost use Rattle.act_store.specs.Plain.{refusal_of_turn_over, turned_over};
 
 use crate::store::Store;
 use act_disk::Disk;
@@ -13,11 +13,11 @@ impl<D: Disk> Store<D> {
     /// not covered. A refusal changes nothing.
     pub fn turn_over(&mut self) -> Result<(), Refusal>
         ensures turned { OnOk result (self.new ≡ turned_over self.old) }
-        ensures refused { IfSome (refusal_of_turning self.old) (λ refusal. result ≡ Err refusal) }
-        ensures cause { IfErr result (λ e. refusal_of_turning self.old ≡ Some e) }
+        ensures refused { IfSome (refusal_of_turn_over self.old) (λ refusal. result ≡ Err refusal) }
+        ensures cause { IfErr result (λ e. refusal_of_turn_over self.old ≡ Some e) }
         ensures unchanged { OnErr result (self.new ≡ self.old) }
     {
-        if let Some(refusal) = self.refusal_of_turning() {
+        if let Some(refusal) = self.refusal_of_turn_over() {
             return Err(refusal);
         }
         self.base = Snapshot::of(&self.table);
@@ -27,8 +27,8 @@ impl<D: Disk> Store<D> {
     }
 
     /// Why the history is not restarted, whether or not memory is available.
-    fn refusal_of_turning(&self) -> Option<Refusal>
-        ensures { result ≡ refusal_of_turning self.now }
+    fn refusal_of_turn_over(&self) -> Option<Refusal>
+        ensures { result ≡ refusal_of_turn_over self.now }
     {
         if self.failed {
             return Some(Refusal::Numbered(Code::FailedEarlier));

@@ -43,7 +43,7 @@ static OF_WORKFLOWS: [Explanation; 17] = [
     },
     Explanation {
         number: "14",
-        meaning: "jobs need one another in a circle; the ids of all jobs of such circles follow the number",
+        meaning: "jobs need one another in a cycle; the ids of all jobs of such cycles follow the number",
         input: "the workflow {\"jobs\":{\"a\":{\"runs-on\":\"x\",\"needs\":\"a\"}}}",
         remedy: "remove a job from the \"needs\" of one that it waits for",
     },

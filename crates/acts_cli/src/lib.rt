@@ -4,7 +4,10 @@
 
 mod cli;
 mod commit;
+mod creation;
 mod explain;
+mod requests;
+mod serving;
 mod store_file;
 mod views;
 

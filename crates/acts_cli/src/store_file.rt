@@ -7,11 +7,9 @@
 ghost use Rattle.std.specs.Prelude.{◌≡◌, IfOk};
 ghost use Rattle.act_disk.specs.FileDisk.{faults_of};
 
-use act_disk::{Empty, FileDisk, HostFile};
+use act_disk::{Empty, FileDisk, HostFile, sync_folder};
 use std::fs::{File, Files, OpenOptions};
 use std::io;
-use std::os::fd::AsRawFd;
-use std::path::Path;
 use wf_value::{Code, Refusal};
 
 /// A disk over a file of the system. `Empty` is the type for the file's contents at opening, which only contracts could
@@ -27,7 +25,7 @@ pub(crate) fn open_for_server<R: Files<File = File>>(
     ensures { IfOk result (λ disk. faults_of disk ≡ 0) }
 {
     let opened = OpenOptions::new().read(true).write(true).open(rt, path);
-    disk_over(locked(opened))
+    FileDisk::opened(locked(opened))
 }
 
 /// Does the same with a file that is created if it does not exist. It syncs the file's folder, so that the name is
@@ -43,7 +41,7 @@ pub(crate) fn create_for_server<R: Files<File = File>>(
         .write(true)
         .create(true)
         .open(rt, path);
-    let disk = disk_over(locked(opened))?;
+    let disk = FileDisk::opened(locked(opened))?;
     sync_folder(rt, path).map_err(|_| Refusal::Numbered(Code::StreamFailed))?;
     Ok(disk)
 }
@@ -55,7 +53,7 @@ pub(crate) fn open_for_reading<R: Files<File = File>>(
 ) -> Result<RealDisk, Refusal>
     ensures { IfOk result (λ disk. faults_of disk ≡ 0) }
 {
-    disk_over(OpenOptions::new().read(true).open(rt, path))
+    FileDisk::opened(OpenOptions::new().read(true).open(rt, path))
 }
 
 /// Locks the file. If another process holds the lock, it fails at once.
@@ -65,31 +63,4 @@ fn locked(opened: io::Result<File>) -> io::Result<File> {
         Ok(()) => Ok(file),
         Err(error) => Err(io::Error::from(error)),
     }
-}
-
-fn disk_over(opened: io::Result<File>) -> Result<RealDisk, Refusal>
-    ensures { IfOk result (λ disk. faults_of disk ≡ 0) }
-{
-    match opened {
-        Ok(file) => {
-            drop_clean_pages(&file);
-            FileDisk::over(HostFile::new(file))
-        }
-        Err(_) => Err(Refusal::Numbered(Code::StreamFailed)),
-    }
-}
-
-/// Asks the kernel to drop its clean pages of a file. After a failed sync these may differ from what the device has,
-/// and a read would return them. This is advice: whether the kernel follows it is not checked.
-fn drop_clean_pages(file: &File) {
-    let _ = libc::posix_fadvise(file.as_raw_fd(), 0, 0, libc::POSIX_FADV_DONTNEED);
-}
-
-/// Makes the names in a file's folder durable.
-fn sync_folder<R: Files<File = File>>(rt: &R, path: &str) -> io::Result<()> {
-    let folder = match Path::new(path).parent() {
-        Some(folder) if !folder.as_str().is_empty() => folder,
-        _ => Path::new("."),
-    };
-    File::open(rt, folder)?.sync_all()
 }

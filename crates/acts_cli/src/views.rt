@@ -4,14 +4,14 @@ use crate::store_file::open_for_reading;
 use acts_ops::{Form, Shown, run_show};
 use clap::builder::ValueParser;
 use clap::{Arg, ArgAction, ArgMatches, Command};
-use run_plan::Number;
+use run_plan::{LAST_NUMBER, Number};
 use std::alloc::{AllocError, Global};
 use std::fs::{File, Files};
 use std::io::Write;
 use wf_value::Refusal;
 
 /// The largest run id that can be requested.
-const MAX_RUN: u64 = 999_999_999;
+const MAX_RUN: u64 = LAST_NUMBER as u64;
 
 /// What to show of the store in a file, and in which format.
 #[derive(Drop)]

@@ -16,7 +16,7 @@ use Rattle.act_store.specs.FaultCauses.{IsCause}
 use Rattle.act_store.specs.declared.step.Played.{Played}
 use Rattle.act_store.specs.declared.step.Played.TheVariants as told
 use Rattle.act_store.specs.declared.step.Step.{Step}
-use Rattle.act_store.specs.declared.step.Step.TheVariants as asked
+use Rattle.act_store.specs.declared.step.Step.TheVariants as requested
 use Rattle.acts_ops.specs.Answers.{counted_as, played_text}
 use Rattle.acts_ops.specs.PlainStore.{PlainStore, all_checked, all_covered, done, taken_unless, without_disk}
 use Rattle.acts_ops.specs.Play.{IsAnswerOf, IsOfCommand, WantsMemory}
@@ -28,18 +28,18 @@ module _ {D : Type 0} (old new : StoreState D) (faults more : ℕ) where
 
   -- whether a step is refused does not depend on the disk
   same_refusal : (step : Step) → refusal_of plain step ≡ refusal_of old step
-  same_refusal (asked.Apply command) = refl
-  same_refusal asked.Commit = refl
-  same_refusal asked.Begin = refl
-  same_refusal asked.Slice = refl
-  same_refusal asked.Finish = refl
+  same_refusal (requested.Apply command) = refl
+  same_refusal requested.Commit = refl
+  same_refusal requested.Begin = refl
+  same_refusal requested.Slice = refl
+  same_refusal requested.Finish = refl
 
   left_plain : (step : Step) (e : Refusal) → without_disk (left_by old step e) ≡ left_by plain step e
-  left_plain (asked.Apply command) e = refl
-  left_plain asked.Commit e = refl
-  left_plain asked.Begin e = refl
-  left_plain asked.Slice e = refl
-  left_plain asked.Finish e = by_test (is_area_full e)
+  left_plain (requested.Apply command) e = refl
+  left_plain requested.Commit e = refl
+  left_plain requested.Begin e = refl
+  left_plain requested.Slice e = refl
+  left_plain requested.Finish e = by_test (is_area_full e)
     where
       by_test : (b : Bool) → without_disk (if b then dropped old else old) ≡ (if b then dropped plain else plain)
       by_test true = refl
@@ -71,38 +71,38 @@ module _ {D : Type 0} (old new : StoreState D) (faults more : ℕ) where
 
   replied_plain : (step : Step) (reply : Reply) → Replies old step reply new
       → (without_disk new ≡ (done plain step).0) × (told.Replied reply ≡ (done plain step).1)
-  replied_plain (asked.Apply command) reply replies =
+  replied_plain (requested.Apply command) reply replies =
       (ap (λ (k : StoreState D). without_disk k) replies.0, ap (λ (r : Reply). told.Replied r) replies.1)
-  replied_plain asked.Commit reply replies = absurd replies
-  replied_plain asked.Begin reply replies = absurd replies
-  replied_plain asked.Slice reply replies = absurd replies
-  replied_plain asked.Finish reply replies = absurd replies
+  replied_plain requested.Commit reply replies = absurd replies
+  replied_plain requested.Begin reply replies = absurd replies
+  replied_plain requested.Slice reply replies = absurd replies
+  replied_plain requested.Finish reply replies = absurd replies
 
   counted_plain : (step : Step) (count : ℕ) → Counts old step count new
       → (without_disk new ≡ (done plain step).0) × (told.Count count ≡ (done plain step).1)
-  counted_plain (asked.Apply command) count counts = absurd counts
-  counted_plain asked.Commit count counts = (covers_plain count counts, ap (λ (n : ℕ). told.Count n) counts.count_is)
-  counted_plain asked.Begin count counts =
+  counted_plain (requested.Apply command) count counts = absurd counts
+  counted_plain requested.Commit count counts = (covers_plain count counts, ap (λ (n : ℕ). told.Count n) counts.count_is)
+  counted_plain requested.Begin count counts =
       (ap (λ (k : StoreState D). without_disk k) counts.0, ap (λ (n : ℕ). told.Count n) counts.1)
-  counted_plain asked.Slice count counts = (
+  counted_plain requested.Slice count counts = (
     ap (λ (k : StoreState D). without_disk k) counts.0,
     ap (λ (n : ℕ). told.Count n) (counts.1 ∙ ap (λ (k : StoreState D). left_of k.begun) counts.0),
   )
-  counted_plain asked.Finish count counts = (finishes_plain old.begun counts.0, ap (λ (n : ℕ). told.Count n) counts.1)
+  counted_plain requested.Finish count counts = (finishes_plain old.begun counts.0, ap (λ (n : ℕ). told.Count n) counts.1)
 
   wants_memory : (step : Step) → refusal_of old step ≡ None → MayTakeMemory step → WantsMemory plain (Ok step)
-  wants_memory (asked.Apply command) none may = tt
-  wants_memory asked.Commit none may = absurd may
-  wants_memory asked.Begin none may = none
-  wants_memory asked.Slice none may = absurd may
-  wants_memory asked.Finish none may = none
+  wants_memory (requested.Apply command) none may = tt
+  wants_memory requested.Commit none may = absurd may
+  wants_memory requested.Begin none may = none
+  wants_memory requested.Slice none may = absurd may
+  wants_memory requested.Finish none may = none
 
   calls_device : (step : Step) → MayCallDevice old step → MayCallDevice plain step
-  calls_device (asked.Apply command) may = absurd may
-  calls_device asked.Commit may = may
-  calls_device asked.Begin may = tt
-  calls_device asked.Slice may = tt
-  calls_device asked.Finish may = tt
+  calls_device (requested.Apply command) may = absurd may
+  calls_device requested.Commit may = may
+  calls_device requested.Begin may = tt
+  calls_device requested.Slice may = tt
+  calls_device requested.Finish may = tt
 
   refused_plain : (step : Step) (e : Refusal) → IsRefused old step e new → IsCause e faults more
       → IsAnswerOf plain faults (Ok step) (refusal_text e) (without_disk new) more
@@ -137,11 +137,11 @@ module _ {D : Type 0} (old new : StoreState D) (faults more : ℕ) where
 
 wants_of : (s : PlainStore) (wanted : Result Step Refusal) → IsOfCommand wanted → WantsMemory s wanted
 wants_of s (Err e) of = tt
-wants_of s (Ok (asked.Apply command)) of = tt
-wants_of s (Ok asked.Commit) of = absurd of
-wants_of s (Ok asked.Begin) of = absurd of
-wants_of s (Ok asked.Slice) of = absurd of
-wants_of s (Ok asked.Finish) of = absurd of
+wants_of s (Ok (requested.Apply command)) of = tt
+wants_of s (Ok requested.Commit) of = absurd of
+wants_of s (Ok requested.Begin) of = absurd of
+wants_of s (Ok requested.Slice) of = absurd of
+wants_of s (Ok requested.Finish) of = absurd of
 
 pub refused_line : (s : PlainStore) (faults : ℕ) (wanted : Result Step Refusal) (e : Refusal) → (e ≡ no_memory) ⊎ (wanted ≡ Err e)
     → IsOfCommand wanted → IsAnswerOf s faults wanted (refusal_text e) s faults

@@ -6,12 +6,12 @@ use Rattle.act_disk.specs.Failed.{device_failed}
 use Rattle.run_plan.specs.declared.command.Command.{Command}
 use Rattle.act_store.specs.Checkpoints.{has_no_room, is_written, last_counter, refusal_of_head, refusal_of_last}
 use Rattle.act_store.specs.Layouts.{has_command}
-use Rattle.act_store.specs.Plain.{area_full, checkpoint_turn, failed_earlier, history_full, old_layout, refusal_of_form, refusal_of_room}
+use Rattle.act_store.specs.Plain.{area_full, checkpoint_order, failed_earlier, history_full, old_layout, refusal_of_form, refusal_of_room}
 use Rattle.act_store.specs.Steps.{refusal_of}
 use Rattle.act_store.specs.StoreState.{Checkpoint, StoreState}
 use Rattle.act_store.specs.FaultCauses.{IsCause}
 use Rattle.act_store.specs.declared.step.Step.{Step}
-use Rattle.act_store.specs.declared.step.Step.TheVariants as asked
+use Rattle.act_store.specs.declared.step.Step.TheVariants as requested
 
 -- the reason is not a failure of the device
 abbrev IsOther : Option Refusal → Type 0
@@ -27,7 +27,7 @@ earlier is = cc is
 full : IsOther (Some area_full)
 full is = cc is
 
-turn : IsOther (Some checkpoint_turn)
+turn : IsOther (Some checkpoint_order)
 turn is = cc is
 
 none : IsOther None
@@ -41,7 +41,7 @@ module _ {D : Type 0} (s : StoreState D) where
   form_other command =
       one_of_two (has_command s.layout command) (refusal_of_room s command) (Some old_layout) (room_other command) (λ is. cc is)
 
-  apply_other : (command : Command) → IsOther (refusal_of s (asked.Apply command))
+  apply_other : (command : Command) → IsOther (refusal_of s (requested.Apply command))
   apply_other command =
       one_of_two s.failed (Some failed_earlier) _ earlier
       (one_of_two (nat_le 100000 (length s.history)) (Some history_full) (refusal_of_form s command) (λ is. cc is) (form_other command))
@@ -53,18 +53,18 @@ module _ {D : Type 0} (s : StoreState D) where
   last_other : (begun : Option Checkpoint) → IsOther (refusal_of_last s begun)
   last_other None = turn
   last_other (Some checkpoint) =
-      one_of_two (nat_lt 0 checkpoint.left) (Some checkpoint_turn) _ turn
+      one_of_two (nat_lt 0 checkpoint.left) (Some checkpoint_order) _ turn
       (one_of_two (has_no_room s checkpoint) (Some area_full) None full none)
 
   pub cause_is_other : (step : Step) → IsOther (refusal_of s step)
-  cause_is_other (asked.Apply command) = apply_other command
-  cause_is_other asked.Commit = one_of_two s.failed (Some failed_earlier) None earlier none
-  cause_is_other asked.Begin =
+  cause_is_other (requested.Apply command) = apply_other command
+  cause_is_other requested.Commit = one_of_two s.failed (Some failed_earlier) None earlier none
+  cause_is_other requested.Begin =
       one_of_two s.failed (Some failed_earlier) _ earlier
-      (one_of_two (is_some s.begun) (Some checkpoint_turn) (refusal_of_head s) turn head_other)
-  cause_is_other asked.Slice =
-      one_of_two s.failed (Some failed_earlier) _ earlier (one_of_two (is_written s.begun) (Some checkpoint_turn) None turn none)
-  cause_is_other asked.Finish = one_of_two s.failed (Some failed_earlier) (refusal_of_last s s.begun) earlier (last_other s.begun)
+      (one_of_two (is_some s.begun) (Some checkpoint_order) (refusal_of_head s) turn head_other)
+  cause_is_other requested.Slice =
+      one_of_two s.failed (Some failed_earlier) _ earlier (one_of_two (is_written s.begun) (Some checkpoint_order) None turn none)
+  cause_is_other requested.Finish = one_of_two s.failed (Some failed_earlier) (refusal_of_last s s.begun) earlier (last_other s.begun)
 
 -- ---- what is known of the disk
 

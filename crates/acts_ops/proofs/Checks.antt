@@ -12,7 +12,7 @@ use Rattle.wf_reader.specs.Faults.{unless_faulty}
 use Rattle.wf_reader.specs.Workflow.{workflow_faults, workflow_of}
 use Rattle.wf_reader.specs.declared.job.Job.{Job}
 use Rattle.wf_reader.specs.declared.workflow.Workflow.{Workflow}
-use Rattle.wf_reader.proofs.InTurn.{no_fault, same_value}
+use Rattle.wf_reader.proofs.InOrder.{no_fault, same_value}
 use Rattle.wf_value.specs.declared.combo.Combo.{Combo}
 use Rattle.run_plan.specs.PlanOf.{combinations_where, job_faults, legs_faults, legs_of, matrix_of, needs_faults, plan_faults, planned_job}
 use Rattle.run_plan.specs.PlanOf.{workflow_plan}
@@ -20,8 +20,8 @@ use Rattle.wf_reader.proofs.Contents.{same_refusal}
 use Rattle.act_disk.specs.Failed.{stream_failed}
 use Rattle.acts_ops.specs.Check.{leg_line, leg_lines, job_lines, plan_lines, checked, Written, ChecksTo}
 use Rattle.acts_ops.specs.Input.{RefusesInput}
-use Rattle.acts_ops.specs.Play.{most_bytes}
 use Rattle.acts_ops.specs.Writes.{Writes}
+use Rattle.acts_ops.specs.declared.input.TheConstants.{MAX_BYTES}
 
 -- ---- legs
 
@@ -30,10 +30,10 @@ abbrev pub numbered_lines : List ℕ → ℕ → List Combo → List ℕ
 numbered_lines job number combinations = flat_map (λ p. leg_line job p.0 p.1) (enumerate_from number combinations)
 
 -- a leg's line comes before those of the later ones
-pub leg_behind : (job out : List ℕ) (n count : ℕ) (legs : List Combo) (combo : Combo) → n < count → count ≡ length legs
+pub leg_after : (job out : List ℕ) (n count : ℕ) (legs : List Combo) (combo : Combo) → n < count → count ≡ length legs
     → ◌≡◌ {A = Result Combo Refusal} (Ok (get_or legs n [])) (Ok combo) → out ++ numbered_lines job n (drop n legs) ≡ leg_lines job legs
     → out ++ (leg_line job n combo ++ numbered_lines job (n + 1) (drop (n + 1) legs)) ≡ leg_lines job legs
-leg_behind job out n count legs combo lt counted given so_far =
+leg_after job out n count legs combo lt counted given so_far =
     let step : suc n ≡ n + 1 = omega arith in
     let is : get_or legs n [] ≡ combo = cc given in
     ap (λ x. out ++ x) (sym (ap (numbered_lines job n)
@@ -59,10 +59,10 @@ next_job n jobs job lt is =
     drop-cons jobs n job lt ∙ ap (λ x. x ∷ drop (suc n) jobs) (sym is) ∙ ap (λ k. job ∷ drop k jobs) step
 
 -- a job's lines come before those of the later ones
-pub job_behind : (out : List ℕ) (n : ℕ) (jobs : List Job) (job : Job) → n < length jobs → job ≡ get_or jobs n job
+pub job_after : (out : List ℕ) (n : ℕ) (jobs : List Job) (job : Job) → n < length jobs → job ≡ get_or jobs n job
     → out ++ plan_lines (map planned_job (drop n jobs)) ≡ plan_lines (map planned_job jobs)
     → out ++ (job_lines (planned_job job) ++ plan_lines (map planned_job (drop (n + 1) jobs))) ≡ plan_lines (map planned_job jobs)
-job_behind out n jobs job lt is so_far =
+job_after out n jobs job lt is so_far =
     ap (λ js. out ++ plan_lines (map planned_job js)) (sym (next_job n jobs job lt is)) ∙ so_far
 
 neither : {X : Type 0} (xs ys : List X) → xs ++ ys ≡ [] → (xs ≡ []) × (ys ≡ [])
@@ -114,7 +114,7 @@ lines_written text lines old new (Ok u) told all = (lines, all, told)
 lines_written text lines old new (Err e) told part = (part.1.0, part.1.2, inr (part.0, inr (part.1.1, told ∙ ap Ok (sym part.1.3))))
 
 -- a text that is not too long
-pub checks_within : {U : Type 0} (text out : List ℕ) (r : Result U Refusal) → length text ≤ most_bytes → Written text out r
+pub checks_within : {U : Type 0} (text out : List ℕ) (r : Result U Refusal) → length text ≤ MAX_BYTES → Written text out r
     → ChecksTo text out r
 checks_within text out (Ok u) fits h = (fits, h)
 checks_within text out (Err e) fits h = inr (inl (fits, h))

@@ -10,8 +10,8 @@ use Rattle.workflow_lint.specs.Plans.{found_in}
 use Rattle.workflow_lint.specs.declared.finding.Finding.{Finding}
 use Rattle.acts_ops.specs.Input.{RefusesInput}
 use Rattle.acts_ops.specs.Lint.{Lints, LintsTo, linted}
-use Rattle.acts_ops.specs.Play.{most_bytes}
-use Rattle.acts_ops.specs.Writes.{FrontWritten, Writes}
+use Rattle.acts_ops.specs.Writes.{PrefixWritten, Writes}
+use Rattle.acts_ops.specs.declared.input.TheConstants.{MAX_BYTES}
 
 -- the findings, as they are written
 pub slice_is : (text : List ℕ) (found slice : List Finding) → ◌≡◌ {A = Result (List Finding) Refusal} (Ok (found_in text)) (Ok found)
@@ -19,15 +19,15 @@ pub slice_is : (text : List ℕ) (found slice : List Finding) → ◌≡◌ {A =
 slice_is text found slice told is = let same : found_in text ≡ found = cc in is ∙ sym same
 
 -- not all of its lines are written, or the writer is not flushed
-pub front_linted : (text lines : List ℕ) (old new : Option (List ℕ)) (r : Result Bool Refusal) (e : Refusal) → IsErrAnd r (λ f. f ≡ e)
-    → lines ≡ linted text → (e ≡ stream_failed) ⊎ (e ≡ no_memory) → FrontWritten old new lines
+pub prefix_linted : (text lines : List ℕ) (old new : Option (List ℕ)) (r : Result Bool Refusal) (e : Refusal) → IsErrAnd r (λ f. f ≡ e)
+    → lines ≡ linted text → (e ≡ stream_failed) ⊎ (e ≡ no_memory) → PrefixWritten old new lines
     → (out : List ℕ) × Appends old new out × Lints text out r
-front_linted text lines old new (Ok b) e is same why front = absurd is
-front_linted text lines old new (Err f) e is same why front =
-    (front.0, front.2, (subst (λ x. (x ≡ stream_failed) ⊎ (x ≡ no_memory)) (sym is) why, (front.1, front.3 ∙ same)))
+prefix_linted text lines old new (Ok b) e is same why prefix = absurd is
+prefix_linted text lines old new (Err f) e is same why prefix =
+    (prefix.0, prefix.2, (subst (λ x. (x ≡ stream_failed) ⊎ (x ≡ no_memory)) (sym is) why, (prefix.1, prefix.3 ∙ same)))
 
 -- a text that is not too long
-pub lints_within : (text out : List ℕ) (r : Result Bool Refusal) → length text ≤ most_bytes → Lints text out r → LintsTo text out r
+pub lints_within : (text out : List ℕ) (r : Result Bool Refusal) → length text ≤ MAX_BYTES → Lints text out r → LintsTo text out r
 lints_within text out (Ok b) fits h = (fits, h)
 lints_within text out (Err e) fits h = inr h
 

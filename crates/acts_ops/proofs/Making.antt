@@ -20,11 +20,11 @@ was_empty size r x e occupied made = elim (eq-zero-or-pos size) [
 pub made_of : {U : Type 0} (size : ℕ) (old new : Option (List ℕ)) (r : Result U Refusal) → size ≡ 0 → OnOk r (Appends old new made_line)
     → ((n : ℕ) × Appends old new (take n made_line)) → IfErr r (λ e. e ≡ stream_failed)
     → (out : List ℕ) × Appends old new out × Makes size out r
-made_of size old new (Ok u) zero all front why = (made_line, all, (zero, refl))
-made_of size old new (Err e) zero all front why = (
-  take front.0 made_line,
-  front.1,
-  inr (inr (zero, why, drop front.0 made_line, take-append-drop front.0 made_line)),
+made_of size old new (Ok u) zero all prefix why = (made_line, all, (zero, refl))
+made_of size old new (Err e) zero all prefix why = (
+  take prefix.0 made_line,
+  prefix.1,
+  inr (inr (zero, why, drop prefix.0 made_line, take-append-drop prefix.0 made_line)),
 )
 
 -- the store was made without a failure of the device

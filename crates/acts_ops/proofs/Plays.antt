@@ -12,7 +12,8 @@ use Rattle.act_disk.specs.Failed.{stream_failed}
 use Rattle.acts_ops.specs.Answers.{has_bytes, script_lines, answer_of, after_line, answers_from, printed}
 use Rattle.acts_ops.specs.Input.{RefusesInput}
 use Rattle.acts_ops.specs.PlainStore.{PlainStore}
-use Rattle.acts_ops.specs.Play.{IsAnswer, Answers, PlaysFrom, Plays, memory_refused, device_refused, most_bytes, Ends}
+use Rattle.acts_ops.specs.Play.{IsAnswer, Answers, PlaysFrom, Plays, memory_refused, device_refused, Ends}
+use Rattle.acts_ops.specs.declared.input.TheConstants.{MAX_BYTES}
 
 -- ---- all lines
 
@@ -88,11 +89,11 @@ leads_on_within first before script t faults rest out a n so_far =
 
 -- ---- the end
 
-pub ends_within : (U : Type 0) (faults : ℕ) (script out more : List ℕ) (end : ℕ) (e : Refusal) → length script ≤ most_bytes
+pub ends_within : (U : Type 0) (faults : ℕ) (script out more : List ℕ) (end : ℕ) (e : Refusal) → length script ≤ MAX_BYTES
     → Plays faults script (out ++ more) end → (e ≡ stream_failed) ⊎ (e ≡ no_memory) → Ends {U = U} faults script out end (Err e)
 ends_within U faults script out more end e fits h why = inr (inr (why, inr (fits, more, h)))
 
-pub ends_after : {U : Type 0} (faults : ℕ) (script out : List ℕ) (end : ℕ) (r : Result U Refusal) → length script ≤ most_bytes
+pub ends_after : {U : Type 0} (faults : ℕ) (script out : List ℕ) (end : ℕ) (r : Result U Refusal) → length script ≤ MAX_BYTES
     → Plays faults script out end → IfErr r (λ e. e ≡ stream_failed) → Ends faults script out end r
 ends_after faults script out end (Ok u) fits h why = (fits, h)
 ends_after faults script out end (Err e) fits h why =

@@ -6,9 +6,9 @@ use Rattle.wf_value.specs.declared.refusal.Refusal.TheVariants.{Numbered, Turn}
 use Rattle.run_plan.specs.declared.command.Command.{Command}
 use Rattle.run_plan.specs.declared.command.Command.TheVariants as command
 use Rattle.run_plan.specs.declared.reply.Reply.TheVariants as reply
-use Rattle.act_store.specs.Plain.{checkpoint_turn}
+use Rattle.act_store.specs.Plain.{checkpoint_order}
 use Rattle.act_store.specs.declared.step.Played.TheVariants as told
-use Rattle.act_store.specs.declared.step.Step.TheVariants as asked
+use Rattle.act_store.specs.declared.step.Step.TheVariants as requested
 use Rattle.command_lines.specs.Commands.{not_a_line}
 use Rattle.acts_ops.specs.Line.{command_of}
 use Rattle.acts_ops.specs.Answers.{script_lines, answer_of, output_of, played_text}
@@ -38,29 +38,29 @@ delivery = refl
 two_spaces : command_of (codes "admit d1 push") ≡ Err not_a_line
 two_spaces = refl
 
-asked_first : Command
-asked_first = command.Claim (record { runner = codes "r1"; number = 1; labels = codes "linux" ∷ [] })
+requested_first : Command
+requested_first = command.Claim (record { runner = codes "r1"; number = 1; labels = codes "linux" ∷ [] })
 
-asked_second : Command
-asked_second = command.Claim (record { runner = codes "r1"; number = 2; labels = codes "linux" ∷ [] })
+requested_second : Command
+requested_second = command.Claim (record { runner = codes "r1"; number = 2; labels = codes "linux" ∷ [] })
 
 -- the replies to a first command
-out_of_turn : (done start (asked.Apply asked_second)).1 ≡ told.Replied (reply.Refused (Turn 0))
-unfolding asked_second
-out_of_turn = refl
+out_of_order : (done start (requested.Apply requested_second)).1 ≡ told.Replied (reply.Refused (Turn 0))
+unfolding requested_second
+out_of_order = refl
 
-nothing : (done start (asked.Apply asked_first)).1 ≡ told.Replied reply.Nothing
-unfolding asked_first
+nothing : (done start (requested.Apply requested_first)).1 ≡ told.Replied reply.Nothing
+unfolding requested_first
 nothing = refl
 
-no_run : (done start (asked.Apply (command.Look 1))).1 ≡ told.Replied (reply.Refused (Numbered NoRun))
+no_run : (done start (requested.Apply (command.Look 1))).1 ≡ told.Replied (reply.Refused (Numbered NoRun))
 no_run = refl
 
 -- a commit counts the entries, also those of refused commands, and each once
 none_covered : answer_of start (codes "commit") ≡ played_text (codes "committed ") (told.Count 0)
 none_covered = refl
 
-one_covered : (taken (done start (asked.Apply (command.Look 1))).0 asked.Commit).1 ≡ told.Count 1
+one_covered : (taken (done start (requested.Apply (command.Look 1))).0 requested.Commit).1 ≡ told.Count 1
 one_covered = refl
 
 -- no other line is a commit
@@ -68,8 +68,8 @@ commit_with_a_space : answer_of start (codes "commit ") ≡ refusal_text not_a_l
 commit_with_a_space = refl
 
 -- a slice and a finish without a checkpoint
-none_begun : answer_of start (codes "slice") ≡ refusal_text checkpoint_turn
+none_begun : answer_of start (codes "slice") ≡ refusal_text checkpoint_order
 none_begun = refl
 
-nothing_to_finish : answer_of start (codes "finish") ≡ refusal_text checkpoint_turn
+nothing_to_finish : answer_of start (codes "finish") ≡ refusal_text checkpoint_order
 nothing_to_finish = refl

@@ -30,8 +30,8 @@ use Rattle.acts_ops.specs.Writes.{Writes}
 use Rattle.acts_ops.proofs.Writing.{flushed, written_faults}
 
 -- the lines of the runs from an index on
-abbrev pub lines_behind : Form → TableState → ℕ → List ℕ
-lines_behind form t place = lines_from form t (place + 1) (length t.runs - place)
+abbrev pub lines_after : Form → TableState → ℕ → List ℕ
+lines_after form t place = lines_from form t (place + 1) (length t.runs - place)
 
 -- the view of a run with an id
 abbrev shown_of : TableState → ℕ → RunState → Seen
@@ -40,11 +40,11 @@ shown_of t id run = record { id = id; number = run_number (events t.runs) (id - 
 abbrev seen_by : TableState → ℕ → Option RunState → Option Seen
 seen_by t id found = option_map (shown_of t id) found
 
-all_behind : (form : Form) (t : TableState) → lines_behind form t 0 ≡ run_lines form t
-all_behind form t = ap (λ n. lines_from form t 1 n) (let same : length t.runs - 0 ≡ length t.runs = omega arith in same)
+all_after : (form : Form) (t : TableState) → lines_after form t 0 ≡ run_lines form t
+all_after form t = ap (λ n. lines_from form t 1 n) (let same : length t.runs - 0 ≡ length t.runs = omega arith in same)
 
-pub before_all : (form : Form) (t : TableState) → [] ++ lines_behind form t 0 ≡ run_lines form t
-before_all form t = all_behind form t
+pub before_all : (form : Form) (t : TableState) → [] ++ lines_after form t 0 ≡ run_lines form t
+before_all form t = all_after form t
 
 -- ---- a run that exists
 
@@ -58,10 +58,10 @@ there t place run is =
     ]
 
 -- its line comes before those of the later ones
-pub behind_run : (form : Form) (t : TableState) (out : List ℕ) (place id : ℕ) (run : Seen) → Some run ≡ seen t id → id ≡ place + 1
-    → out ++ lines_behind form t place ≡ run_lines form t
-    → out ++ (run_line form run ++ lines_behind form t (place + 1)) ≡ run_lines form t
-behind_run form t out place id run looked id_is h =
+pub after_run : (form : Form) (t : TableState) (out : List ℕ) (place id : ℕ) (run : Seen) → Some run ≡ seen t id → id ≡ place + 1
+    → out ++ lines_after form t place ≡ run_lines form t
+    → out ++ (run_line form run ++ lines_after form t (place + 1)) ≡ run_lines form t
+after_run form t out place id run looked id_is h =
     let is : seen t (place + 1) ≡ Some run = sym (looked ∙ ap (seen t) id_is) in
     let below : place < length t.runs = there t place run is in
     let left : length t.runs - place ≡ suc (length t.runs - (place + 1)) = omega arith in
@@ -71,7 +71,7 @@ behind_run form t out place id run looked id_is h =
 -- ---- the end
 
 pub past_last : (form : Form) (t : TableState) (out all : List ℕ) (place : ℕ) → length t.runs ≤ place
-    → out ++ lines_behind form t place ≡ all → out ≡ all
+    → out ++ lines_after form t place ≡ all → out ≡ all
 past_last form t out all place past h =
     let none : length t.runs - place ≡ 0 = omega arith in
     sym (append-nil out) ∙ ap (λ n. out ++ lines_from form t (place + 1) n) (sym none) ∙ h
@@ -81,9 +81,9 @@ pub opened_table : {D : Type 0} (s : StoreState D) → s.history ≡ [] → s.ba
 opened_table s begun = ap (λ (h : List Entry). table_after s.base h) (sym begun)
 
 -- if an image recovers to a table, an area is open
-pub stands_somewhere : (t : TableState) (image : List ℕ) → RecoversTo t image → HasNoArea image → ⊥
-stands_somewhere t image stands none =
-    let clash : None ≡ Some stands.side = sym (none stands.len stands.long stands.size) ∙ stands.encodes.stands in cc
+pub recovers_somewhere : (t : TableState) (image : List ℕ) → RecoversTo t image → HasNoArea image → ⊥
+recovers_somewhere t image recovers none =
+    let clash : None ≡ Some recovers.side = sym (none recovers.len recovers.long recovers.size) ∙ recovers.encodes.recovers in cc
 
 -- ---- what is written of the lines
 
@@ -121,22 +121,22 @@ flushed_what old mid new (Err e) u r writes kept why = absurd writes.1
 -- what was written of a table, all or a prefix
 pub shows_told : {U : Type 0} (lines : TableState → Result (List ℕ) Refusal) (image : List ℕ) (t : TableState) (old new : Option (List ℕ))
     (r : Result U Refusal) → RecoversTo t image → WritesWhat old new (lines t) r → (out : List ℕ) × Appends old new out × Shows lines image out r
-shows_told {U} lines image t old new r stands writes = by (lines t) r refl writes
+shows_told {U} lines image t old new r recovers writes = by (lines t) r refl writes
   where
     by : (defined : Result (List ℕ) Refusal) (ended : Result U Refusal) → lines t ≡ defined → WritesWhat old new defined ended
         → (out : List ℕ) × Appends old new out × Shows lines image out ended
-    by (Ok all) (Ok u) is all_written = (all, all_written, (t, stands, is))
+    by (Ok all) (Ok u) is all_written = (all, all_written, (t, recovers, is))
     by (Ok all) (Err e) is part =
-        (part.1.0, part.1.2, inr (inr (part.0, (t, stands, part.1.1, is ∙ given _ _ (sym part.1.3)))))
+        (part.1.0, part.1.2, inr (inr (part.0, (t, recovers, part.1.1, is ∙ given _ _ (sym part.1.3)))))
     by (Err why) (Ok u) is none = absurd none.1
-    by (Err why) (Err e) is none = ([], none.0, inr (inl (refl, (t, stands, is ∙ refused _ _ (sym none.1)))))
+    by (Err why) (Err e) is none = ([], none.0, inr (inl (refl, (t, recovers, is ∙ refused _ _ (sym none.1)))))
 
 -- a missing run is no failure of the device
 not_there : (o : Option (List ℕ)) (e : Refusal) → ok_or o (Numbered NoRun) ≡ Err e → e ≡ device_failed → ⊥
 not_there None e is device = let clash : Numbered NoRun ≡ device_failed = same_Err _ _ is ∙ device in cc
 not_there (Some text) e is device = cc
 
-no_device : (form : Form) (asked : Shown) (t : TableState) (e : Refusal) → shown form asked t ≡ Err e → e ≡ device_failed → ⊥
+no_device : (form : Form) (requested : Shown) (t : TableState) (e : Refusal) → shown form requested t ≡ Err e → e ≡ device_failed → ⊥
 no_device form what.Runs t e is device = cc
 no_device form (what.Run id) t e is device = not_there (option_map (run_line form) (seen t id)) e is device
 no_device form what.Runners t e is device = cc
@@ -148,13 +148,13 @@ pub missing : {U : Type 0} (old : Option (List ℕ)) (found : Option Seen) (form
 missing old None form r is refused_so = (Appends-nil old, refused_so)
 missing old (Some run) form r is refused_so = absurd cc
 
-pub shown_faults : {U : Type 0} (form : Form) (asked : Shown) (t : TableState) (old new : Option (List ℕ)) (r : Result U Refusal)
-    (before after : ℕ) → WritesWhat old new (shown form asked t) r → after ≡ before → TellsFault r before after
-shown_faults {U} form asked t old new r before after writes same = by (shown form asked t) r refl writes
+pub shown_faults : {U : Type 0} (form : Form) (requested : Shown) (t : TableState) (old new : Option (List ℕ)) (r : Result U Refusal)
+    (before after : ℕ) → WritesWhat old new (shown form requested t) r → after ≡ before → TellsFault r before after
+shown_faults {U} form requested t old new r before after writes same = by (shown form requested t) r refl writes
   where
-    by : (defined : Result (List ℕ) Refusal) (ended : Result U Refusal) → shown form asked t ≡ defined → WritesWhat old new defined ended
+    by : (defined : Result (List ℕ) Refusal) (ended : Result U Refusal) → shown form requested t ≡ defined → WritesWhat old new defined ended
         → TellsFault ended before after
     by (Ok lines) ended is all = written_faults old new lines ended before after all same
     by (Err why) (Ok u) is none = absurd none.1
     by (Err why) (Err e) is none =
-        inr (no_device form asked t e (is ∙ refused _ _ (sym none.1)), same)
+        inr (no_device form requested t e (is ∙ refused _ _ (sym none.1)), same)

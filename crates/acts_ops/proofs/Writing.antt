@@ -8,46 +8,46 @@ use Rattle.wf_value.specs.Gives.{no_memory}
 use Rattle.wf_value.specs.declared.refusal.Refusal.{Refusal}
 use Rattle.act_disk.specs.Failed.{device_failed, stream_failed}
 use Rattle.act_store.specs.FaultCauses.{TellsFault}
-use Rattle.acts_ops.specs.Writes.{FrontWritten, Writes}
+use Rattle.acts_ops.specs.Writes.{PrefixWritten, Writes}
 
 -- one more part has been fully written
 pub past_part : (out part more all : List ℕ) → out ++ (part ++ more) ≡ all → (out ++ part) ++ more ≡ all
 past_part out part more all h = append_assoc out part more ∙ h
 
 -- a prefix of one more part
-within_part : (out front back part more all : List ℕ) → out ++ (part ++ more) ≡ all → front ++ back ≡ part
-    → (out ++ front) ++ (back ++ more) ≡ all
-within_part out front back part more all h joined =
-    append_assoc out front (back ++ more)
-    ∙ ap (λ x. out ++ x) (sym (append_assoc front back more) ∙ ap (λ x. x ++ more) joined)
+within_part : (out prefix back part more all : List ℕ) → out ++ (part ++ more) ≡ all → prefix ++ back ≡ part
+    → (out ++ prefix) ++ (back ++ more) ≡ all
+within_part out prefix back part more all h joined =
+    append_assoc out prefix (back ++ more)
+    ∙ ap (λ x. out ++ x) (sym (append_assoc prefix back more) ∙ ap (λ x. x ++ more) joined)
     ∙ h
 
-pub none_written : (old : Option (List ℕ)) (lines : List ℕ) → FrontWritten old old lines
+pub none_written : (old : Option (List ℕ)) (lines : List ℕ) → PrefixWritten old old lines
 none_written old lines = ([], lines, Appends-nil old, refl)
 
 -- after what has been written, a prefix of the next part
 pub more_written : (old mid new : Option (List ℕ)) (out part more all : List ℕ) → Appends old mid out → out ++ (part ++ more) ≡ all
-    → FrontWritten mid new part → FrontWritten old new all
-more_written old mid new out part more all so_far h front = (
-  out ++ front.0,
-  front.1 ++ more,
-  Appends-trans old mid new out front.0 so_far front.2,
-  within_part out front.0 front.1 part more all h front.3,
+    → PrefixWritten mid new part → PrefixWritten old new all
+more_written old mid new out part more all so_far h prefix = (
+  out ++ prefix.0,
+  prefix.1 ++ more,
+  Appends-trans old mid new out prefix.0 so_far prefix.2,
+  within_part out prefix.0 prefix.1 part more all h prefix.3,
 )
 
 -- a call that ends early
 pub stopped : {U : Type 0} (old new : Option (List ℕ)) (lines : List ℕ) (r : Result U Refusal) (e : Refusal) → IsErrAnd r (λ f. f ≡ e)
-    → (e ≡ stream_failed) ⊎ (e ≡ no_memory) → FrontWritten old new lines → Writes old new lines r
-stopped old new lines (Ok u) e is why front = absurd is
-stopped old new lines (Err f) e is why front = (subst (λ x. (x ≡ stream_failed) ⊎ (x ≡ no_memory)) (sym is) why, front)
+    → (e ≡ stream_failed) ⊎ (e ≡ no_memory) → PrefixWritten old new lines → Writes old new lines r
+stopped old new lines (Ok u) e is why prefix = absurd is
+stopped old new lines (Err f) e is why prefix = (subst (λ x. (x ≡ stream_failed) ⊎ (x ≡ no_memory)) (sym is) why, prefix)
 
 -- a text that was written by one call
 pub whole_written : {U : Type 0} (old new : Option (List ℕ)) (bytes lines : List ℕ) (r : Result U Refusal) → bytes ≡ lines
     → OnOk r (Appends old new bytes) → ((n : ℕ) × Appends old new (take n bytes)) → IfErr r (λ e. e ≡ stream_failed)
     → Writes old new lines r
-whole_written old new bytes lines (Ok u) same all front why = subst (Appends old new) same all
-whole_written old new bytes lines (Err e) same all front why =
-    (inl why, (take front.0 bytes, drop front.0 bytes, front.1, take-append-drop front.0 bytes ∙ same))
+whole_written old new bytes lines (Ok u) same all prefix why = subst (Appends old new) same all
+whole_written old new bytes lines (Err e) same all prefix why =
+    (inl why, (take prefix.0 bytes, drop prefix.0 bytes, prefix.1, take-append-drop prefix.0 bytes ∙ same))
 
 -- all is written, and the writer is flushed
 pub flushed : {U : Type 0} (old mid new : Option (List ℕ)) (lines : List ℕ) (r : Result U Refusal) → Appends old mid lines

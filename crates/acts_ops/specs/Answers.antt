@@ -9,7 +9,7 @@ use Rattle.run_plan.specs.ReplyText.{reply_text}
 use Rattle.act_store.specs.declared.step.Played.{Played}
 use Rattle.act_store.specs.declared.step.Played.TheVariants as told
 use Rattle.act_store.specs.declared.step.Step.{Step}
-use Rattle.act_store.specs.declared.step.Step.TheVariants as asked
+use Rattle.act_store.specs.declared.step.Step.TheVariants as requested
 use Rattle.command_lines.specs.Commands.{onward}
 use Rattle.acts_ops.specs.Line.{command_of}
 use Rattle.acts_ops.specs.PlainStore.{PlainStore, start, taken}
@@ -26,18 +26,18 @@ script_lines script = filter has_bytes (lines script)
 -- applies it.
 abbrev pub step_of : List ℕ → Result Step Refusal
 step_of line =
-    if bytes_eq line (codes "commit") then Ok asked.Commit
-    else (if bytes_eq line (codes "begin") then Ok asked.Begin
-    else (if bytes_eq line (codes "slice") then Ok asked.Slice
-    else (if bytes_eq line (codes "finish") then Ok asked.Finish else onward (λ command. asked.Apply command) (command_of line))))
+    if bytes_eq line (codes "commit") then Ok requested.Commit
+    else (if bytes_eq line (codes "begin") then Ok requested.Begin
+    else (if bytes_eq line (codes "slice") then Ok requested.Slice
+    else (if bytes_eq line (codes "finish") then Ok requested.Finish else onward (λ command. requested.Apply command) (command_of line))))
 
 -- how the answer of a step is printed: the word before its count depends on the step
 abbrev pub counted_as : Step → List ℕ
-counted_as (asked.Apply command) = []
-counted_as asked.Commit = codes "committed "
-counted_as asked.Begin = codes "begun "
-counted_as asked.Slice = codes "left "
-counted_as asked.Finish = codes "checked "
+counted_as (requested.Apply command) = []
+counted_as requested.Commit = codes "committed "
+counted_as requested.Begin = codes "begun "
+counted_as requested.Slice = codes "left "
+counted_as requested.Finish = codes "checked "
 
 abbrev pub played_text : List ℕ → Played → List ℕ
 played_text word (told.Replied reply) = reply_text reply

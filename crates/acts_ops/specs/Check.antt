@@ -14,7 +14,7 @@ use Rattle.act_disk.specs.Failed.{stream_failed}
 use Rattle.run_plan.specs.PlanOf.{plan_faults, workflow_plan}
 use Rattle.run_plan.specs.ReplyText.{combo_text}
 use Rattle.run_plan.specs.declared.planned.PlannedJob.{PlannedJob}
-use Rattle.acts_ops.specs.Play.{most_bytes}
+use Rattle.acts_ops.specs.declared.input.TheConstants.{MAX_BYTES}
 
 -- `JOB LEG COMBO` and a line feed
 abbrev pub leg_text : List ℕ → ℕ → List ℕ → List ℕ
@@ -40,13 +40,13 @@ abbrev pub checked : List ℕ → Result (List ℕ) Refusal
 checked text = unless_faulty (workflow_faults text ++ plan_faults (workflow_of text)) (plan_lines (workflow_plan (workflow_of text)))
 
 -- nothing, or a prefix of the lines
-abbrev pub IsFront : List ℕ → List ℕ → Type 0
-IsFront text out = (out ≡ []) ⊎ ((rest : List ℕ) × (checked text ≡ Ok (out ++ rest)))
+abbrev pub IsPrefix : List ℕ → List ℕ → Type 0
+IsPrefix text out = (out ≡ []) ⊎ ((rest : List ℕ) × (checked text ≡ Ok (out ++ rest)))
 
 -- what a failed call on a text has written: nothing if the text is refused, and a prefix after a failed stream or out
 -- of memory
 abbrev pub Fails : List ℕ → List ℕ → Refusal → Type 0
-Fails text out e = ((checked text ≡ Err e) × (out ≡ [])) ⊎ (((e ≡ stream_failed) ⊎ (e ≡ no_memory)) × IsFront text out)
+Fails text out e = ((checked text ≡ Err e) × (out ≡ [])) ⊎ (((e ≡ stream_failed) ⊎ (e ≡ no_memory)) × IsPrefix text out)
 
 -- what is written for a text: all lines, unless the call fails
 abbrev pub Written : {U : Type 0} → List ℕ → List ℕ → Result U Refusal → Type 0
@@ -56,7 +56,7 @@ Written text out (Err e) = Fails text out e
 -- How a call on a text ends, and what it has written by then. If a text is too long, or cannot be read to its end
 -- because the stream fails or memory runs out, nothing is written.
 abbrev pub ChecksTo : {U : Type 0} → List ℕ → List ℕ → Result U Refusal → Type 0
-ChecksTo text out (Ok u) = (length text ≤ most_bytes) × (checked text ≡ Ok out)
+ChecksTo text out (Ok u) = (length text ≤ MAX_BYTES) × (checked text ≡ Ok out)
 ChecksTo text out (Err e) =
-    ((e ≡ Numbered InputTooLong) × (most_bytes < length text) × (out ≡ []))
-    ⊎ (((length text ≤ most_bytes) × Fails text out e) ⊎ (((e ≡ stream_failed) ⊎ (e ≡ no_memory)) × (out ≡ [])))
+    ((e ≡ Numbered InputTooLong) × (MAX_BYTES < length text) × (out ≡ []))
+    ⊎ (((length text ≤ MAX_BYTES) × Fails text out e) ⊎ (((e ≡ stream_failed) ⊎ (e ≡ no_memory)) × (out ≡ [])))

@@ -6,15 +6,15 @@ use Rattle.wf_value.specs.declared.code.Code.TheVariants.{InputTooLong}
 use Rattle.wf_value.specs.declared.refusal.Refusal.{Refusal}
 use Rattle.wf_value.specs.declared.refusal.Refusal.TheVariants.{Numbered}
 use Rattle.act_disk.specs.Failed.{stream_failed}
-use Rattle.acts_ops.specs.Play.{most_bytes}
+use Rattle.acts_ops.specs.declared.input.TheConstants.{MAX_BYTES}
 
 -- all of it, if it is not too long
 abbrev pub IsReadAs : List ℕ → List ℕ → Type 0
-IsReadAs bytes input = (bytes ≡ input) × (length input ≤ most_bytes)
+IsReadAs bytes input = (bytes ≡ input) × (length input ≤ MAX_BYTES)
 
 -- it is too long, or the stream failed, or memory ran out
 abbrev pub RefusesInput : Refusal → List ℕ → Type 0
-RefusesInput e input = ((e ≡ Numbered InputTooLong) × (most_bytes < length input)) ⊎ ((e ≡ stream_failed) ⊎ (e ≡ no_memory))
+RefusesInput e input = ((e ≡ Numbered InputTooLong) × (MAX_BYTES < length input)) ⊎ ((e ≡ stream_failed) ⊎ (e ≡ no_memory))
 
 -- at most `most` bytes of a reader are read
 abbrev pub ReadsAtMost : ℕ → Option (List ℕ) → Option (List ℕ) → Type 0

@@ -8,7 +8,7 @@ use Rattle.act_disk.specs.Failed.{stream_failed}
 use Rattle.workflow_lint.specs.Lines.{finding_lines}
 use Rattle.workflow_lint.specs.Plans.{found_in}
 use Rattle.workflow_lint.specs.declared.finding.Finding.{Finding}
-use Rattle.acts_ops.specs.Play.{most_bytes}
+use Rattle.acts_ops.specs.declared.input.TheConstants.{MAX_BYTES}
 
 abbrev pub linted : List ℕ → List ℕ
 linted text = finding_lines (found_in text)
@@ -18,15 +18,15 @@ abbrev pub is_any : List Finding → Bool
 is_any [] = false
 is_any (f ∷ fs) = true
 
-abbrev pub IsFront : List ℕ → List ℕ → Type 0
-IsFront text out = (rest : List ℕ) × (out ++ rest ≡ linted text)
+abbrev pub IsPrefix : List ℕ → List ℕ → Type 0
+IsPrefix text out = (rest : List ℕ) × (out ++ rest ≡ linted text)
 
 -- what is written for a text: all lines, or a prefix of them after a failed stream or out of memory
 abbrev pub Lints : List ℕ → List ℕ → Result Bool Refusal → Type 0
 Lints text out (Ok faulty) = (out ≡ linted text) × (faulty ≡ is_any (found_in text))
-Lints text out (Err e) = ((e ≡ stream_failed) ⊎ (e ≡ no_memory)) × IsFront text out
+Lints text out (Err e) = ((e ≡ stream_failed) ⊎ (e ≡ no_memory)) × IsPrefix text out
 
 -- How a call on a text ends, and what it has written by then. If a text is too long, nothing is written.
 abbrev pub LintsTo : List ℕ → List ℕ → Result Bool Refusal → Type 0
-LintsTo text out (Ok faulty) = (length text ≤ most_bytes) × Lints text out (Ok faulty)
-LintsTo text out (Err e) = ((e ≡ Numbered InputTooLong) × (most_bytes < length text) × (out ≡ [])) ⊎ Lints text out (Err e)
+LintsTo text out (Ok faulty) = (length text ≤ MAX_BYTES) × Lints text out (Ok faulty)
+LintsTo text out (Err e) = ((e ≡ Numbered InputTooLong) × (MAX_BYTES < length text) × (out ≡ [])) ⊎ Lints text out (Err e)

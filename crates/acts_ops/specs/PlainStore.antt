@@ -8,7 +8,7 @@ use Rattle.act_store.specs.StoreState.{Checkpoint, StoreState, table_of}
 use Rattle.act_store.specs.Plain.{committed, entered, fresh}
 use Rattle.act_store.specs.Steps.{left_by, refusal_of}
 use Rattle.act_store.specs.declared.step.Step.{Step}
-use Rattle.act_store.specs.declared.step.Step.TheVariants as asked
+use Rattle.act_store.specs.declared.step.Step.TheVariants as requested
 use Rattle.act_store.specs.declared.step.Played.{Played}
 use Rattle.act_store.specs.declared.step.Played.TheVariants as told
 
@@ -49,11 +49,11 @@ all_checked s (Some checkpoint) = finished s checkpoint tt
 -- The store after a step that is not refused, and its answer. A command is entered and gets the reply of the table's
 -- step, on the table after all entries so far.
 abbrev pub done : PlainStore → Step → PlainStore × Played
-done s (asked.Apply command) = (entered s 0 command, told.Replied (stepped (table_of s) command).reply)
-done s asked.Commit = (all_covered s, told.Count (length s.history))
-done s asked.Begin = (begun_at s tt, told.Count (17 + text_length (table_of s)))
-done s asked.Slice = (sliced s tt, told.Count (left_of (sliced s tt).begun))
-done s asked.Finish = (all_checked s s.begun, told.Count (length s.history))
+done s (requested.Apply command) = (entered s 0 command, told.Replied (stepped (table_of s) command).reply)
+done s requested.Commit = (all_covered s, told.Count (length s.history))
+done s requested.Begin = (begun_at s tt, told.Count (17 + text_length (table_of s)))
+done s requested.Slice = (sliced s tt, told.Count (left_of (sliced s tt).begun))
+done s requested.Finish = (all_checked s s.begun, told.Count (length s.history))
 
 -- the store after a step, and its answer
 abbrev pub taken_unless : PlainStore → Step → Option Refusal → PlainStore × Played

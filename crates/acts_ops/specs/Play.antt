@@ -11,13 +11,10 @@ use Rattle.act_disk.specs.Failed.{device_failed, stream_failed}
 use Rattle.act_store.specs.Plain.{broken}
 use Rattle.act_store.specs.Steps.{MayCallDevice, refusal_of}
 use Rattle.act_store.specs.declared.step.Step.{Step}
-use Rattle.act_store.specs.declared.step.Step.TheVariants as asked
+use Rattle.act_store.specs.declared.step.Step.TheVariants as requested
 use Rattle.acts_ops.specs.Answers.{carried_out, output_from, printed, script_lines, step_of}
 use Rattle.acts_ops.specs.PlainStore.{PlainStore, start}
-
--- the longest input that is read
-abbrev pub most_bytes : ℕ
-most_bytes = 1048576
+use Rattle.acts_ops.specs.declared.input.TheConstants.{MAX_BYTES}
 
 -- `refused 50`
 abbrev pub memory_refused : List ℕ
@@ -30,20 +27,20 @@ device_refused = refusal_text device_failed
 -- the line is a command, or no step at all
 abbrev pub IsOfCommand : Result Step Refusal → Type 0
 IsOfCommand (Err e) = ⊤
-IsOfCommand (Ok (asked.Apply command)) = ⊤
-IsOfCommand (Ok asked.Commit) = ⊥
-IsOfCommand (Ok asked.Begin) = ⊥
-IsOfCommand (Ok asked.Slice) = ⊥
-IsOfCommand (Ok asked.Finish) = ⊥
+IsOfCommand (Ok (requested.Apply command)) = ⊤
+IsOfCommand (Ok requested.Commit) = ⊥
+IsOfCommand (Ok requested.Begin) = ⊥
+IsOfCommand (Ok requested.Slice) = ⊥
+IsOfCommand (Ok requested.Finish) = ⊥
 
 -- A line may run out of memory: for the command that is read from it, or for a checkpoint that is not refused.
 abbrev pub WantsMemory : PlainStore → Result Step Refusal → Type 0
 WantsMemory s (Err e) = ⊤
-WantsMemory s (Ok (asked.Apply command)) = ⊤
-WantsMemory s (Ok asked.Commit) = ⊥
-WantsMemory s (Ok asked.Begin) = refusal_of s asked.Begin ≡ None
-WantsMemory s (Ok asked.Slice) = ⊥
-WantsMemory s (Ok asked.Finish) = refusal_of s asked.Finish ≡ None
+WantsMemory s (Ok (requested.Apply command)) = ⊤
+WantsMemory s (Ok requested.Commit) = ⊥
+WantsMemory s (Ok requested.Begin) = refusal_of s requested.Begin ≡ None
+WantsMemory s (Ok requested.Slice) = ⊥
+WantsMemory s (Ok requested.Finish) = refusal_of s requested.Finish ≡ None
 
 -- The disk may fail in a step that is not refused, if the step may call it.
 abbrev pub CallsDisk : PlainStore → Result Step Refusal → Type 0
@@ -86,7 +83,7 @@ Plays faults script out end = PlaysFrom start faults script out end
 
 -- all of what a script may write, or a prefix of it
 abbrev pub PlaysTo : ℕ → List ℕ → List ℕ → ℕ → Type 0
-PlaysTo faults script out end = (length script ≤ most_bytes) × (rest : List ℕ) × Plays faults script (out ++ rest) end
+PlaysTo faults script out end = (length script ≤ MAX_BYTES) × (rest : List ℕ) × Plays faults script (out ++ rest) end
 
 -- nothing was written, and no disk call failed
 abbrev pub IsUnplayed : ℕ → List ℕ → ℕ → Type 0
@@ -96,8 +93,8 @@ IsUnplayed faults out end = (out ≡ []) × (end ≡ faults)
 -- script is too long, nothing is written. After a failed stream, or out of memory outside a line, a prefix has been
 -- written.
 abbrev pub Ends : {U : Type 0} → ℕ → List ℕ → List ℕ → ℕ → Result U Refusal → Type 0
-Ends faults script out end (Ok u) = (length script ≤ most_bytes) × Plays faults script out end
+Ends faults script out end (Ok u) = (length script ≤ MAX_BYTES) × Plays faults script out end
 Ends faults script out end (Err e) =
-    ((e ≡ Numbered InputTooLong) × (most_bytes < length script) × IsUnplayed faults out end)
+    ((e ≡ Numbered InputTooLong) × (MAX_BYTES < length script) × IsUnplayed faults out end)
     ⊎ (((e ≡ device_failed) × (out ≡ []) × (end ≡ faults + 1))
     ⊎ (((e ≡ stream_failed) ⊎ (e ≡ no_memory)) × (IsUnplayed faults out end ⊎ PlaysTo faults script out end)))

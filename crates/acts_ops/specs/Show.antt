@@ -63,12 +63,12 @@ abbrev pub IsMissing : (TableState → Result (List ℕ) Refusal) → List ℕ �
 IsMissing lines image e = (t : TableState) × RecoversTo t image × (lines t ≡ Err e)
 
 -- a prefix of what is shown of the table that an image recovers to
-abbrev pub IsFrontOf : (TableState → Result (List ℕ) Refusal) → List ℕ → List ℕ → Type 0
-IsFrontOf lines image out = (t : TableState) × RecoversTo t image × (rest : List ℕ) × (lines t ≡ Ok (out ++ rest))
+abbrev pub IsPrefixOf : (TableState → Result (List ℕ) Refusal) → List ℕ → List ℕ → Type 0
+IsPrefixOf lines image out = (t : TableState) × RecoversTo t image × (rest : List ℕ) × (lines t ≡ Ok (out ++ rest))
 
 -- how a call that shows such lines ends, and what it has written by then
 abbrev pub Shows : {U : Type 0} → (TableState → Result (List ℕ) Refusal) → List ℕ → List ℕ → Result U Refusal → Type 0
 Shows lines image out (Ok u) = (t : TableState) × RecoversTo t image × (lines t ≡ Ok out)
 Shows lines image out (Err e) =
     ((out ≡ []) × IsRefusedWith image e)
-    ⊎ (((out ≡ []) × IsMissing lines image e) ⊎ (((e ≡ stream_failed) ⊎ (e ≡ no_memory)) × IsFrontOf lines image out))
+    ⊎ (((out ≡ []) × IsMissing lines image e) ⊎ (((e ≡ stream_failed) ⊎ (e ≡ no_memory)) × IsPrefixOf lines image out))

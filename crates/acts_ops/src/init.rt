@@ -7,6 +7,7 @@ ghost use Rattle.run_table.specs.Step.{empty};
 ghost use Rattle.act_store.specs.Images.{RecoversTo};
 ghost use Rattle.act_store.specs.Plain.{disk_not_empty};
 ghost use Rattle.act_store.specs.FaultCauses.{TellsFault};
+ghost use Rattle.act_store.specs.declared.init.TheConstants.{MAX_AREA, MIN_AREA};
 ghost use Rattle.acts_ops.specs.Made.{Makes, made_line};
 
 use act_disk::Disk;
@@ -19,7 +20,7 @@ use wf_value::Refusal;
 /// Writes `made` and a line feed.
 fn write_made<W: Write>(writer: &mut W) -> Result<(), Refusal>
     ensures all { OnOk result (Appends (W.contents writer.old) (W.contents writer.new) made_line) }
-    ensures front { (n : ℕ) × Appends (W.contents writer.old) (W.contents writer.new) (take n made_line) }
+    ensures prefix { (n : ℕ) × Appends (W.contents writer.old) (W.contents writer.new) (take n made_line) }
     ensures err { IfErr result (λ e. e ≡ stream_failed) }
 {
     write_whole(writer, b"made\n")?;
@@ -36,15 +37,15 @@ pub fn run_init<D: Disk, W: Write>(
     writer: &mut W,
 ) -> (D, Result<(), Refusal>)
     requires countable { D.fault_count disk < u64.MAX }
-    requires least { 4096 ≤ area }
-    requires most { area ≤ 1073741824 }
+    requires least { MIN_AREA ≤ area }
+    requires most { area ≤ MAX_AREA }
     ensures written { (out : List ℕ) × Appends (W.contents writer.old) (W.contents writer.new) out × Makes (D.size disk) out result.1 }
     ensures occupied { (D.size disk ≡ 0 → ⊥) → result ≡ (disk, Err disk_not_empty) }
     ensures size { OnOk result.1 (D.size result.0 ≡ area + area) }
     // The error is 51 exactly if a disk call failed. If none failed on an empty disk, the disk recovers to the
     // empty table, whether or not the output was written.
     ensures faults { TellsFault result.1 (D.fault_count disk) (D.fault_count result.0) }
-    ensures stands { D.size disk ≡ 0 → D.fault_count result.0 ≡ D.fault_count disk
+    ensures recovers { D.size disk ≡ 0 → D.fault_count result.0 ≡ D.fault_count disk
         → D.honest result.0 → (c : List ℕ) → D.images result.0 c → RecoversTo empty c }
     ensures honest { D.honest result.0 ↔ D.honest disk }
 {

@@ -1,7 +1,7 @@
 ghost use Rattle.std.specs.Prelude.{◌≡◌, ◌<◌, ◌∷◌, [], length, MatchOption};
 ghost use Rattle.std.specs.Str.Lines.{lines};
 
-use command_lines::{place_of_line_feed, strip_carriage_return};
+use command_lines::{line_feed_index, strip_carriage_return};
 
 /// The first line of a text and everything after it, or `None` at the end of the text. A line ends at a line feed, and
 /// one carriage return before it is dropped. The last line may lack its line feed.
@@ -13,7 +13,7 @@ pub fn first_line(text: &[u8]) -> Option<(&[u8], &[u8])>
     if text.is_empty() {
         return None;
     }
-    match place_of_line_feed(text) {
+    match line_feed_index(text) {
         Some(place) => Some((strip_carriage_return(&text[..place]), &text[place + 1..])),
         None => Some((text, &[])),
     }

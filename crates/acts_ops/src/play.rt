@@ -28,7 +28,7 @@ fn play_line<D: Disk, W: Write>(
     ensures all { OnOk result ((a : List ℕ)
         × IsAnswer (without_disk store.old) (D.fault_count store.old.disk) line.now a (without_disk store.new) (D.fault_count store.new.disk)
         × Appends (W.contents writer.old) (W.contents writer.new) (a ++ 10 ∷ [])) }
-    ensures front { (a : List ℕ) × (n : ℕ)
+    ensures prefix { (a : List ℕ) × (n : ℕ)
         × IsAnswer (without_disk store.old) (D.fault_count store.old.disk) line.now a (without_disk store.new) (D.fault_count store.new.disk)
         × Appends (W.contents writer.old) (W.contents writer.new) (take n (a ++ 10 ∷ [])) }
     ensures err { IfErr result (λ e. (e ≡ stream_failed) ⊎ (e ≡ no_memory)) }
@@ -47,7 +47,7 @@ fn play<D: Disk, W: Write>(
 ) -> Result<(), Refusal>
     ensures all { OnOk result ((out : List ℕ) × Appends (W.contents writer.old) (W.contents writer.new) out
         × PlaysFrom (without_disk store.old) (D.fault_count store.old.disk) script.now out (D.fault_count store.new.disk)) }
-    ensures front { (out : List ℕ) × (rest : List ℕ) × Appends (W.contents writer.old) (W.contents writer.new) out
+    ensures prefix { (out : List ℕ) × (rest : List ℕ) × Appends (W.contents writer.old) (W.contents writer.new) out
         × PlaysFrom (without_disk store.old) (D.fault_count store.old.disk) script.now (out ++ rest) (D.fault_count store.new.disk) }
     ensures err { IfErr result (λ e. (e ≡ stream_failed) ⊎ (e ≡ no_memory)) }
 {

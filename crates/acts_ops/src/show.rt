@@ -18,12 +18,12 @@ use act_disk::Disk;
 use act_store::Store;
 use byte_streams::{flush, write_whole};
 use run_plan::Number;
+use run_states::MAX_RUNS;
 use run_table::{RunView, Table};
 use std::alloc::Global;
 use std::io::Write;
 use table_views::{Form, queue_text, run_line, runners_text};
 use wf_value::{Code, Refusal};
-use workflow_runs::runs::MAX_RUNS;
 
 fn write_view<W: Write>(
     alloc: Global,
@@ -142,7 +142,7 @@ pub fn run_show<D: Disk, W: Write>(
         × Shows (shown form what) (D.seen disk) out result.1 }
     // The error is 51 exactly if a disk call failed. Without an open area it is 53 or 51, even when out of memory.
     ensures faults { TellsFault result.1 (D.fault_count disk) (D.fault_count result.0) }
-    ensures nothing_stands { D.honest result.0 → HasNoArea (D.seen disk) → IsErrAnd result.1 TellsNoArea }
+    ensures tells_no_area { D.honest result.0 → HasNoArea (D.seen disk) → IsErrAnd result.1 TellsNoArea }
     ensures any_moment { D.honest result.0 → EachSince D.moment D.images_since disk result.0 (D.images disk) }
     ensures honest { D.honest result.0 → D.honest disk }
 {

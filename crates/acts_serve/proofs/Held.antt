@@ -5,7 +5,7 @@ use Rattle.std.specs.Io.KnownBytes.{Appends}
 use Rattle.std.specs.declared.net.tcp.TcpListener.{TcpListener}
 use Rattle.std.proofs.lemmas.List.Elements.{All-append, All-cons, All-head, All-nil}
 use Rattle.act_store.specs.declared.entry.Entry.{Entry}
-use Rattle.acts_serve.specs.Rounds.{AreGood, HasServed, HaveTurned, IsRound}
+use Rattle.acts_serve.specs.Rounds.{AreGood, HasServed, RoundsEnded, IsRound}
 use Rattle.acts_serve.specs.Telling.{line_of_history, ready_line, service_lines}
 use Rattle.acts_serve.proofs.Lines.{first_line, next_line}
 
@@ -24,7 +24,7 @@ module _ (hooks runners : TcpListener) (sessions : ℕ) where
 
   pub first_round : (old mid new : Option (List ℕ)) (broken : Bool) (history : List Entry) → Appends old mid ready_line
       → Appends mid new (line_of_history history) → IsRound hooks runners sessions broken history
-      → HaveTurned hooks runners sessions 1 broken old new history
+      → RoundsEnded hooks runners sessions 1 broken old new history
   first_round old mid new broken history ready settled round = record {
     before = [];
     count = refl;
@@ -33,8 +33,8 @@ module _ (hooks runners : TcpListener) (sessions : ℕ) where
   }
 
   pub next_round : (rounds : ℕ) (was now : Bool) (old mid new : Option (List ℕ)) (last history : List Entry)
-      → HaveTurned hooks runners sessions rounds was old mid last → Appends mid new (line_of_history history)
-      → IsRound hooks runners sessions now history → HaveTurned hooks runners sessions (rounds + 1) (was || now) old new history
+      → RoundsEnded hooks runners sessions rounds was old mid last → Appends mid new (line_of_history history)
+      → IsRound hooks runners sessions now history → RoundsEnded hooks runners sessions (rounds + 1) (was || now) old new history
   next_round rounds was now old mid new last history so_far settled round =
       let histories : List (List Entry) = so_far.before ++ last ∷ [] in
       record {
@@ -45,7 +45,7 @@ module _ (hooks runners : TcpListener) (sessions : ℕ) where
       }
 
   pub all_served : (rounds count : ℕ) (broken : Bool) (old new : Option (List ℕ)) (history : List Entry)
-      → HaveTurned hooks runners sessions count broken old new history → count ≡ rounds - 1 + 1 → broken ≡ false
+      → RoundsEnded hooks runners sessions count broken old new history → count ≡ rounds - 1 + 1 → broken ≡ false
       → HasServed hooks runners sessions rounds old new history
   all_served rounds count broken old new history turned all is = record {
     before = turned.before;
@@ -57,7 +57,7 @@ module _ (hooks runners : TcpListener) (sessions : ℕ) where
   -- what a service returns on success
   pub ends_served : {S E : Type 0} (history_of : S → List Entry) (last : S) (r : Result S E) (rounds count : ℕ) (broken : Bool)
       (old new : Option (List ℕ)) → IfOk r (λ store. (broken ≡ false) × (store ≡ last)) → count ≡ rounds - 1 + 1
-      → HaveTurned hooks runners sessions count broken old new (history_of last)
+      → RoundsEnded hooks runners sessions count broken old new (history_of last)
       → IfOk r (λ store. HasServed hooks runners sessions rounds old new (history_of store))
   ends_served history_of last (Ok store) rounds count broken old new ends all turned =
       subst (λ s. HasServed hooks runners sessions rounds old new (history_of s)) (sym ends.1)

@@ -1,4 +1,4 @@
 -- Lemmas of a service.
 pub mod Held
 pub mod Lines
-pub mod Turns
+pub mod Yielding

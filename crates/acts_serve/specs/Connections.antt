@@ -22,10 +22,10 @@ IsHeard (Hook listener) t = EndsOverSome hooks t ⊎ IsUnaccepted t
 IsHeard (Runner listener) t = EndsOverSome runner_rules t ⊎ IsUnaccepted t
 
 -- one session on each port alternately, that of HTTP first
-abbrev pub AreByTurns : TcpListener → TcpListener → List Connection → Type 0
-AreByTurns hook_port runner_port [] = ⊤
-AreByTurns hook_port runner_port (Hook h ∷ []) = ⊥
-AreByTurns hook_port runner_port (Hook h ∷ Hook more ∷ connections) = ⊥
-AreByTurns hook_port runner_port (Hook h ∷ Runner r ∷ connections) =
-    (h.now ≡ hook_port) × (r.now ≡ runner_port) × AreByTurns hook_port runner_port connections
-AreByTurns hook_port runner_port (Runner r ∷ connections) = ⊥
+abbrev pub Alternate : TcpListener → TcpListener → List Connection → Type 0
+Alternate hook_port runner_port [] = ⊤
+Alternate hook_port runner_port (Hook h ∷ []) = ⊥
+Alternate hook_port runner_port (Hook h ∷ Hook more ∷ connections) = ⊥
+Alternate hook_port runner_port (Hook h ∷ Runner r ∷ connections) =
+    (h.now ≡ hook_port) × (r.now ≡ runner_port) × Alternate hook_port runner_port connections
+Alternate hook_port runner_port (Runner r ∷ connections) = ⊥

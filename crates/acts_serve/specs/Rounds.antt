@@ -7,7 +7,7 @@ use Rattle.act_desk.specs.Settled.{HaveEnded, IsSettled, NoneBroken}
 use Rattle.act_sessions.specs.declared.transcript.Transcript.{Transcript}
 use Rattle.act_store.specs.declared.entry.Entry.{Entry}
 use Rattle.acts_serve.specs.Telling.{service_lines}
-use Rattle.acts_serve.specs.Connections.{AreByTurns, IsHeard}
+use Rattle.acts_serve.specs.Connections.{Alternate, IsHeard}
 use Rattle.acts_serve.specs.declared.connection.Connection.{Connection}
 
 -- These sessions have ended, each with input in its port's protocol or without a stream, and the history is what they
@@ -23,7 +23,7 @@ pub record AreHeld (connections : List Connection) (broken : Bool) (history : Li
 pub record IsRound (hooks runners : TcpListener) (sessions : ℕ) (broken : Bool) (history : List Entry) : Type 0 where
   pub connections : List Connection
   pub count : length connections ≡ sessions + sessions
-  pub by_turns : AreByTurns hooks runners connections
+  pub alternate : Alternate hooks runners connections
   pub held : AreHeld connections broken history
 
 abbrev pub AreGood : TcpListener → TcpListener → ℕ → List (List Entry) → Type 0
@@ -31,7 +31,7 @@ AreGood hooks runners sessions histories = All (IsRound hooks runners sessions f
 
 -- So many rounds have ended, the last one with this history, and a line is written for each. If `broken` is false, no
 -- stream failed in any of them.
-pub record HaveTurned (hooks runners : TcpListener) (sessions rounds : ℕ) (broken : Bool) (old new : Option (List ℕ)) (history : List Entry) : Type 0 where
+pub record RoundsEnded (hooks runners : TcpListener) (sessions rounds : ℕ) (broken : Bool) (old new : Option (List ℕ)) (history : List Entry) : Type 0 where
   pub before : List (List Entry)
   pub count : length before + 1 ≡ rounds
   pub announced : Appends old new (service_lines (before ++ history ∷ []))

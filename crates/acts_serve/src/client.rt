@@ -1,6 +1,6 @@
 //! A client connected to a port. Its stream is non-blocking.
 
-use act_sessions::{Protocol, Standing};
+use act_sessions::{Protocol, SessionState};
 use std::alloc::Global;
 use std::io;
 use std::io::{ErrorKind, Read};
@@ -20,7 +20,7 @@ const READS: usize = 128;
 #[derive(Drop)]
 pub(crate) struct Client<P: Protocol> {
     pub(crate) stream: TcpStream,
-    pub(crate) standing: Standing<P>,
+    pub(crate) session_state: SessionState<P>,
     /// Its slot among the clients of its port.
     pub(crate) place: usize,
     /// When something was last read from it.
@@ -41,7 +41,7 @@ impl<P: Protocol> Client<P> {
         stream.set_nonblocking(true)?;
         Ok(Client {
             stream,
-            standing: Standing::new(alloc),
+            session_state: SessionState::new(alloc),
             place,
             heard: Instant::now(clock)?,
             discarded: None,

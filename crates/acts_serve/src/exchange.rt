@@ -22,7 +22,7 @@ pub(crate) enum Pause {
 }
 
 /// Decides whether a seat goes on reading from its client.
-pub(crate) trait Turns {
+pub(crate) trait Yielding {
     /// Whether the seat must leave its client after this many answers.
     fn must_yield(&self, answers: u64) -> bool;
 
@@ -32,12 +32,12 @@ pub(crate) trait Turns {
 
 /// Makes the seats of a port leave their clients when others wait or the history turns over.
 #[derive(Drop)]
-pub(crate) struct SeatTurns<'a, P: Protocol, R: Wait + Clock> {
+pub(crate) struct SeatYielding<'a, P: Protocol, R: Wait + Clock> {
     pub(crate) service: &'a Service<'a, R>,
     pub(crate) port: &'a Port<'a, P>,
 }
 
-impl<P: Protocol, R: Wait + Clock> Turns for SeatTurns<'_, P, R> {
+impl<P: Protocol, R: Wait + Clock> Yielding for SeatYielding<'_, P, R> {
     fn must_yield(&self, answers: u64) -> bool {
         self.port.must_yield(self.service.rt, answers)
     }
@@ -49,9 +49,9 @@ impl<P: Protocol, R: Wait + Clock> Turns for SeatTurns<'_, P, R> {
 
 /// Reads from a client. The input ends when there is nothing more to read yet, or when the seat must leave the client.
 #[derive(Drop)]
-pub(crate) struct ClientReader<'s, 't, 'a, T: Turns> {
+pub(crate) struct ClientReader<'s, 't, 'a, T: Yielding> {
     stream: &'s TcpStream,
-    turns: &'t T,
+    yielding: &'t T,
     /// The number of answers written in this part.
     answers: &'a AtomicU64,
     /// Whether something was read.
@@ -59,15 +59,15 @@ pub(crate) struct ClientReader<'s, 't, 'a, T: Turns> {
     pub(crate) pause: Pause,
 }
 
-impl<'s, 't, 'a, T: Turns> ClientReader<'s, 't, 'a, T> {
+impl<'s, 't, 'a, T: Yielding> ClientReader<'s, 't, 'a, T> {
     pub(crate) fn new(
         stream: &'s TcpStream,
-        turns: &'t T,
+        yielding: &'t T,
         answers: &'a AtomicU64,
     ) -> ClientReader<'s, 't, 'a, T> {
         ClientReader {
             stream,
-            turns,
+            yielding,
             answers,
             heard: false,
             pause: Pause::Closed,
@@ -75,9 +75,12 @@ impl<'s, 't, 'a, T: Turns> ClientReader<'s, 't, 'a, T> {
     }
 }
 
-impl<T: Turns> Read for ClientReader<'_, '_, '_, T> {
+impl<T: Yielding> Read for ClientReader<'_, '_, '_, T> {
     fn read(&mut self, buffer: &mut [u8]) -> io::Result<usize> {
-        if self.turns.must_yield(self.answers.load(Ordering::SeqCst)) {
+        if self
+            .yielding
+            .must_yield(self.answers.load(Ordering::SeqCst))
+        {
             self.pause = Pause::Yields;
             return Ok(0);
         }
@@ -85,7 +88,7 @@ impl<T: Turns> Read for ClientReader<'_, '_, '_, T> {
         match stream.read(buffer) {
             Ok(count) => {
                 self.heard = self.heard || count > 0;
-                self.turns.moves(count);
+                self.yielding.moves(count);
                 Ok(count)
             }
             Err(e) if e.kind() == ErrorKind::WouldBlock => {
@@ -99,26 +102,26 @@ impl<T: Turns> Read for ClientReader<'_, '_, '_, T> {
 
 /// Writes to a client. If the client does not read, it waits, for at most `patience` in total.
 #[derive(Drop)]
-pub(crate) struct ClientWriter<'c, 's, 't, 'a, C: Clock, T: Turns> {
+pub(crate) struct ClientWriter<'c, 's, 't, 'a, C: Clock, T: Yielding> {
     clock: &'c C,
     stream: &'s TcpStream,
-    turns: &'t T,
+    yielding: &'t T,
     answers: &'a AtomicU64,
     patience: Duration,
 }
 
-impl<'c, 's, 't, 'a, C: Clock, T: Turns> ClientWriter<'c, 's, 't, 'a, C, T> {
+impl<'c, 's, 't, 'a, C: Clock, T: Yielding> ClientWriter<'c, 's, 't, 'a, C, T> {
     pub(crate) fn new(
         clock: &'c C,
         stream: &'s TcpStream,
-        turns: &'t T,
+        yielding: &'t T,
         answers: &'a AtomicU64,
         patience: Duration,
     ) -> ClientWriter<'c, 's, 't, 'a, C, T> {
         ClientWriter {
             clock,
             stream,
-            turns,
+            yielding,
             answers,
             patience,
         }
@@ -141,13 +144,13 @@ impl<'c, 's, 't, 'a, C: Clock, T: Turns> ClientWriter<'c, 's, 't, 'a, C, T> {
     }
 }
 
-impl<C: Clock, T: Turns> Write for ClientWriter<'_, '_, '_, '_, C, T> {
+impl<C: Clock, T: Yielding> Write for ClientWriter<'_, '_, '_, '_, C, T> {
     fn write(&mut self, bytes: &[u8]) -> io::Result<usize> {
         for _ in 0..u64::MAX {
             let mut stream = self.stream;
             match stream.write(bytes) {
                 Ok(count) => {
-                    self.turns.moves(count);
+                    self.yielding.moves(count);
                     return Ok(count);
                 }
                 Err(e) if e.kind() == ErrorKind::WouldBlock => {
@@ -160,7 +163,7 @@ impl<C: Clock, T: Turns> Write for ClientWriter<'_, '_, '_, '_, C, T> {
             }
         }
         // These bytes count too, since the answer is kept.
-        self.turns.moves(bytes.len());
+        self.yielding.moves(bytes.len());
         Err(io::Error::from(ErrorKind::BrokenPipe))
     }
 

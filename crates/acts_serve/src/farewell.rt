@@ -2,7 +2,7 @@
 //! closed.
 
 use crate::client::Client;
-use crate::exchange::Turns;
+use crate::exchange::Yielding;
 use crate::port::{MAX_CLIENTS, Port};
 use crate::seat::{Then, hold_part};
 use crate::watch::accept_all;
@@ -41,7 +41,7 @@ impl Answer for Refusing {
 /// No other client needs the seat.
 struct Alone;
 
-impl Turns for Alone {
+impl Yielding for Alone {
     fn must_yield(&self, _answers: u64) -> bool {
         false
     }
@@ -61,7 +61,7 @@ fn part_with<P: Protocol, C: Clock>(clock: &C, alloc: Global, client: &mut Clien
         &Alone,
         Duration::ZERO,
         &client.stream,
-        &mut client.standing,
+        &mut client.session_state,
         &mut refusing,
         &mut transcript,
     );

@@ -57,7 +57,7 @@ fn turned_over<D: Disk + Drop, R: Wait + Clock>(
     alloc: Global,
     store: Store<D>,
 ) -> Result<Store<D>, Refusal>
-    ensures { IfOk result (λ anew. anew.history ≡ []) }
+    ensures { IfOk result (λ restarted. restarted.history ≡ []) }
 {
     let mut store = store;
     for _ in rt.forever() {
@@ -80,7 +80,7 @@ fn next_history<D: Disk + Drop, R: Wait + Clock, O: Write>(
     is_first: bool,
     out: &mut O,
 ) -> Result<Store<D>, Refusal>
-    ensures { IfOk result (λ anew. anew.history ≡ []) }
+    ensures { IfOk result (λ restarted. restarted.history ≡ []) }
 {
     let Settled { store, transcripts } = settled;
     let lacking = none_begun(transcripts.as_slice()) || service.is_unseated();
@@ -109,7 +109,7 @@ fn hold_history<D: Disk + Drop + Send, R: Threads + Wait + Clock + Sync, O: Writ
 ) -> Result<Store<D>, Refusal>
     requires fresh { store.history ≡ [] }
     requires sessions { (0 < sessions) × (sessions ≤ 32) }
-    ensures { IfOk result (λ anew. anew.history ≡ []) }
+    ensures { IfOk result (λ restarted. restarted.history ≡ []) }
 {
     let Ok(seats) = seats(alloc, service, sessions) else {
         rest(service.rt, is_first)?;

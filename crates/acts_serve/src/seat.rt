@@ -4,11 +4,11 @@ ghost use Rattle.std.specs.Prelude.{◌≡◌, ◌<◌, ◌≤◌, ◌++◌, Lis
 ghost use Rattle.act_sessions.specs.Exchange.{AreAsked, OnlyLastOpen, Exchange, exchanges_by};
 
 use crate::client::Client;
-use crate::exchange::{ClientReader, ClientWriter, Pause, SeatTurns, Turns};
+use crate::exchange::{ClientReader, ClientWriter, Pause, SeatYielding, Yielding};
 use crate::port::Port;
 use crate::service::Service;
 use act_sessions::{
-    Answer, Ending, Part, Parts, Protocol, SessionFault, Standing, Transcript, Work, is_open,
+    Answer, Ending, Part, Parts, Protocol, SessionFault, SessionState, Transcript, Work, is_open,
     run_parts,
 };
 use std::alloc::{AllocError, Global};
@@ -25,7 +25,7 @@ const PATIENCE: u64 = 1_000;
 #[derive(Clone, Copy, Debug, PartialEq, Eq)]
 pub(crate) enum Then {
     /// The seat leaves it until it sends something.
-    Waits,
+    AwaitsInput,
     /// It may have sent more, so it waits for a seat again.
     Queues,
     /// Its session is over, and writing to it is shut down.
@@ -37,9 +37,9 @@ pub(crate) enum Then {
 /// What happens to a client after a part that ended this way, where the input paused for this reason.
 fn then_of(end: Part, pause: Pause) -> Then {
     match (end, pause) {
-        (Part::Waits, Pause::Silent) => Then::Waits,
-        (Part::Waits, Pause::Yields) => Then::Queues,
-        (Part::Waits, Pause::Closed) => Then::Closes,
+        (Part::AwaitsInput, Pause::Silent) => Then::AwaitsInput,
+        (Part::AwaitsInput, Pause::Yields) => Then::Queues,
+        (Part::AwaitsInput, Pause::Closed) => Then::Closes,
         (Part::Over(Ending::Broken), _) => Then::Closes,
         (Part::Over(_), _) => Then::Leaves,
     }
@@ -55,13 +55,13 @@ pub(crate) struct Held {
 
 /// Serves a part of a session over a stream: from the current state of the session until there is nothing more to read,
 /// the seat must leave the client, or the session is over.
-pub(crate) fn hold_part<P: Protocol, T: Turns, C: Clock, A: Answer>(
+pub(crate) fn hold_part<P: Protocol, T: Yielding, C: Clock, A: Answer>(
     clock: &C,
     alloc: Global,
-    turns: &T,
+    yielding: &T,
     patience: Duration,
     stream: &TcpStream,
-    standing: &mut Standing<P>,
+    session_state: &mut SessionState<P>,
     answerer: &mut A,
     transcript: &mut Transcript,
 ) -> Held
@@ -69,9 +69,9 @@ pub(crate) fn hold_part<P: Protocol, T: Turns, C: Clock, A: Answer>(
         × (exchanges_by transcript.new ≡ exchanges_by transcript.old ++ exchanges) × OnlyLastOpen exchanges }
 {
     let answers = AtomicU64::new(0);
-    let mut reader = ClientReader::new(stream, turns, &answers);
-    let mut writer = ClientWriter::new(clock, stream, turns, &answers, patience);
-    let end = standing.go_on(alloc, &mut reader, &mut writer, answerer, transcript);
+    let mut reader = ClientReader::new(stream, yielding, &answers);
+    let mut writer = ClientWriter::new(clock, stream, yielding, &answers, patience);
+    let end = session_state.go_on(alloc, &mut reader, &mut writer, answerer, transcript);
     Held {
         heard: reader.heard,
         then: then_of(end, reader.pause),
@@ -91,7 +91,7 @@ impl<P: Protocol, R: Wait + Clock> Seat<'_, P, R> {
         let mut client = client;
         let rt = self.service.rt;
         match then {
-            Then::Waits => self.port.wait_for(rt, client),
+            Then::AwaitsInput => self.port.wait_for(rt, client),
             Then::Queues => self.port.queue(rt, client),
             Then::Leaves => {
                 let stays = client.leave(rt);
@@ -128,17 +128,17 @@ impl<P: Protocol, R: Wait + Clock> Parts for Seat<'_, P, R> {
             self.see_off(client, stays);
             return true;
         }
-        let turns = SeatTurns {
+        let yielding = SeatYielding {
             service: self.service,
             port: self.port,
         };
         let held = hold_part(
             rt,
             alloc,
-            &turns,
+            &yielding,
             Duration::from_millis(PATIENCE),
             &client.stream,
-            &mut client.standing,
+            &mut client.session_state,
             answerer,
             transcript,
         );

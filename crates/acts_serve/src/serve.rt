@@ -3,7 +3,7 @@ ghost use Rattle.std.specs.Io.KnownBytes.{Appends};
 ghost use Rattle.act_store.specs.declared.entry.Entry.{Entry};
 ghost use Rattle.acts_serve.specs.Rounds.{AreHeld, HasServed, IsRound};
 ghost use Rattle.acts_serve.specs.Telling.{line_of_history, service_lines};
-ghost use Rattle.acts_serve.specs.Connections.{AreByTurns};
+ghost use Rattle.acts_serve.specs.Connections.{Alternate};
 
 use crate::connection::Connection;
 use crate::telling::{tell_ready, tell_settled};
@@ -29,7 +29,7 @@ fn connections<'a>(
 ) -> Result<Vec<Connection<'a>>, Refusal>
     requires { (0 < sessions) × (sessions ≤ 32) }
     ensures count { IfOk result (λ v. length v.items ≡ sessions + sessions) }
-    ensures by_turns { IfOk result (λ v. AreByTurns hooks.now runners.now v.items) }
+    ensures alternate { IfOk result (λ v. Alternate hooks.now runners.now v.items) }
 {
     let mut connections = Vec::new(alloc);
     for _ in 0..sessions {
@@ -100,7 +100,7 @@ fn serve_round<'a, D: Disk + Drop + Send, R: Threads + Wait + Clock + Sync, O: W
 
 /// A reconciled store with a new history.
 fn turned_over<D: Disk + Drop>(store: Store<D>) -> Result<Store<D>, Refusal>
-    ensures { IfOk result (λ anew. anew.history ≡ []) }
+    ensures { IfOk result (λ restarted. restarted.history ≡ []) }
 {
     let mut store = store;
     store.turn_over()?;
@@ -125,8 +125,8 @@ fn serve_next<D: Disk + Drop + Send, R: Threads + Wait + Clock + Sync, O: Write>
         return Err(Refusal::Numbered(Code::NoMemory));
     }
     let next = connections(alloc, hooks, runners, sessions)?;
-    let anew = turned_over(last.store)?;
-    serve_round(rt, alloc, anew, next, out)
+    let restarted = turned_over(last.store)?;
+    serve_round(rt, alloc, restarted, next, out)
 }
 
 /// The result of a service after its last round. The error is 50 if there were several rounds and no session of the last

@@ -5,4 +5,4 @@ mod input;
 mod output;
 
 pub use input::read_some;
-pub use output::{flush, write_front, write_whole};
+pub use output::{flush, write_prefix, write_whole};

@@ -22,9 +22,9 @@ fn write_some<W: Write>(writer: &mut W, bytes: &[u8]) -> Result<usize, Refusal>
 }
 
 /// Writes the bytes in order until a write fails or accepts no byte. Returns how many were written.
-pub fn write_front<W: Write>(writer: &mut W, bytes: &[u8]) -> usize
+pub fn write_prefix<W: Write>(writer: &mut W, bytes: &[u8]) -> usize
     ensures bound { result ≤ length bytes.now }
-    ensures front { Appends (W.contents writer.old) (W.contents writer.new) (take result bytes.now) }
+    ensures prefix { Appends (W.contents writer.old) (W.contents writer.new) (take result bytes.now) }
 {
     let mut written = 0;
     while written < bytes.len() {
@@ -39,10 +39,10 @@ pub fn write_front<W: Write>(writer: &mut W, bytes: &[u8]) -> usize
 /// Writes all the bytes. A failed write is refusal 61; a prefix of the bytes has then been written.
 pub fn write_whole<W: Write>(writer: &mut W, bytes: &[u8]) -> Result<(), Refusal>
     ensures all { OnOk result (Appends (W.contents writer.old) (W.contents writer.new) bytes.now) }
-    ensures front { (n : ℕ) × Appends (W.contents writer.old) (W.contents writer.new) (take n bytes.now) }
+    ensures prefix { (n : ℕ) × Appends (W.contents writer.old) (W.contents writer.new) (take n bytes.now) }
     ensures err { IfErr result (λ e. e ≡ Refusal.Numbered Code.StreamFailed) }
 {
-    if write_front(writer, bytes) == bytes.len() {
+    if write_prefix(writer, bytes) == bytes.len() {
         Ok(())
     } else {
         Err(Refusal::Numbered(Code::StreamFailed))

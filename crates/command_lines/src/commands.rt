@@ -62,10 +62,10 @@ fn prepared(
 pub fn claim_of(alloc: Global, fields: &[u8]) -> Result<Command, Refusal>
     ensures { Gives (λ c. c) result (ok_or (claim_of fields.now) not_a_line) }
 {
-    let (runner, number, asked) = spelled(three_fields(fields))?;
+    let (runner, number, requested) = spelled(three_fields(fields))?;
     let runner = small_text(alloc, runner)?;
     let number = spelled(Number::of(number))?;
-    let labels = labels(alloc, asked)?;
+    let labels = labels(alloc, requested)?;
     Ok(Command::Claim(Claim {
         runner,
         number,

@@ -2,7 +2,7 @@ ghost use Rattle.std.specs.Prelude.{◌≡◌, position, option_map};
 ghost use Rattle.wf_reader.specs.Condition.{is_space};
 ghost use Rattle.command_lines.specs.Fields.{at_space, three_fields};
 
-fn place_of_space(text: &[u8]) -> Option<usize>
+fn space_index(text: &[u8]) -> Option<usize>
     ensures { result ≡ position is_space text.now }
 {
     text.iter().position(|b| *b == b' ')
@@ -12,7 +12,7 @@ fn place_of_space(text: &[u8]) -> Option<usize>
 pub fn at_space(text: &[u8]) -> Option<(&[u8], &[u8])>
     ensures { option_map (λ p. (p.0.now, p.1.now)) result ≡ at_space text.now }
 {
-    match place_of_space(text) {
+    match space_index(text) {
         Some(place) => Some((&text[..place], &text[place + 1..])),
         None => None,
     }

@@ -9,5 +9,5 @@ mod fields;
 pub use commands::{
     admit_of, beat_of, cancel_of, claim_of, done_of, fetch_of, look_of, lost_of, rerun_of, spelled,
 };
-pub use ends::{place_of_line_feed, strip_carriage_return};
+pub use ends::{line_feed_index, strip_carriage_return};
 pub use fields::{at_space, three_fields};

@@ -23,25 +23,25 @@ module _ (start len at : ℕ) (bytes : List ℕ) (images : List ℕ → Type 0) 
       let here = awaits.each d from.1 in
       let in_part : Appends at bytes (part start len d) (part start len c) =
       part_appends start len d c here.within at bytes inside from.2 in
-      let behind : Appends used (record_of body) (part start len d) (part start len c) =
+      let suffix : Appends used (record_of body) (part start len d) (part start len c) =
       subst (λ (l : List ℕ). Appends used l (part start len d) (part start len c)) awaits.framed
       (subst (λ (k : ℕ). Appends k bytes (part start len d) (part start len c)) (sym awaits.gate) in_part) in
       let within : start + len ≤ length c = omega (arith, here.within, no_shorter (start + at) bytes d c from.2) in
       ⊎_elim (λ same. inl (record { within = within; reads = same })) (λ more. inr (record { within = within; reads = more }))
-      (appends_reads head bodies (part start len d) (part start len c) here.reads body awaits.short behind)
+      (appends_reads head bodies (part start len d) (part start len c) here.reads body awaits.short suffix)
 
   pub has_grown : (d c : List ℕ) → images d → IsWhole (start + at) bytes d c → Holds c (start + at) (0xA5 ∷ [])
       → ReadsAt start len c head (bodies ++ body ∷ [])
   has_grown d c image whole open_there =
       let here = awaits.each d image in
       let in_part : IsWhole at bytes (part start len d) (part start len c) = part_whole start len d c here.within at bytes inside whole in
-      let behind : IsWhole used (record_of body) (part start len d) (part start len c) =
+      let suffix : IsWhole used (record_of body) (part start len d) (part start len c) =
       subst (λ (l : List ℕ). IsWhole used l (part start len d) (part start len c)) awaits.framed
       (subst (λ (k : ℕ). IsWhole k bytes (part start len d) (part start len c)) (sym awaits.gate) in_part) in
       let held : Holds (part start len c) at (0xA5 ∷ []) =
       part_held start len d c here.within at (0xA5 ∷ []) (omega (arith, inside)) open_there in
       record {
         within = omega (arith, here.within, whole.torn.no_shorter);
-        reads = opened_reads head bodies (part start len d) (part start len c) here.reads body awaits.short behind
+        reads = opened_reads head bodies (part start len d) (part start len c) here.reads body awaits.short suffix
             (subst (λ (k : ℕ). Holds (part start len c) k (0xA5 ∷ [])) (sym awaits.gate) held);
       }

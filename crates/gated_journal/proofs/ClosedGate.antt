@@ -4,16 +4,16 @@ use Rattle.std.proofs.Common.{length-append, take-append-drop}
 use Rattle.std.proofs.lemmas.List.{take_at}
 use Rattle.gated_journal.specs.Layout.{Head, opened, IsClosed, Reads}
 
-behind : (start rest other : List ℕ) → IsClosed rest → take (length start + 1) other ≡ take (length start + 1) (start ++ rest)
+suffix : (start rest other : List ℕ) → IsClosed rest → take (length start + 1) other ≡ take (length start + 1) (start ++ rest)
     → (tail : List ℕ) × (other ≡ start ++ tail) × IsClosed tail
-behind start [] other closed same = absurd closed
-behind start (gate ∷ rest) other closed same =
+suffix start [] other closed same = absurd closed
+suffix start (gate ∷ rest) other closed same =
     let n = length start + 1 in
-    let front : take n other ≡ start ++ gate ∷ [] =
+    let prefix : take n other ≡ start ++ gate ∷ [] =
     same ∙ ap (λ (l : List ℕ). take n l) (sym (append_assoc start (gate ∷ []) rest))
     ∙ take_at (start ++ gate ∷ []) rest n (length-append start (gate ∷ [])) in (
       gate ∷ drop n other,
-      sym (take-append-drop n other) ∙ ap (λ (l : List ℕ). l ++ drop n other) front ∙ append_assoc start (gate ∷ []) (drop n other),
+      sym (take-append-drop n other) ∙ ap (λ (l : List ℕ). l ++ drop n other) prefix ∙ append_assoc start (gate ∷ []) (drop n other),
       closed,
     )
 
@@ -21,5 +21,5 @@ pub same_reading : (area other : List ℕ) (head : Head) (bodies : List (List �
     → take (length (opened head bodies) + 1) other ≡ take (length (opened head bodies) + 1) area → Reads other head bodies
 same_reading area other head bodies reads same =
     let n = length (opened head bodies) + 1 in
-    let tail = behind (opened head bodies) reads.rest other reads.closed (same ∙ ap (λ (l : List ℕ). take n l) reads.split) in
+    let tail = suffix (opened head bodies) reads.rest other reads.closed (same ∙ ap (λ (l : List ℕ). take n l) reads.split) in
     record { rest = tail.0; split = tail.1; closed = tail.2; fits = reads.fits }

@@ -2,7 +2,7 @@
 use Rattle.std.proofs.Common.{inl, inr, ℕ, ◌+◌, min, List, length, ◌∙◌, subst, arith}
 use Rattle.std.specs.Prelude.{Result, Ok, Err, OnOk}
 use Rattle.act_disk.specs.Images.{Torn, IsWritten, From, Only, EachSince}
-use Rattle.act_disk.proofs.Kept.{front_kept, rest_kept, range_kept}
+use Rattle.act_disk.proofs.Kept.{prefix_kept, rest_kept, range_kept}
 use Rattle.act_disk.proofs.Moments.{weakened, joined}
 use Rattle.gated_journal.specs.Appends.{Appends, IsWhole}
 
@@ -17,8 +17,8 @@ composed gate bytes old mid new written torn =
       torn = record {
         no_shorter = omega (arith, t.no_shorter, torn.no_shorter);
         no_longer = omega (arith, t.no_longer, torn.no_longer);
-        before = front_kept gate 1 mid new torn below (omega (arith, t.no_shorter)) (omega arith)
-            ∙ front_kept (gate + 1) n old mid t below (omega arith) (omega arith);
+        before = prefix_kept gate 1 mid new torn below (omega (arith, t.no_shorter)) (omega arith)
+            ∙ prefix_kept (gate + 1) n old mid t below (omega arith) (omega arith);
         after = rest_kept gate 1 mid new torn (gate + (n + 1)) (omega arith)
             ∙ rest_kept (gate + 1) n old mid t (gate + (n + 1)) (omega arith);
       };
@@ -41,21 +41,21 @@ three_ok (Err e) p q t weaker = _
 module _ {D : Type 0} (moment : D → ℕ) (images_since : D → ℕ → List ℕ → Type 0)
     (images : D → List ℕ → Type 0) (gate : ℕ) (bytes : List ℕ) where
   -- after the write of the record and its sync
-  pub written_behind : (old new : D) → EachSince moment images_since old new (From (Torn (gate + 1) (length bytes)) (images old))
+  pub written_after : (old new : D) → EachSince moment images_since old new (From (Torn (gate + 1) (length bytes)) (images old))
       → EachSince moment images_since old new (From (Appends gate bytes) (images old))
-  written_behind old new first =
+  written_after old new first =
       weakened moment images_since old new (From (Torn (gate + 1) (length bytes)) (images old)) (From (Appends gate bytes) (images old))
       first (λ c p. (p.0, p.1, inl p.2))
 
   -- after the write of the gate and its sync
-  pub opened_behind : (old mid new : D) (seen_old seen_mid : List ℕ)
+  pub opened_after : (old mid new : D) (seen_old seen_mid : List ℕ)
       → EachSince moment images_since old mid (From (Torn (gate + 1) (length bytes)) (images old))
       → EachSince moment images_since mid new (From (Torn gate 1) (images mid))
       → images old seen_old → IsWritten (gate + 1) bytes seen_old seen_mid → Only seen_mid (images mid)
       → EachSince moment images_since old new (From (Appends gate bytes) (images old))
-  opened_behind old mid new seen_old seen_mid first second here written only =
+  opened_after old mid new seen_old seen_mid first second here written only =
       joined moment images_since old mid new (From (Appends gate bytes) (images old)) (From (Torn gate 1) (images mid))
-      (written_behind old mid first) second
+      (written_after old mid first) second
       (λ c q. (
         seen_old,
         here,

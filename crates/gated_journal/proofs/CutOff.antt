@@ -5,18 +5,18 @@ use Rattle.std.specs.Int.{from_be_bytes, to_be_bytes, w64}
 use Rattle.std.proofs.lemmas.List.{drop-drop, length-drop, take_at, drop_at}
 use Rattle.std.proofs.lemmas.Nat.{from_be_bytes-to_be_bytes_8}
 use Rattle.gated_journal.specs.Layout.{Head, head_bytes, framed, record_bytes, ReadsNothing}
-use Rattle.gated_journal.specs.Scanned.{Frames, OpensWith, HasHead, HasFront}
+use Rattle.gated_journal.specs.Scanned.{Frames, OpensWith, HasHead, HasPrefix}
 use Rattle.gated_journal.specs.CutOff.{EndsInBody, EndsInHead, HasNoRecord, HasNoHead, EndsInRecords, IsCutOff, EncodesNothing}
 use Rattle.gated_journal.proofs.OneReading.{apart}
 use Rattle.gated_journal.proofs.Parting.{rest_closed}
 use Rattle.gated_journal.proofs.Scanning.{framed_number, length-frame}
-use Rattle.gated_journal.proofs.Scans.{nothing_without_front, nothing_without_end}
+use Rattle.gated_journal.proofs.Scans.{nothing_without_prefix, nothing_without_end}
 
 -- a head whose text passes the end
-pub head_cut : (bytes behind past : List ℕ) → behind ≡ drop 1 bytes → past ≡ drop 8 behind
+pub head_cut : (bytes suffix past : List ℕ) → suffix ≡ drop 1 bytes → past ≡ drop 8 suffix
     → length past < 8 + from_be_bytes w64 (take 8 past) → EndsInHead bytes
-head_cut bytes behind past behind_is past_is few =
-    let same : past ≡ drop 9 bytes = past_is ∙ ap (λ (l : List ℕ). drop 8 l) behind_is ∙ drop-drop 8 1 bytes in
+head_cut bytes suffix past after_is past_is few =
+    let same : past ≡ drop 9 bytes = past_is ∙ ap (λ (l : List ℕ). drop 8 l) after_is ∙ drop-drop 8 1 bytes in
     omega (
       arith,
       few,
@@ -26,24 +26,24 @@ head_cut bytes behind past behind_is past_is few =
     )
 
 -- a cut-off head after an open gate
-pub no_head : (area behind : List ℕ) → behind ≡ drop 1 area → EndsInHead behind → HasNoHead area
-no_head area behind is cut other split =
+pub no_head : (area suffix : List ℕ) → suffix ≡ drop 1 area → EndsInHead suffix → HasNoHead area
+no_head area suffix is cut other split =
     subst EndsInHead (is ∙ ap (λ (l : List ℕ). drop 1 l) split) cut
 
-pub no_record : (bytes behind : List ℕ) → behind ≡ drop 1 bytes → EndsInBody behind → HasNoRecord bytes
-no_record bytes behind is cut other split =
+pub no_record : (bytes suffix : List ℕ) → suffix ≡ drop 1 bytes → EndsInBody suffix → HasNoRecord bytes
+no_record bytes suffix is cut other split =
     subst EndsInBody (is ∙ ap (λ (l : List ℕ). drop 1 l) split) cut
 
 -- a head, followed by records that are cut off
-pub cut_off : (area : List ℕ) (head : Head) (behind : List ℕ) → HasFront area head behind → EndsInRecords behind → IsCutOff area
-cut_off area head behind front ends = record {
+pub cut_off : (area : List ℕ) (head : Head) (suffix : List ℕ) → HasPrefix area head suffix → EndsInRecords suffix → IsCutOff area
+cut_off area head suffix prefix ends = record {
   head = head;
   bodies = ends.bodies;
   rest = ends.rest;
-  split = front.split
-      ∙ ap (λ (l : List ℕ). 0xA5 ∷ l) (front.headed.split ∙ ap (λ (l : List ℕ). head_bytes head ++ l) ends.parts.split
+  split = prefix.split
+      ∙ ap (λ (l : List ℕ). 0xA5 ∷ l) (prefix.headed.split ∙ ap (λ (l : List ℕ). head_bytes head ++ l) ends.parts.split
       ∙ sym (append_assoc (head_bytes head) (record_bytes ends.bodies) ends.rest));
-  fits = record { generation = front.headed.generation; text = front.headed.text; each = ends.parts.short };
+  fits = record { generation = prefix.headed.generation; text = prefix.headed.text; each = ends.parts.short };
   no_record = ends.no_record;
   no_gate = ends.no_gate;
 }
@@ -56,13 +56,13 @@ none_opens rest none body past opens =
     omega (arith, cut, framed_number (framed body ++ past) body past frame, length-frame (framed body ++ past) body past frame)
 
 -- no head begins where the bytes end inside one
-no_head_there : (behind : List ℕ) (head : Head) (rest : List ℕ) → HasHead behind head rest → EndsInHead behind → ⊥
-no_head_there behind head rest has cut =
+no_head_there : (suffix : List ℕ) (head : Head) (rest : List ℕ) → HasHead suffix head rest → EndsInHead suffix → ⊥
+no_head_there suffix head rest has cut =
     let g = to_be_bytes w64 head.generation in
     let n = to_be_bytes w64 (length head.text) in
     let past = head.text ++ rest in
-    let parted : behind ≡ head.version ∷ g ++ (n ++ past) = has.split ∙ apart head rest in
-    let left : drop 9 behind ≡ n ++ past = ap (λ (l : List ℕ). drop 9 l) parted ∙ drop_at g (n ++ past) 8 refl in
+    let parted : suffix ≡ head.version ∷ g ++ (n ++ past) = has.split ∙ apart head rest in
+    let left : drop 9 suffix ≡ n ++ past = ap (λ (l : List ℕ). drop 9 l) parted ∙ drop_at g (n ++ past) 8 refl in
     let number = ap (λ (l : List ℕ). from_be_bytes w64 (take 8 l)) left
     ∙ ap (λ (l : List ℕ). from_be_bytes w64 l) (take_at n past 8 refl) ∙ from_be_bytes-to_be_bytes_8 (length head.text) has.text in
     let g_is : length g ≡ 8 = refl in
@@ -82,18 +82,18 @@ no_head_there behind head rest has cut =
 -- hence an area that is cut off reads as nothing
 nothing_headless : (area : List ℕ) → HasNoHead area → ReadsNothing area
 nothing_headless area none =
-    nothing_without_front area (λ head rest front. no_head_there front.behind head rest front.headed (none front.behind front.split))
+    nothing_without_prefix area (λ head rest prefix. no_head_there prefix.suffix head rest prefix.headed (none prefix.suffix prefix.split))
 
 nothing_cut : (area : List ℕ) → IsCutOff area → ReadsNothing area
 nothing_cut area cut =
     let left = record_bytes cut.bodies ++ cut.rest in
-    let front : HasFront area cut.head left =
+    let prefix : HasPrefix area cut.head left =
     record {
-      behind = head_bytes cut.head ++ left;
+      suffix = head_bytes cut.head ++ left;
       split = cut.split ∙ ap (λ (l : List ℕ). 0xA5 ∷ l) (append_assoc (head_bytes cut.head) (record_bytes cut.bodies) cut.rest);
       headed = record { split = refl; generation = cut.fits.generation; text = cut.fits.text };
     } in
-    nothing_without_end area cut.head left front (λ bodies end parts closed.
+    nothing_without_end area cut.head left prefix (λ bodies end parts closed.
     cut.no_gate (rest_closed left cut.rest end cut.bodies bodies (record { split = refl; short = cut.fits.each })
     (none_opens cut.rest cut.no_record) parts closed))
 

@@ -4,7 +4,7 @@ use Rattle.std.proofs.Common.{take-append-drop, take-add, drop-drop, length-appe
 use Rattle.act_disk.specs.Images.{Holds, IsWritten}
 use Rattle.act_disk.proofs.Kept.{range_kept}
 use Rattle.gated_journal.specs.Layout.{Head, head_bytes, record_bytes, Fits, WouldRead}
-use Rattle.gated_journal.specs.TwoAreas.{start_of, other, area_on, behind_gate, Completes}
+use Rattle.gated_journal.specs.TwoAreas.{start_of, other, area_on, after_gate, Completes}
 use Rattle.gated_journal.specs.declared.side.Side.{Side}
 use Rattle.gated_journal.proofs.Frames.{part_held, length-part}
 use Rattle.gated_journal.proofs.TwoAreas.{within}
@@ -17,28 +17,28 @@ holds_both file at x y first second =
     ∙ ap (λ (l : List ℕ). x ++ l) (ap (λ (l : List ℕ). take (length y) l) (drop-drop (length x) at file) ∙ second)
 
 -- one more text, written after those already there
-pub holds_more : (start at : ℕ) (front bytes old new : List ℕ) → at ≡ 1 + length front → start + at ≤ length old
-    → Holds old (start + 1) front → IsWritten (start + at) bytes old new → Holds new (start + 1) (front ++ bytes)
-holds_more start at front bytes old new place long held written =
-    let next : start + at ≡ (start + 1) + length front = omega (arith, place) in
-    holds_both new (start + 1) front bytes
-    (range_kept (start + at) (length bytes) old new written.torn (start + 1) (length front) (omega (arith, next, long))
+pub holds_more : (start at : ℕ) (prefix bytes old new : List ℕ) → at ≡ 1 + length prefix → start + at ≤ length old
+    → Holds old (start + 1) prefix → IsWritten (start + at) bytes old new → Holds new (start + 1) (prefix ++ bytes)
+holds_more start at prefix bytes old new place long held written =
+    let next : start + at ≡ (start + 1) + length prefix = omega (arith, place) in
+    holds_both new (start + 1) prefix bytes
+    (range_kept (start + at) (length bytes) old new written.torn (start + 1) (length prefix) (omega (arith, next, long))
     (inl (omega (arith, next))) ∙ held)
     (subst (λ (k : ℕ). Holds new k bytes) next written.held)
 
-parted : (behind rest : List ℕ) (head : Head) (bodies : List (List ℕ)) → behind ≡ behind_gate head bodies ++ rest
-    → 0xA5 ∷ behind ≡ (0xA5 ∷ head_bytes head ++ record_bytes bodies) ++ 0 ∷ rest
-parted behind rest head bodies is =
+parted : (suffix rest : List ℕ) (head : Head) (bodies : List (List ℕ)) → suffix ≡ after_gate head bodies ++ rest
+    → 0xA5 ∷ suffix ≡ (0xA5 ∷ head_bytes head ++ record_bytes bodies) ++ 0 ∷ rest
+parted suffix rest head bodies is =
     ap (λ (l : List ℕ). 0xA5 ∷ l) (is ∙ append_assoc (head_bytes head ++ record_bytes bodies) (0 ∷ []) rest)
 
 pub would_of : (area text : List ℕ) (head : Head) (bodies : List (List ℕ)) → 1 ≤ length area → Holds area 1 text
-    → text ≡ behind_gate head bodies → Fits head bodies → WouldRead area head bodies
+    → text ≡ after_gate head bodies → Fits head bodies → WouldRead area head bodies
 would_of [] text head bodies some held is fits = absurd (omega (arith, some))
-would_of (gate ∷ behind) text head bodies some held is fits =
-    let rest = drop (length text) behind in
+would_of (gate ∷ suffix) text head bodies some held is fits =
+    let rest = drop (length text) suffix in
     record {
       rest = 0 ∷ rest;
-      split = parted behind rest head bodies (sym (take-append-drop (length text) behind) ∙ ap (λ (l : List ℕ). l ++ rest) (held ∙ is));
+      split = parted suffix rest head bodies (sym (take-append-drop (length text) suffix) ∙ ap (λ (l : List ℕ). l ++ rest) (held ∙ is));
       closed = omega arith;
       fits = fits;
     }
@@ -48,11 +48,11 @@ module _ (len : ℕ) (side : Side) (old mid : List ℕ) (at : ℕ) (bytes : List
       → IsWritten (start_of len (other side) + at) bytes old mid → WouldRead (area_on len (other side) mid) next others
   completed long inside completes written =
       let start = start_of len (other side) in
-      let front = completes.front in
+      let prefix = completes.prefix in
       let lies = within len (other side) old long in
       let lies_on = within len (other side) mid (omega (arith, long, written.torn.no_shorter)) in
-      let all = length-append front bytes in
-      let held = part_held start len old mid lies 1 (front ++ bytes) (omega (arith, all, inside, completes.place))
-      (holds_more start at front bytes old mid completes.place (omega (arith, lies, inside)) completes.held written) in
-      would_of (area_on len (other side) mid) (front ++ bytes) next others
+      let all = length-append prefix bytes in
+      let held = part_held start len old mid lies 1 (prefix ++ bytes) (omega (arith, all, inside, completes.place))
+      (holds_more start at prefix bytes old mid completes.place (omega (arith, lies, inside)) completes.held written) in
+      would_of (area_on len (other side) mid) (prefix ++ bytes) next others
       (omega (arith, inside, completes.place, length-part start len mid lies_on)) held completes.whole completes.fits

@@ -5,7 +5,7 @@ use Rattle.std.specs.List.{AllByRecursion}
 use Rattle.std.proofs.lemmas.List.{take_at, drop_more, append-nil}
 use Rattle.std.proofs.lemmas.Bool.{cases_eq}
 use Rattle.act_disk.specs.Images.{Torn, Holds}
-use Rattle.act_disk.proofs.Kept.{front_kept}
+use Rattle.act_disk.proofs.Kept.{prefix_kept}
 use Rattle.gated_journal.specs.Appends.{record_of, IsWhole, Appends}
 use Rattle.gated_journal.specs.Layout.{Head, head_bytes, framed, record_bytes, opened, IsClosed, Reads}
 use Rattle.gated_journal.proofs.ClosedGate.{same_reading}
@@ -30,9 +30,9 @@ all_short-push [] body all short = (short, _)
 all_short-push (b ∷ bodies) body all short = (all.0, all_short-push bodies body all.1 short)
 
 -- the first closed gate lies within the area
-gate_within : (front rest : List ℕ) → IsClosed rest → length front + 1 ≤ length (front ++ rest)
-gate_within front [] closed = absurd closed
-gate_within front (gate ∷ rest) closed = omega (arith, length-append front (gate ∷ rest))
+gate_within : (prefix rest : List ℕ) → IsClosed rest → length prefix + 1 ≤ length (prefix ++ rest)
+gate_within prefix [] closed = absurd closed
+gate_within prefix (gate ∷ rest) closed = omega (arith, length-append prefix (gate ∷ rest))
 
 module _ (head : Head) (bodies : List (List ℕ)) (d c : List ℕ) (reads : Reads d head bodies) where
   abbrev used : ℕ
@@ -42,8 +42,8 @@ module _ (head : Head) (bodies : List (List ℕ)) (d c : List ℕ) (reads : Read
   used_within = omega (arith, ap (λ (l : List ℕ). length l) reads.split, gate_within (opened head bodies) reads.rest reads.closed)
 
   -- a write after the first closed gate
-  pub behind_reads : (at n : ℕ) → used + 1 ≤ at → Torn at n d c → Reads c head bodies
-  behind_reads at n past torn = same_reading d c head bodies reads (front_kept at n d c torn (used + 1) used_within past)
+  pub after_reads : (at n : ℕ) → used + 1 ≤ at → Torn at n d c → Reads c head bodies
+  after_reads at n past torn = same_reading d c head bodies reads (prefix_kept at n d c torn (used + 1) used_within past)
 
   module _ (body : List ℕ) (short : length body < 2 ^ 32) (whole : IsWhole used (record_of body) d c) where
     abbrev gate_of : ℕ
@@ -52,9 +52,9 @@ module _ (head : Head) (bodies : List (List ℕ)) (d c : List ℕ) (reads : Read
     abbrev past : List ℕ
     past = drop (length (record_of body)) (drop (used + 1) c)
 
-    front : take used c ≡ opened head bodies
-    front =
-        front_kept used (length (record_of body) + 1) d c whole.torn used (omega (arith, used_within)) (omega arith)
+    prefix : take used c ≡ opened head bodies
+    prefix =
+        prefix_kept used (length (record_of body) + 1) d c whole.torn used (omega (arith, used_within)) (omega arith)
         ∙ ap (λ (l : List ℕ). take used l) reads.split ∙ take_at (opened head bodies) reads.rest used refl
 
     long : used + 1 ≤ length c
@@ -68,7 +68,7 @@ module _ (head : Head) (bodies : List (List ℕ)) (d c : List ℕ) (reads : Read
 
     split : c ≡ opened head bodies ++ (gate_of ∷ record_of body ++ past)
     split =
-        sym (take-append-drop used c) ∙ ap (λ (l : List ℕ). l ++ drop used c) front
+        sym (take-append-drop used c) ∙ ap (λ (l : List ℕ). l ++ drop used c) prefix
         ∙ ap (λ (l : List ℕ). opened head bodies ++ l) (gated ∙ ap (λ (l : List ℕ). gate_of ∷ l) tail)
 
     -- once the gate is open, the record is present
@@ -99,5 +99,5 @@ module _ (head : Head) (bodies : List (List ℕ)) (d c : List ℕ) (reads : Read
 
   pub appends_reads : (body : List ℕ) → length body < 2 ^ 32 → Appends used (record_of body) d c
       → Reads c head bodies ⊎ Reads c head (bodies ++ body ∷ [])
-  appends_reads body short (inl torn) = inl (behind_reads (used + 1) (length (record_of body)) (omega arith) torn)
+  appends_reads body short (inl torn) = inl (after_reads (used + 1) (length (record_of body)) (omega arith) torn)
   appends_reads body short (inr whole) = whole_reads body short whole

@@ -6,7 +6,7 @@ use Rattle.std.specs.Int.{from_be_bytes, to_be_bytes, w64}
 use Rattle.std.proofs.lemmas.List.{length-take, length-drop, take_at, drop_at}
 use Rattle.std.proofs.lemmas.Nat.{be_bytes_8, from_be_bytes-to_be_bytes_8}
 use Rattle.gated_journal.specs.Layout.{Head}
-use Rattle.gated_journal.specs.Scanned.{HasNumber, HasText, HasHead, HasFront}
+use Rattle.gated_journal.specs.Scanned.{HasNumber, HasText, HasHead, HasPrefix}
 use Rattle.gated_journal.proofs.OneReading.{same_head, apart}
 use Rattle.wf_value.proofs.Bytes.{AreBytes, AreBytes-take}
 
@@ -27,11 +27,11 @@ no_number bytes n rest few has =
     omega (arith, few, eight, ap (λ (l : List ℕ). length l) has.split, length-append (to_be_bytes w64 n) rest)
 
 -- as many bytes as the number says, and the rest
-pub has_text : (bytes : List ℕ) (n : ℕ) (behind text rest : List ℕ) → HasNumber bytes n behind → n ≤ length behind
-    → text ≡ take n behind → rest ≡ drop n behind → HasText bytes text rest
-has_text bytes n behind text rest has within text_is rest_is =
-    let many : length text ≡ n = omega (arith, ap (λ (l : List ℕ). length l) text_is, length-take n behind, within) in
-    let parted : behind ≡ text ++ rest = sym (take-append-drop n behind) ∙ ap (λ (l : List ℕ). l ++ drop n behind) (sym text_is)
+pub has_text : (bytes : List ℕ) (n : ℕ) (suffix text rest : List ℕ) → HasNumber bytes n suffix → n ≤ length suffix
+    → text ≡ take n suffix → rest ≡ drop n suffix → HasText bytes text rest
+has_text bytes n suffix text rest has within text_is rest_is =
+    let many : length text ≡ n = omega (arith, ap (λ (l : List ℕ). length l) text_is, length-take n suffix, within) in
+    let parted : suffix ≡ text ++ rest = sym (take-append-drop n suffix) ∙ ap (λ (l : List ℕ). l ++ drop n suffix) (sym text_is)
     ∙ ap (λ (l : List ℕ). text ++ l) (sym rest_is) in
     record {
       split = has.split
@@ -66,32 +66,32 @@ pub cut_long : (bytes : List ℕ) (n : ℕ) → n ≡ from_be_bytes w64 (take 8 
 cut_long bytes n is few long = omega (arith, is, few, long, length-drop 8 bytes)
 
 -- a version, a number and a text form a head
-pub has_head : (version : ℕ) (behind : List ℕ) (n : ℕ) (past text rest : List ℕ) → HasNumber behind n past → HasText past text rest
-    → HasHead (version ∷ behind) (record { version = version; generation = n; text = text }) rest
-has_head version behind n past text rest number has = record {
+pub has_head : (version : ℕ) (suffix : List ℕ) (n : ℕ) (past text rest : List ℕ) → HasNumber suffix n past → HasText past text rest
+    → HasHead (version ∷ suffix) (record { version = version; generation = n; text = text }) rest
+has_head version suffix n past text rest number has = record {
   split = ap (λ (l : List ℕ). version ∷ l) (number.split ∙ ap (λ (l : List ℕ). to_be_bytes w64 n ++ l) has.split)
       ∙ sym (apart (record { version = version; generation = n; text = text }) rest);
   generation = number.fits;
   text = has.fits;
 }
 
-pub has_head_there : (bytes behind : List ℕ) (n : ℕ) (past text rest : List ℕ) → AreBytes bytes → 1 ≤ length bytes → behind ≡ drop 1 bytes
-    → 8 ≤ length behind
+pub has_head_there : (bytes suffix : List ℕ) (n : ℕ) (past text rest : List ℕ) → AreBytes bytes → 1 ≤ length bytes → suffix ≡ drop 1 bytes
+    → 8 ≤ length suffix
     → n < 2 ^ 64
-    → n ≡ from_be_bytes w64 (take 8 behind) → past ≡ drop 8 behind → HasText past text rest
+    → n ≡ from_be_bytes w64 (take 8 suffix) → past ≡ drop 8 suffix → HasText past text rest
     → HasHead bytes (record { version = slice_index_or bytes 0 0; generation = n; text = text }) rest
-has_head_there [] behind n past text rest are one is long fits number past_is has = absurd (omega (arith, one))
-has_head_there (version ∷ tail) behind n past text rest are one is long fits number past_is has =
-    let bytes_behind : AreBytes behind = subst (λ (l : List ℕ). AreBytes l) (sym is) (λ i. are (suc i)) in
+has_head_there [] suffix n past text rest are one is long fits number past_is has = absurd (omega (arith, one))
+has_head_there (version ∷ tail) suffix n past text rest are one is long fits number past_is has =
+    let bytes_after : AreBytes suffix = subst (λ (l : List ℕ). AreBytes l) (sym is) (λ i. are (suc i)) in
     subst (λ (l : List ℕ). HasHead (version ∷ l) (record { version = version; generation = n; text = text }) rest) is
-    (has_head version behind n past text rest (has_number behind n past bytes_behind long fits number past_is) has)
+    (has_head version suffix n past text rest (has_number suffix n past bytes_after long fits number past_is) has)
 
 -- the same after an open gate
-pub no_front : (area behind : List ℕ) → behind ≡ drop 1 area → ((head : Head) (rest : List ℕ) → HasHead behind head rest → ⊥)
-    → (head : Head) (rest : List ℕ) → HasFront area head rest → ⊥
-no_front area behind is none head rest front =
-    let same : front.behind ≡ behind = sym (ap (λ (l : List ℕ). drop 1 l) front.split) ∙ sym is in
-    none head rest (subst (λ (l : List ℕ). HasHead l head rest) same front.headed)
+pub no_prefix : (area suffix : List ℕ) → suffix ≡ drop 1 area → ((head : Head) (rest : List ℕ) → HasHead suffix head rest → ⊥)
+    → (head : Head) (rest : List ℕ) → HasPrefix area head rest → ⊥
+no_prefix area suffix is none head rest prefix =
+    let same : prefix.suffix ≡ suffix = sym (ap (λ (l : List ℕ). drop 1 l) prefix.split) ∙ sym is in
+    none head rest (subst (λ (l : List ℕ). HasHead l head rest) same prefix.headed)
 
 pub one_head : (bytes : List ℕ) (one two : Head) (x y : List ℕ) → HasHead bytes one x → HasHead bytes two y → (one ≡ two) × (x ≡ y)
 one_head bytes one two x y first second =

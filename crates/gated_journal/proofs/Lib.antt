@@ -6,7 +6,7 @@ pub mod Composed
 mod CutOff
 mod Filled
 mod Frames
-mod Fronts
+mod Prefixes
 mod Gates
 pub mod Grown
 mod Heads

@@ -4,7 +4,7 @@ use Rattle.act_disk.specs.Images.{Torn, Holds, IsWritten, From, Only, EachSince}
 use Rattle.act_disk.proofs.Moments.{started, weakened, joined}
 use Rattle.gated_journal.specs.Layout.{Head}
 use Rattle.gated_journal.specs.TwoAreas.{start_of, other, Completes}
-use Rattle.gated_journal.specs.Whole.{StandsWhole, WholeEither, WholeOrTurned}
+use Rattle.gated_journal.specs.Whole.{RecoversWhole, WholeEither, WholeOrSwitched}
 use Rattle.gated_journal.specs.declared.gate.Gate.{Gate}
 use Rattle.gated_journal.specs.declared.gate.Gate.TheVariants.{Open, Closed}
 use Rattle.gated_journal.specs.declared.side.Side.{Side}
@@ -18,7 +18,7 @@ module _ (len : ℕ) (side : Side) (head : Head) (bodies : List (List ℕ)) {D :
 
   -- each image of the disk reads this way, with the other gate in this state
   abbrev Each : Gate → D → Type 0
-  Each gate disk = (c : List ℕ) → images disk c → StandsWhole len side gate c head bodies
+  Each gate disk = (c : List ℕ) → images disk c → RecoversWhole len side gate c head bodies
 
   pub close_moments : (gate : Gate) (new : D) (start : ℕ) → start ≡ beyond → (gate ≡ Closed → new ≡ old)
       → (gate ≡ Open → EachSince moment images_since old new (From (Torn start 1) (images old)))
@@ -36,7 +36,7 @@ module _ (len : ℕ) (side : Side) (head : Head) (bodies : List (List ℕ)) {D :
       → images old seen_old → Each gate old → Each Closed new
   close_done Open new start seen_old seen_new begins same only written here each c now =
       let w = written refl in
-      subst (λ (l : List ℕ). StandsWhole len side Closed l head bodies) (sym ((only refl c).0 now))
+      subst (λ (l : List ℕ). RecoversWhole len side Closed l head bodies) (sym ((only refl c).0 now))
       (closed_whole len side head bodies seen_old seen_new (each seen_old here)
       (subst (λ (k : ℕ). Torn k 1 seen_old seen_new) begins w.torn) (subst (λ (k : ℕ). Holds seen_new k (0 ∷ [])) begins w.held))
   close_done Closed new start seen_old seen_new begins same only written here each c now =
@@ -44,22 +44,22 @@ module _ (len : ℕ) (side : Side) (head : Head) (bodies : List (List ℕ)) {D :
 
   pub put_moments : (new : D) (start at n : ℕ) → start ≡ beyond → 0 < at → at + n ≤ len
       → EachSince moment images_since old new (From (Torn (start + at) n) (images old)) → Each Closed old
-      → EachSince moment images_since old new (λ c. StandsWhole len side Closed c head bodies)
-  put_moments new start at n begins behind inside since each =
+      → EachSince moment images_since old new (λ c. RecoversWhole len side Closed c head bodies)
+  put_moments new start at n begins suffix inside since each =
       weakened moment images_since old new (From (Torn (start + at) n) (images old))
-      (λ c. StandsWhole len side Closed c head bodies) since
-      (λ c from. put_whole len side head bodies from.0 c at n (each from.0 from.1) behind inside
+      (λ c. RecoversWhole len side Closed c head bodies) since
+      (λ c from. put_whole len side head bodies from.0 c at n (each from.0 from.1) suffix inside
       (subst (λ (k : ℕ). Torn (k + at) n from.0 c) begins from.2))
 
   -- the last put and its sync, then the gate and its sync
-  module _ (next : Head) (others : List (List ℕ)) (start at : ℕ) (begins : start ≡ beyond) (behind : 0 < at) where
-    pub turn_begins : (new : D) (n : ℕ) → at + n ≤ len
+  module _ (next : Head) (others : List (List ℕ)) (start at : ℕ) (begins : start ≡ beyond) (suffix : 0 < at) where
+    pub switch_begins : (new : D) (n : ℕ) → at + n ≤ len
         → EachSince moment images_since old new (From (Torn (start + at) n) (images old)) → Each Closed old
-        → EachSince moment images_since old new (WholeOrTurned len side head bodies next others)
-    turn_begins new n inside since each =
-        weakened moment images_since old new (λ c. StandsWhole len side Closed c head bodies)
-        (WholeOrTurned len side head bodies next others)
-        (put_moments new start at n begins behind inside since each) (λ c stands. inl stands)
+        → EachSince moment images_since old new (WholeOrSwitched len side head bodies next others)
+    switch_begins new n inside since each =
+        weakened moment images_since old new (λ c. RecoversWhole len side Closed c head bodies)
+        (WholeOrSwitched len side head bodies next others)
+        (put_moments new start at n begins suffix inside since each) (λ c recovers. inl recovers)
 
     module _ (bytes seen_old seen_mid : List ℕ) (inside : at + length bytes ≤ len) (here : images old seen_old)
         (written : IsWritten (start + at) bytes seen_old seen_mid) (each : Each Closed old)
@@ -67,27 +67,27 @@ module _ (len : ℕ) (side : Side) (head : Head) (bodies : List (List ℕ)) {D :
       put : IsWritten (beyond + at) bytes seen_old seen_mid
       put = subst (λ (k : ℕ). IsWritten (k + at) bytes seen_old seen_mid) begins written
 
-      before : StandsWhole len side Closed seen_old head bodies
+      before : RecoversWhole len side Closed seen_old head bodies
       before = each seen_old here
 
-      between : StandsWhole len side Closed seen_mid head bodies
-      between = put_whole len side head bodies seen_old seen_mid at (length bytes) before behind inside put.torn
+      between : RecoversWhole len side Closed seen_mid head bodies
+      between = put_whole len side head bodies seen_old seen_mid at (length bytes) before suffix inside put.torn
 
-      pub turn_moments : (mid new : D) → EachSince moment images_since old mid (From (Torn (start + at) (length bytes)) (images old))
+      pub switch_moments : (mid new : D) → EachSince moment images_since old mid (From (Torn (start + at) (length bytes)) (images old))
           → EachSince moment images_since mid new (From (Torn start 1) (images mid)) → Only seen_mid (images mid)
-          → EachSince moment images_since old new (WholeOrTurned len side head bodies next others)
-      turn_moments mid new first second only =
-          joined moment images_since old mid new (WholeOrTurned len side head bodies next others) (From (Torn start 1) (images mid))
-          (turn_begins mid (length bytes) inside first each) second
+          → EachSince moment images_since old new (WholeOrSwitched len side head bodies next others)
+      switch_moments mid new first second only =
+          joined moment images_since old mid new (WholeOrSwitched len side head bodies next others) (From (Torn start 1) (images mid))
+          (switch_begins mid (length bytes) inside first each) second
           (λ c from. open_whole len side head bodies seen_mid c next others between
-          (completed len side seen_old seen_mid at bytes head next others before.stands.encodes.long inside completes put) completes.newer
+          (completed len side seen_old seen_mid at bytes head next others before.recovers.encodes.long inside completes put) completes.newer
           (subst (λ (k : ℕ). Torn k 1 seen_mid c) begins (subst (λ (d : List ℕ). Torn start 1 d c) ((only from.0).0 from.1) from.2)))
 
-      pub turn_done : (seen_new : List ℕ) (images_new : List ℕ → Type 0) → IsWritten start (0xA5 ∷ []) seen_mid seen_new
-          → Only seen_new images_new → (c : List ℕ) → images_new c → StandsWhole len (other side) Open c next others
-      turn_done seen_new images_new opened_there only c now =
+      pub switch_done : (seen_new : List ℕ) (images_new : List ℕ → Type 0) → IsWritten start (0xA5 ∷ []) seen_mid seen_new
+          → Only seen_new images_new → (c : List ℕ) → images_new c → RecoversWhole len (other side) Open c next others
+      switch_done seen_new images_new opened_there only c now =
           let gate = subst (λ (k : ℕ). IsWritten k (0xA5 ∷ []) seen_mid seen_new) begins opened_there in
-          subst (λ (l : List ℕ). StandsWhole len (other side) Open l next others) (sym ((only c).0 now))
+          subst (λ (l : List ℕ). RecoversWhole len (other side) Open l next others) (sym ((only c).0 now))
           (opened_whole len side head bodies seen_mid seen_new next others between
-          (completed len side seen_old seen_mid at bytes head next others before.stands.encodes.long inside completes put) completes.newer
+          (completed len side seen_old seen_mid at bytes head next others before.recovers.encodes.long inside completes put) completes.newer
           gate.torn gate.held)

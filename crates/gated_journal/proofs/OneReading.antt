@@ -81,9 +81,9 @@ pub one_reading : (area : List ℕ) (head other : Head) (bodies others : List (L
     → Reads area head bodies → Reads area other others → (head ≡ other) × (bodies ≡ others)
 one_reading area head other bodies others first second =
     let same : opened head bodies ++ first.rest ≡ opened other others ++ second.rest = sym first.split ∙ second.split in
-    let behind : (head_bytes head ++ record_bytes bodies) ++ first.rest ≡
+    let suffix : (head_bytes head ++ record_bytes bodies) ++ first.rest ≡
     (head_bytes other ++ record_bytes others) ++ second.rest = cc same in
-    let parted = sym (append_assoc (head_bytes head) (record_bytes bodies) first.rest) ∙ behind
+    let parted = sym (append_assoc (head_bytes head) (record_bytes bodies) first.rest) ∙ suffix
     ∙ append_assoc (head_bytes other) (record_bytes others) second.rest in
     let heads = same_head head other (record_bytes bodies ++ first.rest) (record_bytes others ++ second.rest)
     first.fits.generation second.fits.generation first.fits.text second.fits.text parted in

@@ -11,7 +11,7 @@ set_last : (l : List ℕ) (n x : ℕ) → length l ≡ n + 1 → set l n x ≡ t
 set_last l n x long =
     let new = set l n x in
     sym (take-append-drop n new)
-    ∙ ap (λ (front : List ℕ). front ++ drop n new) (take-set l n x)
+    ∙ ap (λ (prefix : List ℕ). prefix ++ drop n new) (take-set l n x)
     ∙ ap (λ (back : List ℕ). take n l ++ back)
     (drop_more new n 0 (omega (arith, long, length-set l n x))
     ∙ ap (λ (y : ℕ). y ∷ drop (n + 1) new) (get_or-set_same l n x 0 (omega (arith, long)))
@@ -37,7 +37,7 @@ framed_over l number n long is =
     let c = get_or number 2 0 in
     let d = get_or number 3 0 in
     let m = a ∷ b ∷ c ∷ d ∷ drop 4 l in
-    let front : a ∷ b ∷ c ∷ d ∷ [] ≡ to_be_bytes w32 n =
+    let prefix : a ∷ b ∷ c ∷ d ∷ [] ≡ to_be_bytes w32 n =
     ap (λ (k : List ℕ). get_or k 0 0 ∷ get_or k 1 0 ∷ get_or k 2 0 ∷ get_or k 3 0 ∷ []) is in
     let many : length l - 5 ≡ n = omega (arith, long) in
     let short : length (body_in l) ≡ n = omega (arith, length-take (length l - 5) (drop 4 l), length-drop 4 l, long) in
@@ -46,6 +46,6 @@ framed_over l number n long is =
     ap (λ (k : List ℕ). set k (n + 4) 0) (four l a b c d (omega (arith, long)))
     ∙ set_last m (n + 4) 0 (omega (arith, length-drop 4 l, long))
     ∙ ap (λ (k : List ℕ). k ++ 0 ∷ []) (apart
-    ∙ ap (λ (k : List ℕ). k ++ take n (drop 4 l)) front
+    ∙ ap (λ (k : List ℕ). k ++ take n (drop 4 l)) prefix
     ∙ ap (λ (k : ℕ). to_be_bytes w32 n ++ take k (drop 4 l)) (sym many)
     ∙ ap (λ (k : ℕ). to_be_bytes w32 k ++ body_in l) (sym short))

@@ -9,18 +9,18 @@ use Rattle.gated_journal.specs.Layout.{framed}
 use Rattle.gated_journal.specs.Scanned.{Frames}
 
 -- as many bytes as the number says, and the rest
-pub frames : (bytes : List ℕ) (n : ℕ) (behind body rest : List ℕ) → AreBytes bytes → 4 ≤ length bytes → n < 2 ^ 32
-    → n ≡ from_be_bytes w32 (take 4 bytes) → behind ≡ drop 4 bytes
-    → n ≤ length behind → body ≡ take n behind → rest ≡ drop n behind → Frames bytes body rest
-frames bytes n behind body rest are long fits is behind_is within body_is rest_is =
-    let many : length body ≡ n = omega (arith, ap (λ (l : List ℕ). length l) body_is, length-take n behind, within) in
-    let parted : behind ≡ body ++ rest = sym (take-append-drop n behind) ∙ ap (λ (l : List ℕ). l ++ drop n behind) (sym body_is)
+pub frames : (bytes : List ℕ) (n : ℕ) (suffix body rest : List ℕ) → AreBytes bytes → 4 ≤ length bytes → n < 2 ^ 32
+    → n ≡ from_be_bytes w32 (take 4 bytes) → suffix ≡ drop 4 bytes
+    → n ≤ length suffix → body ≡ take n suffix → rest ≡ drop n suffix → Frames bytes body rest
+frames bytes n suffix body rest are long fits is after_is within body_is rest_is =
+    let many : length body ≡ n = omega (arith, ap (λ (l : List ℕ). length l) body_is, length-take n suffix, within) in
+    let parted : suffix ≡ body ++ rest = sym (take-append-drop n suffix) ∙ ap (λ (l : List ℕ). l ++ drop n suffix) (sym body_is)
     ∙ ap (λ (l : List ℕ). body ++ l) (sym rest_is) in
     let encoded : bytes ≡ to_be_bytes w32 n ++ drop 4 bytes = spell_number bytes are long
     ∙ ap (λ (k : ℕ). to_be_bytes w32 k ++ drop 4 bytes) (sym is) in
     record {
       split = encoded
-          ∙ ap (λ (l : List ℕ). to_be_bytes w32 n ++ l) (sym behind_is ∙ parted)
+          ∙ ap (λ (l : List ℕ). to_be_bytes w32 n ++ l) (sym after_is ∙ parted)
           ∙ sym (append_assoc (to_be_bytes w32 n) body rest)
           ∙ ap (λ (k : ℕ). (to_be_bytes w32 k ++ body) ++ rest) (sym many);
       short = omega (arith, many, fits);

@@ -4,16 +4,16 @@ use Rattle.std.proofs.Common.{[], ◌∷◌, ◌++◌, length, take, drop, refl,
 use Rattle.std.proofs.Common.{min}
 use Rattle.std.proofs.lemmas.Bool.{cases_eq}
 use Rattle.act_disk.specs.Images.{Torn, Holds}
-use Rattle.act_disk.proofs.Kept.{front_kept}
+use Rattle.act_disk.proofs.Kept.{prefix_kept}
 use Rattle.gated_journal.specs.Appends.{record_of, Appends}
 use Rattle.gated_journal.specs.Choice.{open_generation}
 use Rattle.gated_journal.specs.Layout.{Head, opened, IsClosed, Reads, WouldRead}
-use Rattle.gated_journal.specs.TwoAreas.{start_of, other, area_on, IsGate, Stands}
+use Rattle.gated_journal.specs.TwoAreas.{start_of, other, area_on, IsGate, Recovers}
 use Rattle.gated_journal.specs.declared.gate.Gate.{Gate}
 use Rattle.gated_journal.specs.declared.gate.Gate.TheVariants.{Open, Closed}
 use Rattle.gated_journal.specs.declared.side.Side.{Side}
 use Rattle.gated_journal.specs.declared.side.Side.TheVariants.{First, Second}
-use Rattle.gated_journal.proofs.Choosing.{generation_read, closed_none, alone, same_standing, greater}
+use Rattle.gated_journal.proofs.Choosing.{generation_read, closed_none, alone, same_active_side, greater}
 use Rattle.gated_journal.proofs.Frames.{length-part, part_kept, part_torn, part_appends, part_held}
 use Rattle.gated_journal.proofs.Gates.{gate_torn, would_read}
 use Rattle.gated_journal.proofs.Grown.{appends_reads}
@@ -73,7 +73,7 @@ module _ (len : ℕ) where
   appends_torn gate bytes d c (inl torn) there = record {
     no_shorter = torn.no_shorter;
     no_longer = omega (arith, torn.no_longer);
-    before = front_kept (gate + 1) (length bytes) d c torn (min gate (length d)) (omega arith) (omega arith);
+    before = prefix_kept (gate + 1) (length bytes) d c torn (min gate (length d)) (omega arith) (omega arith);
     after = let place : gate + (length bytes + 1) ≡ (gate + 1) + length bytes = omega arith in
         ap (λ (k : ℕ). drop k c) place ∙ torn.after ∙ ap (λ (k : ℕ). drop k d) (sym place);
   }
@@ -85,11 +85,11 @@ open_is (x ∷ a) is = ap (λ (g : ℕ). g ∷ a) is
 module _ (len : ℕ) (side : Side) (head : Head) (bodies : List (List ℕ)) (d c : List ℕ) where
   -- with the gate of the other area closed
   pub shut_beside : len + len ≤ length c → Reads (area_on len side c) head bodies → IsClosed (area_on len (other side) c)
-      → Stands len side Closed c head bodies
+      → Recovers len side Closed c head bodies
   shut_beside long reads closed = record {
     encodes = record {
       long = long;
-      stands = alone len side c head.generation (generation_read (area_on len side c) head bodies reads)
+      recovers = alone len side c head.generation (generation_read (area_on len side c) head bodies reads)
           (closed_none (area_on len (other side) c) closed);
       reads = reads;
     };
@@ -97,65 +97,65 @@ module _ (len : ℕ) (side : Side) (head : Head) (bodies : List (List ℕ)) (d c
   }
 
   -- with the other area unchanged
-  same_beside : (gate : Gate) (more : List (List ℕ)) → Stands len side gate d head bodies → length d ≤ length c
+  same_beside : (gate : Gate) (more : List (List ℕ)) → Recovers len side gate d head bodies → length d ≤ length c
       → area_on len (other side) c ≡ area_on len (other side) d
-      → Reads (area_on len side c) head more → Stands len side gate c head more
-  same_beside gate more stands longer same reads =
-      let before = stands.encodes in record {
+      → Reads (area_on len side c) head more → Recovers len side gate c head more
+  same_beside gate more recovers longer same reads =
+      let before = recovers.encodes in record {
         encodes = record {
           long = omega (arith, before.long, longer);
-          stands = same_standing len side d c
+          recovers = same_active_side len side d c
               (generation_read (area_on len side c) head more reads ∙ sym (generation_read (area_on len side d) head bodies before.reads))
-              (ap (λ (l : List ℕ). open_generation l) same) ∙ before.stands;
+              (ap (λ (l : List ℕ). open_generation l) same) ∙ before.recovers;
           reads = reads;
         };
-        other_gate = subst (λ (l : List ℕ). IsGate gate l) (sym same) stands.other_gate;
+        other_gate = subst (λ (l : List ℕ). IsGate gate l) (sym same) recovers.other_gate;
       }
 
   -- a write in the active area leaves the other one unchanged
-  pub append_grew : (gate : Gate) (at n : ℕ) (more : List (List ℕ)) → Stands len side gate d head bodies → at + n ≤ len
-      → Torn (start_of len side + at) n d c → Reads (area_on len side c) head more → Stands len side gate c head more
-  append_grew gate at n more stands inside torn reads =
-      same_beside gate more stands torn.no_shorter
-      (kept len (other side) d c stands.encodes.long at n inside
+  pub append_grew : (gate : Gate) (at n : ℕ) (more : List (List ℕ)) → Recovers len side gate d head bodies → at + n ≤ len
+      → Torn (start_of len side + at) n d c → Reads (area_on len side c) head more → Recovers len side gate c head more
+  append_grew gate at n more recovers inside torn reads =
+      same_beside gate more recovers torn.no_shorter
+      (kept len (other side) d c recovers.encodes.long at n inside
       (subst (λ (s : Side). Torn (start_of len s + at) n d c) (sym (other_twice side)) torn)) reads
 
   -- an append to the active area
-  pub append_keeps : (gate : Gate) (at : ℕ) (bytes body : List ℕ) → Stands len side gate d head bodies → at ≡ length (opened head bodies)
+  pub append_keeps : (gate : Gate) (at : ℕ) (bytes body : List ℕ) → Recovers len side gate d head bodies → at ≡ length (opened head bodies)
       → bytes ≡ record_of body → length body < 2 ^ 32 → at + (length bytes + 1) ≤ len → Appends (start_of len side + at) bytes d c
-      → Stands len side gate c head bodies ⊎ Stands len side gate c head (bodies ++ body ∷ [])
-  append_keeps gate at bytes body stands place is short inside appends =
-      let lies = within len side d stands.encodes.long in
+      → Recovers len side gate c head bodies ⊎ Recovers len side gate c head (bodies ++ body ∷ [])
+  append_keeps gate at bytes body recovers place is short inside appends =
+      let lies = within len side d recovers.encodes.long in
       let torn = appends_torn len (start_of len side + at) bytes d c appends (omega (arith, lies, inside)) in
       let inner : Appends at bytes (area_on len side d) (area_on len side c) =
       part_appends (start_of len side) len d c lies at bytes inside appends in
-      let behind : Appends (length (opened head bodies)) (record_of body) (area_on len side d) (area_on len side c) =
+      let suffix : Appends (length (opened head bodies)) (record_of body) (area_on len side d) (area_on len side c) =
       subst (λ (l : List ℕ). Appends (length (opened head bodies)) l (area_on len side d) (area_on len side c)) is
       (subst (λ (k : ℕ). Appends k bytes (area_on len side d) (area_on len side c)) place inner) in
-      ⊎_elim (λ reads. inl (append_grew gate at (length bytes + 1) bodies stands inside torn reads))
-      (λ reads. inr (append_grew gate at (length bytes + 1) (bodies ++ body ∷ []) stands inside torn reads))
-      (appends_reads head bodies (area_on len side d) (area_on len side c) stands.encodes.reads body short behind)
+      ⊎_elim (λ reads. inl (append_grew gate at (length bytes + 1) bodies recovers inside torn reads))
+      (λ reads. inr (append_grew gate at (length bytes + 1) (bodies ++ body ∷ []) recovers inside torn reads))
+      (appends_reads head bodies (area_on len side d) (area_on len side c) recovers.encodes.reads body short suffix)
 
   -- a put into the other area, after its closed gate
-  pub put_keeps : (at n : ℕ) → Stands len side Closed d head bodies → 0 < at → at + n ≤ len
-      → Torn (start_of len (other side) + at) n d c → Stands len side Closed c head bodies
-  put_keeps at n stands behind inside torn =
-      let long = stands.encodes.long in
+  pub put_keeps : (at n : ℕ) → Recovers len side Closed d head bodies → 0 < at → at + n ≤ len
+      → Torn (start_of len (other side) + at) n d c → Recovers len side Closed c head bodies
+  put_keeps at n recovers suffix inside torn =
+      let long = recovers.encodes.long in
       let a = area_on len (other side) d in
       let b = area_on len (other side) c in
       let inner = torn_inside len (other side) d c long at n inside torn in
-      let front = front_kept at n a b inner 1 (omega (arith, not_empty Closed a stands.other_gate)) (omega (arith, behind)) in
+      let prefix = prefix_kept at n a b inner 1 (omega (arith, not_empty Closed a recovers.other_gate)) (omega (arith, suffix)) in
       shut_beside (omega (arith, long, torn.no_shorter))
-      (subst (λ (l : List ℕ). Reads l head bodies) (sym (kept len side d c long at n inside torn)) stands.encodes.reads)
-      (gate_same Closed a b front stands.other_gate)
+      (subst (λ (l : List ℕ). Reads l head bodies) (sym (kept len side d c long at n inside torn)) recovers.encodes.reads)
+      (gate_same Closed a b prefix recovers.other_gate)
 
   -- a write of the other area's gate
-  module _ (gate : Gate) (stands : Stands len side gate d head bodies) (torn : Torn (start_of len (other side)) 1 d c) where
+  module _ (gate : Gate) (recovers : Recovers len side gate d head bodies) (torn : Torn (start_of len (other side)) 1 d c) where
     long_before : len + len ≤ length d
-    long_before = stands.encodes.long
+    long_before = recovers.encodes.long
 
     some : 0 < length (area_on len (other side) d)
-    some = not_empty gate (area_on len (other side) d) stands.other_gate
+    some = not_empty gate (area_on len (other side) d) recovers.other_gate
 
     pub one : 0 + 1 ≤ len
     one = omega (arith, some, length-part (start_of len (other side)) len d (within len (other side) d long_before))
@@ -164,7 +164,7 @@ module _ (len : ℕ) (side : Side) (head : Head) (bodies : List (List ℕ)) (d c
     placed = let same : start_of len (other side) ≡ start_of len (other side) + 0 = omega arith in subst (λ (k : ℕ). Torn k 1 d c) same torn
 
     pub side_reads : Reads (area_on len side c) head bodies
-    side_reads = subst (λ (l : List ℕ). Reads l head bodies) (sym (kept len side d c long_before 0 1 one placed)) stands.encodes.reads
+    side_reads = subst (λ (l : List ℕ). Reads l head bodies) (sym (kept len side d c long_before 0 1 one placed)) recovers.encodes.reads
 
     pub still_long : len + len ≤ length c
     still_long = omega (arith, long_before, torn.no_shorter)
@@ -183,42 +183,42 @@ module _ (len : ℕ) (side : Side) (head : Head) (bodies : List (List ℕ)) (d c
         let first : gated.0 ∷ [] ≡ byte ∷ [] = sym (ap (λ (l : List ℕ). take 1 l) gated.1) ∙ inner in cc first
 
   -- closing the other area's open gate
-  pub close_keeps : Stands len side Open d head bodies → Torn (start_of len (other side)) 1 d c
-      → Stands len side Open c head bodies ⊎ Stands len side Closed c head bodies
-  close_keeps stands torn =
+  pub close_keeps : Recovers len side Open d head bodies → Torn (start_of len (other side)) 1 d c
+      → Recovers len side Open c head bodies ⊎ Recovers len side Closed c head bodies
+  close_keeps recovers torn =
       let a = area_on len (other side) d in
       let b = area_on len (other side) c in
-      let found = gated Open stands torn in
+      let found = gated Open recovers torn in
       elim (cases_eq found.0 0xA5) [
-        | inl is ↦ inl (same_beside Open bodies stands torn.no_shorter
-            (found.1 ∙ ap (λ (g : ℕ). g ∷ drop 1 a) is ∙ sym (open_is a stands.other_gate)) (side_reads Open stands torn))
-        | inr isnt ↦ inr (shut_beside (still_long Open stands torn) (side_reads Open stands torn) (subst IsClosed (sym found.1) isnt))
+        | inl is ↦ inl (same_beside Open bodies recovers torn.no_shorter
+            (found.1 ∙ ap (λ (g : ℕ). g ∷ drop 1 a) is ∙ sym (open_is a recovers.other_gate)) (side_reads Open recovers torn))
+        | inr isnt ↦ inr (shut_beside (still_long Open recovers torn) (side_reads Open recovers torn) (subst IsClosed (sym found.1) isnt))
       ]
 
   -- the same once it is completed
-  pub close_kept : Stands len side Open d head bodies → Torn (start_of len (other side)) 1 d c
+  pub close_kept : Recovers len side Open d head bodies → Torn (start_of len (other side)) 1 d c
       → Holds c (start_of len (other side)) (0 ∷ [])
-      → Stands len side Closed c head bodies
-  close_kept stands torn holds =
-      let found = gated Open stands torn in
-      shut_beside (still_long Open stands torn) (side_reads Open stands torn)
-      (subst IsClosed (sym found.1) (λ is. omega (arith, gate_is Open stands torn 0 holds, is)))
+      → Recovers len side Closed c head bodies
+  close_kept recovers torn holds =
+      let found = gated Open recovers torn in
+      shut_beside (still_long Open recovers torn) (side_reads Open recovers torn)
+      (subst IsClosed (sym found.1) (λ is. omega (arith, gate_is Open recovers torn 0 holds, is)))
 
   -- opening the other area's gate, where that area would read as newer
-  module _ (next : Head) (others : List (List ℕ)) (stands : Stands len side Closed d head bodies)
+  module _ (next : Head) (others : List (List ℕ)) (recovers : Recovers len side Closed d head bodies)
       (would : WouldRead (area_on len (other side) d) next others) (newer : head.generation < next.generation)
       (torn : Torn (start_of len (other side)) 1 d c) where
-    turned : (g : ℕ) → area_on len (other side) c ≡ g ∷ drop 1 (area_on len (other side) d) → g ≡ 0xA5
-        → Stands len (other side) Open c next others
-    turned g found is =
+    switched : (g : ℕ) → area_on len (other side) c ≡ g ∷ drop 1 (area_on len (other side) d) → g ≡ 0xA5
+        → Recovers len (other side) Open c next others
+    switched g found is =
         let a = area_on len (other side) d in
         let b = area_on len (other side) c in
         let reads : Reads b next others = subst (λ (l : List ℕ). Reads l next others)
         (sym (found ∙ ap (λ (x : ℕ). x ∷ drop 1 a) is)) (would_read a next others would) in
-        let here = side_reads Closed stands torn in record {
+        let here = side_reads Closed recovers torn in record {
           encodes = record {
-            long = still_long Closed stands torn;
-            stands = greater len side c head.generation next.generation (generation_read (area_on len side c) head bodies here)
+            long = still_long Closed recovers torn;
+            recovers = greater len side c head.generation next.generation (generation_read (area_on len side c) head bodies here)
                 (generation_read b next others reads) newer;
             reads = reads;
           };
@@ -226,14 +226,14 @@ module _ (len : ℕ) (side : Side) (head : Head) (bodies : List (List ℕ)) (d c
               (read_open (area_on len side c) head bodies here);
         }
 
-    pub open_turns : Stands len side Closed c head bodies ⊎ Stands len (other side) Open c next others
-    open_turns =
-        let found = gated Closed stands torn in
+    pub open_switches : Recovers len side Closed c head bodies ⊎ Recovers len (other side) Open c next others
+    open_switches =
+        let found = gated Closed recovers torn in
         elim (cases_eq found.0 0xA5) [
-          | inl is ↦ inr (turned found.0 found.1 is)
-          | inr isnt ↦ inl (shut_beside (still_long Closed stands torn) (side_reads Closed stands torn) (subst IsClosed (sym found.1) isnt))
+          | inl is ↦ inr (switched found.0 found.1 is)
+          | inr isnt ↦ inl (shut_beside (still_long Closed recovers torn) (side_reads Closed recovers torn) (subst IsClosed (sym found.1) isnt))
         ]
 
-    pub open_turned : Holds c (start_of len (other side)) (0xA5 ∷ []) → Stands len (other side) Open c next others
-    open_turned holds =
-        let found = gated Closed stands torn in turned found.0 found.1 (gate_is Closed stands torn 0xA5 holds)
+    pub open_switched : Holds c (start_of len (other side)) (0xA5 ∷ []) → Recovers len (other side) Open c next others
+    open_switched holds =
+        let found = gated Closed recovers torn in switched found.0 found.1 (gate_is Closed recovers torn 0xA5 holds)

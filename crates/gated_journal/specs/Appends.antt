@@ -2,6 +2,7 @@
 use Rattle.std.specs.Prelude.{◌≡◌, ◌⊎◌, ℕ, ◌+◌, ◌-◌, ◌<◌, ◌^◌, List, [], ◌∷◌, ◌++◌, length, take, drop}
 use Rattle.act_disk.specs.Images.{Torn, Holds}
 use Rattle.gated_journal.specs.Layout.{framed}
+use Rattle.gated_journal.specs.declared.lengths.TheConstants.{FRAME, LENGTH}
 
 -- what is written after the gate: the length-prefixed body and a closed gate
 abbrev pub record_of : List ℕ → List ℕ
@@ -16,9 +17,9 @@ pub record IsWhole (gate : ℕ) (bytes old new : List ℕ) : Type 0 where
 abbrev pub Appends : ℕ → List ℕ → List ℕ → List ℕ → Type 0
 Appends gate bytes old new = Torn (gate + 1) (length bytes) old new ⊎ IsWhole gate bytes old new
 
--- the bytes between the first four and the last one
+-- the bytes between the length at the start and the gate at the end
 abbrev pub body_in : List ℕ → List ℕ
-body_in bytes = take (length bytes - 5) (drop 4 bytes)
+body_in bytes = take (length bytes - FRAME) (drop LENGTH bytes)
 
 -- the bytes encode a record of the body inside them
 pub record IsRecord (bytes : List ℕ) : Type 0 where

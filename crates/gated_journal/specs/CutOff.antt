@@ -3,22 +3,23 @@ use Rattle.std.specs.Prelude.{◌≡◌, ◌⊎◌, ℕ, ◌+◌, ◌<◌, List,
 use Rattle.std.specs.Int.{from_be_bytes, w32, w64}
 use Rattle.gated_journal.specs.Layout.{Head, opened, IsClosed, Fits}
 use Rattle.gated_journal.specs.Scanned.{Parts}
+use Rattle.gated_journal.specs.declared.lengths.TheConstants.{GENERATION, HEAD, LENGTH, TEXT_LENGTH, VERSION}
 
 -- the bytes end before the four-byte number at their start, or before as many bytes after it as it says
 abbrev pub EndsInBody : List ℕ → Type 0
-EndsInBody bytes = length bytes < 4 + from_be_bytes w32 (take 4 bytes)
+EndsInBody bytes = length bytes < LENGTH + from_be_bytes w32 (take LENGTH bytes)
 
--- The bytes end before the text does. Version, generation and text length take 17 bytes; the text length follows the first nine.
+-- The bytes end before the text does. The length of the text follows the version and the generation.
 abbrev pub EndsInHead : List ℕ → Type 0
-EndsInHead bytes = length bytes < 17 + from_be_bytes w64 (take 8 (drop 9 bytes))
+EndsInHead bytes = length bytes < HEAD + from_be_bytes w64 (take TEXT_LENGTH (drop (VERSION + GENERATION) bytes))
 
 -- after an open gate, if there is one here, the bytes end inside a body
 abbrev pub HasNoRecord : List ℕ → Type 0
-HasNoRecord bytes = (behind : List ℕ) → bytes ≡ 0xA5 ∷ behind → EndsInBody behind
+HasNoRecord bytes = (suffix : List ℕ) → bytes ≡ 0xA5 ∷ suffix → EndsInBody suffix
 
 -- the same for a head
 abbrev pub HasNoHead : List ℕ → Type 0
-HasNoHead bytes = (behind : List ℕ) → bytes ≡ 0xA5 ∷ behind → EndsInHead behind
+HasNoHead bytes = (suffix : List ℕ) → bytes ≡ 0xA5 ∷ suffix → EndsInHead suffix
 
 -- Some open records come first. What follows is neither a whole record nor a closed gate.
 pub record EndsInRecords (bytes : List ℕ) : Type 0 where

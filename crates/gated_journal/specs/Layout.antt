@@ -50,7 +50,7 @@ pub record Reads (area : List ℕ) (head : Head) (bodies : List (List ℕ)) : Ty
 -- It would read so if its own gate were open.
 abbrev pub WouldRead : List ℕ → Head → List (List ℕ) → Type 0
 WouldRead [] head bodies = ⊥
-WouldRead (gate ∷ behind) head bodies = Reads (0xA5 ∷ behind) head bodies
+WouldRead (gate ∷ suffix) head bodies = Reads (0xA5 ∷ suffix) head bodies
 
 -- The area reads as nothing: the gate is closed, or a length, a body or a text passes the area's end or leaves no byte for the next gate.
 abbrev pub ReadsNothing : List ℕ → Type 0

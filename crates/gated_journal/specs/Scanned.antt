@@ -36,10 +36,10 @@ pub record HasHead (bytes : List ℕ) (head : Head) (rest : List ℕ) : Type 0 w
   pub text : length head.text < 2 ^ 64
 
 -- the bytes are an open gate and an encoded head, then `rest`
-pub record HasFront (area : List ℕ) (head : Head) (rest : List ℕ) : Type 0 where
-  pub behind : List ℕ
-  pub split : area ≡ 0xA5 ∷ behind
-  pub headed : HasHead behind head rest
+pub record HasPrefix (area : List ℕ) (head : Head) (rest : List ℕ) : Type 0 where
+  pub suffix : List ℕ
+  pub split : area ≡ 0xA5 ∷ suffix
+  pub headed : HasHead suffix head rest
 
 -- the result of a scan: the head, the records in a row, and the offset of the first closed gate
 pub record IsScanned (area : List ℕ) (head : Head) (records : List ℕ) (gate : ℕ) : Type 0 where

@@ -5,7 +5,7 @@ ghost use Rattle.gated_journal.specs.Appends.{Appends, IsWhole};
 use act_disk::{Disk, DiskFault, write_synced};
 
 /// Writes a record after a closed gate and syncs, then opens the gate and syncs.
-pub(crate) fn append_behind<D: Disk>(disk: &mut D, gate: u64, bytes: &[u8]) -> Result<(), DiskFault>
+pub(crate) fn append_after<D: Disk>(disk: &mut D, gate: u64, bytes: &[u8]) -> Result<(), DiskFault>
     requires countable { D.fault_count disk.old < u64.MAX }
     requires fits { gate + 1 < 2 ^ 64 }
     ensures any_moment { D.honest disk.old

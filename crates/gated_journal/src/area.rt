@@ -4,7 +4,7 @@ ghost use Rattle.gated_journal.specs.Appends.{Appends};
 ghost use Rattle.gated_journal.specs.Layout.{Head};
 ghost use Rattle.gated_journal.specs.OnDisk.{ReadsAt, MayHaveGrown, Awaits, WouldReadAt, ShutAt, OpenOrShut};
 
-use crate::append::{OPEN, append_behind};
+use crate::append::{OPEN, append_after};
 use crate::gate::{CLOSED, Gate};
 use act_disk::{Disk, DiskFault, write_synced};
 
@@ -40,14 +40,14 @@ impl Area {
         ensures faults { CountsFault result (D.fault_count disk.old) (D.fault_count disk.new) }
         ensures honest { D.honest disk.new ↔ D.honest disk.old }
     {
-        append_behind(disk, self.start + at, bytes)
+        append_after(disk, self.start + at, bytes)
     }
 
     /// Writes a part of the area's contents after its gate, without a sync.
     pub fn put<D: Disk>(&self, disk: &mut D, at: u64, bytes: &[u8]) -> Result<(), DiskFault>
         requires countable { D.fault_count disk.old < u64.MAX }
         requires addressed { self.now.start + self.now.len < 2 ^ 64 }
-        requires behind { 0 < at }
+        requires suffix { 0 < at }
         requires fits { at + length bytes.now ≤ self.now.len }
         ensures any_moment { D.honest disk.old → EachSince D.moment D.images_since disk.old disk.new
             (From (Torn (self.now.start + at) (length bytes.now)) (D.images disk.old)) }

@@ -2,7 +2,7 @@ ghost use Rattle.std.specs.Prelude.{◌≡◌, ◌↔◌, ◌+◌, ◌<◌, ◌�
 ghost use Rattle.act_disk.specs.Images.{Holds, Only, EachSince, CountsFault};
 ghost use Rattle.gated_journal.specs.Layout.{Head};
 ghost use Rattle.gated_journal.specs.TwoAreas.{start_of, other, Completes};
-ghost use Rattle.gated_journal.specs.Whole.{StandsWhole, WholeEither, WholeOrTurned};
+ghost use Rattle.gated_journal.specs.Whole.{RecoversWhole, WholeEither, WholeOrSwitched};
 
 use crate::append::OPEN;
 use crate::area::Area;
@@ -48,11 +48,11 @@ impl AreaPair {
         requires countable { D.fault_count disk.old < u64.MAX }
         requires addressed { self.now.len + self.now.len < 2 ^ 64 }
         ensures any_moment { (head : Head) (bodies : List (List ℕ)) → D.honest disk.old
-            → ((c : List ℕ) → D.images disk.old c → StandsWhole self.now.len self.now.side gate c head bodies)
+            → ((c : List ℕ) → D.images disk.old c → RecoversWhole self.now.len self.now.side gate c head bodies)
             → EachSince D.moment D.images_since disk.old disk.new (WholeEither self.now.len self.now.side head bodies) }
         ensures closed { OnOk result ((head : Head) (bodies : List (List ℕ)) → D.honest disk.old
-            → ((c : List ℕ) → D.images disk.old c → StandsWhole self.now.len self.now.side gate c head bodies)
-            → (c : List ℕ) → D.images disk.new c → StandsWhole self.now.len self.now.side Gate.Closed c head bodies) }
+            → ((c : List ℕ) → D.images disk.old c → RecoversWhole self.now.len self.now.side gate c head bodies)
+            → (c : List ℕ) → D.images disk.new c → RecoversWhole self.now.len self.now.side Gate.Closed c head bodies) }
         ensures same { gate ≡ Gate.Closed → (disk.new ≡ disk.old) × IsOk result }
         ensures calls { D.calls disk.new ≤ D.calls disk.old + 2 }
         ensures faults { CountsFault result (D.fault_count disk.old) (D.fault_count disk.new) }
@@ -65,16 +65,16 @@ impl AreaPair {
     pub fn put<D: Disk>(&self, disk: &mut D, at: u64, bytes: &[u8]) -> Result<(), DiskFault>
         requires countable { D.fault_count disk.old < u64.MAX }
         requires addressed { self.now.len + self.now.len < 2 ^ 64 }
-        requires behind { 0 < at }
+        requires suffix { 0 < at }
         requires fits { at + length bytes.now ≤ self.now.len }
         ensures any_moment { (head : Head) (bodies : List (List ℕ)) → D.honest disk.old
-            → ((c : List ℕ) → D.images disk.old c → StandsWhole self.now.len self.now.side Gate.Closed c head bodies)
+            → ((c : List ℕ) → D.images disk.old c → RecoversWhole self.now.len self.now.side Gate.Closed c head bodies)
             → EachSince D.moment D.images_since disk.old disk.new
-            (λ c. StandsWhole self.now.len self.now.side Gate.Closed c head bodies) }
-        ensures grown { OnOk result ((front : List ℕ) → D.honest disk.old → at ≡ 1 + length front
+            (λ c. RecoversWhole self.now.len self.now.side Gate.Closed c head bodies) }
+        ensures grown { OnOk result ((prefix : List ℕ) → D.honest disk.old → at ≡ 1 + length prefix
             → self.now.len + self.now.len ≤ length (D.seen disk.old)
-            → Holds (D.seen disk.old) (start_of self.now.len (other self.now.side) + 1) front
-            → Holds (D.seen disk.new) (start_of self.now.len (other self.now.side) + 1) (front ++ bytes.now)) }
+            → Holds (D.seen disk.old) (start_of self.now.len (other self.now.side) + 1) prefix
+            → Holds (D.seen disk.new) (start_of self.now.len (other self.now.side) + 1) (prefix ++ bytes.now)) }
         ensures calls { D.calls disk.new ≡ D.calls disk.old + 1 }
         ensures faults { CountsFault result (D.fault_count disk.old) (D.fault_count disk.new) }
         ensures honest { D.honest disk.new ↔ D.honest disk.old }
@@ -88,18 +88,18 @@ impl AreaPair {
     pub fn switch<D: Disk>(&self, disk: &mut D, at: u64, bytes: &[u8]) -> Result<(), DiskFault>
         requires countable { D.fault_count disk.old < u64.MAX }
         requires addressed { self.now.len + self.now.len < 2 ^ 64 }
-        requires behind { 0 < at }
+        requires suffix { 0 < at }
         requires fits { at + length bytes.now ≤ self.now.len }
         ensures any_moment { (head next : Head) (bodies others : List (List ℕ)) → D.honest disk.old
-            → ((c : List ℕ) → D.images disk.old c → StandsWhole self.now.len self.now.side Gate.Closed c head bodies)
+            → ((c : List ℕ) → D.images disk.old c → RecoversWhole self.now.len self.now.side Gate.Closed c head bodies)
             → Completes self.now.len self.now.side (D.seen disk.old) at bytes.now head next others
             → EachSince D.moment D.images_since disk.old disk.new
-            (WholeOrTurned self.now.len self.now.side head bodies next others) }
+            (WholeOrSwitched self.now.len self.now.side head bodies next others) }
         ensures stable { OnOk result (D.honest disk.old → Only (D.seen disk.new) (D.images disk.new)) }
-        ensures turned { OnOk result ((head next : Head) (bodies others : List (List ℕ)) → D.honest disk.old
-            → ((c : List ℕ) → D.images disk.old c → StandsWhole self.now.len self.now.side Gate.Closed c head bodies)
+        ensures switched { OnOk result ((head next : Head) (bodies others : List (List ℕ)) → D.honest disk.old
+            → ((c : List ℕ) → D.images disk.old c → RecoversWhole self.now.len self.now.side Gate.Closed c head bodies)
             → Completes self.now.len self.now.side (D.seen disk.old) at bytes.now head next others
-            → (c : List ℕ) → D.images disk.new c → StandsWhole self.now.len (other self.now.side) Gate.Open c next others) }
+            → (c : List ℕ) → D.images disk.new c → RecoversWhole self.now.len (other self.now.side) Gate.Open c next others) }
         ensures calls { D.calls disk.new ≤ D.calls disk.old + 4 }
         ensures faults { CountsFault result (D.fault_count disk.old) (D.fault_count disk.new) }
         ensures honest { D.honest disk.new ↔ D.honest disk.old }

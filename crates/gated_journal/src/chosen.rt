@@ -2,11 +2,12 @@ ghost use Rattle.std.specs.Prelude.{◌≡◌, ◌+◌, ◌<◌, ◌≤◌, OnOk
 ghost use Rattle.act_disk.specs.Images.{Only, CountsFault};
 ghost use Rattle.gated_journal.specs.Choice.{newer, open_generation};
 ghost use Rattle.gated_journal.specs.Reading.{OnlyRead};
-ghost use Rattle.gated_journal.specs.Whole.{IsChosen, StandsBetween, gate_of};
+ghost use Rattle.gated_journal.specs.Whole.{IsChosen, IsChosenFrom, gate_of};
 
 use crate::append::OPEN;
 use crate::area::Area;
 use crate::gate::Gate;
+use crate::lengths::PREFIX_LEN;
 use crate::side::Side;
 use act_disk::{Disk, DiskFault};
 
@@ -17,24 +18,21 @@ pub struct Chosen {
     pub other: Gate,
 }
 
-/// The length of the header that holds an area's generation: the gate, the version, and eight bytes of generation.
-const FRONT: usize = 10;
-
 /// The generation, if the gate is open.
-fn generation_of(front: &[u8; 10]) -> Option<u64>
-    ensures { result ≡ open_generation front.now }
+fn generation_of(prefix: &[u8; PREFIX_LEN as usize]) -> Option<u64>
+    ensures { result ≡ open_generation prefix.now }
 {
-    if front[0] != OPEN {
+    if prefix[0] != OPEN {
         return None;
     }
     Some(u64::from_be_bytes([
-        front[2], front[3], front[4], front[5], front[6], front[7], front[8], front[9],
+        prefix[2], prefix[3], prefix[4], prefix[5], prefix[6], prefix[7], prefix[8], prefix[9],
     ]))
 }
 
 /// Which of two areas is active, from the generation of each that has an open gate.
 fn chosen_of(first: Option<u64>, second: Option<u64>) -> Option<Chosen>
-    ensures { StandsBetween first second result }
+    ensures { IsChosenFrom first second result }
 {
     let side = Side::newer(first, second)?;
     let other = match side {
@@ -60,7 +58,7 @@ fn gate_of(generation: Option<u64>) -> Gate
 pub fn choose<D: Disk>(disk: &mut D, len: u64) -> Result<Option<Chosen>, DiskFault>
     requires countable { D.fault_count disk.old < u64.MAX }
     requires within { len + len ≤ D.size disk.old }
-    requires long { 10 ≤ len }
+    requires long { PREFIX_LEN ≤ len }
     ensures found { IfOk result (λ found. D.honest disk.new → IsChosen len found (D.seen disk.old)) }
     ensures stable { OnOk result (D.honest disk.new → Only (D.seen disk.old) (D.images disk.new)) }
     ensures only_read { OnlyRead D.honest D.seen D.size D.moment D.images D.images_since disk.old disk.new }
@@ -68,15 +66,18 @@ pub fn choose<D: Disk>(disk: &mut D, len: u64) -> Result<Option<Chosen>, DiskFau
     ensures faults { CountsFault result (D.fault_count disk.old) (D.fault_count disk.new) }
 {
     disk.sync()?;
-    let mut front = [0; FRONT];
-    let start = Area { start: 0, len: 10 };
-    start.read(disk, &mut front)?;
-    let first = generation_of(&front);
+    let mut prefix = [0; PREFIX_LEN as usize];
+    let start = Area {
+        start: 0,
+        len: PREFIX_LEN,
+    };
+    start.read(disk, &mut prefix)?;
+    let first = generation_of(&prefix);
     let middle = Area {
         start: len,
-        len: 10,
+        len: PREFIX_LEN,
     };
-    middle.read(disk, &mut front)?;
-    let second = generation_of(&front);
+    middle.read(disk, &mut prefix)?;
+    let second = generation_of(&prefix);
     Ok(chosen_of(first, second))
 }

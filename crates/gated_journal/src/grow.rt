@@ -3,9 +3,9 @@ ghost use Rattle.act_disk.specs.Images.{Holds, EachSince, CountsFault};
 ghost use Rattle.gated_journal.specs.Appends.{record_of};
 ghost use Rattle.gated_journal.specs.Layout.{Head, opened};
 ghost use Rattle.gated_journal.specs.TwoAreas.{start_of, other};
-ghost use Rattle.gated_journal.specs.Whole.{StandsWhole, WholeOrGrew};
+ghost use Rattle.gated_journal.specs.Whole.{RecoversWhole, WholeOrGrew};
 
-use crate::append::append_behind;
+use crate::append::append_after;
 use crate::area_pair::AreaPair;
 use crate::gate::Gate;
 use act_disk::{Disk, DiskFault};
@@ -18,13 +18,13 @@ impl AreaPair {
         requires addressed { self.now.len + self.now.len < 2 ^ 64 }
         requires fits { at + (length bytes.now + 1) ≤ self.now.len }
         ensures any_moment { (gate : Gate) (head : Head) (bodies : List (List ℕ)) (body : List ℕ) → D.honest disk.old
-            → ((c : List ℕ) → D.images disk.old c → StandsWhole self.now.len self.now.side gate c head bodies)
+            → ((c : List ℕ) → D.images disk.old c → RecoversWhole self.now.len self.now.side gate c head bodies)
             → at ≡ length (opened head bodies) → bytes.now ≡ record_of body → length body < 2 ^ 32
             → EachSince D.moment D.images_since disk.old disk.new (WholeOrGrew self.now.len self.now.side gate head bodies body) }
         ensures grown { OnOk result ((gate : Gate) (head : Head) (bodies : List (List ℕ)) (body : List ℕ) → D.honest disk.old
-            → ((c : List ℕ) → D.images disk.old c → StandsWhole self.now.len self.now.side gate c head bodies)
+            → ((c : List ℕ) → D.images disk.old c → RecoversWhole self.now.len self.now.side gate c head bodies)
             → at ≡ length (opened head bodies) → bytes.now ≡ record_of body → length body < 2 ^ 32
-            → (c : List ℕ) → D.images disk.new c → StandsWhole self.now.len self.now.side gate c head (bodies ++ body ∷ [])) }
+            → (c : List ℕ) → D.images disk.new c → RecoversWhole self.now.len self.now.side gate c head (bodies ++ body ∷ [])) }
         // What was put into the other area is still there.
         ensures beside { OnOk result ((from : ℕ) (put : List ℕ) → D.honest disk.old
             → self.now.len + self.now.len ≤ length (D.seen disk.old) → from + length put ≤ self.now.len
@@ -34,6 +34,6 @@ impl AreaPair {
         ensures faults { CountsFault result (D.fault_count disk.old) (D.fault_count disk.new) }
         ensures honest { D.honest disk.new ↔ D.honest disk.old }
     {
-        append_behind(disk, self.side.start(self.len) + at, bytes)
+        append_after(disk, self.side.start(self.len) + at, bytes)
     }
 }

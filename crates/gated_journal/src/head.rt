@@ -20,9 +20,9 @@ fn long_number_at(bytes: &[u8]) -> Option<(u64, &[u8])>
     ensures rest { IfSome result (λ found. found.1.now ≡ drop 8 bytes.now) }
     ensures none { IsNone result → length bytes.now < 8 }
 {
-    let (front, rest) = bytes.split_at_checked(8)?;
+    let (prefix, rest) = bytes.split_at_checked(8)?;
     let number = u64::from_be_bytes([
-        front[0], front[1], front[2], front[3], front[4], front[5], front[6], front[7],
+        prefix[0], prefix[1], prefix[2], prefix[3], prefix[4], prefix[5], prefix[6], prefix[7],
     ]);
     Some((number, rest))
 }
@@ -34,12 +34,12 @@ fn text_at(bytes: &[u8]) -> Option<(&[u8], &[u8])>
     ensures none { IsNone result → (text rest : List ℕ) → HasText bytes.now text rest → ⊥ }
     ensures cut { IsNone result → length bytes.now < 8 + from_be_bytes w64 (take 8 bytes.now) }
 {
-    let (count, behind) = long_number_at(bytes)?;
+    let (count, suffix) = long_number_at(bytes)?;
     let count = count as usize;
-    if behind.len() < count {
+    if suffix.len() < count {
         return None;
     }
-    Some(behind.split_at(count))
+    Some(suffix.split_at(count))
 }
 
 /// The head at the start, and the bytes after it.
@@ -48,11 +48,11 @@ pub(crate) fn head_at(bytes: &[u8]) -> Option<(AreaHead<'_>, &[u8])>
     ensures none { IsNone result → (head : Head) (rest : List ℕ) → HasHead bytes.now head rest → ⊥ }
     ensures cut { IsNone result → EndsInHead bytes.now }
 {
-    let [version, behind @ ..] = bytes else {
+    let [version, suffix @ ..] = bytes else {
         return None;
     };
-    let (generation, behind) = long_number_at(behind)?;
-    let (text, rest) = text_at(behind)?;
+    let (generation, suffix) = long_number_at(suffix)?;
+    let (text, rest) = text_at(suffix)?;
     let head = AreaHead {
         version: *version,
         generation,

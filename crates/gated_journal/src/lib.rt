@@ -9,6 +9,7 @@ mod gate;
 mod grow;
 mod head;
 pub mod laws;
+pub mod lengths;
 mod made;
 mod read;
 mod record;

@@ -1,8 +1,8 @@
 ghost use Rattle.std.specs.Prelude.{◌≡◌, ◌↔◌, ◌+◌, ◌<◌, ◌≤◌, ◌^◌, ℕ, List, ◌∷◌, length, OnOk};
 ghost use Rattle.act_disk.specs.Images.{CountsFault};
 ghost use Rattle.gated_journal.specs.Layout.{Head, Fits};
-ghost use Rattle.gated_journal.specs.TwoAreas.{behind_gate};
-ghost use Rattle.gated_journal.specs.Whole.{StandsWhole};
+ghost use Rattle.gated_journal.specs.TwoAreas.{after_gate};
+ghost use Rattle.gated_journal.specs.Whole.{RecoversWhole};
 ghost use Rattle.gated_journal.specs.declared.gate.Gate.TheVariants.{Closed};
 ghost use Rattle.gated_journal.specs.declared.side.Side.TheVariants.{First};
 
@@ -12,22 +12,22 @@ use act_disk::{Disk, DiskFault, write_synced};
 
 /// Creates two areas of length `len` on an empty disk. The bytes are the contents of the first one, with a closed gate, which is opened
 /// once they are durable. The gate of the second area is closed.
-pub fn make_areas<D: Disk>(disk: &mut D, len: u64, front: &[u8]) -> Result<(), DiskFault>
+pub fn make_areas<D: Disk>(disk: &mut D, len: u64, prefix: &[u8]) -> Result<(), DiskFault>
     requires countable { D.fault_count disk.old < u64.MAX }
     requires addressed { len + len < 2 ^ 64 }
     requires empty { D.size disk.old ≡ 0 }
-    requires fits { length front.now ≤ len }
-    requires some { 0 < length front.now }
+    requires fits { length prefix.now ≤ len }
+    requires some { 0 < length prefix.now }
     requires long { 2 ≤ len }
     ensures made { OnOk result ((head : Head) (bodies : List (List ℕ)) → D.honest disk.old
-        → front.now ≡ 0 ∷ behind_gate head bodies → Fits head bodies
-        → (c : List ℕ) → D.images disk.new c → StandsWhole len First Closed c head bodies) }
+        → prefix.now ≡ 0 ∷ after_gate head bodies → Fits head bodies
+        → (c : List ℕ) → D.images disk.new c → RecoversWhole len First Closed c head bodies) }
     ensures size { OnOk result (D.size disk.new ≡ len + len) }
     ensures calls { D.calls disk.new ≤ D.calls disk.old + 6 }
     ensures faults { CountsFault result (D.fault_count disk.old) (D.fault_count disk.new) }
     ensures honest { D.honest disk.new ↔ D.honest disk.old }
 {
-    disk.write_at(0, front)?;
+    disk.write_at(0, prefix)?;
     disk.write_at(len, &[CLOSED])?;
     write_synced(disk, len + len - 1, &[CLOSED])?;
     write_synced(disk, 0, &[OPEN])

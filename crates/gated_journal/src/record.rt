@@ -2,10 +2,8 @@ ghost use Rattle.std.specs.Prelude.{◌≡◌, ◌+◌, ◌<◌, ◌≤◌, ◌^
 ghost use Rattle.gated_journal.specs.Appends.{record_of, body_in};
 
 use crate::gate::CLOSED;
+use crate::lengths::{FRAME, LENGTH};
 use std::marker::Model;
-
-/// The bytes of a record beside its body: four bytes of length and a closed gate.
-const FRAME: usize = 5;
 
 /// A record as an append writes it: a length-prefixed body and a closed gate. Contracts see the body.
 #[derive(Drop)]
@@ -27,8 +25,8 @@ impl Model for Record {
 impl Record {
     /// The record whose body lies between the first four bytes and the last one; these five may have any value. Takes no memory.
     pub fn of(bytes: Vec<u8>) -> Record
-        requires long { 5 ≤ vec_len bytes }
-        requires short { vec_len bytes < 2 ^ 32 + 5 }
+        requires long { FRAME ≤ vec_len bytes }
+        requires short { vec_len bytes < 2 ^ 32 + FRAME }
         ensures { result ≡ body_in bytes.items }
     {
         let mut bytes = bytes;
@@ -55,15 +53,15 @@ impl Record {
 
 /// Writes the length of the body into the first four bytes, and a closed gate into the last one.
 fn frame(bytes: &mut [u8])
-    requires long { 5 ≤ length bytes.old }
-    requires short { length bytes.old < 2 ^ 32 + 5 }
+    requires long { FRAME ≤ length bytes.old }
+    requires short { length bytes.old < 2 ^ 32 + FRAME }
     ensures { bytes.new ≡ record_of (body_in bytes.old) }
 {
-    let count = bytes.len() - FRAME;
+    let count = bytes.len() - FRAME as usize;
     let number = (count as u32).to_be_bytes();
     bytes[0] = number[0];
     bytes[1] = number[1];
     bytes[2] = number[2];
     bytes[3] = number[3];
-    bytes[count + 4] = CLOSED;
+    bytes[count + LENGTH as usize] = CLOSED;
 }

@@ -5,16 +5,17 @@ ghost use Rattle.gated_journal.specs.CutOff.{EndsInBody, HasNoRecord, EndsInReco
 ghost use Rattle.gated_journal.specs.Layout.{IsClosed};
 
 use crate::append::OPEN;
+use crate::lengths::LENGTH;
 
 /// The four-byte number at the start, and the bytes after it.
 fn number_at(bytes: &[u8]) -> Option<(u32, &[u8])>
-    ensures long { IfSome result (λ found. 4 ≤ length bytes.now) }
-    ensures number { IfSome result (λ found. found.0 ≡ from_be_bytes w32 (take 4 bytes.now)) }
-    ensures rest { IfSome result (λ found. found.1.now ≡ drop 4 bytes.now) }
-    ensures none { IsNone result → length bytes.now < 4 }
+    ensures long { IfSome result (λ found. LENGTH ≤ length bytes.now) }
+    ensures number { IfSome result (λ found. found.0 ≡ from_be_bytes w32 (take LENGTH bytes.now)) }
+    ensures rest { IfSome result (λ found. found.1.now ≡ drop LENGTH bytes.now) }
+    ensures none { IsNone result → length bytes.now < LENGTH }
 {
-    let (front, rest) = bytes.split_at_checked(4)?;
-    let number = u32::from_be_bytes([front[0], front[1], front[2], front[3]]);
+    let (prefix, rest) = bytes.split_at_checked(LENGTH as usize)?;
+    let number = u32::from_be_bytes([prefix[0], prefix[1], prefix[2], prefix[3]]);
     Some((number, rest))
 }
 
@@ -40,21 +41,21 @@ pub fn record_at(bytes: &[u8]) -> Option<(&[u8], &[u8])>
     ensures cut { IsNone result → HasNoRecord bytes.now }
 {
     match bytes {
-        [OPEN, behind @ ..] => frame_at(behind),
+        [OPEN, suffix @ ..] => frame_at(suffix),
         _ => None,
     }
 }
 
 /// The bytes after the open records, if they begin with a closed gate.
 #[tactic(auto, using(crate::proofs::Parting::parts_more, crate::proofs::Parting::shorter, crate::proofs::Parting::rest_closed))]
-pub(crate) fn behind_records(bytes: &[u8]) -> Option<&[u8]>
+pub(crate) fn after_records(bytes: &[u8]) -> Option<&[u8]>
     ensures some { IfSome result (λ rest. IsClosed rest.now × (bodies : List (List ℕ)) × Parts bytes.now bodies rest.now) }
     ensures none { IsNone result → (bodies : List (List ℕ)) (rest : List ℕ) → Parts bytes.now bodies rest → IsClosed rest → ⊥ }
     ensures cut { IsNone result → EndsInRecords bytes.now }
 {
     let mut rest = bytes;
-    while let Some((_body, behind)) = record_at(rest) {
-        rest = behind;
+    while let Some((_body, suffix)) = record_at(rest) {
+        rest = suffix;
     }
     match rest.first() {
         Some(gate) if *gate != OPEN => Some(rest),

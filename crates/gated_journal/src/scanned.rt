@@ -1,12 +1,12 @@
 ghost use Rattle.std.specs.Prelude.{◌≡◌, ℕ, List, IfSome, IsNone};
 ghost use Rattle.gated_journal.specs.Layout.{Head, ReadsNothing};
 ghost use Rattle.gated_journal.specs.CutOff.{HasNoHead, EncodesNothing};
-ghost use Rattle.gated_journal.specs.Scanned.{HasFront, IsScanned};
+ghost use Rattle.gated_journal.specs.Scanned.{HasPrefix, IsScanned};
 ghost use Rattle.gated_journal.specs.ScannedHead.{head_of};
 
 use crate::append::OPEN;
 use crate::head::{AreaHead, head_at};
-use crate::records::behind_records;
+use crate::records::after_records;
 
 /// What an area reads as. Nothing is copied: text and records are slices of the area's bytes.
 #[derive(Clone, Copy)]
@@ -27,23 +27,23 @@ pub fn scan(area: &[u8]) -> Option<ScannedArea<'_>>
     ensures none { IsNone result → ReadsNothing area.now }
     ensures cut { IsNone result → EncodesNothing area.now }
 {
-    let (head, behind) = area_header(area)?;
-    let end = behind_records(behind)?;
+    let (head, suffix) = area_header(area)?;
+    let end = after_records(suffix)?;
     Some(ScannedArea {
         head,
-        records: &behind[..behind.len() - end.len()],
+        records: &suffix[..suffix.len() - end.len()],
         gate: (area.len() - end.len()) as u64,
     })
 }
 
 /// The head after an open gate, and the bytes after it.
 fn area_header(area: &[u8]) -> Option<(AreaHead<'_>, &[u8])>
-    ensures some { IfSome result (λ found. HasFront area.now (head_of found.0) found.1.now) }
-    ensures none { IsNone result → (head : Head) (rest : List ℕ) → HasFront area.now head rest → ⊥ }
+    ensures some { IfSome result (λ found. HasPrefix area.now (head_of found.0) found.1.now) }
+    ensures none { IsNone result → (head : Head) (rest : List ℕ) → HasPrefix area.now head rest → ⊥ }
     ensures cut { IsNone result → HasNoHead area.now }
 {
     match area {
-        [OPEN, behind @ ..] => head_at(behind),
+        [OPEN, suffix @ ..] => head_at(suffix),
         _ => None,
     }
 }

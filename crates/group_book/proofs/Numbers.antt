@@ -59,8 +59,8 @@ module _ {X : Type 0} where
 
   -- ---- a group that is present, and one that is absent
 
-  none_behind : (e : Group × X) (es : List (Group × X)) (g : Group) → lookup (group_eq g) (e ∷ es) ≡ None → lookup (group_eq g) es ≡ None
-  none_behind e es g none = rest (group_eq g e.0) none
+  none_after : (e : Group × X) (es : List (Group × X)) (g : Group) → lookup (group_eq g) (e ∷ es) ≡ None → lookup (group_eq g) es ≡ None
+  none_after e es g none = rest (group_eq g e.0) none
     where
       rest : (b : Bool) → cond b (Some e.1) (lookup (group_eq g) es) ≡ None → lookup (group_eq g) es ≡ None
       rest true h = cc
@@ -79,7 +79,7 @@ module _ {X : Type 0} where
         where
           some : Some e.1 ≡ None → ⊥
           some h = cc
-  not_there (e ∷ es) g (suc n) none at = not_there es g n (none_behind e es g none) at
+  not_there (e ∷ es) g (suc n) none at = not_there es g n (none_after e es g none) at
 
   pub has_it : (es : List (Group × X)) (g : Group) (n : ℕ) → key_at es n ≡ Some g → list_any (λ e. same_group g e.0) es ≡ true
   has_it [] g n at = cc
@@ -96,7 +96,7 @@ module _ {X : Type 0} where
 
   pub has_it_not : (es : List (Group × X)) (g : Group) → lookup (group_eq g) es ≡ None → list_any (λ e. same_group g e.0) es ≡ false
   has_it_not [] g none = refl
-  has_it_not (e ∷ es) g none = by (same_group g e.0) refl (has_it_not es g (none_behind e es g none))
+  has_it_not (e ∷ es) g none = by (same_group g e.0) refl (has_it_not es g (none_after e es g none))
     where
       by : (b : Bool) → same_group g e.0 ≡ b → list_any (λ e. same_group g e.0) es ≡ false → (b || list_any (λ e. same_group g e.0) es) ≡ false
       by true same rest = absurd (not_there (e ∷ es) g zero none (ap Some (sym (same_is_one g e.0 same))))

@@ -3,7 +3,7 @@ ghost use Rattle.group_book.specs.Slots.{HasPlace, HasRoom, Lists, empty_slot};
 
 use wf_value::Same;
 
-/// The possible holders of a group. When no rule applies any more, a group has at most one running and one pending holder; the
+/// The possible holders of a group. When no rule applies any more, a group has at most one holder in progress and one pending; the
 /// third place is for a newcomer. A slot is crowded if there may be more holders.
 #[derive(Clone, Copy)]
 pub struct Slot<H> {

@@ -7,7 +7,7 @@ use Rattle.std.proofs.lemmas.Bool.{and_parts, eqb-true}
 use Rattle.wf_value.specs.Words.{result_word}
 use Rattle.wf_expr.specs.Bound.{Results, bound_text, first_result}
 use Rattle.wf_expr.specs.declared.bound.BoundPiece.{BoundPiece}
-use Rattle.group_name.specs.BoundGroup.{BoundName, asks_no_result, group_at, group_of_folded, own_text}
+use Rattle.group_name.specs.BoundGroup.{BoundName, needs_no_result, group_at, group_of_folded, own_text}
 use Rattle.group_name.specs.Group.{Group}
 
 no-result : (results : Results) (needs text : List ℕ) → nat_eq (length needs) 0 ≡ true
@@ -15,11 +15,11 @@ no-result : (results : Results) (needs text : List ℕ) → nat_eq (length needs
 no-result results [] text none = refl
 no-result results (n ∷ ns) text none = absurd (omega (arith, eqb-true (length (n ∷ ns)) 0 none))
 
-own-by-results : (results : Results) (pieces : List BoundPiece) → list_all asks_no_result pieces ≡ true
+own-by-results : (results : Results) (pieces : List BoundPiece) → list_all needs_no_result pieces ≡ true
     → bound_text results pieces ≡ own_text pieces
 own-by-results results [] none = refl
 own-by-results results (p ∷ ps) none =
-    let parts = and_parts (asks_no_result p) (list_all asks_no_result ps) none in
+    let parts = and_parts (needs_no_result p) (list_all needs_no_result ps) none in
     ap₂ (λ x y. x ++ y) (no-result results p.needs p.otherwise parts.0) (own-by-results results ps parts.1)
 
 if-named : (o : Option Group) (at : Results → Option Group) → ((results : Results) → at results ≡ o)
@@ -29,7 +29,7 @@ if-named (Some g) at is = is
 
 -- such a name stands for the group of its own text
 pub always-named : (name : BoundName) (repository copied text : List ℕ) (pieces : List BoundPiece) (o : Option Group)
-    → record { repository = repository; pieces = pieces } ≡ name → list_all asks_no_result pieces ≡ true → copied ≡ repository
+    → record { repository = repository; pieces = pieces } ≡ name → list_all needs_no_result pieces ≡ true → copied ≡ repository
     → text ≡ own_text pieces → o ≡ group_of_folded copied text
     → IfSome o (λ g. (results : Results) → group_at results name ≡ Some g)
 always-named name repository copied text pieces o is none same own so =

@@ -47,12 +47,12 @@ group_at results name = group_of_folded name.repository (bound_text results name
 
 -- ---- names that depend on no result
 
-abbrev pub asks_no_result : BoundPiece → Bool
-asks_no_result piece = nat_eq (length piece.needs) 0
+abbrev pub needs_no_result : BoundPiece → Bool
+needs_no_result piece = nat_eq (length piece.needs) 0
 
 abbrev pub own_text : List BoundPiece → List ℕ
 own_text = flat_map (λ piece. piece.otherwise)
 
 -- the group of a name whose pieces depend on no result: it is that of their own texts
 abbrev pub fixed_group : BoundName → Option Group
-fixed_group name = if list_all asks_no_result name.pieces then group_of_folded name.repository (own_text name.pieces) else None
+fixed_group name = if list_all needs_no_result name.pieces then group_of_folded name.repository (own_text name.pieces) else None

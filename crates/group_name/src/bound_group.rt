@@ -1,6 +1,6 @@
 ghost use Rattle.std.specs.Prelude.{◌≡◌, ◌↔◌, IsTrue, IsSome, IsUtf8, map, Ok, IfOk, IfSome, Some};
 ghost use Rattle.std.specs.List.{list_all};
-ghost use Rattle.group_name.specs.BoundGroup.{AreTexts, asks_no_result, bound_group, fixed_group, folded_piece, group_at, own_text};
+ghost use Rattle.group_name.specs.BoundGroup.{AreTexts, needs_no_result, bound_group, fixed_group, folded_piece, group_at, own_text};
 ghost use Rattle.group_name.specs.Group.{group_of};
 ghost use Rattle.wf_expr.specs.Bound.{Results, bound_text};
 ghost use Rattle.wf_value.specs.Gives.{Gives};
@@ -54,7 +54,7 @@ fn folded_pieces(alloc: Global, pieces: &[BoundPiece]) -> Result<Vec<BoundPiece>
 }
 
 fn ask_no_result(pieces: &[BoundPiece]) -> bool
-    ensures { result ≡ list_all asks_no_result pieces.now }
+    ensures { result ≡ list_all needs_no_result pieces.now }
 {
     pieces.iter().all(|piece| piece.needs.len() == 0)
 }
@@ -67,6 +67,22 @@ fn own_text(alloc: Global, pieces: &[BoundPiece]) -> Result<Chars, Refusal>
     let mut text = String::new(alloc);
     for piece in pieces {
         text.push_str(piece.otherwise.as_str())?;
+    }
+    Ok(Chars::new(text))
+}
+
+/// The concatenated texts of the pieces, given the results.
+fn text_by<R: NeedResults>(
+    alloc: Global,
+    pieces: &[BoundPiece],
+    results: &R,
+) -> Result<Chars, Refusal>
+    ensures gives { Gives (λ t. t) result (Ok (bound_text (R.result_of results.now) pieces.now)) }
+    ensures utf8 { IfOk result IsUtf8 }
+{
+    let mut text = String::new(alloc);
+    for piece in pieces {
+        text.push_str(piece.text(results))?;
     }
     Ok(Chars::new(text))
 }
@@ -97,6 +113,19 @@ impl BoundGroup {
         }
         let repository = self.repository.copy(alloc)?;
         let text = own_text(alloc, self.name.pieces())?;
+        Ok(GroupKey::of_folded(repository, text))
+    }
+
+    /// The group of the name, given the results; `None` if the name is empty. Its only `Err` is 50 (out of memory).
+    pub fn key<R: NeedResults>(
+        &self,
+        alloc: Global,
+        results: &R,
+    ) -> Result<Option<GroupKey>, Refusal>
+        ensures { Gives (λ k. k) result (Ok (group_at (R.result_of results.now) self.now)) }
+    {
+        let repository = self.repository.copy(alloc)?;
+        let text = text_by(alloc, self.name.pieces(), results)?;
         Ok(GroupKey::of_folded(repository, text))
     }
 

@@ -6,8 +6,8 @@ use Rattle.std.proofs.lemmas.Cmp.{lists_equiv, nat_list_eq_equiv}
 use Rattle.std.proofs.lemmas.Map.Keys.{IsDistinct-head, IsDistinct-tail}
 use Rattle.indexmap.specs.IndexSet.{insert_key}
 use Rattle.run_marks.specs.Marked.{is_marked}
-use Rattle.label_lists.specs.Asking.{AskingState, asks_in, may_offer_in, place_of}
-use Rattle.label_lists.specs.Known.{KnownState, OnlyEnters, asks_at, offers_at}
+use Rattle.label_lists.specs.Requesting.{RequestingState, requests_in, may_offer_in, place_of}
+use Rattle.label_lists.specs.Known.{KnownState, OnlyEnters, requests_at, offers_at}
 use Rattle.label_lists.specs.Labels.{labels_eq}
 use Rattle.label_lists.proofs.SameLabels.{each_passes}
 use Rattle.label_lists.proofs.Writes.{appended}
@@ -45,17 +45,17 @@ one_more_copied old labels rest whole distinct is =
 
 -- ---- a new list without runs
 
-pub offers_appended : (asking : List AskingState) (new : AskingState) → new.runs ≡ [] → (n r : ℕ) → offers_at (asking ++ new ∷ []) n r ≡ offers_at asking n r
-offers_appended asking new none n r = appended (λ a. may_offer_in a r) new asking n (ap (λ runs. option_map_or (is_marked new.marks) (place_of runs r) false) none)
+pub offers_appended : (requesting : List RequestingState) (new : RequestingState) → new.runs ≡ [] → (n r : ℕ) → offers_at (requesting ++ new ∷ []) n r ≡ offers_at requesting n r
+offers_appended requesting new none n r = appended (λ a. may_offer_in a r) new requesting n (ap (λ runs. option_map_or (is_marked new.marks) (place_of runs r) false) none)
 
-pub asked_appended : (asking : List AskingState) (new : AskingState) → new.runs ≡ [] → (n r : ℕ) → asks_at (asking ++ new ∷ []) n r ≡ asks_at asking n r
-asked_appended asking new none n r = appended (λ a. asks_in a r) new asking n (ap (λ runs. is_some (place_of runs r)) none)
+pub requested_appended : (requesting : List RequestingState) (new : RequestingState) → new.runs ≡ [] → (n r : ℕ) → requests_at (requesting ++ new ∷ []) n r ≡ requests_at requesting n r
+requested_appended requesting new none n r = appended (λ a. requests_in a r) new requesting n (ap (λ runs. is_some (place_of runs r)) none)
 
 -- ---- two entries in sequence
 
 pub enters_twice : (old between new : KnownState) → OnlyEnters old between → OnlyEnters between new → OnlyEnters old new
 enters_twice old between new first second = record {
   lists = (λ n labels at. second.lists n labels (first.lists n labels at));
-  asks = (λ n r is. second.asks n r (first.asks n r is));
+  requests = (λ n r is. second.requests n r (first.requests n r is));
   offers = (λ n r. second.offers n r ∙ first.offers n r);
 }

@@ -4,17 +4,17 @@ use Rattle.std.proofs.lemmas.Bool.{cases_lt}
 use Rattle.std.proofs.lemmas.Grind.{common_steps}
 use Rattle.run_marks.specs.First.{IsFirstFrom}
 use Rattle.run_marks.specs.Marked.{Covers, SameMarks, is_marked}
-use Rattle.label_lists.specs.Asking.{AskingState}
+use Rattle.label_lists.specs.Requesting.{RequestingState}
 use Rattle.label_lists.specs.Known.{AreMarked, IsBefore, offers_at}
 use Rattle.label_lists.proofs.Entering.{offers_appended}
 
 -- the marks stay correct if no further run may have a ready leg
-pub still_marked : (old new : List AskingState) (offering : List ℕ) → length new ≡ length old → AreMarked old offering
+pub still_marked : (old new : List RequestingState) (offering : List ℕ) → length new ≡ length old → AreMarked old offering
     → ((n r : ℕ) → offers_at new n r ≡ true → offers_at old n r ≡ true) → AreMarked new offering
 still_marked old new offering many marks before = record {
   covers = omega (arith, many, marks.covers);
   marked = (λ n r offers. marks.marked n r (before n r offers));
-  none_behind = (λ n past. marks.none_behind n (omega (arith, many, past)));
+  none_after = (λ n past. marks.none_after n (omega (arith, many, past)));
 }
 
 pub was_before : (b : Bool) (new old : Bool) → new ≡ (if b then false else old) → new ≡ true → old ≡ true
@@ -22,33 +22,33 @@ was_before true new old is offers = absurd (let bad : true ≡ false = sym offer
 was_before false new old is offers = sym is ∙ offers
 
 -- they stay correct after a new list without runs is added
-pub marked_appended : (asking : List AskingState) (new : AskingState) (offering next : List ℕ) → AreMarked asking offering → new.runs ≡ []
-    → SameMarks offering next → Covers next (length asking + 1) → AreMarked (asking ++ new ∷ []) next
-marked_appended asking new offering next marks none same covers = record {
+pub marked_appended : (requesting : List RequestingState) (new : RequestingState) (offering next : List ℕ) → AreMarked requesting offering → new.runs ≡ []
+    → SameMarks offering next → Covers next (length requesting + 1) → AreMarked (requesting ++ new ∷ []) next
+marked_appended requesting new offering next marks none same covers = record {
   covers = grind (arith, common_steps, covers);
-  marked = (λ n r offers. same n ∙ marks.marked n r (sym (offers_appended asking new none n r) ∙ offers));
-  none_behind = (λ n past. same n ∙ marks.none_behind n (grind (arith, common_steps)));
+  marked = (λ n r offers. same n ∙ marks.marked n r (sym (offers_appended requesting new none n r) ∙ offers));
+  none_after = (λ n past. same n ∙ marks.none_after n (grind (arith, common_steps)));
 }
 
 -- ---- the next marked list
 
-module _ (asking : List AskingState) (offering : List ℕ) (marks : AreMarked asking offering) (number : ℕ) where
-  pub next_some : (found : Option ℕ) → IsFirstFrom (is_marked offering) number found → IfSome found (λ n. (number ≤ n) × (n < length asking))
+module _ (requesting : List RequestingState) (offering : List ℕ) (marks : AreMarked requesting offering) (number : ℕ) where
+  pub next_some : (found : Option ℕ) → IsFirstFrom (is_marked offering) number found → IfSome found (λ n. (number ≤ n) × (n < length requesting))
   next_some None first = tt
   next_some (Some n) first = (
     first.0,
-    elim (cases_lt n (length asking)) [
+    elim (cases_lt n (length requesting)) [
       | inl less ↦ less
-      | inr past ↦ absurd (true≢false (sym first.1 ∙ marks.none_behind n past))
+      | inr past ↦ absurd (true≢false (sym first.1 ∙ marks.none_after n past))
     ],
   )
 
   pub next_passed : (found : Option ℕ) → IsFirstFrom (is_marked offering) number found → (n r : ℕ) → number ≤ n → IsBefore n found
-      → offers_at asking n r ≡ false
-  next_passed found first n r le before = by (offers_at asking n r) refl found first before
+      → offers_at requesting n r ≡ false
+  next_passed found first n r le before = by (offers_at requesting n r) refl found first before
     where
-      by : (b : Bool) → offers_at asking n r ≡ b → (o : Option ℕ) → IsFirstFrom (is_marked offering) number o → IsBefore n o
-          → offers_at asking n r ≡ false
+      by : (b : Bool) → offers_at requesting n r ≡ b → (o : Option ℕ) → IsFirstFrom (is_marked offering) number o → IsBefore n o
+          → offers_at requesting n r ≡ false
       by false is o none before = is
       by true is None none before = absurd (true≢false (sym (marks.marked n r is) ∙ none n le))
       by true is (Some m) first before = absurd (true≢false (sym (marks.marked n r is) ∙ first.2 n le before))

@@ -8,14 +8,14 @@ use Rattle.std.proofs.lemmas.List.{get_or_default}
 use Rattle.run_marks.specs.Bits.{Puts}
 use Rattle.run_marks.specs.First.{IsFirstFrom}
 use Rattle.run_marks.specs.Marked.{Covers, SameMarks, is_marked}
-use Rattle.label_lists.specs.Asking.{AskingState, Begins, IsOrdered, PutsRun, may_offer_in, place_of}
+use Rattle.label_lists.specs.Requesting.{RequestingState, Begins, IsOrdered, PutsRun, may_offer_in, place_of}
 use Rattle.label_lists.proofs.Places.{Rises, StandsAt, no_less, place_found, place_there, rises_pushed}
 
 -- the mark at the index of a run, if it has one
 abbrev pub offer_at : List ℕ → Option ℕ → Bool
 offer_at marks place = option_map_or (is_marked marks) place false
 
-abbrev pub state_of : List ℕ → List ℕ → AskingState
+abbrev pub state_of : List ℕ → List ℕ → RequestingState
 state_of runs marks = record { runs = runs; marks = marks }
 
 -- ---- setting a mark
@@ -65,7 +65,7 @@ module _ (runs marks : List ℕ) (run from : ℕ) (begins : Begins runs run from
       → IsFirstFrom (may_offer_in (state_of runs marks)) run (Some x)
   first_found p x ordered first is =
       subst (λ y. IsFirstFrom (may_offer_in (state_of runs marks)) run (Some y)) (get_or_default runs p 0 x within ∙ sym is) (
-        begins.behind p first.0 within,
+        begins.suffix p first.0 within,
         ap (offer_at marks) here ∙ first.1,
         λ r le less. by r le less (place_of runs r) refl,
       )
@@ -73,7 +73,7 @@ module _ (runs marks : List ℕ) (run from : ℕ) (begins : Begins runs run from
       within : p < length runs
       within = elim (cases_lt p (length runs)) [
         | inl less ↦ less
-        | inr past ↦ absurd (true≢false (sym first.1 ∙ ordered.none_behind p past))
+        | inr past ↦ absurd (true≢false (sym first.1 ∙ ordered.none_after p past))
       ]
 
       here : place_of runs (get_or runs p 0) ≡ Some p
@@ -109,7 +109,7 @@ module _ (runs old new : List ℕ) (run : ℕ) (ordered : IsOrdered runs old) (s
           → offer_at new (place_of (runs ++ run ∷ []) r) ≡ offer_at old (place_of runs r)
       by (Some i) at o' at' = ap (offer_at new) (still_there r i at) ∙ same i ∙ sym (ap (offer_at old) at)
       by None at None at' = ap (offer_at new) at' ∙ sym (ap (offer_at old) at)
-      by None at (Some i) at' = ap (offer_at new) at' ∙ same i ∙ ordered.none_behind i (elim (cases_lt i (length runs)) [
+      by None at (Some i) at' = ap (offer_at new) at' ∙ same i ∙ ordered.none_after i (elim (cases_lt i (length runs)) [
         | inl less ↦
             let here = place_there (runs ++ run ∷ []) r i at' in
             let of = here.at in
@@ -122,5 +122,5 @@ module _ (runs old new : List ℕ) (run : ℕ) (ordered : IsOrdered runs old) (s
   ordered_pushed from is covers = record {
     rises = pushed_rises;
     covers = (grind (arith, common_steps));
-    none_behind = (λ i past. same i ∙ ordered.none_behind i (grind (arith, common_steps)));
+    none_after = (λ i past. same i ∙ ordered.none_after i (grind (arith, common_steps)));
   }

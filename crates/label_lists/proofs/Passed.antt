@@ -5,8 +5,8 @@ use Rattle.std.specs.Option.{option_map_or}
 use Rattle.std.specs.Ordering.{nat_cmp}
 use Rattle.std.proofs.lemmas.List.Sorted.{searched}
 use Rattle.std.proofs.lemmas.Option.{slice_get-get_or}
-use Rattle.label_lists.specs.Asking.{AskingState, Begins, IsPassed, asks_in, place_of}
-use Rattle.label_lists.specs.Known.{HasEachOnce, IsPassedFor, KnownState, SameAsked, asks_at}
+use Rattle.label_lists.specs.Requesting.{RequestingState, Begins, IsPassed, requests_in, place_of}
+use Rattle.label_lists.specs.Known.{HasEachOnce, IsPassedFor, KnownState, SameRequested, requests_at}
 use Rattle.label_lists.specs.Lists.{HasPlace, IsPassedUnder, ListsState, labels_of}
 use Rattle.label_lists.proofs.Places.{Rises, missing, no_less, place_found, place_there}
 use Rattle.label_lists.proofs.Writes.{within_if}
@@ -17,13 +17,13 @@ abbrev pub has_place : List ℕ → ℕ → Bool
 has_place runs run = is_some (place_of runs run)
 
 -- one that has a place is not passed
-pub asks_itself : (runs : List ℕ) (run i : ℕ) → place_of runs run ≡ Some i → ((true ≡ false) ↔ IsPassed (has_place runs) run)
-asks_itself runs run i at = (
+pub requests_itself : (runs : List ℕ) (run i : ℕ) → place_of runs run ≡ Some i → ((true ≡ false) ↔ IsPassed (has_place runs) run)
+requests_itself runs run i at = (
   λ bad. absurd (true≢false bad),
   λ passed. absurd (true≢false (sym (ap is_some at) ∙ passed.not_yet)),
 )
 
--- nor is one that comes behind all
+-- nor is one that comes after all
 pub comes_last : (runs : List ℕ) (run : ℕ) → Begins runs run (length runs) → ((true ≡ false) ↔ IsPassed (has_place runs) run)
 comes_last runs run begins = (λ bad. absurd (true≢false bad), λ passed. absurd (nobody passed (place_of runs passed.later) refl))
   where
@@ -33,8 +33,8 @@ comes_last runs run begins = (λ bad. absurd (true≢false bad), λ passed. absu
         let here = place_there runs passed.later i at in
         let less = begins.before i here.within here.within in
         let same = here.at in
-        let behind = passed.behind in
-        omega (arith, less, same, behind)
+        let suffix = passed.suffix in
+        omega (arith, less, same, suffix)
 
 -- and one is that would come before another
 pub comes_before : (runs : List ℕ) (run place : ℕ) → Rises runs → IsBinarySearchResult (λ y. nat_cmp y run) runs (Err place) → place < length runs
@@ -45,7 +45,7 @@ comes_before runs run place rises is within =
       λ _. record {
         not_yet = ap is_some (missing runs rises run place is);
         later = get_or runs place 0;
-        behind = omega (arith, great);
+        suffix = omega (arith, great);
         already = ap is_some (place_found runs place (get_or runs place 0) rises within refl);
       },
       λ _. refl,
@@ -53,10 +53,10 @@ comes_before runs run place rises is within =
 
 -- ---- among those of the list of a number
 
-pub passed_there : {E : Type 0} (asking : List AskingState) (k : ℕ) (old : AskingState) (run : ℕ) (result : Result Bool E) → slice_get asking k ≡ Some old
-    → IfOk result (λ has. (has ≡ false) ↔ IsPassed (asks_in old) run) → IfOk result (λ has. (has ≡ false) ↔ IsPassed (asks_at asking k) run)
-passed_there asking k old run result there is =
-    subst (λ o. IfOk result (λ has. (has ≡ false) ↔ IsPassed (λ r. option_map_or (λ a. asks_in a r) o false) run)) (sym there) is
+pub passed_there : {E : Type 0} (requesting : List RequestingState) (k : ℕ) (old : RequestingState) (run : ℕ) (result : Result Bool E) → slice_get requesting k ≡ Some old
+    → IfOk result (λ has. (has ≡ false) ↔ IsPassed (requests_in old) run) → IfOk result (λ has. (has ≡ false) ↔ IsPassed (requests_at requesting k) run)
+passed_there requesting k old run result there is =
+    subst (λ o. IfOk result (λ has. (has ≡ false) ↔ IsPassed (λ r. option_map_or (λ a. requests_in a r) o false) run)) (sym there) is
 
 -- a list that has a number keeps it, and one that has none gets a new one
 pub one_number : (old new : List (List (List ℕ))) (labels : List (List ℕ)) (n : ℕ) → HasEachOnce new → slice_get new n ≡ Some labels
@@ -71,34 +71,34 @@ old_number old new labels n at stay within =
     let is = slice_get-get_or old n labels within in
     is ∙ sym (stay n (get_or old n labels) is) ∙ at
 
-module _ (old : KnownState) (asking : List AskingState) (same : SameAsked old.asking asking) (labels : List (List ℕ)) (number run : ℕ)
+module _ (old : KnownState) (requesting : List RequestingState) (same : SameRequested old.requesting requesting) (labels : List (List ℕ)) (number run : ℕ)
     (keeps : (k : ℕ) → slice_get old.lists k ≡ Some labels → number ≡ k)
-    (had : number < length old.asking → slice_get old.lists number ≡ Some labels) where
-  was_passed : IsPassed (asks_at asking number) run → IsPassedFor old labels run
+    (had : number < length old.requesting → slice_get old.lists number ≡ Some labels) where
+  was_passed : IsPassed (requests_at requesting number) run → IsPassedFor old labels run
   was_passed passed =
-      let asked = sym (same number passed.later) ∙ passed.already in
+      let requested = sym (same number passed.later) ∙ passed.already in
       record {
         number = number;
-        has_number = had (within_if (λ a. asks_in a passed.later) old.asking number asked);
-        passed = record { not_yet = sym (same number run) ∙ passed.not_yet; later = passed.later; behind = passed.behind; already = asked };
+        has_number = had (within_if (λ a. requests_in a passed.later) old.requesting number requested);
+        passed = record { not_yet = sym (same number run) ∙ passed.not_yet; later = passed.later; suffix = passed.suffix; already = requested };
       }
 
-  is_passed : IsPassedFor old labels run → IsPassed (asks_at asking number) run
+  is_passed : IsPassedFor old labels run → IsPassed (requests_at requesting number) run
   is_passed passed =
       let one : number ≡ passed.number = keeps passed.number passed.has_number in
       let p = passed.passed in
       record {
-        not_yet = same number run ∙ ap (λ n. asks_at old.asking n run) one ∙ p.not_yet;
+        not_yet = same number run ∙ ap (λ n. requests_at old.requesting n run) one ∙ p.not_yet;
         later = p.later;
-        behind = p.behind;
-        already = same number p.later ∙ ap (λ n. asks_at old.asking n p.later) one ∙ p.already;
+        suffix = p.suffix;
+        already = same number p.later ∙ ap (λ n. requests_at old.requesting n p.later) one ∙ p.already;
       }
 
-  pub none_where_passed : (has : Bool) → has ≡ false → ((has ≡ false) ↔ IsPassed (asks_at asking number) run)
+  pub none_where_passed : (has : Bool) → has ≡ false → ((has ≡ false) ↔ IsPassed (requests_at requesting number) run)
       → ((◌≡◌ {A = Option ℕ} None None) ↔ IsPassedFor old labels run)
   none_where_passed has refused is = (λ _. was_passed (is.0 refused), λ _. refl)
 
-  pub some_where_not : (has : Bool) → has ≡ true → ((has ≡ false) ↔ IsPassed (asks_at asking number) run)
+  pub some_where_not : (has : Bool) → has ≡ true → ((has ≡ false) ↔ IsPassed (requests_at requesting number) run)
       → ((Some number ≡ None) ↔ IsPassedFor old labels run)
   some_where_not has given is = (
     λ e. absurd (let bad : Some number ≡ None = e in cc),
@@ -109,15 +109,15 @@ module _ (old : KnownState) (asking : List AskingState) (same : SameAsked old.as
 
 module _ (l : ListsState) (labels : List (List ℕ)) (run : ℕ) where
   abbrev known : KnownState
-  known = record { lists = l.lists; asking = l.asking }
+  known = record { lists = l.lists; requesting = l.requesting }
 
   under : IsPassedFor known labels run → IsPassedUnder l labels run
   under passed = record {
     number = suc passed.number;
     has_number = passed.has_number;
-    not_yet = (λ asks. true≢false (sym asks ∙ passed.passed.not_yet));
+    not_yet = (λ requests. true≢false (sym requests ∙ passed.passed.not_yet));
     later = passed.passed.later;
-    behind = passed.passed.behind;
+    suffix = passed.passed.suffix;
     already = passed.passed.already;
   }
 
@@ -129,7 +129,7 @@ module _ (l : ListsState) (labels : List (List ℕ)) (run : ℕ) where
       by (suc k) has not_yet already = record {
         number = k;
         has_number = has;
-        passed = record { not_yet = unless (asks_at l.asking k run) not_yet; later = passed.later; behind = passed.behind; already = already };
+        passed = record { not_yet = unless (requests_at l.requesting k run) not_yet; later = passed.later; suffix = passed.suffix; already = already };
       }
         where
           unless : (b : Bool) → (b ≡ true → ⊥) → b ≡ false

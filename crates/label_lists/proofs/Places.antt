@@ -10,7 +10,7 @@ use Rattle.std.proofs.lemmas.List.Folds.{position_or_len_push}
 use Rattle.std.proofs.lemmas.List.Quantifiers.{position-Some}
 use Rattle.std.proofs.lemmas.List.Sorted.{searched}
 use Rattle.std.proofs.lemmas.List.Sums.{position_or_len_is, prefix_len-le-length}
-use Rattle.label_lists.specs.Asking.{Begins, place_of}
+use Rattle.label_lists.specs.Requesting.{Begins, place_of}
 
 abbrev pub Rises : List ℕ → Type 0
 Rises runs = (i j : ℕ) → i < j → j < length runs → get_or runs i 0 < get_or runs j 0
@@ -66,15 +66,15 @@ module _ (runs : List ℕ) (rises : Rises runs) (run i : ℕ) where
       let s = searched runs run (Ok i) is (no_less runs rises) in
       record {
         before = (λ k less within. let up = rises k i less s.0 in omega (arith, up, s.1));
-        behind = (λ k from within. let up = no_less runs rises i k from within in omega (arith, up, s.1));
+        suffix = (λ k from within. let up = no_less runs rises i k from within in omega (arith, up, s.1));
       }
 
-  pub begins_behind : IsBinarySearchResult (λ y. nat_cmp y run) runs (Err i) → Begins runs run i
-  begins_behind is =
+  pub begins_after : IsBinarySearchResult (λ y. nat_cmp y run) runs (Err i) → Begins runs run i
+  begins_after is =
       let s = searched runs run (Err i) is (no_less runs rises) in
       record {
         before = (λ k less within. s.1 k less);
-        behind = (λ k from within. let great = s.2 k from within in omega (arith, great));
+        suffix = (λ k from within. let great = s.2 k from within in omega (arith, great));
       }
 
 -- ---- one more run
@@ -89,18 +89,18 @@ rises_pushed runs run rises begins i j less within = elim (cases_lt j (length ru
 ]
 
 -- whether a run has an index
-asks_by_len : (runs : List ℕ) (r : ℕ) → is_some (place_of runs r) ≡ nat_lt (position_or_len (nat_eq r) runs) (length runs)
-asks_by_len runs r = by (nat_lt (position_or_len (nat_eq r) runs) (length runs))
+requests_by_len : (runs : List ℕ) (r : ℕ) → is_some (place_of runs r) ≡ nat_lt (position_or_len (nat_eq r) runs) (length runs)
+requests_by_len runs r = by (nat_lt (position_or_len (nat_eq r) runs) (length runs))
   where
     by : (b : Bool) → is_some (cond b (Some (position_or_len (nat_eq r) runs)) None) ≡ b
     by true = refl
     by false = refl
 
-pub asks_pushed : (runs : List ℕ) (run r : ℕ) → is_some (place_of (runs ++ run ∷ []) r) ≡ nat_eq r run || is_some (place_of runs r)
-asks_pushed runs run r =
+pub requests_pushed : (runs : List ℕ) (run r : ℕ) → is_some (place_of (runs ++ run ∷ []) r) ≡ nat_eq r run || is_some (place_of runs r)
+requests_pushed runs run r =
     let most = prefix_len-le-length (λ x. not (nat_eq r x)) runs in
     let pushed = position_or_len_push (nat_eq r) runs run in
-    asks_by_len (runs ++ run ∷ []) r ∙ (elim (cases_lt (position_or_len (nat_eq r) runs) (length runs)) [
+    requests_by_len (runs ++ run ∷ []) r ∙ (elim (cases_lt (position_or_len (nat_eq r) runs) (length runs)) [
       | inl less ↦
           let test : nat_eq (position_or_len (nat_eq r) runs) (length runs) ≡ false = grind (arith, nat_tests) in
           let same : position_or_len (nat_eq r) (runs ++ run ∷ []) ≡ position_or_len (nat_eq r) runs =
@@ -111,10 +111,10 @@ asks_pushed runs run r =
           let last : position_or_len (nat_eq r) (runs ++ run ∷ []) ≡ length runs + cond (nat_eq r run) 0 1 =
           pushed ∙ ap (λ b. cond b (length runs + cond (nat_eq r run) 0 1) (position_or_len (nat_eq r) runs)) test in
           grind (arith, nat_tests, common_steps)
-    ]) ∙ sym (ap (λ b. nat_eq r run || b) (asks_by_len runs r))
+    ]) ∙ sym (ap (λ b. nat_eq r run || b) (requests_by_len runs r))
 
-pub asks_already : (runs : List ℕ) (run i r : ℕ) → place_of runs run ≡ Some i → is_some (place_of runs r) ≡ nat_eq r run || is_some (place_of runs r)
-asks_already runs run i r there = by (nat_eq r run) refl
+pub requests_already : (runs : List ℕ) (run i r : ℕ) → place_of runs run ≡ Some i → is_some (place_of runs r) ≡ nat_eq r run || is_some (place_of runs r)
+requests_already runs run i r there = by (nat_eq r run) refl
   where
     by : (b : Bool) → nat_eq r run ≡ b → is_some (place_of runs r) ≡ b || is_some (place_of runs r)
     by true is = let same : r ≡ run = grind (arith, nat_tests) in ap (λ k. is_some (place_of runs k)) same ∙ ap is_some there

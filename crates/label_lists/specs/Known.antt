@@ -2,20 +2,20 @@
 use Rattle.std.specs.Prelude.{◌≡◌, ◌≤◌, ◌<◌, ◌&&◌, ℕ, List, length, Bool, true, false, nat_eq, Option, Some, IfSome, slice_get, if◌then◌else◌}
 use Rattle.std.specs.Option.{option_map_or}
 use Rattle.run_marks.specs.Marked.{Covers, is_marked}
-use Rattle.label_lists.specs.Asking.{AskingState, IsPassed, asks_in, may_offer_in}
+use Rattle.label_lists.specs.Requesting.{RequestingState, IsPassed, requests_in, may_offer_in}
 
 -- the lists in the order of their numbers, and the runs of each
 pub record KnownState : Type 0 where
   pub lists : List (List (List ℕ))
-  pub asking : List AskingState
+  pub requesting : List RequestingState
 
 -- whether the list of a number has the run
-abbrev pub asks_at : List AskingState → ℕ → ℕ → Bool
-asks_at asking number run = option_map_or (λ a. asks_in a run) (slice_get asking number) false
+abbrev pub requests_at : List RequestingState → ℕ → ℕ → Bool
+requests_at requesting number run = option_map_or (λ a. requests_in a run) (slice_get requesting number) false
 
 -- whether the run may have a ready leg with the list of a number
-abbrev pub offers_at : List AskingState → ℕ → ℕ → Bool
-offers_at asking number run = option_map_or (λ a. may_offer_in a run) (slice_get asking number) false
+abbrev pub offers_at : List RequestingState → ℕ → ℕ → Bool
+offers_at requesting number run = option_map_or (λ a. may_offer_in a run) (slice_get requesting number) false
 
 -- no list has two numbers
 abbrev pub HasEachOnce : List (List (List ℕ)) → Type 0
@@ -25,13 +25,13 @@ HasEachOnce lists = (m n : ℕ) (labels : List (List ℕ)) → slice_get lists m
 pub record IsPassedFor (known : KnownState) (labels : List (List ℕ)) (run : ℕ) : Type 0 where
   pub number : ℕ
   pub has_number : slice_get known.lists number ≡ Some labels
-  pub passed : IsPassed (asks_at known.asking number) run
+  pub passed : IsPassed (requests_at known.requesting number) run
 
 -- each list for which some run may have a ready leg is marked, and only lists are marked
-pub record AreMarked (asking : List AskingState) (offering : List ℕ) : Type 0 where
-  pub covers : Covers offering (length asking)
-  pub marked : (number run : ℕ) → offers_at asking number run ≡ true → is_marked offering number ≡ true
-  pub none_behind : (number : ℕ) → length asking ≤ number → is_marked offering number ≡ false
+pub record AreMarked (requesting : List RequestingState) (offering : List ℕ) : Type 0 where
+  pub covers : Covers offering (length requesting)
+  pub marked : (number run : ℕ) → offers_at requesting number run ≡ true → is_marked offering number ≡ true
+  pub none_after : (number : ℕ) → length requesting ≤ number → is_marked offering number ≡ false
 
 -- the number is less than the result of an upward search, or the search found nothing
 abbrev pub IsBefore : ℕ → Option ℕ → Type 0
@@ -42,13 +42,13 @@ IsBefore number found = IfSome found (λ n. number < n)
 -- all lists keep their numbers and their runs, and the same runs may have ready legs
 pub record OnlyEnters (old new : KnownState) : Type 0 where
   pub lists : (number : ℕ) (labels : List (List ℕ)) → slice_get old.lists number ≡ Some labels → slice_get new.lists number ≡ Some labels
-  pub asks : (number run : ℕ) → asks_at old.asking number run ≡ true → asks_at new.asking number run ≡ true
-  pub offers : (number run : ℕ) → offers_at new.asking number run ≡ offers_at old.asking number run
+  pub requests : (number run : ℕ) → requests_at old.requesting number run ≡ true → requests_at new.requesting number run ≡ true
+  pub offers : (number run : ℕ) → offers_at new.requesting number run ≡ offers_at old.requesting number run
 
 -- the mark of one run in one list has the given value; all others are unchanged
-abbrev pub PutsAt : Bool → ℕ → ℕ → List AskingState → List AskingState → Type 0
+abbrev pub PutsAt : Bool → ℕ → ℕ → List RequestingState → List RequestingState → Type 0
 PutsAt to number run old new = (n r : ℕ) → offers_at new n r ≡ (if nat_eq n number && nat_eq r run then to else offers_at old n r)
 
 -- the lists have the same runs
-abbrev pub SameAsked : List AskingState → List AskingState → Type 0
-SameAsked old new = (n r : ℕ) → asks_at new n r ≡ asks_at old n r
+abbrev pub SameRequested : List RequestingState → List RequestingState → Type 0
+SameRequested old new = (n r : ℕ) → requests_at new n r ≡ requests_at old n r

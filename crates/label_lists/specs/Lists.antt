@@ -2,13 +2,13 @@
 -- no known list. This is defined by this project.
 use Rattle.std.specs.Prelude.{◌≡◌, ◌<◌, ◌&&◌, ◌+◌, ℕ, zero, suc, List, Bool, true, nat_eq, Option, None, Some, slice_get, if◌then◌else◌}
 use Rattle.run_marks.specs.Marked.{Covers, is_marked}
-use Rattle.label_lists.specs.Asking.{AskingState}
-use Rattle.label_lists.specs.Known.{asks_at, offers_at}
+use Rattle.label_lists.specs.Requesting.{RequestingState}
+use Rattle.label_lists.specs.Known.{requests_at, offers_at}
 
 -- the lists from number 1 on, with the runs of each, and the marks of number 0 by run
 pub record ListsState : Type 0 where
   pub lists : List (List (List ℕ))
-  pub asking : List AskingState
+  pub requesting : List RequestingState
   pub unknown : List ℕ
 
 -- the labels of a number
@@ -19,7 +19,7 @@ labels_of l (suc k) = slice_get l.lists k
 -- the run can be marked under a number
 abbrev pub HasPlace : ListsState → ℕ → ℕ → Type 0
 HasPlace l zero run = Covers l.unknown (run + 1)
-HasPlace l (suc k) run = asks_at l.asking k run ≡ true
+HasPlace l (suc k) run = requests_at l.requesting k run ≡ true
 
 -- the labels have a number, under which a later run can be marked already and this run cannot
 pub record IsPassedUnder (l : ListsState) (labels : List (List ℕ)) (run : ℕ) : Type 0 where
@@ -27,13 +27,13 @@ pub record IsPassedUnder (l : ListsState) (labels : List (List ℕ)) (run : ℕ)
   pub has_number : labels_of l number ≡ Some labels
   pub not_yet : HasPlace l number run → ⊥
   pub later : ℕ
-  pub behind : run < later
+  pub suffix : run < later
   pub already : HasPlace l number later
 
 -- whether the run may have a ready leg for the number
 abbrev pub may_offer : ListsState → ℕ → ℕ → Bool
 may_offer l zero run = is_marked l.unknown run
-may_offer l (suc k) run = offers_at l.asking k run
+may_offer l (suc k) run = offers_at l.requesting k run
 
 -- no list has two numbers
 abbrev pub IsOnceEach : ListsState → Type 0

@@ -3,11 +3,11 @@
 ghost use Rattle.std.specs.Prelude.{◌≡◌, ◌↔◌, ◌≤◌, ◌<◌, ◌^◌, ℕ, [], true, false, length, None, Some, IfErr, IfNone, IfOk, IfSome, Ok, slice_get};
 ghost use Rattle.wf_value.specs.Gives.{Gives, no_memory};
 ghost use Rattle.run_marks.specs.First.{IsFirstFrom};
-ghost use Rattle.label_lists.specs.Asking.{IsPassed};
-ghost use Rattle.label_lists.specs.Known.{HasEachOnce, IsBefore, IsPassedFor, OnlyEnters, PutsAt, SameAsked, asks_at, offers_at};
+ghost use Rattle.label_lists.specs.Requesting.{IsPassed};
+ghost use Rattle.label_lists.specs.Known.{HasEachOnce, IsBefore, IsPassedFor, OnlyEnters, PutsAt, SameRequested, requests_at, offers_at};
 
-use crate::asking_runs::AskingRuns;
 use crate::label_list::LabelList;
+use crate::requesting_runs::RequestingRuns;
 use indexmap::IndexSet;
 use run_marks::RunBitmap;
 use std::alloc::Global;
@@ -19,7 +19,7 @@ use wf_value::{Chars, Refusal, Sequence, TryCopy};
 #[derive(Drop)]
 pub(crate) struct KnownLists {
     lists: IndexSet<LabelList>,
-    asking: Vec<AskingRuns>,
+    requesting: Vec<RequestingRuns>,
     /// The lists for which some run may have a ready leg.
     offering: RunBitmap,
 }
@@ -32,19 +32,19 @@ impl Model for KnownLists {
 
     ghost Value = { KnownState };
 
-    ghost view = { λ k. record { lists = k.lists.keys; asking = k.asking.items } };
+    ghost view = { λ k. record { lists = k.lists.keys; requesting = k.requesting.items } };
 
-    ghost invariant = { λ k. IsUnique labels_eq k.lists × (length k.asking.items ≡ length k.lists.keys) × AreMarked k.asking.items k.offering };
+    ghost invariant = { λ k. IsUnique labels_eq k.lists × (length k.requesting.items ≡ length k.lists.keys) × AreMarked k.requesting.items k.offering };
 }
 
 impl KnownLists {
     pub fn new(alloc: Global) -> Self
         ensures lists { result.lists ≡ [] }
-        ensures asking { result.asking ≡ [] }
+        ensures requesting { result.requesting ≡ [] }
     {
         KnownLists {
             lists: IndexSet::new(alloc),
-            asking: Vec::new(alloc),
+            requesting: Vec::new(alloc),
             offering: RunBitmap::new(alloc),
         }
     }
@@ -53,7 +53,7 @@ impl KnownLists {
     pub fn len(&self) -> usize
         ensures len { result ≡ length self.now.lists }
         ensures small { result < 2 ^ 63 }
-        ensures asking { result ≡ length self.now.asking }
+        ensures requesting { result ≡ length self.now.requesting }
         ensures once { HasEachOnce self.now.lists }
     {
         self.lists.len()
@@ -72,50 +72,50 @@ impl KnownLists {
 
     /// Marks that a run may have a ready leg with the list of this number.
     pub fn mark(&mut self, number: usize, run: usize)
-        requires { asks_at self.old.asking number run ≡ true }
-        ensures puts { PutsAt true number run self.old.asking self.new.asking }
-        ensures asks { SameAsked self.old.asking self.new.asking }
+        requires { requests_at self.old.requesting number run ≡ true }
+        ensures puts { PutsAt true number run self.old.requesting self.new.requesting }
+        ensures requests { SameRequested self.old.requesting self.new.requesting }
         ensures lists { self.new.lists ≡ self.old.lists }
     {
-        self.asking[number].mark(run);
+        self.requesting[number].mark(run);
         self.offering.mark(number);
     }
 
     /// The first run, from `run` on, that may have a ready leg with the list of this number.
     pub fn first_from(&self, number: usize, run: usize) -> Option<usize>
-        ensures { IsFirstFrom (offers_at self.now.asking number) run result }
+        ensures { IsFirstFrom (offers_at self.now.requesting number) run result }
     {
-        let asking = self.asking.get(number)?;
-        asking.first_from(run)
+        let requesting = self.requesting.get(number)?;
+        requesting.first_from(run)
     }
 
     /// Removes the mark of a run that has no such leg.
     pub fn unmark(&mut self, number: usize, run: usize)
-        requires { number < length self.old.asking }
-        ensures puts { PutsAt false number run self.old.asking self.new.asking }
-        ensures asks { SameAsked self.old.asking self.new.asking }
+        requires { number < length self.old.requesting }
+        ensures puts { PutsAt false number run self.old.requesting self.new.requesting }
+        ensures requests { SameRequested self.old.requesting self.new.requesting }
         ensures lists { self.new.lists ≡ self.old.lists }
     {
         self.unmark_run(number, run);
-        if self.asking[number].first_from(0).is_none() {
+        if self.requesting[number].first_from(0).is_none() {
             self.offering.unmark(number);
         }
     }
 
     fn unmark_run(&mut self, number: usize, run: usize)
-        requires { number < length self.old.asking }
-        ensures puts { PutsAt false number run self.old.asking self.new.asking }
-        ensures asks { SameAsked self.old.asking self.new.asking }
+        requires { number < length self.old.requesting }
+        ensures puts { PutsAt false number run self.old.requesting self.new.requesting }
+        ensures requests { SameRequested self.old.requesting self.new.requesting }
         ensures lists { self.new.lists ≡ self.old.lists }
-        ensures len { length self.new.asking ≡ length self.old.asking }
+        ensures len { length self.new.requesting ≡ length self.old.requesting }
     {
-        self.asking[number].unmark(run);
+        self.requesting[number].unmark(run);
     }
 
     /// The first list, from `number` on, for which some run may have a ready leg.
     pub fn next_offering(&self, number: usize) -> Option<usize>
         ensures some { IfSome result (λ n. (number ≤ n) × (n < length self.now.lists)) }
-        ensures passed { (n r : ℕ) → number ≤ n → IsBefore n result → offers_at self.now.asking n r ≡ false }
+        ensures passed { (n r : ℕ) → number ≤ n → IsBefore n result → offers_at self.now.requesting n r ≡ false }
     {
         self.offering.first_from(number)
     }
@@ -130,7 +130,7 @@ impl KnownLists {
     ) -> Result<Option<usize>, Refusal>
         ensures enters { OnlyEnters self.old self.new }
         ensures number { IfOk result (λ found. IfSome found (λ n. slice_get self.new.lists n ≡ Some labels)) }
-        ensures asks { IfOk result (λ found. IfSome found (λ n. asks_at self.new.asking n run ≡ true)) }
+        ensures requests { IfOk result (λ found. IfSome found (λ n. requests_at self.new.requesting n run ≡ true)) }
         ensures none { IfOk result (λ found. (found ≡ None) ↔ IsPassedFor self.old labels run) }
         ensures err { IfErr result (λ e. e ≡ no_memory) }
     {
@@ -144,33 +144,33 @@ impl KnownLists {
 
     /// Adds a run to the list of a number and returns whether it is there.
     fn enter_run(&mut self, number: usize, run: usize) -> Result<bool, Refusal>
-        requires { number < length self.old.asking }
+        requires { number < length self.old.requesting }
         ensures enters { OnlyEnters self.old self.new }
-        ensures asks { IfOk result (λ has. has ≡ true → asks_at self.new.asking number run ≡ true) }
-        ensures refused { IfOk result (λ has. (has ≡ false) ↔ IsPassed (asks_at self.old.asking number) run) }
+        ensures requests { IfOk result (λ has. has ≡ true → requests_at self.new.requesting number run ≡ true) }
+        ensures refused { IfOk result (λ has. (has ≡ false) ↔ IsPassed (requests_at self.old.requesting number) run) }
         ensures lists { self.new.lists ≡ self.old.lists }
         ensures err { IfErr result (λ e. e ≡ no_memory) }
     {
-        self.asking[number].enter(run)
+        self.requesting[number].enter(run)
     }
 
     /// The number of a list, which is entered if it has none.
     fn number_of(&mut self, alloc: Global, labels: Sequence<Chars>) -> Result<usize, Refusal>
         ensures enters { OnlyEnters self.old self.new }
         ensures number { IfOk result (λ n. slice_get self.new.lists n ≡ Some labels) }
-        ensures within { IfOk result (λ n. n < length self.new.asking) }
+        ensures within { IfOk result (λ n. n < length self.new.requesting) }
         ensures keeps { IfOk result (λ n. (k : ℕ) → slice_get self.old.lists k ≡ Some labels → n ≡ k) }
-        ensures had { IfOk result (λ n. n < length self.old.asking → slice_get self.old.lists n ≡ Some labels) }
-        ensures asks { SameAsked self.old.asking self.new.asking }
+        ensures had { IfOk result (λ n. n < length self.old.requesting → slice_get self.old.lists n ≡ Some labels) }
+        ensures requests { SameRequested self.old.requesting self.new.requesting }
         ensures err { IfErr result (λ e. e ≡ no_memory) }
     {
-        self.offering.reserve_up_to(self.asking.len() + 1)?;
-        self.asking.reserve(1)?;
+        self.offering.reserve_up_to(self.requesting.len() + 1)?;
+        self.requesting.reserve(1)?;
         let (number, is_new) = self.lists.insert_full(LabelList::new(labels))?;
         if !is_new {
             return Ok(number);
         }
-        self.asking.push_reserved(AskingRuns::new(alloc));
+        self.requesting.push_reserved(RequestingRuns::new(alloc));
         Ok(number)
     }
 
@@ -179,7 +179,7 @@ impl KnownLists {
     {
         Ok(KnownLists {
             lists: copy_of(alloc, &self.lists)?,
-            asking: copies_of(alloc, self.asking.as_slice())?,
+            requesting: copies_of(alloc, self.requesting.as_slice())?,
             offering: self.offering.copy()?,
         })
     }
@@ -197,11 +197,11 @@ fn copy_of(alloc: Global, lists: &IndexSet<LabelList>) -> Result<IndexSet<LabelL
 }
 
 /// Copies the runs of each list.
-fn copies_of(alloc: Global, asking: &[AskingRuns]) -> Result<Vec<AskingRuns>, Refusal>
-    ensures { Gives (λ v. v.items) result (Ok asking.now) }
+fn copies_of(alloc: Global, requesting: &[RequestingRuns]) -> Result<Vec<RequestingRuns>, Refusal>
+    ensures { Gives (λ v. v.items) result (Ok requesting.now) }
 {
-    let mut copies = Vec::with_capacity(alloc, asking.len())?;
-    for runs in asking {
+    let mut copies = Vec::with_capacity(alloc, requesting.len())?;
+    for runs in requesting {
         copies.push(runs.copy()?)?;
     }
     Ok(copies)

@@ -2,9 +2,9 @@
 //! every run with such a leg is marked, and a stale mark is removed when it is noticed.
 #![tactic(auto)]
 
-mod asking_runs;
 mod known_lists;
 mod label_list;
 mod lists;
+mod requesting_runs;
 
 pub use lists::LabelLists;

@@ -26,7 +26,7 @@ impl Model for LabelLists {
 
     ghost Value = { ListsState };
 
-    ghost view = { λ l. record { lists = l.known.lists; asking = l.known.asking; unknown = l.unknown } };
+    ghost view = { λ l. record { lists = l.known.lists; requesting = l.known.requesting; unknown = l.unknown } };
 }
 
 impl LabelLists {

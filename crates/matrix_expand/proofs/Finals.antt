@@ -170,19 +170,19 @@ names_rise-final m original = names_rise-valued (final_value m original) (all_na
     (true_from _ (in_order_sorted (names_of (original ∷ m.include))))
 
 -- the flagged objects are those that pass the test
-added_is : (test : Combination → Bool) (name : List ℕ) (front : List Bool) (cs : List Combination) (behind : List Bool)
-    → added_value (front ++ map test cs ++ behind) (length front) cs name ≡ last_value (filter test cs) name
-added_is test name front [] behind = refl
-added_is test name front (c ∷ cs) behind =
-    let flags = front ++ (test c ∷ map test cs) ++ behind in
+added_is : (test : Combination → Bool) (name : List ℕ) (front : List Bool) (cs : List Combination) (suffix : List Bool)
+    → added_value (front ++ map test cs ++ suffix) (length front) cs name ≡ last_value (filter test cs) name
+added_is test name front [] suffix = refl
+added_is test name front (c ∷ cs) suffix =
+    let flags = front ++ (test c ∷ map test cs) ++ suffix in
     let next : length (front ++ test c ∷ []) ≡ length front + 1 = length-append front (test c ∷ []) in
-    let moved : (front ++ test c ∷ []) ++ map test cs ++ behind ≡ flags = ap (λ fs. fs ++ behind)
+    let moved : (front ++ test c ∷ []) ++ map test cs ++ suffix ≡ flags = ap (λ fs. fs ++ suffix)
     (append_assoc front (test c ∷ []) (map test cs)) in
     let rest : added_value flags (length front + 1) cs name ≡ last_value (filter test cs) name =
     ap (λ n. added_value flags n cs name) (sym next) ∙ ap (λ fs. added_value fs (length (front ++ test c ∷ [])) cs name) (sym moved)
-    ∙ added_is test name (front ++ test c ∷ []) cs behind in
+    ∙ added_is test name (front ++ test c ∷ []) cs suffix in
     let flag : get_or flags (length front) false ≡ test c = ap (λ fs. get_or fs (length front) false)
-    (append_assoc front (test c ∷ map test cs) behind) ∙ get_or_at front (test c) (map test cs ++ behind) false (length front) refl in
+    (append_assoc front (test c ∷ map test cs) suffix) ∙ get_or_at front (test c) (map test cs ++ suffix) false (length front) refl in
     ap (λ o. option_or o (cond (get_or flags (length front) false) (value_at c name) None)) rest
     ∙ ap (λ b. option_or (last_value (filter test cs) name) (cond b (value_at c name) None)) flag
     ∙ elim (test c) as

@@ -75,9 +75,9 @@ with_value v vs j l some all =
     ∙ ap (λ i. (v.0, get_or v.1 i Null) ∷ original_at (axes_of vs) (j * c + r)) (sym place))
 
 -- the element after a prefix
-get_or-behind : (front rest : List Scalar) (x : Scalar) → get_or (front ++ x ∷ rest) (length front) Null ≡ x
-get_or-behind [] rest x = refl
-get_or-behind (y ∷ front) rest x = get_or-behind front rest x
+get_or-suffix : (front rest : List Scalar) (x : Scalar) → get_or (front ++ x ∷ rest) (length front) Null ≡ x
+get_or-suffix [] rest x = refl
+get_or-suffix (y ∷ front) rest x = get_or-suffix front rest x
 
 -- the originals that begin with one of the last values
 from_values : (name : List ℕ) (vs : List NamedValues) (front rest : List Scalar) → (0 < choice_count vs)
@@ -93,7 +93,7 @@ from_values name vs front (x ∷ rest) some all =
     let at = original_at (axes_of ((name, front ++ x ∷ rest) ∷ vs)) in
     let long : length (front ++ x ∷ rest) ≡ j + suc (length rest) = length-append front (x ∷ rest) in
     let here : map (λ o. (name, x) ∷ o) (choices vs) ≡ map at (range_with_len (j * c) c) =
-    ap (λ v. map (λ o. (name, v) ∷ o) (choices vs)) (sym (get_or-behind front rest x))
+    ap (λ v. map (λ o. (name, v) ∷ o) (choices vs)) (sym (get_or-suffix front rest x))
     ∙ with_value (name, front ++ x ∷ rest) vs j (omega arith) some all in
     let moved : (front ++ x ∷ []) ++ rest ≡ front ++ x ∷ rest = append_assoc front (x ∷ []) rest in
     let next : length (front ++ x ∷ []) ≡ j + 1 = length-append front (x ∷ []) in

@@ -14,6 +14,7 @@ use Rattle.wf_value.specs.declared.refusal.Refusal.{Refusal}
 use Rattle.wf_value.specs.declared.refusal.Refusal.TheVariants.{Numbered}
 use Rattle.wf_value.specs.declared.scalar.Scalar.{Scalar}
 use Rattle.wf_value.specs.ScalarValue.{same_scalar}
+use Rattle.matrix_expand.specs.declared.original.TheConstants.{MAX_CHOICES, MAX_LEGS}
 
 -- a value for each of several names
 abbrev pub Combination : Type 0
@@ -100,16 +101,16 @@ new_combinations m = filter (λ object. not (list_any (λ original. agrees m ori
 abbrev pub combinations : MatrixLists → List Combination
 combinations m = map (final_combination m) (kept m) ++ new_combinations m
 
--- the combinations, if there are 1 to 256
+-- the combinations, if there are 1 to `MAX_LEGS`
 abbrev pub legs_or_refusal : List Combination → Result (List Combination) Refusal
 legs_or_refusal [] = Err (Numbered LegCount)
-legs_or_refusal (c ∷ cs) = cond (nat_lt 256 (length (c ∷ cs))) (Err (Numbered LegCount)) (Ok (c ∷ cs))
+legs_or_refusal (c ∷ cs) = cond (nat_lt MAX_LEGS (length (c ∷ cs))) (Err (Numbered LegCount)) (Ok (c ∷ cs))
 
 -- the combinations, if there are at most 4,096 choices
 abbrev pub within_choices : Bool → MatrixLists → Result (List Combination) Refusal
 within_choices true m = Err (Numbered MatrixTooLarge)
 within_choices false m = legs_or_refusal (combinations m)
 
--- the combinations, or 21 for more than 4,096 choices, else 22 for no combination or more than 256
+-- the combinations, or 21 for more than `MAX_CHOICES` choices, else 22 for no combination or more than `MAX_LEGS`
 abbrev pub combinations_or_refusal : MatrixLists → Result (List Combination) Refusal
-combinations_or_refusal m = within_choices (nat_lt 4096 (choice_count m.variables)) m
+combinations_or_refusal m = within_choices (nat_lt MAX_CHOICES (choice_count m.variables)) m

@@ -32,6 +32,7 @@ impl<'a> Model for Expansion<'a> {
     ghost use Rattle.wf_value.specs.Names.{names_rise};
     ghost use Rattle.matrix_expand.specs.Combinations.{Combination};
     ghost use Rattle.matrix_expand.specs.Entries.{names_ascend, pairs_of, final_from};
+    ghost use Rattle.matrix_expand.specs.declared.original.TheConstants.{MAX_LEGS};
 
     ghost Value = { List Combination };
 
@@ -39,7 +40,7 @@ impl<'a> Model for Expansion<'a> {
         ++ map (λ c. c.now) e.added.items };
 
     ghost invariant = { λ e. IsTrue (names_ascend (pairs_of e.entries.items)) × IsTrue (names_rise e.axes.items)
-        × (length e.kept.items + length e.added.items ≤ 256) };
+        × (length e.kept.items + length e.added.items ≤ MAX_LEGS) };
 }
 
 impl<'a> Expansion<'a> {
@@ -183,7 +184,7 @@ fn number_variables<'a>(
 
 /// Whether the total is from 1 to 256.
 fn is_leg_count(kept: usize, added: usize) -> bool
-    ensures { IsTrue result ↔ ((0 < kept + added) × (kept + added ≤ 256)) }
+    ensures { IsTrue result ↔ ((0 < kept + added) × (kept + added ≤ MAX_LEGS)) }
 {
     (kept > 0 || added > 0) && kept <= MAX_LEGS && added <= MAX_LEGS - kept
 }

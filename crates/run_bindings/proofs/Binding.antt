@@ -27,7 +27,7 @@ use Rattle.run_plan.specs.Admitted.{Admitted}
 use Rattle.run_plan.specs.PlanOf.{plan_graph, plan_of}
 use Rattle.run_plan.specs.declared.planned.PlannedJob.{PlannedJob}
 use Rattle.run_plan.specs.declared.planned.PlannedLeg.{PlannedLeg}
-use Rattle.run_states.specs.GroupOf.{RunFacts, asked_of_leg}
+use Rattle.run_states.specs.GroupOf.{RunFacts, concurrency_of_leg}
 use Rattle.run_states.specs.JobResults.{direct_needs, has_id, needs_in, results_so_far}
 use Rattle.run_states.specs.LegContext.{LegFacts, context_of, under}
 use Rattle.run_states.specs.RunState.{RunState}
@@ -201,26 +201,26 @@ one_pushed {X} P old now x n is many each here = (
 
 -- ---- the legs of a job
 
-asked_where : (repository : List ℕ) (values : Results → Values) (asked : Concurrency) (legs : List PlannedLeg) (kept : List GroupRequest) (l : ℕ)
-    → length kept ≡ length legs → ((k : GroupRequest) → slice_get kept l ≡ Some k → Says repository values asked k)
+requested_where : (repository : List ℕ) (values : Results → Values) (requested : Concurrency) (legs : List PlannedLeg) (kept : List GroupRequest) (l : ℕ)
+    → length kept ≡ length legs → ((k : GroupRequest) → slice_get kept l ≡ Some k → Says repository values requested k)
     → (o : Option PlannedLeg) → slice_get legs l ≡ o → (p : Option GroupRequest) → slice_get kept l ≡ p
-    → SaysSo repository values (option_and_then (λ _. Some asked) o) p
-asked_where repository values asked legs kept l same each None at None is = tt
-asked_where repository values asked legs kept l same each None at (Some k) is =
+    → SaysSo repository values (option_and_then (λ _. Some requested) o) p
+requested_where repository values requested legs kept l same each None at None is = tt
+requested_where repository values requested legs kept l same each None at (Some k) is =
     let none : slice_get kept l ≡ None = as_short legs kept l same at in
     let bad : Some k ≡ None = sym is ∙ none in
     cc
-asked_where repository values asked legs kept l same each (Some leg) at None is =
+requested_where repository values requested legs kept l same each (Some leg) at None is =
     let some = as_long legs kept l leg same at in
     let bad : None ≡ Some some.0 = sym is ∙ some.1 in
     cc
-asked_where repository values asked legs kept l same each (Some leg) at (Some k) is = each k is
+requested_where repository values requested legs kept l same each (Some leg) at (Some k) is = each k is
 
-pub legs_say : (repository : List ℕ) (values : ℕ → Results → Values) (job : PlannedJob) (asked : Concurrency) (kept : List GroupRequest)
-    → job.concurrency ≡ Some asked → length kept ≡ length job.legs
-    → ((l : ℕ) (k : GroupRequest) → slice_get kept l ≡ Some k → Says repository (values l) asked k)
-    → (l : ℕ) → SaysSo repository (values l) (asked_of_leg job l) (slice_get kept l)
-legs_say repository values job asked kept is same each l =
+pub legs_say : (repository : List ℕ) (values : ℕ → Results → Values) (job : PlannedJob) (requested : Concurrency) (kept : List GroupRequest)
+    → job.concurrency ≡ Some requested → length kept ≡ length job.legs
+    → ((l : ℕ) (k : GroupRequest) → slice_get kept l ≡ Some k → Says repository (values l) requested k)
+    → (l : ℕ) → SaysSo repository (values l) (concurrency_of_leg job l) (slice_get kept l)
+legs_say repository values job requested kept is same each l =
     subst (λ (o : Option Concurrency). SaysSo repository (values l) (option_and_then (λ _. o) (slice_get job.legs l)) (slice_get kept l))
     (sym is)
-    (asked_where repository (values l) asked job.legs kept l same (each l) (slice_get job.legs l) refl (slice_get kept l) refl)
+    (requested_where repository (values l) requested job.legs kept l same (each l) (slice_get job.legs l) refl (slice_get kept l) refl)

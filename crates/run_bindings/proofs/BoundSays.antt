@@ -12,7 +12,7 @@ use Rattle.group_name.specs.Group.{Group}
 use Rattle.group_name.specs.BoundGroup.{group_at as bound_group_at}
 use Rattle.run_plan.specs.PlanOf.{plan_of}
 use Rattle.run_plan.specs.declared.planned.PlannedJob.{PlannedJob}
-use Rattle.run_states.specs.GroupOf.{RunFacts, asked_of_leg, cancels_in_progress, group_at, leg_cancels, leg_group, named_group}
+use Rattle.run_states.specs.GroupOf.{RunFacts, concurrency_of_leg, cancels_in_progress, group_at, leg_cancels, leg_group, named_group}
 use Rattle.run_states.specs.GroupOf.{run_cancels}
 use Rattle.run_states.specs.GroupOf.{run_context, run_facts_at, run_group}
 use Rattle.run_states.specs.Holders.{run_of}
@@ -33,22 +33,22 @@ use Rattle.run_states.specs.declared.holder.Holder.TheVariants.{Run, Leg}
 
 -- ---- one `concurrency`
 
-says_group : (repository : List ℕ) (values : Results → Values) (asked : Option Concurrency) (kept : Option GroupRequest)
-    → SaysSo repository values asked kept → (results : Results)
-    → option_and_then (λ a. bound_group_at results a.group) kept ≡ option_and_then (named_group repository (values results)) asked
+says_group : (repository : List ℕ) (values : Results → Values) (requested : Option Concurrency) (kept : Option GroupRequest)
+    → SaysSo repository values requested kept → (results : Results)
+    → option_and_then (λ a. bound_group_at results a.group) kept ≡ option_and_then (named_group repository (values results)) requested
 says_group repository values None None says results = refl
 says_group repository values None (Some kept) says results = absurd says
-says_group repository values (Some asked) None says results = absurd says
-says_group repository values (Some asked) (Some kept) says results = says.group results
+says_group repository values (Some requested) None says results = absurd says
+says_group repository values (Some requested) (Some kept) says results = says.group results
 
-says_flag : (repository : List ℕ) (values : Results → Values) (asked : Option Concurrency) (kept : Option GroupRequest)
-    → SaysSo repository values asked kept → (results : Results)
+says_flag : (repository : List ℕ) (values : Results → Values) (requested : Option Concurrency) (kept : Option GroupRequest)
+    → SaysSo repository values requested kept → (results : Results)
     → option_map_or (λ a. is_set_by results a.cancels) kept false
-    ≡ option_map_or (λ c. is_set (values results) c.cancel_in_progress) asked false
+    ≡ option_map_or (λ c. is_set (values results) c.cancel_in_progress) requested false
 says_flag repository values None None says results = refl
 says_flag repository values None (Some kept) says results = absurd says
-says_flag repository values (Some asked) None says results = absurd says
-says_flag repository values (Some asked) (Some kept) says results = says.cancels results
+says_flag repository values (Some requested) None says results = absurd says
+says_flag repository values (Some requested) (Some kept) says results = says.cancels results
 
 -- ---- the facts of a run, and of a leg given the results of its run's jobs
 
@@ -144,12 +144,12 @@ module _ (runs : List RunState) where
       let values : Results → Values = λ results. context_of (facts_by f p.job job p.leg results) in
       let bindings = as_long (plan_of x.admitted.body) k.jobs p.job job run.as_many planned in
       let says = subst
-      (λ (o : Option JobBindings). SaysSo repo values (asked_of_leg job p.leg) (option_and_then (λ (a : JobBindings). slice_get a.groups p.leg) o))
+      (λ (o : Option JobBindings). SaysSo repo values (concurrency_of_leg job p.leg) (option_and_then (λ (a : JobBindings). slice_get a.groups p.leg) o))
       (sym bindings.1) ((run.jobs p.job bindings.0 bindings.1 job planned).groups p.leg) in
       let identity = leg_told runs p x job at planned in (
-        says_group repo values (asked_of_leg job p.leg) (group_request_of k (Leg p)) says (results_by_place x)
+        says_group repo values (concurrency_of_leg job p.leg) (group_request_of k (Leg p)) says (results_by_place x)
             ∙ sym (ap (option_and_then leg_group) identity),
-        says_flag repo values (asked_of_leg job p.leg) (group_request_of k (Leg p)) says (results_by_place x)
+        says_flag repo values (concurrency_of_leg job p.leg) (group_request_of k (Leg p)) says (results_by_place x)
             ∙ sym (ap (λ o. option_map_or leg_cancels o false) identity),
       )
 

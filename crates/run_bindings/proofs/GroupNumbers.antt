@@ -42,8 +42,8 @@ enters_one old new g is =
 -- ---- what stays
 
 module _ (old new : Entries) (enters : OnlyEnters old new) where
-  pub still_number : (asked : Option GroupRequest) (n : ℕ) → IsNumberOf old asked n → IsNumberOf new asked n
-  still_number asked n is = record { group = is.group; there = enters.groups n is.group is.there; says = is.says }
+  pub still_number : (requested : Option GroupRequest) (n : ℕ) → IsNumberOf old requested n → IsNumberOf new requested n
+  still_number requested n is = record { group = is.group; there = enters.groups n is.group is.there; says = is.says }
 
   pub still_of_legs : (groups : List GroupRequest) (legs : List (Option ℕ)) → AreNumbersOfLegs old groups legs → AreNumbersOfLegs new groups legs
   still_of_legs groups legs are l number at n is = still_number (slice_get groups l) n (are l number at n is)
@@ -68,21 +68,21 @@ each_stays old new bindings same each r kept at =
       legs = (λ j numbers there l number leg n is. again _ n (says.legs j numbers there l number leg n is));
     }
   where
-    again : (asked : Option GroupRequest) (n : ℕ) → IsNumberOf old asked n → IsNumberOf new asked n
-    again asked n is = record { group = is.group; there = same n ∙ is.there; says = is.says }
+    again : (requested : Option GroupRequest) (n : ℕ) → IsNumberOf old requested n → IsNumberOf new requested n
+    again requested n is = record { group = is.group; there = same n ∙ is.there; says = is.says }
 
 -- ---- one more run, and one that replaces another
 
-pub each_more : (entries : Entries) (bindings : List RunBindings) (asked : RunBindings) → SaysNumbers entries asked → EachSaysNumbers entries bindings
-    → EachSaysNumbers entries (bindings ++ asked ∷ [])
-each_more entries bindings asked says each = one_more (λ r kept. SaysNumbers entries kept) bindings asked each says
+pub each_more : (entries : Entries) (bindings : List RunBindings) (requested : RunBindings) → SaysNumbers entries requested → EachSaysNumbers entries bindings
+    → EachSaysNumbers entries (bindings ++ requested ∷ [])
+each_more entries bindings requested says each = one_more (λ r kept. SaysNumbers entries kept) bindings requested each says
 
-pub each_again : (entries : Entries) (bindings : List RunBindings) (r : ℕ) (asked : RunBindings) → SaysNumbers entries asked
-    → EachSaysNumbers entries bindings → EachSaysNumbers entries (slice_set bindings r asked)
-each_again entries bindings r asked says each k kept at =
+pub each_again : (entries : Entries) (bindings : List RunBindings) (r : ℕ) (requested : RunBindings) → SaysNumbers entries requested
+    → EachSaysNumbers entries bindings → EachSaysNumbers entries (slice_set bindings r requested)
+each_again entries bindings r requested says each k kept at =
     elim (cases_eq k r) [
       | inl here ↦
           subst (SaysNumbers entries)
-          (put_here bindings r asked kept (ap (slice_get (slice_set bindings r asked)) (sym here) ∙ at)) says
-      | inr other ↦ each k kept (sym (put_beside bindings r k asked other) ∙ at)
+          (put_here bindings r requested kept (ap (slice_get (slice_set bindings r requested)) (sym here) ∙ at)) says
+      | inr other ↦ each k kept (sym (put_beside bindings r k requested other) ∙ at)
     ]

@@ -17,7 +17,7 @@ use Rattle.wf_expr.specs.declared.piece.Piece.{Piece}
 use Rattle.wf_expr.specs.declared.piece.Piece.TheVariants.{Plain, Braced}
 use Rattle.wf_expr.proofs.BoundLemmas.{text-when-bound}
 use Rattle.run_states.specs.Words.{label_texts}
-use Rattle.run_bindings.specs.KnownLabels.{KeepsTexts, ask_nothing, asks_nothing, kept_of, otherwise_text, short_text}
+use Rattle.run_bindings.specs.KnownLabels.{KeepsTexts, ask_nothing, needs_nothing, kept_of, otherwise_text, short_text}
 use Rattle.run_bindings.specs.declared.resolved_labels.ResolvedLabels.{ResolvedLabels}
 use Rattle.run_bindings.specs.declared.resolved_labels.ResolvedLabels.TheVariants as wanted
 
@@ -27,7 +27,7 @@ no_needs : (needs : List ℕ) → nat_eq (length needs) 0 ≡ true → needs ≡
 no_needs [] none = refl
 no_needs (need ∷ needs) none = absurd (omega (arith, eqb-true (length (need ∷ needs)) 0 none))
 
-says_otherwise : (results : Results) (piece : BoundPiece) → asks_nothing piece ≡ true → bound_piece_text results piece ≡ piece.otherwise
+says_otherwise : (results : Results) (piece : BoundPiece) → needs_nothing piece ≡ true → bound_piece_text results piece ≡ piece.otherwise
 says_otherwise results piece none =
     ap (λ needs. bound_piece_text results (record { needs = needs; otherwise = piece.otherwise })) (no_needs piece.needs none)
 
@@ -35,7 +35,7 @@ text_whatever_results : (results : Results) (label : List BoundPiece) → ask_no
     → bound_text results label ≡ otherwise_text label
 text_whatever_results results [] none = refl
 text_whatever_results results (piece ∷ label) none =
-    let parts = and_parts (asks_nothing piece) (ask_nothing label) none in
+    let parts = and_parts (needs_nothing piece) (ask_nothing label) none in
     ap (λ text. text ++ bound_text results label) (says_otherwise results piece parts.0)
     ∙ ap (λ text. piece.otherwise ++ text) (text_whatever_results results label parts.1)
 

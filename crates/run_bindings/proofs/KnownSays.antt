@@ -44,12 +44,12 @@ in_any_context (Some others) texts job says is = λ values. says values ∙ same
 -- a leg of a run whose bindings were made, with what was bound for its job
 module _ (runs : List RunState) (p : LegPlace) (x : RunState) (job : PlannedJob) (k : RunBindings) (a : JobBindings)
     (at : run_at runs p.run ≡ Some x) (there : slice_get (plan_of x.admitted.body) p.job ≡ Some job)
-    (says : (facts : RunFacts) → run_facts_at runs p.run ≡ Some facts → RunSays facts k) (asked : slice_get k.jobs p.job ≡ Some a) where
+    (says : (facts : RunFacts) → run_facts_at runs p.run ≡ Some facts → RunSays facts k) (requested : slice_get k.jobs p.job ≡ Some a) where
   abbrev facts : RunFacts
   facts = facts_of_run runs p.run x
 
   said : JobSays facts p.job job a
-  said = (says facts (run_told runs p.run x at)).jobs p.job a asked job there
+  said = (says facts (run_told runs p.run x at)).jobs p.job a requested job there
 
   abbrev values : Values
   values = context_of (leg_facts_of runs p x job)

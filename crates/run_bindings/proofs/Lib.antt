@@ -3,11 +3,11 @@ pub mod BoundSays
 pub mod Digits
 pub mod FirstOffering
 pub mod FlagsSaid
-pub mod GroupKeys
 pub mod GroupNumbers
 pub mod KeptLabels
 pub mod KnownSays
 pub mod LabelNumbers
+pub mod NumberOfRun
 mod PlainLabels
 pub mod PlannedLegs
 pub mod ShortLabels

@@ -4,7 +4,7 @@ use Rattle.wf_expr.specs.Bound.{Results}
 use Rattle.wf_reader.specs.Event.{event_of}
 use Rattle.run_plan.specs.PlanOf.{plan_of}
 use Rattle.run_plan.specs.declared.planned.PlannedJob.{PlannedJob}
-use Rattle.run_states.specs.GroupOf.{RunFacts, asked_of_leg, run_context, run_facts_at}
+use Rattle.run_states.specs.GroupOf.{RunFacts, concurrency_of_leg, run_context, run_facts_at}
 use Rattle.run_states.specs.LegContext.{context_of}
 use Rattle.run_states.specs.RunState.{RunState}
 use Rattle.run_bindings.specs.BoundFlags.{FlagsSay}
@@ -41,7 +41,7 @@ flag_for kept j l = option_and_then (λ job. slice_get job.flags l) (slice_get k
 -- whatever the results of the run's jobs, the bindings give what the legs of a job ask, and whether their failures are ignored
 pub record JobSays (run : RunFacts) (j : ℕ) (job : PlannedJob) (kept : JobBindings) : Type 0 where
   pub groups : (l : ℕ)
-      → SaysSo (event_of run.event.body).repo (λ results. context_of (facts_by run j job l results)) (asked_of_leg job l)
+      → SaysSo (event_of run.event.body).repo (λ results. context_of (facts_by run j job l results)) (concurrency_of_leg job l)
       (slice_get kept.groups l)
   pub labels : AreKept run j job kept.plain kept.labels
   pub plain : IfSome kept.plain (AreTheTexts job.labels)

@@ -46,16 +46,16 @@ is_set_by results (bound.Fixed set) = set
 is_set_by results (bound.Template pieces) = bytes_eq (bound_text results pieces) (codes "true")
 
 -- whatever the results, the bound templates give what the templates give in the context with these results
-pub record Says (repository : List ℕ) (values : Results → Values) (asked : Concurrency) (kept : GroupRequest) : Type 0 where
-  pub group : (results : Results) → bound_group_at results kept.group ≡ named_group repository (values results) asked
-  pub cancels : (results : Results) → is_set_by results kept.cancels ≡ is_set (values results) asked.cancel_in_progress
+pub record Says (repository : List ℕ) (values : Results → Values) (requested : Concurrency) (kept : GroupRequest) : Type 0 where
+  pub group : (results : Results) → bound_group_at results kept.group ≡ named_group repository (values results) requested
+  pub cancels : (results : Results) → is_set_by results kept.cancels ≡ is_set (values results) requested.cancel_in_progress
 
 -- a `concurrency` is bound exactly if there is one, and then gives what its templates give
 abbrev pub SaysSo : List ℕ → (Results → Values) → Option Concurrency → Option GroupRequest → Type 0
 SaysSo repository values None None = Unit {0}
 SaysSo repository values None (Some kept) = ⊥
-SaysSo repository values (Some asked) None = ⊥
-SaysSo repository values (Some asked) (Some kept) = Says repository values asked kept
+SaysSo repository values (Some requested) None = ⊥
+SaysSo repository values (Some requested) (Some kept) = Says repository values requested kept
 
 -- ---- a leg with results
 

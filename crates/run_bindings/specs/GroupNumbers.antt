@@ -35,10 +35,10 @@ number_of kept = number_in kept.numbers
 -- ---- what the numbers say
 
 -- whatever the results, the group that is asked for is the one with this number
-pub record IsNumberOf (entries : Entries) (asked : Option GroupRequest) (n : ℕ) : Type 0 where
+pub record IsNumberOf (entries : Entries) (requested : Option GroupRequest) (n : ℕ) : Type 0 where
   pub group : Group
   pub there : group_at entries n ≡ Some group
-  pub says : (results : Results) → option_and_then (λ a. bound_group_at results a.group) asked ≡ Some group
+  pub says : (results : Results) → option_and_then (λ a. bound_group_at results a.group) requested ≡ Some group
 
 abbrev pub AreNumbersOfLegs : Entries → List GroupRequest → List (Option ℕ) → Type 0
 AreNumbersOfLegs entries groups legs =

@@ -6,8 +6,8 @@ use Rattle.std.specs.Option.{option_map_or}
 use Rattle.wf_expr.specs.Bound.{Results, bound_of, bound_text, no_results}
 use Rattle.wf_expr.specs.declared.bound.BoundPiece.{BoundPiece}
 use Rattle.run_plan.specs.PlanOf.{plan_of}
-use Rattle.run_plan.specs.SmallText.{most_text_bytes}
 use Rattle.run_plan.specs.declared.planned.PlannedJob.{PlannedJob}
+use Rattle.run_plan.specs.declared.small_text.TheConstants.{MAX_TEXT_BYTES}
 use Rattle.run_states.specs.GroupOf.{RunFacts}
 use Rattle.run_states.specs.LegContext.{context_of}
 use Rattle.run_bindings.specs.BoundGroups.{facts_by, need_of_job}
@@ -16,11 +16,11 @@ use Rattle.run_bindings.specs.declared.resolved_labels.ResolvedLabels.TheVariant
 
 -- ---- labels that depend on no result
 
-abbrev pub asks_nothing : BoundPiece → Bool
-asks_nothing piece = nat_eq (length piece.needs) 0
+abbrev pub needs_nothing : BoundPiece → Bool
+needs_nothing piece = nat_eq (length piece.needs) 0
 
 abbrev pub ask_nothing : List BoundPiece → Bool
-ask_nothing label = list_all asks_nothing label
+ask_nothing label = list_all needs_nothing label
 
 -- the text of a label while no need has a result
 abbrev pub otherwise_text : List BoundPiece → List ℕ
@@ -30,7 +30,7 @@ otherwise_text label = flat_map (λ (piece : BoundPiece). piece.otherwise) label
 
 -- the text that is kept of a label: the empty text if the label is longer than a runner's label can be, since no runner has either
 abbrev pub short_text : List ℕ → List ℕ
-short_text text = if nat_le (length text) most_text_bytes then text else []
+short_text text = if nat_le (length text) MAX_TEXT_BYTES then text else []
 
 -- the texts if no label depends on a result, and otherwise the bound labels
 abbrev pub kept_of : List (List BoundPiece) → ResolvedLabels

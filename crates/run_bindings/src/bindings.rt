@@ -13,7 +13,7 @@ ghost use Rattle.run_states.specs.GroupOf.{RunFacts};
 ghost use Rattle.run_bindings.specs.Bindings.{JobSays, KeepsLabels, KeepsLabelsAt, RunSays, group_request_of, flag_for};
 ghost use Rattle.run_bindings.specs.GroupNumbers.{Entries, OnlyEnters, SaysNumbers};
 ghost use Rattle.run_bindings.specs.LabelNumbers.{AreListsOf};
-ghost use Rattle.run_bindings.specs.declared.bindings.JobBindings.{JobBindings as AsksOfJob};
+ghost use Rattle.run_bindings.specs.declared.bindings.JobBindings.{JobBindings as RequestsOfJob};
 
 use crate::flags::bind_flags;
 use crate::group_numbers::GroupNumbers;
@@ -73,8 +73,8 @@ impl JobBindings {
 
 impl RunBindings {
     /// What the run itself, or one of its legs, asks of a group.
-    pub fn asked(&self, holder: &Holder) -> Option<&GroupRequest>
-        ensures { option_map (λ asked. asked.now) result ≡ group_request_of self.now holder.now }
+    pub fn requested(&self, holder: &Holder) -> Option<&GroupRequest>
+        ensures { option_map (λ requested. requested.now) result ≡ group_request_of self.now holder.now }
     {
         match holder {
             Holder::Run(_) => self.own.as_ref(),
@@ -203,7 +203,7 @@ fn bind_identity(alloc: Global, identity: &RunIdentity<'_>) -> Result<RunBinding
 fn bind_jobs(alloc: Global, identity: &RunIdentity<'_>) -> Result<Vec<JobBindings>, Refusal>
     ensures err { ErrsOnlyByMemory result }
     ensures many { IfOk result (λ jobs. length jobs.items ≡ length (plan_of identity.now.event.body)) }
-    ensures says { IfOk result (λ jobs. (j : ℕ) (bindings : AsksOfJob) → slice_get jobs.items j ≡ Some bindings → (job : Planned)
+    ensures says { IfOk result (λ jobs. (j : ℕ) (bindings : RequestsOfJob) → slice_get jobs.items j ≡ Some bindings → (job : Planned)
         → slice_get (plan_of identity.now.event.body) j ≡ Some job → JobSays identity.now j job bindings) }
 {
     let plan = identity.prepared().plan().as_slice();
@@ -254,7 +254,7 @@ impl TryCopy for JobBindings {
 impl TryCopy for RunBindings {
     fn copy(&self, alloc: Global) -> Result<Self, Refusal> {
         let own = match &self.own {
-            Some(asked) => Some(asked.copy(alloc)?),
+            Some(requested) => Some(requested.copy(alloc)?),
             None => None,
         };
         Ok(RunBindings {

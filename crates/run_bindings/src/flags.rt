@@ -1,8 +1,7 @@
 //! Whether a failure of a leg is ignored, bound when an attempt of its run begins. GitHub Docs, "Workflow syntax for GitHub Actions",
 //! `jobs.<job_id>.continue-on-error`.
 
-ghost use Rattle.std.specs.Prelude.{◌≡◌, ℕ, IfOk, Some, length, slice_get};
-ghost use Rattle.wf_expr.specs.Bound.{Results};
+ghost use Rattle.std.specs.Prelude.{◌≡◌, IfOk, length};
 ghost use Rattle.wf_value.specs.Gives.{ErrsOnlyByMemory};
 ghost use Rattle.run_bindings.specs.BoundFlags.{EachSays, FlagsSay};
 

@@ -74,14 +74,14 @@ impl GroupNumbers {
 /// Enters the group if its name depends on no result.
 fn enter_group(
     alloc: Global,
-    asked: &GroupRequest,
+    requested: &GroupRequest,
     book: &mut Book<Holder>,
 ) -> Result<Option<usize>, Refusal>
     ensures err { ErrsOnlyByMemory result }
     ensures enters { OnlyEnters book.old.entries book.new.entries }
-    ensures number { (n : ℕ) → IfOk result (λ found. found ≡ Some n → IsNumberOf book.new.entries (Some asked.now) n) }
+    ensures number { (n : ℕ) → IfOk result (λ found. found ≡ Some n → IsNumberOf book.new.entries (Some requested.now) n) }
 {
-    match asked.group.fixed(alloc)? {
+    match requested.group.fixed(alloc)? {
         Some(group) => Ok(Some(book.enter(group)?)),
         None => Ok(None),
     }
@@ -97,7 +97,7 @@ fn enter_own(
     ensures number { (n : ℕ) → IfOk result (λ found. found ≡ Some n → IsNumberOf book.new.entries own.now n) }
 {
     match own {
-        Some(asked) => enter_group(alloc, asked, book),
+        Some(requested) => enter_group(alloc, requested, book),
         None => Ok(None),
     }
 }

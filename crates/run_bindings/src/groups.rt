@@ -6,11 +6,11 @@ ghost use Rattle.wf_value.specs.Gives.{ErrsOnlyByMemory};
 ghost use Rattle.wf_expr.specs.Bound.{HasResults, Results};
 ghost use Rattle.wf_expr.specs.ContextValue.{Values};
 ghost use Rattle.wf_reader.specs.Event.{event_of};
-ghost use Rattle.run_states.specs.GroupOf.{asked_of_leg, run_context};
+ghost use Rattle.run_states.specs.GroupOf.{concurrency_of_leg, run_context};
 ghost use Rattle.run_states.specs.LegContext.{context_of};
 ghost use Rattle.run_states.specs.Words.{is_set};
 ghost use Rattle.run_bindings.specs.BoundGroups.{Says, SaysSo, facts_by, is_set_by};
-ghost use Rattle.run_bindings.specs.declared.groups.GroupRequest.{GroupRequest as AskedOfGroup};
+ghost use Rattle.run_bindings.specs.declared.groups.GroupRequest.{GroupRequest as RequestedOfGroup};
 
 use crate::leg_needs::NoNeeds;
 use crate::run_identity::RunIdentity;
@@ -71,7 +71,7 @@ impl GroupRequest {
     fn bind<C: Context, N: Needs>(
         alloc: Global,
         repository: &str,
-        asked: &Concurrency,
+        requested: &Concurrency,
         known: &C,
         needs: &N,
     ) -> Result<Self, Refusal>
@@ -79,11 +79,11 @@ impl GroupRequest {
         ensures says { IfOk result
             (λ kept. (values : Results → Values)
             → ((results : Results) → HasResults (C.values known.now) (N.need_of needs.now) results (values results))
-            → Says repository.now values asked.now kept) }
+            → Says repository.now values requested.now kept) }
     {
-        let name = asked.group.bind(alloc, known, needs)?;
+        let name = requested.group.bind(alloc, known, needs)?;
         let group = BoundGroup::of(alloc, repository, &name)?;
-        let cancels = BoundFlag::bind(alloc, &asked.cancel_in_progress, known, needs)?;
+        let cancels = BoundFlag::bind(alloc, &requested.cancel_in_progress, known, needs)?;
         Ok(GroupRequest { group, cancels })
     }
 }
@@ -99,9 +99,9 @@ pub(crate) fn bind_own(
     let prepared = identity.prepared();
     let repository = prepared.repo().as_str();
     match prepared.concurrency() {
-        Some(asked) => {
+        Some(requested) => {
             let context = identity.run_context();
-            let bound = GroupRequest::bind(alloc, repository, asked, &context, &NoNeeds)?;
+            let bound = GroupRequest::bind(alloc, repository, requested, &context, &NoNeeds)?;
             Ok(Some(bound))
         }
         None => Ok(None),
@@ -118,11 +118,11 @@ pub(crate) fn bind_groups<'x>(
     ensures err { ErrsOnlyByMemory result }
     ensures says { IfOk result (λ legs. (l : ℕ)
         → SaysSo (event_of identity.now.event.body).repo (λ results. context_of (facts_by identity.now j job.now l results))
-        (asked_of_leg job.now l) (slice_get legs l)) }
+        (concurrency_of_leg job.now l) (slice_get legs l)) }
 {
     match &job.concurrency {
-        Some(asked) => {
-            let legs = bind_each(alloc, identity, j, job, asked)?;
+        Some(requested) => {
+            let legs = bind_each(alloc, identity, j, job, requested)?;
             Ok(Sequence::new(legs))
         }
         None => Ok(Sequence::new(Vec::new(alloc))),
@@ -135,11 +135,11 @@ fn bind_each<'x>(
     identity: &'x RunIdentity<'_>,
     j: usize,
     job: &'x PlannedJob,
-    asked: &Concurrency,
+    requested: &Concurrency,
 ) -> Result<Vec<GroupRequest>, Refusal>
     ensures err { ErrsOnlyByMemory result }
-    ensures says { IfOk result (λ legs. (l : ℕ) (kept : AskedOfGroup) → slice_get legs.items l ≡ Some kept
-        → Says (event_of identity.now.event.body).repo (λ results. context_of (facts_by identity.now j job.now l results)) asked.now kept) }
+    ensures says { IfOk result (λ legs. (l : ℕ) (kept : RequestedOfGroup) → slice_get legs.items l ≡ Some kept
+        → Says (event_of identity.now.event.body).repo (λ results. context_of (facts_by identity.now j job.now l results)) requested.now kept) }
     ensures each { IfOk result (λ legs. length legs.items ≡ length job.now.legs) }
 {
     let repository = identity.prepared().repo().as_str();
@@ -148,7 +148,7 @@ fn bind_each<'x>(
     let mut legs = Vec::with_capacity(alloc, count)?;
     for leg in 0..count {
         let context = identity.leg_context(j, job, leg);
-        let bound = GroupRequest::bind(alloc, repository, asked, &context, &needs)?;
+        let bound = GroupRequest::bind(alloc, repository, requested, &context, &needs)?;
         legs.push(bound)?;
     }
     Ok(legs)

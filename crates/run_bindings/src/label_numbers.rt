@@ -1,10 +1,10 @@
 //! The numbers of the lists of labels that the legs of a run ask for. A leg whose labels depend on the results of jobs has no number: its
 //! labels are known only once the results are.
 
-ghost use Rattle.std.specs.Prelude.{◌≡◌, ℕ, IfOk, IfSome, OnOk, Some, length, option_and_then, slice_get, true};
-ghost use Rattle.label_lists.specs.Lists.{HasPlace, OnlyGrows, may_offer};
+ghost use Rattle.std.specs.Prelude.{◌≡◌, ℕ, IfOk, Some, length, option_and_then, option_copied, slice_get};
+ghost use Rattle.label_lists.specs.Lists.{HasPlace, OnlyGrows};
 ghost use Rattle.wf_value.specs.Gives.{ErrsOnlyByMemory};
-ghost use Rattle.run_bindings.specs.LabelNumbers.{AreListsOf, IsListOf, OnlyPuts, kept_texts, list_number, number_in, texts_in};
+ghost use Rattle.run_bindings.specs.LabelNumbers.{AreListsOf, IsListOf, kept_texts, list_number, number_in, texts_in};
 
 use crate::bindings::JobBindings;
 use crate::resolved_labels::ResolvedLabels;
@@ -42,55 +42,22 @@ pub fn list_number(numbers: &[ListNumbers], j: usize, l: usize) -> usize
 
 // ---- entering
 
-/// Enters a list of labels that run `r` asks for, and returns the number under which the run is marked for it: that of the list, or 0.
+/// Enters a list of labels that run `r` asks for, if it is known. Returns the number under which the run is marked for it: that of the
+/// list, or 0.
 fn enter_list(
     alloc: Global,
-    labels: &Sequence<Chars>,
+    labels: Option<&Sequence<Chars>>,
     lists: &mut LabelLists,
     r: usize,
 ) -> Result<usize, Refusal>
     requires { HasPlace lists.old 0 r }
     ensures err { ErrsOnlyByMemory result }
     ensures grows { OnlyGrows lists.old lists.new }
-    ensures number { IfOk result (IsListOf lists.new r (Some labels.now)) }
+    ensures number { IfOk result (IsListOf lists.new r (option_copied labels.entry)) }
 {
-    let labels = labels.copy(alloc)?;
-    lists.enter(alloc, labels, r)
-}
-
-/// Enters the list that all legs of a job ask for, if there is one. Otherwise returns 0.
-fn enter_plain(
-    alloc: Global,
-    plain: &Option<Sequence<Chars>>,
-    lists: &mut LabelLists,
-    r: usize,
-) -> Result<usize, Refusal>
-    requires { HasPlace lists.old 0 r }
-    ensures err { ErrsOnlyByMemory result }
-    ensures grows { OnlyGrows lists.old lists.new }
-    ensures number { IfOk result (IsListOf lists.new r plain.now) }
-{
-    match plain {
-        Some(labels) => enter_list(alloc, labels, lists, r),
+    match labels {
+        Some(labels) => lists.enter(alloc, labels.copy(alloc)?, r),
         None => Ok(0),
-    }
-}
-
-/// Enters the list of a leg if it is known. Otherwise returns 0.
-fn enter_kept(
-    alloc: Global,
-    wanted: &ResolvedLabels,
-    lists: &mut LabelLists,
-    r: usize,
-) -> Result<usize, Refusal>
-    requires { HasPlace lists.old 0 r }
-    ensures err { ErrsOnlyByMemory result }
-    ensures grows { OnlyGrows lists.old lists.new }
-    ensures number { IfOk result (IsListOf lists.new r (kept_texts wanted.now)) }
-{
-    match wanted {
-        ResolvedLabels::Known(labels) => enter_list(alloc, labels, lists, r),
-        ResolvedLabels::ByResults(_) => Ok(0),
     }
 }
 
@@ -109,7 +76,7 @@ fn enter_legs(
 {
     let mut legs = Vec::with_capacity(alloc, labels.len())?;
     for l in 0..labels.len() {
-        let number = enter_kept(alloc, &labels[l], lists, r)?;
+        let number = enter_list(alloc, labels[l].kept_texts(), lists, r)?;
         legs.push(number)?;
     }
     Ok(legs)
@@ -126,7 +93,7 @@ fn enter_job(
     ensures grows { OnlyGrows lists.old lists.new }
     ensures numbers { IfOk result (λ numbers. (l : ℕ) → IsListOf lists.new r (texts_in job.now l) (number_in numbers l)) }
 {
-    let whole = enter_plain(alloc, &job.plain, lists, r)?;
+    let whole = enter_list(alloc, job.plain.as_ref(), lists, r)?;
     let legs = enter_legs(alloc, job.labels.as_slice(), lists, r)?;
     Ok(ListNumbers {
         whole,

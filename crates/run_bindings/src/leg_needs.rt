@@ -1,7 +1,7 @@
 //! Which paths depend on the results of jobs.
 
 use run_states::Run;
-use run_states::direct_needs::place_of_need;
+use run_states::direct_needs::index_of_need;
 use std::marker::Model;
 use wf_expr::Needs;
 use wf_value::Chars;
@@ -46,7 +46,7 @@ impl<'a> Needs for LegNeeds<'a> {
     fn need_of(&self, path: &[Chars]) -> Option<usize> {
         match path {
             [context, id, name] if context.as_str() == "needs" && name.as_str() == "result" => {
-                place_of_need(self.run, self.place, id.as_str())
+                index_of_need(self.run, self.place, id.as_str())
             }
             _ => None,
         }

@@ -1,19 +1,12 @@
-ghost use Rattle.std.specs.Prelude.{◌≡◌, Ok, option_copied};
-ghost use Rattle.wf_value.specs.Gives.{Gives};
-ghost use Rattle.run_states.specs.GroupOf.{asked_of_leg, leg_group};
+ghost use Rattle.std.specs.Prelude.{◌≡◌};
 
 mod label_texts;
 
 use crate::leg_context::LegContext;
-use crate::named_group::named_group;
-use group_name::GroupKey;
 use itoa::Buffer;
 use run_plan::PlannedJob;
 use run_states::Run;
-use std::alloc::Global;
 use std::marker::Model;
-use wf_reader::Concurrency;
-use wf_value::Refusal;
 
 /// A planned leg, with the facts of its run that its context gives.
 #[derive(Drop)]
@@ -82,25 +75,5 @@ impl<'a> LegView<'a> {
             place: self.place,
             leg: self.leg,
         }
-    }
-
-    /// The job's `concurrency`, if the job has this leg.
-    fn concurrency(&self) -> Option<&Concurrency>
-        ensures { option_copied result ≡ asked_of_leg self.now.job self.now.leg }
-    {
-        let _leg = self.job.legs.as_slice().get(self.leg)?;
-        self.job.concurrency.as_ref()
-    }
-
-    /// The group of the leg, if it has one.
-    pub fn group(&self, alloc: Global) -> Result<Option<GroupKey>, Refusal>
-        ensures { Gives (λ group. group) result (Ok (leg_group self.now)) }
-    {
-        let Some(asked) = self.concurrency() else {
-            return Ok(None);
-        };
-        let mut digits = Digits::new();
-        let context = self.context(&mut digits);
-        named_group(alloc, self.run.prepared().repo().as_str(), asked, &context)
     }
 }

@@ -1,13 +1,14 @@
 //! The labels that a leg asks for, bound when an attempt of its run begins, so that a claim looks nothing up. GitHub Docs, "Workflow syntax
 //! for GitHub Actions", `jobs.<job_id>.runs-on`.
 
-ghost use Rattle.std.specs.Prelude.{◌≡◌, ℕ, IfOk, List, Ok, Some, length, map, slice_get};
+ghost use Rattle.std.specs.Prelude.{◌≡◌, ℕ, IfOk, List, Ok, Some, length, map, option_copied, slice_get};
 ghost use Rattle.std.specs.List.{list_all};
 ghost use Rattle.std.specs.Str.{str_eq_ignore_ascii_case};
 ghost use Rattle.wf_expr.specs.Bound.{bound_of, bound_text};
 ghost use Rattle.wf_value.specs.Gives.{ErrsOnlyByMemory, Gives};
 ghost use Rattle.run_states.specs.Fitting.{has_label, has_labels};
-ghost use Rattle.run_bindings.specs.KnownLabels.{AreAlike, AreKept, KeepsTexts, ask_nothing, asks_nothing, kept_of, kept_of_leg, otherwise_text, short_text};
+ghost use Rattle.run_bindings.specs.KnownLabels.{AreAlike, AreKept, KeepsTexts, ask_nothing, needs_nothing, kept_of, kept_of_leg, otherwise_text, short_text};
+ghost use Rattle.run_bindings.specs.LabelNumbers.{kept_texts};
 ghost use Rattle.run_bindings.specs.declared.resolved_labels.ResolvedLabels.{ResolvedLabels as WantedLabels};
 
 use crate::run_identity::RunIdentity;
@@ -37,6 +38,16 @@ impl ResolvedLabels {
         }
     }
 
+    /// The texts, if none depends on the result of a job.
+    pub(crate) fn kept_texts(&self) -> Option<&Sequence<Chars>>
+        ensures { option_copied result ≡ kept_texts self.now }
+    {
+        match self {
+            ResolvedLabels::Known(texts) => Some(texts),
+            ResolvedLabels::ByResults(_) => None,
+        }
+    }
+
     /// Whether `labels` has each of these labels, given the results. Takes no memory.
     pub(crate) fn are_among<R: NeedResults>(&self, labels: &[Label], results: &R) -> bool
         ensures { (whole : List (List ℕ)) → KeepsTexts (R.result_of results.now) self.now whole → result ≡ has_labels labels.now whole }
@@ -63,8 +74,8 @@ impl TryCopy for ResolvedLabels {
 
 // ---- labels that depend on no result
 
-fn asks_nothing(piece: &BoundPiece) -> bool
-    ensures { result ≡ asks_nothing piece.now }
+fn needs_nothing(piece: &BoundPiece) -> bool
+    ensures { result ≡ needs_nothing piece.now }
 {
     piece.needs.len() == 0
 }
@@ -72,7 +83,7 @@ fn asks_nothing(piece: &BoundPiece) -> bool
 fn ask_nothing(label: &BoundTemplate) -> bool
     ensures { result ≡ ask_nothing label.now }
 {
-    label.pieces().iter().all(|piece| asks_nothing(piece))
+    label.pieces().iter().all(|piece| needs_nothing(piece))
 }
 
 fn are_known(labels: &[BoundTemplate]) -> bool

@@ -7,7 +7,7 @@ use Rattle.wf_reader.specs.declared.event.Event.{Event}
 use Rattle.run_plan.specs.PlanOf.{faults_of, plan_of, planned_job, plan_faults}
 use Rattle.run_plan.specs.declared.planned.PlannedJob.{PlannedJob}
 use Rattle.wf_reader.proofs.Contents.{same_refusal}
-use Rattle.wf_reader.proofs.InTurn.{no_fault, same_value}
+use Rattle.wf_reader.proofs.InOrder.{no_fault, same_value}
 
 -- if the event has no faults, the faults are those of its plan
 faults_left : (body : List ℕ) (read : Event) → unless_faulty (event_faults body) (event_of body) ≡ Ok read

@@ -71,9 +71,9 @@ has_lease : reply_text (reply.Refused (Numbered HasLease)) ≡ codes "refused 42
 unfolding digits
 has_lease = refl
 
-out_of_turn : reply_text (reply.Refused (Turn 0)) ≡ codes "refused 43 0"
+out_of_order : reply_text (reply.Refused (Turn 0)) ≡ codes "refused 43 0"
 unfolding digits
-out_of_turn = refl
+out_of_order = refl
 
 combo : combo_text ((codes "a", Text (codes "x\"y")) ∷ (codes "b", Truth true) ∷ (codes "n", Whole (pos 16)) ∷ (codes "z", Null) ∷ [])
     ≡ codes "{\"a\":\"x\\\"y\",\"b\":true,\"n\":16,\"z\":null}"

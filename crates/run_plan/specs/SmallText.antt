@@ -4,19 +4,13 @@ use Rattle.std.specs.List.{list_all, slice_split}
 use Rattle.std.specs.Char.{is_ascii_digit, is_ascii_lowercase, is_ascii_alphanumeric, is_ascii_graphic}
 use Rattle.std.specs.Str.Parse.{digits_value}
 use Rattle.run_plan.specs.Decimal.{is_decimal}
-
--- the maximum length of a small text, in bytes
-abbrev pub most_text_bytes : ℕ
-most_text_bytes = 64
-
--- the maximum number of labels of a runner
-abbrev pub most_labels : ℕ
-most_labels = 16
+use Rattle.run_plan.specs.declared.labels.TheConstants.{MAX_LABELS}
+use Rattle.run_plan.specs.declared.small_text.TheConstants.{MAX_TEXT_BYTES}
 
 abbrev pub is_of_short_length : List ℕ → Bool
-is_of_short_length text = nat_le 1 (length text) && nat_le (length text) most_text_bytes
+is_of_short_length text = nat_le 1 (length text) && nat_le (length text) MAX_TEXT_BYTES
 
--- 1 to 64 bytes of a kind
+-- 1 to `MAX_TEXT_BYTES` bytes of a kind
 abbrev pub is_short : (ℕ → Bool) → List ℕ → Bool
 is_short kind text = is_of_short_length text && list_all kind text
 
@@ -40,7 +34,7 @@ is_label_byte b = is_ascii_graphic b && not (b == 44)
 abbrev pub found_if : {X : Type 0} → Bool → X → Option X
 found_if test x = if test then Some x else None
 
--- the text, if it is 1 to 64 bytes of a kind
+-- the text, if it is 1 to `MAX_TEXT_BYTES` bytes of a kind
 abbrev pub short_text_of : (ℕ → Bool) → List ℕ → Option (List ℕ)
 short_text_of kind text = found_if (is_short kind text) text
 
@@ -53,9 +47,9 @@ event_name_of = short_text_of is_event_byte
 abbrev pub runner_name_of : List ℕ → Option (List ℕ)
 runner_name_of = short_text_of is_runner_byte
 
--- 1 to 16 labels
+-- 1 to `MAX_LABELS` labels
 abbrev pub are_labels : List (List ℕ) → Bool
-are_labels labels = nat_le 1 (length labels) && nat_le (length labels) most_labels && list_all (is_short is_label_byte) labels
+are_labels labels = nat_le 1 (length labels) && nat_le (length labels) MAX_LABELS && list_all (is_short is_label_byte) labels
 
 abbrev pub split_at_commas : List ℕ → List (List ℕ)
 split_at_commas = slice_split (λ b. b == 44)
@@ -68,6 +62,6 @@ label_list_of text = found_if (are_labels (split_at_commas text)) (split_at_comm
 abbrev pub is_number : List ℕ → Bool
 is_number text = is_decimal text && not (slice_index text 0 == 48)
 
--- decimal, 1 to 999999999, no leading zero
+-- decimal, 1 to `LAST_NUMBER`, no leading zero
 abbrev pub number_of : List ℕ → Option ℕ
 number_of text = found_if (is_number text) (digits_value 10 text)

@@ -1,7 +1,7 @@
 ghost use Rattle.std.specs.Prelude.{◌≡◌, ◌==◌, false, length, nat_le, IsTrue, Ok, None};
 ghost use Rattle.std.specs.List.{list_all};
 ghost use Rattle.wf_value.specs.Gives.{Gives};
-ghost use Rattle.run_plan.specs.SmallText.{are_labels, is_short, is_label_byte, label_list_of, most_labels, split_at_commas};
+ghost use Rattle.run_plan.specs.SmallText.{are_labels, is_short, is_label_byte, label_list_of, split_at_commas};
 
 use crate::small_text::Label;
 use std::alloc::Global;
@@ -83,7 +83,7 @@ fn is_comma(byte: &u8) -> bool
 }
 
 fn are_few(text: &[u8]) -> bool
-    ensures { result ≡ nat_le (length (split_at_commas text.now)) most_labels }
+    ensures { result ≡ nat_le (length (split_at_commas text.now)) MAX_LABELS }
 {
     text.split(is_comma).count() <= MAX_LABELS
 }

@@ -4,7 +4,10 @@ ghost use Rattle.run_plan.specs.SmallText.{number_of};
 use crate::decimal::decimal_of;
 use std::marker::Model;
 
-/// A number of a command: 1 to 999,999,999.
+/// The largest number of a command and of a lease.
+pub const LAST_NUMBER: u32 = 999_999_999;
+
+/// A number of a command: 1 to `LAST_NUMBER`.
 #[derive(Clone, Copy, PartialEq, Eq)]
 pub struct Number {
     value: u32,
@@ -12,12 +15,13 @@ pub struct Number {
 
 impl Model for Number {
     ghost use Rattle.std.specs.Prelude.{ℕ, ◌≤◌};
+    ghost use Rattle.run_plan.specs.declared.number.TheConstants.{LAST_NUMBER};
 
     ghost Value = { ℕ };
 
     ghost view = { λ n. n.value };
 
-    ghost invariant = { λ n. (1 ≤ n.value) × (n.value ≤ 999999999) };
+    ghost invariant = { λ n. (1 ≤ n.value) × (n.value ≤ LAST_NUMBER) };
 
     ghost inverse = { λ n. record { value = n } };
 }
@@ -25,7 +29,7 @@ impl Model for Number {
 impl Number {
     pub fn new(value: u32) -> Self
         requires low { 1 ≤ value }
-        requires high { value ≤ 999999999 }
+        requires high { value ≤ LAST_NUMBER }
         ensures { result ≡ value }
     {
         Number { value }
@@ -34,7 +38,7 @@ impl Number {
     pub fn get(self) -> u32
         ensures value { result ≡ self }
         ensures low { 1 ≤ result }
-        ensures high { result ≤ 999999999 }
+        ensures high { result ≤ LAST_NUMBER }
     {
         self.value
     }

@@ -36,12 +36,12 @@ pub changed_by_read : {X : Type 0} (f : X → X) (xs : List X) (i : ℕ)
     → changed_at i f xs ≡ option_map_or (λ x. slice_set xs i (f x)) (slice_get xs i) xs
 changed_by_read f [] i = refl
 changed_by_read f (x ∷ xs) zero = refl
-changed_by_read {X} f (x ∷ xs) (suc i) = ap (λ ys. x ∷ ys) (changed_by_read f xs i) ∙ behind (slice_get xs i)
+changed_by_read {X} f (x ∷ xs) (suc i) = ap (λ ys. x ∷ ys) (changed_by_read f xs i) ∙ suffix (slice_get xs i)
   where
-    behind : (o : Option X) → x ∷ option_map_or (λ y. slice_set xs i (f y)) o xs
+    suffix : (o : Option X) → x ∷ option_map_or (λ y. slice_set xs i (f y)) o xs
         ≡ option_map_or (λ y. x ∷ slice_set xs i (f y)) o (x ∷ xs)
-    behind None = refl
-    behind (Some y) = refl
+    suffix None = refl
+    suffix (Some y) = refl
 
 -- the facts about a change at one index of a list
 pub ruleset written = (changed_by_read, gets)

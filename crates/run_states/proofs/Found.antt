@@ -51,12 +51,12 @@ get_at_seam : {X : Type 0} (xs : List X) (y : X) (ys : List X) → slice_get (xs
 get_at_seam [] y ys = refl
 get_at_seam (x ∷ xs) y ys = get_at_seam xs y ys
 
-placed_after : {X : Type 0} (front xs : List X)
-    → AllByRecursion (λ e. slice_get (front ++ xs) e.0 ≡ Some e.1) (enumerate_from (length front) xs)
-placed_after front [] = tt
-placed_after front (x ∷ xs) =
-    let tail = placed_after (front ++ x ∷ []) xs in
-    (get_at_seam front x xs, simp (append_assoc, length-append) at tail)
+placed_after : {X : Type 0} (prefix xs : List X)
+    → AllByRecursion (λ e. slice_get (prefix ++ xs) e.0 ≡ Some e.1) (enumerate_from (length prefix) xs)
+placed_after prefix [] = tt
+placed_after prefix (x ∷ xs) =
+    let tail = placed_after (prefix ++ x ∷ []) xs in
+    (get_at_seam prefix x xs, simp (append_assoc, length-append) at tail)
 
 -- each element is found at its index
 pub placed_get : {X : Type 0} (xs : List X) → AllByRecursion (λ e. slice_get xs e.0 ≡ Some e.1) (placed xs)

@@ -11,7 +11,7 @@ use Rattle.run_states.specs.ActiveRuns.{is_active_leg}
 use Rattle.run_states.specs.FirstOf.{first_some}
 use Rattle.run_states.specs.Fitting.{is_ready}
 use Rattle.run_states.specs.Groups.{leg_holds, leg_waits}
-use Rattle.run_states.specs.LegCounts.{AreCounted, is_moving_leg, legs_in, legs_of_room}
+use Rattle.run_states.specs.LegCounts.{AreCounted, is_unready_leg, legs_in, legs_of_room}
 use Rattle.run_states.specs.Parallel.{is_at_work}
 use Rattle.run_states.specs.Places.{leg_place}
 use Rattle.run_states.specs.RunState.{LegState, RunState}
@@ -78,9 +78,9 @@ pub any_active : (legs : List LegState) → (list_any (λ l. leg_waits l.phase) 
     ≡ list_any is_active_leg legs
 any_active legs = any_either (λ l. leg_waits l.phase) (λ l. leg_holds l.phase) legs
 
-pub any_moving : (legs : List LegState) → (list_any (λ l. is_new l.phase) legs || list_any (λ l. leg_waits l.phase) legs)
-    ≡ list_any is_moving_leg legs
-any_moving legs = any_either (λ l. is_new l.phase) (λ l. leg_waits l.phase) legs
+pub any_unready : (legs : List LegState) → (list_any (λ l. is_new l.phase) legs || list_any (λ l. leg_waits l.phase) legs)
+    ≡ list_any is_unready_leg legs
+any_unready legs = any_either (λ l. is_new l.phase) (λ l. leg_waits l.phase) legs
 
 -- a leg that has ended is neither new nor active
 ended_neither : (phase : LegPhase) (e : LegState) → e.phase ≡ phase
@@ -133,10 +133,10 @@ module _ (legs : List LegState) (counts : LegCounts) (are : AreCounted legs coun
       ap (λ b. b || (nat_lt 0 counts.ready || nat_lt 0 counts.at_work)) waiting_counted
       ∙ ap (λ b. list_any (λ l. leg_waits l.phase) legs || b) holding_counted ∙ any_active legs
 
-  pub moving_counted : (nat_lt 0 counts.newcomers || nat_lt 0 counts.waiting) ≡ list_any is_moving_leg legs
-  moving_counted =
+  pub unready_counted : (nat_lt 0 counts.newcomers || nat_lt 0 counts.waiting) ≡ list_any is_unready_leg legs
+  unready_counted =
       ap (λ b. b || nat_lt 0 counts.waiting) new_counted
-      ∙ ap (λ b. list_any (λ l. is_new l.phase) legs || b) waiting_counted ∙ any_moving legs
+      ∙ ap (λ b. list_any (λ l. is_new l.phase) legs || b) waiting_counted ∙ any_unready legs
 
   pub ended_counted :
       not (nat_lt 0 counts.newcomers || (nat_lt 0 counts.waiting || (nat_lt 0 counts.ready || nat_lt 0 counts.at_work)))
@@ -256,14 +256,14 @@ module _ (runs : List RunState) (r j : ℕ) where
   abbrev of_leg : ℕ × LegState → Option RuleSite
   of_leg l = if goes_on runs (leg_place r j l.0) l.1 then Some (AtLeg (leg_place r j l.0)) else None
 
-  none_from : (n : ℕ) (legs : List LegState) → list_any is_moving_leg legs ≡ false → first_some of_leg (enumerate_from n legs) ≡ None
+  none_from : (n : ℕ) (legs : List LegState) → list_any is_unready_leg legs ≡ false → first_some of_leg (enumerate_from n legs) ≡ None
   none_from n [] none = refl
   none_from n (l ∷ legs) none =
-      let parts = or_parts (is_moving_leg l) (list_any is_moving_leg legs) none in
+      let parts = or_parts (is_unready_leg l) (list_any is_unready_leg legs) none in
       let leg = or_parts (is_new l.phase) (leg_waits l.phase) parts.0 in
       ap (λ b. option_or (if b then Some (AtLeg (leg_place r j n)) else None) (first_some of_leg (enumerate_from (n + 1) legs)))
       (no_rule l.phase n l refl leg.0 leg.1)
       ∙ none_from (n + 1) legs parts.1
 
-  pub no_leg_moves : (legs : List LegState) → list_any is_moving_leg legs ≡ false → None ≡ first_of_legs runs r j legs
+  pub no_leg_moves : (legs : List LegState) → list_any is_unready_leg legs ≡ false → None ≡ first_of_legs runs r j legs
   no_leg_moves legs none = sym (none_from 0 legs none)

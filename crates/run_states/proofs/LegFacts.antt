@@ -26,8 +26,8 @@ use Rattle.run_states.specs.Words.{all_have_results, is_set_for, needs_have_sett
 use Rattle.run_states.proofs.NeedsSettled.{KeepsResults, result_of_job}
 
 -- the facts of a leg, from its run's event and attempt, the events up to it, and the needs of its job
-abbrev pub told_of : LegPlace → Admitted → ℕ → List Admitted → List (List ℕ × Option JobResult) → PlannedJob → LegFacts
-told_of p event attempt all needs job = record {
+abbrev pub leg_facts_of : LegPlace → Admitted → ℕ → List Admitted → List (List ℕ × Option JobResult) → PlannedJob → LegFacts
+leg_facts_of p event attempt all needs job = record {
   event = event;
   run_id = decimal (p.run + 1);
   run_number = decimal (count_by (same_workflow event) all);
@@ -37,32 +37,32 @@ told_of p event attempt all needs job = record {
   needs = needs;
 }
 
-abbrev pub told : LegPlace → Admitted → ℕ → List Admitted → List (List ℕ × Option JobResult) → Option LegFacts
-told p event attempt all needs = option_map (told_of p event attempt all needs) (slice_get (plan_of event.body) p.job)
+abbrev pub leg_facts : LegPlace → Admitted → ℕ → List Admitted → List (List ℕ × Option JobResult) → Option LegFacts
+leg_facts p event attempt all needs = option_map (leg_facts_of p event attempt all needs) (slice_get (plan_of event.body) p.job)
 
-abbrev pub told_in : LegPlace → List Admitted → RunState → Option LegFacts
-told_in p all run = told p run.admitted run.attempt all (direct_needs run p.job)
+abbrev pub leg_facts_in : LegPlace → List Admitted → RunState → Option LegFacts
+leg_facts_in p all run = leg_facts p run.admitted run.attempt all (direct_needs run p.job)
 
 pub facts_are : (runs : List RunState) (p : LegPlace)
-    → facts_at runs p ≡ option_and_then (told_in p (take (p.run + 1) (events runs))) (run_at runs p.run)
+    → facts_at runs p ≡ option_and_then (leg_facts_in p (take (p.run + 1) (events runs))) (run_at runs p.run)
 unfolding facts_at
 facts_are runs p = refl
 
 -- ---- if a leg has facts, its job is planned
 
 job_told : (p : LegPlace) (event : Admitted) (attempt : ℕ) (all : List Admitted) (needs : List (List ℕ × Option JobResult)) (o : Option PlannedJob)
-    → o ≡ option_map (λ (f : LegFacts). f.job) (option_map (told_of p event attempt all needs) o)
+    → o ≡ option_map (λ (f : LegFacts). f.job) (option_map (leg_facts_of p event attempt all needs) o)
 job_told p event attempt all needs None = refl
 job_told p event attempt all needs (Some job) = refl
 
 plan_in : (p : LegPlace) (all : List Admitted) (o : Option RunState)
     → option_and_then (λ run. slice_get (plan_of run.admitted.body) p.job) o
-    ≡ option_map (λ f. f.job) (option_and_then (told_in p all) o)
+    ≡ option_map (λ f. f.job) (option_and_then (leg_facts_in p all) o)
 plan_in p all None = refl
 plan_in p all (Some run) = job_told p run.admitted run.attempt all (direct_needs run p.job) (slice_get (plan_of run.admitted.body) p.job)
 
-pub plan_told : (runs : List RunState) (p : LegPlace) → plan_at runs p.run p.job ≡ option_map (λ f. f.job) (facts_at runs p)
-plan_told runs p =
+pub plan_of_facts : (runs : List RunState) (p : LegPlace) → plan_at runs p.run p.job ≡ option_map (λ f. f.job) (facts_at runs p)
+plan_of_facts runs p =
     plan_in p (take (p.run + 1) (events runs)) (run_at runs p.run) ∙ ap (option_map (λ (f : LegFacts). f.job)) (sym (facts_are runs p))
 
 -- ---- whether a failure of the leg is ignored
@@ -71,15 +71,15 @@ abbrev pub passes_in : LegFacts → Bool
 passes_in f = is_set_for (context_of f) f.job f.leg
 
 passes_by : (p : LegPlace) (event : Admitted) (attempt : ℕ) (all : List Admitted) (needs : List (List ℕ × Option JobResult)) (o : Option PlannedJob)
-    → option_map_or (λ planned. is_set_for (option_map_or context_of (option_map (told_of p event attempt all needs) o) nothing) planned p.leg) o false
-    ≡ option_map_or passes_in (option_map (told_of p event attempt all needs) o) false
+    → option_map_or (λ planned. is_set_for (option_map_or context_of (option_map (leg_facts_of p event attempt all needs) o) nothing) planned p.leg) o false
+    ≡ option_map_or passes_in (option_map (leg_facts_of p event attempt all needs) o) false
 passes_by p event attempt all needs None = refl
 passes_by p event attempt all needs (Some job) = refl
 
 passes_of_run : (p : LegPlace) (all : List Admitted) (o : Option RunState)
-    → option_map_or (λ planned. is_set_for (option_map_or context_of (option_and_then (told_in p all) o) nothing) planned p.leg)
+    → option_map_or (λ planned. is_set_for (option_map_or context_of (option_and_then (leg_facts_in p all) o) nothing) planned p.leg)
     (option_and_then (λ run. slice_get (plan_of run.admitted.body) p.job) o) false
-    ≡ option_map_or passes_in (option_and_then (told_in p all) o) false
+    ≡ option_map_or passes_in (option_and_then (leg_facts_in p all) o) false
 passes_of_run p all None = refl
 passes_of_run p all (Some run) =
     passes_by p run.admitted run.attempt all (direct_needs run p.job) (slice_get (plan_of run.admitted.body) p.job)
@@ -87,10 +87,10 @@ passes_of_run p all (Some run) =
 pub passes_told : (runs : List RunState) (p : LegPlace) → continues_on_error runs p ≡ option_map_or passes_in (facts_at runs p) false
 unfolding context_at
 passes_told runs p =
-    let told = facts_are runs p in
-    ap (λ o. option_map_or (λ planned. is_set_for (option_map_or context_of o nothing) planned p.leg) (plan_at runs p.run p.job) false) told
+    let leg_facts = facts_are runs p in
+    ap (λ o. option_map_or (λ planned. is_set_for (option_map_or context_of o nothing) planned p.leg) (plan_at runs p.run p.job) false) leg_facts
     ∙ passes_of_run p (take (p.run + 1) (events runs)) (run_at runs p.run)
-    ∙ ap (λ o. option_map_or passes_in o false) (sym told)
+    ∙ ap (λ o. option_map_or passes_in o false) (sym leg_facts)
 
 -- ---- the needs of a job, once they have finished
 
@@ -148,20 +148,20 @@ attempt_in o = option_map (λ run. run.attempt) o
 abbrev pub attempt_at : List RunState → ℕ → Option ℕ
 attempt_at runs r = attempt_in (run_at runs r)
 
-told_same : (p : LegPlace) (all others : List Admitted) (o u : Option RunState) → admitted_in u ≡ admitted_in o
+leg_facts_same : (p : LegPlace) (all others : List Admitted) (o u : Option RunState) → admitted_in u ≡ admitted_in o
     → attempt_in u ≡ attempt_in o → others ≡ all
     → all_have_results (option_map_or (λ run. results_so_far run.jobs) o []) (needs_at (option_map_or needs_in o []) p.job) ≡ true
     → KeepResults (option_map_or (λ run. results_so_far run.jobs) o []) (option_map_or (λ run. results_so_far run.jobs) u [])
-    → option_and_then (told_in p others) u ≡ option_and_then (told_in p all) o
-told_same p all others None None same attempt front settled kept = refl
-told_same p all others None (Some y) same attempt front settled kept = absurd (none_there y.admitted same)
-told_same p all others (Some x) None same attempt front settled kept = absurd (none_there x.admitted (sym same))
-told_same p all others (Some x) (Some y) same attempt front settled kept =
+    → option_and_then (leg_facts_in p others) u ≡ option_and_then (leg_facts_in p all) o
+leg_facts_same p all others None None same attempt prefix settled kept = refl
+leg_facts_same p all others None (Some y) same attempt prefix settled kept = absurd (none_there y.admitted same)
+leg_facts_same p all others (Some x) None same attempt prefix settled kept = absurd (none_there x.admitted (sym same))
+leg_facts_same p all others (Some x) (Some y) same attempt prefix settled kept =
     let event : y.admitted ≡ x.admitted = same_Some y.admitted x.admitted same in
-    ap (λ a. told p a y.attempt others (direct_needs y p.job)) event
-    ∙ ap (λ n. told p x.admitted n others (direct_needs y p.job)) (same_Some y.attempt x.attempt attempt)
-    ∙ ap (λ es. told p x.admitted x.attempt es (direct_needs y p.job)) front
-    ∙ ap (told p x.admitted x.attempt all) (needs_kept x y p.job event settled kept)
+    ap (λ a. leg_facts p a y.attempt others (direct_needs y p.job)) event
+    ∙ ap (λ n. leg_facts p x.admitted n others (direct_needs y p.job)) (same_Some y.attempt x.attempt attempt)
+    ∙ ap (λ es. leg_facts p x.admitted x.attempt es (direct_needs y p.job)) prefix
+    ∙ ap (leg_facts p x.admitted x.attempt all) (needs_kept x y p.job event settled kept)
 
 -- The facts of a leg do not change once the needs of its job have finished, as long as these keep their results.
 pub facts_stay : (runs next : List RunState) (p : LegPlace) → SameUpTo p.run (events next) (events runs)
@@ -170,7 +170,7 @@ pub facts_stay : (runs next : List RunState) (p : LegPlace) → SameUpTo p.run (
 facts_stay runs next p same attempt settled kept =
     let admitted = λ (run : RunState). run.admitted in
     facts_are next p
-    ∙ told_same p (take (p.run + 1) (events runs)) (take (p.run + 1) (events next)) (run_at runs p.run) (run_at next p.run)
+    ∙ leg_facts_same p (take (p.run + 1) (events runs)) (take (p.run + 1) (events next)) (run_at runs p.run) (run_at next p.run)
     (sym (slice_get-map admitted next p.run) ∙ same p.run (omega arith) ∙ slice_get-map admitted runs p.run) attempt
     (taken_same (p.run + 1) (events next) (events runs) (λ s lt. same s (omega (arith, lt)))) settled
     (λ k r e. result_of_job next p.run k ∙ kept k r (sym (result_of_job runs p.run k) ∙ e))

@@ -33,11 +33,11 @@ results_of_cells [] = refl
 results_of_cells (x ∷ xs) = ap (λ os. settled_result x.state.phase ∷ os) (results_of_cells xs)
 
 -- the condition's value from the data that a run holds
-pub decided_in : (run : RunState) (j : ℕ) (asked : Condition) (graph : List (List ℕ)) (cells : List JobCells) (stopping : Bool)
-    → asked ≡ condition_in run j → graph ≡ needs_in run → states cells ≡ run.jobs → stopping ≡ run.stopping
-    → condition_value asked (results_of_ancestors graph (map result_of cells) j) stopping ≡ may_run_in run j
-decided_in run j asked graph cells stopping is_asked is_graph is_jobs is_stopping =
-    ap (λ c. condition_value c (results_of_ancestors graph (map result_of cells) j) stopping) is_asked
+pub decided_in : (run : RunState) (j : ℕ) (requested : Condition) (graph : List (List ℕ)) (cells : List JobCells) (stopping : Bool)
+    → requested ≡ condition_in run j → graph ≡ needs_in run → states cells ≡ run.jobs → stopping ≡ run.stopping
+    → condition_value requested (results_of_ancestors graph (map result_of cells) j) stopping ≡ may_run_in run j
+decided_in run j requested graph cells stopping is_requested is_graph is_jobs is_stopping =
+    ap (λ c. condition_value c (results_of_ancestors graph (map result_of cells) j) stopping) is_requested
     ∙ ap (λ g. condition_value (condition_in run j) (results_of_ancestors g (map result_of cells) j) stopping) is_graph
     ∙ ap (λ rs. condition_value (condition_in run j) (results_of_ancestors (needs_in run) rs j) stopping)
     (results_of_cells cells ∙ ap results_so_far is_jobs)

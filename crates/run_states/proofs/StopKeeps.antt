@@ -15,7 +15,7 @@ use Rattle.run_states.specs.Places.{run_at, job_at, with_job, with_run}
 use Rattle.run_states.specs.Rules.{is_open, is_settled, result_at, settled_as}
 use Rattle.run_states.specs.RunState.{LegState, JobState, RunState}
 use Rattle.run_states.specs.SoundRuns.{LegsFit, LeaseFits, PhaseFits}
-use Rattle.run_states.specs.Stops.{cancelled, stopped_in, stopped_phase, stopped_run, stopped, stopped_where, told_to_stop}
+use Rattle.run_states.specs.Stops.{cancelled, stopped_in, stopped_phase, stopped_run, stopped, stopped_where, with_stop_requested}
 use Rattle.run_states.specs.Stops.{with_stopped_legs}
 use Rattle.run_states.specs.WithinRun.{may_run_in}
 use Rattle.run_states.specs.Words.{planned_legs}
@@ -163,34 +163,34 @@ keeps_nothing runs r x fits =
       same_works = (λ j l. refl);
     }
 
-told_keeps : (runs : List RunState) (r : ℕ) (x : RunState) → RunFits runs r x → x.phase ≡ run.Live → Keeps runs r x (told_to_stop x)
-told_keeps runs r x fits live =
-    let told = record x { stopping = true } in
-    let f : ℕ × JobState → JobState = λ j. stopped_where (not (may_run_in told j.0)) j.1 in
+leg_facts_keep : (runs : List RunState) (r : ℕ) (x : RunState) → RunFits runs r x → x.phase ≡ run.Live → Keeps runs r x (with_stop_requested x)
+leg_facts_keep runs r x fits live =
+    let leg_facts = record x { stopping = true } in
+    let f : ℕ × JobState → JobState = λ j. stopped_where (not (may_run_in leg_facts j.0)) j.1 in
     record {
       stays = record {
         same_admitted = refl;
         same_attempt = refl;
         keeps_results = (λ j a e. ap (option_and_then (λ (y : JobState). settled_result y.phase)) (get_placed f x.jobs j)
-            ∙ mapped_reads (λ y. settled_result y.phase) (λ z. f (j, z)) (where_result (not (may_run_in told j))) (slice_get x.jobs j) ∙ e);
+            ∙ mapped_reads (λ y. settled_result y.phase) (λ z. f (j, z)) (where_result (not (may_run_in leg_facts j))) (slice_get x.jobs j) ∙ e);
         fits = record {
           needs_first = (λ j y e some.
               let from = from_map (λ z. f (j, z)) (slice_get x.jobs j) y (sym (get_placed f x.jobs j) ∙ e) in
               fits.needs_first j from.value from.is
-              (λ none. some (sym (ap (λ (v : JobState). v.legs) from.gives) ∙ where_no_legs (not (may_run_in told j)) from.value none)));
+              (λ none. some (sym (ap (λ (v : JobState). v.legs) from.gives) ∙ where_no_legs (not (may_run_in leg_facts j)) from.value none)));
           has_its_jobs = length-placed f x.jobs 0 ∙ fits.has_its_jobs;
           phase_fits = live_fits x.phase true (map f (placed x.jobs)) live;
           jobs_fit = (λ j y e.
               let from = from_map (λ z. f (j, z)) (slice_get x.jobs j) y (sym (get_placed f x.jobs j) ∙ e) in
               subst (λ (v : JobState). JobFits (planned_legs runs r j) (result_at runs r j v) v) from.gives
-              (where_fits runs r j (not (may_run_in told j)) from.value (fits.jobs_fit j from.value from.is)));
+              (where_fits runs r j (not (may_run_in leg_facts j)) from.value (fits.jobs_fit j from.value from.is)));
         };
       };
       same_had = (λ j l. ap (option_and_then (λ (y : JobState). had_in_job y l)) (get_placed f x.jobs j)
-          ∙ mapped_reads (λ y. had_in_job y l) (λ z. f (j, z)) (where_reads (λ z. z.lease) (λ z. refl) (not (may_run_in told j)) l)
+          ∙ mapped_reads (λ y. had_in_job y l) (λ z. f (j, z)) (where_reads (λ z. z.lease) (λ z. refl) (not (may_run_in leg_facts j)) l)
           (slice_get x.jobs j));
       same_works = (λ j l. ap (option_and_then (λ (y : JobState). works_in_job y l)) (get_placed f x.jobs j)
-          ∙ mapped_reads (λ y. works_in_job y l) (λ z. f (j, z)) (where_reads work_of same_work (not (may_run_in told j)) l)
+          ∙ mapped_reads (λ y. works_in_job y l) (λ z. f (j, z)) (where_reads work_of same_work (not (may_run_in leg_facts j)) l)
           (slice_get x.jobs j));
     }
 
@@ -248,9 +248,9 @@ stopped_keeps : (runs : List RunState) (r : ℕ) (x : RunState) → RunFits runs
 stopped_keeps runs r x fits =
     elim (x.phase) as (λ phase. x.phase ≡ phase → Keeps runs r x (stopped_in phase x)) [
       | run.Waiting ↦ λ is. cancelled_keeps runs r x fits is
-      | run.Live ↦ λ is. elim (x.stopping) as (λ b. Keeps runs r x (if b then x else told_to_stop x)) [
+      | run.Live ↦ λ is. elim (x.stopping) as (λ b. Keeps runs r x (if b then x else with_stop_requested x)) [
         | true ↦ keeps_nothing runs r x fits
-        | false ↦ told_keeps runs r x fits is
+        | false ↦ leg_facts_keep runs r x fits is
       ]
       | run.Ended ↦ λ is. keeps_nothing runs r x fits
     ] refl

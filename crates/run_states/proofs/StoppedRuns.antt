@@ -10,7 +10,7 @@ use Rattle.run_states.specs.FirstOf.{changed_at}
 use Rattle.run_states.specs.JobResults.{needs_in, settled_result}
 use Rattle.run_states.specs.Rules.{is_open, settled_as}
 use Rattle.run_states.specs.RunState.{JobState, RunState}
-use Rattle.run_states.specs.Stops.{is_open_at, stopped_in, stopped_run, stopped_where, told_to_stop, with_job_stopped, with_jobs_stopped}
+use Rattle.run_states.specs.Stops.{is_open_at, stopped_in, stopped_run, stopped_where, with_stop_requested, with_job_stopped, with_jobs_stopped}
 use Rattle.run_states.specs.Stops.{with_stopped_legs}
 use Rattle.run_states.specs.WithinRun.{condition_in, may_run_in}
 use Rattle.run_states.specs.declared.phases.RunPhase.TheVariants as run
@@ -49,29 +49,29 @@ upto_same f h same n (suc k) (x ∷ xs) =
 -- ---- the jobs of a run that is asked to stop
 
 abbrev pub job_stopped : RunState → ℕ × JobState → JobState
-job_stopped told j = stopped_where (not (may_run_in told j.0)) j.1
+job_stopped leg_facts j = stopped_where (not (may_run_in leg_facts j.0)) j.1
 
-abbrev pub told_upto : ℕ → RunState → RunState
-told_upto n told = record told { jobs = upto (job_stopped told) 0 n told.jobs }
+abbrev pub leg_facts_upto : ℕ → RunState → RunState
+leg_facts_upto n leg_facts = record leg_facts { jobs = upto (job_stopped leg_facts) 0 n leg_facts.jobs }
 
 -- a stop changes no job's result, and so no condition
-same_condition : (told : RunState) (n j : ℕ) → may_run_in (told_upto n told) j ≡ may_run_in told j
-same_condition told n j =
-    ap (λ rs. condition_value (condition_in told j) (results_of_ancestors (needs_in told) rs j) told.stopping)
-    (upto_same (job_stopped told) (λ y. settled_result y.phase) (λ k y. where_result (not (may_run_in told k)) y) 0 n told.jobs)
+same_condition : (leg_facts : RunState) (n j : ℕ) → may_run_in (leg_facts_upto n leg_facts) j ≡ may_run_in leg_facts j
+same_condition leg_facts n j =
+    ap (λ rs. condition_value (condition_in leg_facts j) (results_of_ancestors (needs_in leg_facts) rs j) leg_facts.stopping)
+    (upto_same (job_stopped leg_facts) (λ y. settled_result y.phase) (λ k y. where_result (not (may_run_in leg_facts k)) y) 0 n leg_facts.jobs)
 
-pub next_job_stopped : (told : RunState) (n : ℕ) → with_job_stopped n (told_upto n told) ≡ told_upto (n + 1) told
-next_job_stopped told n =
-    let jobs = upto (job_stopped told) 0 n told.jobs in
+pub next_job_stopped : (leg_facts : RunState) (n : ℕ) → with_job_stopped n (leg_facts_upto n leg_facts) ≡ leg_facts_upto (n + 1) leg_facts
+next_job_stopped leg_facts n =
+    let jobs = upto (job_stopped leg_facts) 0 n leg_facts.jobs in
     let at : n ≡ 0 + n = omega arith in
     let next : suc n ≡ n + 1 = omega arith in
-    ap (λ b. record told { jobs = changed_at n (stopped_where (not b)) jobs }) (same_condition told n n)
-    ∙ ap (λ m. record told { jobs = changed_at n (λ y. job_stopped told (m, y)) jobs }) at
-    ∙ ap (λ js. record told { jobs = js }) (upto_more (job_stopped told) 0 n told.jobs)
-    ∙ ap (λ m. told_upto m told) next
+    ap (λ b. record leg_facts { jobs = changed_at n (stopped_where (not b)) jobs }) (same_condition leg_facts n n)
+    ∙ ap (λ m. record leg_facts { jobs = changed_at n (λ y. job_stopped leg_facts (m, y)) jobs }) at
+    ∙ ap (λ js. record leg_facts { jobs = js }) (upto_more (job_stopped leg_facts) 0 n leg_facts.jobs)
+    ∙ ap (λ m. leg_facts_upto m leg_facts) next
 
-pub all_jobs_stopped : (told : RunState) (n : ℕ) → length told.jobs ≤ n → told_upto n told ≡ with_jobs_stopped told
-all_jobs_stopped told n past = ap (λ js. record told { jobs = js }) (upto_all (job_stopped told) 0 n told.jobs past)
+pub all_jobs_stopped : (leg_facts : RunState) (n : ℕ) → length leg_facts.jobs ≤ n → leg_facts_upto n leg_facts ≡ with_jobs_stopped leg_facts
+all_jobs_stopped leg_facts n past = ap (λ js. record leg_facts { jobs = js }) (upto_all (job_stopped leg_facts) 0 n leg_facts.jobs past)
 
 -- ---- the jobs of a run finish with the same result
 
@@ -101,9 +101,9 @@ abbrev pub is_to_stop : RunState → ℕ → Bool
 is_to_stop run j = is_open_at run j && not (may_run_in run j)
 
 -- the test of the job at an index is the test of the job found there
-asked_there : (x : RunState) (j : ℕ) (y : JobState) → slice_get x.jobs j ≡ Some y
+requested_there : (x : RunState) (j : ℕ) (y : JobState) → slice_get x.jobs j ≡ Some y
     → is_to_stop x j ≡ (is_open y.phase && not (may_run_in x j))
-asked_there x j y at =
+requested_there x j y at =
     ap (λ o. option_map_or (λ (job : JobState). is_open job.phase) o false && not (may_run_in x j)) at
 
 -- if the job at the index has to stop, stopping its legs is the change
@@ -112,14 +112,14 @@ pub job_that_stops : (x : RunState) (j : ℕ) → is_to_stop x j ≡ true
 job_that_stops x j is =
     ap (λ js. record x { jobs = js })
     (changed_same x.jobs j with_stopped_legs (stopped_where (not (may_run_in x j)))
-    (λ y at. ap (λ c. if c then with_stopped_legs y else y) (sym is ∙ asked_there x j y at)))
+    (λ y at. ap (λ c. if c then with_stopped_legs y else y) (sym is ∙ requested_there x j y at)))
 
 -- otherwise nothing changes
 pub job_that_stays : (x : RunState) (j : ℕ) → is_to_stop x j ≡ false → x ≡ with_job_stopped j x
 job_that_stays x j is =
     ap (λ js. record x { jobs = js })
     (changed_none x.jobs j (stopped_where (not (may_run_in x j)))
-    (λ y at. ap (λ c. if c then with_stopped_legs y else y) (sym (asked_there x j y at) ∙ is)))
+    (λ y at. ap (λ c. if c then with_stopped_legs y else y) (sym (requested_there x j y at) ∙ is)))
 
 -- ---- the event and the attempt do not change
 
@@ -127,7 +127,7 @@ pub stopped_admitted : (x : RunState) → (stopped_run x).admitted ≡ x.admitte
 stopped_admitted x =
     elim (x.phase) as (λ phase. (stopped_in phase x).admitted ≡ x.admitted) [
       | run.Waiting ↦ refl
-      | run.Live ↦ elim (x.stopping) as (λ b. (if b then x else told_to_stop x).admitted ≡ x.admitted) [
+      | run.Live ↦ elim (x.stopping) as (λ b. (if b then x else with_stop_requested x).admitted ≡ x.admitted) [
         | true ↦ refl
         | false ↦ refl
       ]
@@ -138,7 +138,7 @@ pub stopped_attempt : (x : RunState) → (stopped_run x).attempt ≡ x.attempt
 stopped_attempt x =
     elim (x.phase) as (λ phase. (stopped_in phase x).attempt ≡ x.attempt) [
       | run.Waiting ↦ refl
-      | run.Live ↦ elim (x.stopping) as (λ b. (if b then x else told_to_stop x).attempt ≡ x.attempt) [
+      | run.Live ↦ elim (x.stopping) as (λ b. (if b then x else with_stop_requested x).attempt ≡ x.attempt) [
         | true ↦ refl
         | false ↦ refl
       ]

@@ -7,7 +7,7 @@ use Rattle.std.specs.Option.{option_map_or}
 use Rattle.group_name.specs.Group.{Group}
 use Rattle.run_states.specs.GroupOf.{cancels_in_progress, group_at}
 use Rattle.run_states.specs.GroupWords.{same_holder}
-use Rattle.run_states.specs.Groups.{all_holders, is_in, is_pending_in, running_in}
+use Rattle.run_states.specs.Groups.{all_holders, is_in, is_pending_in, in_progress_in}
 use Rattle.run_states.specs.Moves.{Move, Transition, and_then, at_each, without_moves}
 use Rattle.run_states.specs.declared.place.LegPlace.{LegPlace}
 use Rattle.run_states.specs.RunState.{RunState}
@@ -25,16 +25,16 @@ others_pending g newcomer runs = filter (λ h. is_pending_in runs g h && not (sa
 abbrev pub displaced : Group → Holder → List RunState → Transition
 displaced g newcomer runs = at_each displace (others_pending g newcomer runs) runs
 
--- the running holder of the group is stopped
+-- the holder in progress in the group is stopped
 abbrev pub in_progress_stopped : Group → List RunState → Transition
-in_progress_stopped g runs = at_each stop_holder (running_in runs g) runs
+in_progress_stopped g runs = at_each stop_holder (in_progress_in runs g) runs
 
-abbrev pub stopped_where_asked : Bool → Group → List RunState → Transition
-stopped_where_asked cancels g runs = if cancels then in_progress_stopped g runs else without_moves runs
+abbrev pub stopped_where_requested : Bool → Group → List RunState → Transition
+stopped_where_requested cancels g runs = if cancels then in_progress_stopped g runs else without_moves runs
 
--- a newcomer displaces the pending holders of a group, and stops the running one if it cancels what is in progress
+-- a newcomer displaces the pending holders of a group, and stops the one in progress if it asks for cancellation
 abbrev pub room_made : Bool → Holder → List RunState → Group → Transition
-room_made cancels newcomer runs g = and_then (displaced g newcomer runs) (stopped_where_asked cancels g)
+room_made cancels newcomer runs g = and_then (displaced g newcomer runs) (stopped_where_requested cancels g)
 
 -- a newcomer makes room in its own group, if it has one
 abbrev pub room_made_for : Holder → List RunState → Transition

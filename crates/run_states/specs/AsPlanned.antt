@@ -4,6 +4,7 @@ use Rattle.run_plan.specs.PlanOf.{plan_of}
 use Rattle.run_plan.specs.declared.planned.PlannedJob.{PlannedJob}
 use Rattle.run_states.specs.Places.{run_at}
 use Rattle.run_states.specs.RunState.{LegState, JobState, RunState}
+use Rattle.run_states.specs.declared.limits.TheConstants.{MAX_RUNS}
 
 -- a job has none of its legs, or all that its plan has
 abbrev pub HasRoom : ℕ → List LegState → Type 0
@@ -20,5 +21,5 @@ pub record IsAsPlanned (plan : List PlannedJob) (jobs : List JobState) : Type 0 
   pub have_room : HaveRoom plan jobs
 
 pub record AreAsPlanned (runs : List RunState) : Type 0 where
-  pub few : length runs ≤ 100000
+  pub few : length runs ≤ MAX_RUNS
   pub each : (r : ℕ) (x : RunState) → run_at runs r ≡ Some x → IsAsPlanned (plan_of x.admitted.body) x.jobs

@@ -58,18 +58,18 @@ run_facts_at runs r =
 
 -- the group that a `concurrency` names in a context
 abbrev pub named_group : List ℕ → Values → Concurrency → Option Group
-named_group repository values asked = group_of repository (scalar_text (template_value values asked.group))
+named_group repository values requested = group_of repository (scalar_text (template_value values requested.group))
 
 abbrev pub run_group : RunFacts → Option Group
 run_group run =
     let event = event_of run.event.body in option_and_then (named_group event.repo (run_context run)) event.workflow.concurrency
 
 -- the `concurrency` of a job for one of its legs; none if the job has no such leg
-abbrev pub asked_of_leg : PlannedJob → ℕ → Option Concurrency
-asked_of_leg job l = option_and_then (λ _. job.concurrency) (slice_get job.legs l)
+abbrev pub concurrency_of_leg : PlannedJob → ℕ → Option Concurrency
+concurrency_of_leg job l = option_and_then (λ _. job.concurrency) (slice_get job.legs l)
 
 abbrev pub leg_group : LegFacts → Option Group
-leg_group leg = option_and_then (named_group (event_of leg.event.body).repo (context_of leg)) (asked_of_leg leg.job leg.leg)
+leg_group leg = option_and_then (named_group (event_of leg.event.body).repo (context_of leg)) (concurrency_of_leg leg.job leg.leg)
 
 -- the group of a run or of a leg of a table, if it has one
 unfoldable pub group_at : List RunState → Holder → Option Group
@@ -80,10 +80,10 @@ group_at runs (Leg p) = option_and_then leg_group (facts_at runs p)
 
 abbrev pub run_cancels : RunFacts → Bool
 run_cancels run =
-    option_map_or (λ asked. is_set (run_context run) asked.cancel_in_progress) (event_of run.event.body).workflow.concurrency false
+    option_map_or (λ requested. is_set (run_context run) requested.cancel_in_progress) (event_of run.event.body).workflow.concurrency false
 
 abbrev pub leg_cancels : LegFacts → Bool
-leg_cancels leg = option_map_or (λ asked. is_set (context_of leg) asked.cancel_in_progress) (asked_of_leg leg.job leg.leg) false
+leg_cancels leg = option_map_or (λ requested. is_set (context_of leg) requested.cancel_in_progress) (concurrency_of_leg leg.job leg.leg) false
 
 -- whether the arrival of a run or of a leg cancels what is in progress
 unfoldable pub cancels_in_progress : List RunState → Holder → Bool

@@ -3,8 +3,8 @@ use Rattle.std.specs.Prelude.{Bool}
 use Rattle.std.specs.Prelude.{Option}
 use Rattle.run_states.specs.declared.holder.Holder.{Holder}
 
--- the running holder of a group, whether it has been asked to stop, and the pending holder
+-- the holder in progress in a group, whether it has been asked to stop, and the pending holder
 pub record GroupState : Type 0 where
-  pub running : Option Holder
+  pub in_progress : Option Holder
   pub stopping : Bool
   pub pending : Option Holder

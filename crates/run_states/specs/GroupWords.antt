@@ -64,8 +64,8 @@ has_ended h moves = list_any (λ m. is_the (end_of m) h) moves
 -- ---- in progress, and pending
 
 -- it has started and has not ended
-abbrev pub is_running : Holder → List Move → Bool
-is_running h moves = has_started h moves && not (has_ended h moves)
+abbrev pub is_in_progress : Holder → List Move → Bool
+is_in_progress h moves = has_started h moves && not (has_ended h moves)
 
 -- it has arrived, and has neither started nor ended
 abbrev pub is_pending : Holder → List Move → Bool

@@ -1,4 +1,4 @@
--- The concurrency groups of a table: the holder that is pending in a group, and the one that is running. GitHub Docs, "Control the
+-- The concurrency groups of a table: the holder that is pending in a group, and the one that is in progress. GitHub Docs, "Control the
 -- concurrency of workflows and jobs": at most one job or workflow of a group runs, and at most one is pending.
 use Rattle.std.specs.Prelude.{◌≡◌, List, ◌++◌, map, filter, find, Bool, true, false, ◌&&◌, ◌||◌, not, Option}
 use Rattle.std.specs.List.{list_any}
@@ -43,9 +43,9 @@ abbrev pub holds : List RunState → Holder → Bool
 holds runs (Run r) = option_map_or (λ x. is_live x.phase) (run_at runs r) false
 holds runs (Leg p) = option_map_or (λ x. leg_holds x.phase) (leg_at runs p) false
 
-abbrev pub is_told_to_stop : List RunState → Holder → Bool
-is_told_to_stop runs (Run r) = option_map_or (λ x. x.stopping) (run_at runs r) false
-is_told_to_stop runs (Leg p) = option_map_or (λ x. is_stopping_leg x.phase) (leg_at runs p) false
+abbrev pub is_stop_requested : List RunState → Holder → Bool
+is_stop_requested runs (Run r) = option_map_or (λ x. x.stopping) (run_at runs r) false
+is_stop_requested runs (Leg p) = option_map_or (λ x. is_stopping_leg x.phase) (leg_at runs p) false
 
 -- ---- the holders of a group: the runs and legs that have arrived in it and have not ended
 
@@ -55,38 +55,38 @@ is_in runs g h = option_map_or (same_group g) (group_at runs h) false
 abbrev pub is_pending_in : List RunState → Group → Holder → Bool
 is_pending_in runs g h = is_in runs g h && waits runs h
 
-abbrev pub is_running_in : List RunState → Group → Holder → Bool
-is_running_in runs g h = is_in runs g h && holds runs h
+abbrev pub is_in_progress_in : List RunState → Group → Holder → Bool
+is_in_progress_in runs g h = is_in runs g h && holds runs h
 
 -- all runs and legs
 abbrev pub all_holders : List RunState → List Holder
 all_holders runs = map (λ r. Run r.0) (placed runs) ++ map (λ p. Leg p) (leg_places runs)
 
 abbrev pub holders_in : List RunState → Group → List Holder
-holders_in runs g = filter (λ h. is_pending_in runs g h || is_running_in runs g h) (all_holders runs)
+holders_in runs g = filter (λ h. is_pending_in runs g h || is_in_progress_in runs g h) (all_holders runs)
 
 abbrev pub pending_in : List RunState → Group → List Holder
 pending_in runs g = filter (is_pending_in runs g) (all_holders runs)
 
-abbrev pub running_in : List RunState → Group → List Holder
-running_in runs g = filter (is_running_in runs g) (all_holders runs)
+abbrev pub in_progress_in : List RunState → Group → List Holder
+in_progress_in runs g = filter (is_in_progress_in runs g) (all_holders runs)
 
--- In each group at most one holder is pending, and at most one is running.
+-- In each group at most one holder is pending, and at most one is in progress.
 pub record HasOneEach (runs : List RunState) : Type 0 where
   pub pending : (g : Group) (h k : Holder) → is_pending_in runs g h ≡ true → is_pending_in runs g k ≡ true → h ≡ k
-  pub running : (g : Group) (h k : Holder) → is_running_in runs g h ≡ true → is_running_in runs g k ≡ true → h ≡ k
+  pub in_progress : (g : Group) (h k : Holder) → is_in_progress_in runs g h ≡ true → is_in_progress_in runs g k ≡ true → h ≡ k
 
--- The same apart from a newcomer that waits and has not arrived yet: at most one of the others is pending, and at most one is running.
+-- The same apart from a newcomer that waits and has not arrived yet: at most one of the others is pending, and at most one is in progress.
 pub record HasOneBeside (runs : List RunState) (newcomer : Holder) : Type 0 where
   pub pending : (g : Group) (h k : Holder) → (h ≡ newcomer → ⊥) → (k ≡ newcomer → ⊥) → is_pending_in runs g h ≡ true
       → is_pending_in runs g k ≡ true → h ≡ k
-  pub running : (g : Group) (h k : Holder) → is_running_in runs g h ≡ true → is_running_in runs g k ≡ true → h ≡ k
+  pub in_progress : (g : Group) (h k : Holder) → is_in_progress_in runs g h ≡ true → is_in_progress_in runs g k ≡ true → h ≡ k
 
 -- ---- which holders may start
 
--- whether a holder of the group is running
+-- whether a holder of the group is in progress
 abbrev pub is_taken : List RunState → Group → Bool
-is_taken runs g = list_any (is_running_in runs g) (all_holders runs)
+is_taken runs g = list_any (is_in_progress_in runs g) (all_holders runs)
 
 -- a run or leg without a group may always start
 abbrev pub may_start : List RunState → Holder → Bool
@@ -96,9 +96,9 @@ may_start runs h = option_map_or (λ g. not (is_taken runs g)) (group_at runs h)
 
 abbrev pub group_state : List RunState → Group → GroupState
 group_state runs g =
-    let one : Option Holder = find (is_running_in runs g) (all_holders runs) in
+    let one : Option Holder = find (is_in_progress_in runs g) (all_holders runs) in
     record {
-      running = one;
-      stopping = option_map_or (is_told_to_stop runs) one false;
+      in_progress = one;
+      stopping = option_map_or (is_stop_requested runs) one false;
       pending = find (is_pending_in runs g) (all_holders runs);
     }

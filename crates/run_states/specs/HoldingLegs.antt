@@ -21,18 +21,18 @@ has_begun job = not (is_blocked job.phase) || has_legs job
 abbrev pub has_legs_at : RunState → ℕ → Bool
 has_legs_at run j = option_map_or has_legs (slice_get run.jobs j) false
 
-abbrev pub has_legs_behind : ℕ → RunState → Bool
-has_legs_behind j run = not (nat_lt j (length (needs_in run))) || list_any (has_legs_at run) (dependents_of (needs_in run) j)
+abbrev pub has_legs_downstream : ℕ → RunState → Bool
+has_legs_downstream j run = not (nat_lt j (length (needs_in run))) || list_any (has_legs_at run) (dependents_of (needs_in run) j)
 
 -- whether a leg holds the group that its job asks for
 abbrev pub has_holding_leg : JobState → Bool
 has_holding_leg job = list_any (λ l. leg_holds l.phase) job.legs
 
-abbrev pub job_asks : RunState → ℕ → Bool
-job_asks run j = option_map_or (λ planned. is_some planned.concurrency) (slice_get (plan_of run.admitted.body) j) false
+abbrev pub job_requests_group : RunState → ℕ → Bool
+job_requests_group run j = option_map_or (λ planned. is_some planned.concurrency) (slice_get (plan_of run.admitted.body) j) false
 
 abbrev pub holds_by_a_leg_of : RunState → ℕ → Bool
-holds_by_a_leg_of run j = option_map_or (λ job. job_asks run j && has_holding_leg job) (slice_get run.jobs j) false
+holds_by_a_leg_of run j = option_map_or (λ job. job_requests_group run j && has_holding_leg job) (slice_get run.jobs j) false
 
 abbrev pub holds_by_a_leg : RunState → Bool
 holds_by_a_leg run = list_any (holds_by_a_leg_of run) (range_with_len 0 (length run.jobs))

@@ -32,8 +32,8 @@ abbrev pub CanMove : (LegPhase → Bool) → LegPhase → ℕ → Type 0
 CanMove test from count = (test from ≡ true → 0 < count) × (count < 2 ^ 63)
 
 -- whether a leg is new or waits; no rule applies to any other leg
-abbrev pub is_moving_leg : LegState → Bool
-is_moving_leg leg = is_new leg.phase || leg_waits leg.phase
+abbrev pub is_unready_leg : LegState → Bool
+is_unready_leg leg = is_new leg.phase || leg_waits leg.phase
 
-abbrev pub has_moving_leg : JobState → Bool
-has_moving_leg job = list_any is_moving_leg job.legs
+abbrev pub has_unready_leg : JobState → Bool
+has_unready_leg job = list_any is_unready_leg job.legs

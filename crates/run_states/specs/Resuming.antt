@@ -13,7 +13,7 @@ use Rattle.run_states.specs.declared.place.LegPlace.{LegPlace}
 use Rattle.run_states.specs.RunState.{RunState}
 use Rattle.run_states.specs.StateWords.{is_live, is_new}
 use Rattle.run_states.specs.WithinRun.{first_in_job, first_in_run}
-use Rattle.run_states.specs.declared.holder.HolderFilter.TheVariants.{OthersPending, Running}
+use Rattle.run_states.specs.declared.holder.HolderFilter.TheVariants.{OthersPending, InProgress}
 use Rattle.run_states.specs.declared.place.JobPlace.{JobPlace}
 use Rattle.run_states.specs.declared.place.RuleSite.{RuleSite}
 use Rattle.run_states.specs.declared.place.RuleSite.TheVariants.{Opening, AtLeg, Closing, Whole}
@@ -60,18 +60,18 @@ at_job_again runs r j = record { run = r; job = option_map_or (λ run. job_again
 abbrev pub finds_others : List RunState → Holder → Bool
 finds_others runs newcomer =
     is_some (first_conflicting runs newcomer OthersPending)
-    || (cancels_in_progress runs newcomer && is_some (first_conflicting runs newcomer Running))
+    || (cancels_in_progress runs newcomer && is_some (first_conflicting runs newcomer InProgress))
 
 abbrev pub makes_room : List RunState → Holder → Bool
 makes_room runs newcomer = is_some (group_at runs newcomer) && finds_others runs newcomer
 
 -- Whether the rule there may let a holder of another run go on: a leg arrives there and another holder ends or is stopped, or a live run
 -- with a group ends.
-abbrev pub may_wake_others : List RunState → RuleSite → Bool
-may_wake_others runs (Opening r j) = false
-may_wake_others runs (AtLeg p) = is_new_at runs p && makes_room runs (Leg p)
-may_wake_others runs (Closing r j) = false
-may_wake_others runs (Whole r) = holds runs (Run r) && is_some (group_at runs (Run r))
+abbrev pub may_invalidate_others : List RunState → RuleSite → Bool
+may_invalidate_others runs (Opening r j) = false
+may_invalidate_others runs (AtLeg p) = is_new_at runs p && makes_room runs (Leg p)
+may_invalidate_others runs (Closing r j) = false
+may_invalidate_others runs (Whole r) = holds runs (Run r) && is_some (group_at runs (Run r))
 
 -- after a rule that cannot, by the runs as it leaves them; after a rule of the run itself, from its first job
 abbrev pub resume_near : List RunState → RuleSite → JobPlace

@@ -5,6 +5,7 @@ use Rattle.std.specs.Str.{bytes_eq}
 use Rattle.wf_reader.specs.Event.{event_of}
 use Rattle.run_plan.specs.Admitted.{Admitted}
 use Rattle.run_states.specs.RunState.{RunState}
+use Rattle.run_states.specs.declared.limits.TheConstants.{MAX_RUNS}
 
 -- the events of runs
 abbrev pub events : List RunState → List Admitted
@@ -32,5 +33,5 @@ numbers_after before (event ∷ all) =
     count_by (same_workflow event) (before ++ event ∷ []) ∷ numbers_after (before ++ event ∷ []) all
 
 pub record AreNumbered (runs : List RunState) (numbers : List ℕ) : Type 0 where
-  pub few : length runs ≤ 100000
+  pub few : length runs ≤ MAX_RUNS
   pub numbered : numbers ≡ numbers_after [] (events runs)

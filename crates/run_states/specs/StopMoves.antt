@@ -47,13 +47,13 @@ abbrev pub jobs_stop_moves : ℕ → RunState → List Move
 jobs_stop_moves r run = flat_map (λ j. where_stop_moves (not (may_run_in run j.0)) r j.0 j.1) (placed run.jobs)
 
 -- a live run is asked to stop
-abbrev pub told_moves : ℕ → RunState → List Move
-told_moves r run = Move.stop (Run r) ∷ jobs_stop_moves r (record run { stopping = true })
+abbrev pub stop_request_moves : ℕ → RunState → List Move
+stop_request_moves r run = Move.stop (Run r) ∷ jobs_stop_moves r (record run { stopping = true })
 
 -- a waiting run ends; a run that is already stopping, or has ended, makes no move
 abbrev pub run_stop_moves_in : RunPhase → ℕ → RunState → List Move
 run_stop_moves_in run.Waiting r x = Move.stop (Run r) ∷ Move.end_with Cancelled (Run r) ∷ []
-run_stop_moves_in run.Live r x = if x.stopping then [] else told_moves r x
+run_stop_moves_in run.Live r x = if x.stopping then [] else stop_request_moves r x
 run_stop_moves_in run.Ended r x = []
 
 abbrev pub run_stop_moves : ℕ → RunState → List Move

@@ -52,8 +52,8 @@ abbrev pub with_jobs_stopped : RunState → RunState
 with_jobs_stopped run = record run { jobs = map (λ j. stopped_where (not (may_run_in run j.0)) j.1) (placed run.jobs) }
 
 -- a live run is asked to stop, and those legs are stopped
-abbrev pub told_to_stop : RunState → RunState
-told_to_stop run = with_jobs_stopped (record run { stopping = true })
+abbrev pub with_stop_requested : RunState → RunState
+with_stop_requested run = with_jobs_stopped (record run { stopping = true })
 
 -- the legs of job `j` are stopped if it is open and its condition is false
 abbrev pub with_job_stopped : ℕ → RunState → RunState
@@ -66,7 +66,7 @@ cancelled r = record r { phase = run.Ended; jobs = map (settled_as result.Cancel
 -- a run that is already stopping, or has ended, stays as it is
 abbrev pub stopped_in : RunPhase → RunState → RunState
 stopped_in run.Waiting r = cancelled r
-stopped_in run.Live r = if r.stopping then r else told_to_stop r
+stopped_in run.Live r = if r.stopping then r else with_stop_requested r
 stopped_in run.Ended r = r
 
 abbrev pub stopped_run : RunState → RunState

@@ -1,6 +1,6 @@
 -- The first place where a rule applies, and the first leg that a search finds, run by run and job by job. Whether a rule applies depends on
--- other runs only for a waiting run and for a waiting leg, which need a group without a running holder. A leg's labels depend on the events
--- of other runs, and on nothing else of theirs.
+-- other runs only for a waiting run and for a waiting leg, which need a group without a holder in progress. A leg's labels depend on the
+-- events of other runs, and on nothing else of theirs.
 use Rattle.std.specs.Prelude.{ℕ, ◌&&◌, List, Bool, true, false, Option, Some, None, if◌then◌else◌}
 use Rattle.std.specs.List.{list_all}
 use Rattle.std.specs.Option.{option_or, option_map_or}
@@ -11,7 +11,7 @@ use Rattle.run_states.specs.Groups.{may_start}
 use Rattle.run_states.specs.Parallel.{has_room}
 use Rattle.run_states.specs.PlacedLegs.{PlacedLeg, placed_legs_of_run}
 pub use Rattle.run_states.specs.Places.{leg_place}
-pub use Rattle.run_states.specs.declared.place.LegPlace.{LegPlace}
+use Rattle.run_states.specs.declared.place.LegPlace.{LegPlace}
 use Rattle.run_states.specs.Rules.{leg_end}
 pub use Rattle.run_states.specs.RunConditions.{condition_in, may_run_in, needs_settled_in}
 use Rattle.run_states.specs.RunState.{LegState, JobState, RunState}

@@ -39,7 +39,7 @@ fn has_id(plan: &[PlannedJob], place: usize, id: &str) -> bool
 }
 
 /// The first of these indices whose job has the id.
-fn place_of_id<'p>(plan: &[PlannedJob], places: &'p [usize], id: &str) -> Option<&'p usize>
+fn index_of_id<'p>(plan: &[PlannedJob], places: &'p [usize], id: &str) -> Option<&'p usize>
     ensures { option_copied result ≡ find (has_id plan.now id.now) places.now }
 {
     places.iter().find(|place| has_id(plan, **place, id))
@@ -56,10 +56,10 @@ fn result_at(jobs: &[Job], place: usize) -> Option<JobResult>
 }
 
 /// The index of the job with this id, if job `j` needs it directly.
-pub fn place_of_need(run: &Run, j: usize, id: &str) -> Option<usize>
+pub fn index_of_need(run: &Run, j: usize, id: &str) -> Option<usize>
     ensures { result ≡ find (has_id (plan_of run.now.admitted.body) id.now) (needs_at (needs_in run.now) j) }
 {
-    place_of_id(run.prepared().plan().as_slice(), needs(run, j), id).copied()
+    index_of_id(run.prepared().plan().as_slice(), needs(run, j), id).copied()
 }
 
 /// The result so far of the job with this id, if job `j` needs it directly. Takes no memory.
@@ -67,7 +67,7 @@ pub fn result_of_need(run: &Run, j: usize, id: &str) -> Option<JobResult>
     ensures { result ≡ option_and_then (λ o. o) (under id.now (direct_needs run.now j)) }
 {
     let plan = run.prepared().plan().as_slice();
-    match place_of_id(plan, needs(run, j), id) {
+    match index_of_id(plan, needs(run, j), id) {
         Some(place) => result_at(run.jobs(), *place),
         None => None,
     }

@@ -17,7 +17,7 @@ pub enum Holder {
 pub enum HolderFilter {
     /// The pending ones, except the holder whose group it is.
     OthersPending,
-    Running,
+    InProgress,
 }
 
 impl Holder {

@@ -5,7 +5,7 @@ ghost use Rattle.run_states.specs.ActiveRuns.{has_active_leg, has_ready_leg, has
 ghost use Rattle.run_states.specs.Cells.{in_state};
 ghost use Rattle.run_states.specs.FirstOf.{changed_at};
 ghost use Rattle.run_states.specs.HoldingLegs.{has_begun, has_holding_leg, has_legs};
-ghost use Rattle.run_states.specs.LegCounts.{AreCounted, has_moving_leg};
+ghost use Rattle.run_states.specs.LegCounts.{AreCounted, has_unready_leg};
 ghost use Rattle.run_states.specs.NewRun.{blocked_job};
 ghost use Rattle.run_states.specs.Parallel.{legs_at_work};
 ghost use Rattle.run_states.specs.Rules.{leg_has_ended, is_done, is_settled, opened, settled_as};
@@ -128,10 +128,10 @@ impl Job {
     }
 
     /// Whether one of its legs is new or waits. No rule applies to any other leg.
-    pub fn has_moving_leg(&self) -> bool
-        ensures { result ≡ has_moving_leg self.now.state }
+    pub fn has_unready_leg(&self) -> bool
+        ensures { result ≡ has_unready_leg self.now.state }
     {
-        self.counts().has_moving()
+        self.counts().has_unready()
     }
 
     pub(crate) fn has_legs(&self) -> bool

@@ -68,7 +68,7 @@ impl LegCounts {
     }
 
     /// Whether some leg is new or waits. No rule applies to any other leg.
-    pub(crate) fn has_moving(self) -> bool
+    pub(crate) fn has_unready(self) -> bool
         ensures { result ≡ (nat_lt 0 self.newcomers || nat_lt 0 self.waiting) }
     {
         self.newcomers > 0 || self.waiting > 0

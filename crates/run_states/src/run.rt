@@ -6,15 +6,16 @@ ghost use Rattle.run_states.specs.ActiveRuns.{has_active_leg, has_ready_leg, has
 ghost use Rattle.run_states.specs.Cells.{blocked_cells, legs_planned, rooms, states};
 ghost use Rattle.run_states.specs.Changes.{changed};
 ghost use Rattle.run_states.specs.FirstOf.{changed_at};
-ghost use Rattle.run_states.specs.HoldingLegs.{has_legs_at, has_legs_behind, holds_by_a_leg, holds_by_a_leg_of, job_asks};
+ghost use Rattle.run_states.specs.HoldingLegs.{has_legs_at, has_legs_downstream, holds_by_a_leg, holds_by_a_leg_of, job_requests_group};
 ghost use Rattle.run_states.specs.JobResults.{results_so_far};
 ghost use Rattle.run_states.specs.Resuming.{job_again};
 ghost use Rattle.run_states.specs.NewRun.{again, is_delivered_as, new_run, run_in_attempt};
 ghost use Rattle.run_states.specs.Rules.{opened, settled_as, run_in_phase};
 ghost use Rattle.run_states.specs.Settling.{legs_in_plan};
-ghost use Rattle.run_states.specs.Stops.{cancelled, is_open_at, stopped_run, told_to_stop, with_job_stopped};
+ghost use Rattle.run_states.specs.Stops.{cancelled, is_open_at, stopped_run, with_stop_requested, with_job_stopped};
 ghost use Rattle.run_states.specs.Stops.{with_jobs_stopped, with_stopped_legs};
 ghost use Rattle.run_states.specs.WithinRun.{condition_in, may_run_in, needs_settled_in};
+ghost use Rattle.run_states.specs.declared.limits.TheConstants.{LAST_ATTEMPT};
 
 mod needs;
 mod of;
@@ -63,7 +64,7 @@ impl Run {
 
     /// The next attempt of the run: waiting, with all its jobs blocked.
     pub fn again(&self, alloc: Global) -> Result<Self, Refusal>
-        requires { self.now.attempt < 1000 }
+        requires { self.now.attempt < LAST_ATTEMPT }
         ensures { Gives (λ r. r) result (Ok (again self.now)) }
     {
         let next = Number::new(self.attempt.get() + 1);
@@ -227,14 +228,14 @@ impl Run {
         ensures { result ≡ holds_by_a_leg_of self.now j }
     {
         match self.job(j) {
-            Some(job) => self.job_asks(j) && job.has_holding_leg(),
+            Some(job) => self.job_requests_group(j) && job.has_holding_leg(),
             None => false,
         }
     }
 
     /// Whether job `j` asks for a group.
-    fn job_asks(&self, j: usize) -> bool
-        ensures { result ≡ job_asks self.now j }
+    fn job_requests_group(&self, j: usize) -> bool
+        ensures { result ≡ job_requests_group self.now j }
     {
         match self.planned(j) {
             Some(planned) => planned.concurrency.is_some(),
@@ -243,8 +244,8 @@ impl Run {
     }
 
     /// Whether a job that needs job `j` directly has legs, or the plan has no job `j`.
-    pub fn has_legs_behind(&self, j: usize) -> bool
-        ensures { result ≡ has_legs_behind j self.now }
+    pub fn has_legs_downstream(&self, j: usize) -> bool
+        ensures { result ≡ has_legs_downstream j self.now }
     {
         let graph = self.prepared.plan().graph();
         j >= graph.job_count() || self.have_legs(graph.dependents(j))
@@ -331,7 +332,7 @@ impl Run {
             RunPhase::Waiting => self.cancel(),
             RunPhase::Live => {
                 if !self.is_stopping() {
-                    self.tell_to_stop();
+                    self.request_stop();
                 }
             }
             RunPhase::Ended => {}
@@ -355,8 +356,8 @@ impl Run {
         }
     }
 
-    fn tell_to_stop(&mut self)
-        ensures { self.new ≡ told_to_stop self.old }
+    fn request_stop(&mut self)
+        ensures { self.new ≡ with_stop_requested self.old }
     {
         self.set_stopping();
         self.stop_jobs();

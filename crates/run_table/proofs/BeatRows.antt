@@ -1,7 +1,7 @@
 -- Examples, by computation: the printed reply to a runner's heartbeat.
 use Rattle.std.specs.Prelude.{◌≡◌, [], ◌∷◌, Some, false, codes, refl}
 use Rattle.run_plan.specs.ReplyText.{reply_text}
-use Rattle.run_plan.specs.declared.command.Beat.{Beat as Asked}
+use Rattle.run_plan.specs.declared.command.Beat.{Beat as Requested}
 use Rattle.run_plan.specs.declared.command.Claim.{Claim as Claimed}
 use Rattle.run_plan.specs.declared.command.Command.TheVariants as command
 use Rattle.run_plan.specs.declared.last_command.ClaimReply.TheVariants as given
@@ -30,7 +30,7 @@ table_with phase = record {
   runners = claiming_runner claim_of_one (Some 1) given.Nothing ∷ [];
 }
 
-abbrev beat_of_one : Asked
+abbrev beat_of_one : Requested
 beat_of_one = record { runner = codes "r1"; lease = 1 }
 
 running_leg_goes_on : reply_text (stepped (table_with leg.Running) (command.Beat beat_of_one)).reply ≡ codes "go on"

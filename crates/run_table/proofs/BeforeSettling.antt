@@ -19,7 +19,7 @@ use Rattle.run_states.specs.StopMoves.{with_ended}
 use Rattle.run_states.specs.Stops.{outcome_of_loss, stopped_run}
 use Rattle.run_table.specs.TableState.{RunnerState, TableState}
 use Rattle.run_states.specs.RunState.{RunState}
-use Rattle.run_table.specs.Turns.{runner_named}
+use Rattle.run_table.specs.SequenceNumbers.{runner_named}
 use Rattle.run_states.specs.declared.phases.LegPhase.{LegPhase}
 use Rattle.run_table.proofs.AdmitKeeps.{all_fit}
 use Rattle.run_table.proofs.BeginsAgain.{BeginsAgain, begins_again}
@@ -28,11 +28,11 @@ use Rattle.run_table.proofs.CommandsOneEach.{ended_one_each, leased_one_each, st
 use Rattle.run_table.proofs.Entered.{beside_new_run, entered_one_each, entered_settles, new_run_waits}
 use Rattle.run_table.proofs.EnteredAgain.{again_fits, again_waits, beside_again, entered_again_one_each, entered_again_settles}
 use Rattle.run_states.proofs.JobKeeps.{leg_in, leg_stays}
-use Rattle.workflow_runs.proofs.HoldersKeep.{run_stop_settles}
+use Rattle.settling_laws.proofs.HoldersKeep.{run_stop_settles}
 use Rattle.run_table.proofs.Kept.{kept_from_sound}
 use Rattle.run_table.proofs.ReportKeeps.{loss_stays, report_stays}
 use Rattle.run_states.proofs.RunFits.{RunsFit}
-use Rattle.workflow_runs.proofs.SoundRuns.{sound_runs}
+use Rattle.settling_laws.proofs.SoundRuns.{sound_runs}
 use Rattle.run_states.specs.declared.holder.Holder.{Holder}
 use Rattle.run_states.specs.declared.holder.Holder.TheVariants.{Run}
 
@@ -119,43 +119,43 @@ again_may_settle t r attempt s begins = record {
 }
 
 -- the run with an id, at its index
-pub may_begin : (t : TableState) (asked : Attempt) (runs : List RunState) (place : ℕ) → rerun_answer t asked ≡ None → runs ≡ t.runs
-    → place ≡ asked.run - 1 → IfSome (run_at runs place) (λ x. x.attempt < 1000)
-may_begin t asked runs place due runs_are place_is =
-    let begins = begins_again t asked due in
+pub may_begin : (t : TableState) (requested : Attempt) (runs : List RunState) (place : ℕ) → rerun_answer t requested ≡ None → runs ≡ t.runs
+    → place ≡ requested.run - 1 → IfSome (run_at runs place) (λ x. x.attempt < 1000)
+may_begin t requested runs place due runs_are place_is =
+    let begins = begins_again t requested due in
     subst (λ (o : Option RunState). IfSome o (λ x. x.attempt < 1000))
-    (sym (ap (run_at runs) place_is ∙ ap (λ (rs : List RunState). run_at rs (asked.run - 1)) runs_are ∙ begins.there)) begins.below
+    (sym (ap (run_at runs) place_is ∙ ap (λ (rs : List RunState). run_at rs (requested.run - 1)) runs_are ∙ begins.there)) begins.below
 
 -- runs among which it has begun again
-pub record Begun (t : TableState) (asked : Attempt) (begun : List RunState) (place : ℕ) : Type 0 where
+pub record Begun (t : TableState) (requested : Attempt) (begun : List RunState) (place : ℕ) : Type 0 where
   pub sound : IsSound t
-  pub due : rerun_answer t asked ≡ None
-  pub begun_is : begun ≡ with_run (asked.run - 1) again t.runs
-  pub at_place : place ≡ asked.run - 1
+  pub due : rerun_answer t requested ≡ None
+  pub begun_is : begun ≡ with_run (requested.run - 1) again t.runs
+  pub at_place : place ≡ requested.run - 1
 
-pub has_begun : (t : TableState) (asked : Attempt) (runs begun : List RunState) (place : ℕ) → IsSound t → rerun_answer t asked ≡ None
-    → runs ≡ t.runs → begun ≡ with_run place again runs → place ≡ asked.run - 1 → Begun t asked begun place
-has_begun t asked runs begun place s due runs_are begun_is place_is = record {
+pub has_begun : (t : TableState) (requested : Attempt) (runs begun : List RunState) (place : ℕ) → IsSound t → rerun_answer t requested ≡ None
+    → runs ≡ t.runs → begun ≡ with_run place again runs → place ≡ requested.run - 1 → Begun t requested begun place
+has_begun t requested runs begun place s due runs_are begun_is place_is = record {
   sound = s;
   due = due;
-  begun_is = begun_is ∙ ap (λ n. with_run n again runs) place_is ∙ ap (with_run (asked.run - 1) again) runs_are;
+  begun_is = begun_is ∙ ap (λ n. with_run n again runs) place_is ∙ ap (with_run (requested.run - 1) again) runs_are;
   at_place = place_is;
 }
 
-pub begun_arrives : {t : TableState} {asked : Attempt} {begun : List RunState} {place : ℕ} → Begun t asked begun place
+pub begun_arrives : {t : TableState} {requested : Attempt} {begun : List RunState} {place : ℕ} → Begun t requested begun place
     → MayArrive begun (Run place)
-begun_arrives {t} {asked} {begun} {place} b =
+begun_arrives {t} {requested} {begun} {place} b =
     subst (λ (xs : List RunState). MayArrive xs (Run place)) (sym b.begun_is)
-    (subst (λ (n : ℕ). MayArrive (with_run (asked.run - 1) again t.runs) (Run n)) (sym b.at_place)
-    (again_arrives t (asked.run - 1) asked.attempt b.sound (begins_again t asked b.due)))
+    (subst (λ (n : ℕ). MayArrive (with_run (requested.run - 1) again t.runs) (Run n)) (sym b.at_place)
+    (again_arrives t (requested.run - 1) requested.attempt b.sound (begins_again t requested b.due)))
 
-pub begun_settles : {t : TableState} {asked : Attempt} {begun : List RunState} {place : ℕ} → Begun t asked begun place
+pub begun_settles : {t : TableState} {requested : Attempt} {begun : List RunState} {place : ℕ} → Begun t requested begun place
     → (new : List RunState) → new ≡ (arrived (Run place) begun).runs → MaySettle new
-begun_settles {t} {asked} {begun} {place} b new new_is =
-    let is : new ≡ (entered_again t (asked.run - 1)).runs =
+begun_settles {t} {requested} {begun} {place} b new new_is =
+    let is : new ≡ (entered_again t (requested.run - 1)).runs =
     new_is ∙ ap (λ n. (arrived (Run n) begun).runs) b.at_place
-    ∙ ap (λ xs. (arrived (Run (asked.run - 1)) xs).runs) b.begun_is in
-    subst MaySettle (sym is) (again_may_settle t (asked.run - 1) asked.attempt b.sound (begins_again t asked b.due))
+    ∙ ap (λ xs. (arrived (Run (requested.run - 1)) xs).runs) b.begun_is in
+    subst MaySettle (sym is) (again_may_settle t (requested.run - 1) requested.attempt b.sound (begins_again t requested b.due))
 
 -- ---- a leg is leased
 

@@ -17,13 +17,14 @@ use Rattle.run_states.specs.RunState.{LegState, JobState, RunState}
 use Rattle.run_states.specs.SoundRuns.{LegsFit, PhaseFits}
 use Rattle.run_states.specs.StateWords.{is_settled, leg_has_ended, outcome_of}
 use Rattle.run_states.specs.Words.{planned_legs}
+use Rattle.run_states.specs.declared.limits.TheConstants.{LAST_ATTEMPT}
 use Rattle.run_states.specs.declared.phases.JobPhase.{JobPhase}
 use Rattle.run_states.specs.declared.phases.JobPhase.TheVariants as job
 use Rattle.run_states.specs.declared.phases.LegPhase.{LegPhase}
 use Rattle.run_states.specs.declared.phases.LegPhase.TheVariants as leg
 use Rattle.run_states.specs.declared.phases.RunPhase.{RunPhase}
 use Rattle.run_states.specs.declared.phases.RunPhase.TheVariants as run
-use Rattle.run_table.specs.Step.{answer_of_attempt, answer_of_next, has_completed, last_attempt, refused, rerun_answer}
+use Rattle.run_table.specs.Step.{answer_of_attempt, answer_of_next, has_completed, refused, rerun_answer}
 use Rattle.run_table.specs.TableState.{TableState}
 use Rattle.run_states.proofs.JobKeeps.{no_leg}
 use Rattle.run_states.proofs.LegReads.{work_of, works_in, works_in_job}
@@ -38,7 +39,7 @@ pub record BeginsAgain (runs : List RunState) (r attempt : ℕ) : Type 0 where
   pub there : run_at runs r ≡ Some was
   pub ended : was.phase ≡ run.Ended
   pub next : attempt ≡ was.attempt + 1
-  pub below : was.attempt < last_attempt
+  pub below : was.attempt < LAST_ATTEMPT
 
 if_refused : {Y : Type 0} (b : Bool) (y : Y) (o : Option Y) → (if b then Some y else o) ≡ None → (b ≡ false) × (o ≡ None)
 if_refused true y o e = cc
@@ -53,26 +54,26 @@ completed run.Waiting e = cc
 completed run.Live e = cc
 completed run.Ended e = refl
 
-begins : (x : RunState) (asked : Attempt) → answer_of_attempt x asked ≡ None
-    → (x.phase ≡ run.Ended) × (asked.attempt ≡ x.attempt + 1) × (x.attempt < last_attempt)
-begins x asked none =
-    let another = if_refused (nat_eq asked.attempt x.attempt) (reply.Again asked)
-    (if nat_eq asked.attempt (x.attempt + 1) then answer_of_next x else Some (reply.Refused (Turn x.attempt))) none in
-    let next = if_passed (nat_eq asked.attempt (x.attempt + 1)) (answer_of_next x) (reply.Refused (Turn x.attempt)) another.1 in
-    let left = if_refused (nat_le last_attempt x.attempt) (refused LastCounter)
+begins : (x : RunState) (requested : Attempt) → answer_of_attempt x requested ≡ None
+    → (x.phase ≡ run.Ended) × (requested.attempt ≡ x.attempt + 1) × (x.attempt < LAST_ATTEMPT)
+begins x requested none =
+    let another = if_refused (nat_eq requested.attempt x.attempt) (reply.Again requested)
+    (if nat_eq requested.attempt (x.attempt + 1) then answer_of_next x else Some (reply.Refused (Turn x.attempt))) none in
+    let next = if_passed (nat_eq requested.attempt (x.attempt + 1)) (answer_of_next x) (reply.Refused (Turn x.attempt)) another.1 in
+    let left = if_refused (nat_le LAST_ATTEMPT x.attempt) (refused LastCounter)
     (if has_completed x.phase then None else Some (refused RunNotCompleted)) next.1 in
     let over = if_passed (has_completed x.phase) None (refused RunNotCompleted) left.1 in
-    (completed x.phase over.0, eqb-true asked.attempt (x.attempt + 1) next.0, leb-false last_attempt x.attempt left.0)
+    (completed x.phase over.0, eqb-true requested.attempt (x.attempt + 1) next.0, leb-false LAST_ATTEMPT x.attempt left.0)
 
-begins_at : (runs : List RunState) (r : ℕ) (asked : Attempt) (o : Option RunState) → run_at runs r ≡ o
-    → option_map_or (λ x. answer_of_attempt x asked) o (Some (refused NoRun)) ≡ None → BeginsAgain runs r asked.attempt
-begins_at runs r asked None is none = cc
-begins_at runs r asked (Some x) is none =
-    let found = begins x asked none in
+begins_at : (runs : List RunState) (r : ℕ) (requested : Attempt) (o : Option RunState) → run_at runs r ≡ o
+    → option_map_or (λ x. answer_of_attempt x requested) o (Some (refused NoRun)) ≡ None → BeginsAgain runs r requested.attempt
+begins_at runs r requested None is none = cc
+begins_at runs r requested (Some x) is none =
+    let found = begins x requested none in
     record { was = x; there = is; ended = found.0; next = found.1; below = found.2 }
 
-pub begins_again : (t : TableState) (asked : Attempt) → rerun_answer t asked ≡ None → BeginsAgain t.runs (asked.run - 1) asked.attempt
-begins_again t asked none = begins_at t.runs (asked.run - 1) asked (run_at t.runs (asked.run - 1)) refl none
+pub begins_again : (t : TableState) (requested : Attempt) → rerun_answer t requested ≡ None → BeginsAgain t.runs (requested.run - 1) requested.attempt
+begins_again t requested none = begins_at t.runs (requested.run - 1) requested (run_at t.runs (requested.run - 1)) refl none
 
 -- ---- the legs of a run that has ended
 

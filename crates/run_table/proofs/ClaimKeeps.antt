@@ -24,19 +24,20 @@ use Rattle.run_states.specs.Words.{planned_legs}
 use Rattle.run_states.specs.declared.phases.JobPhase.{JobPhase}
 use Rattle.run_states.specs.declared.phases.JobPhase.TheVariants as job
 use Rattle.run_states.proofs.Optional.{from_and_then, from_map}
-use Rattle.run_table.specs.Step.{last_number, refused, has_no_lease_left, claim_answer, claiming_runner, kept_lease_at}
+use Rattle.run_table.specs.Step.{refused, has_no_lease_left, claim_answer, claiming_runner, kept_lease_at}
 use Rattle.run_states.specs.NewRun.{leased_leg}
 use Rattle.run_table.specs.TableState.{RunnerState, TableState}
 use Rattle.run_states.specs.RunState.{LegState, JobState, RunState}
-use Rattle.run_table.specs.Turns.{runner_named, answer_of_turn, with_runner, holds_lease}
+use Rattle.run_table.specs.SequenceNumbers.{runner_named, answer_by_number, with_runner, holds_lease}
 use Rattle.run_plan.specs.declared.last_command.ClaimReply.TheVariants as given
+use Rattle.run_plan.specs.declared.number.TheConstants.{LAST_NUMBER}
 use Rattle.run_states.specs.declared.phases.LegPhase.{LegPhase}
 use Rattle.run_states.specs.declared.phases.LegPhase.TheVariants as leg
 use Rattle.run_states.proofs.Found.{find_passes}
 use Rattle.run_table.proofs.AtWork.{at_work, one_at_work, at_most_one, fewer_in_job, most_same}
 use Rattle.run_states.proofs.JobKeeps.{leg_in, leg_stays, leg_now, leg_elsewhere, job_is_now, with_leg_of}
-use Rattle.workflow_runs.proofs.Lowered.{sum_of_changed}
-use Rattle.run_table.proofs.Kept.{IsKept, KeptIsHad, WasHad, attempts_still_given, kept_still_had, stay_still_had, told_the_same, deliveries_still_differ}
+use Rattle.settling_laws.proofs.Lowered.{sum_of_changed}
+use Rattle.run_table.proofs.Kept.{IsKept, KeptIsHad, WasHad, attempts_still_given, kept_still_had, stay_still_had, lease_reply_same, deliveries_still_differ}
 use Rattle.run_states.proofs.LeaseReads.{ChangesAt, names_same, place_or_another, lease_given, leases_same}
 use Rattle.run_states.proofs.LegReads.{work_of, had_at, works_at, had_is, works_is, had_from_leg, works_from_leg}
 use Rattle.run_states.proofs.RunFits.{RunsFit, admitted_at, plan_at_same, planned_legs_same, jobs_fit, leases_fit}
@@ -179,7 +180,7 @@ pub serving_keeps : (t : TableState) (claim : Claimed) → IsKept t → claim_an
 serving_keeps t claim s none =
     let new = claiming_runner claim None given.Nothing in
     let runner = runner_named t.runners claim.runner in
-    let looked = or_nothing (answer_of_turn runner claim.number (is_last_claim claim))
+    let looked = or_nothing (answer_by_number runner claim.number (is_last_claim claim))
     (if holds_lease runner then Some (refused HasLease) else
     (if has_no_lease_left t claim then Some (refused LastCounter) else None)) none in
     let free = holds_none runner
@@ -255,12 +256,12 @@ leasing_keeps t claim p s none fit =
     let new = claiming_runner claim (Some lease) (given.Lease (kept_lease_at t.runs p lease)) in
     let next = with_leg p (λ _. leased_leg lease) t.runs in
     let runner = runner_named t.runners claim.runner in
-    let looked = or_nothing (answer_of_turn runner claim.number (is_last_claim claim))
+    let looked = or_nothing (answer_by_number runner claim.number (is_last_claim claim))
     (if holds_lease runner then Some (refused HasLease) else
     (if has_no_lease_left t claim then Some (refused LastCounter) else None)) none in
     let tests = looked_first (holds_lease runner) (has_no_lease_left t claim) (refused HasLease) (refused LastCounter) looked.1 in
-    let left = leb-false last_number t.last_lease
-    (no_lease_left (first_fit claim.labels t.runs) p (nat_le last_number t.last_lease) fit tests.1) in
+    let left = leb-false LAST_NUMBER t.last_lease
+    (no_lease_left (first_fit claim.labels t.runs) p (nat_le LAST_NUMBER t.last_lease) fit tests.1) in
     let ready = fitting_leg claim.labels t.runs p fit in
     let z = ready.leg_of in
     let unended : leg_has_ended z ≡ false = ap (λ (phase : LegPhase). leg_has_ended (record z { phase = phase })) ready.ready in
@@ -275,14 +276,14 @@ leasing_keeps t claim p s none fit =
     let from = from_map attempt (run_at next p.run) its.run.attempt (stay.same_attempt p.run ∙ ap (option_map attempt) its.run_is) in
     let kept_at : (kept_lease_at t.runs p lease).attempt ≡ its.run.attempt = ap (λ o. option_map_or attempt o 0) its.run_is in
     let first : 1 ≤ its.run.attempt = (s.attempts_are_given p.run its.run its.run_is).0 in
-    let told_of : WasHad lease next (kept_lease_at t.runs p lease) = record {
+    let leg_facts_of : WasHad lease next (kept_lease_at t.runs p lease) = record {
       place = p;
       run = from.value;
       run_is = from.is;
       job_is = refl;
       planned = subst (λ (n : ℕ). p.leg < n) (sym (planned_legs_same t.runs next p.run p.job (stay.same_admitted p.run)))
           (leg_is_planned t.runs s.fit p z ready.is);
-      tells = told_the_same t.runs next p lease (plan_at_same t.runs next p.run p.job (stay.same_admitted p.run));
+      tells = lease_reply_same t.runs next p lease (plan_at_same t.runs next p.run p.job (stay.same_admitted p.run));
       given = (omega arith, omega arith);
       attempt = (omega (arith, kept_at, first), omega (arith, kept_at, from.gives));
       had = (λ e. had.here);
@@ -301,7 +302,7 @@ leasing_keeps t claim p s none fit =
       runners_in_order = names_still_rise t.runners new s.runners_in_order;
       lasts_are_own = each_put t.runners new (λ x. IsLastOf x.name x.number x.last) (refl, refl) s.lasts_are_own;
       kept_are_had =
-          each_put t.runners new (λ x. KeptIsHad lease next x.last) told_of
+          each_put t.runners new (λ x. KeptIsHad lease next x.last) leg_facts_of
           (λ k x e. kept_still_had t.last_lease lease t.runs next (omega arith)
           (stay_still_had t.runs next stay.same_admitted stay.same_attempt still) x.last (s.kept_are_had k x e));
     }

@@ -1,4 +1,4 @@
--- A command's change of legs and runs preserves that a group has at most one pending and at most one running holder.
+-- A command's change of legs and runs preserves that a group has at most one holder pending and at most one in progress.
 use Rattle.std.specs.Prelude.{◌≡◌, ℕ, List, true, false, Some, None, if◌then◌else◌, refl}
 use Rattle.std.specs.Option.{option_map_or}
 use Rattle.std.proofs.Common.{ap, inl, inr, ◌∙◌}
@@ -19,10 +19,10 @@ use Rattle.run_table.proofs.ClaimKeeps.{fitting_leg}
 use Rattle.run_states.proofs.JobKeeps.{leg_in, leg_stays}
 use Rattle.run_states.proofs.RunFits.{RunsFit}
 use Rattle.run_states.proofs.Settles.{StayFit}
-use Rattle.workflow_runs.proofs.HoldersFade.{leg_fades, leg_passes, legs_stop_fades, passes, run_stop_fades, waits_before_leg}
-use Rattle.workflow_runs.proofs.HoldersKeep.{run_stop_settles}
-use Rattle.workflow_runs.proofs.OneEach.{Fades, fades_not, fades_on, fading_keeps, groups_stay}
-use Rattle.workflow_runs.proofs.OneEachRules.{set_holds}
+use Rattle.settling_laws.proofs.HoldersFade.{leg_fades, leg_passes, legs_stop_fades, passes, run_stop_fades, waits_before_leg}
+use Rattle.settling_laws.proofs.HoldersKeep.{run_stop_settles}
+use Rattle.settling_laws.proofs.OneEach.{Fades, fades_not, fades_on, fading_keeps, groups_stay}
+use Rattle.settling_laws.proofs.OneEachRules.{set_holds}
 use Rattle.run_states.specs.declared.holder.Holder.TheVariants.{Leg}
 
 -- ---- a leg is leased: it held its group already

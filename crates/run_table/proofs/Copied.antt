@@ -17,7 +17,7 @@ use Rattle.run_table.specs.TableState.{Step, TableState}
 use Rattle.run_table.specs.Step.{admission_answer, admitting, beat_answer, cancel_answer, cancelling, claim_answer, claiming, fetch_answer}
 use Rattle.run_table.specs.Step.{read_only_reply as answer_of, is_allocation_free, look_answer, losing, lost, refused, released, report_answer, reporting}
 use Rattle.run_table.specs.Step.{rerun_answer, rerunning, step, stepped, unchanged}
-use Rattle.run_table.specs.Turns.{runner_named}
+use Rattle.run_table.specs.SequenceNumbers.{runner_named}
 
 abbrev Stays : TableState → Step → Type 0
 Stays t s = carries_text s.reply ≡ true → s.table ≡ t
@@ -49,7 +49,7 @@ text_stays t (command.Cancel id) other = read_only_reply t (cancel_answer t id) 
 text_stays t (command.Lost name) other = lost_stays t name
 text_stays t (command.Fetch id) other = λ text. refl
 text_stays t (command.Look id) other = λ text. refl
-text_stays t (command.Rerun asked) other = read_only_reply t (rerun_answer t asked) (rerunning t asked) refl
+text_stays t (command.Rerun requested) other = read_only_reply t (rerun_answer t requested) (rerunning t requested) refl
 
 -- If the reply cannot be copied, it holds a text.
 pub copy_refused : {T : Type 0} (t next : TableState) (reply : Reply) (c : Command) (r : Result T Refusal) → is_claim c ≡ false
@@ -74,7 +74,7 @@ no_claim (command.Cancel id) other = refl
 no_claim (command.Lost name) other = refl
 no_claim (command.Fetch id) other = refl
 no_claim (command.Look id) other = refl
-no_claim (command.Rerun asked) other = refl
+no_claim (command.Rerun requested) other = refl
 
 -- ---- replies without a text
 
@@ -108,7 +108,7 @@ free_plain t (command.Cancel id) free = plain_answer t (cancel_answer t id) (can
 free_plain t (command.Lost name) free = lost_plain t name
 free_plain t (command.Fetch id) free = not-true (carries_text (fetch_answer t id)) free
 free_plain t (command.Look id) free = not-true (carries_text (look_answer t id)) free
-free_plain t (command.Rerun asked) free = plain_answer t (rerun_answer t asked) (rerunning t asked) free
+free_plain t (command.Rerun requested) free = plain_answer t (rerun_answer t requested) (rerunning t requested) free
 
 -- Such a reply can be copied.
 pub copied_free : {T : Type 0} (t next : TableState) (reply : Reply) (c : Command) (r : Result T Refusal)

@@ -21,20 +21,20 @@ use Rattle.run_states.specs.declared.phases.LegPhase.{LegPhase}
 use Rattle.run_table.proofs.AdmitKeeps.{admit_keeps, all_fit}
 use Rattle.run_states.proofs.Found.{at_the_end, before_the_end}
 use Rattle.run_states.proofs.JobKeeps.{leg_in}
-use Rattle.workflow_runs.proofs.ArrivalKeeps.{arrival_one_each}
-use Rattle.workflow_runs.proofs.GroupStays.{leg_group_same, leg_needs_settled, run_group_stays}
-use Rattle.workflow_runs.proofs.HoldersFade.{by_run, job_passes, leg_passes, passes, run_passes}
-use Rattle.workflow_runs.proofs.HoldersKeep.{arrival_settles}
+use Rattle.settling_laws.proofs.ArrivalKeeps.{arrival_one_each}
+use Rattle.settling_laws.proofs.GroupStays.{leg_group_same, leg_needs_settled, run_group_stays}
+use Rattle.settling_laws.proofs.HoldersFade.{by_run, job_passes, leg_passes, passes, run_passes}
+use Rattle.settling_laws.proofs.HoldersKeep.{arrival_settles}
 use Rattle.run_table.proofs.Kept.{IsKept, kept_settles}
 use Rattle.run_states.proofs.LegFacts.{SameUpTo, facts_stay}
 use Rattle.run_states.proofs.NeedsSettled.{result_in}
 use Rattle.run_states.proofs.RunFits.{RunsFit}
 use Rattle.run_states.proofs.Settles.{Settles, same_events}
-use Rattle.workflow_runs.proofs.OneEach.{Comes, GroupsStay, newcomer_besides}
+use Rattle.settling_laws.proofs.OneEach.{Comes, GroupsStay, newcomer_besides}
 use Rattle.run_states.specs.declared.holder.Holder.{Holder}
 use Rattle.run_states.specs.declared.holder.Holder.TheVariants.{Run, Leg}
 
--- ---- waiting and running holders
+-- ---- holders that wait and holders in progress
 
 no_leg_of_blocked : (test : LegPhase → Bool) (l : ℕ) (o : Option PlannedJob)
     → passes (job_passes test l) (option_map (λ _. blocked_job) o) ≡ false
@@ -51,14 +51,14 @@ module _ (runs : List RunState) (event : Admitted) where
       → passes (leg_passes test) (leg_at (runs ++ new_run event ∷ []) p) ≡ true → passes (leg_passes test) (leg_at runs p) ≡ true
   leg_before_it test p e =
       let next = runs ++ new_run event ∷ [] in
-      let asked = run_passes test p.job p.leg in
+      let requested = run_passes test p.job p.leg in
       let of_run = sym (by_run test next p) ∙ e in
       elim (cases_eq p.run (length runs)) [
         | inl same ↦
-            let none = ap (passes asked) (ap (slice_get next) same ∙ at_the_end runs (new_run event))
+            let none = ap (passes requested) (ap (slice_get next) same ∙ at_the_end runs (new_run event))
             ∙ no_leg_of_new_run test p.job p.leg event in
             absurd (false≢true (sym none ∙ of_run))
-        | inr other ↦ by_run test runs p ∙ ap (passes asked) (sym (before_the_end runs (new_run event) p.run other)) ∙ of_run
+        | inr other ↦ by_run test runs p ∙ ap (passes requested) (sym (before_the_end runs (new_run event) p.run other)) ∙ of_run
       ]
 
   pub waited : (h : Holder) → waits (runs ++ new_run event ∷ []) h ≡ true → (h ≡ Run (length runs)) ⊎ (waits runs h ≡ true)

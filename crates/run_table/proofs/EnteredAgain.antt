@@ -9,7 +9,7 @@ use Rattle.std.proofs.lemmas.Option.{none-some, same_Some}
 use Rattle.group_name.specs.Group.{Group, same_group}
 use Rattle.run_plan.specs.PlanOf.{plan_of}
 use Rattle.run_states.specs.GroupOf.{group_at}
-use Rattle.run_states.specs.Groups.{HasOneBeside, HasOneEach, holds, is_in, is_pending_in, is_running_in, leg_holds, leg_waits, run_waits}
+use Rattle.run_states.specs.Groups.{HasOneBeside, HasOneEach, holds, is_in, is_pending_in, is_in_progress_in, leg_holds, leg_waits, run_waits}
 use Rattle.run_states.specs.Groups.{waits}
 use Rattle.run_states.specs.Holders.{run_of}
 use Rattle.run_states.specs.NewRun.{again}
@@ -20,7 +20,7 @@ use Rattle.run_states.specs.RunState.{LegState, JobState, RunState}
 use Rattle.run_states.specs.StateWords.{is_live}
 use Rattle.run_states.specs.declared.phases.LegPhase.{LegPhase}
 use Rattle.run_table.specs.Sound.{AttemptsAreGiven}
-use Rattle.run_table.specs.Step.{entered_again, last_attempt}
+use Rattle.run_table.specs.Step.{entered_again}
 use Rattle.run_table.specs.TableState.{TableState}
 use Rattle.run_states.proofs.Changed.{at_another, at_changed, length-changed_at}
 use Rattle.run_states.proofs.LeaseReads.{LeasesAgree}
@@ -30,11 +30,11 @@ use Rattle.run_states.proofs.NeedsSettled.{KeepsResults, result_in}
 use Rattle.run_states.proofs.Optional.{from_map}
 use Rattle.run_states.proofs.RunFits.{RunFits, RunsFit, admitted_at}
 use Rattle.run_states.proofs.Settles.{Settles, fits_beside, same_events}
-use Rattle.workflow_runs.proofs.ArrivalKeeps.{arrival_one_each}
-use Rattle.workflow_runs.proofs.GroupStays.{leg_group_same, leg_needs_settled, run_group_stays}
-use Rattle.workflow_runs.proofs.HoldersFade.{by_run, leg_passes, passes, run_passes}
-use Rattle.workflow_runs.proofs.HoldersKeep.{arrival_settles}
-use Rattle.workflow_runs.proofs.OneEach.{IsOneOf, one_that_holds, one_that_waits}
+use Rattle.settling_laws.proofs.ArrivalKeeps.{arrival_one_each}
+use Rattle.settling_laws.proofs.GroupStays.{leg_group_same, leg_needs_settled, run_group_stays}
+use Rattle.settling_laws.proofs.HoldersFade.{by_run, leg_passes, passes, run_passes}
+use Rattle.settling_laws.proofs.HoldersKeep.{arrival_settles}
+use Rattle.settling_laws.proofs.OneEach.{IsOneOf, one_that_holds, one_that_waits}
 use Rattle.run_table.proofs.AdmitKeeps.{attempt_fits, no_lease}
 use Rattle.run_table.proofs.AtWork.{fewer_at_work}
 use Rattle.run_table.proofs.BeginsAgain.{BeginsAgain, no_work}
@@ -43,6 +43,7 @@ use Rattle.run_table.proofs.Kept.{IsKept, StillHad, deliveries_still_differ, kep
 use Rattle.run_table.proofs.RunnerPut.{holds_at}
 use Rattle.run_states.specs.declared.holder.Holder.{Holder}
 use Rattle.run_states.specs.declared.holder.Holder.TheVariants.{Run, Leg}
+use Rattle.run_states.specs.declared.limits.TheConstants.{LAST_ATTEMPT}
 
 -- ---- leases of legs that are gone
 
@@ -141,12 +142,12 @@ module _ (runs : List RunState) (r : ℕ) where
     ]);
   }
 
-  again_is_given : (x : RunState) → run_at runs r ≡ Some x → x.attempt < last_attempt → AttemptsAreGiven runs → AttemptsAreGiven next
+  again_is_given : (x : RunState) → run_at runs r ≡ Some x → x.attempt < LAST_ATTEMPT → AttemptsAreGiven runs → AttemptsAreGiven next
   again_is_given x at less given k y then_at =
       elim (cases_eq k r) [
         | inl same ↦
             let now : again x ≡ y = same_Some (again x) y (sym (here k x same (ap (run_at runs) same ∙ at)) ∙ then_at) in
-            subst (λ (v : RunState). (1 ≤ v.attempt) × (v.attempt ≤ last_attempt)) now (omega arith, omega (arith, less))
+            subst (λ (v : RunState). (1 ≤ v.attempt) × (v.attempt ≤ LAST_ATTEMPT)) now (omega arith, omega (arith, less))
         | inr other ↦ given k y (sym (elsewhere k other) ∙ then_at)
       ]
 
@@ -188,17 +189,17 @@ module _ (runs : List RunState) (r : ℕ) where
         leases_fewer last (had_at runs) (works_at runs) (had_at next) (works_at next) held had_before same_work
         (work_still_had agree.work_is_had) agree
 
-  -- ---- waiting and running holders
+  -- ---- holders that wait and holders in progress
 
   leg_beside : (test : LegPhase → Bool) (p : LegPlace) → passes (leg_passes test) (leg_at next p) ≡ true
       → (p.run ≡ r → ⊥) × (passes (leg_passes test) (leg_at runs p) ≡ true)
   leg_beside test p e =
-      let asked = run_passes test p.job p.leg in
+      let requested = run_passes test p.job p.leg in
       let of_run = sym (by_run test next p) ∙ e in
       elim (cases_eq p.run r) [
         | inl same ↦ absurd (false≢true
-            (sym (ap (passes asked) (at_it p.run same) ∙ no_leg_passes test p.job p.leg (run_at runs r)) ∙ of_run))
-        | inr other ↦ (other, by_run test runs p ∙ ap (passes asked) (sym (elsewhere p.run other)) ∙ of_run)
+            (sym (ap (passes requested) (at_it p.run same) ∙ no_leg_passes test p.job p.leg (run_at runs r)) ∙ of_run))
+        | inr other ↦ (other, by_run test runs p ∙ ap (passes requested) (sym (elsewhere p.run other)) ∙ of_run)
       ]
 
   pub again_waited : (h : Holder) → waits next h ≡ true → (h ≡ Run r) ⊎ ((run_of h ≡ r → ⊥) × (waits runs h ≡ true))
@@ -247,8 +248,8 @@ module _ (runs : List RunState) (r : ℕ) where
             (was_in fit g h (one_that_waits runs h before.1) before.0 parts.0) before.1
       ]
 
-  was_running : RunsFit runs → (g : Group) (h : Holder) → is_running_in next g h ≡ true → is_running_in runs g h ≡ true
-  was_running fit g h e =
+  was_in_progress : RunsFit runs → (g : Group) (h : Holder) → is_in_progress_in next g h ≡ true → is_in_progress_in runs g h ≡ true
+  was_in_progress fit g h e =
       let parts = and_parts (is_in next g h) (holds next h) e in
       let before = again_held h parts.1 in
       and_from (is_in runs g h) (holds runs h) (was_in fit g h (one_that_holds runs h before.1) before.0 parts.0) before.1
@@ -256,7 +257,7 @@ module _ (runs : List RunState) (r : ℕ) where
   pub beside_again : RunsFit runs → HasOneEach runs → HasOneBeside next (Run r)
   beside_again fit each = record {
     pending = (λ g h k not_h not_k e f. each.pending g h k (was_pending fit g h not_h e) (was_pending fit g k not_k f));
-    running = (λ g h k e f. each.running g h k (was_running fit g h e) (was_running fit g k f));
+    in_progress = (λ g h k e f. each.in_progress g h k (was_in_progress fit g h e) (was_in_progress fit g k f));
   }
 
 -- ---- in a table

@@ -22,13 +22,13 @@ use Rattle.run_table.proofs.BeforeSettling.{Enters}
 use Rattle.run_table.proofs.Entered.{groups_before}
 use Rattle.run_states.proofs.Found.{before_the_end}
 use Rattle.run_states.proofs.JobKeeps.{leg_in}
-use Rattle.workflow_runs.proofs.HoldersFade.{by_run, passes, run_passes}
+use Rattle.settling_laws.proofs.HoldersFade.{by_run, passes, run_passes}
 use Rattle.run_table.proofs.Kept.{kept_from_sound}
-use Rattle.workflow_runs.proofs.KeptBack.{StillHold, kept_back}
-use Rattle.workflow_runs.proofs.Resumed.{rest_before_all, runs_rest}
-use Rattle.workflow_runs.proofs.OneEach.{one_that_holds}
-use Rattle.run_table.proofs.NoAnswer.{asked_none, each_none}
-use Rattle.workflow_runs.proofs.Walks.{first_place_by_run}
+use Rattle.resuming_laws.proofs.KeptBack.{StillHold, kept_back}
+use Rattle.resuming_laws.proofs.Resumed.{rest_before_all, runs_rest}
+use Rattle.settling_laws.proofs.OneEach.{one_that_holds}
+use Rattle.run_table.proofs.NoAnswer.{requested_none, each_none}
+use Rattle.settling_laws.proofs.Walks.{first_place_by_run}
 use Rattle.run_states.specs.declared.holder.Holder.TheVariants.{Run, Leg}
 
 past : (n m : ℕ) → n < m → n ≡ m → ⊥
@@ -49,7 +49,7 @@ still_hold runs event (Leg p) g at held =
     ∙ sym (by_run leg_holds runs p) ∙ held
 
 rested : (runs : List RunState) → first_place runs ≡ None → (n : ℕ) → NoneBefore (first_in_run runs) runs n
-rested runs rests n k lt = asked_none (first_in_run runs) runs
+rested runs rests n k lt = requested_none (first_in_run runs) runs
     (each_none (first_in_run runs) runs (sym (first_place_by_run runs) ∙ rests)) k _ refl
 
 pub new_run_rests : (t : TableState) (event : Admitted) → IsSound t

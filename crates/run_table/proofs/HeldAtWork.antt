@@ -4,7 +4,7 @@ use Rattle.std.proofs.Common.{ap, sym, ◌∙◌}
 use Rattle.std.proofs.lemmas.Option.{same_Some}
 use Rattle.run_table.specs.Sound.{IsSound}
 use Rattle.run_table.specs.TableState.{RunnerState, TableState}
-use Rattle.run_table.specs.Turns.{holds_this, runner_named}
+use Rattle.run_table.specs.SequenceNumbers.{holds_this, runner_named}
 use Rattle.run_states.specs.Fitting.{OnlyAtWork}
 use Rattle.run_states.specs.Parallel.{is_at_work}
 use Rattle.run_states.specs.Places.{leg_at}

@@ -13,14 +13,16 @@ use Rattle.run_table.specs.Sound.{DeliveriesDiffer, LeasesAreGiven, LeasesDiffer
 use Rattle.run_states.specs.Parallel.{is_at_work}
 use Rattle.run_states.specs.Words.{planned_legs}
 use Rattle.run_table.specs.Sound.{HeldIsAtWork, HeldOnce, LastsAreOwn, AttemptsAreGiven, KeptIsOfALeg, IsSound, ParallelIsBounded}
-use Rattle.run_table.specs.Step.{last_attempt, last_number, lease_at}
+use Rattle.run_table.specs.Step.{lease_at}
 use Rattle.run_table.specs.TableState.{RunnerState, TableState}
 use Rattle.run_states.specs.RunState.{LegState, RunState}
-use Rattle.run_table.specs.Turns.{names_rise, runner_named}
+use Rattle.run_table.specs.SequenceNumbers.{names_rise, runner_named}
 use Rattle.run_plan.specs.declared.last_command.LastCommand.{LastCommand}
 use Rattle.run_plan.specs.declared.last_command.LastCommand.TheVariants as last
 use Rattle.run_plan.specs.declared.last_command.ClaimReply.TheVariants as given
 use Rattle.run_plan.specs.declared.last_command.KeptLease.{KeptLease}
+use Rattle.run_plan.specs.declared.number.TheConstants.{LAST_NUMBER}
+use Rattle.run_states.specs.declared.limits.TheConstants.{LAST_ATTEMPT}
 use Rattle.run_table.proofs.AtWork.{settling_bounded}
 use Rattle.run_states.proofs.LeaseReads.{LeasesAgree, leases_same}
 use Rattle.run_states.proofs.LegFacts.{attempt_at}
@@ -28,11 +30,11 @@ use Rattle.run_states.proofs.LegReads.{had_at, works_at, had_from_leg, works_fro
 use Rattle.run_states.proofs.Optional.{from_and_then, from_map}
 use Rattle.run_states.proofs.RunFits.{RunsFit, admitted_at, plan_at_same, runs_fit, jobs_are_the_plans, run_phases_fit, jobs_fit}
 use Rattle.run_states.proofs.RunFits.{needs_come_first, leases_fit}
-use Rattle.workflow_runs.proofs.OneEachRules.{settled_one_each}
-use Rattle.workflow_runs.proofs.Rests.{settled_has_no_place}
+use Rattle.settling_laws.proofs.OneEachRules.{settled_one_each}
+use Rattle.settling_laws.proofs.Rests.{settled_has_no_place}
 use Rattle.run_table.proofs.RunnerPut.{apart, found_by_name, has_the_name, holds_at, stood}
 use Rattle.run_states.proofs.Settles.{Settles}
-use Rattle.workflow_runs.proofs.SettlingKeeps.{settling_settles}
+use Rattle.settling_laws.proofs.SettlingKeeps.{settling_settles}
 
 -- A kept lease was granted and names a leg of the run's plan, in an attempt up to the current one. If that is the
 -- current attempt, the leg had it.
@@ -62,7 +64,7 @@ pub record IsKept (t : TableState) : Type 0 where
   pub fit : RunsFit t.runs
   pub parallel_bounded : ParallelIsBounded t.runs
   pub agree : LeasesAgree t.last_lease (had_at t.runs) (works_at t.runs) (holds_at t.runners)
-  pub last_lease_in_range : t.last_lease ≤ last_number
+  pub last_lease_in_range : t.last_lease ≤ LAST_NUMBER
   pub runners_in_order : names_rise t.runners ≡ true
   pub lasts_are_own : LastsAreOwn t.runners
   pub kept_are_had : KeptAreHad t.last_lease t.runs t.runners
@@ -160,9 +162,9 @@ kept_is_of_a_leg most runs (last.Claim claim (given.Lease kept)) h = record {
 kept_is_of_a_leg most runs (last.Done report) h = tt
 
 -- the lease that is sent follows from the plan
-pub told_the_same : (runs next : List RunState) (p : LegPlace) (n : ℕ) → plan_at next p.run p.job ≡ plan_at runs p.run p.job
+pub lease_reply_same : (runs next : List RunState) (p : LegPlace) (n : ℕ) → plan_at next p.run p.job ≡ plan_at runs p.run p.job
     → lease_at runs p n ≡ lease_at next p n
-told_the_same runs next p n same =
+lease_reply_same runs next p n same =
     ap (λ (o : Option PlannedJob). record {
       lease = n;
       run = p.run + 1;
@@ -192,7 +194,7 @@ kept_still_had most more runs next le still (last.Claim claim (given.Lease kept)
       run_is = there;
       job_is = h.job_is;
       planned = subst (λ (o : Option PlannedJob). h.place.leg < option_map_or (λ planned. length planned.legs) o 0) (sym plan) h.planned;
-      tells = h.tells ∙ told_the_same runs next h.place kept.lease_reply.lease plan;
+      tells = h.tells ∙ lease_reply_same runs next h.place kept.lease_reply.lease plan;
       given = (h.given.0, omega (arith, h.given.1, le));
       attempt = (h.attempt.0, omega (arith, h.attempt.1, later));
       had = (λ e.
@@ -207,7 +209,7 @@ pub attempts_still_given : (runs next : List RunState) → ((r : ℕ) → attemp
 attempts_still_given runs next same given r y at =
     let attempt = λ (v : RunState). v.attempt in
     let f = from_map attempt (run_at runs r) y.attempt (sym (same r) ∙ ap (option_map attempt) at) in
-    subst (λ (n : ℕ). (1 ≤ n) × (n ≤ last_attempt)) f.gives (given r f.value f.is)
+    subst (λ (n : ℕ). (1 ≤ n) × (n ≤ LAST_ATTEMPT)) f.gives (given r f.value f.is)
 
 -- runs of the same events at the same attempts
 pub stay_still_had : (runs next : List RunState) → ((r : ℕ) → admitted_at next r ≡ admitted_at runs r)

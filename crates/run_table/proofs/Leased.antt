@@ -13,7 +13,7 @@ use Rattle.run_table.specs.Step.{claiming_runner, kept_lease_at, lease_at, leasi
 use Rattle.run_states.specs.NewRun.{leased_leg}
 use Rattle.run_table.specs.TableState.{RunnerState, TableState}
 use Rattle.run_states.specs.RunState.{RunState}
-use Rattle.run_table.specs.Turns.{with_runner}
+use Rattle.run_table.specs.SequenceNumbers.{with_runner}
 
 abbrev made : ℕ → List RunState → List RunnerState → Leased → TableState × Reply
 made last runs runners lease_reply = (record { last_lease = last; runs = runs; runners = runners }, reply.Lease lease_reply)

@@ -15,7 +15,7 @@ use Rattle.run_states.proofs.Found.{find_passes, none_found}
 use Rattle.run_states.proofs.JobKeeps.{leg_in}
 use Rattle.run_states.proofs.Optional.{From, from_and_then}
 use Rattle.run_states.proofs.RunFits.{job_in_run}
-use Rattle.workflow_runs.proofs.HolderPlaces.{each_leg_place}
+use Rattle.settling_laws.proofs.HolderPlaces.{each_leg_place}
 use Rattle.run_table.specs.Sound.{IsSound}
 use Rattle.run_table.specs.TableState.{TableState}
 use Rattle.run_table.proofs.ReportKeeps.{has_it}

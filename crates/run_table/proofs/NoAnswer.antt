@@ -4,7 +4,7 @@ use Rattle.std.specs.List.{enumerate_from}
 use Rattle.std.proofs.Common.{arith, ap, sym, ◌∙◌}
 use Rattle.run_states.specs.FirstOf.{first_some, placed}
 use Rattle.run_states.proofs.OneAfterAnother.{OfEach}
-use Rattle.workflow_runs.proofs.Firsts.{none_found}
+use Rattle.settling_laws.proofs.Firsts.{none_found}
 use Rattle.wf_value.proofs.OptionOr.{or_nothing}
 
 each_none_from : {X Y : Type 0} (f : ℕ → X → Option Y) (xs : List X) (n : ℕ) → first_some (λ e. f e.0 e.1) (enumerate_from n xs) ≡ None
@@ -27,13 +27,13 @@ pub each_none : {X Y : Type 0} (f : ℕ → X → Option Y) (xs : List X) → fi
 each_none f xs e k x at =
     let here : k ≡ 0 + k = omega arith in ap (λ m. f m x) here ∙ each_none_from f xs 0 e k x at
 
-pub asked_none : {X Y : Type 0} (f : ℕ → X → Option Y) (xs : List X) → OfEach (NoneAt f) xs → (k : ℕ) (o : Option X) → slice_get xs k ≡ o
+pub requested_none : {X Y : Type 0} (f : ℕ → X → Option Y) (xs : List X) → OfEach (NoneAt f) xs → (k : ℕ) (o : Option X) → slice_get xs k ≡ o
     → option_and_then (f k) o ≡ None
-asked_none f xs each k None at = refl
-asked_none f xs each k (Some x) at = each k x at
+requested_none f xs each k None at = refl
+requested_none f xs each k (Some x) at = each k x at
 
 pub none_of_each : {X Y : Type 0} (f : ℕ → X → Option Y) (xs : List X) → OfEach (NoneAt f) xs
     → first_some (λ e. f e.0 e.1) (placed xs) ≡ None
 none_of_each f xs each =
     none_found f xs (length xs)
-    (λ k lt. ap (option_and_then (f k)) refl ∙ asked_none f xs each k (slice_get xs k) refl) (omega arith)
+    (λ k lt. ap (option_and_then (f k)) refl ∙ requested_none f xs each k (slice_get xs k) refl) (omega arith)

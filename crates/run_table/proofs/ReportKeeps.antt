@@ -25,14 +25,14 @@ use Rattle.run_states.specs.StopMoves.{with_ended}
 use Rattle.run_states.specs.Stops.{after_end, outcome_of_loss, stops_others, with_stopped_legs}
 use Rattle.run_table.specs.TableState.{RunnerState, TableState}
 use Rattle.run_states.specs.RunState.{LegState}
-use Rattle.run_table.specs.Turns.{is_named, runner_named, answer_of_turn, with_runner, holds_this}
+use Rattle.run_table.specs.SequenceNumbers.{is_named, runner_named, answer_by_number, with_runner, holds_this}
 use Rattle.run_states.specs.declared.phases.LegPhase.{LegPhase}
 use Rattle.run_states.specs.declared.phases.LegPhase.TheVariants as leg
 use Rattle.run_table.proofs.AtWork.{fewer_at_work}
 use Rattle.run_table.proofs.ClaimKeeps.{had_changes, works_changes}
 use Rattle.run_states.proofs.Found.{find_passes, none_found}
 use Rattle.run_states.proofs.JobKeeps.{leg_in, leg_stays, job_is_now, job_is_open, with_leg_of}
-use Rattle.workflow_runs.proofs.HolderPlaces.{each_leg_place}
+use Rattle.settling_laws.proofs.HolderPlaces.{each_leg_place}
 use Rattle.run_table.proofs.Kept.{IsKept, KeptIsHad, StillHad, attempts_still_given, stay_still_had, kept_settles, kept_still_had, deliveries_still_differ}
 use Rattle.run_states.proofs.LeaseReads.{ChangesAt, place_or_another, lease_ended, leases_same}
 use Rattle.run_states.proofs.LegReads.{had_at, works_at, had_is, had_from_leg, works_from_leg, leg_from_had, work_parts}
@@ -245,7 +245,7 @@ pub held_for_report : (t : TableState) (report : Reported) → report_answer t r
     → holds_this report.lease (runner_named t.runners report.runner) ≡ true
 held_for_report t report none =
     let runner = runner_named t.runners report.runner in
-    let looked = or_nothing (answer_of_turn runner report.number (is_last_report report))
+    let looked = or_nothing (answer_by_number runner report.number (is_last_report report))
     (if holds_this report.lease runner then None else Some (refused LeaseNotHeld)) none in
     not_held (holds_this report.lease runner) (refused LeaseNotHeld) looked.1
 

@@ -16,7 +16,7 @@ use Rattle.wf_value.specs.declared.refusal.Refusal.{Refusal}
 use Rattle.wf_value.proofs.Rising.{Equal-from_same, Less-from_is_lt, after_less, earlier_below, name_cmp, rises_next, rises_rest}
 use Rattle.wf_value.proofs.PassedOn.{same_Ok}
 use Rattle.run_table.specs.TableState.{RunnerState}
-use Rattle.run_table.specs.Turns.{is_named, is_below, is_above, kept_named, names_rise, runner_named, with_runner}
+use Rattle.run_table.specs.SequenceNumbers.{is_named, is_below, is_above, kept_named, names_rise, runner_named, with_runner}
 use Rattle.run_states.proofs.Found.{all_weaken, all_append, each_at}
 
 -- ---- two names
@@ -62,14 +62,14 @@ module _ {X : Type 0} (test : X → Bool) where
       ] refl
 
   -- the elements before the index pass, and no later one does
-  pub front_counted : (xs : List X) (i : ℕ) → i ≤ length xs → AllWithin (λ x. test x ≡ true) xs 0 i
+  pub prefix_counted : (xs : List X) (i : ℕ) → i ≤ length xs → AllWithin (λ x. test x ≡ true) xs 0 i
       → AllWithin (λ x. test x ≡ false) xs i (length xs) → i ≡ length (filter test xs)
-  front_counted [] i le pass fail = omega arith
-  front_counted (x ∷ xs) zero le pass fail =
-      front_counted xs zero (omega arith) (λ k d lo hi. absurd (omega arith)) (λ k d lo hi. fail (suc k) d (omega arith) (omega arith))
+  prefix_counted [] i le pass fail = omega arith
+  prefix_counted (x ∷ xs) zero le pass fail =
+      prefix_counted xs zero (omega arith) (λ k d lo hi. absurd (omega arith)) (λ k d lo hi. fail (suc k) d (omega arith) (omega arith))
       ∙ ap length (sym (filter_drops x xs (fail zero x (omega arith) (omega arith))))
-  front_counted (x ∷ xs) (suc i) le pass fail =
-      ap suc (front_counted xs i (omega arith) (λ k d lo hi. pass (suc k) d (omega arith) (omega arith))
+  prefix_counted (x ∷ xs) (suc i) le pass fail =
+      ap suc (prefix_counted xs i (omega arith) (λ k d lo hi. pass (suc k) d (omega arith) (omega arith))
       (λ k d lo hi. fail (suc k) d (omega arith) (omega arith)))
       ∙ ap length (sym (filter_keeps x xs (pass zero x (omega arith) (omega arith))))
 
@@ -242,17 +242,17 @@ parted_by_name runners name h i j d le within below =
           subst (λ (k : ℕ). is_below name (get_or runners k d) ≡ true) (sym same) below
     ]
 
-at_the_seam : {X : Type 0} (front back : List X) → slice_get (front ++ back) (length front) ≡ slice_get back 0
+at_the_seam : {X : Type 0} (prefix back : List X) → slice_get (prefix ++ back) (length prefix) ≡ slice_get back 0
 at_the_seam [] back = refl
-at_the_seam (x ∷ front) back = at_the_seam front back
+at_the_seam (x ∷ prefix) back = at_the_seam prefix back
 
-set_at_the_seam : {X : Type 0} (front back : List X) (x y : X) → slice_set (front ++ x ∷ back) (length front) y ≡ front ++ y ∷ back
+set_at_the_seam : {X : Type 0} (prefix back : List X) (x y : X) → slice_set (prefix ++ x ∷ back) (length prefix) y ≡ prefix ++ y ∷ back
 set_at_the_seam [] back x y = refl
-set_at_the_seam (z ∷ front) back x y = ap (λ ys. z ∷ ys) (set_at_the_seam front back x y)
+set_at_the_seam (z ∷ prefix) back x y = ap (λ ys. z ∷ ys) (set_at_the_seam prefix back x y)
 
-inserted_at_the_seam : {X : Type 0} (front back : List X) (y : X) → insert (front ++ back) (length front) y ≡ front ++ y ∷ back
+inserted_at_the_seam : {X : Type 0} (prefix back : List X) (y : X) → insert (prefix ++ back) (length prefix) y ≡ prefix ++ y ∷ back
 inserted_at_the_seam [] back y = refl
-inserted_at_the_seam (z ∷ front) back y = ap (λ ys. z ∷ ys) (inserted_at_the_seam front back y)
+inserted_at_the_seam (z ∷ prefix) back y = ap (λ ys. z ∷ ys) (inserted_at_the_seam prefix back y)
 
 module _ (runners : List RunnerState) (name : List ℕ) (h : names_rise runners ≡ true) (place : ℕ)
     (at : place ≡ length (filter (is_below name) runners)) where
@@ -313,12 +313,12 @@ module _ (runners : List RunnerState) (name : List ℕ) (h : names_rise runners 
       → slice_set runners place new ≡ with_runner runners new
   put_over new known same =
       let a = around runners name h in
-      let front = filter (is_below name) runners in
+      let prefix = filter (is_below name) runners in
       elim a.ends [
         | inl there ↦
             ap (λ n. slice_set runners n new) at
-            ∙ ap (λ xs. slice_set xs (length front) new) (a.whole ∙ ap (λ back. front ++ back) there.is)
-            ∙ set_at_the_seam front (filter (is_above name) runners) there.runner new
+            ∙ ap (λ xs. slice_set xs (length prefix) new) (a.whole ∙ ap (λ back. prefix ++ back) there.is)
+            ∙ set_at_the_seam prefix (filter (is_above name) runners) there.runner new
             ∙ ap (λ n. filter (is_below n) runners ++ new ∷ filter (is_above n) runners) (sym same)
         | inr absent ↦ absurd (absent_is_unknown (runner_named runners name) absent.found known)
       ]
@@ -327,13 +327,13 @@ module _ (runners : List RunnerState) (name : List ℕ) (h : names_rise runners 
       → insert runners place new ≡ with_runner runners new
   put_between new unknown same =
       let a = around runners name h in
-      let front = filter (is_below name) runners in
+      let prefix = filter (is_below name) runners in
       elim a.ends [
         | inl there ↦ absurd (there_is_known (runner_named runners name) there.runner there.found unknown)
         | inr absent ↦
             ap (λ n. insert runners n new) at
-            ∙ ap (λ xs. insert xs (length front) new) (a.whole ∙ ap (λ back. front ++ back) absent.is)
-            ∙ inserted_at_the_seam front (filter (is_above name) runners) new
+            ∙ ap (λ xs. insert xs (length prefix) new) (a.whole ∙ ap (λ back. prefix ++ back) absent.is)
+            ∙ inserted_at_the_seam prefix (filter (is_above name) runners) new
             ∙ ap (λ n. filter (is_below n) runners ++ new ∷ filter (is_above n) runners) (sym same)
       ]
 
@@ -350,16 +350,16 @@ rise_filtered test (x ∷ xs) h =
       | false ↦ rest
     ]
 
-rise_around : (front back : List RunnerState) (new : RunnerState) → names_rise front ≡ true
-    → AllByRecursion (λ r. is_below new.name r ≡ true) front → names_rise back ≡ true → AreAbove new.name back
-    → names_rise (front ++ new ∷ back) ≡ true
+rise_around : (prefix back : List RunnerState) (new : RunnerState) → names_rise prefix ≡ true
+    → AllByRecursion (λ r. is_below new.name r ≡ true) prefix → names_rise back ≡ true → AreAbove new.name back
+    → names_rise (prefix ++ new ∷ back) ≡ true
 rise_around [] back new h below k above = rise_from new back above k
-rise_around (x ∷ front) back new h below k above =
+rise_around (x ∷ prefix) back new h below k above =
     let lt : name_cmp x.name new.name ≡ Less = Less-from_is_lt _ below.0 in
-    rise_from x (front ++ new ∷ back)
-    (all_append (λ (r : RunnerState). name_cmp x.name r.name ≡ Less) front (new ∷ back) (above_the_first x front h)
+    rise_from x (prefix ++ new ∷ back)
+    (all_append (λ (r : RunnerState). name_cmp x.name r.name ≡ Less) prefix (new ∷ back) (above_the_first x prefix h)
     (lt, all_above x.name new back lt above))
-    (rise_around front back new (rises_rest (λ (r : RunnerState). r.name) x front h) below.1 k above)
+    (rise_around prefix back new (rises_rest (λ (r : RunnerState). r.name) x prefix h) below.1 k above)
 
 pub names_still_rise : (runners : List RunnerState) (new : RunnerState) → names_rise runners ≡ true
     → names_rise (with_runner runners new) ≡ true

@@ -14,7 +14,7 @@ use Rattle.std.proofs.lemmas.Slice.Eq.{bytes_eq-Decides}
 use Rattle.wf_value.proofs.Rising.{Equal-from_same, after_less, name_cmp, names_apart}
 use Rattle.wf_value.proofs.OptionOr.{or_none}
 use Rattle.run_table.specs.TableState.{RunnerState}
-use Rattle.run_table.specs.Turns.{is_named, is_below, is_above, names_rise, runner_named, with_runner}
+use Rattle.run_table.specs.SequenceNumbers.{is_named, is_below, is_above, names_rise, runner_named, with_runner}
 use Rattle.run_states.proofs.Found.{all_append, each_at, find_passes, found_at, found_nowhere, none_found}
 use Rattle.run_states.proofs.LeaseReads.{ChangesAt}
 use Rattle.run_table.proofs.RunnerOrder.{after_greater, all_filter, find_gone, find_kept}
@@ -106,10 +106,10 @@ module _ (runners : List RunnerState) (new : RunnerState) where
   found_other name other =
       let test = is_named name in
       let same = λ (x : RunnerState) (named : is_named name x ≡ true). (bytes_eq-Decides x.name name).0 named in
-      let front = find test (filter (is_below new.name) runners) in
+      let prefix = find test (filter (is_below new.name) runners) in
       let back = find test (filter (is_above new.name) runners) in
-      let parts : runner_named (with_runner runners new) name ≡ option_or front back =
-      found_in_parts name ∙ ap (λ b. option_or front (cond b (Some new) back)) (not_new name other) in
+      let parts : runner_named (with_runner runners new) name ≡ option_or prefix back =
+      found_in_parts name ∙ ap (λ b. option_or prefix (cond b (Some new) back)) (not_new name other) in
       elim (name_cmp name new.name) as (λ o. name_cmp name new.name ≡ o
       → runner_named (with_runner runners new) name ≡ runner_named runners name) [
         | Less ↦ λ lt.

@@ -24,7 +24,7 @@ use Rattle.run_states.specs.Stops.{outcome_of_loss, stopped_run}
 use Rattle.run_table.specs.Step.{entered_again, reporting, reported, rerun, rerun_answer, rerunning, stepped, step}
 use Rattle.run_states.specs.RunState.{RunState}
 use Rattle.run_states.specs.StopMoves.{with_ended}
-use Rattle.run_table.specs.Turns.{runner_named, with_runner}
+use Rattle.run_table.specs.SequenceNumbers.{runner_named, with_runner}
 use Rattle.run_plan.specs.declared.last_command.ClaimReply.TheVariants as given
 use Rattle.run_table.proofs.ClaimKeeps.{serving_keeps, leasing_keeps}
 use Rattle.run_table.proofs.CommandsOneEach.{ended_one_each, leased_one_each, stopped_one_each}
@@ -32,7 +32,7 @@ use Rattle.run_table.proofs.BeginsAgain.{begins_again}
 use Rattle.run_table.proofs.Entered.{entered_keeps, entered_one_each}
 use Rattle.run_table.proofs.EnteredAgain.{entered_again_keeps, entered_again_one_each}
 use Rattle.run_table.proofs.Kept.{kept_from_sound, kept_settles, rest_is_sound}
-use Rattle.workflow_runs.proofs.OneEach.{none_of_each}
+use Rattle.settling_laws.proofs.OneEach.{none_of_each}
 use Rattle.run_table.proofs.ReportKeeps.{loss_keeps, loss_stays, report_keeps, report_stays}
 use Rattle.run_states.proofs.StopKeeps.{stopped_run_settles}
 
@@ -103,14 +103,14 @@ cancelled_is_sound t id s = answered_or_changed t (cancel_answer t id) (cancelli
         (stopped_run_settles t.runs (kept_from_sound t s).fit (id - 1) found.0 found.1))
         (stopped_one_each (id - 1) t.runs (kept_from_sound t s).fit s.one_of_each_group)
 
-rerun_is_sound : (t : TableState) (asked : Attempt) → IsSound t → IsSound (rerun t asked).table
-rerun_is_sound t asked s =
-    answered_or_changed t (rerun_answer t asked) (rerunning t asked) s
+rerun_is_sound : (t : TableState) (requested : Attempt) → IsSound t → IsSound (rerun t requested).table
+rerun_is_sound t requested s =
+    answered_or_changed t (rerun_answer t requested) (rerunning t requested) s
     (λ none.
-    let begins = begins_again t asked none in
-    let r = asked.run - 1 in
-    rest_is_sound (record t { runs = (entered_again t r).runs }) (entered_again_keeps t r asked.attempt (kept_from_sound t s) begins)
-    (entered_again_one_each t r asked.attempt (kept_from_sound t s).fit begins s.one_of_each_group))
+    let begins = begins_again t requested none in
+    let r = requested.run - 1 in
+    rest_is_sound (record t { runs = (entered_again t r).runs }) (entered_again_keeps t r requested.attempt (kept_from_sound t s) begins)
+    (entered_again_one_each t r requested.attempt (kept_from_sound t s).fit begins s.one_of_each_group))
 
 lost_is_sound : (t : TableState) (name : List ℕ) → IsSound t → IsSound (lost t name).table
 lost_is_sound t name s =
@@ -143,7 +143,7 @@ stepped_is_sound t (command.Cancel id) s = cancelled_is_sound t id s
 stepped_is_sound t (command.Lost name) s = lost_is_sound t name s
 stepped_is_sound t (command.Fetch id) s = s
 stepped_is_sound t (command.Look id) s = s
-stepped_is_sound t (command.Rerun asked) s = rerun_is_sound t asked s
+stepped_is_sound t (command.Rerun requested) s = rerun_is_sound t requested s
 
 pub step_keeps : (t : TableState) (c : Command) → IsSound t → IsSound (step t c).0
 step_keeps t c s = stepped_is_sound t c s

@@ -177,8 +177,8 @@ abbrev served_nothing : RunnerState
 served_nothing = claiming_runner (claim_of 1) None given.Nothing
 
 -- an unknown runner's last number is 0
-claim_out_of_turn : step empty (command.Claim (claim_of 2)) ≡ (empty, reply.Refused (Turn 0))
-claim_out_of_turn = refl
+claim_out_of_sequence : step empty (command.Claim (claim_of 2)) ≡ (empty, reply.Refused (Turn 0))
+claim_out_of_sequence = refl
 
 claim_of_an_empty_table : step empty (command.Claim (claim_of 1)) ≡ (table_with served_nothing, reply.Nothing)
 claim_of_an_empty_table = refl

@@ -57,8 +57,8 @@ completed = refl
 queued : run_text build phase.Live (job state.Open (unclaimed leg.Ready ∷ []) ∷ []) ≡ codes "queued - build:open(ready)"
 queued = refl
 
-running : run_text build phase.Live (job state.Open (claimed leg.Running ∷ []) ∷ []) ≡ codes "in_progress - build:open(running)"
-running = refl
+in_progress : run_text build phase.Live (job state.Open (claimed leg.Running ∷ []) ∷ []) ≡ codes "in_progress - build:open(running)"
+in_progress = refl
 
 pending : run_text go phase.Waiting (job state.Blocked [] ∷ []) ≡ codes "pending - go:blocked"
 pending = refl

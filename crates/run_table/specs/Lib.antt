@@ -6,5 +6,5 @@ pub mod Sound
 pub mod Step
 pub mod Storable
 pub mod TableState
-pub mod Turns
+pub mod SequenceNumbers
 pub mod ViewText

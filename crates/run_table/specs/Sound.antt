@@ -7,16 +7,18 @@ use Rattle.run_states.specs.Parallel.{is_at_work, legs_at_work, most_at_work}
 use Rattle.run_states.specs.Places.{run_at, job_at, leg_at}
 use Rattle.run_states.specs.declared.place.LegPlace.{LegPlace}
 use Rattle.run_states.specs.Settling.{first_place}
-use Rattle.run_table.specs.Step.{last_attempt, last_number, lease_at}
+use Rattle.run_table.specs.Step.{lease_at}
 use Rattle.run_table.specs.TableState.{RunnerState, TableState}
 use Rattle.run_states.specs.RunState.{LegState, JobState, RunState}
-use Rattle.run_table.specs.Turns.{names_rise}
+use Rattle.run_table.specs.SequenceNumbers.{names_rise}
 use Rattle.run_plan.specs.declared.last_command.LastCommand.{LastCommand}
 use Rattle.run_plan.specs.declared.last_command.LastCommand.TheVariants as last
 use Rattle.run_plan.specs.declared.last_command.ClaimReply.TheVariants as given
 use Rattle.run_plan.specs.declared.last_command.KeptLease.{KeptLease}
+use Rattle.run_plan.specs.declared.number.TheConstants.{LAST_NUMBER}
 use Rattle.run_states.specs.SoundRuns.{JobsAreThePlans, RunPhasesFit, JobsFit, NeedsComeFirst, LeasesFit}
 use Rattle.run_states.specs.Words.{planned_legs}
+use Rattle.run_states.specs.declared.limits.TheConstants.{LAST_ATTEMPT, MAX_RUNS}
 
 -- ---- runs
 
@@ -27,7 +29,7 @@ DeliveriesDiffer runs =
 
 -- an attempt is a number from 1 to the last
 abbrev pub AttemptIsGiven : RunState → Type 0
-AttemptIsGiven x = (1 ≤ x.attempt) × (x.attempt ≤ last_attempt)
+AttemptIsGiven x = (1 ≤ x.attempt) × (x.attempt ≤ LAST_ATTEMPT)
 
 abbrev pub AttemptsAreGiven : List RunState → Type 0
 AttemptsAreGiven runs = (r : ℕ) (x : RunState) → run_at runs r ≡ Some x → AttemptIsGiven x
@@ -108,7 +110,7 @@ KeptLeasesAreOfLegs most runs runners = (k : ℕ) (x : RunnerState) → slice_ge
 -- ---- all rules
 
 pub record IsSound (t : TableState) : Type 0 where
-  pub few_runs : length t.runs ≤ 100000
+  pub few_runs : length t.runs ≤ MAX_RUNS
   pub deliveries_differ : DeliveriesDiffer t.runs
   pub attempts_are_given : AttemptsAreGiven t.runs
   pub jobs_are_the_plans : JobsAreThePlans t.runs
@@ -120,7 +122,7 @@ pub record IsSound (t : TableState) : Type 0 where
   pub leases_fit : LeasesFit t.runs
   pub leases_are_given : LeasesAreGiven t.last_lease t.runs
   pub leases_differ : LeasesDiffer t.runs
-  pub last_lease_in_range : t.last_lease ≤ last_number
+  pub last_lease_in_range : t.last_lease ≤ LAST_NUMBER
   pub runners_in_order : names_rise t.runners ≡ true
   pub work_is_held : WorkIsHeld t.runs t.runners
   pub held_is_at_work : HeldIsAtWork t.runs t.runners

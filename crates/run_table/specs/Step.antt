@@ -14,7 +14,7 @@ use Rattle.run_plan.specs.Admitted.{Admitted}
 use Rattle.run_plan.specs.LastCommand.{is_last_claim, is_last_report}
 use Rattle.run_plan.specs.ReplyText.{carries_text}
 use Rattle.run_plan.specs.declared.command.Attempt.{Attempt}
-use Rattle.run_plan.specs.declared.command.Beat.{Beat as Asked}
+use Rattle.run_plan.specs.declared.command.Beat.{Beat as Requested}
 use Rattle.run_plan.specs.declared.command.Claim.{Claim as Claimed}
 use Rattle.run_plan.specs.declared.command.Done.{Done as Reported}
 use Rattle.run_plan.specs.declared.command.Command.{Command}
@@ -32,17 +32,19 @@ use Rattle.run_states.specs.RunState.{RunState}
 use Rattle.run_states.specs.Settling.{settled, settling_moves}
 use Rattle.run_states.specs.StopMoves.{stop_holder, with_ended, lease_end_moves}
 use Rattle.run_states.specs.Stops.{outcome_of_loss}
-use Rattle.run_table.specs.Turns.{runner_named, answer_of_turn, with_runner, holds_lease, holds_this}
+use Rattle.run_table.specs.SequenceNumbers.{runner_named, answer_by_number, with_runner, holds_lease, holds_this}
 use Rattle.run_table.specs.ViewText.{Seen, seen_of, seen_text}
 use Rattle.run_states.specs.Words.{job_id, combo_at}
 use Rattle.run_plan.specs.declared.last_command.LastCommand.TheVariants as last
 use Rattle.run_plan.specs.declared.last_command.ClaimReply.{ClaimReply}
 use Rattle.run_plan.specs.declared.last_command.ClaimReply.TheVariants as given
 use Rattle.run_plan.specs.declared.last_command.KeptLease.{KeptLease}
+use Rattle.run_plan.specs.declared.number.TheConstants.{LAST_NUMBER}
 use Rattle.run_states.specs.NewRun.{again, is_delivered_as, new_run, leased_leg}
 use Rattle.run_states.specs.declared.phases.RunPhase.{RunPhase}
 use Rattle.run_states.specs.declared.phases.RunPhase.TheVariants as run
 use Rattle.run_states.specs.declared.holder.Holder.TheVariants.{Run}
+use Rattle.run_states.specs.declared.limits.TheConstants.{LAST_ATTEMPT, MAX_RUNS}
 
 -- a table without runs or runners
 abbrev pub empty : TableState
@@ -50,14 +52,6 @@ empty = record { last_lease = 0; runs = []; runners = [] }
 
 abbrev pub refused : Code → Reply
 refused code = reply.Refused (Numbered code)
-
--- the largest lease number
-abbrev pub last_number : ℕ
-last_number = 999999999
-
--- the largest attempt number of a run
-abbrev pub last_attempt : ℕ
-last_attempt = 1000
 
 -- the table unchanged, with a reply
 abbrev pub unchanged : TableState → Reply → Step
@@ -77,7 +71,7 @@ at_rest t reply = at_rest_after [] t reply
 abbrev pub admission_answer : TableState → Admitted → Option Reply
 admission_answer t event =
     option_or (option_map (λ i. reply.Created (i + 1)) (position (is_delivered_as event.delivery) t.runs))
-    (if nat_le 100000 (length t.runs) then Some (refused LastCounter) else None)
+    (if nat_le MAX_RUNS (length t.runs) then Some (refused LastCounter) else None)
 
 -- the new run arrives in its group
 abbrev pub entered : TableState → Admitted → Transition
@@ -94,14 +88,14 @@ admitted t event = option_map_or (unchanged t) (admission_answer t event) (admit
 
 -- a leg fits, but the last lease number is used up
 abbrev pub has_no_lease_left : TableState → Claimed → Bool
-has_no_lease_left t claim = is_some (first_fit claim.labels t.runs) && nat_le last_number t.last_lease
+has_no_lease_left t claim = is_some (first_fit claim.labels t.runs) && nat_le LAST_NUMBER t.last_lease
 
 abbrev pub lease_answer : TableState → Claimed → Option Reply
 lease_answer t claim = if has_no_lease_left t claim then Some (refused LastCounter) else None
 
 abbrev pub claim_answer : TableState → Claimed → Option Reply
 claim_answer t claim =
-    option_or (answer_of_turn (runner_named t.runners claim.runner) claim.number (is_last_claim claim))
+    option_or (answer_by_number (runner_named t.runners claim.runner) claim.number (is_last_claim claim))
     (if holds_lease (runner_named t.runners claim.runner) then Some (refused HasLease) else lease_answer t claim)
 
 -- the record of a runner after its claim
@@ -146,7 +140,7 @@ claimed t claim = option_map_or (unchanged t) (claim_answer t claim) (claiming t
 
 abbrev pub report_answer : TableState → Reported → Option Reply
 report_answer t report =
-    option_or (answer_of_turn (runner_named t.runners report.runner) report.number (is_last_report report))
+    option_or (answer_by_number (runner_named t.runners report.runner) report.number (is_last_report report))
     (if holds_this report.lease (runner_named t.runners report.runner) then None else Some (refused LeaseNotHeld))
 
 -- the record of a runner after its report
@@ -167,7 +161,7 @@ reported t report = option_map_or (unchanged t) (report_answer t report) (report
 -- ---- beat
 
 -- a runner that holds the lease is told whether to stop its leg
-abbrev pub beat_answer : TableState → Asked → Reply
+abbrev pub beat_answer : TableState → Requested → Reply
 beat_answer t beat =
     option_map_or (λ runner.
     if holds_this beat.lease (Some runner)
@@ -202,29 +196,29 @@ has_completed run.Ended = true
 -- why the next attempt of a run may not begin, if it may not
 abbrev pub answer_of_next : RunState → Option Reply
 answer_of_next x =
-    if nat_le last_attempt x.attempt then Some (refused LastCounter)
+    if nat_le LAST_ATTEMPT x.attempt then Some (refused LastCounter)
     else (if has_completed x.phase then None else Some (refused RunNotCompleted))
 
 -- The current attempt has begun already. Of the others, only the next may begin.
 abbrev pub answer_of_attempt : RunState → Attempt → Option Reply
-answer_of_attempt x asked =
-    if nat_eq asked.attempt x.attempt then Some (reply.Again asked)
-    else (if nat_eq asked.attempt (x.attempt + 1) then answer_of_next x else Some (reply.Refused (Turn x.attempt)))
+answer_of_attempt x requested =
+    if nat_eq requested.attempt x.attempt then Some (reply.Again requested)
+    else (if nat_eq requested.attempt (x.attempt + 1) then answer_of_next x else Some (reply.Refused (Turn x.attempt)))
 
 -- ids count from 1
 abbrev pub rerun_answer : TableState → Attempt → Option Reply
-rerun_answer t asked = option_map_or (λ x. answer_of_attempt x asked) (run_at t.runs (asked.run - 1)) (Some (refused NoRun))
+rerun_answer t requested = option_map_or (λ x. answer_of_attempt x requested) (run_at t.runs (requested.run - 1)) (Some (refused NoRun))
 
 -- the run, in its next attempt, arrives in its group again
 abbrev pub entered_again : TableState → ℕ → Transition
 entered_again t r = arrived (Run r) (with_run r again t.runs)
 
 abbrev pub rerunning : TableState → Attempt → Step
-rerunning t asked =
-    let begun = entered_again t (asked.run - 1) in at_rest_after begun.moves (record t { runs = begun.runs }) (reply.Again asked)
+rerunning t requested =
+    let begun = entered_again t (requested.run - 1) in at_rest_after begun.moves (record t { runs = begun.runs }) (reply.Again requested)
 
 abbrev pub rerun : TableState → Attempt → Step
-rerun t asked = option_map_or (unchanged t) (rerun_answer t asked) (rerunning t asked)
+rerun t requested = option_map_or (unchanged t) (rerun_answer t requested) (rerunning t requested)
 
 -- ---- lost
 
@@ -276,7 +270,7 @@ stepped t (command.Cancel id) = cancelled t id
 stepped t (command.Lost name) = lost t name
 stepped t (command.Fetch id) = unchanged t (fetch_answer t id)
 stepped t (command.Look id) = unchanged t (look_answer t id)
-stepped t (command.Rerun asked) = rerun t asked
+stepped t (command.Rerun requested) = rerun t requested
 
 -- the table after the command, and its reply
 abbrev pub outcome : Step → TableState × Reply
@@ -297,7 +291,7 @@ read_only_reply t (command.Cancel id) = cancel_answer t id
 read_only_reply t (command.Lost name) = loss_answer t name
 read_only_reply t (command.Fetch id) = Some (fetch_answer t id)
 read_only_reply t (command.Look id) = Some (look_answer t id)
-read_only_reply t (command.Rerun asked) = rerun_answer t asked
+read_only_reply t (command.Rerun requested) = rerun_answer t requested
 
 -- whether there is a reply and it holds no text, so that it needs no memory
 abbrev pub is_allocation_free : Option Reply → Bool

@@ -4,15 +4,14 @@
 mod leases;
 mod runner;
 mod runners;
+mod sequence_numbers;
 mod table;
 mod table_data;
-mod turns;
 mod view;
 mod view_text;
 
 pub use leases::{kept_lease, leg_has_lease};
 pub use runner::Runner;
 pub use table::Table;
-pub use table_data::{LAST_ATTEMPT, LAST_NUMBER};
 pub use view::RunView;
 pub use view_text::{conclusion_word, leg_word, status_word};

@@ -2,7 +2,7 @@ ghost use Rattle.std.specs.Prelude.{◌≡◌, ◌<◌, [], is_some, length, opt
 ghost use Rattle.std.specs.Prelude.{true};
 ghost use Rattle.wf_value.specs.Gives.{Gives};
 ghost use Rattle.run_table.specs.PlaceNamed.{place_named};
-ghost use Rattle.run_table.specs.Turns.{is_below, is_named, kept_named, names_rise, runner_named, with_runner};
+ghost use Rattle.run_table.specs.SequenceNumbers.{is_below, is_named, kept_named, names_rise, runner_named, with_runner};
 
 use crate::runner::Runner;
 use run_plan::RunnerName;
@@ -19,7 +19,7 @@ pub struct Runners {
 impl Model for Runners {
     ghost use Rattle.std.specs.Prelude.{◌≡◌, List, true};
     ghost use Rattle.run_table.specs.TableState.{RunnerState};
-    ghost use Rattle.run_table.specs.Turns.{names_rise};
+    ghost use Rattle.run_table.specs.SequenceNumbers.{names_rise};
 
     ghost Value = { List RunnerState };
 

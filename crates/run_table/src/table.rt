@@ -1,9 +1,10 @@
 ghost use Rattle.std.specs.Prelude.{◌≡◌, ◌≤◌, true, IfOk, Ok, OnErr, IsOk};
 ghost use Rattle.wf_value.specs.Gives.{Gives};
+ghost use Rattle.run_plan.specs.declared.number.TheConstants.{LAST_NUMBER};
 ghost use Rattle.run_table.specs.Sound.{IsSound};
 ghost use Rattle.run_table.specs.Storable.{IsStorable};
 ghost use Rattle.run_table.specs.Step.{read_only_reply, empty, is_allocation_free, seen, step};
-ghost use Rattle.run_table.specs.Turns.{names_rise};
+ghost use Rattle.run_table.specs.SequenceNumbers.{names_rise};
 
 use crate::runner::Runner;
 use crate::runners::Runners;
@@ -104,7 +105,7 @@ impl Table {
     pub fn last_lease(&self) -> u32
         ensures lease { result ≡ self.now.last_lease }
         ensures sound { IsSound self.now }
-        ensures most { result ≤ 999999999 }
+        ensures most { result ≤ LAST_NUMBER }
     {
         self.table_data.last_lease()
     }

@@ -12,21 +12,21 @@ lines_steady bytes more rest r (line, none, inl (short, is, asks)) =
 lines_steady bytes more rest r (line, none, inr (long, is, asks)) = (line, none, inr (long, ap (λ b. b ++ more) is ∙ append_assoc line rest more, asks))
 
 -- a line feed follows each line, so no line can be longer
-feed_behind : (line rest : List ℕ) → slice_index_or (line ++ 10 ∷ rest) (length line) 0 ≡ 10
-feed_behind [] rest = refl
-feed_behind (b ∷ line) rest = feed_behind line rest
+feed_after : (line rest : List ℕ) → slice_index_or (line ++ 10 ∷ rest) (length line) 0 ≡ 10
+feed_after [] rest = refl
+feed_after (b ∷ line) rest = feed_after line rest
 
-no_further : (line rest other behind : List ℕ) → HasNoFeed other → line ++ 10 ∷ rest ≡ other ++ behind → length line < length other → ⊥
-no_further line rest other behind none e less =
+no_further : (line rest other suffix : List ℕ) → HasNoFeed other → line ++ 10 ∷ rest ≡ other ++ suffix → length line < length other → ⊥
+no_further line rest other suffix none e less =
     none (length line) 0 less
-    (sym (get_or_append_left other behind 0 (length line) less) ∙ ap (λ (b : List ℕ). slice_index_or b (length line) 0) (sym e) ∙ feed_behind line rest)
+    (sym (get_or_append_left other suffix 0 (length line) less) ∙ ap (λ (b : List ℕ). slice_index_or b (length line) 0) (sym e) ∙ feed_after line rest)
 
 same_length : (m n : ℕ) → (m < n → ⊥) → (n < m → ⊥) → m ≡ n
 same_length m n a b = omega arith
 
 -- prefixes of equal length are equal
-same_front : (line other a b : List ℕ) → length line ≡ length other → line ++ a ≡ other ++ b → line ≡ other
-same_front line other a b same e =
+same_prefix : (line other a b : List ℕ) → length line ≡ length other → line ++ a ≡ other ++ b → line ≡ other
+same_prefix line other a b same e =
     sym (take-append_seam line a) ∙ ap (λ n. take n (line ++ a)) same ∙ ap (take (length other)) e ∙ take-append_seam other b
 
 same_rest : (line other a b : List ℕ) → length line ≡ length other → line ++ a ≡ other ++ b → a ≡ b
@@ -38,7 +38,7 @@ lines_one bytes rest after r s (line, none, inl (short, is, asks)) (other, never
     let e = sym is ∙ stands in
     let same = same_length (length line) (length other)
     (no_further line rest other (10 ∷ after) never e) (no_further other after line (10 ∷ rest) none (sym e)) in (
-      asks ∙ ap request_in (same_front line other (10 ∷ rest) (10 ∷ after) same e) ∙ sym demands,
+      asks ∙ ap request_in (same_prefix line other (10 ∷ rest) (10 ∷ after) same e) ∙ sym demands,
       let f = same_rest line other (10 ∷ rest) (10 ∷ after) same e in cc f,
     )
 lines_one bytes rest after r s (line, none, inl (short, is, asks)) (other, never, inr (long, stands, demands)) =
@@ -52,6 +52,6 @@ lines_one bytes rest after r s (line, none, inr (long, is, asks)) (other, never,
 pub lines_apart : IsApart runner_rules
 lines_apart bytes rest r (none, few) (line, never, inl (short, is, asks)) =
     let e = ap length is ∙ length-append line (10 ∷ rest) in
-    none (length line) 0 (omega arith) (ap (λ (b : List ℕ). slice_index_or b (length line) 0) is ∙ feed_behind line rest)
+    none (length line) 0 (omega arith) (ap (λ (b : List ℕ). slice_index_or b (length line) 0) is ∙ feed_after line rest)
 lines_apart bytes rest r (none, few) (line, never, inr (long, is, asks)) =
     let e = ap length is ∙ length-append line rest in omega arith

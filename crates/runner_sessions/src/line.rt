@@ -6,8 +6,7 @@ ghost use Rattle.runner_sessions.specs.Line.{command_by, command_of, demand_by, 
 
 use act_sessions::{Demand, FoundRequest, Request};
 use command_lines::{
-    at_space, beat_of, claim_of, done_of, fetch_of, place_of_line_feed, spelled,
-    strip_carriage_return,
+    at_space, beat_of, claim_of, done_of, fetch_of, line_feed_index, spelled, strip_carriage_return,
 };
 use run_plan::Command;
 use std::alloc::Global;
@@ -59,13 +58,13 @@ fn request_in(alloc: Global, line: &[u8]) -> Result<Request<Refusal>, Refusal>
 pub fn next_line(alloc: Global, bytes: &[u8]) -> Result<Option<FoundRequest<Refusal>>, Refusal>
     ensures { IsNext runner_rules bytes.now result }
 {
-    let front = &bytes[..bytes.len().min(MAX_LINE)];
-    match place_of_line_feed(front) {
+    let prefix = &bytes[..bytes.len().min(MAX_LINE)];
+    match line_feed_index(prefix) {
         Some(place) => Ok(Some(FoundRequest {
             request: request_in(alloc, &bytes[..place])?,
             length: place + 1,
         })),
-        None if front.len() < MAX_LINE => Ok(None),
+        None if prefix.len() < MAX_LINE => Ok(None),
         None => Ok(Some(FoundRequest {
             request: Request {
                 demand: Demand::Fault(Refusal::Numbered(Code::Line)),

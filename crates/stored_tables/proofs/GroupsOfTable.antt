@@ -13,18 +13,18 @@ use Rattle.group_name.specs.Group.{Group, same_group}
 use Rattle.group_name.proofs.SameGroups.{own_group}
 use Rattle.run_states.specs.GroupOf.{group_at}
 use Rattle.stored_tables.specs.GroupSets.{AreGroupsOf, AreTaken, DifferInGroup, IsALeg, IsARun, group_as, has_group}
-use Rattle.stored_tables.specs.GroupSets.{stands}
-use Rattle.run_states.specs.Groups.{HasOneEach, all_holders, holds, is_in, is_pending_in, is_running_in, is_taken, waits}
+use Rattle.stored_tables.specs.GroupSets.{is_of_kind}
+use Rattle.run_states.specs.Groups.{HasOneEach, all_holders, holds, is_in, is_pending_in, is_in_progress_in, is_taken, waits}
 use Rattle.run_states.specs.Holders.{run_of}
 use Rattle.run_states.specs.PlacedLegs.{PlacedLeg, placed_legs}
 use Rattle.run_states.specs.RunState.{RunState}
 use Rattle.stored_tables.specs.declared.sound.groups.HolderKind.{HolderKind}
-use Rattle.stored_tables.specs.declared.sound.groups.HolderKind.TheVariants.{Pending, Running}
+use Rattle.stored_tables.specs.declared.sound.groups.HolderKind.TheVariants.{Pending, InProgress}
 use Rattle.run_states.proofs.Found.{each_of_map}
 use Rattle.run_states.proofs.JobKeeps.{leg_in}
-use Rattle.workflow_runs.proofs.PlacedLegs.{each_placed}
+use Rattle.settling_laws.proofs.PlacedLegs.{each_placed}
 use Rattle.stored_tables.proofs.LegsOnce.{Among, each_among, places}
-use Rattle.workflow_runs.proofs.OneEach.{IsOneOf, group_is, not_taken, one_that_holds, one_that_waits}
+use Rattle.settling_laws.proofs.OneEach.{IsOneOf, group_is, not_taken, one_that_holds, one_that_waits}
 use Rattle.run_states.specs.declared.holder.Holder.{Holder}
 use Rattle.run_states.specs.declared.holder.Holder.TheVariants.{Run, Leg}
 
@@ -35,12 +35,12 @@ given_if true o x e = (refl, e)
 given_if false o x e = cc
 
 module _ (runs : List RunState) where
-  one_that_stands : (s : HolderKind) (h : Holder) → stands runs s h ≡ true → IsOneOf runs h
-  one_that_stands Pending h e = one_that_waits runs h e
-  one_that_stands Running h e = one_that_holds runs h e
+  one_of_the_kind : (s : HolderKind) (h : Holder) → is_of_kind runs s h ≡ true → IsOneOf runs h
+  one_of_the_kind Pending h e = one_that_waits runs h e
+  one_of_the_kind InProgress h e = one_that_holds runs h e
 
   its_own : (s : HolderKind) (h : Holder) (g : Group) → group_as runs s h ≡ Some g → IsOneOf runs h
-  its_own s h g e = one_that_stands s h (given_if (stands runs s h) (group_at runs h) g e).0
+  its_own s h g e = one_of_the_kind s h (given_if (is_of_kind runs s h) (group_at runs h) g e).0
 
   -- its index is within the table
 
@@ -69,8 +69,8 @@ module _ (runs : List RunState) where
       let parts = and_parts (is_in runs g h) (waits runs h) e in
       ap (λ b. if b then group_at runs h else None) parts.1 ∙ group_is runs g h parts.0
 
-  running_as : (g : Group) (h : Holder) → is_running_in runs g h ≡ true → group_as runs Running h ≡ Some g
-  running_as g h e =
+  in_progress_as : (g : Group) (h : Holder) → is_in_progress_in runs g h ≡ true → group_as runs InProgress h ≡ Some g
+  in_progress_as g h e =
       let parts = and_parts (is_in runs g h) (holds runs h) e in
       ap (λ b. if b then group_at runs h else None) parts.1 ∙ group_is runs g h parts.0
 
@@ -78,30 +78,30 @@ module _ (runs : List RunState) where
   as_pending g h e =
       let parts = given_if (waits runs h) (group_at runs h) g e in and_from (is_in runs g h) (waits runs h) (in_own g h parts.1) parts.0
 
-  as_running : (g : Group) (h : Holder) → group_as runs Running h ≡ Some g → is_running_in runs g h ≡ true
-  as_running g h e =
+  as_in_progress : (g : Group) (h : Holder) → group_as runs InProgress h ≡ Some g → is_in_progress_in runs g h ≡ true
+  as_in_progress g h e =
       let parts = given_if (holds runs h) (group_at runs h) g e in and_from (is_in runs g h) (holds runs h) (in_own g h parts.1) parts.0
 
-  pub one_of_each : DifferInGroup (group_as runs Pending) → DifferInGroup (group_as runs Running) → HasOneEach runs
-  one_of_each pending running = record {
+  pub one_of_each : DifferInGroup (group_as runs Pending) → DifferInGroup (group_as runs InProgress) → HasOneEach runs
+  one_of_each pending in_progress = record {
     pending = (λ g h k e f. pending h k g (pending_as g h e) (pending_as g k f));
-    running = (λ g h k e f. running h k g (running_as g h e) (running_as g k f));
+    in_progress = (λ g h k e f. in_progress h k g (in_progress_as g h e) (in_progress_as g k f));
   }
 
   pub pending_differ : HasOneEach runs → DifferInGroup (group_as runs Pending)
   pending_differ one h k g e f = one.pending g h k (as_pending g h e) (as_pending g k f)
 
-  pub running_differ : HasOneEach runs → DifferInGroup (group_as runs Running)
-  running_differ one h k g e f = one.running g h k (as_running g h e) (as_running g k f)
+  pub in_progress_differ : HasOneEach runs → DifferInGroup (group_as runs InProgress)
+  in_progress_differ one h k g e f = one.in_progress g h k (as_in_progress g h e) (as_in_progress g k f)
 
   -- ---- the groups with a running holder
 
-  runs_in : (g : Group) (hs : List Holder) → list_any (is_running_in runs g) hs ≡ true → (h : Holder) × (is_running_in runs g h ≡ true)
+  runs_in : (g : Group) (hs : List Holder) → list_any (is_in_progress_in runs g) hs ≡ true → (h : Holder) × (is_in_progress_in runs g h ≡ true)
   runs_in g [] e = cc
   runs_in g (h ∷ hs) e =
-      elim (is_running_in runs g h) as
-      (λ b. is_running_in runs g h ≡ b → (b || list_any (is_running_in runs g) hs) ≡ true
-      → (k : Holder) × (is_running_in runs g k ≡ true)) [
+      elim (is_in_progress_in runs g h) as
+      (λ b. is_in_progress_in runs g h ≡ b → (b || list_any (is_in_progress_in runs g) hs) ≡ true
+      → (k : Holder) × (is_in_progress_in runs g k ≡ true)) [
         | true ↦ λ is e. (h, is)
         | false ↦ λ is e. runs_in g hs e
       ] refl e
@@ -111,18 +111,18 @@ module _ (runs : List RunState) where
   same_truth false true to from = from refl
   same_truth false false to from = refl
 
-  taken_by : (g : Group) (h : Holder) → is_running_in runs g h ≡ true → is_taken runs g ≡ true
+  taken_by : (g : Group) (h : Holder) → is_in_progress_in runs g h ≡ true → is_taken runs g ≡ true
   taken_by g h e =
       elim (is_taken runs g) as (λ b. is_taken runs g ≡ b → b ≡ true) [
         | true ↦ λ is. refl
         | false ↦ λ is. absurd (not_taken runs g h is e)
       ] refl
 
-  pub those_taken : (groups : List Group) → AreGroupsOf (group_as runs Running) groups → AreTaken runs groups
+  pub those_taken : (groups : List Group) → AreGroupsOf (group_as runs InProgress) groups → AreTaken runs groups
   those_taken groups are g =
       same_truth (has_group groups g) (is_taken runs g)
-      (λ has. let one = are.no_other g has in taken_by g one.one (as_running g one.one one.has_it))
-      (λ taken. let one = runs_in g (all_holders runs) taken in are.has_each one.0 g (running_as g one.0 one.1))
+      (λ has. let one = are.no_other g has in taken_by g one.one (as_in_progress g one.one one.has_it))
+      (λ taken. let one = runs_in g (all_holders runs) taken in are.has_each one.0 g (in_progress_as g one.0 one.1))
 
 -- ---- what is found of the groups with a pending holder, and of those with a running one
 
@@ -142,11 +142,11 @@ module _ (runs : List RunState) where
   pending_apart (Some groups) says some = says.0
 
   pub taken_found : (r : Result (Option (List Group)) Refusal) → DifferInGroup (group_as runs Pending)
-      → IfOk r (λ found. MatchOption found (DifferInGroup (group_as runs Running) → ⊥)
-      (λ groups. DifferInGroup (group_as runs Running) × AreGroupsOf (group_as runs Running) groups))
+      → IfOk r (λ found. MatchOption found (DifferInGroup (group_as runs InProgress) → ⊥)
+      (λ groups. DifferInGroup (group_as runs InProgress) × AreGroupsOf (group_as runs InProgress) groups))
       → IfOk r (λ found. MatchOption found (HasOneEach runs → ⊥) (λ groups. HasOneEach runs × AreTaken runs groups))
   taken_found (Err e) pending says = tt
-  taken_found (Ok None) pending says = λ one. says (running_differ runs one)
+  taken_found (Ok None) pending says = λ one. says (in_progress_differ runs one)
   taken_found (Ok (Some groups)) pending says = (one_of_each runs pending says.0, those_taken runs groups says.1)
 
   pub found_each : (o : Option (List Group)) (groups : List Group)

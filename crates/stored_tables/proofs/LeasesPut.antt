@@ -13,7 +13,7 @@ use Rattle.run_states.specs.RunState.{LegState, JobState, RunState}
 use Rattle.stored_tables.proofs.ByNumberRead.{adds_next, adds_on, adds_same, all_added, nothing_added}
 use Rattle.run_states.proofs.Found.{all_weaken}
 use Rattle.run_states.proofs.Optional.{from_and_then}
-use Rattle.workflow_runs.proofs.PlacedLegs.{each_is_there, each_placed}
+use Rattle.settling_laws.proofs.PlacedLegs.{each_is_there, each_placed}
 
 -- one of these legs is at the place and has the lease
 abbrev pub HasLease : List PlacedLeg → LegPlace → ℕ → Type 0

@@ -9,7 +9,7 @@ use Rattle.run_states.specs.Places.{leg_place, leg_places, leg_places_of_job, le
 use Rattle.run_states.specs.declared.place.LegPlace.{LegPlace}
 use Rattle.run_states.specs.RunState.{LegState, JobState, RunState}
 use Rattle.run_states.proofs.Found.{all_append, all_flat_map, all_map, all_of, all_weaken}
-use Rattle.workflow_runs.proofs.PlacedLegs.{places_of_all}
+use Rattle.settling_laws.proofs.PlacedLegs.{places_of_all}
 use Rattle.run_states.specs.declared.holder.Holder.{Holder}
 use Rattle.run_states.specs.declared.holder.Holder.TheVariants.{Leg}
 
@@ -34,10 +34,10 @@ abbrev pub Once : List LegPlace → Type 0
 Once [] = Unit {0}
 Once (p ∷ ps) = AllByRecursion (λ q. q ≡ p → ⊥) ps × Once ps
 
-pub not_behind : (p : LegPlace) (ps : List LegPlace) → AllByRecursion (λ q. q ≡ p → ⊥) ps → Among ps (Leg p) → ⊥
-not_behind p [] others is = is
-not_behind p (q ∷ ps) others (inl is) = let same : q ≡ p = cc in others.0 same
-not_behind p (q ∷ ps) others (inr is) = not_behind p ps others.1 is
+pub not_after : (p : LegPlace) (ps : List LegPlace) → AllByRecursion (λ q. q ≡ p → ⊥) ps → Among ps (Leg p) → ⊥
+not_after p [] others is = is
+not_after p (q ∷ ps) others (inl is) = let same : q ≡ p = cc in others.0 same
+not_after p (q ∷ ps) others (inr is) = not_after p ps others.1 is
 
 once_append : (ps qs : List LegPlace) → Once ps → Once qs → AllByRecursion (λ p. AllByRecursion (λ q. q ≡ p → ⊥) qs) ps → Once (ps ++ qs)
 once_append [] qs one two apart = two

@@ -21,7 +21,7 @@ use Rattle.run_states.specs.WithinRun.{needs_settled_in, whole_goes_on_in}
 use Rattle.run_states.specs.declared.place.RuleSite.{RuleSite}
 use Rattle.run_states.specs.declared.place.RuleSite.TheVariants.{AtLeg, Closing, Opening, Whole}
 use Rattle.run_states.proofs.OneAfterAnother.{OfEach, no}
-use Rattle.workflow_runs.proofs.Walks.{first_place_by_run}
+use Rattle.settling_laws.proofs.Walks.{first_place_by_run}
 use Rattle.run_table.proofs.NoAnswer.{NoneAt, each_none, none_of_each}
 use Rattle.wf_value.proofs.OptionOr.{or_none}
 use Rattle.run_states.specs.declared.holder.Holder.{Holder}

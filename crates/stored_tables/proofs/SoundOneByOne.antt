@@ -15,7 +15,7 @@ use Rattle.run_table.specs.Sound.{DeliveriesDiffer, IsAtWork, IsHeld, IsSound, K
 use Rattle.run_states.specs.AsPlanned.{AreAsPlanned}
 use Rattle.run_table.specs.TableState.{RunnerState, TableState}
 use Rattle.run_states.specs.RunState.{LegState, RunState}
-use Rattle.run_table.specs.Turns.{names_rise}
+use Rattle.run_table.specs.SequenceNumbers.{names_rise}
 use Rattle.stored_tables.specs.declared.sound.leases.Leases.{Leases}
 use Rattle.run_states.proofs.JobKeeps.{job_in}
 use Rattle.run_states.proofs.LegReads.{had_from_leg, leg_from_had}

@@ -7,7 +7,7 @@ use Rattle.run_states.specs.GroupOf.{group_at}
 use Rattle.run_states.specs.Groups.{holds, is_taken, waits}
 use Rattle.run_states.specs.RunState.{RunState}
 use Rattle.stored_tables.specs.declared.sound.groups.HolderKind.{HolderKind}
-use Rattle.stored_tables.specs.declared.sound.groups.HolderKind.TheVariants.{Pending, Running}
+use Rattle.stored_tables.specs.declared.sound.groups.HolderKind.TheVariants.{Pending, InProgress}
 use Rattle.run_states.specs.declared.holder.Holder.{Holder}
 use Rattle.run_states.specs.declared.holder.Holder.TheVariants.{Run, Leg}
 
@@ -16,13 +16,13 @@ has_group groups g = list_any (same_group g) groups
 
 -- ---- the state of a run or a leg in its group
 
-abbrev pub stands : List RunState → HolderKind → Holder → Bool
-stands runs Pending h = waits runs h
-stands runs Running h = holds runs h
+abbrev pub is_of_kind : List RunState → HolderKind → Holder → Bool
+is_of_kind runs Pending h = waits runs h
+is_of_kind runs InProgress h = holds runs h
 
 -- the group of a holder that has this state
 abbrev pub group_as : List RunState → HolderKind → Holder → Option Group
-group_as runs holder_kind h = if stands runs holder_kind h then group_at runs h else None
+group_as runs holder_kind h = if is_of_kind runs holder_kind h then group_at runs h else None
 
 -- ---- groups gathered from some of the runs and legs
 

@@ -7,7 +7,7 @@ ghost use Rattle.wf_value.specs.Gives.{ErrsOnlyByMemory};
 ghost use Rattle.stored_tables.specs.ByLease.{FindsLegs};
 ghost use Rattle.stored_tables.specs.TableOf.{AreRunnersAs, IsLastAs, IsReplyAs, IsRunnerAs};
 ghost use Rattle.run_table.specs.TableState.{RunnerState};
-ghost use Rattle.run_table.specs.Turns.{names_rise};
+ghost use Rattle.run_table.specs.SequenceNumbers.{names_rise};
 ghost use Rattle.run_plan.specs.declared.last_command.ClaimReply.{ClaimReply as Reply};
 ghost use Rattle.run_plan.specs.declared.last_command.LastCommand.{LastCommand as Last};
 ghost use Rattle.run_states.specs.AsPlanned.{AreAsPlanned};

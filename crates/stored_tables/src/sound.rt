@@ -9,7 +9,7 @@ ghost use Rattle.stored_tables.specs.ByLease.{lease_of_leg, lease_of_runner};
 ghost use Rattle.stored_tables.specs.ByNumber.{Finds};
 ghost use Rattle.run_table.specs.Sound.{IsSound, KeptLeasesAreOfLegs};
 ghost use Rattle.run_states.specs.AsPlanned.{AreAsPlanned};
-ghost use Rattle.run_table.specs.Turns.{names_rise};
+ghost use Rattle.run_table.specs.SequenceNumbers.{names_rise};
 
 mod deliveries;
 mod group_set;
@@ -28,7 +28,8 @@ use crate::sound::legs::are_legs_sound;
 use crate::sound::rest::do_runs_rest;
 use crate::sound::runners::are_runners_sound;
 use crate::sound::runs::are_runs_sound;
-use run_table::{LAST_NUMBER, Runner};
+use run_plan::LAST_NUMBER;
+use run_table::Runner;
 use std::alloc::Global;
 use wf_value::Refusal;
 use workflow_runs::runs::Runs;

@@ -52,9 +52,9 @@ begins t r =
     ∙ run_stays event_of its_event r again t.runs (λ x. refl)
 
 pub step_keeps : (t : TableState) (c : Command) → Keeps t (stepped t c).table
-step_keeps t (command.Rerun asked) =
-    answered event_of its_event t (rerun_answer t asked) (rerunning t asked)
-    (keeps_all event_of its_event t (rerunning t asked).table (begins t (asked.run - 1)))
+step_keeps t (command.Rerun requested) =
+    answered event_of its_event t (rerun_answer t requested) (rerunning t requested)
+    (keeps_all event_of its_event t (rerunning t requested).table (begins t (requested.run - 1)))
 step_keeps t c = step_stays event_of its_event t c tt
 
 pub after_keeps : (t : TableState) (cs : List Command) → Keeps t (after t cs)
@@ -98,12 +98,12 @@ placed_nowhere n l e =
 place_is : (n l : ℕ) → n < l → at_place n l ≡ Some n
 place_is n l less = ap (λ (b : Bool). cond b (Some n) None) (lt-ltb n l less)
 
-len_front : {X : Type 0} (p : X → Bool) (xs ys : List X) → prefix_len p xs < length xs → prefix_len p (xs ++ ys) ≡ prefix_len p xs
-len_front p [] ys less = absurd (omega (arith, less))
-len_front p (x ∷ xs) ys less =
+len_prefix : {X : Type 0} (p : X → Bool) (xs ys : List X) → prefix_len p xs < length xs → prefix_len p (xs ++ ys) ≡ prefix_len p xs
+len_prefix p [] ys less = absurd (omega (arith, less))
+len_prefix p (x ∷ xs) ys less =
     elim (p x) as (λ b. cond b (1 + prefix_len p xs) 0 < length (x ∷ xs)
     → cond b (1 + prefix_len p (xs ++ ys)) 0 ≡ cond b (1 + prefix_len p xs) 0) [
-      | true ↦ λ h. ap (λ (n : ℕ). 1 + n) (len_front p xs ys (omega (arith, h)))
+      | true ↦ λ h. ap (λ (n : ℕ). 1 + n) (len_prefix p xs ys (omega (arith, h)))
       | false ↦ λ h. refl
     ] less
 
@@ -124,7 +124,7 @@ place_stays delivery t next i keeps is =
     let q = λ (e : Admitted). not (is_event delivery e) in
     let old = events t.runs in
     let there = placed_at (prefix_len q old) (length old) i (by_events delivery t.runs ∙ is) in
-    let same : prefix_len q (old ++ keeps.0) ≡ prefix_len q old = len_front q old keeps.0 there.0 in
+    let same : prefix_len q (old ++ keeps.0) ≡ prefix_len q old = len_prefix q old keeps.0 there.0 in
     let less : prefix_len q (old ++ keeps.0) < length (old ++ keeps.0) = omega (arith, same, there.0, length-append old keeps.0) in
     sym (by_events delivery next.runs)
     ∙ ap (λ (l : List Admitted). position p l) keeps.1
@@ -147,8 +147,8 @@ new_place t event none =
     let now = (admitting t event).table.runs in
     let is_new : q event ≡ false = ap not ((bytes_eq-Decides event.delivery event.delivery).1 refl) in
     let length_is : length old ≡ length t.runs = length-map t.runs (λ (x : RunState). x.admitted) in
-    let behind = placed_nowhere (prefix_len q old) (length old) (by_events event.delivery t.runs ∙ none) in
-    let same : prefix_len q (old ++ event ∷ []) ≡ length old = len_all q old event behind is_new in
+    let suffix = placed_nowhere (prefix_len q old) (length old) (by_events event.delivery t.runs ∙ none) in
+    let same : prefix_len q (old ++ event ∷ []) ≡ length old = len_all q old event suffix is_new in
     sym (by_events event.delivery now)
     ∙ ap (λ (l : List Admitted). position (is_event event.delivery) l) (entered_events t event)
     ∙ place_is (prefix_len q (old ++ event ∷ [])) (length (old ++ event ∷ [])) (omega (arith, same, length-append old (event ∷ [])))

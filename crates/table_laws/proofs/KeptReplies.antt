@@ -28,9 +28,9 @@ use Rattle.run_table.specs.Step.{admission_answer, admitting, cancel_answer, can
 use Rattle.run_table.specs.Step.{has_no_lease_left}
 use Rattle.run_table.specs.Step.{kept_lease_at, lease_answer, lease_at, leasing, losing, lost, refused, released, report_answer, reporting}
 use Rattle.run_table.specs.Step.{reporting_runner, outcome, rerun_answer, rerunning, serving_nothing, step, stepped, unchanged}
-use Rattle.run_table.specs.Turns.{answer_of_turn, holds_lease, holds_this, is_repeated, number_of, runner_named, turn_answer, with_runner}
+use Rattle.run_table.specs.SequenceNumbers.{answer_by_number, holds_lease, holds_this, is_repeated, number_of, runner_named, number_refusal, with_runner}
 use Rattle.run_table.proofs.RunnerPut.{found_new, found_other, has_the_name}
-use Rattle.table_laws.specs.ExactlyOnce.{HasTurn, HaveNoLaterTurn, IsRefused}
+use Rattle.table_laws.specs.ExactlyOnce.{HasNumber, HaveNoLaterNumber, IsRefused}
 
 -- ---- what is kept
 
@@ -73,12 +73,12 @@ module _ (name : List ℕ) (number : ℕ) (same : LastCommand → Bool) (kept : 
       ] refl
 
   -- a runner with its next command
-  in_turn : (t next : TableState) (new : RunnerState) → next.runners ≡ with_runner t.runners new
+  is_numbered : (t next : TableState) (new : RunnerState) → next.runners ≡ with_runner t.runners new
       → new.number ≡ number_of (runner_named t.runners new.name) + 1 → (new.name ≡ name → new.number ≤ number) → Has t → Has next
-  in_turn t next new is turn no_later has = has_beside t next new is (λ has named.
+  is_numbered t next new is numbered no_later has = has_beside t next new is (λ has named.
       let found : runner_named t.runners new.name ≡ Some has.runner = ap (runner_named t.runners) (sym named) ∙ has.found in
       let last : number_of (runner_named t.runners new.name) ≡ number = ap number_of found ∙ has.number_is in
-      absurd (omega (arith, turn, last, no_later (sym named)))) has
+      absurd (omega (arith, numbered, last, no_later (sym named)))) has
 
   -- a runner that loses its lease
   releasing : (t next : TableState) (lost_one : List ℕ) (runner : RunnerState) → runner_named t.runners lost_one ≡ Some runner
@@ -101,13 +101,13 @@ module _ (name : List ℕ) (number : ℕ) (same : LastCommand → Bool) (kept : 
   answered t None change has h = h refl
   answered t (Some given) change has h = has
 
-  turn_is : (o : Option RunnerState) (n : ℕ) (test : LastCommand → Bool) (others : Option Reply)
-      → option_or (answer_of_turn o n test) others ≡ None
+  numbered_is : (o : Option RunnerState) (n : ℕ) (test : LastCommand → Bool) (others : Option Reply)
+      → option_or (answer_by_number o n test) others ≡ None
       → n ≡ number_of o + 1
-  turn_is o n test others none =
+  numbered_is o n test others none =
       elim (option_map_or (is_repeated n test) o false) as
       (λ b. option_map_or (is_repeated n test) o false ≡ b
-      → option_or (if b then option_map (λ (r : RunnerState). kept_reply r.last) o else turn_answer (number_of o) n) others ≡ None
+      → option_or (if b then option_map (λ (r : RunnerState). kept_reply r.last) o else number_refusal (number_of o) n) others ≡ None
       → n ≡ number_of o + 1) [
         | true ↦ λ is h. absurd (repeated o is h)
         | false ↦ λ is h. elim (nat_eq n (number_of o + 1)) as
@@ -126,21 +126,21 @@ module _ (name : List ℕ) (number : ℕ) (same : LastCommand → Bool) (kept : 
   has_claim : (t : TableState) (claim : Claimed) → (claim.runner ≡ name → claim.number ≤ number) → claim_answer t claim ≡ None → Has t
       → Has (claiming t claim).table
   has_claim t claim no_later none has =
-      let turn = turn_is (runner_named t.runners claim.runner) claim.number (is_last_claim claim)
+      let numbered = numbered_is (runner_named t.runners claim.runner) claim.number (is_last_claim claim)
       (if holds_lease (runner_named t.runners claim.runner) then Some (refused HasLease) else lease_answer t claim) none in
       elim (first_fit claim.labels t.runs) as (λ o. Has (option_map_or (leasing t claim) o (serving_nothing t claim)).table) [
-        | None ↦ in_turn t (serving_nothing t claim).table (claiming_runner claim None given.Nothing) refl turn no_later has
-        | Some p ↦ in_turn t (leasing t claim p).table
-            (claiming_runner claim (Some (t.last_lease + 1)) (given.Lease (kept_lease_at t.runs p (t.last_lease + 1)))) refl turn no_later has
+        | None ↦ is_numbered t (serving_nothing t claim).table (claiming_runner claim None given.Nothing) refl numbered no_later has
+        | Some p ↦ is_numbered t (leasing t claim p).table
+            (claiming_runner claim (Some (t.last_lease + 1)) (given.Lease (kept_lease_at t.runs p (t.last_lease + 1)))) refl numbered no_later has
       ]
 
   has_report : (t : TableState) (report : Reported) → (report.runner ≡ name → report.number ≤ number)
       → report_answer t report ≡ None → Has t
       → Has (reporting t report).table
   has_report t report no_later none has =
-      let turn = turn_is (runner_named t.runners report.runner) report.number (is_last_report report)
+      let numbered = numbered_is (runner_named t.runners report.runner) report.number (is_last_report report)
       (if holds_this report.lease (runner_named t.runners report.runner) then None else Some (refused LeaseNotHeld)) none in
-      in_turn t (reporting t report).table (reporting_runner report) refl turn no_later has
+      is_numbered t (reporting t report).table (reporting_runner report) refl numbered no_later has
 
   has_lost : (t : TableState) (who : List ℕ) → Has t → Has (lost t who).table
   has_lost t who has =
@@ -178,7 +178,7 @@ module _ (name : List ℕ) (number : ℕ) (same : LastCommand → Bool) (kept : 
         | false ↦ λ is. ltb-false number n is
       ] refl
 
-  pub has_step : (t : TableState) (c : Command) → ((n : ℕ) → HasTurn c name n → number < n → IsRefused (stepped t c).reply) → Has t
+  pub has_step : (t : TableState) (c : Command) → ((n : ℕ) → HasNumber c name n → number < n → IsRefused (stepped t c).reply) → Has t
       → Has (stepped t c).table
   has_step t (command.Admit event) no_later has =
       answered t (admission_answer t event) (admitting t event) has (λ none. has_runners t (admitting t event).table refl has)
@@ -196,23 +196,23 @@ module _ (name : List ℕ) (number : ℕ) (same : LastCommand → Bool) (kept : 
   has_step t (command.Lost who) no_later has = has_lost t who has
   has_step t (command.Fetch id) no_later has = has
   has_step t (command.Look id) no_later has = has
-  has_step t (command.Rerun asked) no_later has =
-      answered t (rerun_answer t asked) (rerunning t asked) has (λ none. has_runners t (rerunning t asked).table refl has)
+  has_step t (command.Rerun requested) no_later has =
+      answered t (rerun_answer t requested) (rerunning t requested) has (λ none. has_runners t (rerunning t requested).table refl has)
 
-  pub has_after : (t : TableState) (cs : List Command) → HaveNoLaterTurn name number cs → Has t → Has (after t cs)
+  pub has_after : (t : TableState) (cs : List Command) → HaveNoLaterNumber name number cs → Has t → Has (after t cs)
   has_after t [] no_later has = has
   has_after t (c ∷ cs) no_later has =
       has_after (stepped t c).table cs no_later.1
-      (has_step t c (λ n turn later. absurd (omega (arith, no_later.0 n turn, later))) has)
+      (has_step t c (λ n numbered later. absurd (omega (arith, no_later.0 n numbered, later))) has)
 
   -- the same command again
-  pub answer_again : (t : TableState) → Has t → answer_of_turn (runner_named t.runners name) number same ≡ Some kept
+  pub answer_again : (t : TableState) → Has t → answer_by_number (runner_named t.runners name) number same ≡ Some kept
   answer_again t has =
       let x = has.runner in
       let repeats : is_repeated number same x ≡ true =
       ap (λ (b : Bool). b && same x.last) (eq-eqb x.number number has.number_is) ∙ ap (λ (b : Bool). true && b) has.passes in
-      ap (λ (o : Option RunnerState). answer_of_turn o number same) has.found
-      ∙ ap (λ (b : Bool). if b then Some (kept_reply x.last) else turn_answer x.number number) repeats
+      ap (λ (o : Option RunnerState). answer_by_number o number same) has.found
+      ∙ ap (λ (b : Bool). if b then Some (kept_reply x.last) else number_refusal x.number number) repeats
       ∙ ap (λ (r : Reply). Some r) has.keeps
 
 -- ---- what a command that is not refused leaves
@@ -246,7 +246,7 @@ repeated_has t name number same x found is =
 abbrev turned : TableState → Option RunnerState → Bool → ℕ → Option Reply → Step → Step
 turned t o b number others change =
     option_map_or (unchanged t)
-    (option_or (if b then option_map (λ (r : RunnerState). kept_reply r.last) o else turn_answer (number_of o) number) others) change
+    (option_or (if b then option_map (λ (r : RunnerState). kept_reply r.last) o else number_refusal (number_of o) number) others) change
 
 module _ (t : TableState) (name : List ℕ) (number : ℕ) (same : LastCommand → Bool) (others : Option Reply) (change : Step)
     (refuses : (r : Reply) → others ≡ Some r → IsRefused r)
@@ -261,11 +261,11 @@ module _ (t : TableState) (name : List ℕ) (number : ℕ) (same : LastCommand �
   first_has None found is = cc is
   first_has (Some x) found is = repeated_has t name number same x found is
 
-  pub taken_has : (IsRefused (option_map_or (unchanged t) (option_or (answer_of_turn (runner_named t.runners name) number same) others)
+  pub taken_has : (IsRefused (option_map_or (unchanged t) (option_or (answer_by_number (runner_named t.runners name) number same) others)
       change).reply → ⊥)
-      → HasKept (option_map_or (unchanged t) (option_or (answer_of_turn (runner_named t.runners name) number same) others) change).table
+      → HasKept (option_map_or (unchanged t) (option_or (answer_by_number (runner_named t.runners name) number same) others) change).table
       name number
-      same (option_map_or (unchanged t) (option_or (answer_of_turn (runner_named t.runners name) number same) others) change).reply
+      same (option_map_or (unchanged t) (option_or (answer_by_number (runner_named t.runners name) number same) others) change).reply
   taken_has taken =
       let o = runner_named t.runners name in
       elim (option_map_or (is_repeated number same) o false) as
@@ -351,57 +351,57 @@ test_of (command.Cancel id) = λ l. false
 test_of (command.Lost name) = λ l. false
 test_of (command.Look id) = λ l. false
 test_of (command.Fetch id) = λ l. false
-test_of (command.Rerun asked) = λ l. false
+test_of (command.Rerun requested) = λ l. false
 
-at_turn : (P : List ℕ → ℕ → Type 0) (a b : List ℕ) (m n : ℕ) → a ≡ b → m ≡ n → P a m → P b n
-at_turn P a b m n names numbers h = subst (λ (x : List ℕ). P x n) names (subst (λ (k : ℕ). P a k) numbers h)
+at_number : (P : List ℕ → ℕ → Type 0) (a b : List ℕ) (m n : ℕ) → a ≡ b → m ≡ n → P a m → P b n
+at_number P a b m n names numbers h = subst (λ (x : List ℕ). P x n) names (subst (λ (k : ℕ). P a k) numbers h)
 
-pub turn_has : (t : TableState) (c : Command) (name : List ℕ) (number : ℕ) → HasTurn c name number → (IsRefused (stepped t c).reply → ⊥)
+pub numbered_has : (t : TableState) (c : Command) (name : List ℕ) (number : ℕ) → HasNumber c name number → (IsRefused (stepped t c).reply → ⊥)
     → HasKept (stepped t c).table name number (test_of c) (stepped t c).reply
-turn_has t (command.Claim claim) name number turn taken =
+numbered_has t (command.Claim claim) name number numbered taken =
     let s = stepped t (command.Claim claim) in
-    at_turn (λ x n. HasKept s.table x n (is_last_claim claim) s.reply) claim.runner name claim.number number turn.0 turn.1
+    at_number (λ x n. HasKept s.table x n (is_last_claim claim) s.reply) claim.runner name claim.number number numbered.0 numbered.1
     (claim_has t claim taken)
-turn_has t (command.Done report) name number turn taken =
+numbered_has t (command.Done report) name number numbered taken =
     let s = stepped t (command.Done report) in
-    at_turn (λ x n. HasKept s.table x n (is_last_report report) s.reply) report.runner name report.number number turn.0 turn.1
+    at_number (λ x n. HasKept s.table x n (is_last_report report) s.reply) report.runner name report.number number numbered.0 numbered.1
     (report_has t report taken)
-turn_has t (command.Admit event) name number turn taken = absurd turn
-turn_has t (command.Beat beat) name number turn taken = absurd turn
-turn_has t (command.Cancel id) name number turn taken = absurd turn
-turn_has t (command.Lost who) name number turn taken = absurd turn
-turn_has t (command.Look id) name number turn taken = absurd turn
-turn_has t (command.Fetch id) name number turn taken = absurd turn
-turn_has t (command.Rerun asked) name number turn taken = absurd turn
+numbered_has t (command.Admit event) name number numbered taken = absurd numbered
+numbered_has t (command.Beat beat) name number numbered taken = absurd numbered
+numbered_has t (command.Cancel id) name number numbered taken = absurd numbered
+numbered_has t (command.Lost who) name number numbered taken = absurd numbered
+numbered_has t (command.Look id) name number numbered taken = absurd numbered
+numbered_has t (command.Fetch id) name number numbered taken = absurd numbered
+numbered_has t (command.Rerun requested) name number numbered taken = absurd numbered
 
-pub turn_again : (t : TableState) (c : Command) (name : List ℕ) (number : ℕ) (kept : Reply) → HasTurn c name number
+pub numbered_again : (t : TableState) (c : Command) (name : List ℕ) (number : ℕ) (kept : Reply) → HasNumber c name number
     → HasKept t name number (test_of c) kept → step t c ≡ (t, kept)
-turn_again t (command.Claim claim) name number kept turn has =
-    let own = at_turn (λ x n. HasKept t x n (is_last_claim claim) kept) name claim.runner number claim.number (sym turn.0)
-    (sym turn.1) has in
+numbered_again t (command.Claim claim) name number kept numbered has =
+    let own = at_number (λ x n. HasKept t x n (is_last_claim claim) kept) name claim.runner number claim.number (sym numbered.0)
+    (sym numbered.1) has in
     let others = if holds_lease (runner_named t.runners claim.runner) then Some (refused HasLease) else lease_answer t claim in
     ap (λ (o : Option Reply). outcome (option_map_or (unchanged t) (option_or o others) (claiming t claim)))
     (answer_again claim.runner claim.number (is_last_claim claim) kept t own)
-turn_again t (command.Done report) name number kept turn has =
-    let own = at_turn (λ x n. HasKept t x n (is_last_report report) kept) name report.runner number report.number (sym turn.0)
-    (sym turn.1) has in
+numbered_again t (command.Done report) name number kept numbered has =
+    let own = at_number (λ x n. HasKept t x n (is_last_report report) kept) name report.runner number report.number (sym numbered.0)
+    (sym numbered.1) has in
     let others = if holds_this report.lease (runner_named t.runners report.runner) then None else Some (refused LeaseNotHeld) in
     ap (λ (o : Option Reply). outcome (option_map_or (unchanged t) (option_or o others) (reporting t report)))
     (answer_again report.runner report.number (is_last_report report) kept t own)
-turn_again t (command.Admit event) name number kept turn has = absurd turn
-turn_again t (command.Beat beat) name number kept turn has = absurd turn
-turn_again t (command.Cancel id) name number kept turn has = absurd turn
-turn_again t (command.Lost who) name number kept turn has = absurd turn
-turn_again t (command.Look id) name number kept turn has = absurd turn
-turn_again t (command.Fetch id) name number kept turn has = absurd turn
-turn_again t (command.Rerun asked) name number kept turn has = absurd turn
+numbered_again t (command.Admit event) name number kept numbered has = absurd numbered
+numbered_again t (command.Beat beat) name number kept numbered has = absurd numbered
+numbered_again t (command.Cancel id) name number kept numbered has = absurd numbered
+numbered_again t (command.Lost who) name number kept numbered has = absurd numbered
+numbered_again t (command.Look id) name number kept numbered has = absurd numbered
+numbered_again t (command.Fetch id) name number kept numbered has = absurd numbered
+numbered_again t (command.Rerun requested) name number kept numbered has = absurd numbered
 
 -- ---- the law
 
-pub reply_again : (t : TableState) (c : Command) (name : List ℕ) (number : ℕ) (later : List Command) → HasTurn c name number
-    → (IsRefused (stepped t c).reply → ⊥) → HaveNoLaterTurn name number later
+pub reply_again : (t : TableState) (c : Command) (name : List ℕ) (number : ℕ) (later : List Command) → HasNumber c name number
+    → (IsRefused (stepped t c).reply → ⊥) → HaveNoLaterNumber name number later
     → step (after (stepped t c).table later) c ≡ (after (stepped t c).table later, (stepped t c).reply)
-reply_again t c name number later turn taken no_later =
+reply_again t c name number later numbered taken no_later =
     let s = stepped t c in
-    turn_again (after s.table later) c name number s.reply turn
-    (has_after name number (test_of c) s.reply s.table later no_later (turn_has t c name number turn taken))
+    numbered_again (after s.table later) c name number s.reply numbered
+    (has_after name number (test_of c) s.reply s.table later no_later (numbered_has t c name number numbered taken))

@@ -17,7 +17,7 @@ use Rattle.run_states.specs.RunState.{RunState}
 use Rattle.run_states.proofs.Changed.{at_another, at_changed}
 use Rattle.run_states.proofs.LegFacts.{attempt_at}
 use Rattle.run_table.specs.Histories.{after, replies}
-use Rattle.run_table.specs.Step.{answer_of_attempt, answer_of_next, entered_again, has_completed, last_attempt, outcome, refused, rerun_answer, rerunning, step}
+use Rattle.run_table.specs.Step.{answer_of_attempt, answer_of_next, entered_again, has_completed, outcome, refused, rerun_answer, rerunning, step}
 use Rattle.run_table.specs.Step.{stepped, unchanged}
 use Rattle.run_table.specs.TableState.{TableState}
 use Rattle.run_table.proofs.BeginsAgain.{BeginsAgain, begins_again}
@@ -26,6 +26,7 @@ use Rattle.table_laws.specs.Remembered.{AreNoOtherAttempts, IsNoOtherAttempt, Kn
 use Rattle.table_laws.proofs.RunsStay.{IsOfCourse, arrived_stays, settled_stays}
 use Rattle.table_laws.proofs.StepsStay.{Keeps, step_stays}
 use Rattle.run_states.specs.declared.holder.Holder.TheVariants.{Run}
+use Rattle.run_states.specs.declared.limits.TheConstants.{LAST_ATTEMPT}
 
 -- ---- a run begins again
 
@@ -40,12 +41,12 @@ by_place : (runs next : List RunState) → map attempt_in next ≡ map attempt_i
 by_place runs next same k =
     sym (slice_get-map attempt_in next k) ∙ ap (λ ns. slice_get ns k) same ∙ slice_get-map attempt_in runs k
 
-module _ (t : TableState) (asked : Attempt) (begins : BeginsAgain t.runs (asked.run - 1) asked.attempt) where
+module _ (t : TableState) (requested : Attempt) (begins : BeginsAgain t.runs (requested.run - 1) requested.attempt) where
   abbrev r : ℕ
-  r = asked.run - 1
+  r = requested.run - 1
 
   abbrev reached : List RunState
-  reached = (rerunning t asked).table.runs
+  reached = (rerunning t requested).table.runs
 
   settled_at : (k : ℕ) → attempt_at reached k ≡ attempt_at (with_run r again t.runs) k
   settled_at =
@@ -53,7 +54,7 @@ module _ (t : TableState) (asked : Attempt) (begins : BeginsAgain t.runs (asked.
       (settled_stays attempt_in its_attempt (entered_again t r).runs
       ∙ arrived_stays attempt_in its_attempt (Run r) (with_run r again t.runs))
 
-  begun_at : (k : ℕ) → k ≡ r → attempt_at reached k ≡ Some asked.attempt
+  begun_at : (k : ℕ) → k ≡ r → attempt_at reached k ≡ Some requested.attempt
   begun_at k same =
       settled_at k ∙ ap (λ (i : ℕ). attempt_at (with_run r again t.runs) i) same
       ∙ ap (option_map attempt_in) (at_changed r again t.runs ∙ ap (option_map again) begins.there)
@@ -65,92 +66,92 @@ module _ (t : TableState) (asked : Attempt) (begins : BeginsAgain t.runs (asked.
 -- ---- the answer
 
 -- an answer with the attempt means that it is the run's present attempt
-answered_now : (x : RunState) (asked : Attempt) → answer_of_attempt x asked ≡ Some (reply.Again asked) → x.attempt ≡ asked.attempt
-answered_now x asked is =
-    elim (nat_eq asked.attempt x.attempt) as
-    (λ b. nat_eq asked.attempt x.attempt ≡ b
-    → (if b then Some (reply.Again asked)
-    else (if nat_eq asked.attempt (x.attempt + 1) then answer_of_next x else Some (reply.Refused (Turn x.attempt)))) ≡ Some (reply.Again asked)
-    → x.attempt ≡ asked.attempt) [
-      | true ↦ λ same e. sym (eqb-true asked.attempt x.attempt same)
-      | false ↦ λ other e. absurd (not_the_next (nat_eq asked.attempt (x.attempt + 1)) e)
+answered_now : (x : RunState) (requested : Attempt) → answer_of_attempt x requested ≡ Some (reply.Again requested) → x.attempt ≡ requested.attempt
+answered_now x requested is =
+    elim (nat_eq requested.attempt x.attempt) as
+    (λ b. nat_eq requested.attempt x.attempt ≡ b
+    → (if b then Some (reply.Again requested)
+    else (if nat_eq requested.attempt (x.attempt + 1) then answer_of_next x else Some (reply.Refused (Turn x.attempt)))) ≡ Some (reply.Again requested)
+    → x.attempt ≡ requested.attempt) [
+      | true ↦ λ same e. sym (eqb-true requested.attempt x.attempt same)
+      | false ↦ λ other e. absurd (not_the_next (nat_eq requested.attempt (x.attempt + 1)) e)
     ] refl is
   where
     not_begun : (b c : Bool) → (if b then Some (refused LastCounter) else (if c then None else Some (refused RunNotCompleted)))
-        ≡ Some (reply.Again asked) → ⊥
+        ≡ Some (reply.Again requested) → ⊥
     not_begun true c e = cc
     not_begun false true e = cc
     not_begun false false e = cc
 
-    not_the_next : (b : Bool) → (if b then answer_of_next x else Some (reply.Refused (Turn x.attempt))) ≡ Some (reply.Again asked) → ⊥
-    not_the_next true e = not_begun (nat_le last_attempt x.attempt) (has_completed x.phase) e
+    not_the_next : (b : Bool) → (if b then answer_of_next x else Some (reply.Refused (Turn x.attempt))) ≡ Some (reply.Again requested) → ⊥
+    not_the_next true e = not_begun (nat_le LAST_ATTEMPT x.attempt) (has_completed x.phase) e
     not_the_next false e = cc
 
-answered_at : (o : Option RunState) (asked : Attempt)
-    → option_map_or (λ x. answer_of_attempt x asked) o (Some (refused NoRun)) ≡ Some (reply.Again asked)
-    → option_map (λ (x : RunState). x.attempt) o ≡ Some asked.attempt
-answered_at None asked is = cc
-answered_at (Some x) asked is = ap (λ n. Some n) (answered_now x asked is)
+answered_at : (o : Option RunState) (requested : Attempt)
+    → option_map_or (λ x. answer_of_attempt x requested) o (Some (refused NoRun)) ≡ Some (reply.Again requested)
+    → option_map (λ (x : RunState). x.attempt) o ≡ Some requested.attempt
+answered_at None requested is = cc
+answered_at (Some x) requested is = ap (λ n. Some n) (answered_now x requested is)
 
-pub begun_is_known : (t : TableState) (asked : Attempt) → (stepped t (command.Rerun asked)).reply ≡ reply.Again asked
-    → KnowsAttempt (stepped t (command.Rerun asked)).table asked.run asked.attempt
-begun_is_known t asked =
-    elim (rerun_answer t asked) as
-    (λ o. rerun_answer t asked ≡ o → (option_map_or (unchanged t) o (rerunning t asked)).reply ≡ reply.Again asked
-    → KnowsAttempt (option_map_or (unchanged t) o (rerunning t asked)).table asked.run asked.attempt) [
-      | None ↦ λ none given. begun_at t asked (begins_again t asked none) (asked.run - 1) refl
-      | Some answer ↦ λ is given. answered_at (run_at t.runs (asked.run - 1)) asked (is ∙ ap (λ y. Some y) given)
+pub begun_is_known : (t : TableState) (requested : Attempt) → (stepped t (command.Rerun requested)).reply ≡ reply.Again requested
+    → KnowsAttempt (stepped t (command.Rerun requested)).table requested.run requested.attempt
+begun_is_known t requested =
+    elim (rerun_answer t requested) as
+    (λ o. rerun_answer t requested ≡ o → (option_map_or (unchanged t) o (rerunning t requested)).reply ≡ reply.Again requested
+    → KnowsAttempt (option_map_or (unchanged t) o (rerunning t requested)).table requested.run requested.attempt) [
+      | None ↦ λ none given. begun_at t requested (begins_again t requested none) (requested.run - 1) refl
+      | Some answer ↦ λ is given. answered_at (run_at t.runs (requested.run - 1)) requested (is ∙ ap (λ y. Some y) given)
     ] refl
 
-pub known_attempt_is_answered : (t : TableState) (asked : Attempt) → KnowsAttempt t asked.run asked.attempt
-    → step t (command.Rerun asked) ≡ (t, reply.Again asked)
-known_attempt_is_answered t asked knows =
-    ap (λ o. outcome (option_map_or (unchanged t) o (rerunning t asked))) (answer_is (run_at t.runs (asked.run - 1)) knows)
+pub known_attempt_is_answered : (t : TableState) (requested : Attempt) → KnowsAttempt t requested.run requested.attempt
+    → step t (command.Rerun requested) ≡ (t, reply.Again requested)
+known_attempt_is_answered t requested knows =
+    ap (λ o. outcome (option_map_or (unchanged t) o (rerunning t requested))) (answer_is (run_at t.runs (requested.run - 1)) knows)
   where
-    answer_is : (o : Option RunState) → option_map (λ (x : RunState). x.attempt) o ≡ Some asked.attempt
-        → option_map_or (λ x. answer_of_attempt x asked) o (Some (refused NoRun)) ≡ Some (reply.Again asked)
+    answer_is : (o : Option RunState) → option_map (λ (x : RunState). x.attempt) o ≡ Some requested.attempt
+        → option_map_or (λ x. answer_of_attempt x requested) o (Some (refused NoRun)) ≡ Some (reply.Again requested)
     answer_is None is = cc
     answer_is (Some x) is =
-        ap (λ b. if b then Some (reply.Again asked)
-        else (if nat_eq asked.attempt (x.attempt + 1) then answer_of_next x else Some (reply.Refused (Turn x.attempt))))
-        (eq-eqb asked.attempt x.attempt (sym (same_Some x.attempt asked.attempt is)))
+        ap (λ b. if b then Some (reply.Again requested)
+        else (if nat_eq requested.attempt (x.attempt + 1) then answer_of_next x else Some (reply.Refused (Turn x.attempt))))
+        (eq-eqb requested.attempt x.attempt (sym (same_Some x.attempt requested.attempt is)))
 
 -- ---- the attempt does not change
 
-front_stays : (ns ms : List ℕ) (k n : ℕ) → slice_get ns k ≡ Some n → slice_get (ns ++ ms) k ≡ Some n
-front_stays [] ms k n e = cc
-front_stays (m ∷ ns) ms zero n e = e
-front_stays (m ∷ ns) ms (suc k) n e = front_stays ns ms k n e
+prefix_stays : (ns ms : List ℕ) (k n : ℕ) → slice_get ns k ≡ Some n → slice_get (ns ++ ms) k ≡ Some n
+prefix_stays [] ms k n e = cc
+prefix_stays (m ∷ ns) ms zero n e = e
+prefix_stays (m ∷ ns) ms (suc k) n e = prefix_stays ns ms k n e
 
 kept_by : (t next : TableState) (run attempt : ℕ) → Keeps attempt_in its_attempt t next → KnowsAttempt t run attempt
     → KnowsAttempt next run attempt
 kept_by t next run attempt keeps knows =
     sym (slice_get-map attempt_in next.runs (run - 1)) ∙ ap (λ ns. slice_get ns (run - 1)) keeps.1
-    ∙ front_stays (map attempt_in t.runs) keeps.0 (run - 1) attempt (slice_get-map attempt_in t.runs (run - 1) ∙ knows)
+    ∙ prefix_stays (map attempt_in t.runs) keeps.0 (run - 1) attempt (slice_get-map attempt_in t.runs (run - 1) ∙ knows)
 
-still_known : (t : TableState) (asked : Attempt) (run attempt : ℕ) → KnowsAttempt t run attempt
-    → IsNoOtherAttempt run attempt (command.Rerun asked) (rerunning t asked).reply → BeginsAgain t.runs (asked.run - 1) asked.attempt
-    → KnowsAttempt (rerunning t asked).table run attempt
-still_known t asked run attempt knows no_other begins =
-    elim (cases_eq (run - 1) (asked.run - 1)) [
-      | inr other ↦ stays_elsewhere t asked begins (run - 1) other ∙ knows
-      | inl same ↦ elim (cases_eq asked.attempt attempt) [
-        | inl this ↦ begun_at t asked begins (run - 1) same ∙ ap (λ n. Some n) this
-        | inr another ↦ absurd (began (no_other asked refl (sym same) another))
+still_known : (t : TableState) (requested : Attempt) (run attempt : ℕ) → KnowsAttempt t run attempt
+    → IsNoOtherAttempt run attempt (command.Rerun requested) (rerunning t requested).reply → BeginsAgain t.runs (requested.run - 1) requested.attempt
+    → KnowsAttempt (rerunning t requested).table run attempt
+still_known t requested run attempt knows no_other begins =
+    elim (cases_eq (run - 1) (requested.run - 1)) [
+      | inr other ↦ stays_elsewhere t requested begins (run - 1) other ∙ knows
+      | inl same ↦ elim (cases_eq requested.attempt attempt) [
+        | inl this ↦ begun_at t requested begins (run - 1) same ∙ ap (λ n. Some n) this
+        | inr another ↦ absurd (began (no_other requested refl (sym same) another))
       ]
     ]
   where
-    began : IsRefused (reply.Again asked) → ⊥
+    began : IsRefused (reply.Again requested) → ⊥
     began refusal = cc refusal.1
 
 pub attempt_after_step : (t : TableState) (c : Command) (run attempt : ℕ) → KnowsAttempt t run attempt
     → IsNoOtherAttempt run attempt c (stepped t c).reply → KnowsAttempt (stepped t c).table run attempt
-attempt_after_step t (command.Rerun asked) run attempt knows =
-    elim (rerun_answer t asked) as
-    (λ o. rerun_answer t asked ≡ o
-    → IsNoOtherAttempt run attempt (command.Rerun asked) (option_map_or (unchanged t) o (rerunning t asked)).reply
-    → KnowsAttempt (option_map_or (unchanged t) o (rerunning t asked)).table run attempt) [
-      | None ↦ λ none no_other. still_known t asked run attempt knows no_other (begins_again t asked none)
+attempt_after_step t (command.Rerun requested) run attempt knows =
+    elim (rerun_answer t requested) as
+    (λ o. rerun_answer t requested ≡ o
+    → IsNoOtherAttempt run attempt (command.Rerun requested) (option_map_or (unchanged t) o (rerunning t requested)).reply
+    → KnowsAttempt (option_map_or (unchanged t) o (rerunning t requested)).table run attempt) [
+      | None ↦ λ none no_other. still_known t requested run attempt knows no_other (begins_again t requested none)
       | Some given ↦ λ is no_other. knows
     ] refl
 attempt_after_step t c run attempt knows =

@@ -33,7 +33,7 @@ use Rattle.run_table.specs.Step.{kept_lease_at, lease_at, leasing, serving_nothi
 use Rattle.run_table.specs.Step.{reporting, reported, stepped, cancel_answer, cancelling, cancelled, losing, lost, refused, released}
 use Rattle.run_states.specs.RunState.{LegState, JobState, RunState}
 use Rattle.run_states.specs.Stops.{after_end, outcome_of_loss, stopped_run, stops_others, with_stopped_legs}
-use Rattle.run_table.specs.Turns.{runner_named, with_runner}
+use Rattle.run_table.specs.SequenceNumbers.{runner_named, with_runner}
 use Rattle.run_states.specs.declared.phases.LegPhase.TheVariants as leg
 use Rattle.run_table.proofs.AdmitKeeps.{no_lease, same_reads}
 use Rattle.run_table.proofs.BeginsAgain.{begins_again}
@@ -42,13 +42,13 @@ use Rattle.run_table.proofs.Entered.{entered_keeps, entered_settles}
 use Rattle.run_table.proofs.EnteredAgain.{again_admitted, entered_again_keeps, entered_again_settles}
 use Rattle.run_states.proofs.Changed.{at_another, at_changed}
 use Rattle.run_states.proofs.Found.{before_the_end}
-use Rattle.run_table.proofs.Kept.{IsKept, kept_from_sound, kept_settles, told_the_same}
+use Rattle.run_table.proofs.Kept.{IsKept, kept_from_sound, kept_settles, lease_reply_same}
 use Rattle.run_states.proofs.JobKeeps.{leg_in, with_job_of, with_leg_of}
 use Rattle.run_states.proofs.LeaseReads.{place_or_another}
 use Rattle.run_states.proofs.LegReads.{had_at, had_in, had_in_job, had_from_leg}
 use Rattle.run_table.proofs.ReportKeeps.{loss_keeps, report_keeps}
 use Rattle.run_states.proofs.RunFits.{admitted_at, plan_at_same}
-use Rattle.workflow_runs.proofs.SettlingKeeps.{settling_settles}
+use Rattle.settling_laws.proofs.SettlingKeeps.{settling_settles}
 use Rattle.run_table.proofs.StepKeeps.{empty_is_sound, run_to_cancel, stepped_is_sound}
 use Rattle.run_states.proofs.StopKeeps.{same_reads as stopped_reads, stopped_run_settles}
 use Rattle.table_laws.specs.Answered.{WasAnswered}
@@ -261,33 +261,33 @@ legs_before runs r p n e =
     none_of_it None = refl
     none_of_it (Some x) = no_lease (λ z. z.lease) x.admitted p.job p.leg
 
-rerun_reads : (t : TableState) (asked : Attempt) → IsSound t → Reads t (command.Rerun asked) (rerun t asked)
-rerun_reads t asked s =
-    either_reads t (command.Rerun asked) (rerun_answer t asked) (rerunning t asked)
+rerun_reads : (t : TableState) (requested : Attempt) → IsSound t → Reads t (command.Rerun requested) (rerun t requested)
+rerun_reads t requested s =
+    either_reads t (command.Rerun requested) (rerun_answer t requested) (rerunning t requested)
     (λ none.
-    let begins = begins_again t asked none in
-    let r = asked.run - 1 in
+    let begins = begins_again t requested none in
+    let r = requested.run - 1 in
     let kept = kept_from_sound t s in
     let entry = entered_again_settles t r kept.fit in
-    rest_reads t (command.Rerun asked) (entered_again t r).moves (record t { runs = (entered_again t r).runs }) (reply.Again asked)
-    (entered_again_keeps t r asked.attempt kept begins)
+    rest_reads t (command.Rerun requested) (entered_again t r).moves (record t { runs = (entered_again t r).runs }) (reply.Again requested)
+    (entered_again_keeps t r requested.attempt kept begins)
     (λ i a e. entry.stay.same_admitted i ∙ again_admitted t.runs r i ∙ e)
     (λ p n e. inl (legs_before t.runs r p n (sym (entry.same_had p) ∙ e))))
 
 loss_reads : (t : TableState) (name : List ℕ) → IsSound t → Reads t (command.Lost name) (lost t name)
 loss_reads t name s =
-    let asked = command.Lost name in
+    let requested = command.Lost name in
     elim (runner_named t.runners name) as
-    (λ o. runner_named t.runners name ≡ o → Reads t asked (option_map_or
+    (λ o. runner_named t.runners name ≡ o → Reads t requested (option_map_or
     (λ runner. option_map_or (losing t (released runner)) runner.holds (unchanged t (refused LeaseNotHeld))) o
     (unchanged t (refused NoRunner)))) [
-      | None ↦ λ is. unchanged_reads t asked (refused NoRunner)
+      | None ↦ λ is. unchanged_reads t requested (refused NoRunner)
       | Some runner ↦ λ is. elim (runner.holds) as
-          (λ h. runner.holds ≡ h → Reads t asked (option_map_or (losing t (released runner)) h (unchanged t (refused LeaseNotHeld)))) [
-            | None ↦ λ none. unchanged_reads t asked (refused LeaseNotHeld)
+          (λ h. runner.holds ≡ h → Reads t requested (option_map_or (losing t (released runner)) h (unchanged t (refused LeaseNotHeld)))) [
+            | None ↦ λ none. unchanged_reads t requested (refused LeaseNotHeld)
             | Some lease ↦ λ holds.
                 let outcome = outcome_of_loss t.runs lease in
-                rest_reads t asked (lease_end_moves lease outcome t.runs)
+                rest_reads t requested (lease_end_moves lease outcome t.runs)
                 (record t { runs = with_ended lease outcome t.runs; runners = with_runner t.runners (released runner) }) reply.Ok
                 (loss_keeps t name runner lease (kept_from_sound t s) is holds)
                 (λ i a e. with_ended_keeps_events lease outcome i t.runs ∙ e)
@@ -305,7 +305,7 @@ step_reads t (command.Cancel id) s = cancel_reads t id s
 step_reads t (command.Lost name) s = loss_reads t name s
 step_reads t (command.Fetch id) s = unchanged_reads t (command.Fetch id) (stepped t (command.Fetch id)).reply
 step_reads t (command.Look id) s = unchanged_reads t (command.Look id) (stepped t (command.Look id)).reply
-step_reads t (command.Rerun asked) s = rerun_reads t asked s
+step_reads t (command.Rerun requested) s = rerun_reads t requested s
 
 -- ---- what a list of commands leaves
 
@@ -319,7 +319,7 @@ events_after t (c ∷ cs) s r a e =
 same_lease : (runs next : List RunState) (p : LegPlace) (n : ℕ) (a : Admitted) → admitted_at runs p.run ≡ Some a
     → admitted_at next p.run ≡ Some a → lease_at runs p n ≡ lease_at next p n
 same_lease runs next p n a before now =
-    told_the_same runs next p n (plan_at_same runs next p.run p.job (now ∙ sym before))
+    lease_reply_same runs next p n (plan_at_same runs next p.run p.job (now ∙ sym before))
 
 leased_from : (t : TableState) (commands : List Command) → IsSound t → (p : LegPlace) (n : ℕ) → had_at (after t commands).runs p ≡ Some n
     → (had_at t.runs p ≡ Some n) ⊎ WasAnswered commands (replies t commands) (lease_at (after t commands).runs p n)

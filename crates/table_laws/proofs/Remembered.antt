@@ -13,10 +13,10 @@ use Rattle.run_plan.proofs.SameCommands.{claims_decide, reports_decide}
 use Rattle.run_table.specs.Histories.{after, replies}
 use Rattle.run_table.specs.Step.{step, stepped}
 use Rattle.run_table.specs.TableState.{TableState}
-use Rattle.table_laws.specs.ExactlyOnce.{HasTurn, IsRefused}
-use Rattle.table_laws.specs.Remembered.{AreNoLaterTurns, IsNoLaterTurn, KnowsDelivery, LastCommandIs, kept_command}
+use Rattle.table_laws.specs.ExactlyOnce.{HasNumber, IsRefused}
+use Rattle.table_laws.specs.Remembered.{AreNoLaterNumbers, IsNoLaterNumber, KnowsDelivery, LastCommandIs, kept_command}
 use Rattle.table_laws.proofs.Deliveries.{Keeps, after_keeps, created_again, created_at, place_of, place_stays, step_keeps}
-use Rattle.table_laws.proofs.KeptReplies.{HasKept, has_step, test_of, turn_again, turn_has}
+use Rattle.table_laws.proofs.KeptReplies.{HasKept, has_step, test_of, numbered_again, numbered_has}
 
 -- ---- deliveries
 
@@ -61,30 +61,30 @@ known_is_answered t event run knows =
 -- ---- last commands
 
 -- a kept command that passes the test of a command is that command
-passing_is : (c : Command) (name : List ℕ) (number : ℕ) (l : LastCommand) → HasTurn c name number → test_of c l ≡ true → kept_command l ≡ c
-passing_is (command.Claim claim) name number (last.Claim earlier given) turn passes =
+passing_is : (c : Command) (name : List ℕ) (number : ℕ) (l : LastCommand) → HasNumber c name number → test_of c l ≡ true → kept_command l ≡ c
+passing_is (command.Claim claim) name number (last.Claim earlier given) numbered passes =
     ap (λ x. command.Claim x) ((claims_decide earlier claim).0 passes)
-passing_is (command.Claim claim) name number (last.Done earlier) turn passes = cc
-passing_is (command.Done report) name number (last.Claim earlier given) turn passes = cc
-passing_is (command.Done report) name number (last.Done earlier) turn passes =
+passing_is (command.Claim claim) name number (last.Done earlier) numbered passes = cc
+passing_is (command.Done report) name number (last.Claim earlier given) numbered passes = cc
+passing_is (command.Done report) name number (last.Done earlier) numbered passes =
     ap (λ x. command.Done x) ((reports_decide earlier report).0 passes)
-passing_is c name number l turn passes = absurd turn
+passing_is c name number l numbered passes = absurd numbered
 
 kept_passes : (l : LastCommand) → test_of (kept_command l) l ≡ true
 kept_passes (last.Claim claim given) = (claims_decide claim claim).1 refl
 kept_passes (last.Done report) = (reports_decide report report).1 refl
 
-one_number : (c : Command) (name : List ℕ) (m n : ℕ) → HasTurn c name m → HasTurn c name n → m ≡ n
+one_number : (c : Command) (name : List ℕ) (m n : ℕ) → HasNumber c name m → HasNumber c name n → m ≡ n
 one_number (command.Claim claim) name m n one other = sym one.1 ∙ other.1
 one_number (command.Done report) name m n one other = sym one.1 ∙ other.1
 one_number c name m n one other = absurd one
 
-module _ (c : Command) (name : List ℕ) (number : ℕ) (given : Reply) (turn : HasTurn c name number) where
+module _ (c : Command) (name : List ℕ) (number : ℕ) (given : Reply) (numbered : HasNumber c name number) where
   has_of : (t : TableState) → LastCommandIs t name c given → HasKept t name number (test_of c) given
   has_of t is = record {
     runner = is.runner;
     found = is.known;
-    number_is = one_number c name is.runner.number number is.in_turn turn;
+    number_is = one_number c name is.runner.number number is.is_numbered numbered;
     passes = subst (λ x. test_of x is.runner.last ≡ true) is.last_is (kept_passes is.runner.last);
     keeps = is.kept;
   }
@@ -93,31 +93,31 @@ module _ (c : Command) (name : List ℕ) (number : ℕ) (given : Reply) (turn : 
   last_of t has = record {
     runner = has.runner;
     known = has.found;
-    last_is = passing_is c name number has.runner.last turn has.passes;
-    in_turn = subst (λ n. HasTurn c name n) (sym has.number_is) turn;
+    last_is = passing_is c name number has.runner.last numbered has.passes;
+    is_numbered = subst (λ n. HasNumber c name n) (sym has.number_is) numbered;
     kept = has.keeps;
   }
 
-  has_on : (t : TableState) (later : List Command) → AreNoLaterTurns name number later (replies t later)
+  has_on : (t : TableState) (later : List Command) → AreNoLaterNumbers name number later (replies t later)
       → HasKept t name number (test_of c) given → HasKept (after t later) name number (test_of c) given
   has_on t [] no_later has = has
   has_on t (d ∷ later) no_later has =
       has_on (stepped t d).table later no_later.1 (has_step name number (test_of c) given t d no_later.0 has)
 
   pub last_after_step : (t : TableState) (d : Command) → LastCommandIs t name c given
-      → IsNoLaterTurn name number d (stepped t d).reply → LastCommandIs (stepped t d).table name c given
+      → IsNoLaterNumber name number d (stepped t d).reply → LastCommandIs (stepped t d).table name c given
   last_after_step t d is no_later =
       last_of (stepped t d).table (has_step name number (test_of c) given t d no_later (has_of t is))
 
   pub last_after : (t : TableState) (later : List Command) → LastCommandIs t name c given
-      → AreNoLaterTurns name number later (replies t later) → LastCommandIs (after t later) name c given
+      → AreNoLaterNumbers name number later (replies t later) → LastCommandIs (after t later) name c given
   last_after t later is no_later = last_of (after t later) (has_on t later no_later (has_of t is))
 
-pub answered_is_last : (t : TableState) (c : Command) (name : List ℕ) (number : ℕ) → HasTurn c name number
+pub answered_is_last : (t : TableState) (c : Command) (name : List ℕ) (number : ℕ) → HasNumber c name number
     → (IsRefused (stepped t c).reply → ⊥) → LastCommandIs (stepped t c).table name c (stepped t c).reply
-answered_is_last t c name number turn taken =
-    last_of c name number (stepped t c).reply turn (stepped t c).table (turn_has t c name number turn taken)
+answered_is_last t c name number numbered taken =
+    last_of c name number (stepped t c).reply numbered (stepped t c).table (numbered_has t c name number numbered taken)
 
 pub last_is_answered : (t : TableState) (c : Command) (name : List ℕ) (given : Reply) → LastCommandIs t name c given → step t c ≡ (t, given)
 last_is_answered t c name given is =
-    turn_again t c name is.runner.number given is.in_turn (has_of c name is.runner.number given is.in_turn t is)
+    numbered_again t c name is.runner.number given is.is_numbered (has_of c name is.runner.number given is.is_numbered t is)

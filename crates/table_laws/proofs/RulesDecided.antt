@@ -9,9 +9,9 @@ use Rattle.wf_value.specs.declared.outcome.Outcome.TheVariants as outcome
 use Rattle.needs_graph.specs.Conditions.{condition_value}
 use Rattle.needs_graph.specs.Results.{fails_job, was_cancelled}
 use Rattle.group_name.specs.Group.{Group}
-use Rattle.run_states.specs.Arrivals.{arrived, displaced, others_pending, room_made, stopped_where_asked}
+use Rattle.run_states.specs.Arrivals.{arrived, displaced, others_pending, room_made, stopped_where_requested}
 use Rattle.run_states.specs.GroupOf.{cancels_in_progress, group_at}
-use Rattle.run_states.specs.Groups.{running_in}
+use Rattle.run_states.specs.Groups.{in_progress_in}
 use Rattle.run_states.specs.Moves.{Transition, at_each, without_moves}
 use Rattle.run_states.specs.Places.{run_at, job_at, with_run, with_job}
 use Rattle.run_states.specs.Rules.{rule_at}
@@ -34,11 +34,11 @@ use Rattle.run_states.proofs.JobPhases.{is_open_open}
 use Rattle.run_states.proofs.RunFits.{RunsFit, job_in_run}
 use Rattle.run_states.proofs.Settles.{Settles}
 use Rattle.run_states.proofs.Transitions.{changed_none}
-use Rattle.workflow_runs.proofs.EachRule.{by_rule}
-use Rattle.workflow_runs.proofs.HoldersKeep.{displaced_settles, holder_stop_settles, no_run}
-use Rattle.workflow_runs.proofs.LivePlaces.{LivePlace}
-use Rattle.workflow_runs.proofs.RuleKeeps.{newcomer_waits, rule_settles}
-use Rattle.workflow_runs.proofs.SettlingKeeps.{settling_keeps}
+use Rattle.settling_laws.proofs.EachRule.{by_rule}
+use Rattle.settling_laws.proofs.HoldersKeep.{displaced_settles, holder_stop_settles, no_run}
+use Rattle.settling_laws.proofs.LivePlaces.{LivePlace}
+use Rattle.settling_laws.proofs.RuleKeeps.{newcomer_waits, rule_settles}
+use Rattle.settling_laws.proofs.SettlingKeeps.{settling_keeps}
 use Rattle.table_laws.proofs.Decided.{Decided, JobDecided, NowDecided, all_decided, leg_change_decided, one_decided}
 use Rattle.table_laws.proofs.StopDecided.{stopped_decided}
 use Rattle.run_states.specs.declared.holder.Holder.{Holder}
@@ -108,10 +108,10 @@ each_decided change settles one [] runs fit all = all
 each_decided change settles one (h ∷ hs) runs fit all =
     each_decided change settles one hs (change h runs).runs (settles h runs fit).stay.fit (one h runs fit all)
 
-asked_decided : (cancels : Bool) (g : Group) (runs : List RunState) → RunsFit runs → Decided runs
-    → Decided (stopped_where_asked cancels g runs).runs
-asked_decided true g runs fit all = each_decided stop_holder holder_stop_settles stop_decided (running_in runs g) runs fit all
-asked_decided false g runs fit all = all
+requested_decided : (cancels : Bool) (g : Group) (runs : List RunState) → RunsFit runs → Decided runs
+    → Decided (stopped_where_requested cancels g runs).runs
+requested_decided true g runs fit all = each_decided stop_holder holder_stop_settles stop_decided (in_progress_in runs g) runs fit all
+requested_decided false g runs fit all = all
 
 pub arrival_decided : (newcomer : Holder) (runs : List RunState) → RunsFit runs → Decided runs → Decided (arrived newcomer runs).runs
 arrival_decided newcomer runs fit all =
@@ -121,7 +121,7 @@ arrival_decided newcomer runs fit all =
       | None ↦ all
       | Some g ↦
           let mid = (displaced g newcomer runs).runs in
-          asked_decided cancels g mid (displaced_settles g newcomer runs fit).stay.fit
+          requested_decided cancels g mid (displaced_settles g newcomer runs fit).stay.fit
           (each_decided displace holder_stop_settles stop_decided (others_pending g newcomer runs) runs fit all)
     ]
 

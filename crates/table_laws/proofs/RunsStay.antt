@@ -5,11 +5,11 @@ use Rattle.std.specs.Prelude.{Some, None, if◌then◌else◌}
 use Rattle.std.specs.Option.{option_map_or}
 use Rattle.wf_value.specs.declared.outcome.Outcome.{Outcome}
 use Rattle.wf_value.specs.declared.outcome.Outcome.TheVariants as outcome
-use Rattle.run_states.specs.Arrivals.{arrived, displaced, others_pending, room_made, stopped_where_asked}
+use Rattle.run_states.specs.Arrivals.{arrived, displaced, others_pending, room_made, stopped_where_requested}
 use Rattle.run_states.specs.FirstOf.{changed_at}
 use Rattle.run_states.specs.Fitting.{place_of_lease}
 use Rattle.run_states.specs.GroupOf.{cancels_in_progress, group_at}
-use Rattle.run_states.specs.Groups.{running_in}
+use Rattle.run_states.specs.Groups.{in_progress_in}
 use Rattle.run_states.specs.Moves.{Transition, and_then, at_each, without_moves}
 use Rattle.run_states.specs.Places.{with_job, with_leg, with_run}
 use Rattle.run_states.specs.declared.place.LegPlace.{LegPlace}
@@ -19,13 +19,13 @@ use Rattle.run_states.specs.Rules.{with_leg_in}
 use Rattle.run_states.specs.RunState.{JobState, LegState, RunState}
 use Rattle.run_states.specs.Settling.{first_place, first_rule, remaining_phases, settled, settled_within}
 use Rattle.run_states.specs.StopMoves.{with_ended, displace, stop_holder}
-use Rattle.run_states.specs.Stops.{after_end, stopped, stopped_in, stopped_run, stops_others, told_to_stop, with_stopped_legs}
+use Rattle.run_states.specs.Stops.{after_end, stopped, stopped_in, stopped_run, stops_others, with_stop_requested, with_stopped_legs}
 use Rattle.run_states.specs.declared.phases.LegPhase.TheVariants as leg
 use Rattle.run_states.specs.declared.phases.RunPhase.{RunPhase}
 use Rattle.run_states.specs.declared.phases.RunPhase.TheVariants as run
 use Rattle.run_states.specs.declared.place.RuleSite.{RuleSite}
 use Rattle.run_states.proofs.Optional.{from_and_then}
-use Rattle.workflow_runs.proofs.EachRule.{by_rule}
+use Rattle.settling_laws.proofs.EachRule.{by_rule}
 use Rattle.run_states.specs.declared.holder.Holder.{Holder}
 use Rattle.run_states.specs.declared.holder.Holder.TheVariants.{Run, Leg}
 
@@ -56,8 +56,8 @@ module _ {X : Type 0} (read : RunState → X) (of_course : IsOfCourse read) wher
 
   stopped_stays : (phase : RunPhase) (r : RunState) → read (stopped_in phase r) ≡ read r
   stopped_stays run.Waiting r = of_course r (stopped_in run.Waiting r) refl refl
-  stopped_stays run.Live r = elim (r.stopping) as (λ b. read (if b then r else told_to_stop r) ≡ read r)
-      [ true ↦ refl | false ↦ of_course r (told_to_stop r) refl refl ]
+  stopped_stays run.Live r = elim (r.stopping) as (λ b. read (if b then r else with_stop_requested r) ≡ read r)
+      [ true ↦ refl | false ↦ of_course r (with_stop_requested r) refl refl ]
   stopped_stays run.Ended r = refl
 
   pub stop_stays : (h : Holder) (runs : List RunState) → reads (stop_holder h runs).runs ≡ reads runs
@@ -81,9 +81,9 @@ module _ {X : Type 0} (read : RunState → X) (of_course : IsOfCourse read) wher
             let after : List RunState = (displaced g newcomer runs).runs in
             let first : reads after ≡ reads runs =
             each_stays displace (others_pending g newcomer runs) runs (λ h now. stop_stays h now) in
-            let second : reads (stopped_where_asked cancels g after).runs ≡ reads after =
-            elim (cancels) as (λ b. reads (stopped_where_asked b g after).runs ≡ reads after) [
-              | true ↦ each_stays stop_holder (running_in after g) after (λ h now. stop_stays h now)
+            let second : reads (stopped_where_requested cancels g after).runs ≡ reads after =
+            elim (cancels) as (λ b. reads (stopped_where_requested b g after).runs ≡ reads after) [
+              | true ↦ each_stays stop_holder (in_progress_in after g) after (λ h now. stop_stays h now)
               | false ↦ refl
             ] in
             second ∙ first

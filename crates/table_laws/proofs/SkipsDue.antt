@@ -30,7 +30,7 @@ use Rattle.run_states.specs.StopMoves.{with_ended}
 use Rattle.run_table.specs.Step.{cancel_answer, cancelling, cancelled, losing, lost, refused, released}
 use Rattle.run_states.specs.RunState.{JobState, RunState}
 use Rattle.run_states.specs.Stops.{after_end, outcome_of_loss, stopped_run, stops_others, with_stopped_legs}
-use Rattle.run_table.specs.Turns.{runner_named}
+use Rattle.run_table.specs.SequenceNumbers.{runner_named}
 use Rattle.run_states.specs.declared.phases.LegPhase.TheVariants as leg
 use Rattle.run_table.proofs.AdmitKeeps.{all_fit, job_is_blocked}
 use Rattle.run_table.proofs.ClaimKeeps.{leasing_keeps}
@@ -160,11 +160,11 @@ cancelled_decided t id s all =
     settled_decided (with_run (id - 1) stopped_run t.runs) (stopped_run_settles t.runs fit (id - 1) found.0 found.1).stay.fit
     (stopped_decided t.runs fit all (id - 1) found.0 found.1))
 
-rerun_decided : (t : TableState) (asked : Attempt) → IsSound t → Decided t.runs → Decided (rerun t asked).table.runs
-rerun_decided t asked s all =
-    let r = asked.run - 1 in
+rerun_decided : (t : TableState) (requested : Attempt) → IsSound t → Decided t.runs → Decided (rerun t requested).table.runs
+rerun_decided t requested s all =
+    let r = requested.run - 1 in
     let fit = (kept_from_sound t s).fit in
-    answered_or_changed t (rerun_answer t asked) (rerunning t asked) all
+    answered_or_changed t (rerun_answer t requested) (rerunning t requested) all
     (λ none. settled_decided (entered_again t r).runs (entered_again_settles t r fit).stay.fit
     (arrival_decided (Run r) (with_run r again t.runs) (again_fits t.runs r fit) (again_decided t.runs r all)))
 
@@ -195,7 +195,7 @@ stepped_decided t (command.Cancel id) s all = cancelled_decided t id s all
 stepped_decided t (command.Lost name) s all = lost_decided t name s all
 stepped_decided t (command.Fetch id) s all = all
 stepped_decided t (command.Look id) s all = all
-stepped_decided t (command.Rerun asked) s all = rerun_decided t asked s all
+stepped_decided t (command.Rerun requested) s all = rerun_decided t requested s all
 
 -- ---- all commands
 

@@ -22,12 +22,12 @@ use Rattle.run_table.specs.Step.{admission_answer, admitting, cancel_answer, can
 use Rattle.run_table.specs.Step.{leasing, losing, lost, refused, released, report_answer, reporting, serving_nothing}
 use Rattle.run_table.specs.Step.{stepped, unchanged}
 use Rattle.run_table.specs.TableState.{Step, TableState}
-use Rattle.run_table.specs.Turns.{runner_named}
+use Rattle.run_table.specs.SequenceNumbers.{runner_named}
 use Rattle.table_laws.proofs.RunsStay.{IsOfCourse, arrived_stays, ended_stays, leg_stays, settled_stays, stop_stays}
 use Rattle.run_states.specs.declared.holder.Holder.TheVariants.{Run}
 
 abbrev pub IsNoRerun : Command → Type 0
-IsNoRerun (command.Rerun asked) = ⊥
+IsNoRerun (command.Rerun requested) = ⊥
 IsNoRerun _ = Unit {0}
 
 module _ {X : Type 0} (read : RunState → X) (of_course : IsOfCourse read) where
@@ -99,4 +99,4 @@ module _ {X : Type 0} (read : RunState → X) (of_course : IsOfCourse read) wher
   step_stays t (command.Lost name) other = loses t name
   step_stays t (command.Fetch id) other = keeps_itself t
   step_stays t (command.Look id) other = keeps_itself t
-  step_stays t (command.Rerun asked) other = absurd other
+  step_stays t (command.Rerun requested) other = absurd other

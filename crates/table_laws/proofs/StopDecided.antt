@@ -16,7 +16,7 @@ use Rattle.run_plan.specs.PlanOf.{needs_listed, needs_of_planned, plan_of}
 use Rattle.run_states.specs.Places.{run_at, job_at, with_run}
 use Rattle.run_states.specs.Rules.{is_open, settled_as}
 use Rattle.run_states.specs.RunState.{JobState, RunState}
-use Rattle.run_states.specs.Stops.{cancelled, stopped_in, stopped_run, stopped_where, told_to_stop, with_stopped_legs}
+use Rattle.run_states.specs.Stops.{cancelled, stopped_in, stopped_run, stopped_where, with_stop_requested, with_stopped_legs}
 use Rattle.run_states.specs.WithinRun.{may_run_in, needs_settled_in}
 use Rattle.run_states.specs.Words.{all_have_results, needs_have_settled, results_so_far}
 use Rattle.run_states.specs.declared.phases.JobPhase.{JobPhase}
@@ -106,7 +106,7 @@ module _ (runs : List RunState) (fit : RunsFit runs) (all : Decided runs) (r : �
       subst (λ (v : JobState). JobDecided next r l v.phase) from.gives (needs, (λ e. cc))
   now run.Live is l y e =
       let next = with_run r stopped_run runs in
-      elim (x.stopping) as (λ b. slice_get (if b then x else told_to_stop x).jobs l ≡ Some y → JobDecided next r l y.phase) [
+      elim (x.stopping) as (λ b. slice_get (if b then x else with_stop_requested x).jobs l ≡ Some y → JobDecided next r l y.phase) [
         | true ↦ λ at. still r l y (job_in_run runs r l x was ∙ at)
         | false ↦ λ at.
             let told = record x { stopping = true } in

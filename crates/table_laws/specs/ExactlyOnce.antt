@@ -10,14 +10,14 @@ use Rattle.run_plan.specs.declared.reply.Reply.{Reply}
 use Rattle.run_plan.specs.declared.reply.Reply.TheVariants as reply
 
 -- the command is a numbered one, of this runner and with this number
-abbrev pub HasTurn : Command → List ℕ → ℕ → Type 0
-HasTurn (command.Claim claim) runner number = (claim.runner ≡ runner) × (claim.number ≡ number)
-HasTurn (command.Done report) runner number = (report.runner ≡ runner) × (report.number ≡ number)
-HasTurn _ runner number = ⊥
+abbrev pub HasNumber : Command → List ℕ → ℕ → Type 0
+HasNumber (command.Claim claim) runner number = (claim.runner ≡ runner) × (claim.number ≡ number)
+HasNumber (command.Done report) runner number = (report.runner ≡ runner) × (report.number ≡ number)
+HasNumber _ runner number = ⊥
 
 -- none of the commands is of this runner with a later number
-abbrev pub HaveNoLaterTurn : List ℕ → ℕ → List Command → Type 0
-HaveNoLaterTurn runner number commands = AllByRecursion (λ c. (n : ℕ) → HasTurn c runner n → n ≤ number) commands
+abbrev pub HaveNoLaterNumber : List ℕ → ℕ → List Command → Type 0
+HaveNoLaterNumber runner number commands = AllByRecursion (λ c. (n : ℕ) → HasNumber c runner n → n ≤ number) commands
 
 abbrev pub IsRefused : Reply → Type 0
 IsRefused given = (e : Refusal) × (given ≡ reply.Refused e)

@@ -14,8 +14,8 @@ use Rattle.run_plan.specs.declared.reply.Reply.{Reply}
 use Rattle.run_states.specs.NewRun.{is_delivered_as}
 use Rattle.run_states.specs.Places.{run_at}
 use Rattle.run_table.specs.TableState.{RunnerState, TableState}
-use Rattle.run_table.specs.Turns.{runner_named}
-use Rattle.table_laws.specs.ExactlyOnce.{HasTurn, IsRefused}
+use Rattle.run_table.specs.SequenceNumbers.{runner_named}
+use Rattle.table_laws.specs.ExactlyOnce.{HasNumber, IsRefused}
 
 -- ---- a delivery
 
@@ -40,7 +40,7 @@ KnowsAttempt t run attempt = attempt_of_run t run ≡ Some attempt
 -- This command, with this reply, began no attempt of the run other than `attempt`: if it asked for another one, it was refused.
 abbrev pub IsNoOtherAttempt : ℕ → ℕ → Command → Reply → Type 0
 IsNoOtherAttempt run attempt c given =
-    (asked : Attempt) → c ≡ command.Rerun asked → asked.run - 1 ≡ run - 1 → (asked.attempt ≡ attempt → ⊥) → IsRefused given
+    (requested : Attempt) → c ≡ command.Rerun requested → requested.run - 1 ≡ run - 1 → (requested.attempt ≡ attempt → ⊥) → IsRefused given
 
 -- each of these commands, with its reply, began no other attempt of the run
 abbrev pub AreNoOtherAttempts : ℕ → ℕ → List Command → List Reply → Type 0
@@ -60,17 +60,17 @@ pub record LastCommandIs (t : TableState) (name : List ℕ) (c : Command) (reply
   pub runner : RunnerState
   pub known : runner_named t.runners name ≡ Some runner
   pub last_is : kept_command runner.last ≡ c
-  pub in_turn : HasTurn c name runner.number
+  pub is_numbered : HasNumber c name runner.number
   pub kept : kept_reply runner.last ≡ reply
 
 -- ---- until a later command of the runner is carried out
 
 -- this command, with this reply, was not carried out for the runner with a later number: if it has one, it was refused
-abbrev pub IsNoLaterTurn : List ℕ → ℕ → Command → Reply → Type 0
-IsNoLaterTurn runner number c reply = (n : ℕ) → HasTurn c runner n → number < n → IsRefused reply
+abbrev pub IsNoLaterNumber : List ℕ → ℕ → Command → Reply → Type 0
+IsNoLaterNumber runner number c reply = (n : ℕ) → HasNumber c runner n → number < n → IsRefused reply
 
 -- each of these commands, with its reply, was not carried out for the runner with a later number
-abbrev pub AreNoLaterTurns : List ℕ → ℕ → List Command → List Reply → Type 0
-AreNoLaterTurns runner number [] replies = Unit {0}
-AreNoLaterTurns runner number (c ∷ cs) [] = Unit {0}
-AreNoLaterTurns runner number (c ∷ cs) (y ∷ ys) = IsNoLaterTurn runner number c y × AreNoLaterTurns runner number cs ys
+abbrev pub AreNoLaterNumbers : List ℕ → ℕ → List Command → List Reply → Type 0
+AreNoLaterNumbers runner number [] replies = Unit {0}
+AreNoLaterNumbers runner number (c ∷ cs) [] = Unit {0}
+AreNoLaterNumbers runner number (c ∷ cs) (y ∷ ys) = IsNoLaterNumber runner number c y × AreNoLaterNumbers runner number cs ys

@@ -12,7 +12,7 @@ use Rattle.run_plan.specs.declared.command.Beat.{Beat}
 use Rattle.run_plan.specs.declared.command.Claim.{Claim}
 use Rattle.run_plan.specs.declared.command.Done.{Done}
 use Rattle.run_plan.specs.declared.command.Command.{Command}
-use Rattle.run_plan.specs.declared.command.Command.TheVariants as asked
+use Rattle.run_plan.specs.declared.command.Command.TheVariants as requested
 use Rattle.table_text.specs.Format.{Format, word, text, pair}
 use Rattle.table_text.specs.Commands.{is_numbered, number, small_text, labels, is_faultless, body, outcome_byte, outcome, admit, claim}
 use Rattle.table_text.specs.Commands.{done, beat, rerun, IsEncoded, command_bytes, command, batch}
@@ -20,7 +20,7 @@ use Rattle.table_text.specs.Reading.{Reader, word_at, text_at, pair_at, parts_at
 use Rattle.table_text.specs.ReadingCommands.{number_at, small_text_at, labels_at, body_at, result_of, result_at, admit_at, claim_at}
 use Rattle.table_text.specs.ReadingCommands.{done_at, beat_at, rerun_at, command_of, command_at, batch_at}
 use Rattle.wf_value.proofs.Bytes.{AreBytes, AreBytes-drop}
-use Rattle.table_text.proofs.Readers.{Fronts, Reads, bind_some, some_bind, word_reads, text_reads, only_reads, pair_reads, parts_reads}
+use Rattle.table_text.proofs.Readers.{Prefixes, Reads, bind_some, some_bind, word_reads, text_reads, only_reads, pair_reads, parts_reads}
 use Rattle.table_text.proofs.Readers.{counted_reads}
 
 pub number_reads : Reads number number_at
@@ -58,12 +58,12 @@ result_sound byte r h =
       ]
     ]
 
-result_finds : (bytes : List ℕ) (found : Outcome × List ℕ) → AreBytes bytes → result_at bytes ≡ Some found → Fronts outcome bytes found
+result_finds : (bytes : List ℕ) (found : Outcome × List ℕ) → AreBytes bytes → result_at bytes ≡ Some found → Prefixes outcome bytes found
 unfolding result_at
 result_finds [] found are h = absurd (none-some found h)
 result_finds (byte ∷ rest) found are h =
     let step = bind_some (result_of byte) (λ r. Some (r, rest)) found h in
-    subst (λ (q : Outcome × List ℕ). Fronts outcome (byte ∷ rest) q) (same_Some (step.0, rest) found step.2) (record {
+    subst (λ (q : Outcome × List ℕ). Prefixes outcome (byte ∷ rest) q) (same_Some (step.0, rest) found step.2) (record {
       takes = tt;
       split = ap (λ (b : ℕ). b ∷ rest) (result_sound byte step.0 step.1);
       rest = AreBytes-drop 1 (byte ∷ rest) are;
@@ -133,15 +133,15 @@ rerun_reads =
 -- reading a command of a kind, after its byte
 kind_sound : {A : Type 0} (kind : ℕ) (format : Format A) (at : Reader A) (made : A → Command) → Reads format at
     → ((x : A) → format.Takes x → IsEncoded (made x)) → ((x : A) → command_bytes (made x) ≡ kind ∷ format.encoding x)
-    → (rest : List ℕ) (found : Command × List ℕ) → AreBytes rest → parts_at made at rest ≡ Some found → Fronts command (kind ∷ rest) found
+    → (rest : List ℕ) (found : Command × List ℕ) → AreBytes rest → parts_at made at rest ≡ Some found → Prefixes command (kind ∷ rest) found
 kind_sound kind format at made reads takes encoded rest found are h =
     let step = bind_some (at rest) (λ x. Some (made x.0, x.1)) found h in
     let x = step.0 in
-    let front = reads.sound rest x are step.1 in
-    subst (λ (q : Command × List ℕ). Fronts command (kind ∷ rest) q) (same_Some (made x.0, x.1) found step.2) (record {
-      takes = takes x.0 front.takes;
-      split = ap (λ (l : List ℕ). kind ∷ l) front.split ∙ ap (λ (l : List ℕ). l ++ x.1) (sym (encoded x.0));
-      rest = front.rest;
+    let prefix = reads.sound rest x are step.1 in
+    subst (λ (q : Command × List ℕ). Prefixes command (kind ∷ rest) q) (same_Some (made x.0, x.1) found step.2) (record {
+      takes = takes x.0 prefix.takes;
+      split = ap (λ (l : List ℕ). kind ∷ l) prefix.split ∙ ap (λ (l : List ℕ). l ++ x.1) (sym (encoded x.0));
+      rest = prefix.rest;
     })
 
 kind_complete : {A : Type 0} (format : Format A) (at : Reader A) (made : A → Command) → Reads format at → (x : A) (rest : List ℕ)
@@ -155,48 +155,48 @@ kind_or : {A : Type 0} (this : ℕ) (format : Format A) (at : Reader A) (made : 
     → ((x : A) → format.Takes x → IsEncoded (made x)) → ((x : A) → command_bytes (made x) ≡ this ∷ format.encoding x)
     → (kind : ℕ) (rest : List ℕ) (found : Command × List ℕ) (others : Option (Command × List ℕ)) → AreBytes rest
     → (if kind == this then parts_at made at rest else others) ≡ Some found
-    → (others ≡ Some found → Fronts command (kind ∷ rest) found) → Fronts command (kind ∷ rest) found
+    → (others ≡ Some found → Prefixes command (kind ∷ rest) found) → Prefixes command (kind ∷ rest) found
 kind_or this format at made reads takes encoded kind rest found others are h left =
     elim (chosen (kind == this) (parts_at made at rest) others (Some found) h) [
-      | inl is ↦ subst (λ (k : ℕ). Fronts command (k ∷ rest) found) (sym (eqb-true kind this is.0))
+      | inl is ↦ subst (λ (k : ℕ). Prefixes command (k ∷ rest) found) (sym (eqb-true kind this is.0))
           (kind_sound this format at made reads takes encoded rest found are is.1)
       | inr isnt ↦ left isnt.1
     ]
 
 kinds_sound : (kind : ℕ) (rest : List ℕ) (found : Command × List ℕ) → AreBytes rest → command_of kind rest ≡ Some found
-    → Fronts command (kind ∷ rest) found
+    → Prefixes command (kind ∷ rest) found
 unfolding command_of
 kinds_sound kind rest found are h =
-    kind_or 1 admit admit_at (λ (a : Admitted). asked.Admit a) admit_reads (λ x t. t) (λ _. refl) kind rest found _ are h (λ h2.
-    kind_or 2 claim claim_at (λ (c : Claim). asked.Claim c) claim_reads (λ x t. t) (λ _. refl) kind rest found _ are h2 (λ h3.
-    kind_or 3 done done_at (λ (d : Done). asked.Done d) done_reads (λ x t. t) (λ _. refl) kind rest found _ are h3 (λ h4.
-    kind_or 4 beat beat_at (λ (b : Beat). asked.Beat b) beat_reads (λ x t. t) (λ _. refl) kind rest found _ are h4 (λ h5.
-    kind_or 5 number number_at (λ (n : ℕ). asked.Cancel n) number_reads (λ x t. t) (λ _. refl) kind rest found _ are h5 (λ h6.
-    kind_or 6 (small_text is_runner_byte) (small_text_at is_runner_byte) (λ (r : List ℕ). asked.Lost r)
+    kind_or 1 admit admit_at (λ (a : Admitted). requested.Admit a) admit_reads (λ x t. t) (λ _. refl) kind rest found _ are h (λ h2.
+    kind_or 2 claim claim_at (λ (c : Claim). requested.Claim c) claim_reads (λ x t. t) (λ _. refl) kind rest found _ are h2 (λ h3.
+    kind_or 3 done done_at (λ (d : Done). requested.Done d) done_reads (λ x t. t) (λ _. refl) kind rest found _ are h3 (λ h4.
+    kind_or 4 beat beat_at (λ (b : Beat). requested.Beat b) beat_reads (λ x t. t) (λ _. refl) kind rest found _ are h4 (λ h5.
+    kind_or 5 number number_at (λ (n : ℕ). requested.Cancel n) number_reads (λ x t. t) (λ _. refl) kind rest found _ are h5 (λ h6.
+    kind_or 6 (small_text is_runner_byte) (small_text_at is_runner_byte) (λ (r : List ℕ). requested.Lost r)
     (small_text_reads is_runner_byte) (λ x t. t) (λ _. refl) kind rest found _ are h6 (λ h7.
-    kind_or 7 number number_at (λ (n : ℕ). asked.Look n) number_reads (λ x t. t) (λ _. refl) kind rest found _ are h7 (λ h8.
-    kind_or 8 number number_at (λ (n : ℕ). asked.Fetch n) number_reads (λ x t. t) (λ _. refl) kind rest found _ are h8 (λ h9.
-    kind_or 9 rerun rerun_at (λ (a : Attempt). asked.Rerun a) rerun_reads (λ x t. t) (λ _. refl) kind rest found _ are h9
+    kind_or 7 number number_at (λ (n : ℕ). requested.Look n) number_reads (λ x t. t) (λ _. refl) kind rest found _ are h7 (λ h8.
+    kind_or 8 number number_at (λ (n : ℕ). requested.Fetch n) number_reads (λ x t. t) (λ _. refl) kind rest found _ are h8 (λ h9.
+    kind_or 9 rerun rerun_at (λ (a : Attempt). requested.Rerun a) rerun_reads (λ x t. t) (λ _. refl) kind rest found _ are h9
     (λ none. absurd (none-some found none))))))))))
 
-command_finds : (bytes : List ℕ) (found : Command × List ℕ) → AreBytes bytes → command_at bytes ≡ Some found → Fronts command bytes found
+command_finds : (bytes : List ℕ) (found : Command × List ℕ) → AreBytes bytes → command_at bytes ≡ Some found → Prefixes command bytes found
 unfolding command_at
 command_finds [] found are h = absurd (none-some found h)
 command_finds (kind ∷ rest) found are h = kinds_sound kind rest found (AreBytes-drop 1 (kind ∷ rest) are) h
 
 command_found : (c : Command) (rest : List ℕ) → IsEncoded c → command_at (command_bytes c ++ rest) ≡ Some (c, rest)
 unfolding command_at command_of
-command_found (asked.Admit event) rest fits = kind_complete admit admit_at (λ (a : Admitted). asked.Admit a) admit_reads event rest fits
-command_found (asked.Claim asks) rest fits = kind_complete claim claim_at (λ (c : Claim). asked.Claim c) claim_reads asks rest fits
-command_found (asked.Done report) rest fits = kind_complete done done_at (λ (d : Done). asked.Done d) done_reads report rest fits
-command_found (asked.Beat asks) rest fits = kind_complete beat beat_at (λ (b : Beat). asked.Beat b) beat_reads asks rest fits
-command_found (asked.Cancel run) rest fits = kind_complete number number_at (λ (n : ℕ). asked.Cancel n) number_reads run rest fits
-command_found (asked.Lost runner) rest fits =
-    kind_complete (small_text is_runner_byte) (small_text_at is_runner_byte) (λ (r : List ℕ). asked.Lost r)
+command_found (requested.Admit event) rest fits = kind_complete admit admit_at (λ (a : Admitted). requested.Admit a) admit_reads event rest fits
+command_found (requested.Claim requests) rest fits = kind_complete claim claim_at (λ (c : Claim). requested.Claim c) claim_reads requests rest fits
+command_found (requested.Done report) rest fits = kind_complete done done_at (λ (d : Done). requested.Done d) done_reads report rest fits
+command_found (requested.Beat requests) rest fits = kind_complete beat beat_at (λ (b : Beat). requested.Beat b) beat_reads requests rest fits
+command_found (requested.Cancel run) rest fits = kind_complete number number_at (λ (n : ℕ). requested.Cancel n) number_reads run rest fits
+command_found (requested.Lost runner) rest fits =
+    kind_complete (small_text is_runner_byte) (small_text_at is_runner_byte) (λ (r : List ℕ). requested.Lost r)
     (small_text_reads is_runner_byte) runner rest fits
-command_found (asked.Fetch run) rest fits = kind_complete number number_at (λ (n : ℕ). asked.Fetch n) number_reads run rest fits
-command_found (asked.Rerun asks) rest fits = kind_complete rerun rerun_at (λ (a : Attempt). asked.Rerun a) rerun_reads asks rest fits
-command_found (asked.Look run) rest fits = kind_complete number number_at (λ (n : ℕ). asked.Look n) number_reads run rest fits
+command_found (requested.Fetch run) rest fits = kind_complete number number_at (λ (n : ℕ). requested.Fetch n) number_reads run rest fits
+command_found (requested.Rerun requests) rest fits = kind_complete rerun rerun_at (λ (a : Attempt). requested.Rerun a) rerun_reads requests rest fits
+command_found (requested.Look run) rest fits = kind_complete number number_at (λ (n : ℕ). requested.Look n) number_reads run rest fits
 
 pub command_reads : Reads command command_at
 command_reads = record { sound = command_finds; complete = command_found }

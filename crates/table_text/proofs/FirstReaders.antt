@@ -24,13 +24,13 @@ use Rattle.table_text.specs.ReadingTables.{flag_at, job_at, last_lease_at, last_
 use Rattle.table_text.specs.Tables.{flag_byte, is_last_lease, job, jobs_planned, last_parts, lease, names_rise, run_byte}
 use Rattle.table_text.proofs.CommandReaders.{admit_reads, chosen, command_reads, number_reads, small_text_reads}
 use Rattle.table_text.proofs.FormReaders.{byte_reads, follow_reads, row_reads}
-use Rattle.table_text.proofs.Readers.{Fronts, Reads, counted_reads, only_reads, pair_reads, parts_reads, some_reads, these_read}
+use Rattle.table_text.proofs.Readers.{Prefixes, Reads, counted_reads, only_reads, pair_reads, parts_reads, some_reads, these_read}
 use Rattle.table_text.proofs.TableReaders.{flag_reads, job_reads, last_back_of, last_lease_reads, last_there, lease_reads, run_phase_reads}
 
 unencoded_reads : {A : Type 0} (x : A) → Reads (unencoded x) (unencoded_at x)
 unencoded_reads {A} x = record {
   sound = λ bytes found are h.
-      subst (λ (q : A × List ℕ). Fronts (unencoded x) bytes q) (same_Some (x, bytes) found h)
+      subst (λ (q : A × List ℕ). Prefixes (unencoded x) bytes q) (same_Some (x, bytes) found h)
       (record { takes = refl; split = refl; rest = are });
   complete = λ y rest takes. ap (λ (z : A). Some (z, rest)) (sym takes);
 }

@@ -1,7 +1,7 @@
 -- Examples, by computation: tables of the first layout and their bytes.
 use Rattle.std.specs.Prelude.{◌≡◌, ℕ, List, [], ◌∷◌, ◌++◌, codes, length, true, false, Option, Some, None, refl}
 use Rattle.wf_value.specs.declared.outcome.Outcome.TheVariants as outcome
-use Rattle.run_plan.specs.declared.command.Command.TheVariants as asked
+use Rattle.run_plan.specs.declared.command.Command.TheVariants as requested
 use Rattle.stored_tables.specs.Stored.{StoredRunner, StoredTable}
 use Rattle.stored_tables.specs.declared.parts.LastParts.TheVariants as last
 use Rattle.stored_tables.specs.declared.parts.StoredLease.{StoredLease}
@@ -99,8 +99,8 @@ unfolding text_bytes word_bytes
 reporting_runner_bytes = refl
 
 -- a look is a command of the first layout, and a re-run is not
-a_look_is_one : is_in_first_layout (asked.Look 1) ≡ true
+a_look_is_one : is_in_first_layout (requested.Look 1) ≡ true
 a_look_is_one = refl
 
-a_rerun_is_none : is_in_first_layout (asked.Rerun (record { run = 1; attempt = 2 })) ≡ false
+a_rerun_is_none : is_in_first_layout (requested.Rerun (record { run = 1; attempt = 2 })) ≡ false
 a_rerun_is_none = refl

@@ -6,13 +6,13 @@ use Rattle.std.proofs.lemmas.Option.{same_Some, none-some}
 use Rattle.table_text.specs.Format.{Format, byte, follow, present, row}
 use Rattle.table_text.specs.Reading.{◌>>=◌, Reader, byte_at, follow_at, items_at, present_at}
 use Rattle.wf_value.proofs.Bytes.{AreBytes, AreBytes-drop}
-use Rattle.table_text.proofs.Readers.{Fronts, Reads, bind_some, some_bind, items_sound, items_complete}
+use Rattle.table_text.proofs.Readers.{Prefixes, Reads, bind_some, some_bind, items_sound, items_complete}
 
-byte_sound : (bytes : List ℕ) (found : ℕ × List ℕ) → AreBytes bytes → byte_at bytes ≡ Some found → Fronts byte bytes found
+byte_sound : (bytes : List ℕ) (found : ℕ × List ℕ) → AreBytes bytes → byte_at bytes ≡ Some found → Prefixes byte bytes found
 unfolding byte_at
 byte_sound [] found are h = absurd (none-some found h)
 byte_sound (b ∷ rest) found are h =
-    subst (λ (q : ℕ × List ℕ). Fronts byte (b ∷ rest) q) (same_Some (b, rest) found h) (record {
+    subst (λ (q : ℕ × List ℕ). Prefixes byte (b ∷ rest) q) (same_Some (b, rest) found h) (record {
       takes = are 0;
       split = refl;
       rest = AreBytes-drop 1 (b ∷ rest) are;
@@ -33,11 +33,11 @@ present_reads {A} format at reads = record {
   sound = λ bytes found are h.
       let step = bind_some (at bytes) (λ a. Some (Some a.0, a.1)) found h in
       let a = step.0 in
-      let front = reads.sound bytes a are step.1 in
-      subst (λ (q : Option A × List ℕ). Fronts (present format) bytes q) (same_Some (Some a.0, a.1) found step.2) (record {
-        takes = front.takes;
-        split = front.split;
-        rest = front.rest;
+      let prefix = reads.sound bytes a are step.1 in
+      subst (λ (q : Option A × List ℕ). Prefixes (present format) bytes q) (same_Some (Some a.0, a.1) found step.2) (record {
+        takes = prefix.takes;
+        split = prefix.split;
+        rest = prefix.rest;
       });
   complete = λ o rest takes. present_found format at reads o rest takes;
 }
@@ -49,23 +49,23 @@ follow_reads {A} {B} first second first_at second_at one other = record {
   sound = λ bytes found are h.
       let step = bind_some (first_at bytes) (λ a. second_at a.0 a.1 >>= (λ b. Some ((a.0, b.0), b.1))) found h in
       let a = step.0 in
-      let front = one.sound bytes a are step.1 in
+      let prefix = one.sound bytes a are step.1 in
       let next = bind_some (second_at a.0 a.1) (λ b. Some ((a.0, b.0), b.1)) found step.2 in
       let b = next.0 in
-      let behind = (other a.0).sound a.1 b front.rest next.1 in
-      subst (λ (q : (A × B) × List ℕ). Fronts (follow first second) bytes q) (same_Some ((a.0, b.0), b.1) found next.2) (record {
-        takes = (front.takes, behind.takes);
-        split = front.split
-            ∙ ap (λ (l : List ℕ). first.encoding a.0 ++ l) behind.split
+      let suffix = (other a.0).sound a.1 b prefix.rest next.1 in
+      subst (λ (q : (A × B) × List ℕ). Prefixes (follow first second) bytes q) (same_Some ((a.0, b.0), b.1) found next.2) (record {
+        takes = (prefix.takes, suffix.takes);
+        split = prefix.split
+            ∙ ap (λ (l : List ℕ). first.encoding a.0 ++ l) suffix.split
             ∙ sym (append_assoc (first.encoding a.0) ((second a.0).encoding b.0) b.1);
-        rest = behind.rest;
+        rest = suffix.rest;
       });
   complete = λ p rest fits.
-      let behind : List ℕ = (second p.0).encoding p.1 ++ rest in
+      let suffix : List ℕ = (second p.0).encoding p.1 ++ rest in
       ap (follow_at first_at second_at) (append_assoc (first.encoding p.0) ((second p.0).encoding p.1) rest)
-      ∙ some_bind (first_at (first.encoding p.0 ++ behind)) (λ a. second_at a.0 a.1 >>= (λ b. Some ((a.0, b.0), b.1))) (p.0, behind)
-      (one.complete p.0 behind fits.0)
-      ∙ some_bind (second_at p.0 behind) (λ b. Some ((p.0, b.0), b.1)) (p.1, rest) ((other p.0).complete p.1 rest fits.1);
+      ∙ some_bind (first_at (first.encoding p.0 ++ suffix)) (λ a. second_at a.0 a.1 >>= (λ b. Some ((a.0, b.0), b.1))) (p.0, suffix)
+      (one.complete p.0 suffix fits.0)
+      ∙ some_bind (second_at p.0 suffix) (λ b. Some ((p.0, b.0), b.1)) (p.1, rest) ((other p.0).complete p.1 rest fits.1);
 }
 
 pub row_reads : {A : Type 0} (n : ℕ) (format : Format A) (at : Reader A) → Reads format at → Reads (row n format) (items_at at n)

@@ -13,6 +13,6 @@ pub longer : (before more middle after : List ℕ) → middle ≡ before ++ more
 longer before more middle after grown kept =
     let rest = drop (length middle) after in
     let stands : before ++ (more ++ rest) ≡ after =
-    sym (append_assoc before more rest) ∙ ap (λ (front : List ℕ). front ++ rest) (sym grown ∙ sym kept)
+    sym (append_assoc before more rest) ∙ ap (λ (prefix : List ℕ). prefix ++ rest) (sym grown ∙ sym kept)
     ∙ take-append-drop (length middle) after in
     ap (take (length before)) (sym stands) ∙ take-append_seam before (more ++ rest)

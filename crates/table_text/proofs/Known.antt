@@ -61,10 +61,10 @@ short_items kind (suc n) bytes found h =
     let x = step.0 in
     let next = bind_some (items_at (small_text_at kind) n x.1) (λ xs. Some (x.0 ∷ xs.0, xs.1)) found step.2 in
     let xs = next.0 in
-    let behind = short_items kind n x.1 xs next.1 in
+    let suffix = short_items kind n x.1 xs next.1 in
     subst (λ (q : List (List ℕ) × List ℕ). (length q.0 ≡ suc n) × (list_all (is_short kind) q.0 ≡ true))
     (same_Some (x.0 ∷ xs.0, xs.1) found next.2)
-    (ap suc behind.0, ap (λ b. b && list_all (is_short kind) xs.0) (short_read kind bytes x step.1) ∙ behind.1)
+    (ap suc suffix.0, ap (λ b. b && list_all (is_short kind) xs.0) (short_read kind bytes x step.1) ∙ suffix.1)
 
 all_three : (a b c : Bool) → a ≡ true → b ≡ true → c ≡ true → (a && b && c) ≡ true
 all_three true true c p q r = r

@@ -7,7 +7,7 @@ use Rattle.std.proofs.lemmas.List.Sums.{sum_by-cons, sum_by_more}
 use Rattle.wf_value.specs.declared.outcome.Outcome.{Outcome}
 use Rattle.run_plan.specs.Admitted.{Admitted}
 use Rattle.run_plan.specs.declared.command.Command.{Command}
-use Rattle.run_plan.specs.declared.command.Command.TheVariants as asked
+use Rattle.run_plan.specs.declared.command.Command.TheVariants as requested
 use Rattle.table_text.specs.Commands.{admit, batch, command, command_bytes, labels, outcome_byte}
 use Rattle.table_text.specs.Format.{text_bytes, word_bytes}
 use Rattle.table_text.specs.Lengths.{batch_length, command_length, fields_length, length_of, text_length, texts_length}
@@ -48,14 +48,14 @@ pub length_labels : (texts : List (List ℕ)) → length (labels.encoding texts)
 length_labels texts = length_counted text_bytes text_length texts length_text
 
 -- the byte before others
-pub behind_one : (bytes : List ℕ) {n : ℕ} → length bytes ≡ n → suc (length bytes) ≡ 1 + n
-behind_one bytes h = omega (arith, h)
+pub after_one : (bytes : List ℕ) {n : ℕ} → length bytes ≡ n → suc (length bytes) ≡ 1 + n
+after_one bytes h = omega (arith, h)
 
 length_outcome : (r : Outcome) → length (outcome_byte r ∷ []) ≡ 1
 length_outcome r = refl
 
 -- the bytes after the kind byte of an admission
-pub length_admit : (event : Admitted) → length (admit.encoding event) ≡ fields_length (asked.Admit event)
+pub length_admit : (event : Admitted) → length (admit.encoding event) ≡ fields_length (requested.Admit event)
 length_admit event =
     length_two (text_bytes event.delivery) (text_bytes event.event ++ text_bytes event.body) (text_length event.delivery)
     (text_length event.event + text_length event.body) (length_text event.delivery)
@@ -64,16 +64,16 @@ length_admit event =
     ∙ omega arith
 
 pub length_command : (c : Command) → length_of command c ≡ command_length c
-length_command (asked.Admit event) = behind_one _ (length_admit event)
-length_command (asked.Claim asks) =
-    behind_one _
-    (length_two (text_bytes asks.runner) (word_bytes asks.number ++ labels.encoding asks.labels) (text_length asks.runner)
-    (4 + texts_length asks.labels) (length_text asks.runner)
-    (length_two (word_bytes asks.number) (labels.encoding asks.labels) 4 (texts_length asks.labels) (length_word asks.number)
-    (length_labels asks.labels))
+length_command (requested.Admit event) = after_one _ (length_admit event)
+length_command (requested.Claim requests) =
+    after_one _
+    (length_two (text_bytes requests.runner) (word_bytes requests.number ++ labels.encoding requests.labels) (text_length requests.runner)
+    (4 + texts_length requests.labels) (length_text requests.runner)
+    (length_two (word_bytes requests.number) (labels.encoding requests.labels) 4 (texts_length requests.labels) (length_word requests.number)
+    (length_labels requests.labels))
     ∙ omega arith)
-length_command (asked.Done report) =
-    behind_one _
+length_command (requested.Done report) =
+    after_one _
     (length_two (text_bytes report.runner) (word_bytes report.number ++ (word_bytes report.lease ++ outcome_byte report.result ∷ []))
     (text_length report.runner)
     (4 + (4 + 1)) (length_text report.runner)
@@ -81,15 +81,15 @@ length_command (asked.Done report) =
     (length_word report.number)
     (length_two (word_bytes report.lease) (outcome_byte report.result ∷ []) 4 1 (length_word report.lease) (length_outcome report.result)))
     ∙ omega arith)
-length_command (asked.Beat asks) =
-    behind_one _ (length_two (text_bytes asks.runner) (word_bytes asks.lease) (text_length asks.runner) 4 (length_text asks.runner)
-    (length_word asks.lease))
-length_command (asked.Cancel run) = behind_one _ (length_word run)
-length_command (asked.Lost runner) = behind_one _ (length_text runner)
-length_command (asked.Look run) = behind_one _ (length_word run)
-length_command (asked.Fetch run) = behind_one _ (length_word run)
-length_command (asked.Rerun asks) =
-    behind_one _ (length_two (word_bytes asks.run) (word_bytes asks.attempt) 4 4 (length_word asks.run) (length_word asks.attempt))
+length_command (requested.Beat requests) =
+    after_one _ (length_two (text_bytes requests.runner) (word_bytes requests.lease) (text_length requests.runner) 4 (length_text requests.runner)
+    (length_word requests.lease))
+length_command (requested.Cancel run) = after_one _ (length_word run)
+length_command (requested.Lost runner) = after_one _ (length_text runner)
+length_command (requested.Look run) = after_one _ (length_word run)
+length_command (requested.Fetch run) = after_one _ (length_word run)
+length_command (requested.Rerun requests) =
+    after_one _ (length_two (word_bytes requests.run) (word_bytes requests.attempt) 4 4 (length_word requests.run) (length_word requests.attempt))
 
 pub length_batch : (commands : List Command) → length_of batch commands ≡ batch_length commands
 length_batch commands = length_counted command_bytes command_length commands length_command

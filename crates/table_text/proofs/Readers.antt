@@ -8,22 +8,22 @@ use Rattle.std.proofs.lemmas.Bool.{and_parts, le-leb, le-ltb, leb-true, ltb-fals
 use Rattle.std.proofs.lemmas.List.{take_at, drop_at, length-take}
 use Rattle.std.proofs.lemmas.Nat.{from_be_bytes-to_be_bytes_4}
 use Rattle.std.proofs.lemmas.Option.{same_Some, none-some, cond_some, some_pair_parts}
-use Rattle.table_text.specs.Format.{Format, NoneBeginsAnother, HasOneEncoding, StandsAtFront, word, word_bytes, text, text_bytes, only}
+use Rattle.table_text.specs.Format.{Format, NoneBeginsAnother, HasOneEncoding, ReadsPrefix, word, word_bytes, text, text_bytes, only}
 use Rattle.table_text.specs.Format.{pair, parts, counted}
-use Rattle.table_text.specs.Reading.{◌>>=◌, Reader, word_at, bytes_at, text_at, kept, only_at, pair_at, parts_at, items_at, with_front}
+use Rattle.table_text.specs.Reading.{◌>>=◌, Reader, word_at, bytes_at, text_at, kept, only_at, pair_at, parts_at, items_at, with_prefix}
 use Rattle.table_text.specs.Reading.{counted_at, some_at}
 use Rattle.wf_value.proofs.Bytes.{AreBytes, AreBytes-drop, spell_number, number_below}
 use Rattle.stored_tables.proofs.GroupsOfTable.{given_if}
 
 -- The bytes are an encoding of what was found, followed by the remaining bytes.
-pub record Fronts {A : Type 0} (format : Format A) (bytes : List ℕ) (found : A × List ℕ) : Type 0 where
+pub record Prefixes {A : Type 0} (format : Format A) (bytes : List ℕ) (found : A × List ℕ) : Type 0 where
   pub takes : format.Takes found.0
   pub split : bytes ≡ format.encoding found.0 ++ found.1
   pub rest : AreBytes found.1
 
 -- What is found is encoded there, and what is encoded is found.
 pub record Reads {A : Type 0} (format : Format A) (at : Reader A) : Type 0 where
-  pub sound : (bytes : List ℕ) (found : A × List ℕ) → AreBytes bytes → at bytes ≡ Some found → Fronts format bytes found
+  pub sound : (bytes : List ℕ) (found : A × List ℕ) → AreBytes bytes → at bytes ≡ Some found → Prefixes format bytes found
   pub complete : (x : A) (rest : List ℕ) → format.Takes x → at (format.encoding x ++ rest) ≡ Some (x, rest)
 
 pub bind_some : {A B : Type 0} (o : Option A) (f : A → Option B) (y : B) → (o >>= f) ≡ Some y → (x : A) × (o ≡ Some x) × (f x ≡ Some y)
@@ -43,7 +43,7 @@ unfolding word_bytes word_at
 word_reads = record {
   sound = λ bytes found are h.
       let by = passed (nat_lt (length bytes) 4) (from_be_bytes w32 (take 4 bytes), drop 4 bytes) found h in
-      subst (λ (q : ℕ × List ℕ). Fronts word bytes q) by.1 (record {
+      subst (λ (q : ℕ × List ℕ). Prefixes word bytes q) by.1 (record {
         takes = number_below bytes are;
         split = spell_number bytes are (ltb-false (length bytes) 4 by.0);
         rest = AreBytes-drop 4 bytes are;
@@ -54,10 +54,10 @@ word_reads = record {
       le-ltb (length (to_be_bytes w32 n ++ rest)) 4 (omega (arith, length-append (to_be_bytes w32 n) rest, four)) in
       let number : from_be_bytes w32 (take 4 (to_be_bytes w32 n ++ rest)) ≡ n =
       ap (from_be_bytes w32) (take_at (to_be_bytes w32 n) rest 4 refl) ∙ from_be_bytes-to_be_bytes_4 n fits in
-      let behind : drop 4 (to_be_bytes w32 n ++ rest) ≡ rest = drop_at (to_be_bytes w32 n) rest 4 refl in
+      let suffix : drop 4 (to_be_bytes w32 n ++ rest) ≡ rest = drop_at (to_be_bytes w32 n) rest 4 refl in
       ap (λ b. if b then None else Some (from_be_bytes w32 (take 4 (to_be_bytes w32 n ++ rest)), drop 4 (to_be_bytes w32 n ++ rest))) long
       ∙ ap (λ m. Some (m, drop 4 (to_be_bytes w32 n ++ rest))) number
-      ∙ ap (λ (l : List ℕ). Some (n, l)) behind;
+      ∙ ap (λ (l : List ℕ). Some (n, l)) suffix;
 }
 
 -- exactly `n` bytes, of any value
@@ -83,15 +83,15 @@ text_reads = record {
   sound = λ bytes found are h.
       let step = bind_some (word_at bytes) (λ n. bytes_at n.0 n.1) found h in
       let n = step.0 in
-      let front = word_reads.sound bytes n are step.1 in
+      let prefix = word_reads.sound bytes n are step.1 in
       let body = bytes_sound n.0 n.1 found step.2 in
       record {
-        takes = subst (λ (k : ℕ). k < 2 ^ 32) (sym body.0) front.takes;
-        split = front.split
+        takes = subst (λ (k : ℕ). k < 2 ^ 32) (sym body.0) prefix.takes;
+        split = prefix.split
             ∙ ap (λ (l : List ℕ). word_bytes n.0 ++ l) body.1
             ∙ sym (append_assoc (word_bytes n.0) found.0 found.1)
             ∙ ap (λ (k : ℕ). (word_bytes k ++ found.0) ++ found.1) (sym body.0);
-        rest = subst AreBytes (sym body.2) (AreBytes-drop n.0 n.1 front.rest);
+        rest = subst AreBytes (sym body.2) (AreBytes-drop n.0 n.1 prefix.rest);
       };
   complete = λ t rest fits.
       ap text_at (append_assoc (word_bytes (length t)) t rest)
@@ -113,14 +113,14 @@ these_read {A} {B} Takes parts_of whole_of format at there back reads = record {
   sound = λ bytes found are h.
       let step = bind_some (at bytes) (λ a. whole_of a.0 >>= (λ b. Some (b, a.1))) found h in
       let a = step.0 in
-      let front = reads.sound bytes a are step.1 in
+      let prefix = reads.sound bytes a are step.1 in
       let next = bind_some (whole_of a.0) (λ b. Some (b, a.1)) found step.2 in
       let b = next.0 in
-      let is = back a.0 b front.takes next.1 in
-      subst (λ (q : B × List ℕ). Fronts (these Takes parts_of format) bytes q) (same_Some (b, a.1) found next.2) (record {
+      let is = back a.0 b prefix.takes next.1 in
+      subst (λ (q : B × List ℕ). Prefixes (these Takes parts_of format) bytes q) (same_Some (b, a.1) found next.2) (record {
         takes = is.0;
-        split = front.split ∙ ap (λ x. format.encoding x ++ a.1) (sym is.1);
-        rest = front.rest;
+        split = prefix.split ∙ ap (λ x. format.encoding x ++ a.1) (sym is.1);
+        rest = prefix.rest;
       });
   complete = λ b rest takes.
       let fits = there b takes in
@@ -160,16 +160,16 @@ pair_reads {A} {B} first second first_at second_at one other = record {
   sound = λ bytes found are h.
       let step = bind_some (first_at bytes) (λ a. second_at a.1 >>= (λ b. Some ((a.0, b.0), b.1))) found h in
       let a = step.0 in
-      let front = one.sound bytes a are step.1 in
+      let prefix = one.sound bytes a are step.1 in
       let next = bind_some (second_at a.1) (λ b. Some ((a.0, b.0), b.1)) found step.2 in
       let b = next.0 in
-      let behind = other.sound a.1 b front.rest next.1 in
-      subst (λ (q : (A × B) × List ℕ). Fronts (pair first second) bytes q) (same_Some ((a.0, b.0), b.1) found next.2) (record {
-        takes = (front.takes, behind.takes);
-        split = front.split
-            ∙ ap (λ (l : List ℕ). first.encoding a.0 ++ l) behind.split
+      let suffix = other.sound a.1 b prefix.rest next.1 in
+      subst (λ (q : (A × B) × List ℕ). Prefixes (pair first second) bytes q) (same_Some ((a.0, b.0), b.1) found next.2) (record {
+        takes = (prefix.takes, suffix.takes);
+        split = prefix.split
+            ∙ ap (λ (l : List ℕ). first.encoding a.0 ++ l) suffix.split
             ∙ sym (append_assoc (first.encoding a.0) (second.encoding b.0) b.1);
-        rest = behind.rest;
+        rest = suffix.rest;
       });
   complete = λ p rest fits.
       ap (pair_at first_at second_at) (append_assoc (first.encoding p.0) (second.encoding p.1) rest)
@@ -199,17 +199,17 @@ items_sound {A} format at reads zero bytes found are h =
 items_sound {A} format at reads (suc n) bytes found are h =
     let step = bind_some (at bytes) (λ x. items_at at n x.1 >>= (λ xs. Some (x.0 ∷ xs.0, xs.1))) found h in
     let x = step.0 in
-    let front = reads.sound bytes x are step.1 in
+    let prefix = reads.sound bytes x are step.1 in
     let next = bind_some (items_at at n x.1) (λ xs. Some (x.0 ∷ xs.0, xs.1)) found step.2 in
     let xs = next.0 in
-    let behind = items_sound format at reads n x.1 xs front.rest next.1 in
+    let suffix = items_sound format at reads n x.1 xs prefix.rest next.1 in
     subst (λ (q : List A × List ℕ). Items format (suc n) bytes q) (same_Some (x.0 ∷ xs.0, xs.1) found next.2) (record {
-      many = ap suc behind.many;
-      takes = (front.takes, behind.takes);
-      split = front.split
-          ∙ ap (λ (l : List ℕ). format.encoding x.0 ++ l) behind.split
+      many = ap suc suffix.many;
+      takes = (prefix.takes, suffix.takes);
+      split = prefix.split
+          ∙ ap (λ (l : List ℕ). format.encoding x.0 ++ l) suffix.split
           ∙ sym (append_assoc (format.encoding x.0) (flat_map format.encoding xs.0) xs.1);
-      rest = behind.rest;
+      rest = suffix.rest;
     })
 
 pub items_complete : {A : Type 0} (format : Format A) (at : Reader A) → Reads format at → (xs : List A) (rest : List ℕ)
@@ -232,15 +232,15 @@ counted_reads least most format at small reads = record {
   sound = λ bytes found are h.
       let step = bind_some (word_at bytes) (λ n. if nat_le least n.0 && nat_le n.0 most then items_at at n.0 n.1 else None) found h in
       let n = step.0 in
-      let front = word_reads.sound bytes n are step.1 in
+      let prefix = word_reads.sound bytes n are step.1 in
       let by = given_if (nat_le least n.0 && nat_le n.0 most) (items_at at n.0 n.1) found step.2 in
       let range = and_parts (nat_le least n.0) (nat_le n.0 most) by.0 in
-      let items = items_sound format at reads n.0 n.1 found front.rest by.1 in
+      let items = items_sound format at reads n.0 n.1 found prefix.rest by.1 in
       let low : least ≤ n.0 = leb-true least n.0 range.0 in
       let high : n.0 ≤ most = leb-true n.0 most range.1 in
       record {
         takes = (subst (λ (k : ℕ). least ≤ k) (sym items.many) low, subst (λ (k : ℕ). k ≤ most) (sym items.many) high, items.takes);
-        split = front.split
+        split = prefix.split
             ∙ ap (λ (l : List ℕ). word_bytes n.0 ++ l) items.split
             ∙ sym (append_assoc (word_bytes n.0) (flat_map format.encoding found.0) found.1)
             ∙ ap (λ (k : ℕ). (word_bytes k ++ flat_map format.encoding found.0) ++ found.1) (sym items.many);
@@ -248,7 +248,7 @@ counted_reads least most format at small reads = record {
       };
   complete = λ xs rest fits.
       let n : ℕ = length xs in
-      let behind : List ℕ = flat_map format.encoding xs ++ rest in
+      let suffix : List ℕ = flat_map format.encoding xs ++ rest in
       let short : length xs < 2 ^ 32 = omega (arith, fits.1) in
       let passes : (nat_le least (length xs) && nat_le (length xs) most) ≡ true =
       ap (λ b. b && nat_le (length xs) most) (le-leb least (length xs) fits.0) ∙ le-leb (length xs) most fits.1 in
@@ -262,29 +262,29 @@ counted_reads least most format at small reads = record {
 
 -- ---- a loop over a count
 
-pub front_all : {A : Type 0} (at : Reader A) (front : List A) (n : ℕ) (rest : List ℕ) → n ≡ 0
-    → with_front front (items_at at n rest) ≡ Some (front, rest)
-front_all {A} at front n rest none =
-    ap (λ (k : ℕ). with_front front (items_at at k rest)) none ∙ ap (λ (l : List A). Some (l, rest)) (append-nil front)
+pub prefix_all : {A : Type 0} (at : Reader A) (prefix : List A) (n : ℕ) (rest : List ℕ) → n ≡ 0
+    → with_prefix prefix (items_at at n rest) ≡ Some (prefix, rest)
+prefix_all {A} at prefix n rest none =
+    ap (λ (k : ℕ). with_prefix prefix (items_at at k rest)) none ∙ ap (λ (l : List A). Some (l, rest)) (append-nil prefix)
 
-pub front_none : {A : Type 0} (at : Reader A) (front : List A) (n k : ℕ) (bytes : List ℕ) → n ≡ suc k → at bytes ≡ None
-    → with_front front (items_at at n bytes) ≡ None
-front_none {A} at front n k bytes is h =
-    ap (λ (m : ℕ). with_front front (items_at at m bytes)) is
-    ∙ ap (λ (p : Option (A × List ℕ)). with_front front (p >>= (λ x. items_at at k x.1 >>= (λ xs. Some (x.0 ∷ xs.0, xs.1))))) h
+pub prefix_none : {A : Type 0} (at : Reader A) (prefix : List A) (n k : ℕ) (bytes : List ℕ) → n ≡ suc k → at bytes ≡ None
+    → with_prefix prefix (items_at at n bytes) ≡ None
+prefix_none {A} at prefix n k bytes is h =
+    ap (λ (m : ℕ). with_prefix prefix (items_at at m bytes)) is
+    ∙ ap (λ (p : Option (A × List ℕ)). with_prefix prefix (p >>= (λ x. items_at at k x.1 >>= (λ xs. Some (x.0 ∷ xs.0, xs.1))))) h
 
-joined : {A : Type 0} (front : List A) (x : A) (o : Option (List A × List ℕ))
-    → with_front front (o >>= (λ xs. Some (x ∷ xs.0, xs.1))) ≡ with_front (front ++ x ∷ []) o
-joined front x None = refl
-joined {A} front x (Some xs) = ap (λ (l : List A). Some (l, xs.1)) (sym (append_assoc front (x ∷ []) xs.0))
+joined : {A : Type 0} (prefix : List A) (x : A) (o : Option (List A × List ℕ))
+    → with_prefix prefix (o >>= (λ xs. Some (x ∷ xs.0, xs.1))) ≡ with_prefix (prefix ++ x ∷ []) o
+joined prefix x None = refl
+joined {A} prefix x (Some xs) = ap (λ (l : List A). Some (l, xs.1)) (sym (append_assoc prefix (x ∷ []) xs.0))
 
-pub front_more : {A : Type 0} (at : Reader A) (front : List A) (n k : ℕ) (bytes : List ℕ) (x : A) (behind : List ℕ) → n ≡ suc k
-    → at bytes ≡ Some (x, behind)
-    → with_front front (items_at at n bytes) ≡ with_front (front ++ x ∷ []) (items_at at k behind)
-front_more {A} at front n k bytes x behind is h =
-    ap (λ (m : ℕ). with_front front (items_at at m bytes)) is
-    ∙ ap (λ (p : Option (A × List ℕ)). with_front front (p >>= (λ y. items_at at k y.1 >>= (λ xs. Some (y.0 ∷ xs.0, xs.1))))) h
-    ∙ joined front x (items_at at k behind)
+pub prefix_more : {A : Type 0} (at : Reader A) (prefix : List A) (n k : ℕ) (bytes : List ℕ) (x : A) (suffix : List ℕ) → n ≡ suc k
+    → at bytes ≡ Some (x, suffix)
+    → with_prefix prefix (items_at at n bytes) ≡ with_prefix (prefix ++ x ∷ []) (items_at at k suffix)
+prefix_more {A} at prefix n k bytes x suffix is h =
+    ap (λ (m : ℕ). with_prefix prefix (items_at at m bytes)) is
+    ∙ ap (λ (p : Option (A × List ℕ)). with_prefix prefix (p >>= (λ y. items_at at k y.1 >>= (λ xs. Some (y.0 ∷ xs.0, xs.1))))) h
+    ∙ joined prefix x (items_at at k suffix)
 
 -- ---- laws of formats
 
@@ -300,15 +300,15 @@ pub one_encoding : {A : Type 0} (format : Format A) → HasOneEncoding format
 one_encoding format x takes = (format.encoding x, (takes, refl), λ other encoded. encoded.1)
 
 -- what was found is at the front
-pub found_at_front : {A : Type 0} (format : Format A) (at : Reader A) → Reads format at → (bytes : List ℕ) (found : A × List ℕ)
+pub found_as_prefix : {A : Type 0} (format : Format A) (at : Reader A) → Reads format at → (bytes : List ℕ) (found : A × List ℕ)
     → AreBytes bytes → at bytes ≡ Some found
-    → StandsAtFront format bytes (Some found)
-found_at_front format at reads bytes found are h =
-    let front = reads.sound bytes found are h in
-    (front.takes, front.split)
+    → ReadsPrefix format bytes (Some found)
+found_as_prefix format at reads bytes found are h =
+    let prefix = reads.sound bytes found are h in
+    (prefix.takes, prefix.split)
 
 -- and if nothing was found, nothing is
-pub none_at_front : {A : Type 0} (format : Format A) (at : Reader A) → Reads format at → (bytes : List ℕ) → at bytes ≡ None
-    → StandsAtFront format bytes None
-none_at_front format at reads bytes h x rest opens =
+pub none_as_prefix : {A : Type 0} (format : Format A) (at : Reader A) → Reads format at → (bytes : List ℕ) → at bytes ≡ None
+    → ReadsPrefix format bytes None
+none_as_prefix format at reads bytes h x rest opens =
     none-some (x, rest) (sym h ∙ ap at opens.1 ∙ reads.complete x rest opens.0)

@@ -26,7 +26,7 @@ use Rattle.run_table.specs.Storable.{IsStorable}
 use Rattle.stored_tables.specs.Stored.{stored_runner, stored_table}
 use Rattle.run_table.specs.TableState.{RunnerState, TableState}
 use Rattle.run_states.specs.RunState.{LegState, JobState, RunState}
-use Rattle.run_table.specs.Turns.{names_rise}
+use Rattle.run_table.specs.SequenceNumbers.{names_rise}
 use Rattle.run_states.specs.declared.phases.LegPhase.{LegPhase}
 use Rattle.run_states.specs.declared.phases.LegPhase.TheVariants as leg_phase
 use Rattle.run_states.specs.declared.phases.RunPhase.{RunPhase}
@@ -139,10 +139,10 @@ runners_have_bytes t s takes =
 
 -- ---- one part after another
 
-front_bytes : (old a b c d event event' jobs jobs' : List ℕ) (x x' y y' : ℕ) → a ≡ old ++ event → b ≡ a ++ x ∷ [] → c ≡ b ++ y ∷ []
+prefix_bytes : (old a b c d event event' jobs jobs' : List ℕ) (x x' y y' : ℕ) → a ≡ old ++ event → b ≡ a ++ x ∷ [] → c ≡ b ++ y ∷ []
     → d ≡ c ++ jobs
     → event ≡ event' → x ≡ x' → y ≡ y' → jobs ≡ jobs' → d ≡ old ++ (event' ++ x' ∷ y' ∷ jobs')
-front_bytes old a b c d event event' jobs jobs' x x' y y' one two three four e f g h =
+prefix_bytes old a b c d event event' jobs jobs' x x' y y' one two three four e f g h =
     four
     ∙ ap (λ (l : List ℕ). l ++ jobs) (three ∙ ap (λ (l : List ℕ). l ++ y ∷ []) (two ∙ ap (λ (l : List ℕ). l ++ x ∷ []) one))
     ∙ append_assoc ((old ++ event) ++ x ∷ []) (y ∷ []) jobs
@@ -158,7 +158,7 @@ pub run_bytes : (old a b c d e event event' jobs jobs' : List ℕ) (n n' x x' y 
     → c ≡ b ++ x ∷ [] → d ≡ c ++ y ∷ [] → e ≡ d ++ jobs → event ≡ event' → n ≡ n' → x ≡ x' → y ≡ y' → jobs ≡ jobs'
     → e ≡ old ++ (event' ++ (word_bytes n' ++ x' ∷ y' ∷ jobs'))
 run_bytes old a b c d e event event' jobs jobs' n n' x x' y y' one two three four five f g h i j =
-    front_bytes old b c d e (event ++ word_bytes n) (event' ++ word_bytes n') jobs jobs' x x' y y'
+    prefix_bytes old b c d e (event ++ word_bytes n) (event' ++ word_bytes n') jobs jobs' x x' y y'
     (two ∙ ap (λ (l : List ℕ). l ++ word_bytes n) one ∙ append_assoc old event (word_bytes n)) three four five
     (ap₂ (λ (l : List ℕ) (k : ℕ). l ++ word_bytes k) f g) h i j
     ∙ ap (λ (l : List ℕ). old ++ l) (append_assoc event' (word_bytes n') (x' ∷ y' ∷ jobs'))

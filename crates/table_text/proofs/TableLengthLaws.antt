@@ -4,7 +4,7 @@ use Rattle.std.specs.Prelude.{flat_map, map, sum_by, Option, Some, None}
 use Rattle.std.specs.Option.{option_map_or}
 use Rattle.std.proofs.lemmas.List.Concat.{length-flat_map}
 use Rattle.std.proofs.lemmas.List.Sums.{sum_by-cons}
-use Rattle.run_plan.specs.declared.command.Command.TheVariants as asked
+use Rattle.run_plan.specs.declared.command.Command.TheVariants as requested
 use Rattle.stored_tables.specs.Stored.{StoredRunner, StoredTable}
 use Rattle.run_states.specs.RunState.{LegState, JobState, RunState}
 use Rattle.stored_tables.specs.declared.parts.LastParts.{LastParts}
@@ -17,11 +17,11 @@ use Rattle.table_text.specs.Lengths.{command_length, fields_length, length_of, t
 use Rattle.table_text.specs.TableLengths.{job_length, last_length, lease_length, run_length, runner_length, table_length}
 use Rattle.table_text.specs.Tables.{flag_byte, job, kept, kept_lease, last_command, lease, leg, place, run, run_byte, runner, table}
 use Rattle.table_text.specs.declared.kept.StoredReply.TheVariants as replied
-use Rattle.table_text.proofs.LengthLaws.{behind_one, length_admit, length_command, length_counted, length_text, length_two, length_word}
+use Rattle.table_text.proofs.LengthLaws.{after_one, length_admit, length_command, length_counted, length_text, length_two, length_word}
 use Rattle.table_text.proofs.LengthLaws.{sum_same}
 
 length_leg : (l : LegState) → length_of leg l ≡ 5
-length_leg l = behind_one (lease.encoding l.lease) (length_lease l.lease) ∙ omega arith
+length_leg l = after_one (lease.encoding l.lease) (length_lease l.lease) ∙ omega arith
   where
     length_lease : (o : Option ℕ) → length (lease.encoding o) ≡ 4
     length_lease o = length_word _
@@ -44,18 +44,18 @@ length_job : (j : JobState) → length_of job j ≡ job_length j
 length_job j =
     let legs = length_counted leg.encoding (λ (l : LegState). 5) j.legs length_leg in
     let five = five_each j.legs in
-    behind_one (word_bytes (length j.legs) ++ flat_map leg.encoding j.legs) legs ∙ omega (arith, five)
+    after_one (word_bytes (length j.legs) ++ flat_map leg.encoding j.legs) legs ∙ omega (arith, five)
 
 length_run : (r : RunState) → length_of run r ≡ run_length r
 length_run r =
     let jobs : length (flat_map job.encoding r.jobs) ≡ sum_by job_length r.jobs =
     length-flat_map job.encoding r.jobs ∙ sum_same (λ j. length (job.encoding j)) job_length r.jobs length_job in
     length_two (admit.encoding r.admitted) (word_bytes r.attempt ++ run_byte r.phase ∷ flag_byte r.stopping ∷ flat_map job.encoding r.jobs)
-    (fields_length (asked.Admit r.admitted))
+    (fields_length (requested.Admit r.admitted))
     (4 + (1 + (1 + sum_by job_length r.jobs))) (length_admit r.admitted)
     (length_two (word_bytes r.attempt) (run_byte r.phase ∷ flag_byte r.stopping ∷ flat_map job.encoding r.jobs) 4
     (1 + (1 + sum_by job_length r.jobs)) (length_word r.attempt)
-    (behind_one (flag_byte r.stopping ∷ flat_map job.encoding r.jobs) (behind_one (flat_map job.encoding r.jobs) jobs)))
+    (after_one (flag_byte r.stopping ∷ flat_map job.encoding r.jobs) (after_one (flat_map job.encoding r.jobs) jobs)))
     ∙ omega arith
 
 length_place : (o : Option StoredPlace) → length_of (present place) o ≡ option_map_or (λ _. 16) o 0
@@ -72,16 +72,16 @@ length_kept_lease l =
 
 length_last : (l : LastParts) → length_of last_command l ≡ last_length l
 length_last (last.Claim claim None) =
-    length_two (command_bytes (asked.Claim claim)) (kept.encoding replied.Nothing) (command_length (asked.Claim claim)) 1
-    (length_command (asked.Claim claim)) refl
+    length_two (command_bytes (requested.Claim claim)) (kept.encoding replied.Nothing) (command_length (requested.Claim claim)) 1
+    (length_command (requested.Claim claim)) refl
 length_last (last.Claim claim (Some l)) =
-    length_two (command_bytes (asked.Claim claim)) (kept.encoding (replied.Leased l)) (command_length (asked.Claim claim))
+    length_two (command_bytes (requested.Claim claim)) (kept.encoding (replied.Leased l)) (command_length (requested.Claim claim))
     (1 + lease_length l)
-    (length_command (asked.Claim claim)) (behind_one (kept_lease.encoding l) (length_kept_lease l))
+    (length_command (requested.Claim claim)) (after_one (kept_lease.encoding l) (length_kept_lease l))
     ∙ omega arith
 length_last (last.Done report) =
-    length_two (command_bytes (asked.Done report)) (kept.encoding replied.Done) (command_length (asked.Done report)) 1
-    (length_command (asked.Done report)) refl
+    length_two (command_bytes (requested.Done report)) (kept.encoding replied.Done) (command_length (requested.Done report)) 1
+    (length_command (requested.Done report)) refl
 
 length_runner : (r : StoredRunner) → length_of runner r ≡ runner_length r
 length_runner r =

@@ -10,7 +10,7 @@ use Rattle.run_plan.specs.SmallText.{is_runner_byte}
 use Rattle.run_plan.specs.declared.command.Claim.{Claim}
 use Rattle.run_plan.specs.declared.command.Done.{Done}
 use Rattle.run_plan.specs.declared.command.Command.{Command}
-use Rattle.run_plan.specs.declared.command.Command.TheVariants as asked
+use Rattle.run_plan.specs.declared.command.Command.TheVariants as requested
 use Rattle.stored_tables.specs.Stored.{StoredRunner, StoredTable, is_new}
 use Rattle.run_states.specs.RunState.{LegState, JobState, RunState}
 use Rattle.stored_tables.specs.declared.parts.LastParts.{LastParts}
@@ -39,7 +39,7 @@ use Rattle.table_text.specs.declared.kept.StoredReply.TheVariants as replied
 use Rattle.table_text.proofs.CommandReaders.{admit_reads, chosen, command_reads, number_reads, small_text_reads}
 use Rattle.wf_value.proofs.Bytes.{AreBytes, AreBytes-drop}
 use Rattle.table_text.proofs.FormReaders.{byte_reads, follow_reads, present_reads, row_reads}
-use Rattle.table_text.proofs.Readers.{Fronts, Reads, bind_some, counted_reads, only_reads, pair_reads, parts_reads, some_bind, some_reads}
+use Rattle.table_text.proofs.Readers.{Prefixes, Reads, bind_some, counted_reads, only_reads, pair_reads, parts_reads, some_bind, some_reads}
 use Rattle.table_text.proofs.Readers.{these_read, word_reads}
 use Rattle.run_states.proofs.Found.{find_passes}
 
@@ -202,30 +202,30 @@ kept_lease_reads =
 
 -- a reply without a lease is one byte
 bare : (reply b : ℕ) (k : StoredReply) (rest : List ℕ) (found : StoredReply × List ℕ) → IsKept k → kept_bytes k ≡ b ∷ [] → AreBytes rest
-    → (reply == b) ≡ true → Some (k, rest) ≡ Some found → Fronts kept (reply ∷ rest) found
+    → (reply == b) ≡ true → Some (k, rest) ≡ Some found → Prefixes kept (reply ∷ rest) found
 bare reply b k rest found takes encoded are is h =
-    subst (λ (q : StoredReply × List ℕ). Fronts kept (reply ∷ rest) q) (same_Some (k, rest) found h) (record {
+    subst (λ (q : StoredReply × List ℕ). Prefixes kept (reply ∷ rest) q) (same_Some (k, rest) found h) (record {
       takes = takes;
       split = ap (λ (n : ℕ). n ∷ rest) (eqb-true reply b is) ∙ ap (λ (l : List ℕ). l ++ rest) (sym encoded);
       rest = are;
     })
 
 with_one : (reply : ℕ) (rest : List ℕ) (found : StoredReply × List ℕ) → AreBytes rest → (reply == 1) ≡ true
-    → parts_at (λ (l : StoredLease). replied.Leased l) kept_lease_at rest ≡ Some found → Fronts kept (reply ∷ rest) found
+    → parts_at (λ (l : StoredLease). replied.Leased l) kept_lease_at rest ≡ Some found → Prefixes kept (reply ∷ rest) found
 with_one reply rest found are is h =
     let step = bind_some (kept_lease_at rest) (λ l. Some (replied.Leased l.0, l.1)) found h in
     let l = step.0 in
-    let front = kept_lease_reads.sound rest l are step.1 in
-    subst (λ (q : StoredReply × List ℕ). Fronts kept (reply ∷ rest) q) (same_Some (replied.Leased l.0, l.1) found step.2) (record {
-      takes = front.takes;
-      split = ap (λ (n : ℕ). n ∷ rest) (eqb-true reply 1 is) ∙ ap (λ (t : List ℕ). 1 ∷ t) front.split;
-      rest = front.rest;
+    let prefix = kept_lease_reads.sound rest l are step.1 in
+    subst (λ (q : StoredReply × List ℕ). Prefixes kept (reply ∷ rest) q) (same_Some (replied.Leased l.0, l.1) found step.2) (record {
+      takes = prefix.takes;
+      split = ap (λ (n : ℕ). n ∷ rest) (eqb-true reply 1 is) ∙ ap (λ (t : List ℕ). 1 ∷ t) prefix.split;
+      rest = prefix.rest;
     })
 
-kept_behind : (reply : ℕ) (rest : List ℕ) (found : StoredReply × List ℕ) → AreBytes rest → kept_of reply rest ≡ Some found
-    → Fronts kept (reply ∷ rest) found
+kept_after : (reply : ℕ) (rest : List ℕ) (found : StoredReply × List ℕ) → AreBytes rest → kept_of reply rest ≡ Some found
+    → Prefixes kept (reply ∷ rest) found
 unfolding kept_of
-kept_behind reply rest found are h =
+kept_after reply rest found are h =
     let third : Option (StoredReply × List ℕ) = if reply == 2 then Some (replied.Done, rest) else None in
     let one : Option (StoredReply × List ℕ) = parts_at (λ (l : StoredLease). replied.Leased l) kept_lease_at rest in
     let second : Option (StoredReply × List ℕ) = if reply == 1 then one else third in
@@ -240,10 +240,10 @@ kept_behind reply rest found are h =
       ]
     ]
 
-kept_finds : (bytes : List ℕ) (found : StoredReply × List ℕ) → AreBytes bytes → kept_at bytes ≡ Some found → Fronts kept bytes found
+kept_finds : (bytes : List ℕ) (found : StoredReply × List ℕ) → AreBytes bytes → kept_at bytes ≡ Some found → Prefixes kept bytes found
 unfolding kept_at
 kept_finds [] found are h = absurd (none-some found h)
-kept_finds (reply ∷ rest) found are h = kept_behind reply rest found (AreBytes-drop 1 (reply ∷ rest) are) h
+kept_finds (reply ∷ rest) found are h = kept_after reply rest found (AreBytes-drop 1 (reply ∷ rest) are) h
 
 kept_found : (k : StoredReply) (rest : List ℕ) → IsKept k → kept_at (kept_bytes k ++ rest) ≡ Some (k, rest)
 unfolding kept_at kept_of
@@ -261,26 +261,26 @@ last_there (last.Claim claim None) = refl
 last_there (last.Claim claim (Some l)) = refl
 last_there (last.Done report) = refl
 
-claim_back : (claim : Claim) (k : StoredReply) (l : LastParts) → claim_with claim k ≡ Some l → last_parts l ≡ (asked.Claim claim, k)
+claim_back : (claim : Claim) (k : StoredReply) (l : LastParts) → claim_with claim k ≡ Some l → last_parts l ≡ (requested.Claim claim, k)
 claim_back claim replied.Nothing l h = ap last_parts (sym (same_Some (last.Claim claim None) l h))
 claim_back claim (replied.Leased given) l h = ap last_parts (sym (same_Some (last.Claim claim (Some given)) l h))
 claim_back claim replied.Done l h = absurd (none-some l h)
 
-report_back : (report : Done) (k : StoredReply) (l : LastParts) → report_with report k ≡ Some l → last_parts l ≡ (asked.Done report, k)
+report_back : (report : Done) (k : StoredReply) (l : LastParts) → report_with report k ≡ Some l → last_parts l ≡ (requested.Done report, k)
 report_back report replied.Nothing l h = absurd (none-some l h)
 report_back report (replied.Leased given) l h = absurd (none-some l h)
 report_back report replied.Done l h = ap last_parts (sym (same_Some (last.Done report) l h))
 
 pub last_back_of : (c : Command) (k : StoredReply) (l : LastParts) → last_with c k ≡ Some l → last_parts l ≡ (c, k)
-last_back_of (asked.Admit event) k l h = absurd (none-some l h)
-last_back_of (asked.Claim claim) k l h = claim_back claim k l h
-last_back_of (asked.Done report) k l h = report_back report k l h
-last_back_of (asked.Beat asks) k l h = absurd (none-some l h)
-last_back_of (asked.Cancel r) k l h = absurd (none-some l h)
-last_back_of (asked.Lost r) k l h = absurd (none-some l h)
-last_back_of (asked.Look r) k l h = absurd (none-some l h)
-last_back_of (asked.Fetch r) k l h = absurd (none-some l h)
-last_back_of (asked.Rerun a) k l h = absurd (none-some l h)
+last_back_of (requested.Admit event) k l h = absurd (none-some l h)
+last_back_of (requested.Claim claim) k l h = claim_back claim k l h
+last_back_of (requested.Done report) k l h = report_back report k l h
+last_back_of (requested.Beat requests) k l h = absurd (none-some l h)
+last_back_of (requested.Cancel r) k l h = absurd (none-some l h)
+last_back_of (requested.Lost r) k l h = absurd (none-some l h)
+last_back_of (requested.Look r) k l h = absurd (none-some l h)
+last_back_of (requested.Fetch r) k l h = absurd (none-some l h)
+last_back_of (requested.Rerun a) k l h = absurd (none-some l h)
 
 pub last_reads : Reads last_command last_at
 unfolding last_at

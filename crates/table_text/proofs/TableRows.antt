@@ -171,8 +171,8 @@ the_first_attempt = refl
 the_last_attempt : is_attempt 1000 ≡ true
 the_last_attempt = refl
 
-none_behind_the_last : is_attempt 1001 ≡ false
-none_behind_the_last = refl
+none_after_the_last : is_attempt 1001 ≡ false
+none_after_the_last = refl
 
 -- a runner that got lease 2 with its third command and holds it: leg 255 of the second job of run 258, in its second
 -- attempt

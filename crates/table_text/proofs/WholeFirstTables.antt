@@ -25,7 +25,7 @@ use Rattle.stored_tables.specs.declared.parts.StoredPlace.{StoredPlace}
 use Rattle.stored_tables.proofs.StoredOnce.{run_told, same_runners}
 use Rattle.table_text.specs.Commands.{batch}
 use Rattle.table_text.specs.FirstLayout.{first_batch, first_last_command, first_run, first_runner, first_table, is_in_first_layout}
-use Rattle.table_text.specs.Format.{NoneBeginsAnother, OpensWith, StandsAtFront}
+use Rattle.table_text.specs.Format.{NoneBeginsAnother, OpensWith, ReadsPrefix}
 use Rattle.table_text.specs.ReadingCommands.{batch_at}
 use Rattle.table_text.specs.ReadingFirst.{first_table_at}
 use Rattle.table_text.specs.WholeFirstTables.{first_stored_last, first_stored_runner, first_stored_table, whole_first_table}
@@ -141,11 +141,11 @@ first_begins_none a b more other x y one two same =
 
 -- ---- from the parts at the front of bytes
 
-pub none_without_first_parts : (bytes : List ℕ) → StandsAtFront first_table bytes None → StandsAtFront whole_first_table bytes None
+pub none_without_first_parts : (bytes : List ℕ) → ReadsPrefix first_table bytes None → ReadsPrefix whole_first_table bytes None
 none_without_first_parts bytes none t rest opens = none (first_stored_table t) rest (opens.0.1, opens.1)
 
 pub none_of_first_parts : (bytes rest : List ℕ) (parts : StoredTable) → OpensWith first_table bytes parts rest → IsNoTable parts
-    → StandsAtFront whole_first_table bytes None
+    → ReadsPrefix whole_first_table bytes None
 none_of_first_parts bytes rest parts opens none t other again =
     let same : first_table.encoding (first_stored_table t) ++ other ≡ first_table.encoding parts ++ rest = sym again.1 ∙ opens.1 in
     let one = none_begins first_table first_table_at first_table_reads (first_table.encoding (first_stored_table t))
@@ -163,14 +163,14 @@ one_of_first_parts bytes rest parts t opens is =
 
 -- ---- batches
 
-pub none_without_batch : (bytes : List ℕ) → StandsAtFront batch bytes None → StandsAtFront first_batch bytes None
+pub none_without_batch : (bytes : List ℕ) → ReadsPrefix batch bytes None → ReadsPrefix first_batch bytes None
 none_without_batch bytes none commands rest opens = none commands rest (opens.0.0, opens.1)
 
 pub none_of_batch : (bytes rest : List ℕ) (commands : List Command) → OpensWith batch bytes commands rest
-    → list_all is_in_first_layout commands ≡ false → StandsAtFront first_batch bytes None
-none_of_batch bytes rest commands opens not others behind again =
-    let same : batch.encoding others ++ behind ≡ batch.encoding commands ++ rest = sym again.1 ∙ opens.1 in
-    let one = none_begins batch batch_at batch_reads (batch.encoding others) (batch.encoding commands) behind rest others commands
+    → list_all is_in_first_layout commands ≡ false → ReadsPrefix first_batch bytes None
+none_of_batch bytes rest commands opens not others suffix again =
+    let same : batch.encoding others ++ suffix ≡ batch.encoding commands ++ rest = sym again.1 ∙ opens.1 in
+    let one = none_begins batch batch_at batch_reads (batch.encoding others) (batch.encoding commands) suffix rest others commands
     (again.0.0, refl) (opens.0, refl) same in
     let is : list_all is_in_first_layout others ≡ true = again.0.1 in
     let no : list_all is_in_first_layout others ≡ false = ap (λ cs. list_all is_in_first_layout cs) one.1 ∙ not in

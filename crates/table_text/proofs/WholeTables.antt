@@ -13,7 +13,7 @@ use Rattle.run_states.specs.RunState.{RunState}
 use Rattle.run_states.proofs.Found.{each_at}
 use Rattle.stored_tables.proofs.StoredOnce.{same_runners}
 use Rattle.stored_tables.proofs.StoredParts.{HasPlace, HavePlaces, is_stored, stored_again}
-use Rattle.table_text.specs.Format.{NoneBeginsAnother, OpensWith, StandsAtFront, present}
+use Rattle.table_text.specs.Format.{NoneBeginsAnother, OpensWith, ReadsPrefix, present}
 use Rattle.table_text.specs.ReadingTables.{table_at}
 use Rattle.table_text.specs.Tables.{last_command, place, runner, table}
 use Rattle.table_text.specs.WholeTables.{whole_table}
@@ -42,11 +42,11 @@ whole_begins_none a b more other x y one two same =
 
 -- ---- from the parts at the front of bytes
 
-pub none_without_parts : (bytes : List ℕ) → StandsAtFront table bytes None → StandsAtFront whole_table bytes None
+pub none_without_parts : (bytes : List ℕ) → ReadsPrefix table bytes None → ReadsPrefix whole_table bytes None
 none_without_parts bytes none t rest opens = none (stored_table t) rest (opens.0.1, opens.1)
 
 pub none_of_parts : (bytes rest : List ℕ) (parts : StoredTable) → OpensWith table bytes parts rest → IsNoTable parts
-    → StandsAtFront whole_table bytes None
+    → ReadsPrefix whole_table bytes None
 none_of_parts bytes rest parts opens none t other again =
     let same : table.encoding (stored_table t) ++ other ≡ table.encoding parts ++ rest = sym again.1 ∙ opens.1 in
     let one = none_begins table table_at table_reads (table.encoding (stored_table t)) (table.encoding parts) other rest

@@ -10,12 +10,14 @@ use Rattle.run_plan.specs.declared.command.Beat.{Beat}
 use Rattle.run_plan.specs.declared.command.Claim.{Claim}
 use Rattle.run_plan.specs.declared.command.Done.{Done}
 use Rattle.run_plan.specs.declared.command.Command.{Command}
-use Rattle.run_plan.specs.declared.command.Command.TheVariants as asked
+use Rattle.run_plan.specs.declared.command.Command.TheVariants as requested
+use Rattle.run_plan.specs.declared.labels.TheConstants.{MAX_LABELS}
+use Rattle.run_plan.specs.declared.number.TheConstants.{LAST_NUMBER}
 use Rattle.table_text.specs.Format.{Format, word, text, only, pair, parts, counted}
 
 -- 1 to 999,999,999
 abbrev pub is_numbered : ℕ → Bool
-is_numbered n = nat_le 1 n && nat_le n 999999999
+is_numbered n = nat_le 1 n && nat_le n LAST_NUMBER
 
 abbrev pub number : Format ℕ
 number = only is_numbered word
@@ -24,9 +26,9 @@ number = only is_numbered word
 abbrev pub small_text : (ℕ → Bool) → Format (List ℕ)
 small_text kind = only (is_short kind) text
 
--- 1 to 16 labels
+-- 1 to `MAX_LABELS` labels
 abbrev pub labels : Format (List (List ℕ))
-labels = counted 1 16 (small_text is_label_byte)
+labels = counted 1 MAX_LABELS (small_text is_label_byte)
 
 abbrev pub are_none : {X : Type 0} → List X → Bool
 are_none [] = true
@@ -74,39 +76,39 @@ rerun = parts (λ (a : Attempt). (a.run, a.attempt)) (pair number number)
 -- ---- commands and batches
 
 abbrev pub IsEncoded : Command → Type 0
-IsEncoded (asked.Admit event) = admit.Takes event
-IsEncoded (asked.Claim asks) = claim.Takes asks
-IsEncoded (asked.Done report) = done.Takes report
-IsEncoded (asked.Beat asks) = beat.Takes asks
-IsEncoded (asked.Cancel run) = number.Takes run
-IsEncoded (asked.Lost runner) = (small_text is_runner_byte).Takes runner
-IsEncoded (asked.Look run) = number.Takes run
-IsEncoded (asked.Fetch run) = number.Takes run
-IsEncoded (asked.Rerun asks) = rerun.Takes asks
+IsEncoded (requested.Admit event) = admit.Takes event
+IsEncoded (requested.Claim requests) = claim.Takes requests
+IsEncoded (requested.Done report) = done.Takes report
+IsEncoded (requested.Beat requests) = beat.Takes requests
+IsEncoded (requested.Cancel run) = number.Takes run
+IsEncoded (requested.Lost runner) = (small_text is_runner_byte).Takes runner
+IsEncoded (requested.Look run) = number.Takes run
+IsEncoded (requested.Fetch run) = number.Takes run
+IsEncoded (requested.Rerun requests) = rerun.Takes requests
 
 -- the byte for the command's kind
 abbrev pub kind_of : Command → ℕ
-kind_of (asked.Admit event) = 1
-kind_of (asked.Claim asks) = 2
-kind_of (asked.Done report) = 3
-kind_of (asked.Beat asks) = 4
-kind_of (asked.Cancel run) = 5
-kind_of (asked.Lost runner) = 6
-kind_of (asked.Look run) = 7
-kind_of (asked.Fetch run) = 8
-kind_of (asked.Rerun asks) = 9
+kind_of (requested.Admit event) = 1
+kind_of (requested.Claim requests) = 2
+kind_of (requested.Done report) = 3
+kind_of (requested.Beat requests) = 4
+kind_of (requested.Cancel run) = 5
+kind_of (requested.Lost runner) = 6
+kind_of (requested.Look run) = 7
+kind_of (requested.Fetch run) = 8
+kind_of (requested.Rerun requests) = 9
 
 -- the bytes after it
 abbrev pub fields_of : Command → List ℕ
-fields_of (asked.Admit event) = admit.encoding event
-fields_of (asked.Claim asks) = claim.encoding asks
-fields_of (asked.Done report) = done.encoding report
-fields_of (asked.Beat asks) = beat.encoding asks
-fields_of (asked.Cancel run) = number.encoding run
-fields_of (asked.Lost runner) = (small_text is_runner_byte).encoding runner
-fields_of (asked.Look run) = number.encoding run
-fields_of (asked.Fetch run) = number.encoding run
-fields_of (asked.Rerun asks) = rerun.encoding asks
+fields_of (requested.Admit event) = admit.encoding event
+fields_of (requested.Claim requests) = claim.encoding requests
+fields_of (requested.Done report) = done.encoding report
+fields_of (requested.Beat requests) = beat.encoding requests
+fields_of (requested.Cancel run) = number.encoding run
+fields_of (requested.Lost runner) = (small_text is_runner_byte).encoding runner
+fields_of (requested.Look run) = number.encoding run
+fields_of (requested.Fetch run) = number.encoding run
+fields_of (requested.Rerun requests) = rerun.encoding requests
 
 abbrev pub command_bytes : Command → List ℕ
 command_bytes c = kind_of c ∷ fields_of c

@@ -6,10 +6,11 @@ use Rattle.std.specs.Prelude.{◌≡◌, ℕ, List, [], Bool, true, false, Optio
 use Rattle.std.specs.List.{list_all}
 use Rattle.run_plan.specs.SmallText.{is_runner_byte}
 use Rattle.run_plan.specs.declared.command.Command.{Command}
-use Rattle.run_plan.specs.declared.command.Command.TheVariants as asked
+use Rattle.run_plan.specs.declared.command.Command.TheVariants as requested
 use Rattle.stored_tables.specs.Stored.{StoredRunner, StoredTable}
 use Rattle.stored_tables.specs.declared.parts.LastParts.{LastParts}
 use Rattle.run_states.specs.RunState.{RunState}
+use Rattle.run_states.specs.declared.limits.TheConstants.{MAX_RUNS}
 use Rattle.table_text.specs.declared.kept.StoredReply.{StoredReply}
 use Rattle.table_text.specs.declared.kept.StoredReply.TheVariants as replied
 use Rattle.table_text.specs.Commands.{admit, batch, command, number, small_text}
@@ -58,21 +59,21 @@ first_runner = parts (λ (r : StoredRunner). (r.name, (r.number, (r.last, r.hold
 -- the last lease, the runs in the order of their ids, and the runners in the order of their names
 abbrev pub first_table : Format StoredTable
 first_table = parts (λ (t : StoredTable). (t.last_lease, (t.runs, t.runners)))
-    (pair (only is_last_lease word) (pair (counted 0 100000 first_run) (only names_rise (counted 0 4294967295 first_runner))))
+    (pair (only is_last_lease word) (pair (counted 0 MAX_RUNS first_run) (only names_rise (counted 0 4294967295 first_runner))))
 
 -- ---- batches
 
 -- The first layout has every command except the one that asks for an attempt.
 abbrev pub is_in_first_layout : Command → Bool
-is_in_first_layout (asked.Admit event) = true
-is_in_first_layout (asked.Claim asks) = true
-is_in_first_layout (asked.Done report) = true
-is_in_first_layout (asked.Beat asks) = true
-is_in_first_layout (asked.Cancel run) = true
-is_in_first_layout (asked.Lost runner) = true
-is_in_first_layout (asked.Look run) = true
-is_in_first_layout (asked.Fetch run) = true
-is_in_first_layout (asked.Rerun asks) = false
+is_in_first_layout (requested.Admit event) = true
+is_in_first_layout (requested.Claim requests) = true
+is_in_first_layout (requested.Done report) = true
+is_in_first_layout (requested.Beat requests) = true
+is_in_first_layout (requested.Cancel run) = true
+is_in_first_layout (requested.Lost runner) = true
+is_in_first_layout (requested.Look run) = true
+is_in_first_layout (requested.Fetch run) = true
+is_in_first_layout (requested.Rerun requests) = false
 
 abbrev pub first_batch : Format (List Command)
 first_batch = only (λ commands. list_all is_in_first_layout commands) batch

@@ -33,9 +33,9 @@ abbrev pub Appends : {A : Type 0} → Format A → List ℕ → A → List ℕ �
 Appends format before x after = format.Takes x × (after ≡ before ++ format.encoding x)
 
 -- What a reader finds: a value and the bytes after its encoding, or nothing if no prefix is an encoding.
-abbrev pub StandsAtFront : {A : Type 0} → Format A → List ℕ → Option (A × List ℕ) → Type 0
-StandsAtFront format bytes (Some found) = OpensWith format bytes found.0 found.1
-StandsAtFront {A} format bytes None = (x : A) (rest : List ℕ) → OpensWith format bytes x rest → ⊥
+abbrev pub ReadsPrefix : {A : Type 0} → Format A → List ℕ → Option (A × List ℕ) → Type 0
+ReadsPrefix format bytes (Some found) = OpensWith format bytes found.0 found.1
+ReadsPrefix {A} format bytes None = (x : A) (rest : List ℕ) → OpensWith format bytes x rest → ⊥
 
 -- ---- the building blocks of formats
 

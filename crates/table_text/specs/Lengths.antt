@@ -1,7 +1,7 @@
 -- The number of bytes in an encoding, as a sum over the fields.
 use Rattle.std.specs.Prelude.{ℕ, ◌+◌, List, length, sum_by}
 use Rattle.run_plan.specs.declared.command.Command.{Command}
-use Rattle.run_plan.specs.declared.command.Command.TheVariants as asked
+use Rattle.run_plan.specs.declared.command.Command.TheVariants as requested
 use Rattle.table_text.specs.Format.{Format}
 
 -- the number of bytes in the encoding
@@ -18,15 +18,15 @@ texts_length texts = 4 + sum_by text_length texts
 
 -- a number has four bytes, and a result one
 abbrev pub fields_length : Command → ℕ
-fields_length (asked.Admit event) = text_length event.delivery + text_length event.event + text_length event.body
-fields_length (asked.Claim asks) = text_length asks.runner + 4 + texts_length asks.labels
-fields_length (asked.Done report) = text_length report.runner + 4 + 4 + 1
-fields_length (asked.Beat asks) = text_length asks.runner + 4
-fields_length (asked.Cancel run) = 4
-fields_length (asked.Lost runner) = text_length runner
-fields_length (asked.Look run) = 4
-fields_length (asked.Fetch run) = 4
-fields_length (asked.Rerun asks) = 4 + 4
+fields_length (requested.Admit event) = text_length event.delivery + text_length event.event + text_length event.body
+fields_length (requested.Claim requests) = text_length requests.runner + 4 + texts_length requests.labels
+fields_length (requested.Done report) = text_length report.runner + 4 + 4 + 1
+fields_length (requested.Beat requests) = text_length requests.runner + 4
+fields_length (requested.Cancel run) = 4
+fields_length (requested.Lost runner) = text_length runner
+fields_length (requested.Look run) = 4
+fields_length (requested.Fetch run) = 4
+fields_length (requested.Rerun requests) = 4 + 4
 
 -- one byte for the command's kind
 abbrev pub command_length : Command → ℕ

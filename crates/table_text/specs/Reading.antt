@@ -50,9 +50,9 @@ items_at item zero bytes = Some ([], bytes)
 items_at item (suc n) bytes = item bytes >>= (λ x. items_at item n x.1 >>= (λ xs. Some (x.0 ∷ xs.0, xs.1)))
 
 -- values that were found, followed by those that reading finds after them
-abbrev pub with_front : {A : Type 0} → List A → Option (List A × List ℕ) → Option (List A × List ℕ)
-with_front front None = None
-with_front front (Some xs) = Some (front ++ xs.0, xs.1)
+abbrev pub with_prefix : {A : Type 0} → List A → Option (List A × List ℕ) → Option (List A × List ℕ)
+with_prefix prefix None = None
+with_prefix prefix (Some xs) = Some (prefix ++ xs.0, xs.1)
 
 abbrev pub counted_at : {A : Type 0} → ℕ → ℕ → Reader A → Reader (List A)
 counted_at least most item bytes = word_at bytes >>= (λ n. if nat_le least n.0 && nat_le n.0 most then items_at item n.0 n.1 else None)

@@ -9,7 +9,8 @@ use Rattle.run_plan.specs.declared.command.Beat.{Beat}
 use Rattle.run_plan.specs.declared.command.Claim.{Claim}
 use Rattle.run_plan.specs.declared.command.Done.{Done}
 use Rattle.run_plan.specs.declared.command.Command.{Command}
-use Rattle.run_plan.specs.declared.command.Command.TheVariants as asked
+use Rattle.run_plan.specs.declared.command.Command.TheVariants as requested
+use Rattle.run_plan.specs.declared.labels.TheConstants.{MAX_LABELS}
 use Rattle.table_text.specs.Commands.{is_numbered, is_faultless}
 use Rattle.table_text.specs.Reading.{◌>>=◌, Reader, word_at, text_at, only_at, pair_at, parts_at, counted_at}
 
@@ -20,7 +21,7 @@ unfoldable pub small_text_at : (ℕ → Bool) → Reader (List ℕ)
 small_text_at kind bytes = only_at (is_short kind) text_at bytes
 
 unfoldable pub labels_at : Reader (List (List ℕ))
-labels_at bytes = counted_at 1 16 (small_text_at is_label_byte) bytes
+labels_at bytes = counted_at 1 MAX_LABELS (small_text_at is_label_byte) bytes
 
 unfoldable pub body_at : Reader (List ℕ)
 body_at bytes = only_at is_faultless text_at bytes
@@ -54,15 +55,15 @@ rerun_at bytes = parts_at (λ (p : ℕ × ℕ). record { run = p.0; attempt = p.
 -- the bytes after the one for the command's kind
 unfoldable pub command_of : ℕ → Reader Command
 command_of kind rest =
-    if kind == 1 then parts_at (λ (a : Admitted). asked.Admit a) admit_at rest
-    else (if kind == 2 then parts_at (λ (c : Claim). asked.Claim c) claim_at rest
-    else (if kind == 3 then parts_at (λ (d : Done). asked.Done d) done_at rest
-    else (if kind == 4 then parts_at (λ (b : Beat). asked.Beat b) beat_at rest
-    else (if kind == 5 then parts_at (λ (n : ℕ). asked.Cancel n) number_at rest
-    else (if kind == 6 then parts_at (λ (r : List ℕ). asked.Lost r) (small_text_at is_runner_byte) rest
-    else (if kind == 7 then parts_at (λ (n : ℕ). asked.Look n) number_at rest
-    else (if kind == 8 then parts_at (λ (n : ℕ). asked.Fetch n) number_at rest
-    else (if kind == 9 then parts_at (λ (a : Attempt). asked.Rerun a) rerun_at rest
+    if kind == 1 then parts_at (λ (a : Admitted). requested.Admit a) admit_at rest
+    else (if kind == 2 then parts_at (λ (c : Claim). requested.Claim c) claim_at rest
+    else (if kind == 3 then parts_at (λ (d : Done). requested.Done d) done_at rest
+    else (if kind == 4 then parts_at (λ (b : Beat). requested.Beat b) beat_at rest
+    else (if kind == 5 then parts_at (λ (n : ℕ). requested.Cancel n) number_at rest
+    else (if kind == 6 then parts_at (λ (r : List ℕ). requested.Lost r) (small_text_at is_runner_byte) rest
+    else (if kind == 7 then parts_at (λ (n : ℕ). requested.Look n) number_at rest
+    else (if kind == 8 then parts_at (λ (n : ℕ). requested.Fetch n) number_at rest
+    else (if kind == 9 then parts_at (λ (a : Attempt). requested.Rerun a) rerun_at rest
     else None))))))))
 
 unfoldable pub command_at : Reader Command

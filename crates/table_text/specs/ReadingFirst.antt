@@ -5,6 +5,7 @@ use Rattle.run_plan.specs.SmallText.{is_runner_byte}
 use Rattle.stored_tables.specs.Stored.{StoredRunner, StoredTable}
 use Rattle.stored_tables.specs.declared.parts.LastParts.{LastParts}
 use Rattle.run_states.specs.RunState.{JobState, RunState}
+use Rattle.run_states.specs.declared.limits.TheConstants.{MAX_RUNS}
 use Rattle.run_states.specs.declared.phases.RunPhase.{RunPhase}
 use Rattle.table_text.specs.declared.kept.StoredReply.{StoredReply}
 use Rattle.table_text.specs.declared.kept.StoredReply.TheVariants as replied
@@ -60,7 +61,7 @@ first_runner_at bytes =
 -- ---- tables
 
 unfoldable pub first_runs_at : Reader (List RunState)
-first_runs_at bytes = counted_at 0 100000 first_run_at bytes
+first_runs_at bytes = counted_at 0 MAX_RUNS first_run_at bytes
 
 unfoldable pub first_runners_at : Reader (List StoredRunner)
 first_runners_at bytes = only_at names_rise (counted_at 0 4294967295 first_runner_at) bytes

@@ -7,9 +7,10 @@ use Rattle.run_plan.specs.SmallText.{is_runner_byte}
 use Rattle.run_plan.specs.declared.command.Claim.{Claim}
 use Rattle.run_plan.specs.declared.command.Done.{Done}
 use Rattle.run_plan.specs.declared.command.Command.{Command}
-use Rattle.run_plan.specs.declared.command.Command.TheVariants as asked
+use Rattle.run_plan.specs.declared.command.Command.TheVariants as requested
 use Rattle.stored_tables.specs.Stored.{StoredRunner, StoredTable, is_new}
 use Rattle.run_states.specs.RunState.{LegState, JobState, RunState}
+use Rattle.run_states.specs.declared.limits.TheConstants.{MAX_RUNS}
 use Rattle.stored_tables.specs.declared.parts.LastParts.{LastParts}
 use Rattle.stored_tables.specs.declared.parts.LastParts.TheVariants as last
 use Rattle.stored_tables.specs.declared.parts.StoredLease.{StoredLease}
@@ -28,8 +29,8 @@ use Rattle.table_text.specs.ReadingCommands.{admit_at, command_at, number_at, sm
 use Rattle.table_text.specs.Tables.{flag_byte, is_attempt, is_last_lease, job_byte, jobs_planned, leg_byte, names_rise, run_byte}
 
 -- 0 means none
-abbrev pub lease_told : ℕ → Option ℕ
-lease_told n = if n == 0 then None else Some n
+abbrev pub optional_lease : ℕ → Option ℕ
+optional_lease n = if n == 0 then None else Some n
 
 -- other numbers are leases up to 999,999,999
 abbrev pub lease_of : ℕ → Option (Option ℕ)
@@ -124,15 +125,15 @@ report_with report (replied.Leased l) = None
 report_with report replied.Done = Some (last.Done report)
 
 abbrev pub last_with : Command → StoredReply → Option LastParts
-last_with (asked.Admit event) kept = None
-last_with (asked.Claim claim) kept = claim_with claim kept
-last_with (asked.Done report) kept = report_with report kept
-last_with (asked.Beat asks) kept = None
-last_with (asked.Cancel run) kept = None
-last_with (asked.Lost runner) kept = None
-last_with (asked.Look run) kept = None
-last_with (asked.Fetch run) kept = None
-last_with (asked.Rerun asks) kept = None
+last_with (requested.Admit event) kept = None
+last_with (requested.Claim claim) kept = claim_with claim kept
+last_with (requested.Done report) kept = report_with report kept
+last_with (requested.Beat requests) kept = None
+last_with (requested.Cancel run) kept = None
+last_with (requested.Lost runner) kept = None
+last_with (requested.Look run) kept = None
+last_with (requested.Fetch run) kept = None
+last_with (requested.Rerun requests) kept = None
 
 abbrev pub last_of : Command × StoredReply → Option LastParts
 last_of p = last_with p.0 p.1
@@ -151,7 +152,7 @@ unfoldable pub last_lease_at : Reader ℕ
 last_lease_at bytes = only_at is_last_lease word_at bytes
 
 unfoldable pub runs_at : Reader (List RunState)
-runs_at bytes = counted_at 0 100000 run_at bytes
+runs_at bytes = counted_at 0 MAX_RUNS run_at bytes
 
 unfoldable pub runners_at : Reader (List StoredRunner)
 runners_at bytes = only_at names_rise (counted_at 0 4294967295 runner_at) bytes

@@ -1,7 +1,7 @@
 -- The number of bytes in a table's encoding, as a sum over the fields.
 use Rattle.std.specs.Prelude.{ℕ, ◌+◌, ◌*◌, length, sum_by, Some, None}
 use Rattle.std.specs.Option.{option_map_or}
-use Rattle.run_plan.specs.declared.command.Command.TheVariants as asked
+use Rattle.run_plan.specs.declared.command.Command.TheVariants as requested
 use Rattle.stored_tables.specs.Stored.{StoredRunner, StoredTable}
 use Rattle.run_states.specs.RunState.{JobState, RunState}
 use Rattle.stored_tables.specs.declared.parts.LastParts.{LastParts}
@@ -15,7 +15,7 @@ job_length j = 1 + 4 + 5 * length j.legs
 
 -- what was admitted, an attempt, a phase, a flag and the jobs
 abbrev pub run_length : RunState → ℕ
-run_length r = fields_length (asked.Admit r.admitted) + 4 + 1 + 1 + sum_by job_length r.jobs
+run_length r = fields_length (requested.Admit r.admitted) + 4 + 1 + 1 + sum_by job_length r.jobs
 
 -- a lease, and the four numbers of its place
 abbrev pub lease_length : StoredLease → ℕ
@@ -23,9 +23,9 @@ lease_length l = 4 + option_map_or (λ _. 16) l.place 0
 
 -- a command, a byte for its reply, and the lease if there is one
 abbrev pub last_length : LastParts → ℕ
-last_length (last.Claim claim None) = command_length (asked.Claim claim) + 1
-last_length (last.Claim claim (Some l)) = command_length (asked.Claim claim) + 1 + lease_length l
-last_length (last.Done report) = command_length (asked.Done report) + 1
+last_length (last.Claim claim None) = command_length (requested.Claim claim) + 1
+last_length (last.Claim claim (Some l)) = command_length (requested.Claim claim) + 1 + lease_length l
+last_length (last.Done report) = command_length (requested.Done report) + 1
 
 -- a name, a number, a last command and a lease
 abbrev pub runner_length : StoredRunner → ℕ

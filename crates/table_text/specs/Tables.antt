@@ -8,9 +8,11 @@ use Rattle.run_plan.specs.Admitted.{Admitted}
 use Rattle.run_plan.specs.PlanOf.{plan_of}
 use Rattle.run_plan.specs.SmallText.{is_runner_byte}
 use Rattle.run_plan.specs.declared.command.Command.{Command}
-use Rattle.run_plan.specs.declared.command.Command.TheVariants as asked
+use Rattle.run_plan.specs.declared.command.Command.TheVariants as requested
+use Rattle.run_plan.specs.declared.number.TheConstants.{LAST_NUMBER}
 use Rattle.stored_tables.specs.Stored.{StoredRunner, StoredTable, is_new}
 use Rattle.run_states.specs.RunState.{LegState, JobState, RunState}
+use Rattle.run_states.specs.declared.limits.TheConstants.{LAST_ATTEMPT, MAX_RUNS}
 use Rattle.stored_tables.specs.declared.parts.LastParts.{LastParts}
 use Rattle.stored_tables.specs.declared.parts.LastParts.TheVariants as last
 use Rattle.stored_tables.specs.declared.parts.StoredLease.{StoredLease}
@@ -80,7 +82,7 @@ job = parts (λ (j : JobState). (j.phase, j.legs)) (pair (parts job_byte byte) (
 
 -- an attempt of a run: 1 to 1,000
 abbrev pub is_attempt : ℕ → Bool
-is_attempt n = nat_le 1 n && nat_le n 1000
+is_attempt n = nat_le 1 n && nat_le n LAST_ATTEMPT
 
 -- the number of jobs in the plan of an admitted body
 abbrev pub jobs_planned : Admitted → ℕ
@@ -118,9 +120,9 @@ kept = record { Takes = IsKept; encoding = kept_bytes }
 
 -- the command and its kept reply
 abbrev pub last_parts : LastParts → Command × StoredReply
-last_parts (last.Claim claim None) = (asked.Claim claim, replied.Nothing)
-last_parts (last.Claim claim (Some l)) = (asked.Claim claim, replied.Leased l)
-last_parts (last.Done report) = (asked.Done report, replied.Done)
+last_parts (last.Claim claim None) = (requested.Claim claim, replied.Nothing)
+last_parts (last.Claim claim (Some l)) = (requested.Claim claim, replied.Leased l)
+last_parts (last.Done report) = (requested.Done report, replied.Done)
 
 abbrev pub last_command : Format LastParts
 last_command = parts last_parts (pair command kept)
@@ -134,7 +136,7 @@ runner = parts (λ (r : StoredRunner). (r.name, (r.number, (r.last, r.holds))))
 
 -- up to 999,999,999
 abbrev pub is_last_lease : ℕ → Bool
-is_last_lease n = nat_le n 999999999
+is_last_lease n = nat_le n LAST_NUMBER
 
 -- names strictly increase in byte order
 abbrev pub names_rise : List StoredRunner → Bool
@@ -143,4 +145,4 @@ names_rise runners = rises_by (λ r. r.name) runners
 -- the last lease, the runs in the order of their ids, and the runners in the order of their names
 abbrev pub table : Format StoredTable
 table = parts (λ (t : StoredTable). (t.last_lease, (t.runs, t.runners)))
-    (pair (only is_last_lease word) (pair (counted 0 100000 run) (only names_rise (counted 0 4294967295 runner))))
+    (pair (only is_last_lease word) (pair (counted 0 MAX_RUNS run) (only names_rise (counted 0 4294967295 runner))))

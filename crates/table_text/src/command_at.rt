@@ -1,7 +1,7 @@
 ghost use Rattle.std.specs.Prelude.{◌≡◌, ◌≢◌, IfOk};
 ghost use Rattle.wf_value.specs.RefusalText.{refusal_number};
 ghost use Rattle.run_plan.specs.declared.command.Attempt.{Attempt};
-ghost use Rattle.run_plan.specs.declared.command.Command.TheVariants as asked;
+ghost use Rattle.run_plan.specs.declared.command.Command.TheVariants as requested;
 ghost use Rattle.table_text.specs.declared.decode_error.DecodeError.TheVariants.{NoEncoding};
 ghost use Rattle.table_text.specs.Commands.{is_faultless};
 ghost use Rattle.table_text.specs.Reading.{Finds, kept, parts_at};
@@ -9,8 +9,8 @@ ghost use Rattle.table_text.specs.ReadingCommands.{admit_at, rerun_at, batch_at,
 
 use crate::decode_error::DecodeError;
 use crate::fields::{is_within, labels_at, number_at, result_at, small_text_at};
-use crate::front::{text_at, word_at};
 use crate::list_at::{ReadAt, list_at};
+use crate::prefix::{text_at, word_at};
 use run_plan::{
     Attempt, Beat, Claim, Command, DeliveryForm, DeliveryId, Done, EventForm, EventName, Number,
     Prepared, RunnerForm, prepare,
@@ -105,15 +105,15 @@ fn beat_at(alloc: Global, bytes: &[u8]) -> Result<(Beat, &[u8]), DecodeError>
 /// copied.
 #[tactic(auto, unfolding(crate::specs::ReadingCommands::rerun_at))]
 fn rerun_at(bytes: &[u8]) -> Result<(Command, &[u8]), DecodeError>
-    ensures { Finds (λ f. (f.0, f.1.now)) result (parts_at (λ (a : Attempt). asked.Rerun a) rerun_at bytes.now) }
+    ensures { Finds (λ f. (f.0, f.1.now)) result (parts_at (λ (a : Attempt). requested.Rerun a) rerun_at bytes.now) }
 {
     let (run, rest) = number_at(bytes)?;
     let (attempt, rest) = number_at(rest)?;
-    let asks = Attempt {
+    let requests = Attempt {
         run: Number::new(run),
         attempt: Number::new(attempt),
     };
-    Ok((Command::Rerun(asks), rest))
+    Ok((Command::Rerun(requests), rest))
 }
 
 /// The command of a kind at the front of the bytes, and the bytes after it.
@@ -171,7 +171,7 @@ pub(crate) fn command_at(alloc: Global, bytes: &[u8]) -> Result<(Command, &[u8])
 }
 
 impl ReadAt for Command {
-    ghost stands_at = { command_at };
+    ghost prefix_at = { command_at };
 
     fn read_at(alloc: Global, bytes: &[u8]) -> Result<(Command, &[u8]), DecodeError> {
         command_at(alloc, bytes)

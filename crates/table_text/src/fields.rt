@@ -3,20 +3,14 @@ ghost use Rattle.run_plan.specs.SmallText.{short_text_of};
 ghost use Rattle.table_text.specs.Commands.{is_numbered};
 ghost use Rattle.table_text.specs.Reading.{Finds, kept};
 ghost use Rattle.table_text.specs.ReadingCommands.{labels_at, number_at, result_at, result_of, small_text_at};
-ghost use Rattle.table_text.specs.ReadingTables.{lease_at, lease_of, lease_told};
+ghost use Rattle.table_text.specs.ReadingTables.{lease_at, lease_of, optional_lease};
 
 use crate::decode_error::DecodeError;
-use crate::front::{text_at, word_at};
 use crate::list_at::{ReadAt, list_at};
-use run_plan::{Form, Labels, Number, SmallText};
+use crate::prefix::{text_at, word_at};
+use run_plan::{Form, LAST_NUMBER, Labels, MAX_LABELS, Number, SmallText};
 use std::alloc::Global;
 use wf_value::Outcome;
-
-/// The largest number of a command and of a lease.
-pub(crate) const MOST: u32 = 999_999_999;
-
-/// The largest number of labels that a runner has.
-const MAX_LABELS: u32 = 16;
 
 /// Whether the value is at least 1 and at most `most`.
 pub(crate) fn is_within(value: u32, most: u32) -> bool
@@ -28,9 +22,9 @@ pub(crate) fn is_within(value: u32, most: u32) -> bool
 /// The value, if it is a command's number.
 fn numbered(value: u32) -> Result<u32, DecodeError>
     ensures gives { Finds (λ n. n) result (kept is_numbered value) }
-    ensures range { IfOk result (λ n. (1 ≤ n) × (n ≤ 999999999)) }
+    ensures range { IfOk result (λ n. (1 ≤ n) × (n ≤ LAST_NUMBER)) }
 {
-    if 1 <= value && value <= MOST {
+    if 1 <= value && value <= LAST_NUMBER {
         return Ok(value);
     }
     Err(DecodeError::NoEncoding)
@@ -40,7 +34,7 @@ fn numbered(value: u32) -> Result<u32, DecodeError>
 #[tactic(auto, unfolding(crate::specs::ReadingCommands::number_at))]
 pub(crate) fn number_at(bytes: &[u8]) -> Result<(u32, &[u8]), DecodeError>
     ensures gives { Finds (λ f. (f.0, f.1.now)) result (number_at bytes.now) }
-    ensures range { IfOk result (λ f. (1 ≤ f.0) × (f.0 ≤ 999999999)) }
+    ensures range { IfOk result (λ f. (1 ≤ f.0) × (f.0 ≤ LAST_NUMBER)) }
 {
     let (value, rest) = word_at(bytes)?;
     let value = numbered(value)?;
@@ -49,13 +43,13 @@ pub(crate) fn number_at(bytes: &[u8]) -> Result<(u32, &[u8]), DecodeError>
 
 /// The value, if it is 0 or a lease's number.
 fn lease_number(value: u32) -> Result<u32, DecodeError>
-    ensures gives { Finds (λ n. lease_told n) result (lease_of value) }
-    ensures most { IfOk result (λ n. n ≤ 999999999) }
+    ensures gives { Finds (λ n. optional_lease n) result (lease_of value) }
+    ensures most { IfOk result (λ n. n ≤ LAST_NUMBER) }
 {
     if value == 0 {
         return Ok(0);
     }
-    if is_within(value, MOST) {
+    if is_within(value, LAST_NUMBER) {
         return Ok(value);
     }
     Err(DecodeError::NoEncoding)
@@ -64,8 +58,8 @@ fn lease_number(value: u32) -> Result<u32, DecodeError>
 /// The lease's number at the front of the bytes, 0 for none, and the bytes after it.
 #[tactic(auto, unfolding(crate::specs::ReadingTables::lease_at))]
 pub(crate) fn lease_at(bytes: &[u8]) -> Result<(u32, &[u8]), DecodeError>
-    ensures gives { Finds (λ f. (lease_told f.0, f.1.now)) result (lease_at bytes.now) }
-    ensures most { IfOk result (λ f. f.0 ≤ 999999999) }
+    ensures gives { Finds (λ f. (optional_lease f.0, f.1.now)) result (lease_at bytes.now) }
+    ensures most { IfOk result (λ f. f.0 ≤ LAST_NUMBER) }
 {
     let (value, rest) = word_at(bytes)?;
     let lease = lease_number(value)?;
@@ -73,9 +67,9 @@ pub(crate) fn lease_at(bytes: &[u8]) -> Result<(u32, &[u8]), DecodeError>
 }
 
 /// The lease with this number; `None` for 0.
-pub(crate) fn lease_told(value: u32) -> Option<Number>
-    requires { value ≤ 999999999 }
-    ensures { result ≡ lease_told value }
+pub(crate) fn optional_lease(value: u32) -> Option<Number>
+    requires { value ≤ LAST_NUMBER }
+    ensures { result ≡ optional_lease value }
 {
     if value == 0 {
         return None;
@@ -108,7 +102,7 @@ pub(crate) fn small_text_at<F: Form>(
 }
 
 impl<F: Form> ReadAt for SmallText<F> {
-    ghost stands_at = { small_text_at F.allows };
+    ghost prefix_at = { small_text_at F.allows };
 
     fn read_at(alloc: Global, bytes: &[u8]) -> Result<(SmallText<F>, &[u8]), DecodeError> {
         small_text_at(alloc, bytes)
@@ -121,7 +115,7 @@ pub(crate) fn labels_at(alloc: Global, bytes: &[u8]) -> Result<(Labels, &[u8]), 
     ensures { Finds (λ f. (f.0, f.1.now)) result (labels_at bytes.now) }
 {
     let (count, rest) = word_at(bytes)?;
-    if !is_within(count, MAX_LABELS) {
+    if !is_within(count, MAX_LABELS as u32) {
         return Err(DecodeError::NoEncoding);
     }
     let (labels, rest) = list_at(alloc, count as usize, rest)?;

@@ -6,7 +6,7 @@ ghost use Rattle.std.specs.List.{list_all};
 ghost use Rattle.std.specs.Option.{option_map};
 ghost use Rattle.wf_value.specs.Gives.{no_memory};
 ghost use Rattle.table_text.specs.FirstLayout.{first_batch, first_table, is_in_first_layout};
-ghost use Rattle.table_text.specs.Format.{StandsAtFront};
+ghost use Rattle.table_text.specs.Format.{ReadsPrefix};
 ghost use Rattle.table_text.specs.WholeFirstTables.{whole_first_table};
 
 mod list;
@@ -27,7 +27,7 @@ use wf_value::{Code, Refusal};
 /// The parts of the table whose encoding in the first layout is a prefix of the bytes, and the bytes after it; `None`
 /// if no prefix encodes a table. The only error is 50, out of memory, which says nothing about the bytes.
 fn read_first_parts(alloc: Global, bytes: &[u8]) -> Result<Option<(TableParts, &[u8])>, Refusal>
-    ensures front { IfOk result (λ found. StandsAtFront first_table bytes.now (option_map (λ f. (f.0, f.1.now)) found)) }
+    ensures prefix { IfOk result (λ found. ReadsPrefix first_table bytes.now (option_map (λ f. (f.0, f.1.now)) found)) }
     ensures refused { IfErr result (λ e. e ≡ no_memory) }
 {
     match first_table_at(alloc, bytes) {
@@ -41,7 +41,7 @@ fn read_first_parts(alloc: Global, bytes: &[u8]) -> Result<Option<(TableParts, &
 /// prefix encodes one. Each attempt is 1, and each kept lease is that of the leg that has it. The only error is 50, out
 /// of memory, which says nothing about the bytes.
 pub fn read_first_table(alloc: Global, bytes: &[u8]) -> Result<Option<(Table, &[u8])>, Refusal>
-    ensures front { IfOk result (λ found. StandsAtFront whole_first_table bytes.now (option_map (λ f. (f.0, f.1.now)) found)) }
+    ensures prefix { IfOk result (λ found. ReadsPrefix whole_first_table bytes.now (option_map (λ f. (f.0, f.1.now)) found)) }
     ensures refused { IfErr result (λ e. e ≡ no_memory) }
 {
     let Some((parts, rest)) = read_first_parts(alloc, bytes)? else {
@@ -78,7 +78,7 @@ pub fn read_first_batch(
     alloc: Global,
     bytes: &[u8],
 ) -> Result<Option<(Vec<Command>, &[u8])>, Refusal>
-    ensures front { IfOk result (λ found. StandsAtFront first_batch bytes.now (option_map (λ f. (f.0.items, f.1.now)) found)) }
+    ensures prefix { IfOk result (λ found. ReadsPrefix first_batch bytes.now (option_map (λ f. (f.0.items, f.1.now)) found)) }
     ensures refused { IfErr result (λ e. e ≡ no_memory) }
 {
     let Some((commands, rest)) = read_batch(alloc, bytes)? else {

@@ -5,7 +5,7 @@ ghost use Rattle.table_text.specs.ReadingTables.{kept_at, kept_lease_at, kept_of
 
 use crate::decode_error::DecodeError;
 use crate::fields::number_at;
-use crate::front::word_at;
+use crate::prefix::word_at;
 use run_plan::Number;
 use stored_tables::{StoredLease, StoredPlace};
 

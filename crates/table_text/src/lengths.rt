@@ -2,7 +2,7 @@
 
 ghost use Rattle.std.specs.Prelude.{◌≡◌, [], ◌≤◌, ◌*◌, length, sum_by};
 ghost use Rattle.run_plan.specs.PlanOf.{faults_of};
-ghost use Rattle.run_plan.specs.declared.command.Command.TheVariants as asked_for;
+ghost use Rattle.run_plan.specs.declared.command.Command.TheVariants as requested_for;
 ghost use Rattle.table_text.specs.Commands.{batch, command};
 ghost use Rattle.table_text.specs.Lengths.{command_length, fields_length, length_of, text_length, texts_length};
 
@@ -48,44 +48,44 @@ fn body_length(event: &Prepared) -> u64
 }
 
 pub(crate) fn admit_length(event: &Prepared) -> u64
-    ensures length { result ≡ fields_length (asked_for.Admit event.now) }
+    ensures length { result ≡ fields_length (requested_for.Admit event.now) }
     ensures most { result ≤ 65676 }
     ensures faultless { faults_of event.now.body ≡ [] }
 {
     small_text_length(event.delivery()) + small_text_length(event.event()) + body_length(event)
 }
 
-pub(crate) fn claim_length(asks: &Claim) -> u64
-    ensures length { result ≡ fields_length (asked_for.Claim asks.now) }
+pub(crate) fn claim_length(requests: &Claim) -> u64
+    ensures length { result ≡ fields_length (requested_for.Claim requests.now) }
     ensures most { result ≤ 1164 }
 {
-    small_text_length(&asks.runner) + WORD + labels_length(&asks.labels)
+    small_text_length(&requests.runner) + WORD + labels_length(&requests.labels)
 }
 
 pub(crate) fn done_length(report: &Done) -> u64
-    ensures length { result ≡ fields_length (asked_for.Done report.now) }
+    ensures length { result ≡ fields_length (requested_for.Done report.now) }
     ensures most { result ≤ 77 }
 {
     small_text_length(&report.runner) + WORD + WORD + 1
 }
 
-fn beat_length(asks: &Beat) -> u64
-    ensures length { result ≡ fields_length (asked_for.Beat asks.now) }
+fn beat_length(requests: &Beat) -> u64
+    ensures length { result ≡ fields_length (requested_for.Beat requests.now) }
     ensures most { result ≤ 72 }
 {
-    small_text_length(&asks.runner) + WORD
+    small_text_length(&requests.runner) + WORD
 }
 
 /// The bytes after the one for the command's kind.
-fn fields_length(asked: &Command) -> u64
-    ensures length { result ≡ fields_length asked.now }
+fn fields_length(requested: &Command) -> u64
+    ensures length { result ≡ fields_length requested.now }
     ensures most { result ≤ 65676 }
 {
-    match asked {
+    match requested {
         Command::Admit(event) => admit_length(event),
-        Command::Claim(asks) => claim_length(asks),
+        Command::Claim(requests) => claim_length(requests),
         Command::Done(report) => done_length(report),
-        Command::Beat(asks) => beat_length(asks),
+        Command::Beat(requests) => beat_length(requests),
         Command::Lost(runner) => small_text_length(runner),
         Command::Rerun(_) => WORD + WORD,
         Command::Cancel(_) | Command::Look(_) | Command::Fetch(_) => WORD,
@@ -93,11 +93,11 @@ fn fields_length(asked: &Command) -> u64
 }
 
 /// The number of bytes in the encoding of a command: at most 65,677.
-pub fn command_length(asked: &Command) -> u64
-    ensures length { result ≡ length_of command asked.now }
+pub fn command_length(requested: &Command) -> u64
+    ensures length { result ≡ length_of command requested.now }
     ensures most { result ≤ 65677 }
 {
-    1 + fields_length(asked)
+    1 + fields_length(requested)
 }
 
 /// The number of bytes in the encoding of a batch.
@@ -116,8 +116,8 @@ fn commands_length(commands: &[Command]) -> u64
     ensures most { result ≤ 4294967295 * 65677 }
 {
     let mut total = 0;
-    for asked in commands {
-        total += command_length(asked);
+    for requested in commands {
+        total += command_length(requested);
     }
     total
 }

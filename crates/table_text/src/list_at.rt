@@ -8,11 +8,11 @@ use std::alloc::Global;
 
 /// A type that can be read from the front of bytes.
 pub(crate) trait ReadAt: Drop {
-    ghost stands_at: { List ℕ → Option (Self × List ℕ) };
+    ghost prefix_at: { List ℕ → Option (Self × List ℕ) };
 
     /// The value at the front of the bytes, and the bytes after it.
     fn read_at(alloc: Global, bytes: &[u8]) -> Result<(Self, &[u8]), DecodeError>
-        ensures { Finds (λ f. (f.0, f.1.now)) result (stands_at bytes.now) };
+        ensures { Finds (λ f. (f.0, f.1.now)) result (prefix_at bytes.now) };
 }
 
 /// `count` consecutive values, and the bytes after them.
@@ -21,14 +21,14 @@ pub(crate) fn list_at<T: ReadAt>(
     count: usize,
     bytes: &[u8],
 ) -> Result<(Vec<T>, &[u8]), DecodeError>
-    ensures { Finds (λ f. (f.0.items, f.1.now)) result (items_at T.stands_at count bytes.now) }
+    ensures { Finds (λ f. (f.0.items, f.1.now)) result (items_at T.prefix_at count bytes.now) }
 {
     let mut values = Vec::new(alloc);
     let mut rest = bytes;
     for _ in 0..count {
-        let (value, behind) = T::read_at(alloc, rest)?;
+        let (value, suffix) = T::read_at(alloc, rest)?;
         values.push(value)?;
-        rest = behind;
+        rest = suffix;
     }
     Ok((values, rest))
 }

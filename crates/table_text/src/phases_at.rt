@@ -8,7 +8,7 @@ ghost use Rattle.table_text.specs.ReadingTables.{run_phases};
 ghost use Rattle.table_text.specs.Tables.{flag_byte, job_byte, leg_byte, run_byte};
 
 use crate::decode_error::DecodeError;
-use crate::front::byte_at;
+use crate::prefix::byte_at;
 use run_states::{JobPhase, LegPhase, RunPhase};
 use wf_value::{JobResult, Outcome};
 

@@ -104,14 +104,14 @@ pub(crate) fn push_admit(out: &mut Vec<u8>, event: &Prepared) -> Result<(), Allo
     Ok(())
 }
 
-pub(crate) fn push_claim(out: &mut Vec<u8>, asks: &Claim) -> Result<(), AllocError>
-    ensures takes { OnOk result (claim.Takes asks.now) }
-    ensures bytes { OnOk result (out.new.items ≡ out.old.items ++ claim.encoding asks.now) }
+pub(crate) fn push_claim(out: &mut Vec<u8>, requests: &Claim) -> Result<(), AllocError>
+    ensures takes { OnOk result (claim.Takes requests.now) }
+    ensures bytes { OnOk result (out.new.items ≡ out.old.items ++ claim.encoding requests.now) }
     ensures kept { OnErr result (Keeps out.old.items out.new.items) }
 {
-    push_small_text(out, &asks.runner)?;
-    push_number(out, asks.number)?;
-    push_labels(out, &asks.labels)?;
+    push_small_text(out, &requests.runner)?;
+    push_number(out, requests.number)?;
+    push_labels(out, &requests.labels)?;
     Ok(())
 }
 
@@ -127,32 +127,32 @@ pub(crate) fn push_done(out: &mut Vec<u8>, report: &Done) -> Result<(), AllocErr
     Ok(())
 }
 
-fn push_beat(out: &mut Vec<u8>, asks: &Beat) -> Result<(), AllocError>
-    ensures takes { OnOk result (beat.Takes asks.now) }
-    ensures bytes { OnOk result (out.new.items ≡ out.old.items ++ beat.encoding asks.now) }
+fn push_beat(out: &mut Vec<u8>, requests: &Beat) -> Result<(), AllocError>
+    ensures takes { OnOk result (beat.Takes requests.now) }
+    ensures bytes { OnOk result (out.new.items ≡ out.old.items ++ beat.encoding requests.now) }
     ensures kept { OnErr result (Keeps out.old.items out.new.items) }
 {
-    push_small_text(out, &asks.runner)?;
-    push_number(out, asks.lease)?;
+    push_small_text(out, &requests.runner)?;
+    push_number(out, requests.lease)?;
     Ok(())
 }
 
-fn push_rerun(out: &mut Vec<u8>, asks: Attempt) -> Result<(), AllocError>
-    ensures takes { OnOk result (rerun.Takes asks) }
-    ensures bytes { OnOk result (out.new.items ≡ out.old.items ++ rerun.encoding asks) }
+fn push_rerun(out: &mut Vec<u8>, requests: Attempt) -> Result<(), AllocError>
+    ensures takes { OnOk result (rerun.Takes requests) }
+    ensures bytes { OnOk result (out.new.items ≡ out.old.items ++ rerun.encoding requests) }
     ensures kept { OnErr result (Keeps out.old.items out.new.items) }
 {
-    push_number(out, asks.run)?;
-    push_number(out, asks.attempt)?;
+    push_number(out, requests.run)?;
+    push_number(out, requests.attempt)?;
     Ok(())
 }
 
 /// Appends the byte for the command's kind.
-fn push_kind(out: &mut Vec<u8>, asked: &Command) -> Result<(), AllocError>
-    ensures bytes { OnOk result (out.new.items ≡ out.old.items ++ kind_of asked.now ∷ []) }
+fn push_kind(out: &mut Vec<u8>, requested: &Command) -> Result<(), AllocError>
+    ensures bytes { OnOk result (out.new.items ≡ out.old.items ++ kind_of requested.now ∷ []) }
     ensures kept { OnErr result (Keeps out.old.items out.new.items) }
 {
-    match asked {
+    match requested {
         Command::Admit(_) => out.extend_from_slice(&[1]),
         Command::Claim(_) => out.extend_from_slice(&[2]),
         Command::Done(_) => out.extend_from_slice(&[3]),
@@ -166,34 +166,34 @@ fn push_kind(out: &mut Vec<u8>, asked: &Command) -> Result<(), AllocError>
 }
 
 /// Appends the bytes after that one.
-fn push_fields(out: &mut Vec<u8>, asked: &Command) -> Result<(), AllocError>
-    ensures takes { OnOk result (IsEncoded asked.now) }
-    ensures bytes { OnOk result (out.new.items ≡ out.old.items ++ fields_of asked.now) }
+fn push_fields(out: &mut Vec<u8>, requested: &Command) -> Result<(), AllocError>
+    ensures takes { OnOk result (IsEncoded requested.now) }
+    ensures bytes { OnOk result (out.new.items ≡ out.old.items ++ fields_of requested.now) }
     ensures kept { OnErr result (Keeps out.old.items out.new.items) }
 {
-    match asked {
+    match requested {
         Command::Admit(event) => push_admit(out, event),
-        Command::Claim(asks) => push_claim(out, asks),
+        Command::Claim(requests) => push_claim(out, requests),
         Command::Done(report) => push_done(out, report),
-        Command::Beat(asks) => push_beat(out, asks),
+        Command::Beat(requests) => push_beat(out, requests),
         Command::Lost(runner) => push_small_text(out, runner),
-        Command::Rerun(asks) => push_rerun(out, *asks),
+        Command::Rerun(requests) => push_rerun(out, *requests),
         Command::Cancel(run) | Command::Look(run) | Command::Fetch(run) => push_number(out, *run),
     }
 }
 
 /// Appends the encoding of a command.
-pub(crate) fn push_command(out: &mut Vec<u8>, asked: &Command) -> Result<(), AllocError>
-    ensures takes { OnOk result (IsEncoded asked.now) }
-    ensures bytes { OnOk result (out.new.items ≡ out.old.items ++ command_bytes asked.now) }
+pub(crate) fn push_command(out: &mut Vec<u8>, requested: &Command) -> Result<(), AllocError>
+    ensures takes { OnOk result (IsEncoded requested.now) }
+    ensures bytes { OnOk result (out.new.items ≡ out.old.items ++ command_bytes requested.now) }
     ensures kept { OnErr result (Keeps out.old.items out.new.items) }
 {
-    push_kind(out, asked)?;
-    push_fields(out, asked)
+    push_kind(out, requested)?;
+    push_fields(out, requested)
 }
 
 impl Push for Command {
-    ghost can_push = { λ asked. Unit {0} };
+    ghost can_push = { λ requested. Unit {0} };
 
     ghost takes = { IsEncoded };
 

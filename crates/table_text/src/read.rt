@@ -2,7 +2,7 @@ ghost use Rattle.std.specs.Prelude.{◌≡◌, IfErr, IfOk};
 ghost use Rattle.std.specs.Option.{option_map};
 ghost use Rattle.wf_value.specs.Gives.{no_memory};
 ghost use Rattle.table_text.specs.Commands.{batch, command};
-ghost use Rattle.table_text.specs.Format.{StandsAtFront};
+ghost use Rattle.table_text.specs.Format.{ReadsPrefix};
 ghost use Rattle.table_text.specs.Tables.{table};
 ghost use Rattle.table_text.specs.WholeTables.{whole_table};
 
@@ -18,7 +18,7 @@ use wf_value::{Code, Refusal};
 /// The command whose encoding is a prefix of the bytes, and the bytes after it; `None` if no prefix encodes one. The
 /// only error is 50, out of memory, which says nothing about the bytes.
 pub fn read_command(alloc: Global, bytes: &[u8]) -> Result<Option<(Command, &[u8])>, Refusal>
-    ensures front { IfOk result (λ found. StandsAtFront command bytes.now (option_map (λ f. (f.0, f.1.now)) found)) }
+    ensures prefix { IfOk result (λ found. ReadsPrefix command bytes.now (option_map (λ f. (f.0, f.1.now)) found)) }
     ensures refused { IfErr result (λ e. e ≡ no_memory) }
 {
     match command_at(alloc, bytes) {
@@ -31,7 +31,7 @@ pub fn read_command(alloc: Global, bytes: &[u8]) -> Result<Option<(Command, &[u8
 /// The batch whose encoding is a prefix of the bytes, and the bytes after it; `None` if no prefix encodes one. The only
 /// error is 50, out of memory, which says nothing about the bytes.
 pub fn read_batch(alloc: Global, bytes: &[u8]) -> Result<Option<(Vec<Command>, &[u8])>, Refusal>
-    ensures front { IfOk result (λ found. StandsAtFront batch bytes.now (option_map (λ f. (f.0.items, f.1.now)) found)) }
+    ensures prefix { IfOk result (λ found. ReadsPrefix batch bytes.now (option_map (λ f. (f.0.items, f.1.now)) found)) }
     ensures refused { IfErr result (λ e. e ≡ no_memory) }
 {
     match batch_at(alloc, bytes) {
@@ -44,7 +44,7 @@ pub fn read_batch(alloc: Global, bytes: &[u8]) -> Result<Option<(Vec<Command>, &
 /// The parts of the table whose encoding is a prefix of the bytes, and the bytes after it; `None` if no prefix encodes
 /// a table. The only error is 50, out of memory, which says nothing about the bytes.
 pub fn read_parts(alloc: Global, bytes: &[u8]) -> Result<Option<(TableParts, &[u8])>, Refusal>
-    ensures front { IfOk result (λ found. StandsAtFront table bytes.now (option_map (λ f. (f.0, f.1.now)) found)) }
+    ensures prefix { IfOk result (λ found. ReadsPrefix table bytes.now (option_map (λ f. (f.0, f.1.now)) found)) }
     ensures refused { IfErr result (λ e. e ≡ no_memory) }
 {
     match table_at(alloc, bytes) {
@@ -57,7 +57,7 @@ pub fn read_parts(alloc: Global, bytes: &[u8]) -> Result<Option<(TableParts, &[u
 /// The sound table whose encoding is a prefix of the bytes, and the bytes after it; `None` if no prefix encodes one.
 /// The only error is 50, out of memory, which says nothing about the bytes.
 pub fn read_table(alloc: Global, bytes: &[u8]) -> Result<Option<(Table, &[u8])>, Refusal>
-    ensures front { IfOk result (λ found. StandsAtFront whole_table bytes.now (option_map (λ f. (f.0, f.1.now)) found)) }
+    ensures prefix { IfOk result (λ found. ReadsPrefix whole_table bytes.now (option_map (λ f. (f.0, f.1.now)) found)) }
     ensures refused { IfErr result (λ e. e ≡ no_memory) }
 {
     let Some((parts, rest)) = read_parts(alloc, bytes)? else {

@@ -6,10 +6,10 @@ ghost use Rattle.table_text.specs.Tables.{names_rise};
 
 use crate::command_at::command_at;
 use crate::decode_error::DecodeError;
-use crate::fields::{lease_at, lease_told, number_at, small_text_at};
-use crate::front::word_at;
+use crate::fields::{lease_at, number_at, optional_lease, small_text_at};
 use crate::kept::{StoredReply, kept_at};
 use crate::list_at::{ReadAt, list_at};
+use crate::prefix::word_at;
 use run_plan::{Claim, Command, Done, Number, RunnerForm};
 use std::alloc::Global;
 use stored_tables::{LastParts, RunnerParts, do_names_rise};
@@ -62,7 +62,7 @@ fn last_at(alloc: Global, bytes: &[u8]) -> Result<(LastParts, &[u8]), DecodeErro
 }
 
 impl ReadAt for RunnerParts {
-    ghost stands_at = { runner_at };
+    ghost prefix_at = { runner_at };
 
     #[tactic(auto, unfolding(crate::specs::ReadingTables::runner_at))]
     fn read_at(alloc: Global, bytes: &[u8]) -> Result<(RunnerParts, &[u8]), DecodeError> {
@@ -74,7 +74,7 @@ impl ReadAt for RunnerParts {
             name,
             number: Number::new(number),
             last,
-            holds: lease_told(lease),
+            holds: optional_lease(lease),
         };
         Ok((runner, rest))
     }

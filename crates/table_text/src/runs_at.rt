@@ -1,30 +1,27 @@
 //! The runs of a table at the front of bytes, with their jobs and legs.
 
 ghost use Rattle.std.specs.Prelude.{◌≤◌, IfOk};
+ghost use Rattle.run_plan.specs.declared.number.TheConstants.{LAST_NUMBER};
 ghost use Rattle.table_text.specs.Reading.{Finds, items_at, kept};
-ghost use Rattle.table_text.specs.ReadingTables.{attempt_at, job_at, leg_at, lease_told, run_at, runs_at};
+ghost use Rattle.table_text.specs.ReadingTables.{attempt_at, job_at, leg_at, optional_lease, run_at, runs_at};
 ghost use Rattle.table_text.specs.Tables.{is_attempt, jobs_planned};
 
 use crate::command_at::admit_at;
 use crate::decode_error::DecodeError;
-use crate::fields::{lease_at, lease_told};
-use crate::front::word_at;
+use crate::fields::{lease_at, optional_lease};
 use crate::list_at::{ReadAt, list_at};
 use crate::phases_at::{flag_at, job_phase_at, leg_phase_at, run_phase_at};
+use crate::prefix::word_at;
 use run_plan::{Number, Prepared};
-use run_states::{JobParts, Leg, LegPhase, RunParts};
+use run_states::{JobParts, LAST_ATTEMPT, Leg, LegPhase, MAX_RUNS, RunParts};
 use std::alloc::Global;
 use wf_value::Sequence;
-use workflow_runs::runs::MAX_RUNS;
-
-/// The largest attempt number of a run.
-const MAX_ATTEMPTS: u32 = 1000;
 
 /// The leg at the front of the bytes: its phase, the number of its lease, 0 for none, and the bytes after it.
 #[tactic(auto, unfolding(crate::specs::ReadingTables::leg_at))]
 fn leg_parts_at(bytes: &[u8]) -> Result<(LegPhase, u32, &[u8]), DecodeError>
-    ensures gives { Finds (λ f. (record { phase = f.0; lease = lease_told f.1 }, f.2.now)) result (leg_at bytes.now) }
-    ensures most { IfOk result (λ f. f.1 ≤ 999999999) }
+    ensures gives { Finds (λ f. (record { phase = f.0; lease = optional_lease f.1 }, f.2.now)) result (leg_at bytes.now) }
+    ensures most { IfOk result (λ f. f.1 ≤ LAST_NUMBER) }
 {
     let (phase, rest) = leg_phase_at(bytes)?;
     let (lease, rest) = lease_at(rest)?;
@@ -32,17 +29,17 @@ fn leg_parts_at(bytes: &[u8]) -> Result<(LegPhase, u32, &[u8]), DecodeError>
 }
 
 impl ReadAt for Leg {
-    ghost stands_at = { leg_at };
+    ghost prefix_at = { leg_at };
 
     fn read_at(_alloc: Global, bytes: &[u8]) -> Result<(Leg, &[u8]), DecodeError> {
         let (phase, number, rest) = leg_parts_at(bytes)?;
-        let lease = lease_told(number);
+        let lease = optional_lease(number);
         Ok((Leg { phase, lease }, rest))
     }
 }
 
 impl ReadAt for JobParts {
-    ghost stands_at = { job_at };
+    ghost prefix_at = { job_at };
 
     #[tactic(auto, unfolding(crate::specs::ReadingTables::job_at))]
     fn read_at(alloc: Global, bytes: &[u8]) -> Result<(JobParts, &[u8]), DecodeError> {
@@ -60,9 +57,9 @@ impl ReadAt for JobParts {
 /// The value, if it is an attempt number.
 fn attempt_of(value: u32) -> Result<u32, DecodeError>
     ensures gives { Finds (λ n. n) result (kept is_attempt value) }
-    ensures range { IfOk result (λ n. (1 ≤ n) × (n ≤ 1000)) }
+    ensures range { IfOk result (λ n. (1 ≤ n) × (n ≤ LAST_ATTEMPT)) }
 {
-    if 1 <= value && value <= MAX_ATTEMPTS {
+    if 1 <= value && value <= LAST_ATTEMPT {
         return Ok(value);
     }
     Err(DecodeError::NoEncoding)
@@ -72,7 +69,7 @@ fn attempt_of(value: u32) -> Result<u32, DecodeError>
 #[tactic(auto, unfolding(crate::specs::ReadingTables::attempt_at))]
 fn attempt_at(bytes: &[u8]) -> Result<(u32, &[u8]), DecodeError>
     ensures gives { Finds (λ f. (f.0, f.1.now)) result (attempt_at bytes.now) }
-    ensures range { IfOk result (λ f. (1 ≤ f.0) × (f.0 ≤ 1000)) }
+    ensures range { IfOk result (λ f. (1 ≤ f.0) × (f.0 ≤ LAST_ATTEMPT)) }
 {
     let (value, rest) = word_at(bytes)?;
     let attempt = attempt_of(value)?;
@@ -92,7 +89,7 @@ pub(crate) fn planned_jobs_at<'a>(
 }
 
 impl ReadAt for RunParts {
-    ghost stands_at = { run_at };
+    ghost prefix_at = { run_at };
 
     #[tactic(auto, unfolding(crate::specs::ReadingTables::run_at, crate::specs::ReadingTables::course_at))]
     fn read_at(alloc: Global, bytes: &[u8]) -> Result<(RunParts, &[u8]), DecodeError> {

@@ -5,10 +5,10 @@ ghost use Rattle.table_text.specs.ReadingTables.{last_lease_at, table_at};
 ghost use Rattle.table_text.specs.Tables.{is_last_lease};
 
 use crate::decode_error::DecodeError;
-use crate::fields::MOST;
-use crate::front::word_at;
+use crate::prefix::word_at;
 use crate::runners_at::runners_at;
 use crate::runs_at::runs_at;
+use run_plan::LAST_NUMBER;
 use std::alloc::Global;
 use stored_tables::TableParts;
 use wf_value::Sequence;
@@ -17,7 +17,7 @@ use wf_value::Sequence;
 fn last_lease_of(value: u32) -> Result<u32, DecodeError>
     ensures { Finds (λ n. n) result (kept is_last_lease value) }
 {
-    if value <= MOST {
+    if value <= LAST_NUMBER {
         return Ok(value);
     }
     Err(DecodeError::NoEncoding)

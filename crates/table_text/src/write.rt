@@ -18,13 +18,13 @@ use std::alloc::AllocError;
 use wf_value::Refusal;
 
 /// Appends the encoding of a command. The only error is 50, out of memory, which leaves the bytes unchanged.
-pub fn write_command(out: &mut Vec<u8>, asked: &Command) -> Result<(), Refusal>
-    ensures ok { OnOk result (Appends command out.old.items asked.now out.new.items) }
+pub fn write_command(out: &mut Vec<u8>, requested: &Command) -> Result<(), Refusal>
+    ensures ok { OnOk result (Appends command out.old.items requested.now out.new.items) }
     ensures err { OnErr result (out.new.items ≡ out.old.items) }
     ensures refused { IfErr result (λ e. e ≡ no_memory) }
 {
     let before = out.len();
-    let written = push_command(out, asked);
+    let written = push_command(out, requested);
     all_or_none(out, before, written)
 }
 

@@ -4,7 +4,7 @@ use Rattle.std.specs.Prelude.{Bool, true, ◌&&◌, ◌||◌, find, filter_map, 
 use Rattle.std.proofs.lemmas.List.Elements.{filter_map-append}
 use Rattle.group_name.specs.Group.{Group, same_group}
 use Rattle.run_states.specs.FirstOf.{placed}
-use Rattle.run_states.specs.Groups.{all_holders, holds, is_in, is_pending_in, is_running_in, waits}
+use Rattle.run_states.specs.Groups.{all_holders, holds, is_in, is_pending_in, is_in_progress_in, waits}
 use Rattle.run_states.specs.declared.place.LegPlace.{LegPlace}
 use Rattle.run_states.specs.RunState.{RunState}
 use Rattle.table_views.specs.Claims.{claim_of, claims_of, said}
@@ -26,16 +26,16 @@ found_said : (runs : List RunState) (g : Group) (test : Holder → Bool) (claims
     → o ≡ find (λ c. same_group g c.group && test c.holder) claims
     → option_map (λ (c : GroupClaim). c.holder) o ≡ find (λ h. is_in runs g h && test h) (all_holders runs)
 found_said runs g test claims o means is found =
-    let asked : Group × Holder → Bool = λ c. same_group g c.0 && test c.1 in
+    let requested : Group × Holder → Bool = λ c. same_group g c.0 && test c.1 in
     seen_twice o
     ∙ ap (λ x. option_map (λ (p : Group × Holder). p.1) (option_map said x)) found
-    ∙ ap (option_map (λ (p : Group × Holder). p.1)) (sym (find_seen asked said claims) ∙ ap (find asked) is)
+    ∙ ap (option_map (λ (p : Group × Holder). p.1)) (sym (find_seen requested said claims) ∙ ap (find requested) is)
     ∙ found_of_claims runs g test (all_holders runs) means
 
-pub running_said : (runs : List RunState) (g : Group) (claims : List GroupClaim) (o : Option GroupClaim) → map said claims ≡ claims_of runs
+pub in_progress_said : (runs : List RunState) (g : Group) (claims : List GroupClaim) (o : Option GroupClaim) → map said claims ≡ claims_of runs
     → o ≡ find (λ c. same_group g c.group && holds runs c.holder) claims
-    → option_map (λ (c : GroupClaim). c.holder) o ≡ find (is_running_in runs g) (all_holders runs)
-running_said runs g claims o is found =
+    → option_map (λ (c : GroupClaim). c.holder) o ≡ find (is_in_progress_in runs g) (all_holders runs)
+in_progress_said runs g claims o is found =
     found_said runs g (holds runs) claims o (λ h e. holds_in_use (waits runs h) (holds runs h) e) is found
 
 pub pending_said : (runs : List RunState) (g : Group) (claims : List GroupClaim) (o : Option GroupClaim) → map said claims ≡ claims_of runs
@@ -68,19 +68,19 @@ legs_more places i p lt is =
     go (y ∷ qs) zero q less at = ap (λ x. Leg x ∷ []) at
     go (y ∷ qs) (suc k) q less at = ap (λ xs. Leg y ∷ xs) (go qs k q (omega (arith, less)) at)
 
--- the place that is read at an index is the one there, whatever stands in for a place behind the last one
+-- the place that is read at an index is the one there, whatever stands in for a place after the last one
 pub place_read : (places : List LegPlace) (i : ℕ) (other p : LegPlace) → i < length places → p ≡ get_or places i other → get_or places i p ≡ p
 place_read [] i other p lt is = absurd (omega (arith, lt))
 place_read (q ∷ qs) zero other p lt is = sym is
 place_read (q ∷ qs) (suc i) other p lt is = place_read qs i other p (omega (arith, lt)) is
 
-pub leg_claimed : (runs : List RunState) (front : List Holder) (places : List LegPlace) (i : ℕ) (p : LegPlace)
+pub leg_claimed : (runs : List RunState) (prefix : List Holder) (places : List LegPlace) (i : ℕ) (p : LegPlace)
     (old new : List (Group × Holder)) → i < length places → get_or places i p ≡ p
-    → old ≡ filter_map (claim_of runs) (front ++ map (λ q. Leg q) (take i places))
+    → old ≡ filter_map (claim_of runs) (prefix ++ map (λ q. Leg q) (take i places))
     → new ≡ old ++ filter_map (claim_of runs) (Leg p ∷ [])
-    → new ≡ filter_map (claim_of runs) (front ++ map (λ q. Leg q) (take (i + 1) places))
-leg_claimed runs front places i p old new lt is so_far more =
+    → new ≡ filter_map (claim_of runs) (prefix ++ map (λ q. Leg q) (take (i + 1) places))
+leg_claimed runs prefix places i p old new lt is so_far more =
     let before = map (λ q. Leg q) (take i places) in
     more ∙ ap (λ cs. cs ++ filter_map (claim_of runs) (Leg p ∷ [])) so_far
-    ∙ sym (filter_map-append (claim_of runs) (front ++ before) (Leg p ∷ []))
-    ∙ ap (filter_map (claim_of runs)) (append_assoc front before (Leg p ∷ []) ∙ ap (λ hs. front ++ hs) (sym (legs_more places i p lt is)))
+    ∙ sym (filter_map-append (claim_of runs) (prefix ++ before) (Leg p ∷ []))
+    ∙ ap (filter_map (claim_of runs)) (append_assoc prefix before (Leg p ∷ []) ∙ ap (λ hs. prefix ++ hs) (sym (legs_more places i p lt is)))

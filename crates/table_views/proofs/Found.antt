@@ -14,8 +14,8 @@ use Rattle.run_states.specs.declared.holder.Holder.{Holder}
 abbrev claimed : Holder → Bool → Option Group → Option (Group × Holder)
 claimed h in_use group = option_map (λ g. (g, h)) (if in_use then group else None)
 
-abbrev asked : Group → (Holder → Bool) → Group × Holder → Bool
-asked g test c = same_group g c.0 && test c.1
+abbrev requested : Group → (Holder → Bool) → Group × Holder → Bool
+requested g test c = same_group g c.0 && test c.1
 
 and_false : (b : Bool) → (b && false) ≡ false
 and_false true = refl
@@ -23,13 +23,13 @@ and_false false = refl
 
 one_step : (g : Group) (test : Holder → Bool) (h : Holder) (in_use : Bool) (group : Option Group) (rest : List (Group × Holder))
     (others : Option Holder) → (test h ≡ true → in_use ≡ true)
-    → option_map (λ (c : Group × Holder). c.1) (find (asked g test) rest) ≡ others
-    → option_map (λ (c : Group × Holder). c.1) (find (asked g test) (cons_option (claimed h in_use group) rest))
+    → option_map (λ (c : Group × Holder). c.1) (find (requested g test) rest) ≡ others
+    → option_map (λ (c : Group × Holder). c.1) (find (requested g test) (cons_option (claimed h in_use group) rest))
     ≡ cond (option_map_or (same_group g) group false && test h) (Some h) others
 one_step g test h true None rest others means same = same
 one_step g test h true (Some k) rest others means same =
     elim (same_group g k && test h) as
-    (λ b. option_map (λ (c : Group × Holder). c.1) (cond b (Some (k, h)) (find (asked g test) rest)) ≡ cond b (Some h) others) [
+    (λ b. option_map (λ (c : Group × Holder). c.1) (cond b (Some (k, h)) (find (requested g test) rest)) ≡ cond b (Some h) others) [
       | true ↦ refl
       | false ↦ same
     ]
@@ -43,7 +43,7 @@ one_step g test h false group rest others means same =
 
 pub found_of_claims : (runs : List RunState) (g : Group) (test : Holder → Bool) (hs : List Holder)
     → ((h : Holder) → test h ≡ true → (waits runs h || holds runs h) ≡ true)
-    → option_map (λ (c : Group × Holder). c.1) (find (asked g test) (filter_map (claim_of runs) hs))
+    → option_map (λ (c : Group × Holder). c.1) (find (requested g test) (filter_map (claim_of runs) hs))
     ≡ find (λ h. is_in runs g h && test h) hs
 found_of_claims runs g test [] means = refl
 found_of_claims runs g test (h ∷ hs) means =

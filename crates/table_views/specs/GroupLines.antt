@@ -43,11 +43,11 @@ holder_text form.Json runs (Some (Leg p)) = codes "{" ++ leg_members runs p ++ c
 abbrev pub group_line : Form → List RunState → Group → List ℕ
 group_line form.Lines runs g =
     line (codes "group " ++ quoted (repository_bytes g) ++ codes " " ++ quoted (name_bytes g)
-    ++ codes " in_progress " ++ holder_text form.Lines runs (group_state runs g).running
+    ++ codes " in_progress " ++ holder_text form.Lines runs (group_state runs g).in_progress
     ++ codes " pending " ++ holder_text form.Lines runs (group_state runs g).pending)
 group_line form.Json runs g =
     line (codes "{\"repository\":" ++ quoted (repository_bytes g) ++ codes ",\"group\":" ++ quoted (name_bytes g)
-    ++ codes ",\"in_progress\":" ++ holder_text form.Json runs (group_state runs g).running
+    ++ codes ",\"in_progress\":" ++ holder_text form.Json runs (group_state runs g).in_progress
     ++ codes ",\"pending\":" ++ holder_text form.Json runs (group_state runs g).pending ++ codes "}")
 
 abbrev pub group_lines : Form → List RunState → List ℕ

@@ -1,11 +1,11 @@
 //! The lines of concurrency groups: which holder of each is in progress, and which is pending. GitHub Docs, "Control
 //! the concurrency of workflows and jobs".
 
-ghost use Rattle.std.specs.Prelude.{◌≡◌, ◌&&◌, ◌++◌, ◌<◌, ◌≤◌, [], ◌∷◌, IfOk, IfSome, None, Ok, OnOk, Some, codes, filter_map, find, length, map, option_copied, option_map, string_bytes, take};
+ghost use Rattle.std.specs.Prelude.{◌≡◌, ◌&&◌, ◌++◌, ◌<◌, ◌≤◌, [], ◌∷◌, IfOk, IfSome, None, Ok, OnOk, Some, codes, filter_map, find, length, map, option_copied, string_bytes, take};
 ghost use Rattle.std.specs.List.{All, list_any};
 ghost use Rattle.wf_value.specs.Gives.{ErrsOnlyByMemory, Gives};
 ghost use Rattle.group_name.specs.Group.{same_group};
-ghost use Rattle.run_states.specs.Groups.{all_holders, holds, is_pending_in, is_running_in, waits};
+ghost use Rattle.run_states.specs.Groups.{all_holders, holds, is_pending_in, is_in_progress_in, waits};
 ghost use Rattle.run_states.specs.Holders.{run_of};
 ghost use Rattle.run_states.specs.Places.{leg_places};
 ghost use Rattle.table_views.specs.Claims.{claim_of, claims_of, line_once, said};
@@ -13,6 +13,7 @@ ghost use Rattle.table_views.specs.GroupLines.{group_in_use, group_line, group_l
 ghost use Rattle.table_views.specs.Placed.{IsWithin};
 ghost use Rattle.table_views.specs.Texts.{line};
 ghost use Rattle.run_states.specs.declared.holder.Holder.TheVariants as held;
+ghost use Rattle.run_states.specs.declared.limits.TheConstants.{MAX_RUNS};
 
 use crate::claim::GroupClaim;
 use crate::form::Form;
@@ -42,7 +43,7 @@ fn push_claim(
     claims: &mut Vec<GroupClaim>,
     holder: Holder,
 ) -> Result<(), Refusal>
-    requires { run_of holder < 100000 }
+    requires { run_of holder < MAX_RUNS }
     ensures err { ErrsOnlyByMemory result }
     ensures added { OnOk result (map said claims.new.items
         ≡ map said claims.old.items ++ filter_map (claim_of runs.now) (holder ∷ [])) }
@@ -106,10 +107,10 @@ fn pending_claim<'c>(
 }
 
 /// The holder of a group that is in progress.
-fn running(runs: &Runs, claims: &[GroupClaim], group: &GroupKey) -> Option<Holder>
+fn in_progress(runs: &Runs, claims: &[GroupClaim], group: &GroupKey) -> Option<Holder>
     requires { map said claims.now ≡ claims_of runs.now }
-    ensures holder { result ≡ find (is_running_in runs.now group.now) (all_holders runs.now) }
-    ensures within { IfSome result (λ h. run_of h < 100000) }
+    ensures holder { result ≡ find (is_in_progress_in runs.now group.now) (all_holders runs.now) }
+    ensures within { IfSome result (λ h. run_of h < MAX_RUNS) }
 {
     match claim_in_progress(runs, claims, group) {
         Some(claim) => Some(claim.holder),
@@ -121,7 +122,7 @@ fn running(runs: &Runs, claims: &[GroupClaim], group: &GroupKey) -> Option<Holde
 fn pending(runs: &Runs, claims: &[GroupClaim], group: &GroupKey) -> Option<Holder>
     requires { map said claims.now ≡ claims_of runs.now }
     ensures holder { result ≡ find (is_pending_in runs.now group.now) (all_holders runs.now) }
-    ensures within { IfSome result (λ h. run_of h < 100000) }
+    ensures within { IfSome result (λ h. run_of h < MAX_RUNS) }
 {
     match pending_claim(runs, claims, group) {
         Some(claim) => Some(claim.holder),
@@ -132,7 +133,7 @@ fn pending(runs: &Runs, claims: &[GroupClaim], group: &GroupKey) -> Option<Holde
 // ---- lines
 
 fn text_of_leg(alloc: Global, form: Form, runs: &Runs, place: LegPlace) -> Result<String, Refusal>
-    requires { place.run < 100000 }
+    requires { place.run < MAX_RUNS }
     ensures { Gives string_bytes result (Ok (holder_text form runs.now (Some (held.Leg place)))) }
 {
     match form {
@@ -148,7 +149,7 @@ fn text_of_leg(alloc: Global, form: Form, runs: &Runs, place: LegPlace) -> Resul
 }
 
 fn text_of_run(alloc: Global, form: Form, place: usize) -> Result<String, Refusal>
-    requires { place < 100000 }
+    requires { place < MAX_RUNS }
     ensures { Gives string_bytes result (Ok (holder_text form [] (Some (held.Run place)))) }
 {
     let run = place + 1;
@@ -174,7 +175,7 @@ fn text_of_holder(
     runs: &Runs,
     holder: &Holder,
 ) -> Result<String, Refusal>
-    requires { run_of holder.now < 100000 }
+    requires { run_of holder.now < MAX_RUNS }
     ensures { Gives string_bytes result (Ok (holder_text form runs.now (Some holder.now))) }
 {
     match holder {
@@ -189,7 +190,7 @@ fn holder_text(
     runs: &Runs,
     holder: Option<Holder>,
 ) -> Result<String, Refusal>
-    requires { IfSome holder (λ h. run_of h < 100000) }
+    requires { IfSome holder (λ h. run_of h < MAX_RUNS) }
     ensures { Gives string_bytes result (Ok (holder_text form runs.now (holder))) }
 {
     match holder {
@@ -202,27 +203,27 @@ fn group_words(
     alloc: Global,
     repository: &str,
     name: &str,
-    running: &str,
+    in_progress: &str,
     pending: &str,
 ) -> Result<String, AllocError>
     ensures { IfOk result (λ s. string_bytes s ≡ line (codes "group " ++ repository.now ++ codes " " ++ name.now
-        ++ codes " in_progress " ++ running.now ++ codes " pending " ++ pending.now)) }
+        ++ codes " in_progress " ++ in_progress.now ++ codes " pending " ++ pending.now)) }
 {
-    format!(in alloc; "group {repository} {name} in_progress {running} pending {pending}\n")
+    format!(in alloc; "group {repository} {name} in_progress {in_progress} pending {pending}\n")
 }
 
 fn group_object(
     alloc: Global,
     repository: &str,
     name: &str,
-    running: &str,
+    in_progress: &str,
     pending: &str,
 ) -> Result<String, AllocError>
     ensures { IfOk result (λ s. string_bytes s ≡ line (codes "{\"repository\":" ++ repository.now ++ codes ",\"group\":" ++ name.now
-        ++ codes ",\"in_progress\":" ++ running.now ++ codes ",\"pending\":" ++ pending.now ++ codes "}")) }
+        ++ codes ",\"in_progress\":" ++ in_progress.now ++ codes ",\"pending\":" ++ pending.now ++ codes "}")) }
 {
     format!(in alloc;
-        "{{\"repository\":{repository},\"group\":{name},\"in_progress\":{running},\"pending\":{pending}}}\n"
+        "{{\"repository\":{repository},\"group\":{name},\"in_progress\":{in_progress},\"pending\":{pending}}}\n"
     )
 }
 
@@ -239,13 +240,13 @@ fn group_line(
 {
     let repository = quoted(alloc, group.repository())?;
     let name = quoted(alloc, group.name())?;
-    let running = holder_text(alloc, form, runs, running(runs, claims, group))?;
+    let in_progress = holder_text(alloc, form, runs, in_progress(runs, claims, group))?;
     let pending = holder_text(alloc, form, runs, pending(runs, claims, group))?;
     let (repository, name) = (repository.as_str(), name.as_str());
-    let (running, pending) = (running.as_str(), pending.as_str());
+    let (in_progress, pending) = (in_progress.as_str(), pending.as_str());
     match form {
-        Form::Lines => Ok(group_words(alloc, repository, name, running, pending)?),
-        Form::Json => Ok(group_object(alloc, repository, name, running, pending)?),
+        Form::Lines => Ok(group_words(alloc, repository, name, in_progress, pending)?),
+        Form::Json => Ok(group_object(alloc, repository, name, in_progress, pending)?),
     }
 }
 

@@ -11,7 +11,7 @@ use Rattle.httparse.specs.Spans.{RequestOverflows, IsRequestAt, IsRequestWithin,
 use Rattle.httparse.proofs.GrammarLemmas.{ReadsRequest-append}
 use Rattle.http1.specs.Fields.{values_named}
 use Rattle.wf_value.specs.declared.refusal.Refusal.{Refusal}
-use Rattle.wf_reader.specs.Body.{most_body}
+use Rattle.wf_reader.specs.declared.body.TheConstants.{MAX_BODY}
 use Rattle.run_plan.specs.Decimal.{is_decimal}
 use Rattle.act_sessions.specs.declared.request.FoundRequest.{FoundRequest}
 use Rattle.act_sessions.specs.Rules.{IsNext}
@@ -26,15 +26,15 @@ use Rattle.webhook_sessions.specs.Length.{just, stated_by, stated_length, unless
 
 -- ---- no head
 
-pub bad_where_long : (bytes front : List ℕ) → front ≡ take (min (length bytes) 8192) bytes → 8192 ≤ length bytes → HasNoRequest front
+pub bad_where_long : (bytes prefix : List ℕ) → prefix ≡ take (min (length bytes) 8192) bytes → 8192 ≤ length bytes → HasNoRequest prefix
     → HookReads bytes (unread BadHead) bytes
-bad_where_long bytes front e long none =
+bad_where_long bytes prefix e long none =
     let same : min (length bytes) 8192 ≡ 8192 = omega arith in
     inl (inr (long, subst HasNoRequest (e ∙ ap (λ n. take n bytes) same) none), refl, refl)
 
-pub bad_for_good : (bytes front rest : List ℕ) → bytes ≡ front ++ rest → RequestOverflows 64 front → HookReads bytes (unread BadHead) bytes
-bad_for_good bytes front rest e never =
-    inl (inl (λ more h left reads. never (rest ++ more) h left (subst (λ b. ReadsRequest b h left) (ap (λ b. b ++ more) e ∙ append_assoc front rest more) reads)), refl, refl)
+pub bad_for_good : (bytes prefix rest : List ℕ) → bytes ≡ prefix ++ rest → RequestOverflows 64 prefix → HookReads bytes (unread BadHead) bytes
+bad_for_good bytes prefix rest e never =
+    inl (inl (λ more h left reads. never (rest ++ more) h left (subst (λ b. ReadsRequest b h left) (ap (λ b. b ++ more) e ∙ append_assoc prefix rest more) reads)), refl, refl)
 
 -- ---- an incomplete body is short
 
@@ -49,20 +49,20 @@ over : (m n : ℕ) → nat_le m n ≡ false → n < m
 over m n h = grind (arith, nat_tests)
 
 abbrev IsSmall : Result ℕ Fault → Type 0
-IsSmall (Ok n) = n ≤ most_body
+IsSmall (Ok n) = n ≤ MAX_BODY
 IsSmall (Err f) = ⊤
 
 abbrev IsSmallIfStated : Result (Option ℕ) Fault → Type 0
-IsSmallIfStated (Ok (Some n)) = n ≤ most_body
+IsSmallIfStated (Ok (Some n)) = n ≤ MAX_BODY
 IsSmallIfStated (Ok None) = ⊤
 IsSmallIfStated (Err f) = ⊤
 
-small_if : (n : ℕ) (within : Bool) (f : Fault) → nat_le n most_body ≡ within → IsSmallIfStated (just (cond within (Ok n) (Err f)))
-small_if n true f h = at_most n most_body h
+small_if : (n : ℕ) (within : Bool) (f : Fault) → nat_le n MAX_BODY ≡ within → IsSmallIfStated (just (cond within (Ok n) (Err f)))
+small_if n true f h = at_most n MAX_BODY h
 small_if n false f h = tt
 
-length_small : (digits : Bool) (n : ℕ) (f g : Fault) → IsSmallIfStated (just (cond digits (cond (nat_le n most_body) (Ok n) (Err f)) (Err g)))
-length_small true n f g = small_if n (nat_le n most_body) f refl
+length_small : (digits : Bool) (n : ℕ) (f g : Fault) → IsSmallIfStated (just (cond digits (cond (nat_le n MAX_BODY) (Ok n) (Err f)) (Err g)))
+length_small true n f g = small_if n (nat_le n MAX_BODY) f refl
 length_small false n f g = tt
 
 stated_small : (values : List (List ℕ)) → IsSmallIfStated (stated_by values)
@@ -92,7 +92,7 @@ body_small head =
 some_is_none : {A : Type 0} (x : A) → Some x ≡ None → ⊥
 some_is_none x e = cc
 
-short_by : (head : Heading) (after : List ℕ) (r : Result ℕ Fault) → IsSmall r → with_body head after r ≡ None → length after < most_body
+short_by : (head : Heading) (after : List ℕ) (r : Result ℕ Fault) → IsSmall r → with_body head after r ≡ None → length after < MAX_BODY
 short_by head after (Err f) small e = absurd (some_is_none _ e)
 short_by head after (Ok n) small e =
     elim (chosen (nat_le n (length after)) _ None None e) [
@@ -112,26 +112,26 @@ next_by bytes h n most within head (Ok None) none =
     (inr (h, after, head, none), omega arith)
 next_by bytes h n most within head (Ok (Some found)) (k, long, fits, is) =
     let rest = length-drop n bytes in
-    let behind : drop k (drop n bytes) ≡ drop found.length bytes = drop-drop k n bytes ∙ ap (λ m. drop m bytes) (sym long) in
-    (omega arith, inr (h, drop n bytes, head, is ∙ ap (λ r. Some (found.request, r)) behind))
+    let suffix : drop k (drop n bytes) ≡ drop found.length bytes = drop-drop k n bytes ∙ ap (λ m. drop m bytes) (sym long) in
+    (omega arith, inr (h, drop n bytes, head, is ∙ ap (λ r. Some (found.request, r)) suffix))
 next_by bytes h n most within head (Err e) memory = memory
 
 -- a head that the code finds in the first bytes
-pub head_found : (bytes front rest : List ℕ) (headers : List HeaderSpan) (s : RequestSpans) (h : RequestHead) → bytes ≡ front ++ rest → length front ≤ 8192
-    → length headers ≡ 64 → IsRequestWithin front headers s → IsRequestAt front headers s h → BeginsWith bytes h (drop s.len bytes)
-head_found bytes front rest headers s h e short room within at =
+pub head_found : (bytes prefix rest : List ℕ) (headers : List HeaderSpan) (s : RequestSpans) (h : RequestHead) → bytes ≡ prefix ++ rest → length prefix ≤ 8192
+    → length headers ≡ 64 → IsRequestWithin prefix headers s → IsRequestAt prefix headers s h → BeginsWith bytes h (drop s.len bytes)
+head_found bytes prefix rest headers s h e short room within at =
     let fits = within.section.len_fits in
-    let after : drop s.len front ++ rest ≡ drop s.len bytes = sym (ap (drop s.len) e ∙ drop-append-le s.len front rest fits) in
+    let after : drop s.len prefix ++ rest ≡ drop s.len bytes = sym (ap (drop s.len) e ∙ drop-append-le s.len prefix rest fits) in
     record {
-      reads = subst (λ b. ReadsRequest b h (drop s.len bytes)) (sym e) (subst (ReadsRequest (front ++ rest) h) after (ReadsRequest-append front h (drop s.len front) rest at.reads));
+      reads = subst (λ b. ReadsRequest b h (drop s.len bytes)) (sym e) (subst (ReadsRequest (prefix ++ rest) h) after (ReadsRequest-append prefix h (drop s.len prefix) rest at.reads));
       fields =
-          let count : length (take s.headers headers) ≡ length h.fields = sym (length-map (take s.headers headers) (header_bytes front)) ∙ ap length at.fields ∙ length-map h.fields name_and_value in
+          let count : length (take s.headers headers) ≡ length h.fields = sym (length-map (take s.headers headers) (header_bytes prefix)) ∙ ap length at.fields ∙ length-map h.fields name_and_value in
           let most = length-take s.headers headers in
           omega arith;
       short = let len = at.len in omega arith;
     }
 
 -- the parts of the head are those that were found
-pub heading_found : (front : List ℕ) (headers : List HeaderSpan) (s : RequestSpans) (h : RequestHead) → IsRequestAt front headers s h
-    → record { method = span_bytes front s.method; target = span_bytes front s.path; minor = s.version; fields = map (header_bytes front) (take s.headers headers) } ≡ heading_of h
-heading_found front headers s h at = rw (at.method, at.path, at.version, at.fields) refl
+pub heading_found : (prefix : List ℕ) (headers : List HeaderSpan) (s : RequestSpans) (h : RequestHead) → IsRequestAt prefix headers s h
+    → record { method = span_bytes prefix s.method; target = span_bytes prefix s.path; minor = s.version; fields = map (header_bytes prefix) (take s.headers headers) } ≡ heading_of h
+heading_found prefix headers s h at = rw (at.method, at.path, at.version, at.fields) refl

@@ -12,7 +12,7 @@ use Rattle.std.proofs.lemmas.Slice.Eq.{bytes_eq-Decides}
 use Rattle.run_plan.specs.SmallText.{found_if, is_number, number_of, runner_name_of}
 use Rattle.webhook_sessions.specs.declared.path.Path.{Path}
 use Rattle.webhook_sessions.specs.declared.path.Path.TheVariants.{Events, Run, Body, Cancel, Attempt, Lost}
-use Rattle.webhook_sessions.specs.Paths.{IsTargetOf, after_front, at_slash, before_end, part_of_run, path_of, run_path, runner_path}
+use Rattle.webhook_sessions.specs.Paths.{IsTargetOf, after_prefix, at_slash, before_end, part_of_run, path_of, run_path, runner_path}
 
 none_is_some : {X : Type 0} (x : X) → None ≡ Some x → ⊥
 none_is_some x e = cc
@@ -26,12 +26,12 @@ found false x y e = absurd (none_is_some y e)
 
 -- ---- a target that is parsed as a path is the encoding of that path
 
-front_is : (front bytes rest : List ℕ) → after_front front bytes ≡ Some rest → bytes ≡ front ++ rest
-front_is front bytes rest e =
-    let n = length front in
-    let both = found (bytes_eq (take n bytes) front) (drop n bytes) rest e in
-    let same = (bytes_eq-Decides (take n bytes) front).0 both.0 in
-    sym (take-append-drop n bytes) ∙ ap (λ l. l ++ drop n bytes) same ∙ ap (λ l. front ++ l) both.1
+prefix_is : (prefix bytes rest : List ℕ) → after_prefix prefix bytes ≡ Some rest → bytes ≡ prefix ++ rest
+prefix_is prefix bytes rest e =
+    let n = length prefix in
+    let both = found (bytes_eq (take n bytes) prefix) (drop n bytes) rest e in
+    let same = (bytes_eq-Decides (take n bytes) prefix).0 both.0 in
+    sym (take-append-drop n bytes) ∙ ap (λ l. l ++ drop n bytes) same ∙ ap (λ l. prefix ++ l) both.1
 
 end_is : (end bytes rest : List ℕ) → before_end end bytes ≡ Some rest → bytes ≡ rest ++ end
 end_is end bytes rest e =
@@ -51,20 +51,20 @@ parts_are bytes None parts e = absurd (none_is_some parts e)
 parts_are bytes (Some n) parts e =
     subst (λ q. bytes ≡ q.0 ++ q.1) (same_some (take n bytes, drop n bytes) parts e) (sym (take-append-drop n bytes))
 
-attempt_is : (text rest : List ℕ) (run : ℕ) (behind : Option (List ℕ)) (p : Path) → number_of text ≡ Some run
-    → after_front (codes "/attempts/") rest ≡ behind
-    → option_map (λ attempt. Attempt (record { run = run; attempt = attempt })) (option_and_then number_of behind) ≡ Some p
+attempt_is : (text rest : List ℕ) (run : ℕ) (suffix : Option (List ℕ)) (p : Path) → number_of text ≡ Some run
+    → after_prefix (codes "/attempts/") rest ≡ suffix
+    → option_map (λ attempt. Attempt (record { run = run; attempt = attempt })) (option_and_then number_of suffix) ≡ Some p
     → IsTargetOf p (codes "/runs/" ++ text ++ rest)
 attempt_is text rest run None p number b e = absurd (none_is_some p e)
 attempt_is text rest run (Some digits) p number b e =
     let m = mapped (λ attempt. Attempt (record { run = run; attempt = attempt })) (number_of digits) p e in
     subst (λ q. IsTargetOf q (codes "/runs/" ++ text ++ rest)) m.2
-    (text, digits, number, m.1, ap (λ l. codes "/runs/" ++ text ++ l) (front_is (codes "/attempts/") rest digits b))
+    (text, digits, number, m.1, ap (λ l. codes "/runs/" ++ text ++ l) (prefix_is (codes "/attempts/") rest digits b))
 
 part_is : (text rest : List ℕ) (run : ℕ) (body cancel : Bool) (p : Path) → number_of text ≡ Some run
     → bytes_eq rest (codes "/body") ≡ body → bytes_eq rest (codes "/cancel") ≡ cancel
     → cond body (Some (Body run)) (cond cancel (Some (Cancel run))
-    (option_map (λ attempt. Attempt (record { run = run; attempt = attempt })) (option_and_then number_of (after_front (codes "/attempts/") rest))))
+    (option_map (λ attempt. Attempt (record { run = run; attempt = attempt })) (option_and_then number_of (after_prefix (codes "/attempts/") rest))))
     ≡ Some p
     → IsTargetOf p (codes "/runs/" ++ text ++ rest)
 part_is text rest run true cancel p number b c e =
@@ -97,14 +97,14 @@ runner_is rest (Some name) p lost e =
     subst (λ q. IsTargetOf q (codes "/runners/" ++ rest)) m.2 (name, m.1, ap (λ l. codes "/runners/" ++ l) (end_is (codes "/lost") rest name lost))
 
 path_is : (target : List ℕ) (events : Bool) (run runner : Option (List ℕ)) (p : Path)
-    → bytes_eq target (codes "/events") ≡ events → after_front (codes "/runs/") target ≡ run → after_front (codes "/runners/") target ≡ runner
+    → bytes_eq target (codes "/events") ≡ events → after_prefix (codes "/runs/") target ≡ run → after_prefix (codes "/runners/") target ≡ runner
     → cond events (Some Events) (option_map_or run_path run (option_map_or runner_path runner None)) ≡ Some p → IsTargetOf p target
 path_is target true run runner p same r n e =
     subst (λ q. IsTargetOf q target) (same_some Events p e) ((bytes_eq-Decides target (codes "/events")).0 same)
 path_is target false (Some rest) runner p other r n e =
-    subst (IsTargetOf p) (sym (front_is (codes "/runs/") target rest r)) (run_is rest _ p refl e)
+    subst (IsTargetOf p) (sym (prefix_is (codes "/runs/") target rest r)) (run_is rest _ p refl e)
 path_is target false None (Some rest) p other r n e =
-    subst (IsTargetOf p) (sym (front_is (codes "/runners/") target rest n)) (runner_is rest _ p refl e)
+    subst (IsTargetOf p) (sym (prefix_is (codes "/runners/") target rest n)) (runner_is rest _ p refl e)
 path_is target false None None p other r n e = absurd (none_is_some p e)
 
 pub target_of_path : (target : List ℕ) (p : Path) → path_of target ≡ Some p → IsTargetOf p target
@@ -129,12 +129,12 @@ no_slash_is_a_digit b digit =
 abbrev first_slash : List ℕ → ℕ
 first_slash = position_or_len (λ b. b == 47)
 
-slash_behind : (text rest : List ℕ) → list_all is_ascii_digit text ≡ true → first_slash (text ++ rest) ≡ length text + first_slash rest
-slash_behind [] rest digits = omega arith
-slash_behind (b ∷ text) rest digits =
+slash_after : (text rest : List ℕ) → list_all is_ascii_digit text ≡ true → first_slash (text ++ rest) ≡ length text + first_slash rest
+slash_after [] rest digits = omega arith
+slash_after (b ∷ text) rest digits =
     let parts = and_parts (is_ascii_digit b) (list_all is_ascii_digit text) digits in
-    let behind = slash_behind text rest parts.1 in
-    ap (λ c. cond (not c) (1 + first_slash (text ++ rest)) 0) (no_slash_is_a_digit b parts.0) ∙ omega (arith, behind)
+    let suffix = slash_after text rest parts.1 in
+    ap (λ c. cond (not c) (1 + first_slash (text ++ rest)) 0) (no_slash_is_a_digit b parts.0) ∙ omega (arith, suffix)
 
 position_by : (bytes : List ℕ) (n : ℕ) (within : Bool) → first_slash bytes ≡ n → nat_lt n (length bytes) ≡ within
     → position (λ b. b == 47) bytes ≡ cond within (Some n) None
@@ -142,16 +142,16 @@ position_by bytes n within e w = ap (λ k. cond (nat_lt k (length bytes)) (Some 
 
 no_slash : (text : List ℕ) → list_all is_ascii_digit text ≡ true → at_slash text ≡ None
 no_slash text digits =
-    let behind = slash_behind text [] digits in
+    let suffix = slash_after text [] digits in
     let n = length text in
-    let place : first_slash text ≡ n = ap first_slash (sym (append-nil text)) ∙ behind ∙ omega arith in
+    let place : first_slash text ≡ n = ap first_slash (sym (append-nil text)) ∙ suffix ∙ omega arith in
     ap (option_map (λ k. (take k text, drop k text))) (position_by text n false place (le-ltb n n (omega arith)))
 
 slash_of : (text rest : List ℕ) → list_all is_ascii_digit text ≡ true → at_slash (text ++ 47 ∷ rest) ≡ Some (text, 47 ∷ rest)
 slash_of text rest digits =
     let all = text ++ 47 ∷ rest in
     let n = length text in
-    let place : first_slash all ≡ n = slash_behind text (47 ∷ rest) digits ∙ omega arith in
+    let place : first_slash all ≡ n = slash_after text (47 ∷ rest) digits ∙ omega arith in
     let long = length-append text (47 ∷ rest) in
     ap (option_map (λ k. (take k all, drop k all))) (position_by all n true place (lt-ltb n (length all) (omega arith)))
     ∙ ap₂ (λ a b. Some (a, b)) (take-append_seam text (47 ∷ rest)) (drop-append_seam text (47 ∷ rest))

@@ -72,9 +72,9 @@ head_is_not_bad bytes h after (inr (long, none)) head =
     let text = print_request h in
     let short = head.short in
     let room : 8192 ≡ length text + (8192 - length text) = omega arith in
-    let front : take 8192 bytes ≡ text ++ take (8192 - length text) after =
+    let prefix : take 8192 bytes ≡ text ++ take (8192 - length text) after =
     ap (take 8192) head.reads.1 ∙ ap (λ n. take n (text ++ after)) room ∙ take-append-add text after (8192 - length text) in
-    none h (take (8192 - length text) after) (head.reads.0, front)
+    none h (take (8192 - length text) after) (head.reads.0, prefix)
 
 same_some : {A : Type 0} (x y : A) → Some x ≡ Some y → x ≡ y
 same_some x y e = cc
@@ -83,8 +83,8 @@ reads_one : (bytes rest other : List ℕ) (r s : Request Fault) → HookReads by
 reads_one bytes rest other r s (inl (bad, is, e)) (inl (worse, too, f)) = (is ∙ sym too, e ∙ sym f)
 reads_one bytes rest other r s (inl (bad, is, e)) (inr (h, after, head, found)) = absurd (head_is_not_bad bytes h after bad head)
 reads_one bytes rest other r s (inr (h, after, head, found)) (inl (bad, is, e)) = absurd (head_is_not_bad bytes h after bad head)
-reads_one bytes rest other r s (inr (h, after, head, found)) (inr (k, behind, front, met)) =
-    let same = request_unique bytes h k after behind head.reads front.reads in
+reads_one bytes rest other r s (inr (h, after, head, found)) (inr (k, suffix, prefix, met)) =
+    let same = request_unique bytes h k after suffix head.reads prefix.reads in
     let e = sym found ∙ ap (λ x. request_after (heading_of x) after) same.0 ∙ ap (request_after (heading_of k)) same.1 ∙ met in
     let pair = same_some (r, rest) (s, other) e in
     (ap (λ x. x.0) pair, ap (λ x. x.1) pair)
@@ -96,9 +96,9 @@ hooks_one = reads_one
 waits_for_one : (bytes rest : List ℕ) (r : Request Fault) → HookWaits bytes → HookReads bytes r rest → r ≡ unread BadHead
 waits_for_one bytes rest r waits (inl (bad, is, e)) = is
 waits_for_one bytes rest r (inl (none, may, short)) (inr (h, after, head, found)) = absurd (none h after head.reads)
-waits_for_one bytes rest r (inr (k, behind, front, missing)) (inr (h, after, head, found)) =
-    let same = request_unique bytes h k after behind head.reads front.reads in
-    let e = sym missing ∙ ap (λ x. request_after (heading_of x) behind) (sym same.0) ∙ ap (request_after (heading_of h)) (sym same.1) ∙ found in
+waits_for_one bytes rest r (inr (k, suffix, prefix, missing)) (inr (h, after, head, found)) =
+    let same = request_unique bytes h k after suffix head.reads prefix.reads in
+    let e = sym missing ∙ ap (λ x. request_after (heading_of x) suffix) (sym same.0) ∙ ap (request_after (heading_of h)) (sym same.1) ∙ found in
     absurd (none_is_some (r, rest) e)
 
 pub hooks_wait : (bytes rest : List ℕ) (r : Request Fault) → hooks.waits bytes → hooks.reads bytes r rest → r ≡ unread BadHead

@@ -8,8 +8,8 @@ use Rattle.webhook_sessions.specs.declared.path.Path.{Path}
 use Rattle.webhook_sessions.specs.declared.path.Path.TheVariants.{Events, Run, Body, Cancel, Attempt, Lost}
 
 -- the bytes after a prefix, if they begin with it
-abbrev pub after_front : List ℕ → List ℕ → Option (List ℕ)
-after_front front bytes = found_if (bytes_eq (take (length front) bytes) front) (drop (length front) bytes)
+abbrev pub after_prefix : List ℕ → List ℕ → Option (List ℕ)
+after_prefix prefix bytes = found_if (bytes_eq (take (length prefix) bytes) prefix) (drop (length prefix) bytes)
 
 -- the bytes before a suffix, if they end with it
 abbrev pub before_end : List ℕ → List ℕ → Option (List ℕ)
@@ -26,7 +26,7 @@ abbrev pub part_of_run : ℕ → List ℕ → Option Path
 part_of_run run rest =
     if bytes_eq rest (codes "/body") then Some (Body run)
     else (if bytes_eq rest (codes "/cancel") then Some (Cancel run)
-    else option_map (λ attempt. Attempt (record { run = run; attempt = attempt })) (option_and_then number_of (after_front (codes "/attempts/") rest)))
+    else option_map (λ attempt. Attempt (record { run = run; attempt = attempt })) (option_and_then number_of (after_prefix (codes "/attempts/") rest)))
 
 -- after `/runs/`: RUN, or RUN and a part of that run
 abbrev pub run_path : List ℕ → Option Path
@@ -41,7 +41,7 @@ runner_path rest = option_map_or (λ name. option_map Lost (runner_name_of name)
 abbrev pub path_of : List ℕ → Option Path
 path_of target =
     if bytes_eq target (codes "/events") then Some Events
-    else option_map_or run_path (after_front (codes "/runs/") target) (option_map_or runner_path (after_front (codes "/runners/") target) None)
+    else option_map_or run_path (after_prefix (codes "/runs/") target) (option_map_or runner_path (after_prefix (codes "/runners/") target) None)
 
 -- the target of a path
 abbrev pub IsTargetOf : Path → List ℕ → Type 0

@@ -11,7 +11,7 @@ use std::marker::Model;
 /// The fields of a head: names and values as slices of the bytes of the head.
 #[derive(Drop)]
 pub struct Fields<'a> {
-    front: &'a [u8],
+    prefix: &'a [u8],
     spans: &'a [HeaderSpan],
 }
 
@@ -21,20 +21,20 @@ impl<'a> Model for Fields<'a> {
 
     ghost Value = { List (List ℕ × List ℕ) };
 
-    ghost view = { λ f. map (header_bytes f.front.now) f.spans.now };
+    ghost view = { λ f. map (header_bytes f.prefix.now) f.spans.now };
 
-    ghost invariant = { λ f. All (IsHeaderWithin (length f.front.now)) f.spans.now };
+    ghost invariant = { λ f. All (IsHeaderWithin (length f.prefix.now)) f.spans.now };
 }
 
 impl<'a> Fields<'a> {
     ghost use Rattle.std.specs.Prelude.{All, length};
     ghost use Rattle.httparse.specs.Spans.{IsHeaderWithin, header_bytes};
 
-    pub fn new(front: &'a [u8], spans: &'a [HeaderSpan]) -> Self
-        requires { All (IsHeaderWithin (length front.now)) spans.now }
-        ensures { result ≡ map (header_bytes front.now) spans.now }
+    pub fn new(prefix: &'a [u8], spans: &'a [HeaderSpan]) -> Self
+        requires { All (IsHeaderWithin (length prefix.now)) spans.now }
+        ensures { result ≡ map (header_bytes prefix.now) spans.now }
     {
-        Fields { front, spans }
+        Fields { prefix, spans }
     }
 
     /// How often a field with this name occurs, and its value. Names are compared without ASCII case.
@@ -43,8 +43,8 @@ impl<'a> Fields<'a> {
     {
         let mut found = Occurrence::Missing;
         for span in self.spans {
-            if eq_ignore_case(span.name.of(self.front), name) {
-                found = once_more(found, span.value.of(self.front));
+            if eq_ignore_case(span.name.of(self.prefix), name) {
+                found = once_more(found, span.value.of(self.prefix));
             }
         }
         found
@@ -54,6 +54,6 @@ impl<'a> Fields<'a> {
     pub fn list_close(&self) -> bool
         ensures { result ≡ lists_close self.now }
     {
-        KnownFields::from_spans(self.front, self.spans).close
+        KnownFields::from_spans(self.prefix, self.spans).close
     }
 }

@@ -32,22 +32,22 @@ impl<'a> Head<'a> {
     ghost use Rattle.httparse.specs.Spans.{IsHeaderWithin, IsWithin, header_bytes, span_bytes};
 
     /// The head whose parts were found there.
-    pub fn new(front: &'a [u8], found: &RequestSpans, spans: &'a [HeaderSpan]) -> Self
-        requires method { IsWithin (length front.now) found.now.method }
-        requires path { IsWithin (length front.now) found.now.path }
-        requires fields { All (IsHeaderWithin (length front.now)) spans.now }
+    pub fn new(prefix: &'a [u8], found: &RequestSpans, spans: &'a [HeaderSpan]) -> Self
+        requires method { IsWithin (length prefix.now) found.now.method }
+        requires path { IsWithin (length prefix.now) found.now.path }
+        requires fields { All (IsHeaderWithin (length prefix.now)) spans.now }
         ensures { result ≡ record {
-          method = span_bytes front.now found.now.method;
-          target = span_bytes front.now found.now.path;
+          method = span_bytes prefix.now found.now.method;
+          target = span_bytes prefix.now found.now.path;
           minor = found.now.version;
-          fields = map (header_bytes front.now) spans.now;
+          fields = map (header_bytes prefix.now) spans.now;
         } }
     {
         Head {
-            method: found.method.of(front),
-            target: found.path.of(front),
+            method: found.method.of(prefix),
+            target: found.path.of(prefix),
             minor: found.version,
-            fields: Fields::new(front, spans),
+            fields: Fields::new(prefix, spans),
         }
     }
 

@@ -1,7 +1,7 @@
 ghost use Rattle.std.specs.Prelude.{◌≡◌, ◌==◌, Ok, Some, None, option_map, position};
 ghost use Rattle.wf_value.specs.Gives.{Gives};
 ghost use Rattle.run_plan.specs.SmallText.{number_of};
-ghost use Rattle.webhook_sessions.specs.Paths.{after_front, at_slash, before_end, method_of, part_of_run, path_of, run_path, runner_path};
+ghost use Rattle.webhook_sessions.specs.Paths.{after_prefix, at_slash, before_end, method_of, part_of_run, path_of, run_path, runner_path};
 
 use http::Method;
 use run_plan::{Attempt, Number, RunnerName};
@@ -33,10 +33,10 @@ impl Path {
         if target == b"/events".as_slice() {
             return Ok(Some(Path::Events));
         }
-        if let Some(rest) = after_front(b"/runs/", target) {
+        if let Some(rest) = after_prefix(b"/runs/", target) {
             return Ok(run_path(rest));
         }
-        match after_front(b"/runners/", target) {
+        match after_prefix(b"/runners/", target) {
             Some(rest) => runner_path(alloc, rest),
             None => Ok(None),
         }
@@ -54,10 +54,10 @@ impl Path {
 }
 
 /// The bytes after a prefix, if they begin with it.
-fn after_front<'a>(front: &[u8], bytes: &'a [u8]) -> Option<&'a [u8]>
-    ensures { option_map (λ rest. rest.now) result ≡ after_front front.now bytes.now }
+fn after_prefix<'a>(prefix: &[u8], bytes: &'a [u8]) -> Option<&'a [u8]>
+    ensures { option_map (λ rest. rest.now) result ≡ after_prefix prefix.now bytes.now }
 {
-    bytes.strip_prefix(front)
+    bytes.strip_prefix(prefix)
 }
 
 /// The bytes before a suffix, if they end with it.
@@ -67,7 +67,7 @@ fn before_end<'a>(end: &[u8], bytes: &'a [u8]) -> Option<&'a [u8]>
     bytes.strip_suffix(end)
 }
 
-fn place_of_slash(bytes: &[u8]) -> Option<usize>
+fn slash_index(bytes: &[u8]) -> Option<usize>
     ensures { result ≡ position (λ b. b == 47) bytes.now }
 {
     bytes.iter().position(|b| *b == b'/')
@@ -77,7 +77,7 @@ fn place_of_slash(bytes: &[u8]) -> Option<usize>
 fn at_slash(bytes: &[u8]) -> Option<(&[u8], &[u8])>
     ensures { option_map (λ p. (p.0.now, p.1.now)) result ≡ at_slash bytes.now }
 {
-    match place_of_slash(bytes) {
+    match slash_index(bytes) {
         Some(place) => Some((&bytes[..place], &bytes[place..])),
         None => None,
     }
@@ -93,7 +93,7 @@ fn part_of_run(run: Number, rest: &[u8]) -> Option<Path>
     if rest == b"/cancel".as_slice() {
         return Some(Path::Cancel(run));
     }
-    let attempt = Number::of(after_front(b"/attempts/", rest)?)?;
+    let attempt = Number::of(after_prefix(b"/attempts/", rest)?)?;
     Some(Path::Attempt(Attempt { run, attempt }))
 }
 

@@ -13,7 +13,7 @@ use httparse::spans::{EMPTY_HEADER_SPAN, parse_request};
 use std::alloc::Global;
 use wf_value::Refusal;
 
-/// The longest head, in bytes.
+/// The longest head, in bytes, including the empty lines before it.
 pub const MAX_HEAD: usize = 8_192;
 
 /// The most fields of a head.
@@ -62,11 +62,11 @@ fn request_after(
 pub fn next_request(alloc: Global, bytes: &[u8]) -> Result<Option<FoundRequest<Fault>>, Refusal>
     ensures { IsNext hooks bytes.now result }
 {
-    let front = &bytes[..bytes.len().min(MAX_HEAD)];
+    let prefix = &bytes[..bytes.len().min(MAX_HEAD)];
     let mut spans = [EMPTY_HEADER_SPAN; MAX_FIELDS];
-    match parse_request(front, &mut spans) {
+    match parse_request(prefix, &mut spans) {
         Ok(Status::Complete(found)) => {
-            let head = Head::new(front, &found, &spans[..found.headers]);
+            let head = Head::new(prefix, &found, &spans[..found.headers]);
             request_after(alloc, &head, found.len, &bytes[found.len..])
         }
         Ok(Status::Partial) if bytes.len() < MAX_HEAD => Ok(None),

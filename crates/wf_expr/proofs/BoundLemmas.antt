@@ -12,7 +12,7 @@ use Rattle.wf_value.specs.declared.scalar.Scalar.{Scalar}
 use Rattle.wf_value.specs.declared.scalar.Scalar.TheVariants.{Text}
 use Rattle.wf_expr.specs.Bound.{Results, NeedOf, HasResults, no_results, with_results, result_value}
 use Rattle.wf_expr.specs.Bound.{first_result, bound_piece_text, bound_text}
-use Rattle.wf_expr.specs.Bound.{need_of_operand, before_true, asked_needs, bound_piece, bound_of}
+use Rattle.wf_expr.specs.Bound.{need_of_operand, before_true, referenced_needs, bound_piece, bound_of}
 use Rattle.wf_expr.specs.ContextValue.{Values}
 use Rattle.wf_expr.specs.TemplateValue.{operand_value, first_true, last_or, piece_text, template_value}
 use Rattle.wf_expr.specs.declared.bound.BoundPiece.{BoundPiece}
@@ -35,17 +35,17 @@ abbrev Stands : Results → Scalar → Scalar → Option ℕ → Type 0
 Stands results v w None = v ≡ w
 Stands results v w (Some need) = (v ≡ unwrap_or (result_value (results need)) (Text [])) × (w ≡ Text [])
 
-reference-stands : (known : Values) (need_of : NeedOf) (results : Results) (path : List (List ℕ)) (o : Option ℕ) → need_of path ≡ o
+reference-known_or_bound : (known : Values) (need_of : NeedOf) (results : Results) (path : List (List ℕ)) (o : Option ℕ) → need_of path ≡ o
     → Stands results (unwrap_or (with_results known need_of results path) (Text []))
     (unwrap_or (with_results known need_of no_results path) (Text [])) o
-reference-stands known need_of results path None e = rw e refl
-reference-stands known need_of results path (Some need) e = (rw e refl, rw e refl)
+reference-known_or_bound known need_of results path None e = rw e refl
+reference-known_or_bound known need_of results path (Some need) e = (rw e refl, rw e refl)
 
-stands : (known : Values) (need_of : NeedOf) (results : Results) (operand : Operand)
+known_or_bound : (known : Values) (need_of : NeedOf) (results : Results) (operand : Operand)
     → Stands results (operand_value (with_results known need_of results) operand)
     (operand_value (with_results known need_of no_results) operand) (need_of_operand need_of operand)
-stands known need_of results (Quoted text) = refl
-stands known need_of results (Reference path) = reference-stands known need_of results path (need_of path) refl
+known_or_bound known need_of results (Quoted text) = refl
+known_or_bound known need_of results (Reference path) = reference-known_or_bound known need_of results path (need_of path) refl
 
 -- ---- one more operand
 
@@ -88,32 +88,32 @@ one-more results needs vs ws alike v w (Some need) (is, empty) other =
 
 -- ---- operands, pieces and templates
 
-asked-if : (need_of : NeedOf) (o : Operand) (os : List Operand) (b : Bool)
+referenced-if : (need_of : NeedOf) (o : Operand) (os : List Operand) (b : Bool)
     → filter_map (need_of_operand need_of) (cond b [] (o ∷ os))
     ≡ cond b [] (cons_option (need_of_operand need_of o) (filter_map (need_of_operand need_of) os))
-asked-if need_of o os true = refl
-asked-if need_of o os false = refl
+referenced-if need_of o os true = refl
+referenced-if need_of o os false = refl
 
 -- the needs that one more operand looks up
-pub asked-step : (known : Values) (need_of : NeedOf) (o : Operand) (os : List Operand)
-    → asked_needs known need_of (o ∷ os)
+pub referenced-step : (known : Values) (need_of : NeedOf) (o : Operand) (os : List Operand)
+    → referenced_needs known need_of (o ∷ os)
     ≡ cond (is_truthy (operand_value (with_results known need_of no_results) o)) []
-    (cons_option (need_of_operand need_of o) (asked_needs known need_of os))
-asked-step known need_of o os =
-    asked-if need_of o (before_true (with_results known need_of no_results) os)
+    (cons_option (need_of_operand need_of o) (referenced_needs known need_of os))
+referenced-step known need_of o os =
+    referenced-if need_of o (before_true (with_results known need_of no_results) os)
     (is_truthy (operand_value (with_results known need_of no_results) o))
 
 operands-text : (known : Values) (need_of : NeedOf) (results : Results) (operands : List Operand)
-    → LeadAlike results (asked_needs known need_of operands) (map (operand_value (with_results known need_of results)) operands)
+    → LeadAlike results (referenced_needs known need_of operands) (map (operand_value (with_results known need_of results)) operands)
     (map (operand_value (with_results known need_of no_results)) operands)
 operands-text known need_of results [] other = refl
 operands-text known need_of results (o ∷ os) other =
     let by_results = operand_value (with_results known need_of results) in
     let is_known = operand_value (with_results known need_of no_results) in
-    one-more results (asked_needs known need_of os) (map by_results os) (map is_known os) (operands-text known need_of results os)
-    (by_results o) (is_known o) (need_of_operand need_of o) (stands known need_of results o) other
+    one-more results (referenced_needs known need_of os) (map by_results os) (map is_known os) (operands-text known need_of results os)
+    (by_results o) (is_known o) (need_of_operand need_of o) (known_or_bound known need_of results o) other
     ∙ ap (λ needs. option_map_or result_word (first_result results needs) (scalar_text (first_true other (map is_known (o ∷ os)))))
-    (sym (asked-step known need_of o os))
+    (sym (referenced-step known need_of o os))
 
 piece-text : (known : Values) (need_of : NeedOf) (results : Results) (piece : Piece)
     → piece_text (with_results known need_of results) piece ≡ bound_piece_text results (bound_piece known need_of piece)

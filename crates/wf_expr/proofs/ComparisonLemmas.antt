@@ -7,7 +7,7 @@ use Rattle.std.specs.List.{flat_map}
 use Rattle.std.proofs.lemmas.List.{map-append, length-map}
 use Rattle.wf_value.specs.ScalarValue.{scalar_text}
 use Rattle.wf_value.proofs.Bytes.{same_parts}
-use Rattle.wf_expr.specs.Comparison.{folded, IsBehind}
+use Rattle.wf_expr.specs.Comparison.{folded, IsRestAfter}
 use Rattle.wf_expr.specs.ContextValue.{Values}
 use Rattle.wf_expr.specs.TemplateValue.{piece_text, template_value}
 use Rattle.wf_expr.specs.declared.case.Case.{Case}
@@ -23,23 +23,23 @@ length-folded : (case : Case) (xs : List ℕ) → length (folded case xs) ≡ le
 length-folded Sensitive xs = refl
 length-folded Insensitive xs = length-map xs to_ascii_lowercase
 
-fronts : (case : Case) (front head more rest text : List ℕ) → text ≡ head ++ rest → length head ≡ length front
-    → folded case (front ++ more) ≡ folded case text → (folded case front ≡ folded case head) × (folded case more ≡ folded case rest)
-fronts case front head more rest text is h e =
-    same_parts (folded case front) (folded case head) (folded case more) (folded case rest)
-    (length-folded case front ∙ (sym h ∙ sym (length-folded case head)))
-    (sym (folded-append case front more) ∙ (e ∙ (ap (folded case) is ∙ folded-append case head rest)))
+prefixes : (case : Case) (prefix head more rest text : List ℕ) → text ≡ head ++ rest → length head ≡ length prefix
+    → folded case (prefix ++ more) ≡ folded case text → (folded case prefix ≡ folded case head) × (folded case more ≡ folded case rest)
+prefixes case prefix head more rest text is h e =
+    same_parts (folded case prefix) (folded case head) (folded case more) (folded case rest)
+    (length-folded case prefix ∙ (sym h ∙ sym (length-folded case head)))
+    (sym (folded-append case prefix more) ∙ (e ∙ (ap (folded case) is ∙ folded-append case head rest)))
 
-pub other-front : (case : Case) (front text head rest : List ℕ) → text ≡ head ++ rest → length head ≡ length front
-    → (folded case head ≡ folded case front → ⊥) → IsBehind case front text None
-other-front case front text head rest is h n more =
-    (λ e. n (sym (fronts case front head more rest text is h e).0), λ a. absurd a)
+pub other-prefix : (case : Case) (prefix text head rest : List ℕ) → text ≡ head ++ rest → length head ≡ length prefix
+    → (folded case head ≡ folded case prefix → ⊥) → IsRestAfter case prefix text None
+other-prefix case prefix text head rest is h n more =
+    (λ e. n (sym (prefixes case prefix head more rest text is h e).0), λ a. absurd a)
 
-pub same-front : (case : Case) (front text head rest : List ℕ) → text ≡ head ++ rest → length head ≡ length front
-    → folded case head ≡ folded case front → IsBehind case front text (Some rest)
-same-front case front text head rest is h s more = (
-  λ e. (fronts case front head more rest text is h e).1,
-  λ e. folded-append case front more
+pub same-prefix : (case : Case) (prefix text head rest : List ℕ) → text ≡ head ++ rest → length head ≡ length prefix
+    → folded case head ≡ folded case prefix → IsRestAfter case prefix text (Some rest)
+same-prefix case prefix text head rest is h s more = (
+  λ e. (prefixes case prefix head more rest text is h e).1,
+  λ e. folded-append case prefix more
       ∙ (ap (λ f. f ++ folded case more) (sym s)
       ∙ (ap (λ r. folded case head ++ r) e ∙ (sym (folded-append case head rest) ∙ ap (folded case) (sym is)))),
 )

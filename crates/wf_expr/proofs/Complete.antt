@@ -9,8 +9,8 @@ use Rattle.std.specs.Char.{encode_utf8}
 use Rattle.std.proofs.lemmas.Str.{encode_ascii, length-encode, len_utf8_bounds}
 use Rattle.std.proofs.lemmas.Bool.{cond-false, cond-true}
 use Rattle.wf_expr.specs.Letters.{begins_name, continues_name}
-use Rattle.wf_expr.specs.Grammar.{AreSpaces, IsName, SpellsNames, doubled, SpellsOperand, SpellsMore, SpellsBraced, HoldsNoOpening}
-use Rattle.wf_expr.specs.Grammar.{SpellsPlain, SpellsPieces, BeginsBraced}
+use Rattle.wf_expr.specs.Grammar.{AreSpaces, IsName, EncodesNames, doubled, EncodesOperand, EncodesMore, EncodesBraced, HoldsNoOpening}
+use Rattle.wf_expr.specs.Grammar.{EncodesPlain, EncodesPieces, BeginsBraced}
 use Rattle.wf_expr.specs.Reading.{taken, run, plain_piece}
 use Rattle.wf_expr.specs.declared.piece.Operand.{Operand}
 use Rattle.wf_expr.specs.declared.piece.Operand.TheVariants.{Quoted, Reference}
@@ -93,7 +93,7 @@ spaces-stop (d ∷ s) c x h n = ap continues_name h.0
 dotted-assoc : (a b n rest x : List ℕ) → ((a ++ 46 ∷ (b ++ n)) ++ rest) ++ x ≡ a ++ (46 ∷ (b ++ (n ++ (rest ++ x))))
 dotted-assoc a b n rest x = simp append_assoc
 
-names-stop : (text x : List ℕ) (ns : List (List ℕ)) → SpellsNames text ns → StopsName x → StopsName (text ++ x)
+names-stop : (text x : List ℕ) (ns : List (List ℕ)) → EncodesNames text ns → StopsName x → StopsName (text ++ x)
 unfolding continues_name begins_name
 names-stop text x [] h stop = rw h stop
 names-stop text x (n ∷ ns) h stop =
@@ -102,7 +102,7 @@ names-stop text x (n ∷ ns) h stop =
     ap (λ t. t ++ x) (h.2 ∙ ap (λ f. f ++ h.1) d.whole) ∙ dotted-assoc d.before d.between d.letters h.1 x in
     rw whole (spaces-stop d.before 46 (d.between ++ (d.letters ++ (h.1 ++ x))) d.spaces_before refl)
 
-names-read : (ps : List Piece) (os : List Operand) (names : List (List ℕ)) (text x : List ℕ) (ns : List (List ℕ)) → SpellsNames text ns
+names-read : (ps : List Piece) (os : List Operand) (names : List (List ℕ)) (text x : List ℕ) (ns : List (List ℕ)) → EncodesNames text ns
     → StopsName x → run (AfterName ps os names) (text ++ x) ≡ run (AfterName ps os (names ++ ns)) x
 names-read ps os names text x [] h stop =
     ap (λ t. run (AfterName ps os names) (t ++ x)) h ∙ ap (λ v. run (AfterName ps os v) x) (sym (append-nil names))
@@ -163,18 +163,18 @@ quote-ends-at : (ps : List Piece) (os : List Operand) (w : List ℕ) (c d : ℕ)
 quote-ends-at ps os w c d x e n =
     run-alike (AfterQuote ps os w) (AfterOperand ps (os ++ Quoted w ∷ [])) c x (cond-false (eqb c 39) _ _ (ap (λ v. eqb v 39) e ∙ n))
 
-quote-ends-behind : (ps : List Piece) (os : List Operand) (w before : List ℕ) (mark : ℕ) (x : List ℕ) → AreSpaces before
+quote-ends-suffix : (ps : List Piece) (os : List Operand) (w before : List ℕ) (mark : ℕ) (x : List ℕ) → AreSpaces before
     → (mark ≡ 124) ⊎ (mark ≡ 125)
     → run (AfterQuote ps os w) (before ++ mark ∷ x) ≡ run (AfterOperand ps (os ++ Quoted w ∷ [])) (before ++ mark ∷ x)
-quote-ends-behind ps os w [] mark x s (inl e) = quote-ends-at ps os w mark 124 x e refl
-quote-ends-behind ps os w [] mark x s (inr e) = quote-ends-at ps os w mark 125 x e refl
-quote-ends-behind ps os w (c ∷ before) mark x s m = quote-ends-at ps os w c 32 (before ++ mark ∷ x) s.0 refl
+quote-ends-suffix ps os w [] mark x s (inl e) = quote-ends-at ps os w mark 124 x e refl
+quote-ends-suffix ps os w [] mark x s (inr e) = quote-ends-at ps os w mark 125 x e refl
+quote-ends-suffix ps os w (c ∷ before) mark x s m = quote-ends-at ps os w c 32 (before ++ mark ∷ x) s.0 refl
 
 quote-ends : (ps : List Piece) (os : List Operand) (w x : List ℕ) → Stops x
     → run (AfterQuote ps os w) x ≡ run (AfterOperand ps (os ++ Quoted w ∷ [])) x
 quote-ends ps os w x h =
     ap (run (AfterQuote ps os w)) h.whole
-    ∙ (quote-ends-behind ps os w h.before h.mark h.rest h.spaces h.marked
+    ∙ (quote-ends-suffix ps os w h.before h.mark h.rest h.spaces h.marked
     ∙ ap (run (AfterOperand ps (os ++ Quoted w ∷ []))) (sym h.whole))
 
 -- the characters of a quoted text, and its closing quote
@@ -200,7 +200,7 @@ quoted-read ps os w [] x =
     run-some (InQuoted ps os w) (AfterQuote ps os w) 39 x refl ∙ ap (λ v. run (AfterQuote ps os v) x) (sym (append-nil w))
 quoted-read ps os w (c ∷ cs) x = quoted-char ps os w c cs x (eqb c 39) refl (λ v. quoted-read ps os v cs x)
 
-operand-read : (ps : List Piece) (os : List Operand) (text x : List ℕ) (o : Operand) → SpellsOperand text o → Stops x
+operand-read : (ps : List Piece) (os : List Operand) (text x : List ℕ) (o : Operand) → EncodesOperand text o → Stops x
     → run (OperandDue ps os) (text ++ x) ≡ run (AfterOperand ps (os ++ o ∷ [])) x
 operand-read ps os text x (Quoted value) h stop =
     ap (λ t. run (OperandDue ps os) (t ++ x)) h.whole
@@ -222,7 +222,7 @@ operand-read ps os text x (Reference (n ∷ ns)) h stop =
 joined-assoc : (a b n rest x : List ℕ) → ((a ++ 124 ∷ 124 ∷ (b ++ n)) ++ rest) ++ x ≡ a ++ (124 ∷ (124 ∷ (b ++ (n ++ (rest ++ x)))))
 joined-assoc a b n rest x = simp append_assoc
 
-more-stop : (text x : List ℕ) (os : List Operand) → SpellsMore text os → Stops x → Stops (text ++ x)
+more-stop : (text x : List ℕ) (os : List Operand) → EncodesMore text os → Stops x → Stops (text ++ x)
 more-stop text x [] h stop = rw h stop
 more-stop text x (o ∷ os) h stop =
     let j = h.3 in
@@ -235,7 +235,7 @@ more-stop text x (o ∷ os) h stop =
       whole = ap (λ t. t ++ x) (h.2 ∙ ap (λ f. f ++ h.1) j.whole) ∙ joined-assoc j.before j.between j.inner h.1 x;
     }
 
-more-read : (ps : List Piece) (os : List Operand) (text x : List ℕ) (more : List Operand) → SpellsMore text more → Stops x
+more-read : (ps : List Piece) (os : List Operand) (text x : List ℕ) (more : List Operand) → EncodesMore text more → Stops x
     → run (AfterOperand ps os) (text ++ x) ≡ run (AfterOperand ps (os ++ more)) x
 more-read ps os text x [] h stop = ap (λ t. run (AfterOperand ps os) (t ++ x)) h ∙ ap (λ v. run (AfterOperand ps v) x) (sym (append-nil os))
 more-read ps os text x (o ∷ more) h stop =
@@ -264,7 +264,7 @@ opening-read ps w x =
     ∙ (run-some (AfterDollar ps w) (AfterBrace ps w) 123 (123 ∷ x) refl
     ∙ run-some (AfterBrace ps w) (OperandDue (ps ++ plain_piece w) []) 123 x refl)
 
-braced-read : (ps : List Piece) (w text x : List ℕ) (o : Operand) (os : List Operand) → SpellsBraced text o os
+braced-read : (ps : List Piece) (w text x : List ℕ) (o : Operand) (os : List Operand) → EncodesBraced text o os
     → run (InText ps w) (text ++ x) ≡ run (InText ((ps ++ plain_piece w) ++ Braced (o ∷ os) ∷ []) []) x
 braced-read ps w text x o os h =
     let qs = ps ++ plain_piece w in
@@ -389,7 +389,7 @@ plain_piece-some [] h = absurd (h refl)
 plain_piece-some (c ∷ cs) h = plain_piece-append (encode_utf8 c) (encode_utf8_all cs) (encode-some c)
 
 -- a text whose template is empty or begins with a braced piece is empty or begins with `$`
-braced-begins : (text : List ℕ) (T : List Piece) → BeginsBraced T → SpellsPieces text T → MayEndText text
+braced-begins : (text : List ℕ) (T : List Piece) → BeginsBraced T → EncodesPieces text T → MayEndText text
 braced-begins text [] b h = rw h tt
 braced-begins text (Plain v ∷ T) b h = absurd b
 braced-begins text (Braced [] ∷ T) b h = absurd h.3
@@ -399,10 +399,10 @@ run-end : (ps : List Piece) (w : List ℕ) → run (InText ps w) [] ≡ Some (ps
 unfolding run
 run-end ps w = refl
 
-plain-word : (first v : List ℕ) → SpellsPlain first v → plain_piece (encode_utf8_all first) ≡ Plain v ∷ []
+plain-word : (first v : List ℕ) → EncodesPlain first v → plain_piece (encode_utf8_all first) ≡ Plain v ∷ []
 plain-word first v h = plain_piece-some first h.some ∙ ap (λ u. Plain u ∷ []) (sym h.valued)
 
-pub pieces-read : (ps : List Piece) (text : List ℕ) (T : List Piece) → SpellsPieces text T → run (InText ps []) text ≡ Some (ps ++ T)
+pub pieces-read : (ps : List Piece) (text : List ℕ) (T : List Piece) → EncodesPieces text T → run (InText ps []) text ≡ Some (ps ++ T)
 pieces-read ps text [] h = ap (run (InText ps [])) h ∙ run-end ps []
 pieces-read ps text (Braced [] ∷ T) h = absurd h.3
 pieces-read ps text (Braced (o ∷ os) ∷ T) h =

@@ -11,5 +11,5 @@ pub mod PropertyLemmas
 mod Rows
 pub mod RunLemmas
 pub mod Sound
-pub mod SpellLemmas
+pub mod EncodeLemmas
 pub mod States

@@ -28,14 +28,14 @@ encoded-opening before after =
     ∙ (ap (λ v. 36 ∷ (v ++ encode_utf8_all (123 ∷ after))) brace ∙ ap (λ v. 36 ∷ (123 ∷ (v ++ encode_utf8_all after))) brace))
 
 -- a `${{` among the characters is one among the bytes
-front-no_opening : (text front rest : List ℕ) → text ≡ front ++ rest → IsUtf8 front → LacksOpenings text (length front)
-    → HoldsNoOpening (chars front)
-front-no_opening text front rest split u lacks before after e =
+prefix-no_opening : (text prefix rest : List ℕ) → text ≡ prefix ++ rest → IsUtf8 prefix → LacksOpenings text (length prefix)
+    → HoldsNoOpening (chars prefix)
+prefix-no_opening text prefix rest split u lacks before after e =
     let b = encode_utf8_all before in
     let a = encode_utf8_all after in
-    let whole : front ≡ b ++ (36 ∷ (123 ∷ (123 ∷ a))) =
-    sym (encodes-chars front u) ∙ (ap encode_utf8_all e ∙ encoded-opening before after) in
-    let inside : length b < length front = omega (arith, ap length whole, length-append b (36 ∷ (123 ∷ (123 ∷ a)))) in
+    let whole : prefix ≡ b ++ (36 ∷ (123 ∷ (123 ∷ a))) =
+    sym (encodes-chars prefix u) ∙ (ap encode_utf8_all e ∙ encoded-opening before after) in
+    let inside : length b < length prefix = omega (arith, ap length whole, length-append b (36 ∷ (123 ∷ (123 ∷ a)))) in
     lacks (length b) inside (a ++ rest)
     (ap (drop (length b)) (split ∙ (ap (λ t. t ++ rest) whole ∙ append_assoc b (36 ∷ (123 ∷ (123 ∷ a))) rest))
     ∙ drop-append_seam b (36 ∷ (123 ∷ (123 ∷ (a ++ rest)))))
@@ -54,21 +54,21 @@ chars-opening [] = refl
 chars-opening (b ∷ bs) = refl
 
 -- text before a `${{`
-front-text : (front rest : List ℕ) → IsUtf8 front → HoldsNoOpening (chars front)
-    → pieces_of (front ++ (36 ∷ (123 ∷ (123 ∷ rest)))) ≡ run (OperandDue (plain_piece front) []) (chars rest)
-front-text front rest u h =
-    ap (run (InText [] [])) (chars-append front (36 ∷ (123 ∷ (123 ∷ rest))) u ∙ ap (λ t. chars front ++ t) (chars-opening rest))
-    ∙ (plain-read (chars front) (36 ∷ (123 ∷ (123 ∷ chars rest))) h refl [] []
-    ∙ (opening-read [] (encode_utf8_all (chars front)) (chars rest)
-    ∙ ap (λ w. run (OperandDue (plain_piece w) []) (chars rest)) (encodes-chars front u)))
+prefix-text : (prefix rest : List ℕ) → IsUtf8 prefix → HoldsNoOpening (chars prefix)
+    → pieces_of (prefix ++ (36 ∷ (123 ∷ (123 ∷ rest)))) ≡ run (OperandDue (plain_piece prefix) []) (chars rest)
+prefix-text prefix rest u h =
+    ap (run (InText [] [])) (chars-append prefix (36 ∷ (123 ∷ (123 ∷ rest))) u ∙ ap (λ t. chars prefix ++ t) (chars-opening rest))
+    ∙ (plain-read (chars prefix) (36 ∷ (123 ∷ (123 ∷ chars rest))) h refl [] []
+    ∙ (opening-read [] (encode_utf8_all (chars prefix)) (chars rest)
+    ∙ ap (λ w. run (OperandDue (plain_piece w) []) (chars rest)) (encodes-chars prefix u)))
 
 -- a prefix that ends before an ASCII character is UTF-8
-front-utf8 : (text front rest : List ℕ) (c : ℕ) → c < 128 → text ≡ front ++ (c ∷ rest) → IsUtf8 text → IsUtf8 front
-front-utf8 text front rest c low whole u =
-    let at : get_or text (length front) 0 ≡ c = ap (λ t. get_or t (length front) 0) whole ∙ get_or-append_seam front c rest 0 in
-    let within : length front < length text = omega (arith, ap length whole, length-append front (c ∷ rest)) in
-    let cut = IsCharBoundary-before_ascii text (length front) within (omega (arith, at, low)) in
-    subst IsUtf8 (ap (take (length front)) whole ∙ take_at front (c ∷ rest) (length front) refl) (IsUtf8-take text (length front) u cut)
+prefix-utf8 : (text prefix rest : List ℕ) (c : ℕ) → c < 128 → text ≡ prefix ++ (c ∷ rest) → IsUtf8 text → IsUtf8 prefix
+prefix-utf8 text prefix rest c low whole u =
+    let at : get_or text (length prefix) 0 ≡ c = ap (λ t. get_or t (length prefix) 0) whole ∙ get_or-append_seam prefix c rest 0 in
+    let within : length prefix < length text = omega (arith, ap length whole, length-append prefix (c ∷ rest)) in
+    let cut = IsCharBoundary-before_ascii text (length prefix) within (omega (arith, at, low)) in
+    subst IsUtf8 (ap (take (length prefix)) whole ∙ take_at prefix (c ∷ rest) (length prefix) refl) (IsUtf8-take text (length prefix) u cut)
 
 -- the pieces of a text, from the result of `split_once` at `${{`
 pub split-pieces : (text : List ℕ) (r : Option (Bor (List ℕ) × Bor (List ℕ))) → IsUtf8 text
@@ -77,11 +77,11 @@ pub split-pieces : (text : List ℕ) (r : Option (Bor (List ℕ) × Bor (List �
     → MatchOption r (pieces_of text ≡ Some (plain_piece text))
     (λ x. pieces_of text ≡ run (OperandDue (plain_piece x.0.now) []) (chars x.1.now))
 split-pieces text None u h =
-    plain-text text u (front-no_opening text text [] (sym (append-nil text)) u (λ i l. h i (omega (arith, l))))
+    plain-text text u (prefix-no_opening text text [] (sym (append-nil text)) u (λ i l. h i (omega (arith, l))))
 split-pieces text (Some x) u h =
-    let front = x.0.now in
+    let prefix = x.0.now in
     let rest = x.1.now in
-    let whole : text ≡ front ++ (36 ∷ (123 ∷ (123 ∷ rest))) = split_text_parts (codes "${{") text (Some x) h in
-    let v = front-utf8 text front (123 ∷ (123 ∷ rest)) 36 (lit< tt) whole u in
-    let plain = front-no_opening text front (36 ∷ (123 ∷ (123 ∷ rest))) whole v (λ i l. h.2.0 i (omega (arith, l, h.6))) in
-    ap pieces_of whole ∙ front-text front rest v plain
+    let whole : text ≡ prefix ++ (36 ∷ (123 ∷ (123 ∷ rest))) = split_text_parts (codes "${{") text (Some x) h in
+    let v = prefix-utf8 text prefix (123 ∷ (123 ∷ rest)) 36 (lit< tt) whole u in
+    let plain = prefix-no_opening text prefix (36 ∷ (123 ∷ (123 ∷ rest))) whole v (λ i l. h.2.0 i (omega (arith, l, h.6))) in
+    ap pieces_of whole ∙ prefix-text prefix rest v plain

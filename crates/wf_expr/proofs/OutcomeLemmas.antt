@@ -5,14 +5,14 @@ use Rattle.std.specs.Prelude.{Option, Some, None, Result, Ok, Err, IfOk, IfErr}
 use Rattle.wf_value.specs.declared.refusal.Refusal.{Refusal}
 use Rattle.wf_value.specs.Gives.{Gives, no_memory}
 use Rattle.wf_expr.specs.Faults.{wrong_expression, wrong_place}
-use Rattle.wf_expr.specs.Outcome.{IsOutcome, SpellsNone, SpellsElsewhere}
+use Rattle.wf_expr.specs.Outcome.{IsOutcome, EncodesNone, EncodesElsewhere}
 use Rattle.wf_expr.specs.Parsing.{is_in_profile, is_allowed_in, judged, template_of}
-use Rattle.wf_expr.specs.Profile.{Spells, IsInProfile, AllowedIn}
+use Rattle.wf_expr.specs.Profile.{Encodes, IsInProfile, AllowedIn}
 use Rattle.wf_expr.specs.Reading.{needed, pieces_of}
 use Rattle.wf_expr.specs.declared.piece.Piece.{Piece}
 use Rattle.wf_expr.specs.declared.place.ContextSite.{ContextSite}
 use Rattle.wf_expr.proofs.ProfileLemmas.{Decides-profile, Decides-allowed_in}
-use Rattle.wf_expr.proofs.SpellLemmas.{spelled-read, read-spelled}
+use Rattle.wf_expr.proofs.EncodeLemmas.{spelled-read, read-spelled}
 
 -- ---- deciding the outcome of a parsed text
 off : {P : Type 0} (b : Bool) → Decides b P → ¬ P → b ≡ false
@@ -64,10 +64,10 @@ given text place None e = inl (refl, λ t s. let ok = spelled-read text t s in c
 given text place (Some t) e = judged-outcome text place t (ap needed e) (is_in_profile t) (is_allowed_in place t) refl refl
 
 -- each outcome by the grammar is the function's answer
-read-of : (text : List ℕ) (t : List Piece) → Spells text t → pieces_of text ≡ Some t
+read-of : (text : List ℕ) (t : List Piece) → Encodes text t → pieces_of text ≡ Some t
 read-of text t s = read-some (pieces_of text) t (spelled-read text t s)
 
-unspelled : (text : List ℕ) (place : ContextSite) (o : Option (List Piece)) → pieces_of text ≡ o → SpellsNone text
+unspelled : (text : List ℕ) (place : ContextSite) (o : Option (List Piece)) → pieces_of text ≡ o → EncodesNone text
     → judged place o ≡ Err wrong_expression
 unspelled text place None e n = refl
 unspelled text place (Some t) e n = judged-off place t (λ p. n t (read-spelled text t (ap needed e) p))
@@ -100,19 +100,19 @@ when-outcome text place r g outcome o =
     subst P (computed text place outcome o) g
 
 pub when-ok : (text : List ℕ) (place : ContextSite) (r : Result (List Piece) Refusal) → GivesIt text place r
-    → IfOk r (λ t. Spells text t × AllowedIn place t)
+    → IfOk r (λ t. Encodes text t × AllowedIn place t)
 when-ok text place (Ok t) g = outcome-of text place (Ok t) g
 when-ok text place (Err e) g = tt
 
 pub only-expression : (text : List ℕ) (place : ContextSite) (r : Result (List Piece) Refusal) → GivesIt text place r → r ≡ Err wrong_expression
-    → SpellsNone text
+    → EncodesNone text
 only-expression text place (Ok t) g h = cc
 only-expression text place (Err e) (inl m) h = let same : e ≡ wrong_expression = cc in cc
 only-expression text place (Err e) (inr g) h =
     elim (outcome-of text place (Err e) g) [ inl p ↦ p.1 | inr p ↦ let same : e ≡ wrong_expression = cc in let other = p.0 in cc ]
 
 pub only-place : (text : List ℕ) (place : ContextSite) (r : Result (List Piece) Refusal) → GivesIt text place r → r ≡ Err wrong_place
-    → SpellsElsewhere text place
+    → EncodesElsewhere text place
 only-place text place (Ok t) g h = cc
 only-place text place (Err e) (inl m) h = let same : e ≡ wrong_place = cc in cc
 only-place text place (Err e) (inr g) h =

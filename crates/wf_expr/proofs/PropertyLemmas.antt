@@ -14,7 +14,7 @@ use Rattle.std.specs.Ordering.{nat_cmp, is_eq}
 use Rattle.std.specs.String.{string_bytes, string_cmp}
 use Rattle.std.proofs.lemmas.Map.Text.{btree_map_updates_text}
 use Rattle.wf_value.specs.declared.scalar.Scalar.{Scalar}
-use Rattle.wf_expr.specs.Properties.{value_at, AreSame, DifferAt, DifferBehind}
+use Rattle.wf_expr.specs.Properties.{value_at, AreSame, DifferAt, DifferAfter}
 use Rattle.wf_expr.specs.declared.properties.Properties.{Properties}
 use Rattle.wf_expr.specs.declared.properties.Properties.TheOpen.{Properties-F}
 use Rattle.wf_expr.specs.declared.properties.Properties.TheViews.{out-Properties, roll-Properties, out-roll-Properties}
@@ -78,13 +78,13 @@ first-and-rest (n ∷ ns) name h e =
     ap (λ m. m ∷ ns) (sym e) ∙ ap (λ m. name ∷ m) (sym (ap (λ k. take k ns) all ∙ take-length ns))
 
 -- the paths that do not begin with the name
-pub behind-others : (after before : Properties) (name : List ℕ) (inner : Option Properties) → ChangesAt after before name inner
-    → DifferBehind name after before
-behind-others after before name inner h [] n = h.itself
-behind-others after before name inner h (first ∷ p) n = miss after before name inner h first p (λ e. n (p, ap (λ m. m ∷ p) e))
+pub suffix-others : (after before : Properties) (name : List ℕ) (inner : Option Properties) → ChangesAt after before name inner
+    → DifferAfter name after before
+suffix-others after before name inner h [] n = h.itself
+suffix-others after before name inner h (first ∷ p) n = miss after before name inner h first p (λ e. n (p, ap (λ m. m ∷ p) e))
 
 -- the paths that begin with the name
-differ-within : (after before : Properties) (name : List ℕ) (more : List (List ℕ)) → DifferBehind name after before
+differ-within : (after before : Properties) (name : List ℕ) (more : List (List ℕ)) → DifferAfter name after before
     → ((p : List (List ℕ)) → p ≢ more → value_at after (name ∷ p) ≡ value_at before (name ∷ p)) → DifferAt (name ∷ more) after before
 differ-within after before name more others within [] n = others [] (λ b. let e = b.1 in cc)
 differ-within after before name more others within (first ∷ p) n =
@@ -99,7 +99,7 @@ differ-within after before name more others within (first ∷ p) n =
 pub changed-others : (after before new old : Properties) (name : List ℕ) (more : List (List ℕ)) → ChangesAt after before name (Some new)
     → inner_at before name ≡ Some old → DifferAt more new old → DifferAt (name ∷ more) after before
 changed-others after before new old name more h was d =
-    differ-within after before name more (behind-others after before name (Some new) h)
+    differ-within after before name more (suffix-others after before name (Some new) h)
     (λ p n. hit after before name (Some new) h p ∙ (d p n ∙ ap (λ t. given t p) (sym was)))
 
 pub changed-same : (after before new old : Properties) (name : List ℕ) → ChangesAt after before name (Some new)
@@ -115,7 +115,7 @@ changed-same after before new old name h was s (first ∷ p) =
     ]
 
 -- a tree of one path, added at a name that had no inner tree
-pub nested-others : (after before new : Properties) (name : List ℕ) (more : List (List ℕ)) → DifferBehind name after before
+pub nested-others : (after before new : Properties) (name : List ℕ) (more : List (List ℕ)) → DifferAfter name after before
     → ((p : List (List ℕ)) → value_at after (name ∷ p) ≡ value_at new p) → ((p : List (List ℕ)) → p ≢ more → value_at new p ≡ None)
     → inner_at before name ≡ None → DifferAt (name ∷ more) after before
 nested-others after before new name more others within alone none =
@@ -190,7 +190,7 @@ alone-others parts (m ∷ ms) h none p n = absurd (omega arith)
 
 -- a tree of one path under a name
 pub made-others : (after before new : Properties) (name : List ℕ) (more path : List (List ℕ)) → path ≡ name ∷ more
-    → ((p : List (List ℕ)) → value_at before p ≡ None) → DifferBehind name after before
+    → ((p : List (List ℕ)) → value_at before p ≡ None) → DifferAfter name after before
     → ((p : List (List ℕ)) → value_at after (name ∷ p) ≡ value_at new p) → ((p : List (List ℕ)) → p ≢ more → value_at new p ≡ None)
     → (p : List (List ℕ)) → p ≢ path → value_at after p ≡ None
 made-others after before new name more path is empty others within alone p n =

@@ -9,7 +9,7 @@ use Rattle.wf_value.specs.declared.refusal.Refusal.TheVariants.{Numbered}
 use Rattle.wf_expr.specs.declared.piece.Piece.{Piece}
 use Rattle.wf_expr.specs.declared.reader.Reader.{Reader}
 use Rattle.wf_expr.specs.Reading.{needed, taken, ended, run}
-use Rattle.wf_expr.proofs.SpellLemmas.{needed-ok}
+use Rattle.wf_expr.proofs.EncodeLemmas.{needed-ok}
 
 needed-none : {X : Type 0} (o : Option X) (e : Refusal) → needed o ≡ Err e → (o ≡ None) × (Numbered Expression ≡ e)
 needed-none None e h = (refl, cc)

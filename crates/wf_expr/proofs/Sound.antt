@@ -7,8 +7,8 @@ use Rattle.std.specs.Str.{encode_utf8_all}
 use Rattle.std.specs.Char.{encode_utf8}
 use Rattle.std.proofs.lemmas.Str.{encode_ascii}
 use Rattle.wf_expr.specs.Letters.{begins_name, continues_name}
-use Rattle.wf_expr.specs.Grammar.{AreSpaces, SpellsDotted, SpellsNames, doubled, SpellsJoined, SpellsMore, SpellsBraced, HoldsNoOpening}
-use Rattle.wf_expr.specs.Grammar.{SpellsPlain, SpellsPieces, BeginsBraced}
+use Rattle.wf_expr.specs.Grammar.{AreSpaces, EncodesDotted, EncodesNames, doubled, EncodesJoined, EncodesMore, EncodesBraced, HoldsNoOpening}
+use Rattle.wf_expr.specs.Grammar.{EncodesPlain, EncodesPieces, BeginsBraced}
 use Rattle.wf_expr.specs.Reading.{taken, ended, run, plain_piece, after_name, after_operand, in_text}
 use Rattle.wf_expr.specs.declared.piece.Operand.{Operand}
 use Rattle.wf_expr.specs.declared.piece.Operand.TheVariants.{Quoted, Reference}
@@ -23,7 +23,7 @@ use Rattle.wf_expr.proofs.States.{Rest, next, no_opening-cons, no_opening-nil, s
 
 -- one more space in front
 space-operands : (ps : List Piece) (os more_os : List Operand) (more after rest text : List ℕ) (pieces T : List Piece)
-    → SpellsMore more more_os → AreSpaces after → SpellsPieces rest pieces → text ≡ more ++ (after ++ (125 ∷ (125 ∷ rest)))
+    → EncodesMore more more_os → AreSpaces after → EncodesPieces rest pieces → text ≡ more ++ (after ++ (125 ∷ (125 ∷ rest)))
     → T ≡ ps ++ (Braced (os ++ more_os) ∷ pieces) → FromAfterOperand ps os (32 ∷ text) T
 space-operands ps os [] more after rest text pieces T are spaces spelled whole made = record {
   more = [];
@@ -39,7 +39,7 @@ space-operands ps os [] more after rest text pieces T are spaces spelled whole m
 }
 space-operands ps os (o ∷ more_os) more after rest text pieces T are spaces spelled whole made =
     let j = are.3 in
-    let joined : SpellsJoined (32 ∷ are.0) o =
+    let joined : EncodesJoined (32 ∷ are.0) o =
     record {
       before = 32 ∷ j.before;
       between = j.between;
@@ -68,7 +68,7 @@ space-after_operand ps os text T f =
     space-operands ps os f.operands f.more f.after f.rest text f.pieces T f.are_more f.spaces f.spelled f.whole f.made
 
 space-names : (ps : List Piece) (os : List Operand) (names more : List (List ℕ)) (dotted rest text : List ℕ) (T : List Piece)
-    → SpellsNames dotted more → text ≡ dotted ++ rest → FromAfterOperand ps (os ++ Reference (names ++ more) ∷ []) rest T
+    → EncodesNames dotted more → text ≡ dotted ++ rest → FromAfterOperand ps (os ++ Reference (names ++ more) ∷ []) rest T
     → FromAfterName ps os names (32 ∷ text) T
 space-names ps os names [] dotted rest text T are whole goes_on = record {
   dotted = [];
@@ -80,7 +80,7 @@ space-names ps os names [] dotted rest text T are whole goes_on = record {
 }
 space-names ps os names (n ∷ more) dotted rest text T are whole goes_on =
     let d = are.3 in
-    let spaced : SpellsDotted (32 ∷ are.0) n =
+    let spaced : EncodesDotted (32 ∷ are.0) n =
     record {
       before = 32 ∷ d.before;
       between = d.between;
@@ -132,7 +132,7 @@ dot-after_name ps os names text T f =
     let g = f.goes_on in
     let n = encode_utf8_all f.letters in
     let first : List ℕ = 46 ∷ (f.before ++ f.letters) in
-    let dotted : SpellsDotted first n =
+    let dotted : EncodesDotted first n =
     record {
       before = [];
       between = f.before;
@@ -332,7 +332,7 @@ step-after_bar ps os c text T ih true e h =
     let k = ih (OperandDue ps os) h in
     let g = k.goes_on in
     let first : List ℕ = 124 ∷ (124 ∷ (k.before ++ k.inner)) in
-    let joined : SpellsJoined first k.operand =
+    let joined : EncodesJoined first k.operand =
     record {
       before = [];
       between = k.before;
@@ -360,21 +360,21 @@ step-after_bar ps os c text T ih false e h = none-not T (FromAfterOperand ps os 
 -- the pieces of a text that follows an empty word
 record Pieces (ps : List Piece) (text : List ℕ) (T : List Piece) : Type 0 where
   pieces : List Piece
-  spelled : SpellsPieces text pieces
+  spelled : EncodesPieces text pieces
   made : T ≡ ps ++ pieces
 
 pieces-with : (ps : List Piece) (plain rest text : List ℕ) (more T : List Piece) → HoldsNoOpening plain → BeginsBraced more
-    → SpellsPieces rest more → text ≡ plain ++ rest → T ≡ ps ++ (plain_piece (encode_utf8_all plain) ++ more) → Pieces ps text T
+    → EncodesPieces rest more → text ≡ plain ++ rest → T ≡ ps ++ (plain_piece (encode_utf8_all plain) ++ more) → Pieces ps text T
 pieces-with ps [] rest text more T no_opening begins spelled whole made = record {
   pieces = more;
-  spelled = let P : List ℕ → Type 0 = λ t. SpellsPieces t more in subst P (sym whole) spelled;
+  spelled = let P : List ℕ → Type 0 = λ t. EncodesPieces t more in subst P (sym whole) spelled;
   made = made;
 }
 pieces-with ps (c ∷ plain) rest text more T no_opening begins spelled whole made =
     let all : List ℕ = c ∷ plain in
     let some : all ≢ [] = λ e. cc in
     let v = encode_utf8_all all in
-    let is_plain : SpellsPlain all v = record { some = some; no_opening = no_opening; valued = refl } in
+    let is_plain : EncodesPlain all v = record { some = some; no_opening = no_opening; valued = refl } in
     record {
       pieces = Plain v ∷ more;
       spelled = (all, rest, whole, is_plain, begins, spelled);
@@ -409,7 +409,7 @@ open-braced ps w text T k =
     let g = k.goes_on in
     let os = k.operand ∷ g.operands in
     let first : List ℕ = 36 ∷ (123 ∷ (123 ∷ (k.before ++ (k.inner ++ (g.more ++ (g.after ++ (125 ∷ (125 ∷ [])))))))) in
-    let braced : SpellsBraced first k.operand g.operands =
+    let braced : EncodesBraced first k.operand g.operands =
     record {
       before = k.before;
       inner = k.inner;
@@ -507,8 +507,8 @@ sound [] T r h = sound-end r T h
 sound (c ∷ text) T r h = sound-step r c text T (sound text T) h
 
 -- the grammar accepts what parses
-pub read-spells : (text : List ℕ) (T : List Piece) → run (InText [] []) text ≡ Some T → SpellsPieces text T
+pub read-spells : (text : List ℕ) (T : List Piece) → run (InText [] []) text ≡ Some T → EncodesPieces text T
 read-spells text T h =
     let f = pieces-from_text [] text T (sound text T (InText [] []) h) in
-    let P : List Piece → Type 0 = λ t. SpellsPieces text t in
+    let P : List Piece → Type 0 = λ t. EncodesPieces text t in
     subst P (sym f.made) f.spelled

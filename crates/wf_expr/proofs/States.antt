@@ -8,7 +8,7 @@ use Rattle.std.specs.Str.{encode_utf8_all}
 use Rattle.std.specs.Char.{encode_utf8}
 use Rattle.std.proofs.lemmas.Str.{encode_ascii}
 use Rattle.wf_expr.specs.Letters.{continues_name}
-use Rattle.wf_expr.specs.Grammar.{AreSpaces, IsName, SpellsNames, doubled, SpellsOperand, SpellsMore, HoldsNoOpening, SpellsPieces}
+use Rattle.wf_expr.specs.Grammar.{AreSpaces, IsName, EncodesNames, doubled, EncodesOperand, EncodesMore, HoldsNoOpening, EncodesPieces}
 use Rattle.wf_expr.specs.Grammar.{BeginsBraced}
 use Rattle.wf_expr.specs.Reading.{run, plain_piece, in_text}
 use Rattle.wf_expr.specs.declared.piece.Operand.{Operand}
@@ -25,7 +25,7 @@ pub record FromText (ps : List Piece) (w text : List ℕ) (T : List Piece) : Typ
   pub more : List Piece
   pub no_opening : HoldsNoOpening plain
   pub begins : BeginsBraced more
-  pub spelled : SpellsPieces rest more
+  pub spelled : EncodesPieces rest more
   pub whole : text ≡ plain ++ rest
   pub made : T ≡ ps ++ (plain_piece (w ++ encode_utf8_all plain) ++ more)
 
@@ -35,9 +35,9 @@ pub record FromAfterOperand (ps : List Piece) (os : List Operand) (text : List �
   pub rest : List ℕ
   pub operands : List Operand
   pub pieces : List Piece
-  pub are_more : SpellsMore more operands
+  pub are_more : EncodesMore more operands
   pub spaces : AreSpaces after
-  pub spelled : SpellsPieces rest pieces
+  pub spelled : EncodesPieces rest pieces
   pub whole : text ≡ more ++ (after ++ (125 ∷ (125 ∷ rest)))
   pub made : T ≡ ps ++ (Braced (os ++ operands) ∷ pieces)
 
@@ -47,7 +47,7 @@ pub record FromOperand (ps : List Piece) (os : List Operand) (text : List ℕ) (
   pub rest : List ℕ
   pub operand : Operand
   pub spaces : AreSpaces before
-  pub is_operand : SpellsOperand inner operand
+  pub is_operand : EncodesOperand inner operand
   pub whole : text ≡ before ++ (inner ++ rest)
   pub goes_on : FromAfterOperand ps (os ++ operand ∷ []) rest T
 
@@ -55,7 +55,7 @@ pub record FromAfterName (ps : List Piece) (os : List Operand) (names : List (Li
   pub dotted : List ℕ
   pub rest : List ℕ
   pub more : List (List ℕ)
-  pub are_names : SpellsNames dotted more
+  pub are_names : EncodesNames dotted more
   pub whole : text ≡ dotted ++ rest
   pub goes_on : FromAfterOperand ps (os ++ Reference (names ++ more) ∷ []) rest T
 

@@ -69,12 +69,12 @@ before_true values [] = []
 before_true values (o ∷ os) = if is_truthy (operand_value values o) then [] else o ∷ before_true values os
 
 -- the needs that the operands look up, in order, up to the first operand whose known value is truthy
-abbrev pub asked_needs : Values → NeedOf → List Operand → List ℕ
-asked_needs known need_of operands = filter_map (need_of_operand need_of) (before_true (with_results known need_of no_results) operands)
+abbrev pub referenced_needs : Values → NeedOf → List Operand → List ℕ
+referenced_needs known need_of operands = filter_map (need_of_operand need_of) (before_true (with_results known need_of no_results) operands)
 
 abbrev pub needs_of_piece : Values → NeedOf → Piece → List ℕ
 needs_of_piece known need_of (Plain text) = []
-needs_of_piece known need_of (Braced operands) = asked_needs known need_of operands
+needs_of_piece known need_of (Braced operands) = referenced_needs known need_of operands
 
 -- those needs, and the text of the piece if none of them has a result
 abbrev pub bound_piece : Values → NeedOf → Piece → BoundPiece

@@ -15,7 +15,7 @@ folded Sensitive text = text
 folded Insensitive text = lowered text
 
 -- the rest of a text after a prefix; None if the text does not begin with the prefix
-abbrev pub IsBehind : Case → List ℕ → List ℕ → Option (List ℕ) → Type 0
-IsBehind case front text rest =
-    (more : List ℕ) → (folded case (front ++ more) ≡ folded case text)
+abbrev pub IsRestAfter : Case → List ℕ → List ℕ → Option (List ℕ) → Type 0
+IsRestAfter case prefix text rest =
+    (more : List ℕ) → (folded case (prefix ++ more) ≡ folded case text)
     ↔ MatchOption rest ⊥ (λ r. folded case more ≡ folded case r)

@@ -19,7 +19,7 @@ IsName [] = ⊥
 IsName (c ∷ cs) = IsTrue (begins_name c) × AllByRecursion (λ d. IsTrue (continues_name d)) cs
 
 -- a dot and a name, each after optional spaces
-pub record SpellsDotted (text name : List ℕ) : Type 0 where
+pub record EncodesDotted (text name : List ℕ) : Type 0 where
   pub before : List ℕ
   pub between : List ℕ
   pub letters : List ℕ
@@ -30,17 +30,17 @@ pub record SpellsDotted (text name : List ℕ) : Type 0 where
   pub whole : text ≡ before ++ 46 ∷ (between ++ letters)
 
 -- a sequence of dotted names
-abbrev pub SpellsNames : List ℕ → List (List ℕ) → Type 0
-SpellsNames text [] = text ≡ []
-SpellsNames text (n ∷ ns) = (first rest : List ℕ) × (text ≡ first ++ rest) × SpellsDotted first n × SpellsNames rest ns
+abbrev pub EncodesNames : List ℕ → List (List ℕ) → Type 0
+EncodesNames text [] = text ≡ []
+EncodesNames text (n ∷ ns) = (first rest : List ℕ) × (text ≡ first ++ rest) × EncodesDotted first n × EncodesNames rest ns
 
 -- the name of a context, followed by dotted names
-pub record SpellsReference (text name : List ℕ) (names : List (List ℕ)) : Type 0 where
+pub record EncodesReference (text name : List ℕ) (names : List (List ℕ)) : Type 0 where
   pub letters : List ℕ
   pub rest : List ℕ
   pub is_name : IsName letters
   pub named : name ≡ encode_utf8_all letters
-  pub dotted : SpellsNames rest names
+  pub dotted : EncodesNames rest names
   pub whole : text ≡ letters ++ rest
 
 -- the text with each `'` doubled
@@ -49,41 +49,41 @@ doubled [] = []
 doubled (c ∷ cs) = if c == 39 then 39 ∷ 39 ∷ doubled cs else c ∷ doubled cs
 
 -- a text in single quotes, with each inner quote doubled
-pub record SpellsQuoted (text value : List ℕ) : Type 0 where
+pub record EncodesQuoted (text value : List ℕ) : Type 0 where
   pub inner : List ℕ
   pub valued : value ≡ encode_utf8_all inner
   pub whole : text ≡ 39 ∷ (doubled inner ++ 39 ∷ [])
 
-abbrev pub SpellsOperand : List ℕ → Operand → Type 0
-SpellsOperand text (Quoted value) = SpellsQuoted text value
-SpellsOperand text (Reference []) = ⊥
-SpellsOperand text (Reference (n ∷ ns)) = SpellsReference text n ns
+abbrev pub EncodesOperand : List ℕ → Operand → Type 0
+EncodesOperand text (Quoted value) = EncodesQuoted text value
+EncodesOperand text (Reference []) = ⊥
+EncodesOperand text (Reference (n ∷ ns)) = EncodesReference text n ns
 
 -- `||` and an operand, each after optional spaces
-pub record SpellsJoined (text : List ℕ) (operand : Operand) : Type 0 where
+pub record EncodesJoined (text : List ℕ) (operand : Operand) : Type 0 where
   pub before : List ℕ
   pub between : List ℕ
   pub inner : List ℕ
   pub spaces_before : AreSpaces before
   pub spaces_between : AreSpaces between
-  pub is_operand : SpellsOperand inner operand
+  pub is_operand : EncodesOperand inner operand
   pub whole : text ≡ before ++ 124 ∷ 124 ∷ (between ++ inner)
 
 -- a sequence of joined operands
-abbrev pub SpellsMore : List ℕ → List Operand → Type 0
-SpellsMore text [] = text ≡ []
-SpellsMore text (o ∷ os) = (first rest : List ℕ) × (text ≡ first ++ rest) × SpellsJoined first o × SpellsMore rest os
+abbrev pub EncodesMore : List ℕ → List Operand → Type 0
+EncodesMore text [] = text ≡ []
+EncodesMore text (o ∷ os) = (first rest : List ℕ) × (text ≡ first ++ rest) × EncodesJoined first o × EncodesMore rest os
 
 -- `${{`, one or more operands joined by `||`, and `}}`, with optional spaces between them
-pub record SpellsBraced (text : List ℕ) (operand : Operand) (operands : List Operand) : Type 0 where
+pub record EncodesBraced (text : List ℕ) (operand : Operand) (operands : List Operand) : Type 0 where
   pub before : List ℕ
   pub inner : List ℕ
   pub more : List ℕ
   pub after : List ℕ
   pub spaces_before : AreSpaces before
   pub spaces_after : AreSpaces after
-  pub is_operand : SpellsOperand inner operand
-  pub are_more : SpellsMore more operands
+  pub is_operand : EncodesOperand inner operand
+  pub are_more : EncodesMore more operands
   pub whole : text ≡ 36 ∷ 123 ∷ 123 ∷ (before ++ (inner ++ (more ++ (after ++ 125 ∷ 125 ∷ []))))
 
 -- the characters contain no `${{`
@@ -91,15 +91,15 @@ abbrev pub HoldsNoOpening : List ℕ → Type 0
 HoldsNoOpening cs = (before after : List ℕ) → cs ≢ before ++ 36 ∷ 123 ∷ 123 ∷ after
 
 -- non-empty plain text without `${{`
-pub record SpellsPlain (text value : List ℕ) : Type 0 where
+pub record EncodesPlain (text value : List ℕ) : Type 0 where
   pub some : text ≢ []
   pub no_opening : HoldsNoOpening text
   pub valued : value ≡ encode_utf8_all text
 
-abbrev pub SpellsPiece : List ℕ → Piece → Type 0
-SpellsPiece text (Plain value) = SpellsPlain text value
-SpellsPiece text (Braced []) = ⊥
-SpellsPiece text (Braced (o ∷ os)) = SpellsBraced text o os
+abbrev pub EncodesPiece : List ℕ → Piece → Type 0
+EncodesPiece text (Plain value) = EncodesPlain text value
+EncodesPiece text (Braced []) = ⊥
+EncodesPiece text (Braced (o ∷ os)) = EncodesBraced text o os
 
 -- plain text is a single piece: no plain piece follows another
 abbrev pub BeginsBraced : List Piece → Type 0
@@ -112,7 +112,7 @@ MayFollow (Plain value) ps = BeginsBraced ps
 MayFollow (Braced os) ps = Unit {0}
 
 -- a sequence of pieces
-abbrev pub SpellsPieces : List ℕ → List Piece → Type 0
-SpellsPieces text [] = text ≡ []
-SpellsPieces text (p ∷ ps) =
-    (first rest : List ℕ) × (text ≡ first ++ rest) × SpellsPiece first p × MayFollow p ps × SpellsPieces rest ps
+abbrev pub EncodesPieces : List ℕ → List Piece → Type 0
+EncodesPieces text [] = text ≡ []
+EncodesPieces text (p ∷ ps) =
+    (first rest : List ℕ) × (text ≡ first ++ rest) × EncodesPiece first p × MayFollow p ps × EncodesPieces rest ps

@@ -2,20 +2,20 @@
 use Rattle.std.specs.Prelude.{◌≡◌, ◌⊎◌, ℕ, List, Result, Ok, Err}
 use Rattle.wf_value.specs.declared.refusal.Refusal.{Refusal}
 use Rattle.wf_expr.specs.Faults.{wrong_expression, wrong_place}
-use Rattle.wf_expr.specs.Profile.{Spells, AllowedIn}
+use Rattle.wf_expr.specs.Profile.{Encodes, AllowedIn}
 use Rattle.wf_expr.specs.declared.piece.Piece.{Piece}
 use Rattle.wf_expr.specs.declared.place.ContextSite.{ContextSite}
 
 -- the text is not a template
-abbrev pub SpellsNone : List ℕ → Type 0
-SpellsNone text = (t : List Piece) → ¬ (Spells text t)
+abbrev pub EncodesNone : List ℕ → Type 0
+EncodesNone text = (t : List Piece) → ¬ (Encodes text t)
 
 -- the text is a template with a context that the place does not allow
-abbrev pub SpellsElsewhere : List ℕ → ContextSite → Type 0
-SpellsElsewhere text place = (t : List Piece) × Spells text t × (¬ (AllowedIn place t))
+abbrev pub EncodesElsewhere : List ℕ → ContextSite → Type 0
+EncodesElsewhere text place = (t : List Piece) × Encodes text t × (¬ (AllowedIn place t))
 
 -- the template, if the text is one and the place allows its contexts; 17 if the text is not a template; 18 if it is a template with
 -- a context that the place does not allow
 abbrev pub IsOutcome : List ℕ → ContextSite → Result (List Piece) Refusal → Type 0
-IsOutcome text place (Ok t) = Spells text t × AllowedIn place t
-IsOutcome text place (Err e) = ((e ≡ wrong_expression) × SpellsNone text) ⊎ ((e ≡ wrong_place) × SpellsElsewhere text place)
+IsOutcome text place (Ok t) = Encodes text t × AllowedIn place t
+IsOutcome text place (Err e) = ((e ≡ wrong_expression) × EncodesNone text) ⊎ ((e ≡ wrong_place) × EncodesElsewhere text place)

@@ -1,7 +1,7 @@
 -- The contexts and paths that a template may use. GitHub Docs, "Contexts reference" (About contexts, Context availability).
 use Rattle.std.specs.Prelude.{◌≡◌, ◌⊎◌, ◌≤◌, ℕ, List, [], ◌∷◌, Bool, true, false, codes, All, sum_by, count_by}
 use Rattle.std.specs.Str.{chars}
-use Rattle.wf_expr.specs.Grammar.{SpellsPieces}
+use Rattle.wf_expr.specs.Grammar.{EncodesPieces}
 use Rattle.wf_expr.specs.declared.place.ContextSite.{ContextSite}
 use Rattle.wf_expr.specs.declared.place.ContextSite.TheVariants.{Workflow, Job}
 use Rattle.wf_expr.specs.declared.piece.Operand.{Operand}
@@ -57,8 +57,8 @@ pub record IsInProfile (pieces : List Piece) : Type 0 where
   pub few : sum_by reference_count pieces ≤ 32
 
 -- the text is the source of the template
-pub record Spells (text : List ℕ) (pieces : List Piece) : Type 0 where
-  pub grammar : SpellsPieces (chars text) pieces
+pub record Encodes (text : List ℕ) (pieces : List Piece) : Type 0 where
+  pub grammar : EncodesPieces (chars text) pieces
   pub profile : IsInProfile pieces
 
 -- the place allows each context

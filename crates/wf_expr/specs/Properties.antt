@@ -24,5 +24,5 @@ abbrev pub BeginsWith : List ℕ → List (List ℕ) → Type 0
 BeginsWith name path = (rest : List (List ℕ)) × (path ≡ name ∷ rest)
 
 -- both have the same value for each path that does not begin with the name
-abbrev pub DifferBehind : List ℕ → Properties → Properties → Type 0
-DifferBehind name one other = (path : List (List ℕ)) → ¬ (BeginsWith name path) → value_at one path ≡ value_at other path
+abbrev pub DifferAfter : List ℕ → Properties → Properties → Type 0
+DifferAfter name one other = (path : List (List ℕ)) → ¬ (BeginsWith name path) → value_at one path ≡ value_at other path

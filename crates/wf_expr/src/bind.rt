@@ -2,7 +2,7 @@ ghost use Rattle.std.specs.Prelude.{◌≡◌, ◌↔◌, codes, List, Ok, IfOk}
 ghost use Rattle.wf_value.specs.Gives.{Gives};
 ghost use Rattle.wf_value.specs.ScalarValue.{scalar_text};
 ghost use Rattle.wf_value.specs.declared.scalar.Scalar.{Scalar};
-ghost use Rattle.wf_expr.specs.Bound.{HasResults, Results, asked_needs, bound_of, bound_piece, bound_text, need_of_operand, needs_of_piece};
+ghost use Rattle.wf_expr.specs.Bound.{HasResults, Results, referenced_needs, bound_of, bound_piece, bound_text, need_of_operand, needs_of_piece};
 ghost use Rattle.wf_expr.specs.ContextValue.{Values};
 ghost use Rattle.wf_expr.specs.FlagValue.{SetsFlag};
 ghost use Rattle.wf_expr.specs.TemplateValue.{template_value};
@@ -48,24 +48,24 @@ fn need_of_operand<N: Needs>(operand: &Operand, needs: &N) -> Option<usize>
 }
 
 /// The needs that the operands look up, in order, up to the first operand whose known value is truthy.
-fn asked_needs<'a, C: Context, N: Needs>(
+fn referenced_needs<'a, C: Context, N: Needs>(
     alloc: Global,
     operands: &'a [Operand],
     known: &'a Known<'a, C, N>,
 ) -> Result<Vec<usize>, Refusal>
     ensures { Gives (λ v. v.items) result
-        (Ok (asked_needs (C.values known.now.context.now) (N.need_of known.now.needs.now) operands.now)) }
+        (Ok (referenced_needs (C.values known.now.context.now) (N.need_of known.now.needs.now) operands.now)) }
 {
-    let mut asked = Vec::new(alloc);
+    let mut referenced = Vec::new(alloc);
     for operand in operands {
         if operand_value(operand, known).truthy() {
-            return Ok(asked);
+            return Ok(referenced);
         }
         if let Some(need) = need_of_operand(operand, known.needs) {
-            asked.push(need)?;
+            referenced.push(need)?;
         }
     }
-    Ok(asked)
+    Ok(referenced)
 }
 
 fn needs_of_piece<'a, C: Context, N: Needs>(
@@ -78,7 +78,7 @@ fn needs_of_piece<'a, C: Context, N: Needs>(
 {
     match piece {
         Piece::Plain(_) => Ok(Vec::new(alloc)),
-        Piece::Braced(operands) => asked_needs(alloc, operands.as_slice(), known),
+        Piece::Braced(operands) => referenced_needs(alloc, operands.as_slice(), known),
     }
 }
 

@@ -32,7 +32,7 @@ fn first_result<R: NeedResults>(needs: &[usize], results: &R) -> Option<JobResul
 
 impl BoundPiece {
     /// The text of the piece for the given results.
-    pub(crate) fn text<R: NeedResults>(&self, results: &R) -> &str
+    pub fn text<R: NeedResults>(&self, results: &R) -> &str
         ensures { result.now ≡ bound_piece_text (R.result_of results.now) self.now }
     {
         match first_result(self.needs.as_slice(), results) {

@@ -3,7 +3,7 @@ ghost use Rattle.std.specs.List.{flat_map};
 ghost use Rattle.std.specs.Option.{option_copied};
 ghost use Rattle.wf_value.specs.ScalarValue.{scalar_text};
 ghost use Rattle.wf_expr.specs.Bound.{bound_text};
-ghost use Rattle.wf_expr.specs.Comparison.{folded, IsBehind};
+ghost use Rattle.wf_expr.specs.Comparison.{folded, IsRestAfter};
 ghost use Rattle.wf_expr.specs.ScalarView.{shown};
 ghost use Rattle.wf_expr.specs.TemplateValue.{piece_text};
 
@@ -26,44 +26,44 @@ fn are_alike(one: &[u8], other: &[u8], case: Case) -> bool
 }
 
 /// The rest of the text after the prefix, or `None` if the text does not begin with it.
-fn behind<'t>(text: &'t [u8], front: &[u8], case: Case) -> Option<&'t [u8]>
-    ensures { IsBehind case front.now text.now (option_copied result) }
+fn suffix<'t>(text: &'t [u8], prefix: &[u8], case: Case) -> Option<&'t [u8]>
+    ensures { IsRestAfter case prefix.now text.now (option_copied result) }
 {
-    if text.len() < front.len() {
+    if text.len() < prefix.len() {
         return None;
     }
-    let (head, rest) = text.split_at(front.len());
-    if are_alike(head, front, case) {
+    let (head, rest) = text.split_at(prefix.len());
+    if are_alike(head, prefix, case) {
         Some(rest)
     } else {
         None
     }
 }
 
-fn behind_scalar<'t>(text: &'t [u8], value: ScalarView<'_>, case: Case) -> Option<&'t [u8]>
-    ensures { IsBehind case (scalar_text (shown value.entry)) text.now (option_copied result) }
+fn after_scalar<'t>(text: &'t [u8], value: ScalarView<'_>, case: Case) -> Option<&'t [u8]>
+    ensures { IsRestAfter case (scalar_text (shown value.entry)) text.now (option_copied result) }
 {
     match value {
-        ScalarView::Null => behind(text, b"", case),
-        ScalarView::Truth(true) => behind(text, b"true", case),
-        ScalarView::Truth(false) => behind(text, b"false", case),
-        ScalarView::Whole(whole) => behind(text, Buffer::new().format(whole).as_bytes(), case),
-        ScalarView::Text(characters) => behind(text, characters.as_bytes(), case),
+        ScalarView::Null => suffix(text, b"", case),
+        ScalarView::Truth(true) => suffix(text, b"true", case),
+        ScalarView::Truth(false) => suffix(text, b"false", case),
+        ScalarView::Whole(whole) => suffix(text, Buffer::new().format(whole).as_bytes(), case),
+        ScalarView::Text(characters) => suffix(text, characters.as_bytes(), case),
     }
 }
 
-fn behind_piece<'t, C: Context>(
+fn after_piece<'t, C: Context>(
     text: &'t [u8],
     piece: &Piece,
     context: &C,
     case: Case,
 ) -> Option<&'t [u8]>
-    ensures { IsBehind case (piece_text (C.values context.now) piece.now) text.now (option_copied result) }
+    ensures { IsRestAfter case (piece_text (C.values context.now) piece.now) text.now (option_copied result) }
 {
     match piece {
-        Piece::Plain(plain) => behind(text, plain.as_str().as_bytes(), case),
+        Piece::Plain(plain) => suffix(text, plain.as_str().as_bytes(), case),
         Piece::Braced(operands) => {
-            behind_scalar(text, expression_value(operands.as_slice(), context), case)
+            after_scalar(text, expression_value(operands.as_slice(), context), case)
         }
     }
 }
@@ -74,8 +74,8 @@ pub(crate) fn are_text<C: Context>(pieces: &[Piece], context: &C, text: &[u8], c
 {
     let mut rest = text;
     for piece in pieces {
-        match behind_piece(rest, piece, context, case) {
-            Some(behind) => rest = behind,
+        match after_piece(rest, piece, context, case) {
+            Some(suffix) => rest = suffix,
             None => return false,
         }
     }
@@ -93,8 +93,8 @@ pub(crate) fn are_bound_text<R: NeedResults>(
 {
     let mut left = text;
     for piece in pieces {
-        match behind(left, piece.text(results).as_bytes(), case) {
-            Some(behind) => left = behind,
+        match suffix(left, piece.text(results).as_bytes(), case) {
+            Some(suffix) => left = suffix,
             None => return false,
         }
     }

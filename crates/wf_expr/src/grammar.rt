@@ -2,13 +2,13 @@ ghost use Rattle.std.specs.Prelude.{◌≡◌, ◌↔◌, ℕ, List, Result};
 ghost use Rattle.wf_value.specs.declared.refusal.Refusal.{Refusal};
 ghost use Rattle.wf_expr.specs.Outcome.{IsOutcome};
 ghost use Rattle.wf_expr.specs.Parsing.{template_of};
-ghost use Rattle.wf_expr.specs.Profile.{Spells};
+ghost use Rattle.wf_expr.specs.Profile.{Encodes};
 ghost use Rattle.wf_expr.specs.declared.piece.Piece.{Piece};
 ghost use Rattle.wf_expr.specs.declared.place.ContextSite.{ContextSite};
 
 /// A text is the source of at most one template.
 pub fn spells_one_template()
-    ensures { (text : List ℕ) (t u : List Piece) → Spells text t → Spells text u → t ≡ u }
+    ensures { (text : List ℕ) (t u : List Piece) → Encodes text t → Encodes text u → t ≡ u }
 {}
 
 /// Every text has exactly one outcome in each place, and `template_of` computes it: the template, if the text is one and the place

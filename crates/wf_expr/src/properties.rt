@@ -14,7 +14,7 @@ pub struct Properties {
 }
 
 impl Properties {
-    ghost use Rattle.wf_expr.specs.Properties.{value_at, AreSame, DifferAt, DifferBehind};
+    ghost use Rattle.wf_expr.specs.Properties.{value_at, AreSame, DifferAt, DifferAfter};
 
     /// The empty tree, in which no path has a value.
     pub fn new(alloc: Global) -> Self
@@ -86,7 +86,7 @@ impl Properties {
     /// its value.
     pub fn nest(&mut self, alloc: Global, name: &Chars, inner: Properties) -> Result<(), Refusal>
         ensures within { OnOk result ((path : List (List ℕ)) → value_at self.new (name.now ∷ path) ≡ value_at inner path) }
-        ensures others { OnOk result (DifferBehind name.now self.new self.old) }
+        ensures others { OnOk result (DifferAfter name.now self.new self.old) }
         ensures err { OnErr result (AreSame self.new self.old) }
         ensures memory { IfErr result (λ e. e ≡ no_memory) }
     {

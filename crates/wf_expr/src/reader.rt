@@ -327,8 +327,8 @@ pub(crate) fn read(alloc: Global, text: &str) -> Result<Sequence<Piece>, Refusal
 {
     match text.split_once("${{") {
         None => plain(alloc, text),
-        Some((front, rest)) => {
-            let pieces = plain(alloc, front)?;
+        Some((prefix, rest)) => {
+            let pieces = plain(alloc, prefix)?;
             read_on(alloc, Reader::OperandDue(pieces, none(alloc)), rest)
         }
     }

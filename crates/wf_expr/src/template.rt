@@ -6,9 +6,9 @@ ghost use Rattle.wf_expr.specs.declared.piece.Piece.{Piece};
 ghost use Rattle.wf_value.specs.declared.refusal.Refusal.{Refusal};
 ghost use Rattle.wf_expr.specs.Faults.{wrong_expression, wrong_place};
 ghost use Rattle.wf_expr.specs.FlagValue.{SetsFlag, sets_flag};
-ghost use Rattle.wf_expr.specs.Outcome.{IsOutcome, SpellsNone, SpellsElsewhere};
+ghost use Rattle.wf_expr.specs.Outcome.{IsOutcome, EncodesNone, EncodesElsewhere};
 ghost use Rattle.wf_expr.specs.Parsing.{template_of};
-ghost use Rattle.wf_expr.specs.Profile.{Spells, AllowedIn};
+ghost use Rattle.wf_expr.specs.Profile.{Encodes, AllowedIn};
 ghost use Rattle.wf_expr.specs.TemplateValue.{template_value};
 
 use crate::case::Case;
@@ -45,9 +45,9 @@ impl Template {
     pub fn parse(alloc: Global, text: &str, place: ContextSite) -> Result<Template, Refusal>
         ensures exact { Gives (λ p. p) result (template_of text.now place) }
         ensures grammar { (outcome : Result (List Piece) Refusal) → IsOutcome text.now place outcome → Gives (λ p. p) result outcome }
-        ensures ok { IfOk result (λ t. Spells text.now t × AllowedIn place t) }
-        ensures expression { result ≡ Err wrong_expression → SpellsNone text.now }
-        ensures place { result ≡ Err wrong_place → SpellsElsewhere text.now place }
+        ensures ok { IfOk result (λ t. Encodes text.now t × AllowedIn place t) }
+        ensures expression { result ≡ Err wrong_expression → EncodesNone text.now }
+        ensures place { result ≡ Err wrong_place → EncodesElsewhere text.now place }
         ensures errors { IfErr result (λ e. (e ≡ wrong_expression) ⊎ (e ≡ wrong_place) ⊎ (e ≡ no_memory)) }
     {
         parsed(alloc, text, place)

@@ -12,9 +12,9 @@ use Rattle.std.proofs.lemmas.Slice.Eq.{bytes_eq-Decides}
 use Rattle.serde_json.specs.Data.{string}
 use Rattle.wf_value.specs.declared.condition.Condition.{Condition}
 use Rattle.wf_expr.specs.Grammar.{AreSpaces}
-use Rattle.wf_reader.specs.Condition.{before, behind, condition_in, condition_of_word, condition_words, inside_braces}
+use Rattle.wf_reader.specs.Condition.{before, suffix, condition_in, condition_of_word, condition_words, inside_braces}
 use Rattle.wf_reader.specs.Condition.{is_space, past_spaces, trimmed, up_to_spaces, word_in}
-use Rattle.wf_reader.specs.ConditionTexts.{IsSpaced, IsBraced, SpellsCondition, in_braces}
+use Rattle.wf_reader.specs.ConditionTexts.{IsSpaced, IsBraced, EncodesCondition, in_braces}
 
 -- ---- spaces
 
@@ -28,24 +28,24 @@ spaces_reversed (b ∷ s) all =
     subst AreSpaces (sym (reverse_onto s b [])) (spaces_both (reverse s) (b ∷ []) (spaces_reversed s all.1) (all.0, tt))
 
 -- leading spaces are skipped
-past_front : (s x : List ℕ) → AreSpaces s → past_spaces (s ++ x) ≡ past_spaces x
-past_front [] x all = refl
-past_front (b ∷ s) x all = subst (λ c. past_spaces (c ∷ (s ++ x)) ≡ past_spaces x) (sym all.0) (past_front s x all.1)
+past_prefix : (s x : List ℕ) → AreSpaces s → past_spaces (s ++ x) ≡ past_spaces x
+past_prefix [] x all = refl
+past_prefix (b ∷ s) x all = subst (λ c. past_spaces (c ∷ (s ++ x)) ≡ past_spaces x) (sym all.0) (past_prefix s x all.1)
 
 -- only spaces are skipped
 pub record Passed (text : List ℕ) : Type 0 where
-  pub front : List ℕ
-  pub spaces : AreSpaces front
-  pub whole : text ≡ front ++ past_spaces text
+  pub prefix : List ℕ
+  pub spaces : AreSpaces prefix
+  pub whole : text ≡ prefix ++ past_spaces text
 
 passed_by : (b : ℕ) (bs : List ℕ) (t : Bool) → is_space b ≡ t → Passed bs → Passed (b ∷ bs)
 passed_by b bs true is rest =
     let space : b ≡ 32 = grind (arith, nat_tests) in
-    record { front = b ∷ rest.front; spaces = (space, rest.spaces); whole = rw is (ap (λ cs. b ∷ cs) rest.whole) }
-passed_by b bs false is rest = record { front = []; spaces = tt; whole = rw is refl }
+    record { prefix = b ∷ rest.prefix; spaces = (space, rest.spaces); whole = rw is (ap (λ cs. b ∷ cs) rest.whole) }
+passed_by b bs false is rest = record { prefix = []; spaces = tt; whole = rw is refl }
 
 passed : (text : List ℕ) → Passed text
-passed [] = record { front = []; spaces = tt; whole = refl }
+passed [] = record { prefix = []; spaces = tt; whole = refl }
 passed (b ∷ bs) = passed_by b bs (is_space b) refl (passed bs)
 
 -- ---- trimming
@@ -58,37 +58,37 @@ record IsTight (inner : List ℕ) : Type 0 where
 trimmed_spaced : (text inner : List ℕ) → IsSpaced text inner → IsTight inner → trimmed text ≡ inner
 trimmed_spaced text inner spaced tight =
     let start : past_spaces text ≡ inner ++ spaced.end = ap past_spaces spaced.whole
-    ∙ past_front spaced.front (inner ++ spaced.end) spaced.spaces_first ∙ tight.first spaced.end in
+    ∙ past_prefix spaced.prefix (inner ++ spaced.end) spaced.spaces_first ∙ tight.first spaced.end in
     let back : past_spaces (reverse (inner ++ spaced.end)) ≡ reverse inner = ap past_spaces (reverse-append inner spaced.end)
-    ∙ past_front (reverse spaced.end) (reverse inner) (spaces_reversed spaced.end spaced.spaces_last) ∙ tight.last in
+    ∙ past_prefix (reverse spaced.end) (reverse inner) (spaces_reversed spaced.end spaced.spaces_last) ∙ tight.last in
     ap up_to_spaces start ∙ ap reverse back ∙ reverse-reverse inner
 
 spaced_trimmed : (text : List ℕ) → IsSpaced text (trimmed text)
 spaced_trimmed text =
     let first = passed text in
     let last = passed (reverse (past_spaces text)) in
-    let turned : past_spaces text ≡ trimmed text ++ reverse last.front = sym (reverse-reverse (past_spaces text)) ∙ ap reverse last.whole
-    ∙ reverse-append last.front (past_spaces (reverse (past_spaces text))) in
+    let turned : past_spaces text ≡ trimmed text ++ reverse last.prefix = sym (reverse-reverse (past_spaces text)) ∙ ap reverse last.whole
+    ∙ reverse-append last.prefix (past_spaces (reverse (past_spaces text))) in
     record {
-      front = first.front;
-      end = reverse last.front;
+      prefix = first.prefix;
+      end = reverse last.prefix;
       spaces_first = first.spaces;
-      spaces_last = spaces_reversed last.front last.spaces;
-      whole = first.whole ∙ ap (λ rest. first.front ++ rest) turned;
+      spaces_last = spaces_reversed last.prefix last.spaces;
+      whole = first.whole ∙ ap (λ rest. first.prefix ++ rest) turned;
     }
 
 -- ---- braces
 
-front_of : (front text rest : List ℕ) (t : Bool) → bytes_eq (take (length front) text) front ≡ t
-    → (if t then Some (drop (length front) text) else None) ≡ Some rest → text ≡ front ++ rest
-front_of front text rest true is found =
-    let same : take (length front) text ≡ front = (bytes_eq-Decides (take (length front) text) front).0 is in
-    let left : drop (length front) text ≡ rest = cc in
-    sym (take-append-drop (length front) text) ∙ ap (λ f. f ++ drop (length front) text) same ∙ ap (λ r. front ++ r) left
-front_of front text rest false is found = absurd cc
+prefix_of : (prefix text rest : List ℕ) (t : Bool) → bytes_eq (take (length prefix) text) prefix ≡ t
+    → (if t then Some (drop (length prefix) text) else None) ≡ Some rest → text ≡ prefix ++ rest
+prefix_of prefix text rest true is found =
+    let same : take (length prefix) text ≡ prefix = (bytes_eq-Decides (take (length prefix) text) prefix).0 is in
+    let left : drop (length prefix) text ≡ rest = cc in
+    sym (take-append-drop (length prefix) text) ∙ ap (λ f. f ++ drop (length prefix) text) same ∙ ap (λ r. prefix ++ r) left
+prefix_of prefix text rest false is found = absurd cc
 
-behind_is : (front text rest : List ℕ) → behind front text ≡ Some rest → text ≡ front ++ rest
-behind_is front text rest found = front_of front text rest (bytes_eq (take (length front) text) front) refl found
+after_is : (prefix text rest : List ℕ) → suffix prefix text ≡ Some rest → text ≡ prefix ++ rest
+after_is prefix text rest found = prefix_of prefix text rest (bytes_eq (take (length prefix) text) prefix) refl found
 
 end_of : (end text rest : List ℕ) (most : ℕ) (t : Bool) → bytes_eq (drop most text) end ≡ t
     → (if t then Some (take most text) else None) ≡ Some rest → text ≡ rest ++ end
@@ -102,15 +102,15 @@ before_is : (end text rest : List ℕ) → before end text ≡ Some rest → tex
 before_is end text rest found =
     end_of end text rest (length text - length end) (bytes_eq (drop (length text - length end) text) end) refl found
 
-braced_by : (text inner : List ℕ) (o : Option (List ℕ)) → behind (codes "${{") text ≡ o
+braced_by : (text inner : List ℕ) (o : Option (List ℕ)) → suffix (codes "${{") text ≡ o
     → option_and_then (before (codes "}}")) o ≡ Some inner → text ≡ in_braces inner
 braced_by text inner None is found = absurd cc
 braced_by text inner (Some rest) is found =
-    behind_is (codes "${{") text rest is ∙ ap (λ r. codes "${{" ++ r) (before_is (codes "}}") rest inner found)
+    after_is (codes "${{") text rest is ∙ ap (λ r. codes "${{" ++ r) (before_is (codes "}}") rest inner found)
 
 -- text that is found inside braces is enclosed in them
 braced : (text inner : List ℕ) → inside_braces text ≡ Some inner → text ≡ in_braces inner
-braced text inner found = braced_by text inner (behind (codes "${{") text) refl found
+braced text inner found = braced_by text inner (suffix (codes "${{") text) refl found
 
 most_is : (inner : List ℕ) → length (inner ++ codes "}}") - 2 ≡ length inner
 most_is inner = omega (arith, length-append inner (codes "}}"))
@@ -209,7 +209,7 @@ read_by text (Some inner) is =
       around_braces = subst (IsSpaced text) (braced (trimmed text) inner is) (spaced_trimmed text);
     })
 
-pub spelled : (text : List ℕ) (condition : Condition) → SpellsCondition text condition ↔ (condition_in (string text) ≡ Some condition)
+pub spelled : (text : List ℕ) (condition : Condition) → EncodesCondition text condition ↔ (condition_in (string text) ≡ Some condition)
 spelled text condition = (
   λ spells. ap condition_of_word (word_of text spells.word (is_word spells.word condition spells.says) spells.bare_or_braced)
       ∙ spells.says,

@@ -46,12 +46,12 @@ apart q name differ same = true≢false (sym ((bytes_eq-Decides q name).1 same) 
 abbrev objects : Option Data → Option Data → Option Data → ContextObjects
 objects github inputs vars = record { github = github; inputs = inputs; vars = vars }
 
-pub taken_in_turn : (es fs gs : List Entry) (github inputs vars : Option Value)
+pub taken_in_order : (es fs gs : List Entry) (github inputs vars : Option Value)
     → github ≡ lookup (is_name (codes "github")) es → fs ≡ remove_entry (is_name (codes "github")) es
     → inputs ≡ lookup (is_name (codes "inputs")) fs → gs ≡ remove_entry (is_name (codes "inputs")) fs
     → vars ≡ lookup (is_name (codes "vars")) gs
     → objects (option_map view github) (option_map view inputs) (option_map view vars) ≡ contexts_in (object (members_view es))
-taken_in_turn es fs gs github inputs vars g without_github i without_inputs v =
+taken_in_order es fs gs github inputs vars g without_github i without_inputs v =
     let inputs_stay = λ (q : List ℕ) (other : q ≡ codes "github" → ⊥).
     ap (λ x. get_member q (members_view x)) without_github ∙ others_stay q (codes "github") es other in
     let vars_stay = ap (λ x. get_member (codes "vars") (members_view x)) without_inputs
@@ -63,11 +63,11 @@ taken_in_turn es fs gs github inputs vars g without_github i without_inputs v =
     taken (codes "vars") gs vars v ∙ vars_stay ∙ inputs_stay (codes "vars") (apart (codes "vars") (codes "github") refl))
 
 -- the workflow, after the three contexts are removed
-pub taken_behind : (es fs gs hs : List Entry) (workflow : Option Value)
+pub taken_after : (es fs gs hs : List Entry) (workflow : Option Value)
     → fs ≡ remove_entry (is_name (codes "github")) es → gs ≡ remove_entry (is_name (codes "inputs")) fs
     → hs ≡ remove_entry (is_name (codes "vars")) gs → workflow ≡ lookup (is_name (codes "workflow")) hs
     → option_map view workflow ≡ get_member (codes "workflow") (members_view es)
-taken_behind es fs gs hs workflow without_github without_inputs without_vars w =
+taken_after es fs gs hs workflow without_github without_inputs without_vars w =
     let stays = λ (name : List ℕ) (ks ls : List Entry) (differ : bytes_eq (codes "workflow") name ≡ false)
     (without : ls ≡ remove_entry (is_name name) ks).
     ap (λ x. get_member (codes "workflow") (members_view x)) without

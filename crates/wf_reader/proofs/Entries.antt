@@ -15,7 +15,7 @@ use Rattle.serde_json.proofs.Views.{Entry}
 use Rattle.wf_value.specs.Names.{rises_by}
 use Rattle.wf_value.specs.declared.refusal.Refusal.{Refusal}
 use Rattle.wf_reader.specs.Faults.{unless_faulty}
-use Rattle.wf_reader.proofs.InTurn.{first_of_rest, none_of_first, one_more, same_value}
+use Rattle.wf_reader.proofs.InOrder.{first_of_rest, none_of_first, one_more, same_value}
 
 -- ---- ordered names give ordered results
 
@@ -70,22 +70,22 @@ module _ {B : Type 0} (check : List ℕ × Data → List Refusal) (of : List ℕ
       → unless_faulty (faults_at e) (made_of e) ≡ r
   of_entry name e r is h = subst (λ k. Reads k e.1 r) is h
 
-  pub turn_fails : {Y : Type 0} (es rest more : List Entry) (e : Entry) (name : List ℕ) (y : Y) (r : Refusal)
+  pub check_fails : {Y : Type 0} (es rest more : List Entry) (e : Entry) (name : List ℕ) (y : Y) (r : Refusal)
       → flat_map faults_at es ≡ flat_map faults_at rest → rest ≡ e ∷ more → name ≡ string_bytes e.0 → Reads name e.1 (Err r)
       → unless_faulty (flat_map faults_at es) y ≡ Err r
-  turn_fails es rest more e name y r left is named h = first_of_rest faults_at es rest more e (made_of e) y r left is
+  check_fails es rest more e name y r left is named h = first_of_rest faults_at es rest more e (made_of e) y r left is
       (of_entry name e (Err r) named h)
 
-  pub turn_left : (es rest more : List Entry) (e : Entry) (name : List ℕ) (b : B)
+  pub check_left : (es rest more : List Entry) (e : Entry) (name : List ℕ) (b : B)
       → flat_map faults_at es ≡ flat_map faults_at rest → rest ≡ e ∷ more → name ≡ string_bytes e.0 → Reads name e.1 (Ok b)
       → flat_map faults_at es ≡ flat_map faults_at more
-  turn_left es rest more e name b left is named h = none_of_first faults_at es rest more e (made_of e) b left is
+  check_left es rest more e name b left is named h = none_of_first faults_at es rest more e (made_of e) b left is
       (of_entry name e (Ok b) named h)
 
-  pub turn_done : (es rest more : List Entry) (done next : List B) (e : Entry) (name : List ℕ) (b : B)
+  pub check_done : (es rest more : List Entry) (done next : List B) (e : Entry) (name : List ℕ) (b : B)
       → done ++ map made_of rest ≡ map made_of es → next ≡ done ++ b ∷ [] → rest ≡ e ∷ more → name ≡ string_bytes e.0
       → Reads name e.1 (Ok b) → next ++ map made_of more ≡ map made_of es
-  turn_done es rest more done next e name b so_far pushed is named h =
+  check_done es rest more done next e name b so_far pushed is named h =
       ap (λ bs. bs ++ map made_of more) pushed
       ∙ one_more made_of es rest more done e b so_far is (same_value (faults_at e) (made_of e) b (of_entry name e (Ok b) named h))
 

@@ -11,7 +11,7 @@ use Rattle.wf_reader.specs.Json.{text_in, member_at}
 use Rattle.wf_reader.specs.Workflow.{workflow_faults_in, workflow_in}
 use Rattle.wf_reader.specs.declared.event.Event.{Event}
 use Rattle.wf_reader.specs.declared.workflow.Workflow.{Workflow}
-use Rattle.wf_reader.proofs.InTurn.{skip}
+use Rattle.wf_reader.proofs.InOrder.{skip}
 use Rattle.wf_reader.proofs.JobFaults.{inside_object}
 
 abbrev after_texts : Data → List Refusal

@@ -7,7 +7,7 @@ use Rattle.wf_value.specs.declared.code.Code.TheVariants.{WrongKind, JobId}
 use Rattle.wf_value.specs.declared.refusal.Refusal.{Refusal}
 use Rattle.wf_value.specs.declared.condition.Condition.{Condition}
 use Rattle.wf_expr.specs.declared.piece.Piece.{Piece}
-use Rattle.wf_reader.specs.Faults.{unless_faulty, fault, fault_unless, in_turn, faults_within, left_out}
+use Rattle.wf_reader.specs.Faults.{unless_faulty, fault, fault_unless, faults_in_order, faults_within, left_out}
 use Rattle.wf_reader.specs.Job.{is_job_id, inside_job, job_faults}
 use Rattle.wf_reader.specs.JobParts.{start_checks, start_faults, legs_checks, legs_faults}
 use Rattle.wf_reader.specs.declared.concurrency.Concurrency.{Concurrency}
@@ -16,7 +16,7 @@ use Rattle.wf_reader.specs.declared.job.Job.{Job}
 use Rattle.wf_reader.specs.declared.job.Legs.{Legs}
 use Rattle.wf_reader.specs.declared.job.Start.{Start}
 use Rattle.wf_reader.specs.declared.strategy.Strategy.{Strategy}
-use Rattle.wf_reader.proofs.InTurn.{of_both}
+use Rattle.wf_reader.proofs.InOrder.{of_both}
 
 pub inside_object : {X : Type 0} (inside : Data → List Refusal) (d : Data) (x : X) (r : Result X Refusal)
     → true ≡ is_some (as_object d) → unless_faulty (inside d) x ≡ r → unless_faulty (faults_within inside d) x ≡ r
@@ -24,7 +24,7 @@ inside_object inside d x r o h = ap (λ b. unless_faulty (if b then inside d els
 
 -- the checks of a job, by part
 abbrev by_parts : Data → List Refusal
-by_parts d = in_turn (left_out (get (codes "uses") d) ∷ start_faults d ∷ legs_faults d ∷ [])
+by_parts d = faults_in_order (left_out (get (codes "uses") d) ∷ start_faults d ∷ legs_faults d ∷ [])
 
 parted : (d : Data) → inside_job d ≡ by_parts d
 parted d = ap (λ fs. left_out (get (codes "uses") d) ++ fs) (

@@ -5,7 +5,7 @@ pub mod ConditionTexts
 pub mod ContextParts
 pub mod Entries
 pub mod EventParts
-pub mod InTurn
+pub mod InOrder
 pub mod JobFaults
 pub mod MatrixParts
 pub mod Members

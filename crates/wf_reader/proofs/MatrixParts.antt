@@ -18,7 +18,7 @@ use Rattle.wf_reader.specs.MatrixValues.{items_of, value_faults, scalar_or_null,
 use Rattle.wf_reader.specs.Patterns.{pair_faults, pair_of, pattern_faults, pattern_of, patterns_faults, patterns_of}
 use Rattle.wf_reader.proofs.Entries.{kept}
 use Rattle.wf_reader.proofs.Contents.{named, items_here, members_here, whole_list, filled_list, made_with, where_so, is_of-Some}
-use Rattle.wf_reader.proofs.InTurn.{same_value}
+use Rattle.wf_reader.proofs.InOrder.{same_value}
 
 -- ---- include and exclude
 

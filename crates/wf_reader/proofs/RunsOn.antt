@@ -6,7 +6,7 @@ use Rattle.serde_json.specs.Find.{as_array}
 use Rattle.serde_json.specs.View.{view, items_view}
 use Rattle.serde_json.specs.declared.value.Value.{Value}
 use Rattle.wf_reader.specs.Faults.{unless_faulty}
-use Rattle.wf_reader.specs.Job.{label_faults, label_in, labels_faults, labels_asked}
+use Rattle.wf_reader.specs.Job.{label_faults, label_in, labels_faults, requested_labels}
 use Rattle.wf_reader.specs.Json.{item_list}
 use Rattle.wf_reader.proofs.Contents.{array-of}
 
@@ -24,13 +24,13 @@ faults-filled : (d : Data) (vs : List Value) → Some (items_view vs) ≡ as_arr
 faults-filled d [] is h = absurd (omega arith)
 faults-filled d (v ∷ vs) is h = ap labels_faults (array-of d _ is) ∙ flat_map-items (v ∷ vs)
 
-labels-list : (d : Data) (vs : List Value) → Some (items_view vs) ≡ as_array d → labels_asked d ≡ map (λ v. label_in (view v)) vs
-labels-list d vs is = ap labels_asked (array-of d _ is) ∙ map-items vs
+labels-list : (d : Data) (vs : List Value) → Some (items_view vs) ≡ as_array d → requested_labels d ≡ map (λ v. label_in (view v)) vs
+labels-list d vs is = ap requested_labels (array-of d _ is) ∙ map-items vs
 
 -- the labels of a list are those of the value of `runs-on`
 pub list_gives : (d : Data) (vs ws : List Value) → Some (items_view vs) ≡ as_array d → ws ≡ vs → 0 < length ws
     → unless_faulty (flat_map (λ v. label_faults (view v)) ws) (map (λ v. label_in (view v)) ws) ≡ unless_faulty (labels_faults d)
-    (labels_asked d)
+    (requested_labels d)
 list_gives d vs ws is same filled =
     ap (λ us. unless_faulty (flat_map (λ v. label_faults (view v)) us) (map (λ v. label_in (view v)) us)) same
     ∙ ap (λ fs. unless_faulty fs (map (λ v. label_in (view v)) vs)) (sym (faults-filled d vs is (subst (λ us. 0 < length us) same filled)))

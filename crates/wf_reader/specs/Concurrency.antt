@@ -9,7 +9,7 @@ use Rattle.serde_json.specs.Find.{get, as_bool, as_str}
 use Rattle.wf_value.specs.declared.code.Code.TheVariants.{WrongKind}
 use Rattle.wf_value.specs.declared.refusal.Refusal.{Refusal}
 use Rattle.wf_expr.specs.declared.place.ContextSite.{ContextSite}
-use Rattle.wf_reader.specs.Faults.{fault_unless, in_turn, optional}
+use Rattle.wf_reader.specs.Faults.{fault_unless, faults_in_order, optional}
 use Rattle.wf_reader.specs.Flags.{flag_faults, flag_in}
 use Rattle.wf_reader.specs.Json.{members_of, member_at}
 use Rattle.wf_reader.specs.Templates.{template_faults, template_in}
@@ -38,7 +38,7 @@ is_concurrency d =
 -- ---- all kinds are checked before the templates, and the group before `cancel-in-progress`
 
 abbrev pub concurrency_faults : ContextSite → Data → List Refusal
-concurrency_faults place d = in_turn (fault_unless (is_concurrency d) WrongKind
+concurrency_faults place d = faults_in_order (fault_unless (is_concurrency d) WrongKind
     ∷ template_faults place (unwrap_or (group_text d) [])
     ∷ optional (flag_faults place) (get (codes "cancel-in-progress") d) ∷ [])
 

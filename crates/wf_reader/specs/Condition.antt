@@ -44,15 +44,15 @@ abbrev pub trimmed : List ℕ → List ℕ
 trimmed text = up_to_spaces (past_spaces text)
 
 -- the text after a prefix, and the text before a suffix
-abbrev pub behind : List ℕ → List ℕ → Option (List ℕ)
-behind front text = if bytes_eq (take (length front) text) front then Some (drop (length front) text) else None
+abbrev pub suffix : List ℕ → List ℕ → Option (List ℕ)
+suffix prefix text = if bytes_eq (take (length prefix) text) prefix then Some (drop (length prefix) text) else None
 
 abbrev pub before : List ℕ → List ℕ → Option (List ℕ)
 before end text =
     let most = length text - length end in if bytes_eq (drop most text) end then Some (take most text) else None
 
 abbrev pub inside_braces : List ℕ → Option (List ℕ)
-inside_braces text = option_and_then (before (codes "}}")) (behind (codes "${{") text)
+inside_braces text = option_and_then (before (codes "}}")) (suffix (codes "${{") text)
 
 -- the word of a text, bare or in braces
 abbrev pub word_in : List ℕ → List ℕ

@@ -9,11 +9,11 @@ use Rattle.wf_reader.specs.Condition.{condition_of_word}
 
 -- a text with optional spaces around it
 pub record IsSpaced (text inner : List ℕ) : Type 0 where
-  pub front : List ℕ
+  pub prefix : List ℕ
   pub end : List ℕ
-  pub spaces_first : AreSpaces front
+  pub spaces_first : AreSpaces prefix
   pub spaces_last : AreSpaces end
-  pub whole : text ≡ front ++ (inner ++ end)
+  pub whole : text ≡ prefix ++ (inner ++ end)
 
 abbrev pub in_braces : List ℕ → List ℕ
 in_braces inner = codes "${{" ++ (inner ++ codes "}}")
@@ -25,7 +25,7 @@ pub record IsBraced (text word : List ℕ) : Type 0 where
   pub around_braces : IsSpaced text (in_braces inner)
 
 -- the text states the condition
-pub record SpellsCondition (text : List ℕ) (condition : Condition) : Type 0 where
+pub record EncodesCondition (text : List ℕ) (condition : Condition) : Type 0 where
   pub word : List ℕ
   pub says : condition_of_word word ≡ Some condition
   pub bare_or_braced : IsSpaced text word ⊎ IsBraced text word

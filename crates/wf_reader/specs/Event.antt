@@ -8,7 +8,7 @@ use Rattle.wf_value.specs.declared.code.Code.TheVariants.{WrongKind}
 use Rattle.wf_value.specs.declared.refusal.Refusal.{Refusal}
 use Rattle.wf_reader.specs.Body.{body_value, body_faults}
 use Rattle.wf_reader.specs.Contexts.{contexts_in}
-use Rattle.wf_reader.specs.Faults.{fault_unless, in_turn, optional, required, object_faults, faults_within}
+use Rattle.wf_reader.specs.Faults.{fault_unless, faults_in_order, optional, required, object_faults, faults_within}
 use Rattle.wf_reader.specs.Json.{text_in, member_at}
 use Rattle.wf_reader.specs.Workflow.{workflow_faults_in, workflow_in}
 use Rattle.wf_reader.specs.declared.event.Event.{Event}
@@ -21,7 +21,7 @@ abbrev pub contexts_faults : Data → List Refusal
 contexts_faults d = flat_map (λ name. optional object_faults (get name d)) (codes "github" ∷ codes "inputs" ∷ codes "vars" ∷ [])
 
 abbrev pub inside_envelope : Data → List Refusal
-inside_envelope d = in_turn (required WrongKind filled_text_faults (get (codes "repo") d)
+inside_envelope d = faults_in_order (required WrongKind filled_text_faults (get (codes "repo") d)
     ∷ required WrongKind filled_text_faults (get (codes "path") d)
     ∷ contexts_faults d
     ∷ required WrongKind workflow_faults_in (get (codes "workflow") d) ∷ [])

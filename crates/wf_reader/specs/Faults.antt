@@ -26,9 +26,9 @@ abbrev pub fault_unless : Bool → Code → List Refusal
 fault_unless passes code = if passes then [] else fault code
 
 -- the faults of all checks, in order
-abbrev pub in_turn : List (List Refusal) → List Refusal
-in_turn [] = []
-in_turn (check ∷ checks) = check ++ in_turn checks
+abbrev pub faults_in_order : List (List Refusal) → List Refusal
+faults_in_order [] = []
+faults_in_order (check ∷ checks) = check ++ faults_in_order checks
 
 -- an optional member
 abbrev pub optional : (Data → List Refusal) → Option Data → List Refusal

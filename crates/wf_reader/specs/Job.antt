@@ -12,15 +12,16 @@ use Rattle.wf_expr.specs.declared.piece.Piece.{Piece}
 use Rattle.wf_expr.specs.declared.place.ContextSite.TheVariants as place
 use Rattle.wf_reader.specs.Concurrency.{concurrency_faults, concurrency_in}
 use Rattle.wf_reader.specs.Condition.{condition_faults, condition_where}
-use Rattle.wf_reader.specs.Faults.{fault, fault_unless, in_turn, optional, required, left_out, faults_within}
+use Rattle.wf_reader.specs.Faults.{fault, fault_unless, faults_in_order, optional, required, left_out, faults_within}
 use Rattle.wf_reader.specs.Flags.{flag_faults, flag_in}
 use Rattle.wf_reader.specs.Json.{item_list, listed, text_in, member_at}
 use Rattle.wf_reader.specs.Needs.{needs_faults, needs_in}
 use Rattle.wf_reader.specs.Strategy.{strategy_faults, strategy_of}
 use Rattle.wf_reader.specs.Templates.{template_faults, template_in}
 use Rattle.wf_reader.specs.declared.job.Job.{Job}
+use Rattle.wf_reader.specs.declared.job_id.TheConstants.{MAX_ID}
 
--- ---- jobs.<job_id>: a letter or `_`, then letters, digits, `-` and `_`; the limit of 100 bytes is defined by this project
+-- ---- jobs.<job_id>: a letter or `_`, then letters, digits, `-` and `_`; the limit `MAX_ID` is defined by this project
 
 abbrev pub is_id_start : ℕ → Bool
 is_id_start b = is_ascii_alphabetic b || b == 95
@@ -30,7 +31,7 @@ is_id_part b = is_id_start b || is_ascii_digit b || b == 45
 
 abbrev pub is_job_id : List ℕ → Bool
 is_job_id [] = false
-is_job_id (b ∷ bs) = is_id_start b && list_all is_id_part bs && nat_le (length (b ∷ bs)) 100
+is_job_id (b ∷ bs) = is_id_start b && list_all is_id_part bs && nat_le (length (b ∷ bs)) MAX_ID
 
 -- ---- runs-on: a text, or a list of texts, each of them a template
 
@@ -55,13 +56,13 @@ labels_faults (object ms) = fault LeftOut
 abbrev pub label_in : Data → List Piece
 label_in d = template_in place.Job (text_in d)
 
-abbrev pub labels_asked : Data → List (List Piece)
-labels_asked d = map label_in (listed d)
+abbrev pub requested_labels : Data → List (List Piece)
+requested_labels d = map label_in (listed d)
 
 -- ---- the job: its members are checked in this order
 
 abbrev pub inside_job : Data → List Refusal
-inside_job d = in_turn (left_out (get (codes "uses") d)
+inside_job d = faults_in_order (left_out (get (codes "uses") d)
     ∷ required NoLabels labels_faults (get (codes "runs-on") d)
     ∷ optional needs_faults (get (codes "needs") d)
     ∷ optional condition_faults (get (codes "if") d)
@@ -76,7 +77,7 @@ job_faults job = fault_unless (is_job_id job.0) JobId ++ faults_within inside_jo
 abbrev pub job_of : List ℕ × Data → Job
 job_of job = record {
   id = job.0;
-  labels = labels_asked (member_at (codes "runs-on") job.1);
+  labels = requested_labels (member_at (codes "runs-on") job.1);
   needs = needs_in (member_at (codes "needs") job.1);
   condition = condition_where (get (codes "if") job.1);
   continue_on_error = flag_in place.Job (member_at (codes "continue-on-error") job.1);

@@ -7,9 +7,9 @@ use Rattle.wf_value.specs.declared.refusal.Refusal.{Refusal}
 use Rattle.wf_expr.specs.declared.place.ContextSite.TheVariants as place
 use Rattle.wf_reader.specs.Concurrency.{concurrency_faults, concurrency_in}
 use Rattle.wf_reader.specs.Condition.{condition_faults, condition_where}
-use Rattle.wf_reader.specs.Faults.{in_turn, optional, required}
+use Rattle.wf_reader.specs.Faults.{faults_in_order, optional, required}
 use Rattle.wf_reader.specs.Flags.{flag_faults, flag_in}
-use Rattle.wf_reader.specs.Job.{labels_faults, labels_asked}
+use Rattle.wf_reader.specs.Job.{labels_faults, requested_labels}
 use Rattle.wf_reader.specs.Json.{member_at}
 use Rattle.wf_reader.specs.Needs.{needs_faults, needs_in}
 use Rattle.wf_reader.specs.Strategy.{strategy_faults, strategy_of}
@@ -24,11 +24,11 @@ start_checks d = required NoLabels labels_faults (get (codes "runs-on") d)
     ∷ optional condition_faults (get (codes "if") d) ∷ []
 
 abbrev pub start_faults : Data → List Refusal
-start_faults d = in_turn (start_checks d)
+start_faults d = faults_in_order (start_checks d)
 
 abbrev pub start_of : Data → Start
 start_of d = record {
-  labels = labels_asked (member_at (codes "runs-on") d);
+  labels = requested_labels (member_at (codes "runs-on") d);
   needs = needs_in (member_at (codes "needs") d);
   condition = condition_where (get (codes "if") d);
 }
@@ -41,7 +41,7 @@ legs_checks d = optional (flag_faults place.Job) (get (codes "continue-on-error"
     ∷ optional strategy_faults (get (codes "strategy") d) ∷ []
 
 abbrev pub legs_faults : Data → List Refusal
-legs_faults d = in_turn (legs_checks d)
+legs_faults d = faults_in_order (legs_checks d)
 
 abbrev pub legs_of : Data → Legs
 legs_of d = record {

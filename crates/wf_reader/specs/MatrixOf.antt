@@ -7,7 +7,7 @@ use Rattle.serde_json.specs.Find.{get, as_array, as_object}
 use Rattle.wf_value.specs.Matrix.{NamedValues, MatrixLists}
 use Rattle.wf_value.specs.declared.code.Code.TheVariants.{MatrixValue, StrategyMember}
 use Rattle.wf_value.specs.declared.refusal.Refusal.{Refusal}
-use Rattle.wf_reader.specs.Faults.{fault, in_turn, optional}
+use Rattle.wf_reader.specs.Faults.{fault, faults_in_order, optional}
 use Rattle.wf_reader.specs.Json.{members_of, member_at}
 use Rattle.wf_reader.specs.MatrixValues.{items_of, value_faults, scalar_or_null, each_of_some}
 use Rattle.wf_reader.specs.Patterns.{patterns_faults, patterns_of}
@@ -30,7 +30,7 @@ variable_of m = (m.0, map scalar_or_null (items_of m.1))
 -- ---- the matrix
 
 abbrev pub inside_matrix : Data → List Refusal
-inside_matrix d = in_turn (optional patterns_faults (get (codes "include") d)
+inside_matrix d = faults_in_order (optional patterns_faults (get (codes "include") d)
     ∷ optional patterns_faults (get (codes "exclude") d)
     ∷ flat_map variable_faults (variables_in d) ∷ [])
 

@@ -8,10 +8,11 @@ use Rattle.serde_json.specs.Data.{Data}
 use Rattle.serde_json.specs.Find.{get, as_bool, as_number, as_object, as_u64}
 use Rattle.wf_value.specs.declared.code.Code.TheVariants.{StrategyMember}
 use Rattle.wf_value.specs.declared.refusal.Refusal.{Refusal}
-use Rattle.wf_reader.specs.Faults.{fault, fault_unless, in_turn, optional}
+use Rattle.wf_reader.specs.Faults.{fault, fault_unless, faults_in_order, optional}
 use Rattle.wf_reader.specs.Json.{members_of}
 use Rattle.wf_reader.specs.MatrixOf.{matrix_faults, matrix_of}
 use Rattle.wf_reader.specs.declared.strategy.Strategy.{Strategy}
+use Rattle.wf_reader.specs.declared.strategy.TheConstants.{MAX_PARALLEL}
 
 abbrev pub is_strategy_name : List ℕ → Bool
 is_strategy_name name = list_any (bytes_eq name) (codes "matrix" ∷ codes "fail-fast" ∷ codes "max-parallel" ∷ [])
@@ -24,9 +25,9 @@ names_faults d = fault_unless (list_all (λ m. is_strategy_name m.0) (members_of
 abbrev pub fail_fast_faults : Data → List Refusal
 fail_fast_faults d = fault_unless (is_some (as_bool d)) StrategyMember
 
--- an integer from 1 to 256; the upper limit is defined by this project
+-- an integer from 1 to `MAX_PARALLEL`; the upper limit is defined by this project
 abbrev pub if_parallel : ℕ → Option ℕ
-if_parallel n = if nat_le 1 n && nat_le n 256 then Some n else None
+if_parallel n = if nat_le 1 n && nat_le n MAX_PARALLEL then Some n else None
 
 abbrev pub max_parallel_in : Data → Option ℕ
 max_parallel_in d = option_and_then if_parallel (option_and_then as_u64 (as_number d))
@@ -35,7 +36,7 @@ abbrev pub max_parallel_faults : Data → List Refusal
 max_parallel_faults d = fault_unless (is_some (max_parallel_in d)) StrategyMember
 
 abbrev pub inside_strategy : Data → List Refusal
-inside_strategy d = in_turn (names_faults d
+inside_strategy d = faults_in_order (names_faults d
     ∷ optional fail_fast_faults (get (codes "fail-fast") d)
     ∷ optional max_parallel_faults (get (codes "max-parallel") d)
     ∷ optional matrix_faults (get (codes "matrix") d) ∷ [])

@@ -8,18 +8,19 @@ use Rattle.wf_value.specs.declared.refusal.Refusal.{Refusal}
 use Rattle.wf_expr.specs.declared.place.ContextSite.TheVariants as place
 use Rattle.wf_reader.specs.Body.{body_value, body_faults}
 use Rattle.wf_reader.specs.Concurrency.{concurrency_faults, concurrency_in}
-use Rattle.wf_reader.specs.Faults.{fault, fault_unless, in_turn, optional, text_faults, faults_within}
+use Rattle.wf_reader.specs.Faults.{fault, fault_unless, faults_in_order, optional, text_faults, faults_within}
 use Rattle.wf_reader.specs.Job.{job_faults, job_of}
 use Rattle.wf_reader.specs.Json.{text_in, members_of, member_at}
+use Rattle.wf_reader.specs.declared.workflow.TheConstants.{MAX_JOBS}
 use Rattle.wf_reader.specs.declared.workflow.Workflow.{Workflow}
 
--- 1 to 256 jobs, in the order of their ids; the upper limit is defined by this project
+-- 1 to `MAX_JOBS` jobs, in the order of their ids; the upper limit is defined by this project
 abbrev pub jobs_faults : List (List ℕ × Data) → List Refusal
 jobs_faults [] = fault WrongKind
-jobs_faults (j ∷ js) = fault_unless (nat_le (length (j ∷ js)) 256) TooManyJobs ++ flat_map job_faults (j ∷ js)
+jobs_faults (j ∷ js) = fault_unless (nat_le (length (j ∷ js)) MAX_JOBS) TooManyJobs ++ flat_map job_faults (j ∷ js)
 
 abbrev pub inside_workflow : Data → List Refusal
-inside_workflow d = in_turn (optional text_faults (get (codes "name") d)
+inside_workflow d = faults_in_order (optional text_faults (get (codes "name") d)
     ∷ optional (concurrency_faults place.Workflow) (get (codes "concurrency") d)
     ∷ jobs_faults (members_of (member_at (codes "jobs") d)) ∷ [])
 

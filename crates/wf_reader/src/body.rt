@@ -4,7 +4,7 @@ ghost use Rattle.serde_json.specs.View.{view};
 ghost use Rattle.wf_value.specs.Gives.{Gives};
 ghost use Rattle.wf_value.specs.declared.code.Code.TheVariants.{NotJson, TooLong};
 ghost use Rattle.wf_value.specs.declared.refusal.Refusal.TheVariants.{Numbered};
-ghost use Rattle.wf_reader.specs.Body.{body_faults, body_value, most_body};
+ghost use Rattle.wf_reader.specs.Body.{body_faults, body_value};
 ghost use Rattle.wf_reader.specs.Faults.{unless_faulty};
 
 use serde_json::Value;
@@ -20,8 +20,8 @@ pub const MAX_BODY: usize = 65_536;
 pub fn read_body(alloc: Global, bytes: &[u8]) -> Result<Value, Refusal>
     ensures gives { Gives view result
         (unless_faulty (body_faults (λ _. []) bytes.now) (body_value bytes.now)) }
-    ensures too_long { most_body < length bytes.now → result ≡ Err (Numbered TooLong) }
-    ensures no_text { length bytes.now ≤ most_body → is_utf8 bytes.now ≡ false
+    ensures too_long { MAX_BODY < length bytes.now → result ≡ Err (Numbered TooLong) }
+    ensures no_text { length bytes.now ≤ MAX_BODY → is_utf8 bytes.now ≡ false
         → result ≡ Err (Numbered NotJson) }
 {
     if bytes.len() > MAX_BODY {

@@ -69,7 +69,7 @@ fn is_truth_or_text(value: &Value) -> bool
 }
 
 /// Whether a value has the kinds that a `concurrency` requires, including those of its members.
-fn is_concurrency(value: &Value) -> bool
+pub fn is_concurrency(value: &Value) -> bool
     ensures { result ≡ is_concurrency (view value.now) }
 {
     if group_text(value).is_none() || !has_its_names(value) {
@@ -82,7 +82,7 @@ fn is_concurrency(value: &Value) -> bool
 }
 
 /// The group of a value of that kind: 17 if its text is not a template, else 18 if the place does not allow one of its contexts.
-fn read_group(alloc: Global, value: &Value, place: ContextSite) -> Result<Template, Refusal>
+pub fn read_group(alloc: Global, value: &Value, place: ContextSite) -> Result<Template, Refusal>
     ensures { Gives (λ t. t) result
         (unless_faulty (template_faults place (unwrap_or (group_text (view value.now)) []))
         (template_in place (unwrap_or (group_text (view value.now)) []))) }

@@ -4,7 +4,7 @@ ghost use Rattle.serde_json.specs.Find.{get};
 ghost use Rattle.serde_json.specs.View.{view};
 ghost use Rattle.wf_reader.specs.Condition.{condition_in, condition_faults, condition_of_word, condition_where};
 ghost use Rattle.wf_reader.specs.Condition.{inside_braces, past_spaces, trimmed, up_to_spaces, word_in};
-ghost use Rattle.wf_reader.specs.ConditionTexts.{SpellsCondition};
+ghost use Rattle.wf_reader.specs.ConditionTexts.{EncodesCondition};
 ghost use Rattle.wf_reader.specs.Faults.{unless_faulty, optional};
 ghost use Rattle.wf_value.specs.declared.condition.Condition.{Condition};
 
@@ -77,7 +77,7 @@ fn condition_of_word(word: &[u8]) -> Option<Condition>
 }
 
 /// The condition that a value of `if` states, if any.
-fn condition_in(value: &Value) -> Option<Condition>
+pub fn condition_in(value: &Value) -> Option<Condition>
     ensures { result ≡ condition_in (view value.now) }
 {
     match value {
@@ -104,7 +104,7 @@ pub fn read_condition(job: &Value) -> Result<Condition, Refusal>
 
 /// The text of an `if` is a condition if and only if it is one of the words, bare or in braces, with optional spaces around the
 /// word and around the braces. The condition is that of the word.
-pub fn conditions_are_their_spellings()
+pub fn conditions_are_their_encodings()
     ensures { (text : List ℕ) (condition : Condition) →
-        SpellsCondition text condition ↔ (condition_in (string text) ≡ Some condition) }
+        EncodesCondition text condition ↔ (condition_in (string text) ≡ Some condition) }
 {}

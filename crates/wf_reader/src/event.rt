@@ -9,7 +9,7 @@ ghost use Rattle.wf_value.specs.declared.refusal.Refusal.TheVariants.{Numbered};
 ghost use Rattle.wf_reader.specs.Faults.{unless_faulty, required};
 ghost use Rattle.wf_reader.specs.Workflow.{workflow_faults_in, workflow_in};
 
-use crate::body::read_body;
+use crate::body::{MAX_BODY, read_body};
 use crate::contexts::Contexts;
 use crate::fields::{check_contexts, read_filled_text, wrong_kind};
 use crate::workflow::{Workflow, workflow_in};
@@ -71,8 +71,8 @@ pub fn read_event(alloc: Global, bytes: &[u8]) -> Result<Event, Refusal>
         (unless_faulty (event_faults bytes.now) (event_of bytes.now)) }
 
     // These two hold with or without memory:
-    ensures too_long { 65536 < length bytes.now → result ≡ Err (Numbered TooLong) }
-    ensures no_text { length bytes.now ≤ 65536 → is_utf8 bytes.now ≡ false
+    ensures too_long { MAX_BODY < length bytes.now → result ≡ Err (Numbered TooLong) }
+    ensures no_text { length bytes.now ≤ MAX_BODY → is_utf8 bytes.now ≡ false
         → result ≡ Err (Numbered NotJson) }
 {
     let value = read_body(alloc, bytes)?;

@@ -20,7 +20,7 @@ pub enum Flag {
 }
 
 /// The flag of a value: 11 if it is neither a boolean nor a text, 17 or 18 if the text is not a template that the place allows.
-fn flag_of(alloc: Global, value: &Value, place: ContextSite) -> Result<Flag, Refusal>
+pub fn flag_of(alloc: Global, value: &Value, place: ContextSite) -> Result<Flag, Refusal>
     ensures { Gives (λ f. f) result
         (unless_faulty (flag_faults place (view value.now)) (flag_in place (view value.now))) }
 {

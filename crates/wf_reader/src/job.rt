@@ -1,15 +1,14 @@
-ghost use Rattle.std.specs.Prelude.{◌≡◌};
-ghost use Rattle.std.specs.List.{list_all};
 ghost use Rattle.serde_json.specs.View.{view};
 ghost use Rattle.wf_value.specs.Gives.{Gives};
 ghost use Rattle.wf_reader.specs.Faults.{unless_faulty};
-ghost use Rattle.wf_reader.specs.Job.{is_id_start, is_id_part, is_job_id, job_faults, job_of};
+ghost use Rattle.wf_reader.specs.Job.{job_faults, job_of};
 ghost use Rattle.wf_reader.specs.JobParts.{start_faults, start_of, legs_faults, legs_of};
 
 use crate::concurrency::{Concurrency, read_concurrency};
 use crate::condition::read_condition;
 use crate::fields::{refuse_left_out, wrong_kind};
 use crate::flag::{Flag, read_flag};
+use crate::job_id::is_job_id;
 use crate::labels::read_runs_on;
 use crate::needs::read_needs;
 use crate::strategy::{Strategy, read_strategy};
@@ -34,36 +33,6 @@ pub struct Job {
     /// The concurrency group of each of its legs, if any.
     pub concurrency: Option<Concurrency>,
     pub strategy: Option<Strategy>,
-}
-
-const MAX_ID: usize = 100;
-
-fn is_start(byte: u8) -> bool
-    ensures { result ≡ is_id_start byte }
-{
-    byte.is_ascii_alphabetic() || byte == b'_'
-}
-
-fn is_part(byte: u8) -> bool
-    ensures { result ≡ is_id_part byte }
-{
-    is_start(byte) || byte.is_ascii_digit() || byte == b'-'
-}
-
-fn are_parts(bytes: &[u8]) -> bool
-    ensures { result ≡ list_all is_id_part bytes.now }
-{
-    bytes.iter().all(|byte| is_part(*byte))
-}
-
-/// Whether a text is a valid job id.
-fn is_id(text: &str) -> bool
-    ensures { result ≡ is_job_id text.now }
-{
-    match text.as_bytes() {
-        [] => false,
-        [first, rest @ ..] => is_start(*first) && are_parts(rest) && text.len() <= MAX_ID,
-    }
 }
 
 /// Where a job runs and when it starts.
@@ -115,7 +84,7 @@ pub fn read_job(alloc: Global, id: &str, value: &Value) -> Result<Job, Refusal>
     ensures { Gives (λ j. j) result
         (unless_faulty (job_faults (id.now, view value.now)) (job_of (id.now, view value.now))) }
 {
-    if !is_id(id) {
+    if !is_job_id(id) {
         return Err(Refusal::Numbered(Code::JobId));
     }
     if !value.is_object() {

@@ -4,7 +4,7 @@ ghost use Rattle.serde_json.specs.View.{view};
 ghost use Rattle.wf_value.specs.Gives.{Gives};
 ghost use Rattle.wf_value.specs.declared.code.Code.TheVariants.{NoLabels};
 ghost use Rattle.wf_reader.specs.Faults.{unless_faulty, required};
-ghost use Rattle.wf_reader.specs.Job.{label_faults, label_in, labels_faults, labels_asked};
+ghost use Rattle.wf_reader.specs.Job.{label_faults, label_in, labels_faults, requested_labels};
 ghost use Rattle.wf_reader.specs.Json.{member_at};
 
 use crate::fields::wrong_kind;
@@ -15,7 +15,7 @@ use wf_expr::Template;
 use wf_value::{Code, Refusal, Sequence};
 
 /// One label: a text that is a template.
-fn read_label(alloc: Global, value: &Value) -> Result<Template, Refusal>
+pub fn read_label(alloc: Global, value: &Value) -> Result<Template, Refusal>
     ensures { Gives (λ t. t) result (unless_faulty (label_faults (view value.now)) (label_in (view value.now))) }
 {
     match value.as_str() {
@@ -40,7 +40,7 @@ fn read_labels(alloc: Global, values: &[Value]) -> Result<Vec<Template>, Refusal
 /// The labels that a value of `runs-on` states.
 fn labels_in(alloc: Global, value: &Value) -> Result<Vec<Template>, Refusal>
     ensures { Gives (λ v. v.items) result
-        (unless_faulty (labels_faults (view value.now)) (labels_asked (view value.now))) }
+        (unless_faulty (labels_faults (view value.now)) (requested_labels (view value.now))) }
 {
     if let Some(values) = value.as_array() {
         if values.is_empty() {
@@ -61,7 +61,7 @@ fn labels_in(alloc: Global, value: &Value) -> Result<Vec<Template>, Refusal>
 pub fn read_runs_on(alloc: Global, job: &Value) -> Result<Sequence<Template>, Refusal>
     ensures { Gives (λ t. t) result
         (unless_faulty (required NoLabels labels_faults (get (codes "runs-on") (view job.now)))
-        (labels_asked (member_at (codes "runs-on") (view job.now)))) }
+        (requested_labels (member_at (codes "runs-on") (view job.now)))) }
 {
     match job.get("runs-on") {
         Some(value) => Ok(Sequence::new(labels_in(alloc, value)?)),

@@ -40,7 +40,7 @@ fn read_variable(alloc: Global, name: &str, value: &Value) -> Result<Variable, R
 }
 
 /// Whether a member of a matrix is a variable.
-fn is_variable(name: &str) -> bool
+pub fn is_variable_name(name: &str) -> bool
     ensures { result ≡ is_variable_name name.now }
 {
     name != "include" && name != "exclude"
@@ -59,7 +59,7 @@ fn read_variables(alloc: Global, members: &Map<String, Value>) -> Result<Vec<Var
     let mut variables = Vec::new(alloc);
     for (name, value) in members {
         let text = name.as_str();
-        if !is_variable(text) {
+        if !is_variable_name(text) {
             continue;
         }
         variables.push(read_variable(alloc, text, value)?)?;

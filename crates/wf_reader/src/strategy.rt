@@ -25,7 +25,7 @@ pub struct Strategy {
 }
 
 /// The highest value of `max-parallel`.
-const MAX_PARALLEL: u64 = 256;
+pub const MAX_PARALLEL: u64 = 256;
 
 fn is_name(name: &str) -> bool
     ensures { result ≡ is_strategy_name name.now }
@@ -34,7 +34,7 @@ fn is_name(name: &str) -> bool
 }
 
 /// Whether all members have names that a strategy may have.
-fn has_its_names(members: &Map<String, Value>) -> bool
+pub fn has_strategy_names(members: &Map<String, Value>) -> bool
     ensures { result ≡ list_all (λ e. is_strategy_name (string_bytes e.0)) members.now.entries }
 {
     for (name, _) in members {
@@ -59,6 +59,16 @@ fn read_fail_fast(strategy: &Value) -> Result<bool, Refusal>
     }
 }
 
+/// The limit that a value of `max-parallel` states: an integer from 1 to 256.
+pub fn max_parallel_in(value: &Value) -> Option<u16>
+    ensures { result ≡ max_parallel_in (view value.now) }
+{
+    match value.as_u64() {
+        Some(limit) if 1 <= limit && limit <= MAX_PARALLEL => Some(limit as u16),
+        _ => None,
+    }
+}
+
 /// The maximum number of legs that run at the same time. A value that is not an integer from 1 to 256 is 25.
 fn read_max_parallel(strategy: &Value) -> Result<Option<u16>, Refusal>
     ensures { result ≡ unless_faulty (optional max_parallel_faults (get (codes "max-parallel") (view strategy.now)))
@@ -67,9 +77,9 @@ fn read_max_parallel(strategy: &Value) -> Result<Option<u16>, Refusal>
     let Some(value) = strategy.get("max-parallel") else {
         return Ok(None);
     };
-    match value.as_u64() {
-        Some(limit) if 1 <= limit && limit <= MAX_PARALLEL => Ok(Some(limit as u16)),
-        _ => Err(strategy_member()),
+    match max_parallel_in(value) {
+        Some(limit) => Ok(Some(limit)),
+        None => Err(strategy_member()),
     }
 }
 
@@ -94,7 +104,7 @@ fn strategy_in(alloc: Global, value: &Value) -> Result<Strategy, Refusal>
     let Some(members) = value.as_object() else {
         return Err(strategy_member());
     };
-    if !has_its_names(members) {
+    if !has_strategy_names(members) {
         return Err(strategy_member());
     }
     let fail_fast = read_fail_fast(value)?;

@@ -9,7 +9,7 @@ ghost use Rattle.wf_reader.specs.Job.{job_faults, job_of};
 ghost use Rattle.wf_reader.specs.Json.{members_of, member_at};
 ghost use Rattle.wf_reader.specs.Workflow.{jobs_faults, workflow_faults_in, workflow_in, workflow_faults, workflow_of};
 
-use crate::body::read_body;
+use crate::body::{MAX_BODY, read_body};
 use crate::concurrency::{Concurrency, read_concurrency};
 use crate::fields::{read_text, taken_members, wrong_kind};
 use crate::job::{Job, read_job};
@@ -20,7 +20,7 @@ use wf_expr::ContextSite;
 use wf_value::{Chars, Code, Refusal};
 
 /// The maximum number of jobs of a workflow.
-const MAX_JOBS: usize = 256;
+pub const MAX_JOBS: usize = 256;
 
 /// A workflow. GitHub Docs, "Workflow syntax for GitHub Actions".
 #[derive(Drop)]
@@ -65,7 +65,7 @@ fn read_jobs(alloc: Global, workflow: Value) -> Result<Jobs, Refusal>
 }
 
 /// The workflow of a value, or its first fault.
-#[tactic(auto, using(crate::proofs::InTurn::no_fault, crate::proofs::InTurn::same_value))]
+#[tactic(auto, using(crate::proofs::InOrder::no_fault, crate::proofs::InOrder::same_value))]
 pub fn workflow_in(alloc: Global, value: Value) -> Result<Workflow, Refusal>
     ensures { Gives (λ w. w) result
         (unless_faulty (workflow_faults_in (view value)) (workflow_in (view value))) }
@@ -91,8 +91,8 @@ pub fn read_workflow(alloc: Global, bytes: &[u8]) -> Result<Workflow, Refusal>
         (unless_faulty (workflow_faults bytes.now) (workflow_of bytes.now)) }
 
     // These two hold with or without memory:
-    ensures too_long { 65536 < length bytes.now → result ≡ Err (Numbered TooLong) }
-    ensures no_text { length bytes.now ≤ 65536 → is_utf8 bytes.now ≡ false
+    ensures too_long { MAX_BODY < length bytes.now → result ≡ Err (Numbered TooLong) }
+    ensures no_text { length bytes.now ≤ MAX_BODY → is_utf8 bytes.now ≡ false
         → result ≡ Err (Numbered NotJson) }
 {
     let value = read_body(alloc, bytes)?;

@@ -11,7 +11,7 @@ use Rattle.wf_expr.specs.declared.place.ContextSite.{ContextSite}
 use Rattle.wf_expr.specs.declared.place.ContextSite.TheVariants as place
 use Rattle.wf_reader.specs.Body.{json_of}
 use Rattle.wf_reader.specs.Concurrency.{concurrency_faults, is_concurrency}
-use Rattle.wf_reader.specs.Faults.{fault, fault_unless, in_turn, left_out, optional, required, text_faults}
+use Rattle.wf_reader.specs.Faults.{fault, fault_unless, faults_in_order, left_out, optional, required, text_faults}
 use Rattle.wf_reader.specs.Job.{inside_job, is_job_id, job_faults, label_faults, labels_faults}
 use Rattle.wf_reader.specs.JobParts.{legs_checks, legs_faults, start_checks, start_faults}
 use Rattle.wf_reader.specs.Json.{item_list, member_at, members_of}
@@ -21,7 +21,7 @@ use Rattle.wf_reader.specs.Needs.{needs_faults}
 use Rattle.wf_reader.specs.Patterns.{pair_faults, pattern_faults, patterns_faults}
 use Rattle.wf_reader.specs.Strategy.{inside_strategy, names_faults, strategy_faults}
 use Rattle.wf_reader.specs.Workflow.{inside_workflow, jobs_faults, workflow_faults, workflow_faults_in}
-use Rattle.wf_reader.proofs.InTurn.{of_both}
+use Rattle.wf_reader.proofs.InOrder.{of_both}
 use Rattle.workflow_lint.specs.Checks.{faults_by, found_by, items_at, optional_at}
 use Rattle.workflow_lint.specs.Findings.{at, refusals}
 use Rattle.workflow_lint.specs.InJob.{concurrency_at, group_path, inside_job_at, job_at, labels_at, legs_at, needs_at, start_at}
@@ -48,12 +48,12 @@ joined xs ys fs gs one other = of_join xs ys ∙ ap₂ (λ (a b : List Refusal).
 
 -- three checks in sequence
 three : (a b c : List Finding) (e f g : List Refusal) → refusals a ≡ e → refusals b ≡ f → refusals c ≡ g
-    → refusals (a ++ b ++ c) ≡ in_turn (e ∷ f ∷ g ∷ [])
+    → refusals (a ++ b ++ c) ≡ faults_in_order (e ∷ f ∷ g ∷ [])
 three a b c e f g p q r =
     joined (a ++ b) c (e ++ f) g (joined a b e f p q) r ∙ append_assoc e f g ∙ ap (λ l. e ++ (f ++ l)) (sym (append-nil g))
 
 four : (a b c d : List Finding) (e f g h : List Refusal) → refusals a ≡ e → refusals b ≡ f → refusals c ≡ g → refusals d ≡ h
-    → refusals (a ++ b ++ c ++ d) ≡ in_turn (e ∷ f ∷ g ∷ h ∷ [])
+    → refusals (a ++ b ++ c ++ d) ≡ faults_in_order (e ∷ f ∷ g ∷ h ∷ [])
 four a b c d e f g h p q r s =
     joined (a ++ b ++ c) d (e ++ f ++ g) h (joined (a ++ b) c (e ++ f) g (joined a b e f p q) r) s ∙ append_assoc (e ++ f) g h
     ∙ append_assoc e f (g ++ h) ∙ ap (λ l. e ++ (f ++ (g ++ l))) (sym (append-nil h))

@@ -1,4 +1,5 @@
-pub mod Behind
+pub mod Suffix
+pub mod Faults
 pub mod Here
 pub mod Laws
 pub mod PlanLaws

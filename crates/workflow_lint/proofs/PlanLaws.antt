@@ -71,9 +71,9 @@ first_of_needs jobs =
 
 -- ---- the plan
 
-same_behind : (fs gs hs : List Refusal) → first_of gs ≡ first_of hs → first_of (fs ++ gs) ≡ first_of (fs ++ hs)
-same_behind [] gs hs same = same
-same_behind (f ∷ fs) gs hs same = refl
+same_after : (fs gs hs : List Refusal) → first_of gs ≡ first_of hs → first_of (fs ++ gs) ≡ first_of (fs ++ hs)
+same_after [] gs hs same = same
+same_after (f ∷ fs) gs hs same = refl
 
 of_matrices : (jobs : List Job) → refusals (matrices_found jobs) ≡ legs_faults jobs
 of_matrices jobs =
@@ -83,7 +83,7 @@ first_of_plan : (jobs : List Job) → first_of (refusals (plan_found jobs)) ≡ 
 first_of_plan jobs =
     ap first_of (of_join (matrices_found jobs) (needs_found (map needs_of_job jobs)))
     ∙ ap (λ l. first_of (l ++ refusals (needs_found (map needs_of_job jobs)))) (of_matrices jobs)
-    ∙ same_behind (legs_faults jobs) _ _ (first_of_needs (map needs_of_job jobs))
+    ∙ same_after (legs_faults jobs) _ _ (first_of_needs (map needs_of_job jobs))
 
 -- ---- all findings
 

@@ -9,6 +9,8 @@ use Rattle.wf_expr.specs.declared.place.ContextSite.TheVariants as place
 use Rattle.wf_reader.specs.Body.{json_of}
 use Rattle.wf_reader.specs.Faults.{fault, fault_unless}
 use Rattle.wf_reader.specs.Json.{member_at, members_of}
+use Rattle.wf_reader.specs.declared.body.TheConstants.{MAX_BODY}
+use Rattle.wf_reader.specs.declared.workflow.TheConstants.{MAX_JOBS}
 use Rattle.workflow_lint.specs.Checks.{found_by, optional_at}
 use Rattle.workflow_lint.specs.Findings.{at}
 use Rattle.workflow_lint.specs.InJob.{concurrency_at, job_at}
@@ -22,7 +24,7 @@ each_job_at jobs = flat_map (λ job. job_at (member_path (codes "jobs") job.0) j
 
 abbrev pub jobs_at : List (List ℕ × Data) → List Finding
 jobs_at [] = at (codes "jobs") (fault WrongKind)
-jobs_at (j ∷ js) = at (codes "jobs") (fault_unless (nat_le (length (j ∷ js)) 256) TooManyJobs) ++ each_job_at (j ∷ js)
+jobs_at (j ∷ js) = at (codes "jobs") (fault_unless (nat_le (length (j ∷ js)) MAX_JOBS) TooManyJobs) ++ each_job_at (j ∷ js)
 
 abbrev pub inside_workflow_at : Data → List Finding
 inside_workflow_at d =
@@ -36,4 +38,4 @@ workflow_at d = if is_some (as_object d) then inside_workflow_at d else at [] (f
 
 abbrev pub found_in_text : List ℕ → List Finding
 found_in_text bytes =
-    if nat_le (length bytes) 65536 then option_map_or workflow_at (json_of bytes) (at [] (fault NotJson)) else at [] (fault TooLong)
+    if nat_le (length bytes) MAX_BODY then option_map_or workflow_at (json_of bytes) (at [] (fault NotJson)) else at [] (fault TooLong)

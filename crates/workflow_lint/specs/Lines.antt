@@ -28,7 +28,7 @@ meaning_of_code _ = codes "refused"
 
 abbrev pub meaning : Refusal → List ℕ
 meaning (Numbered c) = meaning_of_code c
-meaning (Cycle ids) = codes "jobs that need one another in a circle:"
+meaning (Cycle ids) = codes "jobs that need one another in a cycle:"
 meaning (Turn last) = codes "refused"
 
 abbrev pub shown_path : List ℕ → List ℕ

@@ -1,19 +1,20 @@
 //! Checks of values whose contents are not inspected further.
 
-ghost use Rattle.std.specs.Prelude.{◌≡◌, ◌++◌, IfOk, OnOk, option_to_list};
+ghost use Rattle.std.specs.Prelude.{◌≡◌, Err, IfOk, IsErr, is_some, option_to_list};
 ghost use Rattle.serde_json.specs.View.{view};
-ghost use Rattle.wf_reader.specs.Faults.{fault_unless};
+ghost use Rattle.wf_value.specs.Gives.{no_memory};
+ghost use Rattle.wf_reader.specs.Faults.{fault_unless, outcome_faults};
 ghost use Rattle.wf_reader.specs.Flags.{flag_faults};
 ghost use Rattle.wf_reader.specs.Job.{label_faults};
-ghost use Rattle.wf_reader.specs.Templates.{template_faults};
-ghost use Rattle.workflow_lint.specs.Checks.{faults_by, found_by};
+ghost use Rattle.wf_reader.specs.Json.{scalar_in};
+ghost use Rattle.workflow_lint.specs.Checks.{faults_by};
 
-use crate::condition::is_condition;
 use crate::finding::{Finding, push_if};
-use crate::scalars::{is_limit, is_scalar};
+use crate::rule::Rule;
 use serde_json::Value;
 use std::alloc::{AllocError, Global};
-use wf_expr::{ContextSite, Template};
+use wf_expr::ContextSite;
+use wf_reader::{condition_in, flag_of, max_parallel_in, read_label, scalar_of};
 use wf_value::{Code, Refusal};
 
 /// What a value is required to be.
@@ -42,15 +43,12 @@ fn fault_unless(passes: bool, code: Code) -> Option<Refusal>
     }
 }
 
-/// The fault of a text as a template, if any.
-pub(crate) fn template_fault(
-    alloc: Global,
-    place: ContextSite,
-    text: &str,
-) -> Result<Option<Refusal>, AllocError>
-    ensures { IfOk result (λ fault. option_to_list fault ≡ template_faults place text.now) }
+/// The fault with which the reader or the planner refuses, if any. Out of memory is no fault of the workflow.
+pub(crate) fn fault_of<T: Drop>(outcome: Result<T, Refusal>) -> Result<Option<Refusal>, AllocError>
+    ensures fault { IfOk result (λ fault. option_to_list fault ≡ outcome_faults outcome) }
+    ensures memory { outcome ≡ Err no_memory → IsErr result }
 {
-    match Template::parse(alloc, text, place) {
+    match outcome {
         Ok(_) => Ok(None),
         Err(Refusal::Numbered(Code::NoMemory)) => Err(AllocError),
         Err(refusal) => Ok(Some(refusal)),
@@ -60,10 +58,7 @@ pub(crate) fn template_fault(
 fn label_fault(alloc: Global, value: &Value) -> Result<Option<Refusal>, AllocError>
     ensures { IfOk result (λ fault. option_to_list fault ≡ label_faults (view value.now)) }
 {
-    match value {
-        Value::String(text) => template_fault(alloc, ContextSite::Job, text.as_str()),
-        _ => Ok(Some(Refusal::Numbered(Code::WrongKind))),
-    }
+    fault_of(read_label(alloc, value))
 }
 
 fn flag_fault(
@@ -73,11 +68,14 @@ fn flag_fault(
 ) -> Result<Option<Refusal>, AllocError>
     ensures { IfOk result (λ fault. option_to_list fault ≡ flag_faults place (view value.now)) }
 {
-    match value {
-        Value::Bool(_) => Ok(None),
-        Value::String(text) => template_fault(alloc, place, text.as_str()),
-        _ => Ok(Some(Refusal::Numbered(Code::WrongKind))),
-    }
+    fault_of(flag_of(alloc, value, place))
+}
+
+/// Whether a value is allowed in a matrix.
+fn is_scalar(value: &Value) -> bool
+    ensures { result ≡ is_some (scalar_in (view value.now)) }
+{
+    scalar_of(value).is_some()
 }
 
 fn fault_by(alloc: Global, check: Check, value: &Value) -> Result<Option<Refusal>, AllocError>
@@ -87,25 +85,28 @@ fn fault_by(alloc: Global, check: Check, value: &Value) -> Result<Option<Refusal
         Check::Text => fault_unless(value.is_string(), Code::WrongKind),
         Check::Label => label_fault(alloc, value)?,
         Check::Flag(place) => flag_fault(alloc, place, value)?,
-        Check::Condition => fault_unless(is_condition(value), Code::Condition),
+        Check::Condition => fault_unless(condition_in(value).is_some(), Code::Condition),
         Check::FailFast => fault_unless(value.is_boolean(), Code::StrategyMember),
-        Check::MaxParallel => fault_unless(is_limit(value), Code::StrategyMember),
+        Check::MaxParallel => fault_unless(max_parallel_in(value).is_some(), Code::StrategyMember),
         Check::MatrixValue => fault_unless(is_scalar(value), Code::MatrixValue),
         Check::LeftOut => Some(Refusal::Numbered(Code::LeftOut)),
     };
     Ok(fault)
 }
 
-/// Appends the finding of a check for the value at a path.
-pub(crate) fn check_value(
-    alloc: Global,
-    check: Check,
-    path: &str,
-    value: &Value,
-    found: &mut Vec<Finding>,
-) -> Result<(), AllocError>
-    ensures { OnOk result (found.new.items ≡ found.old.items ++ found_by check path.now (view value.now)) }
-{
-    let fault = fault_by(alloc, check, value)?;
-    push_if(alloc, path, fault, found)
+impl Rule for Check {
+    ghost use Rattle.workflow_lint.specs.Checks.{found_by};
+
+    ghost findings = { found_by };
+
+    fn check(
+        &self,
+        alloc: Global,
+        path: &str,
+        value: &Value,
+        found: &mut Vec<Finding>,
+    ) -> Result<(), AllocError> {
+        let fault = fault_by(alloc, *self, value)?;
+        push_if(alloc, path, fault, found)
+    }
 }

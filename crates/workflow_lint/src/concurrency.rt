@@ -1,80 +1,23 @@
 //! The `concurrency` of a workflow or of a job.
 
-ghost use Rattle.std.specs.Prelude.{◌≡◌, ◌++◌, [], IfOk, OnOk, codes, option_map, string_bytes, unwrap_or};
-ghost use Rattle.std.specs.List.{list_all};
+ghost use Rattle.std.specs.Prelude.{◌≡◌, ◌++◌, [], IfOk, OnOk, option_to_list, string_bytes, unwrap_or};
 ghost use Rattle.serde_json.specs.View.{view};
-ghost use Rattle.wf_reader.specs.Concurrency.{group_text, has_its_names, is_concurrency, is_concurrency_name, is_truth_or_text};
+ghost use Rattle.wf_reader.specs.Concurrency.{group_text, is_concurrency};
 ghost use Rattle.wf_reader.specs.Faults.{fault_unless};
 ghost use Rattle.wf_reader.specs.Templates.{template_faults};
 ghost use Rattle.wf_value.specs.declared.code.Code.TheVariants.{WrongKind};
-ghost use Rattle.workflow_lint.specs.Checks.{optional_at};
 ghost use Rattle.workflow_lint.specs.Findings.{at};
-ghost use Rattle.workflow_lint.specs.InJob.{concurrency_at, group_path};
+ghost use Rattle.workflow_lint.specs.InJob.{group_path};
 
-use crate::check::{Check, template_fault};
+use crate::check::{Check, fault_of};
 use crate::finding::{Finding, push_code, push_if};
-use crate::member::check_member;
 use crate::paths::member_path;
-use serde_json::{Map, Value};
+use crate::rule::{Rule, check_member};
+use serde_json::Value;
 use std::alloc::{AllocError, Global};
 use wf_expr::ContextSite;
-use wf_value::Code;
-
-/// The text that names the group: the value itself, or its member `group`.
-fn group_text(value: &Value) -> Option<&str>
-    ensures { option_map (λ t. t.now) result ≡ group_text (view value.now) }
-{
-    match value.as_str() {
-        Some(text) => Some(text),
-        None => value.get("group").and_then(Value::as_str),
-    }
-}
-
-fn is_name(name: &str) -> bool
-    ensures { result ≡ is_concurrency_name name.now }
-{
-    name == "group" || name == "cancel-in-progress"
-}
-
-fn are_names(members: &Map<String, Value>) -> bool
-    ensures { result ≡ list_all (λ e. is_concurrency_name (string_bytes e.0)) members.now.entries }
-{
-    for (name, _) in members {
-        if !is_name(name.as_str()) {
-            return false;
-        }
-    }
-    true
-}
-
-/// Whether an object has only the members `group` and `cancel-in-progress`. True for a value that is not an object.
-fn has_its_names(value: &Value) -> bool
-    ensures { result ≡ has_its_names (view value.now) }
-{
-    match value.as_object() {
-        Some(members) => are_names(members),
-        None => true,
-    }
-}
-
-fn is_truth_or_text(value: &Value) -> bool
-    ensures { result ≡ is_truth_or_text (view value.now) }
-{
-    value.is_boolean() || value.is_string()
-}
-
-/// Whether a value has the kinds that a `concurrency` requires, including those of its members.
-fn is_concurrency(value: &Value) -> bool
-    ensures { result ≡ is_concurrency (view value.now) }
-{
-    if group_text(value).is_none() || !has_its_names(value) {
-        return false;
-    }
-    match value.get("cancel-in-progress") {
-        Some(flag) => is_truth_or_text(flag),
-        None => true,
-    }
-}
+use wf_reader::{is_concurrency, read_group};
+use wf_value::{Code, Refusal};
 
 fn check_kind(
     alloc: Global,
@@ -100,6 +43,17 @@ fn group_path(alloc: Global, path: &str, value: &Value) -> Result<String, AllocE
     member_path(alloc, path, "group")
 }
 
+/// The fault of the text that names the group, if any.
+fn group_fault(
+    alloc: Global,
+    place: ContextSite,
+    value: &Value,
+) -> Result<Option<Refusal>, AllocError>
+    ensures { IfOk result (λ fault. option_to_list fault ≡ template_faults place (unwrap_or (group_text (view value.now)) [])) }
+{
+    fault_of(read_group(alloc, value, place))
+}
+
 fn check_group(
     alloc: Global,
     place: ContextSite,
@@ -110,47 +64,32 @@ fn check_group(
     ensures { OnOk result (found.new.items ≡ found.old.items
         ++ at (group_path path.now (view value.now)) (template_faults place (unwrap_or (group_text (view value.now)) []))) }
 {
-    let fault = template_fault(alloc, place, group_text(value).unwrap_or(""))?;
+    let fault = group_fault(alloc, place, value)?;
     let path = group_path(alloc, path, value)?;
     push_if(alloc, path.as_str(), fault, found)
 }
 
-/// Appends the findings of a concurrency: first wrong kinds, of the value and of its members, then faults of its templates.
-pub(crate) fn check_concurrency(
-    alloc: Global,
-    place: ContextSite,
-    path: &str,
-    value: &Value,
-    found: &mut Vec<Finding>,
-) -> Result<(), AllocError>
-    ensures { OnOk result (found.new.items ≡ found.old.items ++ concurrency_at place path.now (view value.now)) }
-{
-    check_kind(alloc, path, value, found)?;
-    check_group(alloc, place, path, value, found)?;
-    check_member(
-        alloc,
-        Check::Flag(place),
-        path,
-        value,
-        "cancel-in-progress",
-        found,
-    )
+/// The rule for a `concurrency`: first wrong kinds, of the value and of its members, then faults of its templates.
+#[derive(Clone, Copy)]
+pub(crate) struct ConcurrencyIn {
+    pub(crate) place: ContextSite,
 }
 
-/// Appends the findings of the `concurrency` of the object at a path, if it has one.
-pub(crate) fn check_its_concurrency(
-    alloc: Global,
-    place: ContextSite,
-    path: &str,
-    object: &Value,
-    found: &mut Vec<Finding>,
-) -> Result<(), AllocError>
-    ensures { OnOk result (found.new.items ≡ found.old.items
-        ++ optional_at (concurrency_at place) path.now (codes "concurrency") (view object.now)) }
-{
-    let Some(value) = object.get("concurrency") else {
-        return Ok(());
-    };
-    let path = member_path(alloc, path, "concurrency")?;
-    check_concurrency(alloc, place, path.as_str(), value, found)
+impl Rule for ConcurrencyIn {
+    ghost use Rattle.workflow_lint.specs.InJob.{concurrency_at};
+
+    ghost findings = { λ c. concurrency_at c.place };
+
+    fn check(
+        &self,
+        alloc: Global,
+        path: &str,
+        value: &Value,
+        found: &mut Vec<Finding>,
+    ) -> Result<(), AllocError> {
+        check_kind(alloc, path, value, found)?;
+        check_group(alloc, self.place, path, value, found)?;
+        let flag = Check::Flag(self.place);
+        check_member(alloc, &flag, path, value, "cancel-in-progress", found)
+    }
 }

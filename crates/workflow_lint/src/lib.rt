@@ -5,17 +5,13 @@
 
 mod check;
 mod concurrency;
-mod condition;
 mod finding;
 mod job;
-mod job_id;
 mod lines;
-mod lists;
 mod matrix;
-mod member;
 mod paths;
 mod plan;
-mod scalars;
+mod rule;
 mod strategy;
 mod workflow;
 

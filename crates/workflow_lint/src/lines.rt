@@ -40,7 +40,7 @@ fn meaning(refusal: &Refusal) -> &'static str
 {
     match refusal {
         Refusal::Numbered(code) => meaning_of_code(*code),
-        Refusal::Cycle(_) => "jobs that need one another in a circle:",
+        Refusal::Cycle(_) => "jobs that need one another in a cycle:",
         Refusal::Turn(_) => "refused",
     }
 }

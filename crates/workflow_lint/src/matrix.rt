@@ -1,83 +1,69 @@
 //! The matrix of a strategy.
 
-ghost use Rattle.std.specs.Prelude.{◌≡◌, ◌++◌, OnOk, Some, codes, map, string_bytes};
+ghost use Rattle.std.specs.Prelude.{◌≡◌, ◌++◌, OnOk, Some, map, string_bytes};
 ghost use Rattle.std.specs.List.{filter};
 ghost use Rattle.serde_json.specs.Find.{as_object};
 ghost use Rattle.serde_json.specs.View.{members_view, view};
 ghost use Rattle.wf_reader.specs.MatrixOf.{is_variable_name};
-ghost use Rattle.workflow_lint.specs.Checks.{items_at, members_at, optional_at};
-ghost use Rattle.workflow_lint.specs.InMatrix.{inside_matrix_at, matrix_at, pattern_at, patterns_at, variable_at};
+ghost use Rattle.workflow_lint.specs.Checks.{members_at};
+ghost use Rattle.workflow_lint.specs.InMatrix.{inside_matrix_at, variable_at};
 
 use crate::check::Check;
 use crate::finding::{Finding, push_code};
-use crate::lists::{check_items, check_members};
-use crate::paths::{item_path, member_path};
+use crate::paths::member_path;
+use crate::rule::{Rule, check_items, check_member, check_members};
 use serde_json::{Map, Value};
 use std::alloc::{AllocError, Global};
+use wf_reader::is_variable_name;
 use wf_value::Code;
 
-/// Checks an object of `include` or `exclude`.
-fn check_pattern(
-    alloc: Global,
-    path: &str,
-    value: &Value,
-    found: &mut Vec<Finding>,
-) -> Result<(), AllocError>
-    ensures { OnOk result (found.new.items ≡ found.old.items ++ pattern_at path.now (view value.now)) }
-{
-    let Some(members) = value.as_object() else {
-        return push_code(alloc, path, Code::MatrixValue, found);
-    };
-    if members.is_empty() {
-        return push_code(alloc, path, Code::EmptyList, found);
-    }
-    check_members(alloc, Check::MatrixValue, path, members, found)
-}
+/// The rule for an object of `include` or `exclude`.
+#[derive(Clone, Copy)]
+struct Pattern;
 
-fn check_each_pattern(
-    alloc: Global,
-    path: &str,
-    values: &[Value],
-    found: &mut Vec<Finding>,
-) -> Result<(), AllocError>
-    ensures { OnOk result (found.new.items ≡ found.old.items ++ items_at pattern_at path.now (map view values.now)) }
-{
-    for i in 0..values.len() {
-        let path = item_path(alloc, path, i)?;
-        check_pattern(alloc, path.as_str(), &values[i], found)?;
-    }
-    Ok(())
-}
+impl Rule for Pattern {
+    ghost use Rattle.workflow_lint.specs.InMatrix.{pattern_at};
 
-fn check_patterns(
-    alloc: Global,
-    path: &str,
-    value: &Value,
-    found: &mut Vec<Finding>,
-) -> Result<(), AllocError>
-    ensures { OnOk result (found.new.items ≡ found.old.items ++ patterns_at path.now (view value.now)) }
-{
-    match value.as_array() {
-        Some(values) => check_each_pattern(alloc, path, values.as_slice(), found),
-        None => push_code(alloc, path, Code::MatrixValue, found),
+    ghost findings = { λ _. pattern_at };
+
+    fn check(
+        &self,
+        alloc: Global,
+        path: &str,
+        value: &Value,
+        found: &mut Vec<Finding>,
+    ) -> Result<(), AllocError> {
+        let Some(members) = value.as_object() else {
+            return push_code(alloc, path, Code::MatrixValue, found);
+        };
+        if members.is_empty() {
+            return push_code(alloc, path, Code::EmptyList, found);
+        }
+        check_members(alloc, &Check::MatrixValue, path, members, found)
     }
 }
 
-/// Checks the `include` or the `exclude` of a matrix, if it has one.
-fn check_its_patterns(
-    alloc: Global,
-    path: &str,
-    matrix: &Value,
-    name: &str,
-    found: &mut Vec<Finding>,
-) -> Result<(), AllocError>
-    ensures { OnOk result (found.new.items ≡ found.old.items ++ optional_at patterns_at path.now name.now (view matrix.now)) }
-{
-    let Some(value) = matrix.get(name) else {
-        return Ok(());
-    };
-    let path = member_path(alloc, path, name)?;
-    check_patterns(alloc, path.as_str(), value, found)
+/// The rule for `include` and `exclude`: a list of objects.
+#[derive(Clone, Copy)]
+struct Patterns;
+
+impl Rule for Patterns {
+    ghost use Rattle.workflow_lint.specs.InMatrix.{patterns_at};
+
+    ghost findings = { λ _. patterns_at };
+
+    fn check(
+        &self,
+        alloc: Global,
+        path: &str,
+        value: &Value,
+        found: &mut Vec<Finding>,
+    ) -> Result<(), AllocError> {
+        match value.as_array() {
+            Some(values) => check_items(alloc, &Pattern, path, values.as_slice(), found),
+            None => push_code(alloc, path, Code::MatrixValue, found),
+        }
+    }
 }
 
 fn check_variable(
@@ -94,14 +80,7 @@ fn check_variable(
     if values.is_empty() {
         return push_code(alloc, path, Code::EmptyList, found);
     }
-    check_items(alloc, Check::MatrixValue, path, values.as_slice(), found)
-}
-
-/// Whether a member of a matrix is a variable.
-fn is_variable(name: &str) -> bool
-    ensures { result ≡ is_variable_name name.now }
-{
-    name != "include" && name != "exclude"
+    check_items(alloc, &Check::MatrixValue, path, values.as_slice(), found)
 }
 
 fn check_variables(
@@ -116,7 +95,7 @@ fn check_variables(
 {
     for (name, value) in members {
         let name = name.as_str();
-        if !is_variable(name) {
+        if !is_variable_name(name) {
             continue;
         }
         let path = member_path(alloc, path, name)?;
@@ -135,37 +114,30 @@ fn check_inside(
     requires { Some (members_view members.now.entries) ≡ as_object (view value.now) }
     ensures { OnOk result (found.new.items ≡ found.old.items ++ inside_matrix_at path.now (view value.now)) }
 {
-    check_its_patterns(alloc, path, value, "include", found)?;
-    check_its_patterns(alloc, path, value, "exclude", found)?;
+    check_member(alloc, &Patterns, path, value, "include", found)?;
+    check_member(alloc, &Patterns, path, value, "exclude", found)?;
     check_variables(alloc, path, members, found)
 }
 
-fn check_matrix(
-    alloc: Global,
-    path: &str,
-    value: &Value,
-    found: &mut Vec<Finding>,
-) -> Result<(), AllocError>
-    ensures { OnOk result (found.new.items ≡ found.old.items ++ matrix_at path.now (view value.now)) }
-{
-    match value.as_object() {
-        Some(members) => check_inside(alloc, path, value, members, found),
-        None => push_code(alloc, path, Code::StrategyMember, found),
-    }
-}
+/// The rule for a `matrix`.
+#[derive(Clone, Copy)]
+pub(crate) struct Matrix;
 
-/// Appends the findings of the `matrix` of the strategy at a path, if it has one.
-pub(crate) fn check_its_matrix(
-    alloc: Global,
-    path: &str,
-    strategy: &Value,
-    found: &mut Vec<Finding>,
-) -> Result<(), AllocError>
-    ensures { OnOk result (found.new.items ≡ found.old.items ++ optional_at matrix_at path.now (codes "matrix") (view strategy.now)) }
-{
-    let Some(value) = strategy.get("matrix") else {
-        return Ok(());
-    };
-    let path = member_path(alloc, path, "matrix")?;
-    check_matrix(alloc, path.as_str(), value, found)
+impl Rule for Matrix {
+    ghost use Rattle.workflow_lint.specs.InMatrix.{matrix_at};
+
+    ghost findings = { λ _. matrix_at };
+
+    fn check(
+        &self,
+        alloc: Global,
+        path: &str,
+        value: &Value,
+        found: &mut Vec<Finding>,
+    ) -> Result<(), AllocError> {
+        match value.as_object() {
+            Some(members) => check_inside(alloc, path, value, members, found),
+            None => push_code(alloc, path, Code::StrategyMember, found),
+        }
+    }
 }

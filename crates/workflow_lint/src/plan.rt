@@ -10,10 +10,10 @@ ghost use Rattle.run_plan.specs.PlanOf.{job_faults, needs_of_job};
 ghost use Rattle.workflow_lint.specs.Plans.{matrices_found, matrix_found, need_found, needs_found, path_in_job, plan_found, unknown_found};
 ghost use Rattle.workflow_lint.specs.Plans.{unknown_in};
 
+use crate::check::fault_of;
 use crate::finding::{Finding, push_if, push_refusal};
 use crate::paths::{item_path, member_path};
-use needs_graph::{Graph, JobNeeds};
-use run_plan::JobLegs;
+use run_plan::{JobLegs, graph_of};
 use std::alloc::{AllocError, Global};
 use wf_reader::Job;
 use wf_value::{Chars, Code, Refusal, Same};
@@ -30,11 +30,7 @@ fn path_in_job(alloc: Global, id: &str, name: &str) -> Result<String, AllocError
 fn matrix_fault(alloc: Global, job: &Job) -> Result<Option<Refusal>, AllocError>
     ensures { IfOk result (λ fault. option_to_list fault ≡ job_faults job.now) }
 {
-    match JobLegs::of(alloc, job) {
-        Ok(_) => Ok(None),
-        Err(Refusal::Numbered(Code::NoMemory)) => Err(AllocError),
-        Err(refusal) => Ok(Some(refusal)),
-    }
+    fault_of(JobLegs::of(alloc, job))
 }
 
 fn check_matrix(alloc: Global, job: &Job, found: &mut Vec<Finding>) -> Result<(), AllocError>
@@ -118,15 +114,7 @@ fn graph_fault(alloc: Global, jobs: &[Job]) -> Result<Option<Refusal>, AllocErro
     requires { IsTrue (ids_rise jobs.now) }
     ensures { IfOk result (λ fault. option_to_list fault ≡ outcome_faults (graph_of (map needs_of_job jobs.now))) }
 {
-    let mut needs = Vec::with_capacity(alloc, jobs.len())?;
-    for job in jobs {
-        needs.push(JobNeeds::new(&job.id, job.needs.as_slice()))?;
-    }
-    match Graph::build(alloc, needs.as_slice()) {
-        Ok(_) => Ok(None),
-        Err(Refusal::Numbered(Code::NoMemory)) => Err(AllocError),
-        Err(refusal) => Ok(Some(refusal)),
-    }
+    fault_of(graph_of(alloc, jobs))
 }
 
 /// The findings of the jobs' needs: each unknown id, or, if all are known, a cycle.

@@ -12,20 +12,17 @@ ghost use Rattle.workflow_lint.specs.InWorkflow.{each_job_at, found_in_text, ins
 ghost use Rattle.workflow_lint.specs.Plans.{first_of, found_in};
 
 use crate::check::Check;
-use crate::concurrency::check_its_concurrency;
+use crate::concurrency::ConcurrencyIn;
 use crate::finding::{Finding, push_code, push_refusal};
 use crate::job::check_job;
-use crate::member::check_member;
 use crate::paths::member_path;
 use crate::plan::plan_found;
+use crate::rule::check_member;
 use serde_json::{Map, Value};
 use std::alloc::{AllocError, Global};
 use wf_expr::ContextSite;
-use wf_reader::{read_body, read_workflow};
+use wf_reader::{MAX_JOBS, read_body, read_workflow};
 use wf_value::{Code, Refusal};
-
-/// The maximum number of jobs of a workflow.
-const MAX_JOBS: usize = 256;
 
 fn check_each_job(
     alloc: Global,
@@ -83,8 +80,16 @@ fn check_jobs(alloc: Global, workflow: &Value, found: &mut Vec<Finding>) -> Resu
 fn check_inside(alloc: Global, workflow: &Value, found: &mut Vec<Finding>) -> Result<(), AllocError>
     ensures { OnOk result (found.new.items ≡ found.old.items ++ inside_workflow_at (view workflow.now)) }
 {
-    check_member(alloc, Check::Text, "", workflow, "name", found)?;
-    check_its_concurrency(alloc, ContextSite::Workflow, "", workflow, found)?;
+    check_member(alloc, &Check::Text, "", workflow, "name", found)?;
+    let place = ContextSite::Workflow;
+    check_member(
+        alloc,
+        &ConcurrencyIn { place },
+        "",
+        workflow,
+        "concurrency",
+        found,
+    )?;
     check_jobs(alloc, workflow, found)
 }
 

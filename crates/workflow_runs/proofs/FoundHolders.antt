@@ -23,12 +23,12 @@ use Rattle.run_states.proofs.NamedOnce.{not_same}
 use Rattle.run_bindings.specs.Bindings.{group_request_of}
 use Rattle.run_bindings.specs.GroupNumbers.{Entries, OnlyEnters}
 use Rattle.run_bindings.specs.declared.bindings.RunBindings.{RunBindings}
-use Rattle.workflow_runs.specs.FoundHolders.{AllAreFound, HoldersAreFound, IsFound, IsListed, IsListedAt, OnlyLists, Stands, StillFound}
-use Rattle.workflow_runs.specs.MarkedRuns.{is_so_at}
+use Rattle.workflow_runs.specs.FoundHolders.{AllAreFound, HoldersAreFound, IsFound, IsListed, IsListedAt, OnlyLists, IsActiveHolder, StillFound}
+use Rattle.resuming_laws.specs.RunFacts.{is_so_at}
 use Rattle.workflow_runs.specs.declared.runs.group_holders.GroupHolders.{GroupHolders}
-use Rattle.workflow_runs.proofs.HoldersFade.{by_run, job_passes, leg_passes, passes, run_passes}
+use Rattle.settling_laws.proofs.HoldersFade.{by_run, job_passes, leg_passes, passes, run_passes}
 use Rattle.workflow_runs.proofs.MarkedRuns.{put_adds}
-use Rattle.workflow_runs.proofs.NoneActive.{none_of}
+use Rattle.resuming_laws.proofs.NoneActive.{none_of}
 use Rattle.workflow_runs.proofs.StoodBefore.{Stood}
 use Rattle.run_states.specs.declared.holder.Holder.{Holder}
 use Rattle.run_states.specs.declared.holder.Holder.TheVariants.{Run, Leg}
@@ -76,7 +76,7 @@ pub all_entered : (runs : List RunState) (bindings : List RunBindings) (old new 
     → HoldersAreFound runs bindings old unlisted → HoldersAreFound runs bindings new unlisted
 all_entered runs bindings old new unlisted enters are = record {
   covers = are.covers;
-  found = (λ h kept stands at. found_entered old new unlisted kept h enters (are.found h kept stands at));
+  found = (λ h kept is_active_holder at. found_entered old new unlisted kept h enters (are.found h kept is_active_holder at));
 }
 
 -- more room for marks
@@ -84,15 +84,15 @@ pub all_roomier : (runs : List RunState) (bindings : List RunBindings) (entries 
     → length old ≤ length new → HoldersAreFound runs bindings entries old → HoldersAreFound runs bindings entries new
 all_roomier runs bindings entries old new same room are = record {
   covers = omega (arith, are.covers, room);
-  found = (λ h kept stands at.
-      found_marked entries old new kept h (λ mark. same (place_of h) ∙ mark) (are.found h kept stands at));
+  found = (λ h kept is_active_holder at.
+      found_marked entries old new kept h (λ mark. same (place_of h) ∙ mark) (are.found h kept is_active_holder at));
 }
 
 -- no runs
 pub none_found : (entries : Entries) (unlisted : List ℕ) → HoldersAreFound [] [] entries unlisted
 none_found entries unlisted = record {
   covers = omega arith;
-  found = (λ h kept stands at. cc);
+  found = (λ h kept is_active_holder at. cc);
 }
 
 -- ---- after a change of one run
@@ -118,17 +118,17 @@ if_it None P says h is = cc
 if_it (Some k) P says h is = subst P (same_Some k h is) says
 
 pub found_after : (runs next : List RunState) (bindings : List RunBindings) (old new : Entries) (marks marks' : List ℕ) (r : ℕ) (c : Change)
-    (asked : RunBindings) → length next ≡ length runs → length marks' ≡ length marks → slice_get bindings r ≡ Some asked
-    → ((h : Holder) → Stands next h → Stood runs (newcomer r c) h) → IfSome (newcomer r c) (IsFound new marks' asked)
+    (requested : RunBindings) → length next ≡ length runs → length marks' ≡ length marks → slice_get bindings r ≡ Some requested
+    → ((h : Holder) → IsActiveHolder next h → Stood runs (newcomer r c) h) → IfSome (newcomer r c) (IsFound new marks' requested)
     → StillFound runs old marks new marks' → HoldersAreFound runs bindings old marks → HoldersAreFound next bindings new marks'
-found_after runs next bindings old new marks marks' r c asked many room kept_at stood itself still are = record {
+found_after runs next bindings old new marks marks' r c requested many room kept_at stood itself still are = record {
   covers = omega (arith, are.covers, many, room);
-  found = (λ h kept stands at.
-      elim (stood h stands) [
+  found = (λ h kept is_active_holder at.
+      elim (stood h is_active_holder) [
         | inl it ↦
             let here : slice_get bindings r ≡ Some kept = ap (slice_get bindings) (sym (newcomer_there r c h it)) ∙ at in
-            subst (λ (k : RunBindings). IsFound new marks' k h) (same_Some asked kept (sym kept_at ∙ here))
-            (if_it (newcomer r c) (IsFound new marks' asked) itself h it)
+            subst (λ (k : RunBindings). IsFound new marks' k h) (same_Some requested kept (sym kept_at ∙ here))
+            (if_it (newcomer r c) (IsFound new marks' requested) itself h it)
         | inr before ↦ still h kept before (are.found h kept before at)
       ]);
 }
@@ -151,10 +151,10 @@ no_leg_passes test weaker x j l none e = by_job (slice_get x.jobs j) refl e
     by_job None at e = true≢false (sym e)
     by_job (Some y) at e = by_leg y (none_of has_active_leg x.jobs j y none at) (slice_get y.legs l) refl e
 
-no_leg_stands : (runs : List RunState) (p : LegPlace) (x : RunState) → run_at runs p.run ≡ Some x
-    → list_any has_active_leg x.jobs ≡ false → Stands runs (Leg p) → ⊥
-no_leg_stands runs p x at none stands =
-    elim (stands) [
+no_leg_is_active : (runs : List RunState) (p : LegPlace) (x : RunState) → run_at runs p.run ≡ Some x
+    → list_any has_active_leg x.jobs ≡ false → IsActiveHolder runs (Leg p) → ⊥
+no_leg_is_active runs p x at none is_active_holder =
+    elim (is_active_holder) [
       | inl e ↦ no_leg_passes leg_waits (λ leg rests. (idle leg.phase rests).0) x p.job p.leg none
           (ap (passes (run_passes leg_waits p.job p.leg)) (sym at) ∙ sym (by_run leg_waits runs p) ∙ e)
       | inr e ↦ no_leg_passes leg_holds (λ leg rests. (idle leg.phase rests).1) x p.job p.leg none
@@ -163,104 +163,104 @@ no_leg_stands runs p x at none stands =
 
 -- ---- a run replaces another, or is added at the end
 
-by_its_run : (runs next : List RunState) (h : Holder) → run_at next (place_of h) ≡ run_at runs (place_of h) → Stands next h → Stands runs h
-by_its_run runs next (Run s) same stands =
-    subst (λ (o : Option RunState). (passes (λ x. run_waits x.phase) o ≡ true) ⊎ (passes (λ x. is_live x.phase) o ≡ true)) same stands
-by_its_run runs next (Leg p) same stands =
-    elim (stands) [
+by_its_run : (runs next : List RunState) (h : Holder) → run_at next (place_of h) ≡ run_at runs (place_of h) → IsActiveHolder next h → IsActiveHolder runs h
+by_its_run runs next (Run s) same is_active_holder =
+    subst (λ (o : Option RunState). (passes (λ x. run_waits x.phase) o ≡ true) ⊎ (passes (λ x. is_live x.phase) o ≡ true)) same is_active_holder
+by_its_run runs next (Leg p) same is_active_holder =
+    elim (is_active_holder) [
       | inl e ↦ inl (by_run leg_waits runs p ∙ ap (passes (run_passes leg_waits p.job p.leg)) (sym same)
           ∙ sym (by_run leg_waits next p) ∙ e)
       | inr e ↦ inr (by_run leg_holds runs p ∙ ap (passes (run_passes leg_holds p.job p.leg)) (sym same)
           ∙ sym (by_run leg_holds next p) ∙ e)
     ]
 
-module _ (runs next : List RunState) (bindings bindings' : List RunBindings) (old new : GroupHolders) (r : ℕ) (asked : RunBindings)
-    (asked_there : slice_get bindings' r ≡ Some asked) (other_runs : (s : ℕ) → (s ≡ r → ⊥) → run_at next s ≡ run_at runs s)
-    (other_asks : (s : ℕ) → (s ≡ r → ⊥) → slice_get bindings' s ≡ slice_get bindings s) (lists : OnlyLists next old new)
-    (all : AllAreFound next new.book.entries new.unlisted asked r)
+module _ (runs next : List RunState) (bindings bindings' : List RunBindings) (old new : GroupHolders) (r : ℕ) (requested : RunBindings)
+    (requested_there : slice_get bindings' r ≡ Some requested) (other_runs : (s : ℕ) → (s ≡ r → ⊥) → run_at next s ≡ run_at runs s)
+    (other_requests : (s : ℕ) → (s ≡ r → ⊥) → slice_get bindings' s ≡ slice_get bindings s) (lists : OnlyLists next old new)
+    (all : AllAreFound next new.book.entries new.unlisted requested r)
     (are : HoldersAreFound runs bindings old.book.entries old.unlisted) where
   pub found_with : Covers new.unlisted (length next) → HoldersAreFound next bindings' new.book.entries new.unlisted
   found_with room = record {
     covers = room;
-    found = (λ h kept stands at.
+    found = (λ h kept is_active_holder at.
         elim (cases_eq (place_of h) r) [
           | inl here ↦
               subst (λ (k : RunBindings). IsFound new.book.entries new.unlisted k h)
-              (same_Some asked kept (sym asked_there ∙ ap (slice_get bindings') (sym here) ∙ at)) (all h here stands)
+              (same_Some requested kept (sym requested_there ∙ ap (slice_get bindings') (sym here) ∙ at)) (all h here is_active_holder)
           | inr other ↦
-              let before = by_its_run runs next h (other_runs (place_of h) other) stands in
-              lists.found h kept stands (are.found h kept before (sym (other_asks (place_of h) other) ∙ at))
+              let before = by_its_run runs next h (other_runs (place_of h) other) is_active_holder in
+              lists.found h kept is_active_holder (are.found h kept before (sym (other_requests (place_of h) other) ∙ at))
         ]);
   }
 
 -- ---- a run that is not active is unmarked
 
-active_there : (runs : List RunState) (r : ℕ) (h : Holder) → is_so_at is_active runs r ≡ false → place_of h ≡ r → Stands runs h → ⊥
-active_there runs r h rests here stands = by (run_at runs r) refl rests
+active_there : (runs : List RunState) (r : ℕ) (h : Holder) → is_so_at is_active runs r ≡ false → place_of h ≡ r → IsActiveHolder runs h → ⊥
+active_there runs r h rests here is_active_holder = by (run_at runs r) refl rests
   where
     by_phase : (x : RunState) → is_active x ≡ false → (run_waits x.phase ≡ false) × (is_live x.phase ≡ false)
     by_phase x none =
         or_parts (run_waits x.phase) (is_live x.phase)
         (or_parts (run_waits x.phase || is_live x.phase) (list_any has_active_leg x.jobs) none).0
 
-    run_stands : (s : ℕ) (o : Option RunState) → run_at runs s ≡ o → option_map_or is_active o false ≡ false → Stands runs (Run s) → ⊥
-    run_stands s None at none e =
+    run_is_active : (s : ℕ) (o : Option RunState) → run_at runs s ≡ o → option_map_or is_active o false ≡ false → IsActiveHolder runs (Run s) → ⊥
+    run_is_active s None at none e =
         elim (e) [
           | inl w ↦ true≢false (sym w ∙ ap (passes (λ x. run_waits x.phase)) at)
           | inr w ↦ true≢false (sym w ∙ ap (passes (λ x. is_live x.phase)) at)
         ]
-    run_stands s (Some x) at none e =
+    run_is_active s (Some x) at none e =
         elim (e) [
           | inl w ↦ true≢false (sym w ∙ ap (passes (λ x. run_waits x.phase)) at ∙ (by_phase x none).0)
           | inr w ↦ true≢false (sym w ∙ ap (passes (λ x. is_live x.phase)) at ∙ (by_phase x none).1)
         ]
 
-    leg_stands : (p : LegPlace) (o : Option RunState) → run_at runs p.run ≡ o → option_map_or is_active o false ≡ false
-        → Stands runs (Leg p) → ⊥
-    leg_stands p None at none e =
+    leg_is_active : (p : LegPlace) (o : Option RunState) → run_at runs p.run ≡ o → option_map_or is_active o false ≡ false
+        → IsActiveHolder runs (Leg p) → ⊥
+    leg_is_active p None at none e =
         elim (e) [
           | inl w ↦ true≢false (sym w ∙ by_run leg_waits runs p ∙ ap (passes (run_passes leg_waits p.job p.leg)) at)
           | inr w ↦ true≢false (sym w ∙ by_run leg_holds runs p ∙ ap (passes (run_passes leg_holds p.job p.leg)) at)
         ]
-    leg_stands p (Some x) at none e =
-        no_leg_stands runs p x at (or_parts (run_waits x.phase || is_live x.phase) (list_any has_active_leg x.jobs) none).1 e
+    leg_is_active p (Some x) at none e =
+        no_leg_is_active runs p x at (or_parts (run_waits x.phase || is_live x.phase) (list_any has_active_leg x.jobs) none).1 e
 
     by_kind : (k : Holder) (o : Option RunState) → run_at runs (place_of k) ≡ o → option_map_or is_active o false ≡ false
-        → Stands runs k → ⊥
-    by_kind (Run s) o at none e = run_stands s o at none e
-    by_kind (Leg p) o at none e = leg_stands p o at none e
+        → IsActiveHolder runs k → ⊥
+    by_kind (Run s) o at none e = run_is_active s o at none e
+    by_kind (Leg p) o at none e = leg_is_active p o at none e
 
     by : (o : Option RunState) → run_at runs r ≡ o → option_map_or is_active o false ≡ false → ⊥
-    by o at none = by_kind h o (ap (run_at runs) here ∙ at) none stands
+    by o at none = by_kind h o (ap (run_at runs) here ∙ at) none is_active_holder
 
 pub found_unmarked : (runs : List RunState) (bindings : List RunBindings) (entries : Entries) (old new : List ℕ) (r : ℕ)
     → is_so_at is_active runs r ≡ false → Puts false r old new → length new ≡ length old → HoldersAreFound runs bindings entries old
     → HoldersAreFound runs bindings entries new
 found_unmarked runs bindings entries old new r rests puts room are = record {
   covers = omega (arith, are.covers, room);
-  found = (λ h kept stands at.
+  found = (λ h kept is_active_holder at.
       elim (cases_eq (place_of h) r) [
-        | inl here ↦ absurd (active_there runs r h rests here stands)
+        | inl here ↦ absurd (active_there runs r h rests here is_active_holder)
         | inr other ↦
             found_marked entries old new kept h
             (λ mark. puts (place_of h) ∙ ap (λ b. if b then false else is_marked old (place_of h)) (not_same (place_of h) r other) ∙ mark)
-            (are.found h kept stands at)
+            (are.found h kept is_active_holder at)
       ]);
 }
 
 -- ---- what listing keeps
 
 pub still_if_listed : (runs : List RunState) (old new : Entries) (unlisted : List ℕ)
-    → ((n : ℕ) (h : Holder) → Stands runs h → IsListedAt old n h → IsListedAt new n h) → StillFound runs old unlisted new unlisted
-still_if_listed runs old new unlisted stays h kept stands found =
+    → ((n : ℕ) (h : Holder) → IsActiveHolder runs h → IsListedAt old n h → IsListedAt new n h) → StillFound runs old unlisted new unlisted
+still_if_listed runs old new unlisted stays h kept is_active_holder found =
     found_by (IsFound new unlisted kept h) old unlisted kept h found (λ nothing. inl nothing) (λ mark. inr (inl mark))
     (λ slot. inr (inr (record {
       number = slot.number;
       numbered = slot.numbered;
-      at = stays slot.number h stands slot.at;
+      at = stays slot.number h is_active_holder slot.at;
     })))
 
 pub still_if_marked : (runs : List RunState) (entries : Entries) (old new : List ℕ) (r : ℕ) → Puts true r old new
     → StillFound runs entries old entries new
-still_if_marked runs entries old new r puts h kept stands found =
+still_if_marked runs entries old new r puts h kept is_active_holder found =
     found_marked entries old new kept h (put_adds r (place_of h) old new puts) found

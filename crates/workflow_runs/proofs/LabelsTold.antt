@@ -6,7 +6,7 @@ use Rattle.run_states.specs.LegContext.{LegFacts, context_at, context_of, facts_
 use Rattle.run_states.specs.declared.place.LegPlace.{LegPlace}
 use Rattle.run_states.specs.RunState.{RunState}
 use Rattle.run_states.specs.Words.{label_texts, labels_at}
-use Rattle.run_states.proofs.LegFacts.{plan_told}
+use Rattle.run_states.proofs.LegFacts.{plan_of_facts}
 
 labels_by : (o : Option LegFacts)
     → unwrap_or (option_map (λ planned. label_texts (option_map_or context_of o nothing) planned.labels) (option_map (λ f. f.job) o)) []
@@ -18,5 +18,5 @@ pub labels_told : (runs : List RunState) (p : LegPlace)
     → unwrap_or (labels_at runs p) [] ≡ option_map_or (λ f. label_texts (context_of f) f.job.labels) (facts_at runs p) []
 unfolding context_at
 labels_told runs p =
-    ap (λ o. unwrap_or (option_map (λ planned. label_texts (context_at runs p) planned.labels) o) []) (plan_told runs p)
+    ap (λ o. unwrap_or (option_map (λ planned. label_texts (context_at runs p) planned.labels) o) []) (plan_of_facts runs p)
     ∙ labels_by (facts_at runs p)

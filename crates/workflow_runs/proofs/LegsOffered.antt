@@ -17,9 +17,9 @@ use Rattle.run_bindings.specs.LabelNumbers.{AreListsOf, IsOffered, IsReadyAt, Jo
 use Rattle.run_bindings.specs.LabelNumbers.{list_number, offers_list}
 use Rattle.run_bindings.specs.declared.bindings.RunBindings.{RunBindings}
 use Rattle.run_bindings.proofs.LabelNumbers.{puts_one, still_lists}
-use Rattle.workflow_runs.specs.MarkedRuns.{is_so_at}
-use Rattle.workflow_runs.proofs.HoldersFade.{by_run, job_passes, leg_passes, passes, run_passes}
-use Rattle.workflow_runs.proofs.NoneActive.{none_of}
+use Rattle.resuming_laws.specs.RunFacts.{is_so_at}
+use Rattle.settling_laws.proofs.HoldersFade.{by_run, job_passes, leg_passes, passes, run_passes}
+use Rattle.resuming_laws.proofs.NoneActive.{none_of}
 use Rattle.workflow_runs.proofs.OffersList.{other_number}
 use Rattle.workflow_runs.proofs.ReadyBefore.{WasReady}
 
@@ -53,24 +53,24 @@ if_it None P says p is = cc
 if_it (Some q) P says p is = subst P (same_Some q p is) says
 
 -- the run of the leg that becomes ready can be marked for its list
-pub has_place : (lists : ListsState) (r : ℕ) (c : Change) (asked : RunBindings) → AreListsOf lists r asked.jobs asked.lists
-    → (one : Option LegPlace) → one ≡ offered_by r c → IfSome one (λ p. HasPlace lists (list_number asked.lists p.job p.leg) p.run)
-has_place lists r c asked are None is = tt
-has_place lists r c asked are (Some p) is =
-    subst (λ (s : ℕ). HasPlace lists (list_number asked.lists p.job p.leg) s) (sym (offered_here r c p (sym is))) (are p.job p.leg).place
+pub has_place : (lists : ListsState) (r : ℕ) (c : Change) (requested : RunBindings) → AreListsOf lists r requested.jobs requested.lists
+    → (one : Option LegPlace) → one ≡ offered_by r c → IfSome one (λ p. HasPlace lists (list_number requested.lists p.job p.leg) p.run)
+has_place lists r c requested are None is = tt
+has_place lists r c requested are (Some p) is =
+    subst (λ (s : ℕ). HasPlace lists (list_number requested.lists p.job p.leg) s) (sym (offered_here r c p (sym is))) (are p.job p.leg).place
 
-pub offered_after : (runs next : List RunState) (bindings : List RunBindings) (old new : ListsState) (r : ℕ) (c : Change) (asked : RunBindings)
-    → slice_get bindings r ≡ Some asked → ((p : LegPlace) → IsReadyAt next p → WasReady runs (offered_by r c) p)
-    → IfSome (offered_by r c) (IsOffered new asked) → OnlyMarks old new → LegsAreOffered runs bindings old → LegsAreOffered next bindings new
-offered_after runs next bindings old new r c asked asked_at before itself marks are = record {
+pub offered_after : (runs next : List RunState) (bindings : List RunBindings) (old new : ListsState) (r : ℕ) (c : Change) (requested : RunBindings)
+    → slice_get bindings r ≡ Some requested → ((p : LegPlace) → IsReadyAt next p → WasReady runs (offered_by r c) p)
+    → IfSome (offered_by r c) (IsOffered new requested) → OnlyMarks old new → LegsAreOffered runs bindings old → LegsAreOffered next bindings new
+offered_after runs next bindings old new r c requested requested_at before itself marks are = record {
   numbers = (λ s kept at.
       still_lists old new (λ n texts is. marks.labels n ∙ is) marks.places s kept.jobs kept.lists (are.numbers s kept at));
   offered = (λ p kept ready at.
       elim (before p ready) [
         | inl it ↦
             let here : slice_get bindings r ≡ Some kept = ap (slice_get bindings) (sym (offered_here r c p it)) ∙ at in
-            subst (λ (k : RunBindings). IsOffered new k p) (same_Some asked kept (sym asked_at ∙ here))
-            (if_it (offered_by r c) (IsOffered new asked) itself p it)
+            subst (λ (k : RunBindings). IsOffered new k p) (same_Some requested kept (sym requested_at ∙ here))
+            (if_it (offered_by r c) (IsOffered new requested) itself p it)
         | inr was ↦ marks.offers (list_number kept.lists p.job p.leg) p.run (are.offered p kept was at)
       ]);
 }
@@ -116,9 +116,9 @@ ready_there_in runs p x here ready = sym (ap (passes (run_passes is_ready p.job 
 
 -- it may be unmarked for that number
 pub number_unmarked : (runs : List RunState) (bindings : List RunBindings) (old new : ListsState) (r number : ℕ) (x : RunState)
-    (asked : RunBindings) → run_at runs r ≡ Some x → slice_get bindings r ≡ Some asked → offers_list x asked.lists number ≡ false
+    (requested : RunBindings) → run_at runs r ≡ Some x → slice_get bindings r ≡ Some requested → offers_list x requested.lists number ≡ false
     → PutsOffer false number r old new → LegsAreOffered runs bindings old → LegsAreOffered runs bindings new
-number_unmarked runs bindings old new r number x asked run_there asked_there rests puts are = record {
+number_unmarked runs bindings old new r number x requested run_there requested_there rests puts are = record {
   numbers = (λ s kept at.
       still_lists old new (λ n texts is. puts.labels n ∙ is) puts.places s kept.jobs kept.lists (are.numbers s kept at));
   offered = (λ p kept ready at.
@@ -126,10 +126,10 @@ number_unmarked runs bindings old new r number x asked run_there asked_there res
       let marked : may_offer old n p.run ≡ true = are.offered p kept ready at in
       elim (cases_eq p.run r) [
         | inl here ↦
-            let same : asked ≡ kept = same_Some asked kept (sym asked_there ∙ ap (slice_get bindings) (sym here) ∙ at) in
+            let same : requested ≡ kept = same_Some requested kept (sym requested_there ∙ ap (slice_get bindings) (sym here) ∙ at) in
             let another : nat_eq n number ≡ false =
             subst (λ (k : RunBindings). nat_eq (list_number k.lists p.job p.leg) number ≡ false) same
-            (other_number x asked.lists number rests p.job p.leg (ready_there_in runs p x (ap (run_at runs) here ∙ run_there) ready)) in
+            (other_number x requested.lists number rests p.job p.leg (ready_there_in runs p x (ap (run_at runs) here ∙ run_there) ready)) in
             puts.offers n p.run ∙ ap (λ b. if b && nat_eq p.run r then false else may_offer old n p.run) another ∙ marked
         | inr other ↦ (puts_one false number r old new puts).others n p.run other ∙ marked
       ]);
@@ -137,21 +137,21 @@ number_unmarked runs bindings old new r number x asked run_there asked_there res
 
 -- ---- a run replaces another, or is added at the end
 
-module _ (runs next : List RunState) (bindings bindings' : List RunBindings) (old new : ListsState) (r : ℕ) (x : RunState) (asked : RunBindings)
-    (run_there : run_at next r ≡ Some x) (asked_there : slice_get bindings' r ≡ Some asked)
+module _ (runs next : List RunState) (bindings bindings' : List RunBindings) (old new : ListsState) (r : ℕ) (x : RunState) (requested : RunBindings)
+    (run_there : run_at next r ≡ Some x) (requested_there : slice_get bindings' r ≡ Some requested)
     (other_runs : (s : ℕ) → (s ≡ r → ⊥) → run_at next s ≡ run_at runs s)
-    (other_asks : (s : ℕ) → (s ≡ r → ⊥) → slice_get bindings' s ≡ slice_get bindings s)
-    (itself : AreListsOf old r asked.jobs asked.lists)
-    (all : JobsOffer new asked.lists r x.jobs) (puts : OnlyPuts r true old new)
+    (other_requests : (s : ℕ) → (s ≡ r → ⊥) → slice_get bindings' s ≡ slice_get bindings s)
+    (itself : AreListsOf old r requested.jobs requested.lists)
+    (all : JobsOffer new requested.lists r x.jobs) (puts : OnlyPuts r true old new)
     (are : LegsAreOffered runs bindings old) where
   listed : (s : ℕ) (kept : RunBindings) → slice_get bindings' s ≡ Some kept → AreListsOf old s kept.jobs kept.lists
   listed s kept at =
       elim (cases_eq s r) [
         | inl here ↦
-            let same = same_Some asked kept (sym asked_there ∙ ap (slice_get bindings') (sym here) ∙ at) in
+            let same = same_Some requested kept (sym requested_there ∙ ap (slice_get bindings') (sym here) ∙ at) in
             subst (λ (k : RunBindings). AreListsOf old s k.jobs k.lists) same
-            (subst (λ (n : ℕ). AreListsOf old n asked.jobs asked.lists) (sym here) itself)
-        | inr other ↦ are.numbers s kept (sym (other_asks s other) ∙ at)
+            (subst (λ (n : ℕ). AreListsOf old n requested.jobs requested.lists) (sym here) itself)
+        | inr other ↦ are.numbers s kept (sym (other_requests s other) ∙ at)
       ]
 
   ready_in_it : (p : LegPlace) → p.run ≡ r → IsReadyAt next p → is_ready_in x.jobs p.job p.leg ≡ true
@@ -170,12 +170,12 @@ module _ (runs next : List RunState) (bindings bindings' : List RunBindings) (ol
     offered = (λ p kept ready at.
         elim (cases_eq p.run r) [
           | inl here ↦
-              let same = same_Some asked kept (sym asked_there ∙ ap (slice_get bindings') (sym here) ∙ at) in
+              let same = same_Some requested kept (sym requested_there ∙ ap (slice_get bindings') (sym here) ∙ at) in
               subst (λ (k : RunBindings). IsOffered new k p) same
-              (ap (may_offer new (list_number asked.lists p.job p.leg)) here
+              (ap (may_offer new (list_number requested.lists p.job p.leg)) here
               ∙ all p.job p.leg (ready_in_it p here ready))
           | inr other ↦
               puts.others (list_number kept.lists p.job p.leg) p.run other
-              ∙ are.offered p kept (still_ready p other ready) (sym (other_asks p.run other) ∙ at)
+              ∙ are.offered p kept (still_ready p other ready) (sym (other_requests p.run other) ∙ at)
         ]);
   }

@@ -21,15 +21,16 @@ use Rattle.run_states.specs.WithinRun.{first_in_run}
 use Rattle.run_states.specs.declared.place.RuleSite.{RuleSite}
 use Rattle.run_states.proofs.Found.{before_the_end}
 use Rattle.run_states.proofs.LegFacts.{SameUpTo}
-use Rattle.workflow_runs.specs.LettingGo.{LetsNobodyGo}
-use Rattle.workflow_runs.specs.MarkedRuns.{AreMarked, CoversRuns, OnlyGrows, RunsAreMarked, MarksDirty, is_due, is_so_at}
+use Rattle.resuming_laws.specs.LettingGo.{ReleasesNone}
+use Rattle.workflow_runs.specs.MarkedRuns.{AreMarked, CoversRuns, OnlyGrows, RunsAreMarked, MarksDirty, is_due}
+use Rattle.resuming_laws.specs.RunFacts.{is_so_at}
 use Rattle.workflow_runs.specs.declared.runs.marks.RunMarks.{RunMarks}
-use Rattle.workflow_runs.proofs.GroupStays.{same_group}
-use Rattle.workflow_runs.proofs.HoldersFade.{by_run, job_passes, passes, run_passes}
-use Rattle.workflow_runs.proofs.KeptBack.{KeepsBackIn, RunsStillFor, back_still, runs_still}
-use Rattle.workflow_runs.proofs.LettingGo.{holder_within, run_of_one, same_holds}
-use Rattle.workflow_runs.proofs.Resumed.{run_rests}
-use Rattle.workflow_runs.proofs.OneEach.{one_that_holds, one_that_waits}
+use Rattle.settling_laws.proofs.GroupStays.{same_group}
+use Rattle.settling_laws.proofs.HoldersFade.{by_run, job_passes, passes, run_passes}
+use Rattle.resuming_laws.proofs.KeptBack.{KeepsBackIn, RunsStillFor, back_still, runs_still}
+use Rattle.resuming_laws.proofs.LettingGo.{holder_within, run_of_one, same_holds}
+use Rattle.resuming_laws.proofs.Resumed.{run_rests}
+use Rattle.settling_laws.proofs.OneEach.{one_that_holds, one_that_waits}
 use Rattle.run_states.specs.declared.holder.Holder.{Holder}
 use Rattle.run_states.specs.declared.holder.Holder.TheVariants.{Run, Leg}
 
@@ -257,7 +258,7 @@ events_before runs y s lt k le =
     ∙ sym (slice_get-map (λ (run : RunState). run.admitted) runs k)
 
 -- one more run releases no holder
-one_more_stays : (runs : List RunState) (y : RunState) → LetsNobodyGo runs (runs ++ y ∷ [])
+one_more_stays : (runs : List RunState) (y : RunState) → ReleasesNone runs (runs ++ y ∷ [])
 one_more_stays runs y g h e =
     let next = runs ++ y ∷ [] in
     let there = one_that_holds runs h (and_parts (is_in runs g h) (holds runs h) e).1 in

@@ -18,12 +18,12 @@ use Rattle.run_states.specs.declared.place.LegPlace.{LegPlace}
 use Rattle.run_states.specs.RunState.{JobState, LegState, RunState}
 use Rattle.run_states.specs.declared.holder.HolderFilter.{HolderFilter}
 use Rattle.run_states.proofs.Found.{all_flat_map, all_map, all_of, all_weaken, find_passes, found, none_found}
-use Rattle.workflow_runs.specs.MarkedRuns.{is_so_at}
+use Rattle.resuming_laws.specs.RunFacts.{is_so_at}
 use Rattle.workflow_runs.specs.SlotHolders.{HaveAll, TellsOf, first_marked, is_marked_conflicting}
-use Rattle.workflow_runs.specs.declared.runs.conflicts.InSlot.TheVariants.{Nobody, One}
-use Rattle.workflow_runs.proofs.Meant.{first_of_run}
-use Rattle.workflow_runs.proofs.NoneActive.{not_meant_there}
-use Rattle.workflow_runs.proofs.OneEach.{IsOneOf, each_holder, one_that_holds, one_that_waits}
+use Rattle.workflow_runs.specs.declared.runs.conflicts.InSlot.TheVariants.{NoHolder, One}
+use Rattle.settling_laws.proofs.Meant.{first_of_run}
+use Rattle.resuming_laws.proofs.NoneActive.{not_meant_there}
+use Rattle.settling_laws.proofs.OneEach.{IsOneOf, each_holder, one_that_holds, one_that_waits}
 use Rattle.workflow_runs.proofs.SlotHolders.{meets}
 use Rattle.run_states.specs.declared.holder.Holder.{Holder}
 use Rattle.run_states.specs.declared.holder.Holder.TheVariants.{Run, Leg}
@@ -38,12 +38,12 @@ find_never : {X : Type 0} (xs : List X) → find (λ x. false) xs ≡ None
 find_never [] = refl
 find_never (x ∷ xs) = find_never xs
 
-module _ (marks : List ℕ) (runs : List RunState) (h : Holder) (whom : HolderFilter) where
+module _ (marks : List ℕ) (runs : List RunState) (h : Holder) (holder_filter : HolderFilter) where
   abbrev meant : Holder → Bool
-  meant = is_conflicting runs h whom
+  meant = is_conflicting runs h holder_filter
 
   abbrev marked : Holder → Bool
-  marked = is_marked_conflicting marks runs h whom
+  marked = is_marked_conflicting marks runs h holder_filter
 
   -- ---- run by run
 
@@ -82,7 +82,7 @@ module _ (marks : List ℕ) (runs : List RunState) (h : Holder) (whom : HolderFi
 
   -- if all conflicting holders are in marked runs
   pub all_in_marked : ((w : Holder) → meant w ≡ true → is_marked marks (run_of w) ≡ true)
-      → first_marked marks runs h whom ≡ first_conflicting runs h whom
+      → first_marked marks runs h holder_filter ≡ first_conflicting runs h holder_filter
   all_in_marked says = ap (λ test. find test (all_holders runs)) (fun_ext each)
     where
       by : (w : Holder) (b : Bool) → meant w ≡ b → marked w ≡ meant w
@@ -94,12 +94,12 @@ module _ (marks : List ℕ) (runs : List RunState) (h : Holder) (whom : HolderFi
 
   -- if `one` conflicts, all others would be in marked runs, and no marked run has any
   pub only_one : (one : Holder) → meant one ≡ true → ((w : Holder) → meant w ≡ true → (w ≡ one) ⊎ (is_marked marks (run_of w) ≡ true))
-      → first_marked marks runs h whom ≡ None → Some one ≡ first_conflicting runs h whom
-  only_one one passes says none = by (first_conflicting runs h whom) refl
+      → first_marked marks runs h holder_filter ≡ None → Some one ≡ first_conflicting runs h holder_filter
+  only_one one passes says none = by (first_conflicting runs h holder_filter) refl
     where
       there : IsOneOf runs one
       there =
-          elim ((meets runs h one whom passes).stands) [
+          elim ((meets runs h one holder_filter passes).is_active_holder) [
             | inl waiting ↦ one_that_waits runs one waiting
             | inr holding ↦ one_that_holds runs one holding
           ]
@@ -112,7 +112,7 @@ module _ (marks : List ℕ) (runs : List RunState) (h : Holder) (whom : HolderFi
             | inr mark ↦ absurd (true≢false (sym (and_from (is_marked marks (run_of w)) (meant w) mark is) ∙ not))
           ]) (all_holders runs) (none_found marked (all_holders runs) none)
 
-      by : (o : Option Holder) → first_conflicting runs h whom ≡ o → Some one ≡ o
+      by : (o : Option Holder) → first_conflicting runs h holder_filter ≡ o → Some one ≡ o
       by None is =
           absurd (true≢false (sym passes ∙ each_holder (λ w. meant w ≡ false) runs one (none_found meant (all_holders runs) is) there))
       by (Some w) is =
@@ -121,21 +121,21 @@ module _ (marks : List ℕ) (runs : List RunState) (h : Holder) (whom : HolderFi
 
   -- if all active runs are marked
   pub in_active : ((i : ℕ) → is_marked marks i ≡ false → is_so_at is_active runs i ≡ false)
-      → first_marked marks runs h whom ≡ first_conflicting runs h whom
+      → first_marked marks runs h holder_filter ≡ first_conflicting runs h holder_filter
   in_active says = all_in_marked (λ w is. by w is (is_marked marks (run_of w)) refl)
     where
       by : (w : Holder) → meant w ≡ true → (b : Bool) → is_marked marks (run_of w) ≡ b → b ≡ true
       by w is true mark = refl
-      by w is false none = absurd (true≢false (sym is ∙ not_meant_there runs h whom w (says (run_of w) none)))
+      by w is false none = absurd (true≢false (sym is ∙ not_meant_there runs h holder_filter w (says (run_of w) none)))
 
   -- ---- by a slot that, together with the marked runs, has all conflicting holders
 
-  module _ (slot : Slot Holder) (all : HaveAll runs h whom slot marks) where
+  module _ (slot : Slot Holder) (all : HaveAll runs h holder_filter slot marks) where
     place_or_mark : (w : Holder) → meant w ≡ true → HasPlace slot w ⊎ (is_marked marks (run_of w) ≡ true)
     place_or_mark w is = all w is
 
-    pub by_marks : TellsOf (λ other. meant other) slot Nobody
-        → first_marked marks runs h whom ≡ first_conflicting runs h whom
+    pub by_marks : TellsOf (λ other. meant other) slot NoHolder
+        → first_marked marks runs h holder_filter ≡ first_conflicting runs h holder_filter
     by_marks nobody = all_in_marked by
       where
         by : (w : Holder) → meant w ≡ true → is_marked marks (run_of w) ≡ true
@@ -154,13 +154,13 @@ module _ (marks : List ℕ) (runs : List RunState) (h : Holder) (whom : HolderFi
         ]
 
     pub by_place : (one : Holder) → TellsOf (λ other. meant other) slot (One one)
-        → None ≡ first_marked marks runs h whom → Some one ≡ first_conflicting runs h whom
+        → None ≡ first_marked marks runs h holder_filter → Some one ≡ first_conflicting runs h holder_filter
     by_place one tells none = only_one one tells.0 (one_or_mark one tells) (sym none)
 
     -- if the run of that holder is marked too
     pub by_its_run : (one first : Holder) → TellsOf (λ other. meant other) slot (One one)
-        → Some first ≡ first_marked marks runs h whom
-        → run_of first ≡ run_of one → Some first ≡ first_conflicting runs h whom
+        → Some first ≡ first_marked marks runs h holder_filter
+        → run_of first ≡ run_of one → Some first ≡ first_conflicting runs h holder_filter
     by_its_run one first tells is same = is ∙ all_in_marked by
       where
         its_mark : is_marked marks (run_of one) ≡ true

@@ -24,7 +24,7 @@ use Rattle.run_bindings.specs.LabelNumbers.{IsReadyAt, LegsAreOffered, MayServe,
 use Rattle.run_bindings.specs.declared.bindings.RunBindings.{RunBindings}
 use Rattle.run_bindings.proofs.KnownSays.{KnownLabels, texts_there}
 use Rattle.run_bindings.proofs.LabelNumbers.{as_long}
-use Rattle.workflow_runs.proofs.NoneActive.{none_placed}
+use Rattle.resuming_laws.proofs.NoneActive.{none_placed}
 
 unplanned : (runs : List RunState) (p : LegPlace) → plan_at runs p.run p.job ≡ None → labels_at runs p ≡ None
 unplanned runs p none = ap (option_map (λ (planned : PlannedJob). label_texts (context_at runs p) planned.labels)) none
@@ -35,7 +35,7 @@ none_taken false o e = refl
 
 module _ (labels : List (List ℕ)) (runs : List RunState) (bindings : List RunBindings) (lists : ListsState) (bound : AreBound runs bindings)
     (are : LegsAreOffered runs bindings lists) (i : ℕ) (none : (n : ℕ) → MayServe lists labels n → may_offer lists n i ≡ false)
-    (kept : RunBindings) (asked : slice_get bindings i ≡ Some kept) where
+    (kept : RunBindings) (requested : slice_get bindings i ≡ Some kept) where
   -- the runner cannot serve a ready leg of it
   misfits : (j l : ℕ) → IsReadyAt runs (leg_place i j l) → is_served labels runs (leg_place i j l) ≡ false
   misfits j l ready = by_plan (plan_at runs i j) refl
@@ -47,7 +47,7 @@ module _ (labels : List (List ℕ)) (runs : List RunState) (bindings : List RunB
       n = list_number kept.lists j l
 
       offered : may_offer lists n i ≡ true
-      offered = are.offered p kept ready asked
+      offered = are.offered p kept ready requested
 
       never : MayServe lists labels n → is_served labels runs p ≡ false
       never may = absurd (true≢false (sym offered ∙ none n may))
@@ -62,14 +62,14 @@ module _ (labels : List (List ℕ)) (runs : List RunState) (bindings : List RunB
           → MatchOption o ⊥ (λ texts. labels_of lists n ≡ Some texts) → is_served labels runs p ≡ false
       by_texts job planned None known says = absurd says
       by_texts job planned (Some texts) known says =
-          let own = texts_there runs bindings bound p job kept texts planned asked known in
+          let own = texts_there runs bindings bound p job kept texts planned requested known in
           by_labels texts says own (has_labels labels own.texts) refl
 
       by_plan : (o : Option PlannedJob) → plan_at runs i j ≡ o → is_served labels runs p ≡ false
       by_plan None planned =
           ap (λ (o : Option (List (List ℕ))). option_map_or (has_labels labels) o false) (unplanned runs p planned)
       by_plan (Some job) planned =
-          elim ((are.numbers i kept asked j l).says) [
+          elim ((are.numbers i kept requested j l).says) [
             | inl zero ↦ never (inl zero)
             | inr says ↦ by_texts job planned (texts_of kept.jobs j l) refl says
           ]
@@ -101,13 +101,13 @@ none_fits_there labels runs bindings lists bound are i none = by (slice_get runs
   where
     by : (o : Option RunState) → slice_get runs i ≡ o → (k : Option RunBindings) → slice_get bindings i ≡ k
         → apply_at (fit_in_run labels runs) runs i ≡ None
-    by None here k asked = ap (option_and_then (fit_in_run labels runs i)) here
-    by (Some x) here None asked =
-        let gone : slice_get runs i ≡ None = as_long bindings runs i bound.as_many asked in
+    by None here k requested = ap (option_and_then (fit_in_run labels runs i)) here
+    by (Some x) here None requested =
+        let gone : slice_get runs i ≡ None = as_long bindings runs i bound.as_many requested in
         let bad : Some x ≡ None = sym here ∙ gone in
         cc
-    by (Some x) here (Some kept) asked =
-        ap (option_and_then (fit_in_run labels runs i)) here ∙ run_passed labels runs bindings lists bound are i none kept asked x here
+    by (Some x) here (Some kept) requested =
+        ap (option_and_then (fit_in_run labels runs i)) here ∙ run_passed labels runs bindings lists bound are i none kept requested x here
 
 -- ---- a list that does not serve a runner
 
@@ -141,18 +141,18 @@ module _ (labels : List (List ℕ)) (runs : List RunState) (bindings : List RunB
   next_between None same = tt
   next_between (Some r) same = λ i le lt. passed_there i le (subst (IsBefore i) (sym same) lt)
 
-  none_behind : (o : Option ℕ) → found ≡ o → IfSome o (λ r. length runs ≤ r) → (i : ℕ) → from ≤ i
+  none_after : (o : Option ℕ) → found ≡ o → IfSome o (λ r. length runs ≤ r) → (i : ℕ) → from ≤ i
       → apply_at (fit_in_run labels runs) runs i ≡ None
-  none_behind None is past i le = passed_there i le (subst (IsBefore i) (sym is) tt)
-  none_behind (Some r) is past i le =
+  none_after None is past i le = passed_there i le (subst (IsBefore i) (sym is) tt)
+  none_after (Some r) is past i le =
       elim (cases_lt i (length runs)) [
         | inl within ↦ passed_there i le (subst (IsBefore i) (sym is) (omega (arith, within, past)))
-        | inr behind ↦ ap (option_and_then (fit_in_run labels runs i)) (slice_get_past runs i behind)
+        | inr suffix ↦ ap (option_and_then (fit_in_run labels runs i)) (slice_get_past runs i suffix)
       ]
 
   pub next_none : (count : ℕ) → count ≡ length runs → (next : Option ℕ) → IfNone next (IfSome found (λ r. count ≤ r))
       → IfNone next ((i : ℕ) → from ≤ i → apply_at (fit_in_run labels runs) runs i ≡ None)
-  next_none count many None past = none_behind found refl (subst (λ (n : ℕ). IfSome found (λ r. n ≤ r)) many past)
+  next_none count many None past = none_after found refl (subst (λ (n : ℕ). IfSome found (λ r. n ≤ r)) many past)
   next_none count many (Some r) past = tt
 
 -- no leg fits before run `r`, if none fits before `from` and none from there to `r`

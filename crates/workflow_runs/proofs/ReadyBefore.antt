@@ -20,9 +20,9 @@ use Rattle.run_states.proofs.JobKeeps.{leg_elsewhere, leg_in, with_job_of, with_
 use Rattle.run_states.proofs.LeaseReads.{place_or_another}
 use Rattle.run_states.proofs.Transitions.{with_leg_none}
 use Rattle.run_bindings.specs.LabelNumbers.{IsReadyAt}
-use Rattle.workflow_runs.proofs.HoldersFade.{Weakens, job_passes, leg_before, leg_change_weakens, leg_passes, legs_weaken, passed_changed}
-use Rattle.workflow_runs.proofs.HoldersFade.{passes, stop_weakens}
-use Rattle.workflow_runs.proofs.OneEachRules.{replicate_fails}
+use Rattle.settling_laws.proofs.HoldersFade.{Weakens, job_passes, leg_before, leg_change_weakens, leg_passes, legs_weaken, passed_changed}
+use Rattle.settling_laws.proofs.HoldersFade.{passes, stop_weakens}
+use Rattle.settling_laws.proofs.OneEachRules.{replicate_fails}
 
 -- the leg that becomes ready, or one that was ready before
 abbrev pub WasReady : List RunState → Option LegPlace → LegPlace → Type 0

@@ -30,7 +30,7 @@ use Rattle.workflow_runs.specs.declared.runs.group_holders.GroupHolders.{GroupHo
 use Rattle.workflow_runs.specs.declared.runs.index.Index.{Index}
 use Rattle.workflow_runs.specs.declared.runs.marks.RunMarks.{RunMarks}
 use Rattle.workflow_runs.proofs.FoundHolders.{all_entered, all_roomier, found_with}
-use Rattle.workflow_runs.proofs.GroupStays.{run_facts_stay}
+use Rattle.settling_laws.proofs.GroupStays.{run_facts_stay}
 use Rattle.workflow_runs.proofs.LegsOffered.{offered_grown, offered_with}
 use Rattle.workflow_runs.proofs.MarkedRuns.{marks_after, set_other}
 use Rattle.workflow_runs.proofs.RunNumbers.{events_kept, length_kept, number_at, one_more, still_numbered}
@@ -51,9 +51,9 @@ still_bound : (xs : List RunState) (kept : List RunBindings) (r : ℕ) (x y : Ru
     → y.admitted ≡ x.admitted → y.attempt ≡ x.attempt → AreBound xs kept → AreBound (slice_set xs r y) kept
 still_bound xs kept r x y lt is same attempt are = record {
   as_many = omega (arith, length_kept xs r y, are.as_many);
-  each = (λ k run groups told is_kept.
+  each = (λ k run groups leg_facts is_kept.
       are.each k run groups
-      (sym (facts_same xs (slice_set xs r y) k (events_kept xs r x y lt is same) (attempts_kept xs r k x y lt is attempt)) ∙ told) is_kept);
+      (sym (facts_same xs (slice_set xs r y) k (events_kept xs r x y lt is same) (attempts_kept xs r k x y lt is attempt)) ∙ leg_facts) is_kept);
 }
 
 -- a run is replaced by one with the same event and attempt
@@ -136,10 +136,10 @@ kept_taken xs numbers kept index marks covered groups lists covers enters same r
 
 -- ---- one more run
 
-front_same : {X : Type 0} (xs : List X) (x : X) (s : ℕ) → s < length xs → slice_get (xs ++ x ∷ []) s ≡ slice_get xs s
-front_same [] x s lt = absurd (omega arith)
-front_same (y ∷ xs) x zero lt = refl
-front_same (y ∷ xs) x (suc s) lt = front_same xs x s (omega arith)
+prefix_same : {X : Type 0} (xs : List X) (x : X) (s : ℕ) → s < length xs → slice_get (xs ++ x ∷ []) s ≡ slice_get xs s
+prefix_same [] x s lt = absurd (omega arith)
+prefix_same (y ∷ xs) x zero lt = refl
+prefix_same (y ∷ xs) x (suc s) lt = prefix_same xs x s (omega arith)
 
 at_end : {X : Type 0} (xs : List X) (x : X) (n : ℕ) → n ≡ length xs → slice_get (xs ++ x ∷ []) n ≡ Some x
 at_end [] x zero is = refl
@@ -160,8 +160,8 @@ module _ (runs : List RunState) (run : RunState) (numbers : List ℕ) (n : ℕ) 
   facts_before r lt =
       let many : length (events runs) ≡ length runs = length-map runs (λ (x : RunState). x.admitted) in
       run_facts_stay runs (runs ++ run ∷ []) r
-      (λ s le. ap (λ es. slice_get es s) its_events ∙ front_same (events runs) run.admitted s (omega (arith, many)))
-      (ap (option_map (λ (x : RunState). x.attempt)) (front_same runs run r lt))
+      (λ s le. ap (λ es. slice_get es s) its_events ∙ prefix_same (events runs) run.admitted s (omega (arith, many)))
+      (ap (option_map (λ (x : RunState). x.attempt)) (prefix_same runs run r lt))
 
   its_number : run_number (events (runs ++ run ∷ [])) (length runs) run.admitted ≡ n
   its_number =
@@ -183,26 +183,26 @@ module _ (runs : List RunState) (run : RunState) (numbers : List ℕ) (n : ℕ) 
     run_attempt = decimal run.attempt;
   }
 
-  added_bound : (kept : List RunBindings) (asked : RunBindings) → AreBound runs kept
-      → RunSays (its_facts n) asked
-      → AreBound (runs ++ run ∷ []) (kept ++ asked ∷ [])
-  added_bound kept asked bound says =
+  added_bound : (kept : List RunBindings) (requested : RunBindings) → AreBound runs kept
+      → RunSays (its_facts n) requested
+      → AreBound (runs ++ run ∷ []) (kept ++ requested ∷ [])
+  added_bound kept requested bound says =
       let next = runs ++ run ∷ [] in
       let many = bound.as_many in
-      let told : run_facts_at next (length runs)
+      let leg_facts : run_facts_at next (length runs)
       ≡ Some (its_facts n) =
       run_told next (length runs) run (at_end runs run (length runs) refl)
       ∙ ap (λ m. Some (its_facts m)) its_number in
       record {
-        as_many = omega (arith, length-append runs (run ∷ []), length-append kept (asked ∷ []), many);
+        as_many = omega (arith, length-append runs (run ∷ []), length-append kept (requested ∷ []), many);
         each = (λ r facts groups of_run is.
-            one_more_bound (λ k g. (f : RunFacts) → run_facts_at next k ≡ Some f → RunSays f g) kept asked
+            one_more_bound (λ k g. (f : RunFacts) → run_facts_at next k ≡ Some f → RunSays f g) kept requested
             (λ k g at f known.
             let within : k < length kept = slice_get_within kept k g at in
             bound.each k f g (sym (facts_before k (omega (arith, many, within))) ∙ known) at)
             (λ f known.
-            let same = same_Some _ f (sym told ∙ sym (ap (run_facts_at next) many) ∙ known) in
-            subst (λ (v : RunFacts). RunSays v asked) same says) r groups is facts of_run);
+            let same = same_Some _ f (sym leg_facts ∙ sym (ap (run_facts_at next) many) ∙ known) in
+            subst (λ (v : RunFacts). RunSays v requested) same says) r groups is facts of_run);
       }
 
 beside_end : {X : Type 0} (xs : List X) (x : X) (s : ℕ) → (s ≡ length xs → ⊥) → slice_get (xs ++ x ∷ []) s ≡ slice_get xs s
@@ -212,41 +212,41 @@ beside_end (y ∷ xs) x zero other = refl
 beside_end (y ∷ xs) x (suc s) other = beside_end xs x s (λ e. other (ap (λ n. suc n) e))
 
 -- each of its active holders is found, and each holder that was
-pub found_added : (runs : List RunState) (run : RunState) (kept : List RunBindings) (asked : RunBindings) (old new : GroupHolders) (r : ℕ)
+pub found_added : (runs : List RunState) (run : RunState) (kept : List RunBindings) (requested : RunBindings) (old new : GroupHolders) (r : ℕ)
     → r ≡ length runs → length kept ≡ length runs → OnlyLists (runs ++ run ∷ []) old new
-    → AllAreFound (runs ++ run ∷ []) new.book.entries new.unlisted asked r → Covers old.unlisted (r + 1)
+    → AllAreFound (runs ++ run ∷ []) new.book.entries new.unlisted requested r → Covers old.unlisted (r + 1)
     → HoldersAreFound runs kept old.book.entries old.unlisted
-    → HoldersAreFound (runs ++ run ∷ []) (kept ++ asked ∷ []) new.book.entries new.unlisted
-found_added runs run kept asked old new r end many lists all covers are =
-    found_with runs (runs ++ run ∷ []) kept (kept ++ asked ∷ []) old new r asked (at_end kept asked r (end ∙ sym many))
-    (λ s other. beside_end runs run s (λ e. other (e ∙ sym end))) (λ s other. beside_end kept asked s (λ e. other (e ∙ many ∙ sym end)))
+    → HoldersAreFound (runs ++ run ∷ []) (kept ++ requested ∷ []) new.book.entries new.unlisted
+found_added runs run kept requested old new r end many lists all covers are =
+    found_with runs (runs ++ run ∷ []) kept (kept ++ requested ∷ []) old new r requested (at_end kept requested r (end ∙ sym many))
+    (λ s other. beside_end runs run s (λ e. other (e ∙ sym end))) (λ s other. beside_end kept requested s (λ e. other (e ∙ many ∙ sym end)))
     lists all are (omega (arith, covers, lists.room, end, length-append runs (run ∷ [])))
 
 -- and it is marked for each of its ready legs
-pub offered_added : (runs : List RunState) (run : RunState) (kept : List RunBindings) (asked : RunBindings) (old new : ListsState) (r : ℕ)
-    → r ≡ length runs → length kept ≡ length runs → AreListsOf old r asked.jobs asked.lists
-    → JobsOffer new asked.lists r run.jobs → OnlyPuts r true old new
-    → LegsAreOffered runs kept old → LegsAreOffered (runs ++ run ∷ []) (kept ++ asked ∷ []) new
-offered_added runs run kept asked old new r end many itself all puts are =
-    offered_with runs (runs ++ run ∷ []) kept (kept ++ asked ∷ []) old new r run asked (at_end runs run r end)
-    (at_end kept asked r (end ∙ sym many)) (λ s other. beside_end runs run s (λ e. other (e ∙ sym end)))
-    (λ s other. beside_end kept asked s (λ e. other (e ∙ many ∙ sym end))) itself all puts are
+pub offered_added : (runs : List RunState) (run : RunState) (kept : List RunBindings) (requested : RunBindings) (old new : ListsState) (r : ℕ)
+    → r ≡ length runs → length kept ≡ length runs → AreListsOf old r requested.jobs requested.lists
+    → JobsOffer new requested.lists r run.jobs → OnlyPuts r true old new
+    → LegsAreOffered runs kept old → LegsAreOffered (runs ++ run ∷ []) (kept ++ requested ∷ []) new
+offered_added runs run kept requested old new r end many itself all puts are =
+    offered_with runs (runs ++ run ∷ []) kept (kept ++ requested ∷ []) old new r run requested (at_end runs run r end)
+    (at_end kept requested r (end ∙ sym many)) (λ s other. beside_end runs run s (λ e. other (e ∙ sym end)))
+    (λ s other. beside_end kept requested s (λ e. other (e ∙ many ∙ sym end))) itself all puts are
 
 -- a run is added with its number and its bindings
-pub all_added : (runs : List RunState) (run : RunState) (numbers : List ℕ) (kept : List RunBindings) (number : ℕ) (asked : RunBindings)
+pub all_added : (runs : List RunState) (run : RunState) (numbers : List ℕ) (kept : List RunBindings) (number : ℕ) (requested : RunBindings)
     → length runs < 100000 → AreNumbered runs numbers × AreBound runs kept → number ≡ number_of_next runs run.admitted
     → RunSays (record {
       event = run.admitted;
       run_id = decimal (length runs + 1);
       run_number = decimal number;
       run_attempt = decimal run.attempt;
-    }) asked
-    → AreNumbered (runs ++ run ∷ []) (numbers ++ number ∷ []) × AreBound (runs ++ run ∷ []) (kept ++ asked ∷ [])
-all_added runs run numbers kept number asked room are is says =
+    }) requested
+    → AreNumbered (runs ++ run ∷ []) (numbers ++ number ∷ []) × AreBound (runs ++ run ∷ []) (kept ++ requested ∷ [])
+all_added runs run numbers kept number requested room are is says =
     let count = count_by (λ (other : RunState). same_workflow run.admitted other.admitted) runs in
     let numbered = subst (λ (n : ℕ). AreNumbered (runs ++ run ∷ []) (numbers ++ n ∷ [])) (sym is)
     (one_more runs run numbers count room are.0 refl) in
-    (numbered, added_bound runs run numbers number are.0 numbered kept asked are.1 says)
+    (numbered, added_bound runs run numbers number are.0 numbered kept requested are.1 says)
 
 -- ---- a run in its next attempt
 
@@ -256,60 +256,60 @@ set_here (z ∷ xs) zero y lt = refl
 set_here (z ∷ xs) (suc r) y lt = set_here xs r y (omega arith)
 
 -- its bindings replace those of the attempt before
-bound_again : (xs : List RunState) (kept : List RunBindings) (r : ℕ) (x y : RunState) (asked : RunBindings) → r < length xs
-    → x ≡ get_or xs r x → y.admitted ≡ x.admitted → RunSays (facts_of_run xs r y) asked → AreBound xs kept
-    → AreBound (slice_set xs r y) (slice_set kept r asked)
-bound_again xs kept r x y asked lt is same says are =
+bound_again : (xs : List RunState) (kept : List RunBindings) (r : ℕ) (x y : RunState) (requested : RunBindings) → r < length xs
+    → x ≡ get_or xs r x → y.admitted ≡ x.admitted → RunSays (facts_of_run xs r y) requested → AreBound xs kept
+    → AreBound (slice_set xs r y) (slice_set kept r requested)
+bound_again xs kept r x y requested lt is same says are =
     let next = slice_set xs r y in
     let stay : events next ≡ events xs = events_kept xs r x y lt is same in
-    let told : run_facts_at next r ≡ Some (facts_of_run xs r y) =
+    let leg_facts : run_facts_at next r ≡ Some (facts_of_run xs r y) =
     run_told next r y (set_here xs r y lt)
     ∙ ap (λ (es : List Admitted). Some (record (facts_of_run xs r y) { run_number = decimal (run_number es r y.admitted) })) stay in
     record {
-      as_many = omega (arith, length-set kept r asked, length_kept xs r y, are.as_many);
+      as_many = omega (arith, length-set kept r requested, length_kept xs r y, are.as_many);
       each = (λ k run groups of_run is_kept.
           elim (cases_eq k r) [
             | inl here ↦
-                let facts = same_Some (facts_of_run xs r y) run (sym told ∙ ap (run_facts_at next) (sym here) ∙ of_run) in
-                let group = same_Some asked groups
-                (sym (set_here kept r asked (omega (arith, lt, are.as_many))) ∙ ap (slice_get (slice_set kept r asked)) (sym here) ∙ is_kept) in
+                let facts = same_Some (facts_of_run xs r y) run (sym leg_facts ∙ ap (run_facts_at next) (sym here) ∙ of_run) in
+                let group = same_Some requested groups
+                (sym (set_here kept r requested (omega (arith, lt, are.as_many))) ∙ ap (slice_get (slice_set kept r requested)) (sym here) ∙ is_kept) in
                 subst (λ (f : RunFacts). RunSays f groups) facts (subst (RunSays (facts_of_run xs r y)) group says)
             | inr other ↦
                 are.each k run groups
                 (sym (facts_same xs next k stay (ap (option_map (λ (w : RunState). w.attempt)) (set_other xs r k y other))) ∙ of_run)
-                (sym (set_other kept r k asked other) ∙ is_kept)
+                (sym (set_other kept r k requested other) ∙ is_kept)
           ]);
     }
 
-pub offered_again : (xs : List RunState) (kept : List RunBindings) (old new : ListsState) (r : ℕ) (y : RunState) (asked : RunBindings)
-    → r < length xs → length kept ≡ length xs → AreListsOf old r asked.jobs asked.lists
-    → JobsOffer new asked.lists r y.jobs → OnlyPuts r true old new
-    → LegsAreOffered xs kept old → LegsAreOffered (slice_set xs r y) (slice_set kept r asked) new
-offered_again xs kept old new r y asked within many itself all puts are =
-    offered_with xs (slice_set xs r y) kept (slice_set kept r asked) old new r y asked (set_here xs r y within)
-    (set_here kept r asked (omega (arith, within, many))) (λ s other. set_other xs r s y other)
-    (λ s other. set_other kept r s asked other) itself all puts are
+pub offered_again : (xs : List RunState) (kept : List RunBindings) (old new : ListsState) (r : ℕ) (y : RunState) (requested : RunBindings)
+    → r < length xs → length kept ≡ length xs → AreListsOf old r requested.jobs requested.lists
+    → JobsOffer new requested.lists r y.jobs → OnlyPuts r true old new
+    → LegsAreOffered xs kept old → LegsAreOffered (slice_set xs r y) (slice_set kept r requested) new
+offered_again xs kept old new r y requested within many itself all puts are =
+    offered_with xs (slice_set xs r y) kept (slice_set kept r requested) old new r y requested (set_here xs r y within)
+    (set_here kept r requested (omega (arith, within, many))) (λ s other. set_other xs r s y other)
+    (λ s other. set_other kept r s requested other) itself all puts are
 
 pub kept_again : (xs : List RunState) (numbers : List ℕ) (kept : List RunBindings) (index : Index) (groups : GroupHolders)
-    (lists : ListsState) (marks marks' : RunMarks) (r : ℕ) (x y : RunState) (asked : RunBindings)
-    → OnlyLists (slice_set xs r y) index.groups groups → AllAreFound (slice_set xs r y) groups.book.entries groups.unlisted asked r
-    → LegsAreOffered (slice_set xs r y) (slice_set kept r asked) lists → r < length xs → x ≡ get_or xs r x
-    → y.admitted ≡ x.admitted → RunSays (facts_of_run xs r y) asked → SaysNumbers index.groups.book.entries asked
+    (lists : ListsState) (marks marks' : RunMarks) (r : ℕ) (x y : RunState) (requested : RunBindings)
+    → OnlyLists (slice_set xs r y) index.groups groups → AllAreFound (slice_set xs r y) groups.book.entries groups.unlisted requested r
+    → LegsAreOffered (slice_set xs r y) (slice_set kept r requested) lists → r < length xs → x ≡ get_or xs r x
+    → y.admitted ≡ x.admitted → RunSays (facts_of_run xs r y) requested → SaysNumbers index.groups.book.entries requested
     → MarksDirty r (length xs) marks marks' → RunsAreKept xs numbers kept index marks
-    → RunsAreKept (slice_set xs r y) numbers (slice_set kept r asked) (record index { groups = groups; lists = lists }) marks'
-kept_again xs numbers kept index groups lists marks marks' r x y asked lists_only all offered lt is same says grouped marks_dirty are =
+    → RunsAreKept (slice_set xs r y) numbers (slice_set kept r requested) (record index { groups = groups; lists = lists }) marks'
+kept_again xs numbers kept index groups lists marks marks' r x y requested lists_only all offered lt is same says grouped marks_dirty are =
     let stay : events (slice_set xs r y) ≡ events xs = events_kept xs r x y lt is same in
     record {
       numbered = still_numbered xs numbers r x y lt is same are.numbered;
-      bound = bound_again xs kept r x y asked lt is same says are.bound;
+      bound = bound_again xs kept r x y requested lt is same says are.bound;
       found = subst (λ (es : List Admitted). FindsFirst es index.places.places) (sym stay) are.found;
       counted = subst (λ (es : List Admitted). AreCounted es index.counts.counts) (sym stay) are.counted;
       marked = marks_after xs y marks marks' r stay marks_dirty are.marked;
-      grouped = each_stays index.groups.book.entries groups.book.entries (slice_set kept r asked) lists_only.numbers
-          (each_again index.groups.book.entries kept r asked grouped are.grouped);
-      listed = found_with xs (slice_set xs r y) kept (slice_set kept r asked) index.groups groups r asked
-          (set_here kept r asked (omega (arith, lt, are.bound.as_many)))
-          (λ s other. set_other xs r s y other) (λ s other. set_other kept r s asked other) lists_only all are.listed
+      grouped = each_stays index.groups.book.entries groups.book.entries (slice_set kept r requested) lists_only.numbers
+          (each_again index.groups.book.entries kept r requested grouped are.grouped);
+      listed = found_with xs (slice_set xs r y) kept (slice_set kept r requested) index.groups groups r requested
+          (set_here kept r requested (omega (arith, lt, are.bound.as_many)))
+          (λ s other. set_other xs r s y other) (λ s other. set_other kept r s requested other) lists_only all are.listed
           (omega (arith, are.listed.covers, lists_only.room, length-set xs r y));
       offered = offered;
     }

@@ -15,8 +15,8 @@ use Rattle.workflow_runs.specs.declared.runs.group_holders.GroupHolders.{GroupHo
 use Rattle.run_states.specs.declared.holder.Holder.{Holder}
 
 -- the holder is active: it waits for its group or holds it
-abbrev pub Stands : List RunState → Holder → Type 0
-Stands runs h = (waits runs h ≡ true) ⊎ (holds runs h ≡ true)
+abbrev pub IsActiveHolder : List RunState → Holder → Type 0
+IsActiveHolder runs h = (waits runs h ≡ true) ⊎ (holds runs h ≡ true)
 
 -- ---- where a holder is found
 
@@ -39,7 +39,7 @@ IsFound entries unlisted kept h =
 
 pub record HoldersAreFound (runs : List RunState) (bindings : List RunBindings) (entries : Entries) (unlisted : List ℕ) : Type 0 where
   pub covers : Covers unlisted (length runs)
-  pub found : (h : Holder) (kept : RunBindings) → Stands runs h → slice_get bindings (run_of h) ≡ Some kept
+  pub found : (h : Holder) (kept : RunBindings) → IsActiveHolder runs h → slice_get bindings (run_of h) ≡ Some kept
       → IsFound entries unlisted kept h
 
 -- ---- what listing keeps
@@ -47,12 +47,12 @@ pub record HoldersAreFound (runs : List RunState) (bindings : List RunBindings) 
 -- each active holder that was found is still found
 abbrev pub StillFound : List RunState → Entries → List ℕ → Entries → List ℕ → Type 0
 StillFound runs old_entries old_marks new_entries new_marks =
-    (h : Holder) (kept : RunBindings) → Stands runs h → IsFound old_entries old_marks kept h → IsFound new_entries new_marks kept h
+    (h : Holder) (kept : RunBindings) → IsActiveHolder runs h → IsFound old_entries old_marks kept h → IsFound new_entries new_marks kept h
 
 -- each active holder of run `r` is found
 abbrev pub AllAreFound : List RunState → Entries → List ℕ → RunBindings → ℕ → Type 0
 AllAreFound runs entries unlisted kept r =
-    (h : Holder) → run_of h ≡ r → Stands runs h → IsFound entries unlisted kept h
+    (h : Holder) → run_of h ≡ r → IsActiveHolder runs h → IsFound entries unlisted kept h
 
 -- each holder that was found is still found, the groups keep their numbers, and the room for marks stays the same
 pub record OnlyLists (runs : List RunState) (old new : GroupHolders) : Type 0 where

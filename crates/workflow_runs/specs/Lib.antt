@@ -1,8 +1,7 @@
 pub mod Counted
 pub mod Delivered
 pub mod FoundHolders
-pub mod LettingGo
 pub mod MarkedRuns
 pub mod RunsKept
 pub mod SlotHolders
-pub mod Woken
+pub mod Invalidated

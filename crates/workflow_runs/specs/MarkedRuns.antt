@@ -1,17 +1,12 @@
 -- Marks of runs, which let commands and settling skip the runs that have nothing for them. Marks may be stale, never missing: each run with
 -- the property is marked, and other runs may be.
-use Rattle.std.specs.Prelude.{◌≡◌, ℕ, ◌≤◌, ◌<◌, List, length, Bool, true, false, slice_get, Some, is_some}
-use Rattle.std.specs.Option.{option_map_or}
+use Rattle.std.specs.Prelude.{◌≡◌, ℕ, ◌≤◌, ◌<◌, List, length, Bool, true, slice_get, Some, is_some}
 use Rattle.run_marks.specs.Bits.{Puts}
 use Rattle.run_marks.specs.Marked.{Covers, SameMarks, is_marked}
 use Rattle.run_states.specs.ActiveRuns.{is_active, someone_waits}
 use Rattle.run_states.specs.RunState.{RunState}
 use Rattle.run_states.specs.WithinRun.{first_in_run}
 use Rattle.workflow_runs.specs.declared.runs.marks.RunMarks.{RunMarks}
-
--- whether run `r` has the property
-abbrev pub is_so_at : (RunState → Bool) → List RunState → ℕ → Bool
-is_so_at fact runs r = option_map_or fact (slice_get runs r) false
 
 -- whether a rule applies in the run
 abbrev pub is_due : List RunState → ℕ → RunState → Bool

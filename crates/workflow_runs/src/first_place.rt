@@ -45,7 +45,7 @@ fn first_of_legs(runs: &Runs, r: usize, j: usize, legs: &[Leg], tries: &mut u64)
 fn first_leg(runs: &Runs, r: usize, j: usize, job: &Job, tries: &mut u64) -> Option<RuleSite>
     ensures { result ≡ first_of_legs runs.now r j job.now.state.legs }
 {
-    if job.has_moving_leg() {
+    if job.has_unready_leg() {
         first_of_legs(runs, r, j, job.legs(), tries)
     } else {
         None

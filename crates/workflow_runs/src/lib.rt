@@ -1,10 +1,10 @@
 //! The runs of a table: how they settle, how each is found, which holders a concurrency group has, and which leg fits a runner.
 #![tactic(auto)]
 
+mod active_holders;
 pub mod first_place;
 pub mod fit;
 pub mod runs;
-mod standing;
 pub mod walk;
 
 pub use runs::Runs;

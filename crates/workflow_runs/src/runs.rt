@@ -6,9 +6,10 @@ ghost use Rattle.wf_value.specs.Gives.{Gives};
 ghost use Rattle.run_states.specs.LegContext.{facts_at};
 ghost use Rattle.run_states.specs.NewRun.{is_delivered_as};
 ghost use Rattle.run_states.specs.Parallel.{most_at_work};
-ghost use Rattle.run_states.specs.Places.{job_at, leg_at, plan_at};
+ghost use Rattle.run_states.specs.Places.{job_at, leg_at, plan_at, run_at};
 ghost use Rattle.run_states.specs.RunNumber.{events, run_number};
 ghost use Rattle.run_states.specs.Words.{combo_at, job_id};
+ghost use Rattle.run_states.specs.declared.limits.TheConstants.{MAX_RUNS};
 ghost use Rattle.workflow_runs.specs.Counted.{IsOf};
 
 mod changes;
@@ -17,20 +18,19 @@ mod counts;
 mod ending;
 mod flags;
 mod group_holders;
-mod group_keys;
 mod groups;
 mod index;
+mod invalidation;
 mod label_texts;
 mod labels;
 mod letting_go;
-mod looks;
 mod marks;
 mod of;
 mod offers;
 mod places;
+mod refreshing;
 mod rerun;
 mod settling;
-mod waking;
 
 use crate::runs::counts::{Workflow, workflow_of};
 use crate::runs::index::Index;
@@ -42,9 +42,6 @@ use run_states::{Job, Leg, LegPlace, Run};
 use std::alloc::Global;
 use std::marker::Model;
 use wf_value::{Chars, Combo, Refusal, TryCopy, copy_items};
-
-/// The maximum number of runs in a table.
-pub const MAX_RUNS: u32 = 100_000;
 
 /// The runs of a table, in the order of their ids, which count from 1. A contract sees them as a list.
 pub struct Runs {
@@ -87,14 +84,22 @@ impl Runs {
 
     pub fn as_slice(&self) -> &[Run]
         ensures runs { result.now ≡ self.now }
-        ensures most { length self.now ≤ 100000 }
+        ensures most { length self.now ≤ MAX_RUNS }
     {
         self.runs.as_slice()
     }
 
+    /// Run `r`.
+    fn run(&self, r: usize) -> Option<&Run>
+        ensures run { option_copied result ≡ run_at self.now r }
+        ensures within { IfSome result (λ run. r < MAX_RUNS) }
+    {
+        self.as_slice().get(r)
+    }
+
     pub fn len(&self) -> usize
         ensures len { result ≡ length self.now }
-        ensures most { result ≤ 100000 }
+        ensures most { result ≤ MAX_RUNS }
     {
         self.runs.len()
     }
@@ -161,7 +166,7 @@ impl Runs {
     /// The index of the first run of the delivery.
     pub fn position(&self, delivery: &DeliveryId) -> Option<usize>
         ensures found { result ≡ position (is_delivered_as delivery.now) self.now }
-        ensures most { IfSome result (λ i. i < 100000) }
+        ensures most { IfSome result (λ i. i < MAX_RUNS) }
     {
         let place = self.index.places.place(delivery)?;
         if self.is_delivered_at(place, delivery) {
@@ -174,7 +179,7 @@ impl Runs {
     /// Whether the run at index `place` is of the delivery.
     fn is_delivered_at(&self, place: usize, delivery: &DeliveryId) -> bool
         ensures is { result ≡ option_map_or (is_delivered_as delivery.now) (slice_get self.now place) false }
-        ensures within { result ≡ true → place < 100000 }
+        ensures within { result ≡ true → place < MAX_RUNS }
     {
         match self.as_slice().get(place) {
             Some(run) => run.is_delivered_as(delivery),
@@ -200,7 +205,7 @@ impl Runs {
 
     /// Adds a run at the end, with its number and its bindings. On an `Err` it is not added.
     pub fn add(&mut self, alloc: Global, run: Run) -> Result<(), Refusal>
-        requires { length self.old < 100000 }
+        requires { length self.old < MAX_RUNS }
         ensures added { Gives (λ _. self.new) result (Ok (self.old ++ run ∷ [])) }
         ensures err { OnErr result (self.new ≡ self.old) }
     {
@@ -217,7 +222,7 @@ impl Runs {
         found: Option<usize>,
         workflow: Workflow,
     ) -> Result<(), Refusal>
-        requires room { length self.old < 100000 }
+        requires room { length self.old < MAX_RUNS }
         requires found { found ≡ position (is_delivered_as run.admitted.delivery) self.old }
         requires workflow { IsOf workflow run.admitted }
         ensures added { Gives (λ _. self.new) result (Ok (self.old ++ run ∷ [])) }
@@ -227,14 +232,14 @@ impl Runs {
         let number = self
             .index
             .make_room(alloc, runs, run.prepared(), &workflow, found)?;
-        let asked = RunBindings::bind(alloc, &run, self.runs.len() + 1, number)?;
+        let requested = RunBindings::bind(alloc, &run, self.runs.len() + 1, number)?;
         self.runs.reserve(1)?;
         self.numbers.reserve(1)?;
         self.bindings.reserve(1)?;
         let r = self.runs.len();
         self.marks.reserve_up_to(r + 1)?;
         self.index.lists.reserve_up_to(r + 1)?;
-        let grouped = self.index.groups.enter(alloc, asked, r + 1)?;
+        let grouped = self.index.groups.enter(alloc, requested, r + 1)?;
         let bindings = grouped.with_lists(alloc, &mut self.index.lists, r)?;
         offer_run(&mut self.index.lists, &bindings, r, &run);
         self.marks.mark_dirty(r, 0);

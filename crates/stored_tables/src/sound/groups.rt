@@ -4,7 +4,7 @@
 ghost use Rattle.std.specs.Prelude.{◌≡◌, IfOk, MatchOption, Ok};
 ghost use Rattle.wf_value.specs.Gives.{ErrsOnlyByMemory, Gives};
 ghost use Rattle.stored_tables.specs.GroupSets.{AddsEach, AreGroupsOf, AreTaken, DifferInGroup, IsALeg, IsARun, IsAny};
-ghost use Rattle.stored_tables.specs.GroupSets.{group_as, stands};
+ghost use Rattle.stored_tables.specs.GroupSets.{group_as, is_of_kind};
 ghost use Rattle.run_states.specs.Groups.{HasOneEach};
 
 use crate::sound::group_set::GroupSet;
@@ -19,7 +19,7 @@ use workflow_runs::walk::Legs;
 #[derive(Clone, Copy)]
 pub(crate) enum HolderKind {
     Pending,
-    Running,
+    InProgress,
 }
 
 /// Gathers the groups of all pending runs and legs, or of all running ones.
@@ -31,12 +31,12 @@ struct Gathering<'a> {
 }
 
 impl<'a> Gathering<'a> {
-    fn stands(&self, holder: &Holder) -> bool
-        ensures { result ≡ stands self.now.runs.now self.now.holder_kind holder.now }
+    fn is_of_kind(&self, holder: &Holder) -> bool
+        ensures { result ≡ is_of_kind self.now.runs.now self.now.holder_kind holder.now }
     {
         match self.holder_kind {
             HolderKind::Pending => self.runs.waits(holder),
-            HolderKind::Running => self.runs.holds(holder),
+            HolderKind::InProgress => self.runs.holds(holder),
         }
     }
 
@@ -44,7 +44,7 @@ impl<'a> Gathering<'a> {
     fn group_as(&self, holder: &Holder) -> Result<Option<GroupKey>, Refusal>
         ensures { Gives (λ group. group) result (Ok (group_as self.now.runs.now self.now.holder_kind holder.now)) }
     {
-        if self.stands(holder) {
+        if self.is_of_kind(holder) {
             self.runs.group(self.alloc, holder)
         } else {
             Ok(None)
@@ -132,5 +132,5 @@ pub(crate) fn taken_groups(alloc: Global, runs: &Runs) -> Result<Option<GroupSet
     if groups_of(alloc, runs, HolderKind::Pending)?.is_none() {
         return Ok(None);
     }
-    groups_of(alloc, runs, HolderKind::Running)
+    groups_of(alloc, runs, HolderKind::InProgress)
 }

@@ -10,8 +10,7 @@ ghost use Rattle.run_states.specs.SoundRuns.{PhaseFits};
 ghost use Rattle.run_states.specs.StateWords.{is_blocked};
 
 use crate::sound::jobs::are_jobs_sound;
-use run_states::{Job, Run, RunPhase};
-use run_table::LAST_ATTEMPT;
+use run_states::{Job, LAST_ATTEMPT, Run, RunPhase};
 use workflow_runs::first_place::has_settled_jobs;
 use workflow_runs::runs::Runs;
 

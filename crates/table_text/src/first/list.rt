@@ -9,11 +9,11 @@ use std::alloc::Global;
 /// A type that can be read from the front of bytes, and whose encoding in the first layout differs from that in the
 /// second.
 pub(super) trait ReadFirstAt: Drop {
-    ghost stands_first: { List ℕ → Option (Self × List ℕ) };
+    ghost first_prefix_at: { List ℕ → Option (Self × List ℕ) };
 
     /// The value at the front of the bytes, and the bytes after it.
     fn read_first_at(alloc: Global, bytes: &[u8]) -> Result<(Self, &[u8]), DecodeError>
-        ensures { Finds (λ f. (f.0, f.1.now)) result (stands_first bytes.now) };
+        ensures { Finds (λ f. (f.0, f.1.now)) result (first_prefix_at bytes.now) };
 }
 
 /// `count` consecutive values, and the bytes after them.
@@ -22,14 +22,14 @@ pub(super) fn first_list_at<T: ReadFirstAt>(
     count: usize,
     bytes: &[u8],
 ) -> Result<(Vec<T>, &[u8]), DecodeError>
-    ensures { Finds (λ f. (f.0.items, f.1.now)) result (items_at T.stands_first count bytes.now) }
+    ensures { Finds (λ f. (f.0.items, f.1.now)) result (items_at T.first_prefix_at count bytes.now) }
 {
     let mut values = Vec::new(alloc);
     let mut rest = bytes;
     for _ in 0..count {
-        let (value, behind) = T::read_first_at(alloc, rest)?;
+        let (value, suffix) = T::read_first_at(alloc, rest)?;
         values.push(value)?;
-        rest = behind;
+        rest = suffix;
     }
     Ok((values, rest))
 }

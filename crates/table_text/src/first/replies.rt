@@ -4,9 +4,9 @@ ghost use Rattle.table_text.specs.Reading.{Finds};
 ghost use Rattle.table_text.specs.ReadingFirst.{first_kept_at, first_kept_of};
 
 use crate::decode_error::DecodeError;
-use crate::fields::{lease_at, lease_told};
-use crate::front::byte_at;
+use crate::fields::{lease_at, optional_lease};
 use crate::kept::StoredReply;
+use crate::prefix::byte_at;
 use run_plan::Number;
 use stored_tables::StoredLease;
 
@@ -29,7 +29,7 @@ pub(crate) fn first_kept_at(bytes: &[u8]) -> Result<(StoredReply, &[u8]), Decode
 {
     let (reply, rest) = byte_at(bytes)?;
     let (lease, rest) = lease_at(rest)?;
-    match first_kept_of(reply, lease_told(lease)) {
+    match first_kept_of(reply, optional_lease(lease)) {
         Ok(kept) => Ok((kept, rest)),
         Err(why) => Err(why),
     }

@@ -7,8 +7,8 @@ use super::list::{ReadFirstAt, first_list_at};
 use super::replies::first_kept_at;
 use crate::command_at::command_at;
 use crate::decode_error::DecodeError;
-use crate::fields::{lease_at, lease_told, number_at, small_text_at};
-use crate::front::word_at;
+use crate::fields::{lease_at, number_at, optional_lease, small_text_at};
+use crate::prefix::word_at;
 use crate::runners_at::{last_with, rising};
 use run_plan::{Number, RunnerForm};
 use std::alloc::Global;
@@ -30,7 +30,7 @@ fn first_last_at(alloc: Global, bytes: &[u8]) -> Result<(LastParts, &[u8]), Deco
 }
 
 impl ReadFirstAt for RunnerParts {
-    ghost stands_first = { first_runner_at };
+    ghost first_prefix_at = { first_runner_at };
 
     #[tactic(auto, unfolding(crate::specs::ReadingFirst::first_runner_at))]
     fn read_first_at(alloc: Global, bytes: &[u8]) -> Result<(RunnerParts, &[u8]), DecodeError> {
@@ -42,7 +42,7 @@ impl ReadFirstAt for RunnerParts {
             name,
             number: Number::new(number),
             last,
-            holds: lease_told(lease),
+            holds: optional_lease(lease),
         };
         Ok((runner, rest))
     }

@@ -6,17 +6,16 @@ ghost use Rattle.table_text.specs.ReadingFirst.{first_run_at, first_runs_at};
 use super::list::{ReadFirstAt, first_list_at};
 use crate::command_at::admit_at;
 use crate::decode_error::DecodeError;
-use crate::front::word_at;
 use crate::phases_at::{flag_at, run_phase_at};
+use crate::prefix::word_at;
 use crate::runs_at::planned_jobs_at;
 use run_plan::Number;
-use run_states::RunParts;
+use run_states::{MAX_RUNS, RunParts};
 use std::alloc::Global;
 use wf_value::Sequence;
-use workflow_runs::runs::MAX_RUNS;
 
 impl ReadFirstAt for RunParts {
-    ghost stands_first = { first_run_at };
+    ghost first_prefix_at = { first_run_at };
 
     #[tactic(auto, unfolding(crate::specs::ReadingFirst::first_run_at, crate::specs::ReadingFirst::first_course_at))]
     fn read_first_at(alloc: Global, bytes: &[u8]) -> Result<(RunParts, &[u8]), DecodeError> {

@@ -34,7 +34,7 @@ impl Runs {
     {
         let taken = self.taken(r, &change);
         self.write(r, change);
-        self.look_again_after(r, taken);
+        self.refresh_after(r, taken);
     }
 
     /// Which ready legs the change of run `r` may take away. This is a hint: the run is searched before a mark is removed.
@@ -55,7 +55,7 @@ impl Runs {
     }
 
     /// Unmarks the run for the list of the leg taken, or for all lists, if it has no such ready leg any more. Claims then skip it.
-    fn look_again_after(&mut self, r: usize, taken: Taken)
+    fn refresh_after(&mut self, r: usize, taken: Taken)
         ensures { self.new ≡ self.old }
     {
         match taken {
@@ -76,7 +76,7 @@ impl Runs {
             let runs = self.runs.as_slice();
             let bindings = &self.bindings[r];
             self.marks
-                .wake_freed(&freed, &self.index.groups, bindings, runs.len());
+                .invalidate_freed(&freed, &self.index.groups, bindings, runs.len());
             self.index.groups.list_newcomer(newcomer, runs, bindings);
             offer(&mut self.index.lists, offered, bindings);
             self.marks.mark_dirty(r, 0);

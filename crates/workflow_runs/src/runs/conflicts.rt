@@ -2,7 +2,7 @@
 //! runs that are marked as having an unlisted holder. If the slot does not decide, the search covers all active runs and their legs. Takes
 //! no memory.
 
-ghost use Rattle.std.specs.Prelude.{◌≡◌, ◌<◌, ◌≤◌, ℕ, IfNone, IfSome, Some, false, find, length, map, option_and_then, option_map, true};
+ghost use Rattle.std.specs.Prelude.{◌≡◌, ◌<◌, ◌≤◌, ℕ, IfNone, IfSome, Some, false, find, length, map, option_and_then, true};
 ghost use Rattle.run_marks.specs.Marked.{is_marked};
 ghost use Rattle.run_states.specs.FirstOf.{placed};
 ghost use Rattle.run_states.specs.Holders.{first_conflicting, is_conflicting};
@@ -11,6 +11,7 @@ ghost use Rattle.run_states.specs.declared.holder.HolderFilter.{HolderFilter as 
 ghost use Rattle.workflow_runs.specs.SlotHolders.{HaveAll, TellsOf, first_marked, is_marked_conflicting};
 ghost use Rattle.run_states.specs.declared.holder.Holder.{Holder as HolderInCode};
 ghost use Rattle.run_states.specs.declared.holder.Holder.TheVariants as held;
+ghost use Rattle.run_states.specs.declared.limits.TheConstants.{MAX_RUNS};
 
 use crate::runs::Runs;
 use crate::runs::marks::next_below;
@@ -22,19 +23,23 @@ use run_states::{Holder, HolderFilter, LegPlace};
 /// How many of the holders in the places of a slot conflict.
 #[derive(Clone, Copy)]
 enum InSlot {
-    Nobody,
+    NoHolder,
     One(Holder),
     Several,
 }
 
 impl Runs {
-    /// The first run, or else the first leg, that is in the group of `holder` and pending or running there, as `whom` asks.
-    pub(crate) fn first_conflicting(&self, holder: &Holder, whom: HolderFilter) -> Option<Holder>
-        ensures { result ≡ first_conflicting self.now holder.now whom }
+    /// The first run, or else the first leg, that is in the group of `holder` and pending or running there, as `holder_filter` asks.
+    pub(crate) fn first_conflicting(
+        &self,
+        holder: &Holder,
+        holder_filter: HolderFilter,
+    ) -> Option<Holder>
+        ensures { result ≡ first_conflicting self.now holder.now holder_filter }
     {
         match self.slot_of(holder) {
-            Some((slot, unlisted)) => self.first_by_slot(&slot, unlisted, holder, whom),
-            None => self.first_in_active(holder, whom),
+            Some((slot, unlisted)) => self.first_by_slot(&slot, unlisted, holder, holder_filter),
+            None => self.first_in_active(holder, holder_filter),
         }
     }
 
@@ -43,7 +48,7 @@ impl Runs {
     /// The slot of the holder's group, and the runs that may have an unlisted holder. `None` if the group has no number, or the slot does
     /// not have a place for each listed holder.
     fn slot_of(&self, holder: &Holder) -> Option<(Slot<Holder>, &RunBitmap)>
-        ensures { (whom : FilterInCode) → IfSome result (λ it. HaveAll self.now holder.now whom it.0 it.1.now) }
+        ensures { (holder_filter : FilterInCode) → IfSome result (λ it. HaveAll self.now holder.now holder_filter it.0 it.1.now) }
     {
         let bindings = self.bindings.get(holder.run())?;
         let slot = self.index.groups.slot_of(holder, bindings)?;
@@ -57,32 +62,37 @@ impl Runs {
         slot: &Slot<Holder>,
         unlisted: &RunBitmap,
         holder: &Holder,
-        whom: HolderFilter,
+        holder_filter: HolderFilter,
     ) -> Option<Holder>
-        requires { HaveAll self.now holder.now whom slot.now unlisted.now }
-        ensures { result ≡ first_conflicting self.now holder.now whom }
+        requires { HaveAll self.now holder.now holder_filter slot.now unlisted.now }
+        ensures { result ≡ first_conflicting self.now holder.now holder_filter }
     {
-        match self.conflicting_in(slot, holder, whom) {
-            InSlot::Nobody => self.first_marked(unlisted, holder, whom),
-            InSlot::One(one) => match self.first_marked(unlisted, holder, whom) {
+        match self.conflicting_in(slot, holder, holder_filter) {
+            InSlot::NoHolder => self.first_marked(unlisted, holder, holder_filter),
+            InSlot::One(one) => match self.first_marked(unlisted, holder, holder_filter) {
                 None => Some(one),
                 Some(other) if other.run() == one.run() => Some(other),
-                Some(_) => self.first_in_active(holder, whom),
+                Some(_) => self.first_in_active(holder, holder_filter),
             },
-            InSlot::Several => self.first_in_active(holder, whom),
+            InSlot::Several => self.first_in_active(holder, holder_filter),
         }
     }
 
     /// How many of the holders in the places of the slot conflict.
-    fn conflicting_in(&self, slot: &Slot<Holder>, holder: &Holder, whom: HolderFilter) -> InSlot
-        ensures { TellsOf (λ other. is_conflicting self.now holder.now whom other) slot.now result }
+    fn conflicting_in(
+        &self,
+        slot: &Slot<Holder>,
+        holder: &Holder,
+        holder_filter: HolderFilter,
+    ) -> InSlot
+        ensures { TellsOf (λ other. is_conflicting self.now holder.now holder_filter other) slot.now result }
     {
         let [first, second, third] = slot.places();
-        let first = self.if_conflicting(first, holder, whom);
-        let second = self.if_conflicting(second, holder, whom);
-        let third = self.if_conflicting(third, holder, whom);
+        let first = self.if_conflicting(first, holder, holder_filter);
+        let second = self.if_conflicting(second, holder, holder_filter);
+        let third = self.if_conflicting(third, holder, holder_filter);
         match (first, second, third) {
-            (None, None, None) => InSlot::Nobody,
+            (None, None, None) => InSlot::NoHolder,
             (Some(one), None, None) | (None, Some(one), None) | (None, None, Some(one)) => {
                 InSlot::One(one)
             }
@@ -95,14 +105,14 @@ impl Runs {
         &self,
         place: Option<Holder>,
         holder: &Holder,
-        whom: HolderFilter,
+        holder_filter: HolderFilter,
     ) -> Option<Holder>
-        ensures meant { IfSome result (λ h. is_conflicting self.now holder.now whom h ≡ true) }
+        ensures meant { IfSome result (λ h. is_conflicting self.now holder.now holder_filter h ≡ true) }
         ensures only { (h : HolderInCode) → place ≡ Some h
-            → is_conflicting self.now holder.now whom h ≡ true → result ≡ Some h }
+            → is_conflicting self.now holder.now holder_filter h ≡ true → result ≡ Some h }
     {
         match place {
-            Some(other) if self.is_conflicting(holder, whom, &other) => Some(other),
+            Some(other) if self.is_conflicting(holder, holder_filter, &other) => Some(other),
             _ => None,
         }
     }
@@ -110,19 +120,24 @@ impl Runs {
     // ---- over the marked runs and their legs
 
     /// The first conflicting holder of all. A run that is not active has none.
-    fn first_in_active(&self, holder: &Holder, whom: HolderFilter) -> Option<Holder>
-        ensures { result ≡ first_conflicting self.now holder.now whom }
+    fn first_in_active(&self, holder: &Holder, holder_filter: HolderFilter) -> Option<Holder>
+        ensures { result ≡ first_conflicting self.now holder.now holder_filter }
     {
-        self.first_marked(&self.marks.active, holder, whom)
+        self.first_marked(&self.marks.active, holder, holder_filter)
     }
 
     /// The first conflicting holder in a marked run.
-    fn first_marked(&self, marks: &RunBitmap, holder: &Holder, whom: HolderFilter) -> Option<Holder>
-        ensures { result ≡ first_marked marks.now self.now holder.now whom }
+    fn first_marked(
+        &self,
+        marks: &RunBitmap,
+        holder: &Holder,
+        holder_filter: HolderFilter,
+    ) -> Option<Holder>
+        ensures { result ≡ first_marked marks.now self.now holder.now holder_filter }
     {
-        match self.first_marked_run(marks, holder, whom) {
+        match self.first_marked_run(marks, holder, holder_filter) {
             Some(r) => Some(Holder::Run(r)),
-            None => Some(Holder::Leg(self.first_marked_leg(marks, holder, whom)?)),
+            None => Some(Holder::Leg(self.first_marked_leg(marks, holder, holder_filter)?)),
         }
     }
 
@@ -130,14 +145,14 @@ impl Runs {
         &self,
         marks: &RunBitmap,
         holder: &Holder,
-        whom: HolderFilter,
+        holder_filter: HolderFilter,
     ) -> Option<usize>
-        ensures { result ≡ find (λ r. is_marked_conflicting marks.now self.now holder.now whom (held.Run r))
+        ensures { result ≡ find (λ r. is_marked_conflicting marks.now self.now holder.now holder_filter (held.Run r))
             (map (λ r. r.0) (placed self.now)) }
     {
         let mut from = 0;
         while let Some(r) = self.next_marked(marks, from) {
-            if self.is_conflicting(holder, whom, &Holder::Run(r)) {
+            if self.is_conflicting(holder, holder_filter, &Holder::Run(r)) {
                 return Some(r);
             }
             from = r + 1;
@@ -149,14 +164,14 @@ impl Runs {
         &self,
         marks: &RunBitmap,
         holder: &Holder,
-        whom: HolderFilter,
+        holder_filter: HolderFilter,
     ) -> Option<LegPlace>
-        ensures { result ≡ find (λ p. is_marked_conflicting marks.now self.now holder.now whom (held.Leg p))
+        ensures { result ≡ find (λ p. is_marked_conflicting marks.now self.now holder.now holder_filter (held.Leg p))
             (leg_places self.now) }
     {
         let mut from = 0;
         while let Some(r) = self.next_marked(marks, from) {
-            let leg = self.first_conflicting_leg_of_run(holder, whom, r);
+            let leg = self.first_conflicting_leg_of_run(holder, holder_filter, r);
             if leg.is_some() {
                 return leg;
             }
@@ -168,16 +183,16 @@ impl Runs {
     fn first_conflicting_leg_of_run(
         &self,
         holder: &Holder,
-        whom: HolderFilter,
+        holder_filter: HolderFilter,
         r: usize,
     ) -> Option<LegPlace>
         ensures { result ≡ option_and_then
-            (λ run. find (λ p. is_conflicting self.now holder.now whom (held.Leg p)) (leg_places_of_run (r, run)))
+            (λ run. find (λ p. is_conflicting self.now holder.now holder_filter (held.Leg p)) (leg_places_of_run (r, run)))
             (run_at self.now r) }
     {
         let run = self.run(r)?;
         for (place, _) in Legs::of_run(r, run) {
-            if self.is_conflicting(holder, whom, &Holder::Leg(place)) {
+            if self.is_conflicting(holder, holder_filter, &Holder::Leg(place)) {
                 return Some(place);
             }
         }
@@ -187,7 +202,7 @@ impl Runs {
     /// The first marked run at or after `from`.
     fn next_marked(&self, marks: &RunBitmap, from: usize) -> Option<usize>
         ensures within { IfSome result (λ r. r < length self.now) }
-        ensures few { IfSome result (λ r. r < 100000) }
+        ensures few { IfSome result (λ r. r < MAX_RUNS) }
         ensures from { IfSome result (λ r. from ≤ r) }
         ensures itself { IfSome result (λ r. is_marked marks.now r ≡ true) }
         ensures between { IfSome result (λ r. (i : ℕ) → from ≤ i → i < r → is_marked marks.now i ≡ false) }

@@ -12,11 +12,11 @@ ghost use Rattle.run_states.specs.Places.{leg_place};
 ghost use Rattle.run_states.specs.declared.holder.Holder.TheVariants.{Leg};
 ghost use Rattle.run_bindings.specs.Bindings.{RunSays};
 ghost use Rattle.run_bindings.specs.GroupNumbers.{OnlyEnters, SaysNumbers};
-ghost use Rattle.workflow_runs.specs.FoundHolders.{AllAreFound, HoldersAreFound, IsFound, IsListedAt, OnlyLists, Stands, StillFound};
+ghost use Rattle.workflow_runs.specs.FoundHolders.{AllAreFound, HoldersAreFound, IsFound, IsListedAt, OnlyLists, IsActiveHolder, StillFound};
 ghost use Rattle.workflow_runs.specs.SlotHolders.{IsSlotOf};
 ghost use Rattle.run_states.specs.declared.holder.Holder.{Holder as HolderInCode};
 
-use crate::standing::{job_count, leg_count, stands};
+use crate::active_holders::{is_active_holder, job_count, leg_count};
 use group_book::{Book, Slot};
 use run_bindings::RunBindings;
 use run_marks::RunBitmap;
@@ -59,7 +59,7 @@ impl GroupHolders {
     pub(crate) fn enter(
         &mut self,
         alloc: Global,
-        asked: RunBindings,
+        requested: RunBindings,
         bound: usize,
     ) -> Result<RunBindings, Refusal>
         ensures err { ErrsOnlyByMemory result }
@@ -67,11 +67,11 @@ impl GroupHolders {
         ensures marks { SameMarks self.old.unlisted self.new.unlisted }
         ensures room { length self.old.unlisted ≤ length self.new.unlisted }
         ensures covers { OnOk result (Covers self.new.unlisted bound) }
-        ensures says { IfOk result (λ bindings. (run : RunFacts) → RunSays run asked → RunSays run bindings) }
+        ensures says { IfOk result (λ bindings. (run : RunFacts) → RunSays run requested → RunSays run bindings) }
         ensures numbers { IfOk result (SaysNumbers self.new.book.entries) }
     {
         self.unlisted.reserve_up_to(bound)?;
-        asked.numbered(alloc, &mut self.book)
+        requested.numbered(alloc, &mut self.book)
     }
 
     /// The slot of the holder's group, if the group has a number and the slot has a place for each listed holder.
@@ -96,7 +96,7 @@ impl GroupHolders {
         ensures numbers { (n : ℕ) → group_at self.new.book.entries n ≡ group_at self.old.book.entries n }
         ensures room { length self.new.unlisted ≡ length self.old.unlisted }
     {
-        if bindings.asked(holder).is_none() {
+        if bindings.requested(holder).is_none() {
             return;
         }
         match bindings.numbers.of(holder) {
@@ -131,7 +131,7 @@ impl GroupHolders {
         ensures all { AllAreFound runs.now self.new.book.entries self.new.unlisted bindings.now r }
         ensures others { OnlyLists runs.now self.old self.new }
     {
-        self.list_if_standing(&Holder::Run(r), runs, bindings);
+        self.list_if_active(&Holder::Run(r), runs, bindings);
         for j in 0..job_count(runs, r) {
             self.list_legs(r, j, runs, bindings);
         }
@@ -140,21 +140,21 @@ impl GroupHolders {
     /// Lists the active legs of a job.
     fn list_legs(&mut self, r: usize, j: usize, runs: &[Run], bindings: &RunBindings)
         requires { Covers self.old.unlisted (r + 1) }
-        ensures all { (l : ℕ) → Stands runs.now (Leg (leg_place r j l))
+        ensures all { (l : ℕ) → IsActiveHolder runs.now (Leg (leg_place r j l))
             → IsFound self.new.book.entries self.new.unlisted bindings.now (Leg (leg_place r j l)) }
         ensures others { OnlyLists runs.now self.old self.new }
     {
         for l in 0..leg_count(runs, r, j) {
-            self.list_if_standing(&Holder::Leg(LegPlace::new(r, j, l)), runs, bindings);
+            self.list_if_active(&Holder::Leg(LegPlace::new(r, j, l)), runs, bindings);
         }
     }
 
-    fn list_if_standing(&mut self, holder: &Holder, runs: &[Run], bindings: &RunBindings)
+    fn list_if_active(&mut self, holder: &Holder, runs: &[Run], bindings: &RunBindings)
         requires { Covers self.old.unlisted (run_of holder.now + 1) }
-        ensures itself { Stands runs.now holder.now → IsFound self.new.book.entries self.new.unlisted bindings.now holder.now }
+        ensures itself { IsActiveHolder runs.now holder.now → IsFound self.new.book.entries self.new.unlisted bindings.now holder.now }
         ensures others { OnlyLists runs.now self.old self.new }
     {
-        if stands(runs, holder) {
+        if is_active_holder(runs, holder) {
             self.list(holder, runs, bindings);
         }
     }
@@ -164,11 +164,11 @@ impl GroupHolders {
 fn list_at(book: &mut Book<Holder>, number: usize, holder: Holder, runs: &[Run])
     requires { number < length book.old.entries }
     ensures itself { IsListedAt book.new.entries number holder }
-    ensures others { (n : ℕ) (h : HolderInCode) → Stands runs.now h → IsListedAt book.old.entries n h → IsListedAt book.new.entries n h }
+    ensures others { (n : ℕ) (h : HolderInCode) → IsActiveHolder runs.now h → IsListedAt book.old.entries n h → IsListedAt book.new.entries n h }
     ensures numbers { (n : ℕ) → group_at book.new.entries n ≡ group_at book.old.entries n }
 {
     let listed = book.slot(number);
-    let standing = listed.kept(|other| stands(runs, &other));
-    let slot = standing.with(holder);
+    let active_ones = listed.kept(|other| is_active_holder(runs, &other));
+    let slot = active_ones.with(holder);
     book.put(number, slot);
 }

@@ -1,7 +1,8 @@
-//! The group of a run or a leg, whether it waits for the group or holds it, and the effect of its arrival. Takes no memory.
+//! The group of a run or a leg, whether it waits for the group or holds it, and the effect of its arrival. Only `group` takes memory.
 
-ghost use Rattle.std.specs.Prelude.{◌≡◌, IfSome, Some, false, true, is_some, option_and_then, option_map};
+ghost use Rattle.std.specs.Prelude.{◌≡◌, IfSome, Ok, Some, false, true, is_some, option_and_then, option_map};
 ghost use Rattle.std.specs.Option.{option_map_or};
+ghost use Rattle.wf_value.specs.Gives.{Gives};
 ghost use Rattle.group_name.specs.BoundGroup.{group_at as bound_group_at};
 ghost use Rattle.run_states.specs.Arrivals.{arrived, is_in_group_of_run};
 ghost use Rattle.run_states.specs.GroupOf.{RunFacts, cancels_in_progress, group_at, run_facts_at};
@@ -15,10 +16,13 @@ ghost use Rattle.run_states.specs.Stops.{stopped};
 ghost use Rattle.run_bindings.specs.Bindings.{RunSays};
 ghost use Rattle.run_bindings.specs.BoundGroups.{is_set_by, results_by_place};
 
+use crate::active_holders::{is_holding, is_waiting};
 use crate::runs::Runs;
-use crate::standing::{is_holding, is_waiting};
+use group_name::GroupKey;
 use run_bindings::{GroupRequest, RunBindings};
 use run_states::{Holder, HolderFilter, LegPlace, Run};
+use std::alloc::Global;
+use wf_value::Refusal;
 
 impl Runs {
     /// Run `r` with its bindings.
@@ -33,22 +37,32 @@ impl Runs {
     }
 
     /// What a run or a leg asks of a group, and its run. The group's name may depend on the results of that run's jobs.
-    fn asked(&self, holder: &Holder) -> Option<(&GroupRequest, &Run)>
+    fn requested(&self, holder: &Holder) -> Option<(&GroupRequest, &Run)>
         ensures group { option_and_then (λ a. bound_group_at (results_by_place a.1.now) a.0.now.group) result
             ≡ group_at self.now holder.now }
         ensures cancels { option_map_or (λ a. is_set_by (results_by_place a.1.now) a.0.now.cancels) result false
             ≡ cancels_in_progress self.now holder.now }
     {
         let (run, bindings) = self.with_bindings(holder.run())?;
-        Some((bindings.asked(holder)?, run))
+        Some((bindings.requested(holder)?, run))
+    }
+
+    /// The group of a run or of a leg, if it has one. Its only `Err` is 50 (out of memory).
+    pub fn group(&self, alloc: Global, holder: &Holder) -> Result<Option<GroupKey>, Refusal>
+        ensures { Gives (λ group. group) result (Ok (group_at self.now holder.now)) }
+    {
+        match self.requested(holder) {
+            Some((requested, run)) => requested.group.key(alloc, run),
+            None => Ok(None),
+        }
     }
 
     /// Whether the holder has a group.
     pub(crate) fn has_group(&self, holder: &Holder) -> bool
         ensures { result ≡ is_some (group_at self.now holder.now) }
     {
-        match self.asked(holder) {
-            Some((asked, run)) => asked.group.has_group(run),
+        match self.requested(holder) {
+            Some((requested, run)) => requested.group.has_group(run),
             None => false,
         }
     }
@@ -58,7 +72,7 @@ impl Runs {
         ensures { result ≡ option_map_or (λ g. is_in self.now g other.now)
             (group_at self.now holder.now) false }
     {
-        match (self.asked(holder), self.asked(other)) {
+        match (self.requested(holder), self.requested(other)) {
             (Some((one, run)), Some((another, other_run))) => {
                 one.group.same(run, &another.group, other_run)
             }
@@ -70,8 +84,8 @@ impl Runs {
     fn cancels_in_progress(&self, holder: &Holder) -> bool
         ensures { result ≡ cancels_in_progress self.now holder.now }
     {
-        match self.asked(holder) {
-            Some((asked, run)) => asked.cancels.is_set(run),
+        match self.requested(holder) {
+            Some((requested, run)) => requested.cancels.is_set(run),
             None => false,
         }
     }
@@ -101,19 +115,24 @@ impl Runs {
     {
         !self.has_group(holder)
             || self
-                .first_conflicting(holder, HolderFilter::Running)
+                .first_conflicting(holder, HolderFilter::InProgress)
                 .is_none()
     }
 
-    /// Whether `other` is in the group of `holder` and pending or running there, as `whom` asks.
-    pub(crate) fn is_conflicting(&self, holder: &Holder, whom: HolderFilter, other: &Holder) -> bool
-        ensures { result ≡ is_conflicting self.now holder.now whom other.now }
+    /// Whether `other` is in the group of `holder` and pending or running there, as `holder_filter` asks.
+    pub(crate) fn is_conflicting(
+        &self,
+        holder: &Holder,
+        holder_filter: HolderFilter,
+        other: &Holder,
+    ) -> bool
+        ensures { result ≡ is_conflicting self.now holder.now holder_filter other.now }
     {
-        match whom {
+        match holder_filter {
             HolderFilter::OthersPending => {
                 self.waits(other) && !other.is(holder) && self.is_in_group_of(holder, other)
             }
-            HolderFilter::Running => self.holds(other) && self.is_in_group_of(holder, other),
+            HolderFilter::InProgress => self.holds(other) && self.is_in_group_of(holder, other),
         }
     }
 
@@ -130,17 +149,18 @@ impl Runs {
         ensures { result ≡ finds_others self.now newcomer.now }
     {
         self.finds(newcomer, HolderFilter::OthersPending)
-            || (self.cancels_in_progress(newcomer) && self.finds(newcomer, HolderFilter::Running))
+            || (self.cancels_in_progress(newcomer)
+                && self.finds(newcomer, HolderFilter::InProgress))
     }
 
-    fn finds(&self, newcomer: &Holder, whom: HolderFilter) -> bool
-        ensures { result ≡ is_some (first_conflicting self.now newcomer.now whom) }
+    fn finds(&self, newcomer: &Holder, holder_filter: HolderFilter) -> bool
+        ensures { result ≡ is_some (first_conflicting self.now newcomer.now holder_filter) }
     {
-        self.first_conflicting(newcomer, whom).is_some()
+        self.first_conflicting(newcomer, holder_filter).is_some()
     }
 
     /// The arrival of a run or a leg, which already waits, in its group. Another holder that is pending there ends as cancelled, and with
-    /// cancel-in-progress the running one is stopped. Takes no memory.
+    /// cancel-in-progress the one in progress is stopped. Takes no memory.
     pub fn arrive(&mut self, newcomer: &Holder)
         requires waits { waits self.old newcomer.now ≡ true }
         requires sound { RunsAreSound self.old }
@@ -153,16 +173,16 @@ impl Runs {
         let cancels = self.cancels_in_progress(newcomer);
         self.stop_conflicting(newcomer, HolderFilter::OthersPending);
         if cancels {
-            self.stop_conflicting(newcomer, HolderFilter::Running);
+            self.stop_conflicting(newcomer, HolderFilter::InProgress);
         }
     }
 
     /// Stops the first conflicting holder, if there is one.
-    fn stop_conflicting(&mut self, newcomer: &Holder, whom: HolderFilter)
+    fn stop_conflicting(&mut self, newcomer: &Holder, holder_filter: HolderFilter)
         ensures { self.new ≡ option_map_or (λ h. (stop_holder h self.old).runs)
-            (first_conflicting self.old newcomer.now whom) self.old }
+            (first_conflicting self.old newcomer.now holder_filter) self.old }
     {
-        if let Some(other) = self.first_conflicting(newcomer, whom) {
+        if let Some(other) = self.first_conflicting(newcomer, holder_filter) {
             self.stop_holder(&other);
         }
     }

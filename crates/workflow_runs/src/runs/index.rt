@@ -9,6 +9,7 @@ ghost use Rattle.wf_value.specs.Gives.{ErrsOnlyByMemory};
 ghost use Rattle.run_plan.specs.Admitted.{Admitted};
 ghost use Rattle.run_states.specs.NewRun.{is_delivered_as};
 ghost use Rattle.run_states.specs.RunNumber.{events, number_of_next};
+ghost use Rattle.run_states.specs.declared.limits.TheConstants.{MAX_RUNS};
 ghost use Rattle.run_bindings.specs.LabelNumbers.{LegsAreOffered};
 ghost use Rattle.workflow_runs.specs.Counted.{AreCounted, IsOf, count_of, is_counted};
 ghost use Rattle.workflow_runs.specs.Delivered.{FindsFirst};
@@ -59,7 +60,7 @@ impl Index {
         workflow: &Workflow,
         found: Option<usize>,
     ) -> Result<usize, Refusal>
-        requires few { length runs.now < 100000 }
+        requires few { length runs.now < MAX_RUNS }
         requires found { found ≡ position (is_delivered_as event.now.delivery) runs.now }
         requires workflow { IsOf workflow.now event.now }
         requires finds { FindsFirst (events runs.now) self.old.places.places }
@@ -85,7 +86,7 @@ impl Index {
         place: usize,
         found: Option<usize>,
     ) -> Result<usize, Refusal>
-        requires few { count_of self.old.counts.counts event.now < 100000 }
+        requires few { count_of self.old.counts.counts event.now < MAX_RUNS }
         requires workflow { IsOf workflow.now event.now }
         ensures err { ErrsOnlyByMemory result }
         ensures number { IfOk result (λ number. number ≡ count_of self.old.counts.counts event.now + 1) }

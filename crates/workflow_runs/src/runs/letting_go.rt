@@ -3,11 +3,11 @@
 
 ghost use Rattle.std.specs.Prelude.{◌≡◌, false};
 ghost use Rattle.std.specs.Option.{option_map_or};
-ghost use Rattle.run_states.specs.HoldingLegs.{has_begun, has_legs_behind, holds_by_a_leg};
+ghost use Rattle.run_states.specs.HoldingLegs.{has_begun, has_legs_downstream, holds_by_a_leg};
 ghost use Rattle.run_states.specs.Places.{job_at};
-ghost use Rattle.workflow_runs.specs.LettingGo.{asks_for_groups, freed, leg_lets_go, offers_a_leg};
-ghost use Rattle.workflow_runs.specs.LettingGo.{run_lets_go};
-ghost use Rattle.workflow_runs.specs.MarkedRuns.{is_so_at};
+ghost use Rattle.resuming_laws.specs.LettingGo.{requests_groups, freed, leg_lets_go, offers_a_leg};
+ghost use Rattle.resuming_laws.specs.LettingGo.{run_lets_go};
+ghost use Rattle.resuming_laws.specs.RunFacts.{is_so_at};
 
 use crate::runs::Runs;
 use run_states::{Change, Frees, Holder, Leg, LegPlace, RunPhase};
@@ -20,10 +20,10 @@ impl Runs {
         match change {
             Change::Phase(phase) => Frees::one_if(self.run_lets_go(r, *phase), Holder::Run(r)),
             Change::Open(j) => Frees::any_if(self.has_begun(r, *j)),
-            Change::Settle(j, _) => Frees::any_if(self.has_legs_behind(r, *j)),
+            Change::Settle(j, _) => Frees::any_if(self.has_legs_downstream(r, *j)),
             Change::Stop => Frees::any_if(self.holds_by_a_leg(r)),
             Change::StopLegs(j) => {
-                Frees::any_if(self.offers_a_leg(r, *j) && self.asks_for_groups(r, *j))
+                Frees::any_if(self.offers_a_leg(r, *j) && self.requests_groups(r, *j))
             }
             Change::PutLeg(j, l, leg) => {
                 let place = LegPlace::new(r, *j, *l);
@@ -55,11 +55,11 @@ impl Runs {
         }
     }
 
-    fn has_legs_behind(&self, r: usize, j: usize) -> bool
-        ensures { result ≡ is_so_at (has_legs_behind j) self.now r }
+    fn has_legs_downstream(&self, r: usize, j: usize) -> bool
+        ensures { result ≡ is_so_at (has_legs_downstream j) self.now r }
     {
         match self.runs.get(r) {
-            Some(run) => run.has_legs_behind(j),
+            Some(run) => run.has_legs_downstream(j),
             None => false,
         }
     }
@@ -83,8 +83,8 @@ impl Runs {
     }
 
     /// Whether the legs of the job ask for groups.
-    fn asks_for_groups(&self, r: usize, j: usize) -> bool
-        ensures { result ≡ asks_for_groups self.now r j }
+    fn requests_groups(&self, r: usize, j: usize) -> bool
+        ensures { result ≡ requests_groups self.now r j }
     {
         match self.planned(r, j) {
             Some(planned) => planned.concurrency.is_some(),

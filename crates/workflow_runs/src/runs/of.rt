@@ -4,8 +4,8 @@ ghost use Rattle.std.specs.Prelude.{◌≡◌, IfOk, MatchOption};
 ghost use Rattle.wf_value.specs.Gives.{ErrsOnlyByMemory};
 ghost use Rattle.run_states.specs.AsPlanned.{AreAsPlanned};
 
-use crate::runs::{MAX_RUNS, Runs};
-use run_states::{Run, RunParts};
+use crate::runs::Runs;
+use run_states::{MAX_RUNS, Run, RunParts};
 use std::alloc::Global;
 use wf_value::Refusal;
 

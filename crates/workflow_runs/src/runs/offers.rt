@@ -3,12 +3,11 @@
 
 ghost use Rattle.std.specs.Prelude.{◌≡◌, ◌≤◌, ◌<◌, ℕ, IfNone, IfSome, Some, length, slice_get, true, false};
 ghost use Rattle.label_lists.specs.Known.{IsBefore};
-ghost use Rattle.label_lists.specs.Lists.{HasPlace, labels_of, may_offer};
+ghost use Rattle.label_lists.specs.Lists.{HasPlace, may_offer};
 ghost use Rattle.std.specs.List.{list_any};
-ghost use Rattle.std.specs.Option.{option_map_or};
 ghost use Rattle.run_states.specs.Cells.{states};
 ghost use Rattle.run_states.specs.FirstOf.{placed};
-ghost use Rattle.run_states.specs.Fitting.{has_labels, is_ready};
+ghost use Rattle.run_states.specs.Fitting.{is_ready};
 ghost use Rattle.run_bindings.specs.LabelNumbers.{IsOffered, JobsOffer, LegsOffer, MayServe, OnlyMarks, OnlyPuts, ServesList, job_offers, leg_offers};
 ghost use Rattle.run_bindings.specs.LabelNumbers.{list_number, number_in, offers_list};
 

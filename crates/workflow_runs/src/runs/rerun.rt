@@ -6,6 +6,7 @@ ghost use Rattle.wf_value.specs.Gives.{ErrsOnlyByMemory, Gives};
 ghost use Rattle.run_states.specs.NewRun.{again};
 ghost use Rattle.run_states.specs.Places.{run_at, with_run};
 ghost use Rattle.run_states.specs.RunNumber.{events, run_number};
+ghost use Rattle.run_states.specs.declared.limits.TheConstants.{LAST_ATTEMPT};
 ghost use Rattle.run_bindings.specs.Bindings.{RunSays};
 
 use crate::runs::Runs;
@@ -19,12 +20,12 @@ impl Runs {
     /// Puts run `r`, if there is one, into its next attempt: it waits, all its jobs are blocked, and its templates are bound again. All
     /// memory is taken first, so on an `Err` nothing has changed.
     pub fn rerun(&mut self, alloc: Global, r: usize) -> Result<(), Refusal>
-        requires { IfSome (run_at self.old r) (λ run. run.attempt < 1000) }
+        requires { IfSome (run_at self.old r) (λ run. run.attempt < LAST_ATTEMPT) }
         ensures again { Gives (λ _. self.new) result (Ok (with_run r again self.old)) }
         ensures err { OnErr result (self.new ≡ self.old) }
     {
         match self.next_attempt(alloc, r)? {
-            Some((next, asked)) => self.put_again(alloc, r, next, asked),
+            Some((next, requested)) => self.put_again(alloc, r, next, requested),
             None => Ok(()),
         }
     }
@@ -35,7 +36,7 @@ impl Runs {
         alloc: Global,
         r: usize,
         next: Run,
-        asked: RunBindings,
+        requested: RunBindings,
     ) -> Result<(), Refusal>
         requires next { Some next ≡ option_map again (run_at self.old r) }
         requires says { RunSays (record {
@@ -43,12 +44,12 @@ impl Runs {
           run_id = decimal (r + 1);
           run_number = decimal (run_number (events self.old) r next.admitted);
           run_attempt = decimal next.attempt;
-        }) asked }
+        }) requested }
         ensures again { Gives (λ _. self.new) result (Ok (with_run r again self.old)) }
         ensures err { OnErr result (self.new ≡ self.old) }
     {
         self.index.lists.reserve_up_to(r + 1)?;
-        let grouped = self.index.groups.enter(alloc, asked, r + 1)?;
+        let grouped = self.index.groups.enter(alloc, requested, r + 1)?;
         let bindings = grouped.with_lists(alloc, &mut self.index.lists, r)?;
         offer_run(&mut self.index.lists, &bindings, r, &next);
         let count = self.runs.len();
@@ -62,7 +63,7 @@ impl Runs {
 
     /// The next attempt of run `r`, with its bindings.
     fn next_attempt(&self, alloc: Global, r: usize) -> Result<Option<(Run, RunBindings)>, Refusal>
-        requires { IfSome (run_at self.now r) (λ run. run.attempt < 1000) }
+        requires { IfSome (run_at self.now r) (λ run. run.attempt < LAST_ATTEMPT) }
         ensures err { ErrsOnlyByMemory result }
         ensures next { IfOk result (λ found. option_map (λ it. it.0) found ≡ option_map again (run_at self.now r)) }
         ensures says { IfOk result (λ found. IfSome found (λ it. RunSays (record {
@@ -79,8 +80,8 @@ impl Runs {
             return Ok(None);
         };
         let next = run.again(alloc)?;
-        let asked = RunBindings::bind(alloc, &next, r + 1, number)?;
-        Ok(Some((next, asked)))
+        let requested = RunBindings::bind(alloc, &next, r + 1, number)?;
+        Ok(Some((next, requested)))
     }
 }
 

@@ -7,7 +7,7 @@ ghost use Rattle.std.specs.Option.{option_map_or};
 ghost use Rattle.needs_graph.specs.Results.{fails_job, gathered, is_cancelled};
 ghost use Rattle.run_states.specs.FirstOf.{first_some, placed};
 ghost use Rattle.run_states.specs.Groups.{HasOneEach};
-ghost use Rattle.run_states.specs.Resuming.{RestBefore, at_job_again, may_wake_others, is_new_at, resume_point, resume_at_arrival};
+ghost use Rattle.run_states.specs.Resuming.{RestBefore, at_job_again, may_invalidate_others, is_new_at, resume_point, resume_at_arrival};
 ghost use Rattle.run_states.specs.Places.{job_at, leg_at, run_at, with_job};
 ghost use Rattle.run_states.specs.Rules.{closing_rule, decided, leg_end, leg_rule, may_run, newcomer_rule, rule_at, whole_rule};
 ghost use Rattle.run_states.specs.Settling.{first_place, first_rule, settled};
@@ -67,9 +67,9 @@ impl Runs {
         ensures took { option_map (λ next. next.runs) (first_rule self.old) ≡ Some self.new }
         ensures rest { RestBefore self.new result }
     {
-        let may_wake_others = self.may_wake_others(&place);
+        let may_invalidate_others = self.may_invalidate_others(&place);
         self.take_rule(place);
-        self.resume_point(&place, may_wake_others)
+        self.resume_point(&place, may_invalidate_others)
     }
 
     /// Where to search for the next rule after the one at the place: no rule applies before.
@@ -101,8 +101,8 @@ impl Runs {
 
     /// Whether the rule there may let a holder of another run go on: a leg arrives there and another holder ends or is stopped, or a live
     /// run with a group ends.
-    fn may_wake_others(&self, place: &RuleSite) -> bool
-        ensures { result ≡ may_wake_others self.now place.now }
+    fn may_invalidate_others(&self, place: &RuleSite) -> bool
+        ensures { result ≡ may_invalidate_others self.now place.now }
     {
         match place {
             RuleSite::AtLeg(leg) => self.is_new(*leg) && self.makes_room(&Holder::Leg(*leg)),

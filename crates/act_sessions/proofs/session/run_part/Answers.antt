@@ -1,7 +1,7 @@
 use Rattle.std.proofs.Common.{rules, refl, Ok, true}
 use Rattle.std.specs.Prelude.{Some, None}
 use Rattle.act_sessions.specs.declared.transcript.Ending.TheVariants.{Done}
-use Rattle.act_sessions.specs.declared.transcript.Part.TheVariants.{Waits, Over}
+use Rattle.act_sessions.specs.declared.transcript.Part.TheVariants.{AwaitsInput, Over}
 use Rattle.act_sessions.specs.Session.{moment, first, IsPart}
 use Rattle.act_sessions.specs.Turns.{EndsRound, HasPaused}
 use Rattle.act_sessions.proofs.Closing.{part_told}
@@ -83,7 +83,7 @@ returns-in-Ok-None-clause-exchanges g c =
     let new = moment written now c.take_round.new.transcript in
     let round : EndsRound p from i i2 old new c.take_round.new.buffer.items c.rounds.turns (Ok None) =
     rw c.in-Ok-None.field-0-is at (c.in-Ok-None.ensures from i old c.rounds.invariant) in
-    part_told p from to i i2 out written asked now c.args.transcript.now c.take_round.new.transcript Waits round
+    part_told p from to i i2 out written asked now c.args.transcript.now c.take_round.new.transcript AwaitsInput round
 
 pub returns-in-Ok-None-clause-waits : goal.returns-in-Ok-None-clause-waits
 returns-in-Ok-None-clause-waits g c same =
@@ -94,7 +94,7 @@ returns-in-Ok-None-clause-waits g c same =
     let i2 = g.R.Read.remaining c.take_round.new.reader in
     let old = moment (g.W.Write.contents c.args.writer.now) (g.A.Answer.asked c.args.answerer.now) c.args.transcript.now in
     let new = moment (g.W.Write.contents c.take_round.new.writer) (g.A.Answer.asked c.take_round.new.answerer) c.take_round.new.transcript in
-    let round : IsPart p from i i2 old new to Waits =
+    let round : IsPart p from i i2 old new to AwaitsInput =
     rw c.in-Ok-None.field-0-is at (c.in-Ok-None.ensures from i old c.rounds.invariant) in
     let room = round.0.room in
     let held = round.0.held in

@@ -61,7 +61,7 @@ returns-in-Some-clause-found g c = λ honest2.
     ∙ ap (λ (l : List ℕ). part (start_of len chosen.side) len l) (c.choose.ensures.only_read.same_seen honest1) in
     record {
       long = g.met.D.Disk.seen_length d0 honest0 ∙ sym c.len.ensures ∙ half.0;
-      stands = is_chosen.0;
+      recovers = is_chosen.0;
       gate = is_chosen.1;
       encoded = subst (λ (l : List ℕ). IsEncoded l (Some c.in-Some.encoded)) there
           (subst (λ (o : Option DecodedArea). IsEncoded (part area.start area.len (disk.seen d1)) o) c.in-Some.is

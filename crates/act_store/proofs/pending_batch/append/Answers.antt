@@ -1,7 +1,7 @@
 use Rattle.std.proofs.Common.{◌≡◌, ◌∙◌, ◌+◌, ◌-◌, ◌++◌, [], ◌∷◌, take, drop, length, ap, arith, rules, List, ℕ, slice_index}
 use Rattle.table_text.specs.Commands.{command_bytes}
 use Rattle.act_store.specs.PendingBatch.{encoded_between}
-use Rattle.act_store.proofs.Records.{written_over, encoded_behind}
+use Rattle.act_store.proofs.Records.{written_over, encoded_after}
 use Rattle.act_store.proofs.pending_batch.append.Goals as goal
 
 pub returns-clause-appended : goal.returns-clause-appended
@@ -13,5 +13,5 @@ returns-clause-appended c =
     let longer : between ≡ was ++ more = c.as_mut_slice.ensures.value ∙ c.in_ok-write_command.ensures.ok.1 in
     let same : length c.move_to_end.new.bytes ≡ c.write_command.new.out.len = search rules in
     ap encoded_between (written_over c.move_to_end.new.bytes c.write_command.new.out.items c.write_command.new.out.len same (search rules))
-    ∙ encoded_behind was more c.move_to_end.new.bytes gate (slice_index between gate) (search (rules, arith)) (search (rules, arith))
+    ∙ encoded_after was more c.move_to_end.new.bytes gate (slice_index between gate) (search (rules, arith)) (search (rules, arith))
     (c.move_to_end.ensures ∙ ap (λ (l : List ℕ). take gate l ++ (drop (gate + 1) l ++ slice_index between gate ∷ [])) longer)

@@ -16,8 +16,8 @@ leaves g c =
 pub returns-clause-any_moment : goal.returns-clause-any_moment
 returns-clause-any_moment g c = (leaves g c).any_moment
 
-pub returns-clause-stands : goal.returns-clause-stands
-returns-clause-stands g c = (leaves g c).stands
+pub returns-clause-recovers : goal.returns-clause-recovers
+returns-clause-recovers g c = (leaves g c).recovers
 
 pub returns-clause-grows : goal.returns-clause-grows
 returns-clause-grows g c = (leaves g c).grows

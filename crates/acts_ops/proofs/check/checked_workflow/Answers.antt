@@ -1,5 +1,5 @@
 use Rattle.wf_value.proofs.PassedOn.{passed_on}
-use Rattle.wf_reader.proofs.InTurn.{first_decides}
+use Rattle.wf_reader.proofs.InOrder.{first_decides}
 use Rattle.wf_reader.specs.Workflow.{workflow_faults, workflow_of}
 use Rattle.run_plan.specs.PlanOf.{plan_faults}
 use Rattle.acts_ops.proofs.Checks.{no_legs_fault, plan_checked, plan_refused}

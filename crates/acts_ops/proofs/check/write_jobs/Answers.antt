@@ -2,7 +2,7 @@ use Rattle.std.proofs.Common.{◌<◌, ◌+◌, ◌++◌, drop, length, map, ari
 use Rattle.std.proofs.KnownBytes.{Appends-trans}
 use Rattle.run_plan.specs.PlanOf.{planned_job}
 use Rattle.acts_ops.specs.Check.{job_lines, plan_lines}
-use Rattle.acts_ops.proofs.Checks.{job_behind, next_job, none_of_jobs}
+use Rattle.acts_ops.proofs.Checks.{job_after, next_job, none_of_jobs}
 use Rattle.acts_ops.proofs.Writing.{more_written, past_part, stopped}
 use Rattle.acts_ops.proofs.check.write_jobs.Goals as goal
 
@@ -16,7 +16,7 @@ loop-job-preserved g c =
     let lines = job_lines (planned_job job) in (
       so_far.0 ++ lines,
       Appends-trans _ _ _ so_far.0 lines so_far.1 c.in_ok-write_job.ensures,
-      past_part so_far.0 lines _ _ (job_behind so_far.0 n jobs job within c.job-item.is so_far.2),
+      past_part so_far.0 lines _ _ (job_after so_far.0 n jobs job within c.job-item.is so_far.2),
       (none_of_jobs (drop n jobs) (drop (n + 1) jobs) job (next_job n jobs job within c.job-item.is) so_far.3).1,
     )
 
@@ -27,4 +27,4 @@ returns-in_err-write_job g c =
     stopped _ _ (plan_lines (map planned_job c.args.jobs.now)) _ c.in_err-write_job.field-0.0 c.from_residual.ensures.1
     c.in_err-write_job.ensures.0
     (more_written _ _ _ so_far.0 _ _ _ so_far.1
-    (job_behind so_far.0 c.loop-job.job-index c.args.jobs.now c.job-item.result within c.job-item.is so_far.2) c.in_err-write_job.ensures.1)
+    (job_after so_far.0 c.loop-job.job-index c.args.jobs.now c.job-item.result within c.job-item.is so_far.2) c.in_err-write_job.ensures.1)

@@ -13,5 +13,5 @@ pub returns : goal.returns
 returns g c =
     let same : c.as_bytes.result.now ≡ leg_line c.args.job.now c.args.number c.args.combo.now =
     cc (c.as_bytes.ensures.value, c.in_ok-line.ensures) in
-    whole_written _ _ c.as_bytes.result.now _ c.write_whole.result same c.write_whole.ensures.all c.write_whole.ensures.front
+    whole_written _ _ c.as_bytes.result.now _ c.write_whole.result same c.write_whole.ensures.all c.write_whole.ensures.prefix
     c.write_whole.ensures.err

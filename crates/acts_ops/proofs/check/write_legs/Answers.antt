@@ -1,7 +1,7 @@
 use Rattle.std.proofs.Common.{◌++◌}
 use Rattle.std.proofs.KnownBytes.{Appends-trans}
 use Rattle.acts_ops.specs.Check.{leg_line, leg_lines}
-use Rattle.acts_ops.proofs.Checks.{leg_behind}
+use Rattle.acts_ops.proofs.Checks.{leg_after}
 use Rattle.acts_ops.proofs.Writing.{more_written, past_part, stopped}
 use Rattle.acts_ops.proofs.check.write_legs.Goals as goal
 
@@ -12,7 +12,7 @@ loop-number-preserved g c =
       so_far.0 ++ line,
       Appends-trans _ _ _ so_far.0 line so_far.1 c.in_ok-write_leg.ensures,
       past_part so_far.0 line _ _
-          (leg_behind c.args.job.now so_far.0 c.loop-number.number c.len-number-end.result c.args.legs.now c.in_ok-combo.combo
+          (leg_after c.args.job.now so_far.0 c.loop-number.number c.len-number-end.result c.args.legs.now c.in_ok-combo.combo
           c.loop-number-test.true c.len-number-end.ensures c.in_ok-combo.ensures so_far.2),
     )
 
@@ -22,5 +22,5 @@ returns-in_err-write_leg g c =
     let e = c.in_err-write_leg.field-0.0 in
     stopped _ _ (leg_lines c.args.job.now c.args.legs.now) _ e c.from_residual-in_err-write_leg.ensures.1 c.in_err-write_leg.ensures.0
     (more_written _ _ _ so_far.0 _ _ _ so_far.1
-    (leg_behind c.args.job.now so_far.0 c.loop-number.number c.len-number-end.result c.args.legs.now c.in_ok-combo.combo
+    (leg_after c.args.job.now so_far.0 c.loop-number.number c.len-number-end.result c.args.legs.now c.in_ok-combo.combo
     c.loop-number-test.true c.len-number-end.ensures c.in_ok-combo.ensures so_far.2) c.in_err-write_leg.ensures.1)

@@ -8,7 +8,7 @@ pub returns-in-Some-clause-lines : goal.returns-in-Some-clause-lines
 returns-in-Some-clause-lines c =
     let w = c.args.text.now in
     let after = c.in-Some.place + 1 in
-    let first = lines_at_feed w c.in-Some.place (sym c.place_of_line_feed.ensures ∙ c.in-Some.is) in
+    let first = lines_at_feed w c.in-Some.place (sym c.line_feed_index.ensures ∙ c.in-Some.is) in
     let all : take (length w - after) (drop after w) ≡ drop after w = grind (arith, common_steps) in
     let stripped = c.strip_carriage_return.ensures in
     rw (all, stripped) first
@@ -16,4 +16,4 @@ returns-in-Some-clause-lines c =
 pub returns-in-None-clause-lines : goal.returns-in-None-clause-lines
 returns-in-None-clause-lines c =
     let some : 0 < length c.args.text.now = grind (arith, nat_tests) in
-    lines_without_feed c.args.text.now some (sym c.place_of_line_feed.ensures ∙ c.in-None.is)
+    lines_without_feed c.args.text.now some (sym c.line_feed_index.ensures ∙ c.in-None.is)

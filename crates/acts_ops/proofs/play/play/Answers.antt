@@ -6,10 +6,10 @@ use Rattle.acts_ops.specs.PlainStore.{without_disk}
 use Rattle.acts_ops.proofs.Plays.{leads_past_line, leads_to_end, leads_on, leads_on_within}
 use Rattle.acts_ops.proofs.play.play.Goals as goal
 
-pub returns-in_err-play_line-clause-front : goal.returns-in_err-play_line-clause-front
-returns-in_err-play_line-clause-front g c =
+pub returns-in_err-play_line-clause-prefix : goal.returns-in_err-play_line-clause-prefix
+returns-in_err-play_line-clause-prefix g c =
     let so_far = c.loop-line.invariant in
-    let answered = c.in_err-play_line.ensures.front in
+    let answered = c.in_err-play_line.ensures.prefix in
     let line = answered.0 ++ 10 ∷ [] in
     let filled : has_bytes c.in-Some.line.now ≡ true = grind (arith, nat_tests) in
     let first = without_disk c.args.store.now in
@@ -44,8 +44,8 @@ returns-clause-all g c =
           c.loop-line.rest.now so_far.0 so_far.2 c.in_default.ensures.lines,
     )
 
-pub returns-clause-front : goal.returns-clause-front
-returns-clause-front g c =
+pub returns-clause-prefix : goal.returns-clause-prefix
+returns-clause-prefix g c =
     let so_far = c.loop-line.invariant in
     let on = leads_on (without_disk c.args.store.now) (g.D.Disk.fault_count c.args.store.now.disk) c.args.script.now
     (without_disk c.loop-line.store) (g.D.Disk.fault_count c.loop-line.store.disk) c.loop-line.rest.now so_far.0 so_far.2 in

@@ -38,7 +38,7 @@ returns-in-Ok-clause-written g c =
 pub returns-clause-written : goal.returns-clause-written
 returns-clause-written g c =
     let script = c.in_ok-script.script.items in
-    let played = c.in-Err.ensures.front in
+    let played = c.in-Err.ensures.prefix in
     let store = without_disk c.args.store.now in
     let out = played.0 ++ played.1 in
     let faults = g.D.Disk.fault_count c.args.store.now.disk in

@@ -4,7 +4,7 @@ use Rattle.run_table.specs.TableState.{TableState}
 use Rattle.act_store.specs.Images.{RecoversTo}
 use Rattle.act_store.specs.StoreState.{table_of}
 use Rattle.acts_ops.specs.Show.{shown}
-use Rattle.acts_ops.proofs.Showing.{opened_table, shown_faults, shows_told, stands_somewhere}
+use Rattle.acts_ops.proofs.Showing.{opened_table, shown_faults, shows_told, recovers_somewhere}
 use Rattle.acts_ops.proofs.show.run_show.Goals as goal
 
 pub returns-in-Err-clause-written : goal.returns-in-Err-clause-written
@@ -18,16 +18,16 @@ pub returns-in-Ok-clause-written : goal.returns-in-Ok-clause-written
 returns-in-Ok-clause-written g c = λ honest.
     let s = c.in-Ok.store in
     let image = g.D.Disk.seen c.args.disk in
-    let stands : RecoversTo (table_of s) image =
+    let recovers : RecoversTo (table_of s) image =
     subst (λ (t : TableState). RecoversTo t image) (opened_table s c.in-Ok.ensures.begun.0) (c.in-Ok.ensures.base (subst g.D.Disk.honest c.into_disk.ensures honest)) in
     shows_told (shown c.args.form c.args.what) image (table_of s) (g.W.Write.contents c.args.writer.now) (g.W.Write.contents c.show_store-ended.new.writer)
-    c.show_store-ended.result stands c.show_store-ended.ensures
+    c.show_store-ended.result recovers c.show_store-ended.ensures
 
 pub returns-in-Ok-clause-faults : goal.returns-in-Ok-clause-faults
 returns-in-Ok-clause-faults g c =
     shown_faults c.args.form c.args.what (table_of c.in-Ok.store) _ _ c.show_store-ended.result _ _ c.show_store-ended.ensures
     (ap g.D.Disk.fault_count c.into_disk.ensures ∙ c.in-Ok.ensures.faults)
 
-pub returns-in-Ok-clause-nothing_stands : goal.returns-in-Ok-clause-nothing_stands
-returns-in-Ok-clause-nothing_stands g c = λ honest none.
-    absurd (stands_somewhere c.in-Ok.store.base (g.D.Disk.seen c.args.disk) (c.in-Ok.ensures.base (subst g.D.Disk.honest c.into_disk.ensures honest)) none)
+pub returns-in-Ok-clause-tells_no_area : goal.returns-in-Ok-clause-tells_no_area
+returns-in-Ok-clause-tells_no_area g c = λ honest none.
+    absurd (recovers_somewhere c.in-Ok.store.base (g.D.Disk.seen c.args.disk) (c.in-Ok.ensures.base (subst g.D.Disk.honest c.into_disk.ensures honest)) none)

@@ -14,5 +14,5 @@ returns g c =
     let same : c.as_bytes.result.now ≡ queue_lines c.args.form c.args.table.now =
     cc (c.as_bytes.ensures.value, c.as_str.ensures, c.in_ok-text.ensures)
     in
-    whole_written _ _ c.as_bytes.result.now _ c.write_whole.result same c.write_whole.ensures.all c.write_whole.ensures.front
+    whole_written _ _ c.as_bytes.result.now _ c.write_whole.result same c.write_whole.ensures.all c.write_whole.ensures.prefix
     c.write_whole.ensures.err

@@ -12,5 +12,5 @@ returns-in_err-text g c =
 pub returns : goal.returns
 returns g c =
     let same : c.as_bytes.result.now ≡ run_line c.args.form c.args.view.now = cc (c.as_bytes.ensures.value, c.in_ok-text.ensures) in
-    whole_written _ _ c.as_bytes.result.now _ c.write_whole.result same c.write_whole.ensures.all c.write_whole.ensures.front
+    whole_written _ _ c.as_bytes.result.now _ c.write_whole.result same c.write_whole.ensures.all c.write_whole.ensures.prefix
     c.write_whole.ensures.err

@@ -4,7 +4,7 @@ use Rattle.std.proofs.KnownBytes.{Appends-nil, Appends-trans}
 use Rattle.act_store.specs.StoreState.{table_of}
 use Rattle.table_views.specs.RunLines.{run_line}
 use Rattle.acts_ops.specs.Show.{run_lines}
-use Rattle.acts_ops.proofs.Showing.{before_all, behind_run, lines_behind, past_last}
+use Rattle.acts_ops.proofs.Showing.{before_all, after_run, lines_after, past_last}
 use Rattle.acts_ops.proofs.Writing.{more_written, past_part, stopped}
 use Rattle.acts_ops.proofs.show.write_views.Goals as goal
 
@@ -20,8 +20,8 @@ loop-place-preserved g c =
     let line = run_line c.args.form c.in-Some.view in (
       so_far.0 ++ line,
       Appends-trans _ _ _ so_far.0 line so_far.1 c.in_ok-write_view.ensures,
-      past_part so_far.0 line (lines_behind c.args.form t (place + 1)) (run_lines c.args.form t)
-          (behind_run c.args.form t so_far.0 place c.new.result c.in-Some.view c.in-Some.ensures.seen c.new.ensures so_far.2),
+      past_part so_far.0 line (lines_after c.args.form t (place + 1)) (run_lines c.args.form t)
+          (after_run c.args.form t so_far.0 place c.new.result c.in-Some.view c.in-Some.ensures.seen c.new.ensures so_far.2),
       λ some. c.in-Some.ensures.sound.few_runs,
     )
 
@@ -31,8 +31,8 @@ returns-in_err-write_view g c =
     let t = table_of c.args.store.now in
     let place = c.loop-place.place in
     stopped _ _ (run_lines c.args.form t) _ c.in_err-write_view.field-0.0 c.from_residual.ensures.1 c.in_err-write_view.ensures.0
-    (more_written _ _ _ so_far.0 (run_line c.args.form c.in-Some.view) (lines_behind c.args.form t (place + 1)) (run_lines c.args.form t) so_far.1
-    (behind_run c.args.form t so_far.0 place c.new.result c.in-Some.view c.in-Some.ensures.seen c.new.ensures so_far.2)
+    (more_written _ _ _ so_far.0 (run_line c.args.form c.in-Some.view) (lines_after c.args.form t (place + 1)) (run_lines c.args.form t) so_far.1
+    (after_run c.args.form t so_far.0 place c.new.result c.in-Some.view c.in-Some.ensures.seen c.new.ensures so_far.2)
     c.in_err-write_view.ensures.1)
 
 pub returns : goal.returns

@@ -2,11 +2,11 @@ use Rattle.std.proofs.Common.{◌≡◌, ℕ, ◌<◌, ◌≤◌, ◌++◌, List
 use Rattle.std.specs.Io.KnownBytes.{Appends}
 use Rattle.act_store.specs.StoreState.{table_of}
 use Rattle.acts_ops.specs.Show.{run_lines}
-use Rattle.acts_ops.proofs.Showing.{lines_behind}
+use Rattle.acts_ops.proofs.Showing.{lines_after}
 use Rattle.acts_ops.proofs.show.write_views.Given as goal
 
 abbrev pub invariant-loop-place : goal.invariant-loop-place
 invariant-loop-place g l =
     let t = table_of l.store in
     (out : List ℕ) × Appends (g.W.Write.contents l.initial.writer) (g.W.Write.contents l.writer) out
-    × (out ++ lines_behind l.form t l.place ≡ run_lines l.form t) × (0 < l.place → length t.runs ≤ 100000)
+    × (out ++ lines_after l.form t l.place ≡ run_lines l.form t) × (0 < l.place → length t.runs ≤ 100000)

@@ -1,4 +1,4 @@
-use Rattle.acts_serve.proofs.Turns.{turn_more}
+use Rattle.acts_serve.proofs.Yielding.{turn_more}
 use Rattle.acts_serve.proofs.serve.connections.Goals as goal
 
 pub loop-preserved : goal.loop-preserved

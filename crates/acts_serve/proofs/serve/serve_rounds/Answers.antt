@@ -1,6 +1,6 @@
 use Rattle.std.proofs.Common.{◌≡◌, ◌∙◌, ◌||◌, ◌+◌, ◌-◌, ap, arith, subst, sym}
 use Rattle.act_store.specs.StoreState.{StoreState}
-use Rattle.acts_serve.specs.Rounds.{HaveTurned}
+use Rattle.acts_serve.specs.Rounds.{RoundsEnded}
 use Rattle.acts_serve.proofs.Held.{ends_served, first_round, next_round}
 use Rattle.acts_serve.proofs.serve.serve_rounds.Goals as goal
 use Rattle.acts_serve.proofs.serve.serve_rounds.Goals.{then-broken, else-broken}
@@ -14,7 +14,7 @@ loop-init g c = (
       (record {
         connections = c.in_ok-first.first.items;
         count = c.in_ok-first.ensures.count;
-        by_turns = c.in_ok-first.ensures.by_turns;
+        alternate = c.in_ok-first.ensures.alternate;
         held = c.in_ok-round.ensures.held;
       }),
 )
@@ -31,7 +31,7 @@ loop-preserved g c =
     let after = g.O.Write.contents c.serve_next.new.out in
     let history = c.in_ok-round-2.round.store.history in (
       omega (arith, c.loop-test.true),
-      subst (λ b. HaveTurned c.args.hooks.now c.args.runners.now c.args.sessions (c.loop.counter + 1) b before after history) (sym broken)
+      subst (λ b. RoundsEnded c.args.hooks.now c.args.runners.now c.args.sessions (c.loop.counter + 1) b before after history) (sym broken)
           (next_round c.args.hooks.now c.args.runners.now c.args.sessions c.loop.counter c.loop.broken now before
           (g.O.Write.contents c.loop.out) after c.loop.round.store.history history c.loop.invariant.1 c.in_ok-round-2.ensures.announced
           c.in_ok-round-2.ensures.ended),

@@ -5,5 +5,5 @@ use Rattle.gated_journal.proofs.TwoAreas.{append_keeps}
 use Rattle.gated_journal.proofs.laws.an_append_changes_no_choice.Goals as goal
 
 pub returns : goal.returns
-returns c = λ len side gate old new head bodies body stands short inside.
-    append_keeps len side head bodies old new gate (length (opened head bodies)) (record_of body) body stands refl refl short inside
+returns c = λ len side gate old new head bodies body recovers short inside.
+    append_keeps len side head bodies old new gate (length (opened head bodies)) (record_of body) body recovers refl refl short inside

@@ -11,4 +11,4 @@ abbrev pub invariant-loop-leg : goal.invariant-loop-leg
 invariant-loop-leg l =
     (length l.legs.items ≡ l.leg)
     × ((k : ℕ) (kept : GroupRequest) → slice_get l.legs.items k ≡ Some kept
-    → Says (event_of l.identity.event.body).repo (λ results. context_of (facts_by l.identity l.j l.job k results)) l.asked kept)
+    → Says (event_of l.identity.event.body).repo (λ results. context_of (facts_by l.identity l.j l.job k results)) l.requested kept)

@@ -1,7 +1,7 @@
 use Rattle.std.specs.Prelude.{◌≡◌, List, Some, slice_get}
 use Rattle.std.proofs.Common.{sym, subst}
 use Rattle.wf_reader.specs.Event.{event_of}
-use Rattle.run_states.specs.GroupOf.{asked_of_leg}
+use Rattle.run_states.specs.GroupOf.{concurrency_of_leg}
 use Rattle.run_states.specs.LegContext.{context_of}
 use Rattle.run_bindings.specs.BoundGroups.{SaysSo, facts_by}
 use Rattle.run_bindings.specs.declared.groups.GroupRequest.{GroupRequest}
@@ -13,11 +13,11 @@ returns-in_ok-legs-in-Some-clause-says c = λ l.
     let identity = c.args.identity.now in
     let job = c.args.job.now in
     let repository = (event_of identity.event.body).repo in
-    let is : job.concurrency ≡ Some c.in-Some.asked = cc in
+    let is : job.concurrency ≡ Some c.in-Some.requested = cc in
     subst
-    (λ (kept : List GroupRequest). SaysSo repository (λ results. context_of (facts_by identity c.args.j job l results)) (asked_of_leg job l)
+    (λ (kept : List GroupRequest). SaysSo repository (λ results. context_of (facts_by identity c.args.j job l results)) (concurrency_of_leg job l)
     (slice_get kept l))
     (sym c.new.ensures)
-    (legs_say repository (λ i results. context_of (facts_by identity c.args.j job i results)) job c.in-Some.asked
+    (legs_say repository (λ i results. context_of (facts_by identity c.args.j job i results)) job c.in-Some.requested
     c.in_ok-legs-in-Some.legs.items is
     c.in_ok-legs-in-Some.ensures.each c.in_ok-legs-in-Some.ensures.says l)

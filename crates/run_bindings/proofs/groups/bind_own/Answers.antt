@@ -17,12 +17,12 @@ returns-in_ok-bound-in-Some-clause-says c =
     let admitted : c.prepared-prepared.result.now ≡ identity.event =
     c.prepared-prepared.ensures in
     let repository = c.as_str-repository.ensures ∙ c.repo.ensures ∙ ap (λ a. (event_of a.body).repo) admitted in
-    let bindings : Some c.in-Some.asked.now ≡ event.workflow.concurrency =
+    let bindings : Some c.in-Some.requested.now ≡ event.workflow.concurrency =
     c.in-Some.ensures ∙ ap (λ a. (event_of a.body).workflow.concurrency) admitted in
     let has : (results : Results) → HasResults (run_context c.run_context-context.result) no_need results (values results) = λ results path.
     ap (λ f. run_context f path) (sym c.run_context-context.ensures) in
     subst (λ (o : Option Concurrency). SaysSo event.repo values o (Some bound)) bindings
-    (subst (λ (r : List ℕ). Says r values c.in-Some.asked.now bound) repository (c.in_ok-bound-in-Some.ensures.says values has))
+    (subst (λ (r : List ℕ). Says r values c.in-Some.requested.now bound) repository (c.in_ok-bound-in-Some.ensures.says values has))
 
 pub returns-in-None-clause-says : goal.returns-in-None-clause-says
 returns-in-None-clause-says c =

@@ -1,6 +1,6 @@
 use Rattle.std.proofs.Common.{◌++◌, length, Ok, sym, ap, ◌∙◌, arith, refl}
 use Rattle.std.specs.Vec.Iter.{into_iter_items}
-use Rattle.wf_reader.proofs.InTurn.{one_more}
+use Rattle.wf_reader.proofs.InOrder.{one_more}
 use Rattle.run_plan.specs.PlanOf.{legs_of}
 use Rattle.run_plan.proofs.Jobs.{all_done, nothing_left}
 use Rattle.run_plan.proofs.planning.legs_of.Goals as goal

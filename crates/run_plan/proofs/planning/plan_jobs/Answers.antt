@@ -1,6 +1,6 @@
 use Rattle.std.proofs.Common.{Ok, map, sym, ap, ◌∙◌}
 use Rattle.wf_value.proofs.PassedOn.{passed_on}
-use Rattle.wf_reader.proofs.InTurn.{first_decides, same_value}
+use Rattle.wf_reader.proofs.InOrder.{first_decides, same_value}
 use Rattle.needs_graph.specs.Needs.{graph_of}
 use Rattle.run_plan.specs.PlanOf.{legs_faults, needs_faults, needs_of_job, planned_job}
 use Rattle.run_plan.proofs.Jobs.{given_by, refused_by}

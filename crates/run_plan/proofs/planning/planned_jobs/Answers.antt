@@ -1,7 +1,7 @@
 use Rattle.std.proofs.Common.{◌≡◌, ◌++◌, [], length, map, Ok, sym, ap, ◌∙◌, arith}
 use Rattle.std.specs.Vec.Iter.{into_iter_items}
 use Rattle.wf_value.proofs.PassedOn.{passed_on}
-use Rattle.wf_reader.proofs.InTurn.{first_of_rest, none_of_first, one_more, same_value}
+use Rattle.wf_reader.proofs.InOrder.{first_of_rest, none_of_first, one_more, same_value}
 use Rattle.run_plan.specs.PlanOf.{job_faults, legs_faults, planned_job}
 use Rattle.wf_reader.specs.Faults.{unless_faulty}
 use Rattle.run_plan.proofs.Jobs.{all_done, nothing_left}

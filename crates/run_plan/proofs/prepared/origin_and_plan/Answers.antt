@@ -3,7 +3,7 @@ use Rattle.wf_value.proofs.PassedOn.{passed_on}
 use Rattle.wf_reader.specs.Event.{event_faults, event_of}
 use Rattle.run_plan.specs.Origins.{IsOrigin}
 use Rattle.run_plan.specs.PlanOf.{plan_faults}
-use Rattle.wf_reader.proofs.InTurn.{first_decides, same_value}
+use Rattle.wf_reader.proofs.InOrder.{first_decides, same_value}
 use Rattle.run_plan.proofs.Prepares.{refused_run, faultless_run, plan_of_run}
 use Rattle.run_plan.proofs.prepared.origin_and_plan.Goals as goal
 

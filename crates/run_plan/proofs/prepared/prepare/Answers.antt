@@ -1,7 +1,7 @@
 use Rattle.std.proofs.Common.{refl, sym}
 use Rattle.wf_value.proofs.PassedOn.{passed_on}
 use Rattle.run_plan.specs.PlanOf.{faults_of, plan_of}
-use Rattle.wf_reader.proofs.InTurn.{no_fault, same_value}
+use Rattle.wf_reader.proofs.InOrder.{no_fault, same_value}
 use Rattle.wf_reader.proofs.Contents.{same_refusal}
 use Rattle.run_plan.proofs.prepared.prepare.Goals as goal
 

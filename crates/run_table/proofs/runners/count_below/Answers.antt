@@ -1,7 +1,7 @@
 use Rattle.std.proofs.Common.{rules}
 use Rattle.std.proofs.lemmas.List.Sorted.{IsPartitionPoint-from_clause}
-use Rattle.run_table.specs.Turns.{is_below}
-use Rattle.run_table.proofs.RunnerOrder.{front_counted, parted_by_name}
+use Rattle.run_table.specs.SequenceNumbers.{is_below}
+use Rattle.run_table.proofs.RunnerOrder.{prefix_counted, parted_by_name}
 use Rattle.run_table.proofs.runners.count_below.Goals as goal
 
 pub returns : goal.returns
@@ -9,4 +9,4 @@ returns c =
     let point = IsPartitionPoint-from_clause (is_below c.args.name.now) c.args.runners.now c.partition_point.result
     c.partition_point.ensures.partitioned (parted_by_name c.args.runners.now c.args.name.now c.requires)
     (λ a r f called. search rules) in
-    front_counted (is_below c.args.name.now) c.args.runners.now c.partition_point.result c.partition_point.ensures.bound point.0 point.1
+    prefix_counted (is_below c.args.name.now) c.args.runners.now c.partition_point.result c.partition_point.ensures.bound point.0 point.1

@@ -12,7 +12,7 @@ returns-in_ok-request_in-in-Some c =
     let place = c.in-Some.place in
     let m = c.min.result in
     let least = c.min.ensures in
-    let found : position is_feed (take m bytes) ≡ Some place = sym c.place_of_line_feed.ensures ∙ c.in-Some.is in
+    let found : position is_feed (take m bytes) ≡ Some place = sym c.line_feed_index.ensures ∙ c.in-Some.is in
     let first = first_at bytes m place (omega arith) (omega arith) found in
     let within = first.within in
     let short : length (take place bytes) < 512 = let l = length-take place bytes in let s = first.short in omega arith in
@@ -23,7 +23,7 @@ returns-in-None c =
     let bytes = c.args.bytes.now in
     let m = c.min.result in
     let least = c.min.ensures in
-    let found : position is_feed (take m bytes) ≡ None = sym c.place_of_line_feed.ensures ∙ c.in-None.is in
+    let found : position is_feed (take m bytes) ≡ None = sym c.line_feed_index.ensures ∙ c.in-None.is in
     let brief : length (take m bytes) < 512 = grind (arith, nat_tests) in
     let all : take m bytes ≡ bytes = let l = length-take m bytes in take_all m bytes (omega arith) in
     let none = nowhere (take m bytes) found in
@@ -35,7 +35,7 @@ returns-in-None-2 c =
     let bytes = c.args.bytes.now in
     let m = c.min.result in
     let least = c.min.ensures in
-    let found : position is_feed (take m bytes) ≡ None = sym c.place_of_line_feed.ensures ∙ c.in-None.is in
+    let found : position is_feed (take m bytes) ≡ None = sym c.line_feed_index.ensures ∙ c.in-None.is in
     let long : 512 ≤ length (take m bytes) = grind (arith, nat_tests) in
     let is : m ≡ 512 = let l = length-take m bytes in omega arith in
     let none = subst (λ n. HasNoFeed (take n bytes)) is (nowhere (take m bytes) found) in

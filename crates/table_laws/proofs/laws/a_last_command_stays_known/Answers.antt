@@ -5,10 +5,10 @@ pub returns-clause-established : goal.returns-clause-established
 returns-clause-established c = answered_is_last
 
 pub returns-clause-kept : goal.returns-clause-kept
-returns-clause-kept c t first d name number given turn = last_after_step first name number given turn t d
+returns-clause-kept c t first d name number given numbered = last_after_step first name number given numbered t d
 
 pub returns-clause-kept_on : goal.returns-clause-kept_on
-returns-clause-kept_on c t first later name number given turn = last_after first name number given turn t later
+returns-clause-kept_on c t first later name number given numbered = last_after first name number given numbered t later
 
 pub returns-clause-answered : goal.returns-clause-answered
 returns-clause-answered c = last_is_answered

@@ -5,9 +5,9 @@ use Rattle.table_text.specs.FirstLayout.{is_in_first_layout}
 use Rattle.table_text.proofs.WholeFirstTables.{none_of_batch}
 use Rattle.table_text.proofs.first.read_first_batch.Goals as goal
 
-pub returns-clause-front : goal.returns-clause-front
-returns-clause-front c =
+pub returns-clause-prefix : goal.returns-clause-prefix
+returns-clause-prefix c =
     let not : list_all is_in_first_layout c.in-Some.commands.items ≡ false =
     ap (λ commands. list_all is_in_first_layout commands) (sym c.deref.ensures.value) ∙ sym c.are_in_first_layout.ensures
     ∙ c.if-are_in_first_layout.false in
-    none_of_batch c.args.bytes.now c.in-Some.rest.now c.in-Some.commands.items (rw c.in-Some.is at c.in_ok-commands.ensures.front) not
+    none_of_batch c.args.bytes.now c.in-Some.rest.now c.in-Some.commands.items (rw c.in-Some.is at c.in_ok-commands.ensures.prefix) not

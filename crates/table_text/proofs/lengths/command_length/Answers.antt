@@ -3,4 +3,4 @@ use Rattle.table_text.proofs.LengthLaws.{length_command}
 use Rattle.table_text.proofs.lengths.command_length.Goals as goal
 
 pub returns-clause-length : goal.returns-clause-length
-returns-clause-length c = ap (λ n. 1 + n) c.fields_length.ensures.length ∙ sym (length_command c.args.asked.now)
+returns-clause-length c = ap (λ n. 1 + n) c.fields_length.ensures.length ∙ sym (length_command c.args.requested.now)

@@ -2,13 +2,13 @@ use Rattle.std.proofs.Common.{arith}
 use Rattle.table_text.specs.Commands.{batch}
 use Rattle.table_text.specs.ReadingCommands.{batch_at}
 use Rattle.table_text.proofs.CommandReaders.{batch_reads}
-use Rattle.table_text.proofs.Readers.{found_at_front, none_at_front}
+use Rattle.table_text.proofs.Readers.{found_as_prefix, none_as_prefix}
 use Rattle.table_text.proofs.read.read_batch.Goals as goal
 
-pub returns-in-Ok-clause-front : goal.returns-in-Ok-clause-front
-returns-in-Ok-clause-front c = found_at_front batch batch_at batch_reads c.args.bytes.now _ (λ i. omega (arith, c.type_inv.bytes i))
+pub returns-in-Ok-clause-prefix : goal.returns-in-Ok-clause-prefix
+returns-in-Ok-clause-prefix c = found_as_prefix batch batch_at batch_reads c.args.bytes.now _ (λ i. omega (arith, c.type_inv.bytes i))
     c.in-Ok.ensures
 
-pub returns-in-Err-NoEncoding-clause-front : goal.returns-in-Err-NoEncoding-clause-front
-returns-in-Err-NoEncoding-clause-front c = none_at_front batch batch_at batch_reads c.args.bytes.now
+pub returns-in-Err-NoEncoding-clause-prefix : goal.returns-in-Err-NoEncoding-clause-prefix
+returns-in-Err-NoEncoding-clause-prefix c = none_as_prefix batch batch_at batch_reads c.args.bytes.now
     (rw c.in-Err-NoEncoding.field-0-is at c.in-Err-NoEncoding.ensures)

@@ -3,7 +3,7 @@ use Rattle.std.specs.Prelude.{sum_by}
 use Rattle.std.specs.List.{AllByRecursion}
 use Rattle.std.proofs.lemmas.List.{length-map}
 use Rattle.run_plan.specs.PlanOf.{faults_of}
-use Rattle.run_plan.specs.declared.command.Command.TheVariants as asked
+use Rattle.run_plan.specs.declared.command.Command.TheVariants as requested
 use Rattle.run_states.specs.Cells.{JobCells, states}
 use Rattle.run_states.proofs.Found.{each_of_map}
 use Rattle.table_text.specs.Lengths.{fields_length}
@@ -28,8 +28,8 @@ job_list_length-requires-clause-each c =
 
 pub returns-clause-length : goal.returns-clause-length
 returns-clause-length c =
-    let admitted : c.admit_length.result ≡ fields_length (asked.Admit c.args.value.now.admitted) =
-    c.admit_length.ensures.length ∙ ap (λ a. fields_length (asked.Admit a)) c.prepared.ensures in
+    let admitted : c.admit_length.result ≡ fields_length (requested.Admit c.args.value.now.admitted) =
+    c.admit_length.ensures.length ∙ ap (λ a. fields_length (requested.Admit a)) c.prepared.ensures in
     let jobs : c.job_list_length.result ≡ sum_by job_length c.args.value.now.jobs =
     c.job_list_length.ensures.length ∙ sym (sum_seen job_length (λ (j : JobCells). j.state) c.jobs.result.now)
     ∙ ap (sum_by job_length) c.jobs.ensures in

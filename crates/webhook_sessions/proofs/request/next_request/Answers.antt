@@ -11,18 +11,18 @@ use Rattle.webhook_sessions.proofs.request.next_request.Goals as goal
 pub returns-in-Ok-Complete : goal.returns-in-Ok-Complete
 returns-in-Ok-Complete c =
     let bytes = c.args.bytes.now in
-    let front = take c.min.result bytes in
+    let prefix = take c.min.result bytes in
     let rest = drop c.min.result bytes in
     let headers = c.parse_request.new.headers in
     let s = c.in-Ok-Complete.found in
-    let some : IsRequestOf front headers s = rw c.in-Ok-Complete.field-0-is at c.in-Ok-Complete.ensures.complete in
-    let within : IsRequestWithin front headers s = rw c.in-Ok-Complete.field-0-is at c.in-Ok-Complete.ensures.within in
+    let some : IsRequestOf prefix headers s = rw c.in-Ok-Complete.field-0-is at c.in-Ok-Complete.ensures.complete in
+    let within : IsRequestWithin prefix headers s = rw c.in-Ok-Complete.field-0-is at c.in-Ok-Complete.ensures.within in
     let long = length-take c.min.result bytes in
-    let short : length front ≤ 8192 = let m = c.min.ensures in omega arith in
-    let head = head_found bytes front rest headers s some.0 (sym (take-append-drop c.min.result bytes)) short c.parse_request.auto.headers within some.1 in
+    let short : length prefix ≤ 8192 = let m = c.min.ensures in omega arith in
+    let head = head_found bytes prefix rest headers s some.0 (sym (take-append-drop c.min.result bytes)) short c.parse_request.auto.headers within some.1 in
     let fits = within.section.len_fits in
     let after = take_rest bytes s.len in
-    let heading = c.new-head.ensures ∙ heading_found front headers s some.0 some.1 in
+    let heading = c.new-head.ensures ∙ heading_found prefix headers s some.0 some.1 in
     let found : IsFound (request_after (heading_of some.0) (drop s.len bytes)) s.len (drop s.len bytes) c.request_after.result =
     rw (heading, after) at c.request_after.ensures in
     next_by bytes some.0 s.len (omega arith) (omega arith) head c.request_after.result found
@@ -30,9 +30,9 @@ returns-in-Ok-Complete c =
 pub returns-in-Ok-Partial-2 : goal.returns-in-Ok-Partial-2
 returns-in-Ok-Partial-2 c =
     let bytes = c.args.bytes.now in
-    let front = take c.min.result bytes in
-    let none : HasNoRequest front = rw c.in-Ok-Partial.field-0-is at c.in-Ok-Partial.ensures.partial in
-    rw c.unread.ensures (omega arith, bad_where_long bytes front (ap (λ n. take n bytes) c.min.ensures) c.if-bytes-lt-MAX_HEAD.false none)
+    let prefix = take c.min.result bytes in
+    let none : HasNoRequest prefix = rw c.in-Ok-Partial.field-0-is at c.in-Ok-Partial.ensures.partial in
+    rw c.unread.ensures (omega arith, bad_where_long bytes prefix (ap (λ n. take n bytes) c.min.ensures) c.if-bytes-lt-MAX_HEAD.false none)
 
 pub returns-in-Err : goal.returns-in-Err
 returns-in-Err c =

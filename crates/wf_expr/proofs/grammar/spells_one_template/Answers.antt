@@ -1,4 +1,4 @@
-use Rattle.wf_expr.proofs.SpellLemmas.{one-template}
+use Rattle.wf_expr.proofs.EncodeLemmas.{one-template}
 use Rattle.wf_expr.proofs.grammar.spells_one_template.Goals as goal
 
 pub returns : goal.returns

@@ -12,6 +12,6 @@ returns-in-None c = rw (split-pieces c.args.text.now None c.utf8.text c.in-None.
 pub returns-in_ok-pieces-in-Some : goal.returns-in_ok-pieces-in-Some
 returns-in_ok-pieces-in-Some c =
     let ok = c.in_ok-pieces-in-Some.ensures in
-    let front : plain_piece c.in-Some.front.now ≡ c.in_ok-pieces-in-Some.pieces = cc in
-    rw (split-pieces c.args.text.now (Some (c.in-Some.front, c.in-Some.rest)) c.utf8.text c.in-Some.ensures.cases
-    ∙ ap₂ (λ ps os. run (OperandDue ps os) (chars c.in-Some.rest.now)) front (sym c.none.ensures)) c.read_on.ensures
+    let prefix : plain_piece c.in-Some.prefix.now ≡ c.in_ok-pieces-in-Some.pieces = cc in
+    rw (split-pieces c.args.text.now (Some (c.in-Some.prefix, c.in-Some.rest)) c.utf8.text c.in-Some.ensures.cases
+    ∙ ap₂ (λ ps os. run (OperandDue ps os) (chars c.in-Some.rest.now)) prefix (sym c.none.ensures)) c.read_on.ensures

@@ -7,7 +7,7 @@ use Rattle.wf_reader.specs.Faults.{optional}
 use Rattle.wf_reader.specs.Flags.{flag_faults}
 use Rattle.wf_reader.specs.Templates.{template_faults}
 use Rattle.wf_reader.proofs.ConcurrencyParts.{of_its_kind}
-use Rattle.wf_reader.proofs.InTurn.{first_decides, skip}
+use Rattle.wf_reader.proofs.InOrder.{first_decides, skip}
 use Rattle.wf_reader.proofs.concurrency.concurrency_of.Goals as goal
 
 pub returns-in_err-group : goal.returns-in_err-group

@@ -2,7 +2,7 @@ use Rattle.std.proofs.Common.{Ok, ap, inr, sym}
 use Rattle.wf_reader.specs.Event.{inside_envelope}
 use Rattle.serde_json.specs.View.{view}
 use Rattle.wf_value.proofs.PassedOn.{passed_on}
-use Rattle.wf_reader.proofs.InTurn.{first_decides, skip, same_value}
+use Rattle.wf_reader.proofs.InOrder.{first_decides, skip, same_value}
 use Rattle.wf_reader.proofs.JobFaults.{inside_object}
 use Rattle.wf_reader.proofs.EventParts.{past_texts, event_made, of_given}
 use Rattle.wf_reader.proofs.event.event_in.Goals as goal

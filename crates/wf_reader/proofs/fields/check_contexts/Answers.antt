@@ -3,7 +3,7 @@ use Rattle.std.proofs.lemmas.List.{at_drop_more}
 use Rattle.serde_json.specs.Find.{get}
 use Rattle.serde_json.specs.View.{view}
 use Rattle.wf_reader.specs.Faults.{optional, object_faults}
-use Rattle.wf_reader.proofs.InTurn.{refused_with, first_of_rest}
+use Rattle.wf_reader.proofs.InOrder.{refused_with, first_of_rest}
 use Rattle.wf_reader.proofs.fields.check_contexts.Goals as goal
 
 pub returns-in_err-check_context : goal.returns-in_err-check_context

@@ -1,6 +1,6 @@
 use Rattle.std.proofs.Common.{Ok, ap, inr, sym}
 use Rattle.wf_value.proofs.PassedOn.{passed_on}
-use Rattle.wf_reader.proofs.InTurn.{first_decides, skip, same_value}
+use Rattle.wf_reader.proofs.InOrder.{first_decides, skip, same_value}
 use Rattle.wf_reader.proofs.JobFaults.{start_made}
 use Rattle.wf_reader.proofs.job.read_start.Goals as goal
 

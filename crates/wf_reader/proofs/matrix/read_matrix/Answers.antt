@@ -6,7 +6,7 @@ use Rattle.wf_reader.specs.Faults.{optional}
 use Rattle.wf_reader.specs.Patterns.{patterns_faults}
 use Rattle.wf_reader.specs.MatrixOf.{variables_in, variable_faults}
 use Rattle.std.specs.List.{flat_map}
-use Rattle.wf_reader.proofs.InTurn.{first_decides, skip, same_value}
+use Rattle.wf_reader.proofs.InOrder.{first_decides, skip, same_value}
 use Rattle.wf_reader.proofs.MatrixParts.{in_matrix, variables_here, matrix_made}
 use Rattle.wf_reader.proofs.matrix.read_matrix.Goals as goal
 

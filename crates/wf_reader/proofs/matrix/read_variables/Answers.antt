@@ -2,15 +2,15 @@ use Rattle.std.proofs.Common.{IsTrue, ap, refl, sym, subst}
 use Rattle.wf_value.specs.Names.{names_rise}
 use Rattle.wf_value.proofs.PassedOn.{passed_on}
 use Rattle.wf_reader.specs.MatrixOf.{is_variable_name, variable_faults, variable_of}
-use Rattle.wf_reader.proofs.Entries.{kept, kept-sorted, kept_here, turn_fails, all_done, rises-sorted}
+use Rattle.wf_reader.proofs.Entries.{kept, kept-sorted, kept_here, check_fails, all_done, rises-sorted}
 use Rattle.wf_reader.proofs.matrix.read_variables.Goals as goal
 
 pub returns-in_err-read_variable-clause-gives : goal.returns-in_err-read_variable-clause-gives
 returns-in_err-read_variable-clause-gives c =
     let here = kept_here is_variable_name c.loop-name.name-iterator c.next.new.self (c.in-Some.name.now, c.in-Some.value.now)
-    c.as_str-text.result.now c.in-Some.ensures.steps c.as_str-text.ensures.value c.if-not-is_variable.ensures in
+    c.as_str-text.result.now c.in-Some.ensures.steps c.as_str-text.ensures.value c.if-not-is_variable_name.ensures in
     passed_on _ _ _ _ c.in_err-read_variable.field-0.0 c.from_residual.ensures.1 c.in_err-read_variable.ensures (λ refused.
-    turn_fails variable_faults variable_of (kept is_variable_name c.args.members.now.entries)
+    check_fails variable_faults variable_of (kept is_variable_name c.args.members.now.entries)
     (kept is_variable_name c.loop-name.name-iterator) _ (c.in-Some.name.now, c.in-Some.value.now)
     c.as_str-text.result.now _ _ c.loop-name.invariant.left here
     c.as_str-text.ensures.value refused)

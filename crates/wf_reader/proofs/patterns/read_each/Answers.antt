@@ -3,7 +3,7 @@ use Rattle.std.proofs.lemmas.List.{at_drop_more}
 use Rattle.serde_json.specs.View.{view}
 use Rattle.wf_value.proofs.PassedOn.{passed_on}
 use Rattle.wf_reader.specs.Patterns.{pattern_faults}
-use Rattle.wf_reader.proofs.InTurn.{first_of_rest}
+use Rattle.wf_reader.proofs.InOrder.{first_of_rest}
 use Rattle.wf_reader.proofs.patterns.read_each.Goals as goal
 
 pub returns-in_err-read_pattern : goal.returns-in_err-read_pattern

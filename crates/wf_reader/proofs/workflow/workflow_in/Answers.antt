@@ -1,7 +1,7 @@
 use Rattle.std.proofs.Common.{Ok, ap}
 use Rattle.wf_value.proofs.PassedOn.{passed_on}
 use Rattle.wf_reader.specs.Workflow.{inside_workflow}
-use Rattle.wf_reader.proofs.InTurn.{first_decides, skip, same_value}
+use Rattle.wf_reader.proofs.InOrder.{first_decides, skip, same_value}
 use Rattle.wf_reader.proofs.JobFaults.{inside_object}
 use Rattle.wf_reader.proofs.WorkflowParts.{workflow_made}
 use Rattle.wf_reader.proofs.workflow.workflow_in.Goals as goal

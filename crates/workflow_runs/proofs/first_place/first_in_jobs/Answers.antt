@@ -1,7 +1,7 @@
 use Rattle.std.proofs.Common.{arith, rules}
 use Rattle.run_states.specs.Cells.{JobCells}
 use Rattle.run_states.specs.WithinRun.{first_in_job}
-use Rattle.workflow_runs.proofs.Firsts.{job_answers, job_passed, no_job_answers, none_before-map}
+use Rattle.settling_laws.proofs.Firsts.{job_answers, job_passed, no_job_answers, none_before-map}
 use Rattle.workflow_runs.proofs.first_place.first_in_jobs.Goals as goal
 
 pub loop-j-init : goal.loop-j-init

@@ -1,5 +1,5 @@
 use Rattle.run_states.specs.WithinRun.{first_in_job}
-use Rattle.workflow_runs.proofs.Firsts.{NoneBefore}
+use Rattle.run_states.specs.Resuming.{NoneBefore}
 use Rattle.workflow_runs.proofs.first_place.first_in_jobs.Given as goal
 
 -- no job so far has a place where a rule applies

@@ -1,7 +1,7 @@
 use Rattle.std.proofs.Common.{ap, ◌∙◌}
 use Rattle.run_states.specs.WithinRun.{goes_on}
 use Rattle.run_states.specs.declared.place.RuleSite.TheVariants.{AtLeg}
-use Rattle.workflow_runs.proofs.PlacedLegs.{first_passing, first_passing_in_job}
+use Rattle.settling_laws.proofs.PlacedLegs.{first_passing, first_passing_in_job}
 use Rattle.workflow_runs.proofs.first_place.first_of_legs.Goals as goal
 
 pub loop-place-init : goal.loop-place-init

@@ -1,7 +1,7 @@
 use Rattle.std.specs.Prelude.{◌≡◌}
 use Rattle.run_states.specs.WithinRun.{first_of_legs, goes_on}
 use Rattle.run_states.specs.declared.place.RuleSite.TheVariants.{AtLeg}
-use Rattle.workflow_runs.proofs.PlacedLegs.{first_passing}
+use Rattle.settling_laws.proofs.PlacedLegs.{first_passing}
 use Rattle.workflow_runs.proofs.first_place.first_of_legs.Given as goal
 
 -- the first that goes on is still to come

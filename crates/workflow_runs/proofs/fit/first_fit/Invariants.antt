@@ -1,6 +1,6 @@
 use Rattle.std.proofs.Common.{◌-◌, length}
 use Rattle.run_states.specs.WithinRun.{fit_in_run}
-use Rattle.workflow_runs.proofs.Firsts.{NoneBefore}
+use Rattle.run_states.specs.Resuming.{NoneBefore}
 use Rattle.workflow_runs.proofs.fit.first_fit.Given as goal
 
 -- no run so far has a leg that fits

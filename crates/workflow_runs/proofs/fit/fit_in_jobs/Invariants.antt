@@ -1,5 +1,5 @@
 use Rattle.run_states.specs.WithinRun.{fit_in_job}
-use Rattle.workflow_runs.proofs.Firsts.{NoneBefore}
+use Rattle.run_states.specs.Resuming.{NoneBefore}
 use Rattle.workflow_runs.proofs.fit.fit_in_jobs.Given as goal
 
 -- no job so far has a leg that fits

@@ -2,7 +2,7 @@ use Rattle.std.proofs.Common.{◌≡◌, List, false, rules, subst}
 use Rattle.act_store.specs.declared.entry.Entry.{Entry}
 use Rattle.act_desk.specs.Begins.{IsLonger}
 use Rattle.act_desk.proofs.Causes.{passed_causes}
-use Rattle.act_desk.proofs.EnteredAt.{gives_reply, stands}
+use Rattle.act_desk.proofs.EnteredAt.{gives_reply, in_history}
 use Rattle.act_desk.proofs.GivenUp.{given_up}
 use Rattle.act_desk.proofs.locked.LockedStore.enter.Goals as goal
 
@@ -14,7 +14,7 @@ pub invariant_of-result : goal.invariant_of-result
 invariant_of-result g c = (
   gives_reply c.self.inside.store c.of-asked.result.value c.in_ok-receipt.receipt (search rules),
   λ shown.
-      stands c.self.inside.store c.apply.new.self c.of-asked.result.value c.number-number.result c.in_ok-receipt.receipt c.again.result
+      in_history c.self.inside.store c.apply.new.self c.of-asked.result.value c.number-number.result c.in_ok-receipt.receipt c.again.result
       (search rules) (search rules) (search rules),
 )
 

@@ -11,7 +11,7 @@ use Rattle.act_store.specs.StoreSeen.{as_state}
 use Rattle.act_store.specs.declared.entry.Entry.{Entry}
 use Rattle.act_store.proofs.Entering.{IsAdmitted, counted_entered, few_wait, is_admitted, record_is_short}
 use Rattle.act_store.proofs.Refused.{apply_no_fault}
-use Rattle.act_store.proofs.Settling.{standing_entered}
+use Rattle.act_store.proofs.Settling.{consistent_entered}
 use Rattle.act_store.proofs.Snapshots.{begun_entered}
 use Rattle.act_store.proofs.store.Store.apply.Goals as goal
 
@@ -46,7 +46,7 @@ invariant_of-self-2 g c =
           (counted_entered k s.table s.pending_batch counted command entry history refl refl is c.enter.new.pending_batch
           c.in_ok-reply.ensures.pending_batch c.in_ok-reply.ensures.encoded admitted),
       c.self.invariant.1,
-      λ honest. standing_entered g.D.Disk.images s.areas.side s.other k counted.size history entry is counted.covers admitted.live
+      λ honest. consistent_entered g.D.Disk.images s.areas.side s.other k counted.size history entry is counted.covers admitted.live
           (c.self.invariant.2 honest),
       begun_entered s.base.value s.history.items s.generation s.areas.len s.areas.side s.other (g.D.Disk.honest s.disk) s.failed
           (g.D.Disk.seen s.disk) s.begun c.self.invariant.3 history entry is,

@@ -9,7 +9,7 @@ use Rattle.act_store.specs.StoreState.{RecoversToEither, StoreState}
 use Rattle.act_store.specs.Promise.{IsBegun}
 use Rattle.act_store.specs.StoreSeen.{as_checkpoint, as_state}
 use Rattle.act_store.specs.declared.begun.Begun.{Begun}
-use Rattle.act_store.proofs.Checkpointing.{begin_moments, counted_with, few_runners, settled_again, standing_failed, standing_with, table_sound}
+use Rattle.act_store.proofs.Checkpointing.{begin_moments, counted_with, few_runners, settled_again, consistent_failed, consistent_with, table_sound}
 use Rattle.act_store.proofs.Committing.{now_of}
 use Rattle.act_store.proofs.OtherGates.{uncalled}
 use Rattle.act_store.proofs.RefusalsOfCheckpoints.{begins, none_begun}
@@ -38,7 +38,7 @@ invariant_of-self g c =
     c.close_other.ensures.any_moment k refl in (
       counted_with k s.table s.pending_batch counted d1 (option_map as_checkpoint s.begun) true,
       (λ impossible. absurd (cc impossible)),
-      (λ honest1. standing_failed k s.table s.pending_batch counted disk.images s.areas.side s.other d1 (option_map as_checkpoint s.begun)
+      (λ honest1. consistent_failed k s.table s.pending_batch counted disk.images s.areas.side s.other d1 (option_map as_checkpoint s.begun)
           (now_of disk.moment disk.images_since disk.images s.disk d1 (RecoversToEither k) (g.met.D.Disk.counts_now d1 honest1)
           (since (c.close_other.ensures.honest.0 honest1)))),
       if_none s.begun
@@ -54,7 +54,7 @@ invariant_of-self-in-Ok g c =
     let counted = c.self.invariant.0 in
     let d1 = c.close_other.new.disk in
     let may = begins s c.args.self.now c.self.view_is (search rules) in
-    let b : Begun = record { place = c.len.result; front = c.in_ok-front.front; put = 0 } in
+    let b : Begun = record { place = c.len.result; prefix = c.in_ok-prefix.prefix; put = 0 } in
     let place : c.len.result ≡ length s.history.items = search rules in
     let checkpoint = Some (as_checkpoint b) in (
       counted_with k s.table s.pending_batch counted d1 checkpoint s.failed,
@@ -62,16 +62,16 @@ invariant_of-self-in-Ok g c =
       (λ honest1.
           let honest = c.close_other.ensures.honest.0 honest1 in
           let settled = (c.self.invariant.2 honest).settled may.live in
-          standing_with k s.table s.pending_batch counted disk.images s.areas.side Closed d1 checkpoint
+          consistent_with k s.table s.pending_batch counted disk.images s.areas.side Closed d1 checkpoint
           (settled_again k s.table s.pending_batch counted disk.images s.areas.side s.other settled Closed d1
           (c.in-Ok.ensures.closed settled.head settled.bodies honest settled.each))),
       (
         snapshot_taken s.base.value s.table s.history.items s.generation s.areas.len b counted.table_is place refl may.newer
             (subst (λ t. first_gate (text_length t) + 1 ≤ s.areas.len) (sym counted.table_is) may.room)
-            c.in_ok-front.ensures.front c.in_ok-front.ensures.encodes,
+            c.in_ok-prefix.ensures.prefix c.in_ok-prefix.ensures.encodes,
         λ honest1 live. record {
           closed = refl;
-          held = held_none (disk.seen d1) (start_of s.areas.len (other s.areas.side) + 1) c.in_ok-front.front.items;
+          held = held_none (disk.seen d1) (start_of s.areas.len (other s.areas.side) + 1) c.in_ok-prefix.prefix.items;
         },
       ),
     )
@@ -92,8 +92,8 @@ returns-in-Ok-clause-any_moment g c =
     begin_moments disk.honest disk.images s c.self.invariant.0 may.live c.self.invariant.2 c.close_other.new.disk disk.moment
     disk.images_since c.close_other.ensures.any_moment c.args.self.now c.self.view_is
 
-pub returns-in_err-front-clause-any_moment : goal.returns-in_err-front-clause-any_moment
-returns-in_err-front-clause-any_moment g c =
+pub returns-in_err-prefix-clause-any_moment : goal.returns-in_err-prefix-clause-any_moment
+returns-in_err-prefix-clause-any_moment g c =
     let s = c.self.inside in
     let disk = g.D.Disk in
     subst (λ (v : StoreState g.row.D.Denot). disk.honest v.disk → EachSince disk.moment disk.images_since v.disk v.disk (RecoversToEither v))

@@ -7,14 +7,14 @@ use Rattle.gated_journal.specs.declared.gate.Gate.TheVariants.{Open}
 use Rattle.gated_journal.specs.declared.side.Side.{Side}
 use Rattle.act_store.specs.Images.{RecoversTo}
 use Rattle.act_store.specs.StoreState.{StoreState, RecoversToEither, table_of}
-use Rattle.act_store.specs.Promise.{IsStanding}
+use Rattle.act_store.specs.Promise.{IsConsistent}
 use Rattle.act_store.specs.StoreSeen.{as_checkpoint, as_state}
 use Rattle.act_store.specs.PendingBatch.{batch_state_of}
 use Rattle.act_store.specs.declared.layout.Layout.TheVariants as layouts
-use Rattle.act_store.proofs.Checkpointing.{counted_with, standing_failed}
+use Rattle.act_store.proofs.Checkpointing.{counted_with, consistent_failed}
 use Rattle.act_store.proofs.Committing.{none_left, now_of}
-use Rattle.act_store.proofs.Finishing.{counted_finished, done, finish_moments, finish_settles, finishing, standing_finished}
-use Rattle.act_store.proofs.Settling.{settled_stands}
+use Rattle.act_store.proofs.Finishing.{counted_finished, done, finish_moments, finish_settles, finishing, consistent_finished}
+use Rattle.act_store.proofs.Settling.{settled_recovers}
 use Rattle.act_store.proofs.Snapshots.{begun_broken}
 use Rattle.act_store.proofs.store.Store.check_finish.Goals as goal
 
@@ -45,7 +45,7 @@ invariant_of-self-in-Err g c =
     let since = finish_moments disk.honest disk.images disk.seen s at bytes f d1 disk.moment disk.images_since c.switch.ensures.any_moment k refl in (
       counted_with k s.table s.pending_batch counted d1 checkpoint true,
       (λ impossible. absurd (cc impossible)),
-      (λ honest1. standing_failed k s.table s.pending_batch counted disk.images s.areas.side s.other d1 checkpoint
+      (λ honest1. consistent_failed k s.table s.pending_batch counted disk.images s.areas.side s.other d1 checkpoint
           (now_of disk.moment disk.images_since disk.images s.disk d1 (RecoversToEither k) (g.met.D.Disk.counts_now d1 honest1)
           (since (c.switch.ensures.honest.0 honest1)))),
       begun_broken s.base.value s.history.items s.generation s.areas.len s.areas.side s.other (disk.honest s.disk) s.failed
@@ -82,13 +82,13 @@ invariant_of-self-in-Ok g c =
     let here : used ≡ at + length bytes - 1 = search (rules, arith) in
     let left = c.truncate.new.self in
     let nothing : left ≡ batch_state_of [] = none_left left c.truncate.ensures.count c.truncate.ensures.encoded in
-    let turned : c.other.result ≡ other s.areas.side = c.other.ensures in (
+    let switched : c.other.result ≡ other s.areas.side = c.other.ensures in (
       counted_finished disk.honest disk.images disk.seen s at bytes f d1 covered used all here left nothing,
       (λ _. search (rules, arith)),
       (λ honest1.
-          subst (λ (x : Side). IsStanding disk.images x Open (done disk.honest disk.images disk.seen s at bytes f d1 covered used)) (sym turned)
-          (standing_finished disk.honest disk.images disk.seen s at bytes f d1 covered used all here
-          (finish_settles disk.honest disk.images disk.seen s at bytes f d1 c.in-Ok.ensures.turned (c.switch.ensures.honest.0 honest1)))),
+          subst (λ (x : Side). IsConsistent disk.images x Open (done disk.honest disk.images disk.seen s at bytes f d1 covered used)) (sym switched)
+          (consistent_finished disk.honest disk.images disk.seen s at bytes f d1 covered used all here
+          (finish_settles disk.honest disk.images disk.seen s at bytes f d1 c.in-Ok.ensures.switched (c.switch.ensures.honest.0 honest1)))),
       _,
     )
 
@@ -104,8 +104,8 @@ returns-clause-any_moment g c =
     finish_moments disk.honest disk.images disk.seen s at bytes f c.switch.new.disk disk.moment disk.images_since c.switch.ensures.any_moment
     c.args.self.now c.self.view_is
 
-pub returns-clause-stands : goal.returns-clause-stands
-returns-clause-stands g c = λ honest1.
+pub returns-clause-recovers : goal.returns-clause-recovers
+returns-clause-recovers g c = λ honest1.
     let s = c.self.inside in
     let disk = g.D.Disk in
     let at = 1 + c.len.result in
@@ -115,6 +115,6 @@ returns-clause-stands g c = λ honest1.
     c.as_slice.result.now c.in_ok-last.last.items c.as_slice.ensures.value c.in_ok-last.ensures.bytes c.in_ok-last.ensures.encoded in
     let d1 = c.switch.new.disk in
     subst (λ (v : StoreState g.row.D.Denot). (image : List ℕ) → disk.images d1 image → RecoversTo (table_of v) image) c.self.view_is
-    (settled_stands s.areas.len (other s.areas.side) Open (s.generation + 1) (at + length bytes - 1) layouts.Second (table_of (as_state s))
+    (settled_recovers s.areas.len (other s.areas.side) Open (s.generation + 1) (at + length bytes - 1) layouts.Second (table_of (as_state s))
     (disk.images d1) f.counted.size
-    (finish_settles disk.honest disk.images disk.seen s at bytes f d1 c.in-Ok.ensures.turned (c.switch.ensures.honest.0 honest1)))
+    (finish_settles disk.honest disk.images disk.seen s at bytes f d1 c.in-Ok.ensures.switched (c.switch.ensures.honest.0 honest1)))

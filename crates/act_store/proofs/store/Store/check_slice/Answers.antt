@@ -1,12 +1,12 @@
 use Rattle.std.proofs.Common.{rules, arith, ◌≡◌, ◌≤◌, length, true, refl, subst, sym}
 use Rattle.std.specs.Prelude.{Some}
-use Rattle.gated_journal.specs.Whole.{StandsWhole}
+use Rattle.gated_journal.specs.Whole.{RecoversWhole}
 use Rattle.gated_journal.specs.declared.gate.Gate.TheVariants.{Closed}
 use Rattle.act_store.specs.StoreState.{RecoversToEither}
 use Rattle.act_store.specs.Promise.{IsBegun, IsSnapshot}
 use Rattle.act_store.specs.StoreSeen.{as_checkpoint, as_state}
 use Rattle.act_store.specs.declared.begun.Begun.{Begun}
-use Rattle.act_store.proofs.Checkpointing.{counted_with, slice_moments, slice_settles, standing_failed, standing_with}
+use Rattle.act_store.proofs.Checkpointing.{counted_with, slice_moments, slice_settles, consistent_failed, consistent_with}
 use Rattle.act_store.proofs.Committing.{now_of}
 use Rattle.act_store.proofs.RefusalsOfCheckpoints.{slices}
 use Rattle.act_store.proofs.Snapshots.{it_is, put_sliced, snapshot_sliced}
@@ -30,7 +30,7 @@ invariant_of-self-in-Err g c =
     (λ honest. (so.1 honest live).closed) c.put_slice.ensures.any_moment k refl in (
       counted_with k s.table s.pending_batch counted d1 (Some (as_checkpoint next)) true,
       (λ impossible. absurd (cc impossible)),
-      (λ honest1. standing_failed k s.table s.pending_batch counted disk.images s.areas.side s.other d1 (Some (as_checkpoint next))
+      (λ honest1. consistent_failed k s.table s.pending_batch counted disk.images s.areas.side s.other d1 (Some (as_checkpoint next))
           (now_of disk.moment disk.images_since disk.images s.disk d1 (RecoversToEither k) (g.met.D.Disk.counts_now d1 honest1)
           (since (c.put_slice.ensures.honest.0 honest1)))),
       (
@@ -51,26 +51,26 @@ invariant_of-self-in-Ok g c =
     let live = slices s c.args.self.now c.self.view_is (search rules) in
     let so = it_is s.begun b (IsBegun s.base.value s.history.items s.generation s.areas.len s.areas.side s.other (disk.honest s.disk) s.failed
     (disk.seen s.disk)) (search rules) c.self.invariant.3 in
-    let within : next.put ≤ length b.front.items = search (rules, arith) in (
+    let within : next.put ≤ length b.prefix.items = search (rules, arith) in (
       counted_with k s.table s.pending_batch counted d1 (Some (as_checkpoint next)) s.failed,
       (λ _. search (rules, arith)),
       (λ honest1.
           let honest = c.put_slice.ensures.honest.0 honest1 in
           let settled = (c.self.invariant.2 honest).settled live in
-          standing_with k s.table s.pending_batch counted disk.images s.areas.side s.other d1 (Some (as_checkpoint next))
+          consistent_with k s.table s.pending_batch counted disk.images s.areas.side s.other d1 (Some (as_checkpoint next))
           (slice_settles k s.table s.pending_batch counted disk.images s.areas.side s.other settled d1 (so.1 honest live).closed
           (λ each. now_of disk.moment disk.images_since disk.images s.disk d1
-          (λ i. StandsWhole s.areas.len s.areas.side Closed i settled.head settled.bodies) (g.met.D.Disk.counts_now d1 honest1)
+          (λ i. RecoversWhole s.areas.len s.areas.side Closed i settled.head settled.bodies) (g.met.D.Disk.counts_now d1 honest1)
           (c.put_slice.ensures.any_moment settled.head settled.bodies honest each)))),
       (
-        snapshot_sliced s.base.value s.history.items s.generation s.areas.len b next c.put_slice.ensures.same_front
+        snapshot_sliced s.base.value s.history.items s.generation s.areas.len b next c.put_slice.ensures.same_prefix
             c.put_slice.ensures.same_place within so.0,
         λ honest1 live.
             let honest = c.put_slice.ensures.honest.0 honest1 in
             let put = so.1 honest live in
             let settled = (c.self.invariant.2 honest).settled live in
             let long = (settled.each (disk.seen s.disk) (g.met.D.Disk.seen_is_image s.disk honest)).whole in
-            put_sliced s.areas.len s.areas.side s.other (disk.seen d1) b next c.put_slice.ensures.same_front put.closed
+            put_sliced s.areas.len s.areas.side s.other (disk.seen d1) b next c.put_slice.ensures.same_prefix put.closed
             (c.in-Ok.ensures.held honest (omega (arith, long)) put.held),
       ),
     )

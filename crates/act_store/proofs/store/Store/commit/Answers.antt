@@ -1,21 +1,21 @@
 use Rattle.std.proofs.Common.{rules, ◌≡◌, ℕ, List, ◌+◌, ◌<◌, ◌^◌, ◌∙◌, ◌-◌, length, true, false, refl, arith, ap, subst, sym}
 use Rattle.act_store.specs.Images.{RecoversTo}
-use Rattle.act_store.specs.StoreState.{StoreState, StandForCovered, RecoversToEither, table_of}
+use Rattle.act_store.specs.StoreState.{StoreState, RecoverToCovered, RecoversToEither, table_of}
 use Rattle.act_store.specs.Plain.{committed, used_after}
-use Rattle.act_store.specs.Promise.{IsCounted, IsSettled, IsStanding}
+use Rattle.act_store.specs.Promise.{IsCounted, IsSettled, IsConsistent}
 use Rattle.act_store.specs.StoreSeen.{as_state}
 use Rattle.act_store.specs.PendingBatch.{body_of}
-use Rattle.act_store.proofs.Checkpointing.{counted_with, standing_failed}
-use Rattle.act_store.proofs.Committing.{now_of, none_waits, all_stands, counted_committed, commit_moments}
+use Rattle.act_store.proofs.Checkpointing.{counted_with, consistent_failed}
+use Rattle.act_store.proofs.Committing.{now_of, none_waits, all_recovers, counted_committed, commit_moments}
 use Rattle.act_store.proofs.Committing.{commit_settles, more, used_is, same_committed}
 use Rattle.act_store.proofs.Records.{length_record}
-use Rattle.act_store.proofs.Settling.{settled_stands, stand_covered, standing_fresh}
+use Rattle.act_store.proofs.Settling.{settled_recovers, recover_to_covered, consistent_fresh}
 use Rattle.act_store.proofs.Snapshots.{begun_broken, begun_grown}
 use Rattle.act_store.proofs.store.Store.commit.Given.{Over}
 use Rattle.act_store.proofs.store.Store.commit.Goals as goal
 
-pub returns-then-is_empty-clause-stands : goal.returns-then-is_empty-clause-stands
-returns-then-is_empty-clause-stands g c =
+pub returns-then-is_empty-clause-recovers : goal.returns-then-is_empty-clause-recovers
+returns-then-is_empty-clause-recovers g c =
     let s = c.self.inside in
     let disk = g.D.Disk in
     let k = as_state s in
@@ -23,7 +23,7 @@ returns-then-is_empty-clause-stands g c =
     let none : s.pending_batch.count ≡ 0 = search (rules, arith) in
     subst (λ (v : StoreState g.row.D.Denot). disk.honest v.disk → (image : List ℕ) → disk.images v.disk image → RecoversTo (table_of v) image)
     c.self.view_is
-    (λ honest image now. all_stands k s.table s.pending_batch counted (none_waits k s.table s.pending_batch counted none) image
+    (λ honest image now. all_recovers k s.table s.pending_batch counted (none_waits k s.table s.pending_batch counted none) image
     ((c.self.invariant.2 honest).each image now))
 
 pub grow-requires-clause-fits : goal.grow-requires-clause-fits
@@ -67,7 +67,7 @@ invariant_of-self g c =
       counted_with k s.table s.pending_batch counted d1 k.begun true,
       (λ impossible. absurd (cc impossible)),
       λ honest1.
-          standing_failed k s.table s.pending_batch counted disk.images s.areas.side s.other d1 k.begun
+          consistent_failed k s.table s.pending_batch counted disk.images s.areas.side s.other d1 k.begun
           (now_of disk.moment disk.images_since disk.images s.disk d1 (RecoversToEither k) (g.met.D.Disk.counts_now d1 honest1)
           (since (c.grow.ensures.honest.0 honest1))),
       begun_broken s.base.value s.history.items s.generation s.areas.len s.areas.side s.other (disk.honest s.disk) s.failed
@@ -111,11 +111,11 @@ invariant_of-self-in-Ok g c =
     let before = c.grow.ensures.honest.0 in
     let three = subst (λ (v : StoreState g.row.D.Denot). IsCounted v s.table c.truncate.new.self
     × (v.failed ≡ false → disk.fault_count v.disk < 2 ^ 64 - 1)
-    × (disk.honest v.disk → IsStanding disk.images s.areas.side s.other v))
+    × (disk.honest v.disk → IsConsistent disk.images s.areas.side s.other v))
     (is_committed g c) (
       counted_committed k s.table s.pending_batch counted (search (rules, arith)) d1 c.truncate.new.self c.truncate.ensures.count c.truncate.ensures.encoded,
       (λ _. search (rules, arith)),
-      λ honest1. standing_fresh disk.images s.areas.side s.other k counted.size d1 (settled g c honest1),
+      λ honest1. consistent_fresh disk.images s.areas.side s.other k counted.size d1 (settled g c honest1),
     ) in (
       three.0,
       three.1,
@@ -127,13 +127,13 @@ invariant_of-self-in-Ok g c =
           (λ honest from put. c.in-Ok.ensures.beside from put honest),
     )
 
-pub returns-in-Ok-clause-stands : goal.returns-in-Ok-clause-stands
-returns-in-Ok-clause-stands g c = λ honest1.
+pub returns-in-Ok-clause-recovers : goal.returns-in-Ok-clause-recovers
+returns-in-Ok-clause-recovers g c = λ honest1.
     let s = c.self.inside in
     let k = as_state s in
     let images = g.D.Disk.images c.grow.new.disk in
     subst (λ (v : StoreState g.row.D.Denot). (image : List ℕ) → images image → RecoversTo (table_of v) image) c.self.view_is
-    (settled_stands s.areas.len s.areas.side s.other s.generation (used_after k) s.layout (table_of k) images c.self.invariant.0.size
+    (settled_recovers s.areas.len s.areas.side s.other s.generation (used_after k) s.layout (table_of k) images c.self.invariant.0.size
     (settled g c honest1))
 
 pub returns-in-Ok-clause-some : goal.returns-in-Ok-clause-some
@@ -151,8 +151,8 @@ pub returns-then-is_empty-clause-exact : goal.returns-then-is_empty-clause-exact
 returns-then-is_empty-clause-exact g c =
     let s = c.self.inside in
     let disk = g.D.Disk in
-    subst (λ (v : StoreState g.row.D.Denot). disk.honest v.disk → StandForCovered disk.images v) c.self.view_is
-    (λ honest. stand_covered disk.images s.areas.side s.other (as_state s) c.self.invariant.0.size (c.self.invariant.2 honest))
+    subst (λ (v : StoreState g.row.D.Denot). disk.honest v.disk → RecoverToCovered disk.images v) c.self.view_is
+    (λ honest. recover_to_covered disk.images s.areas.side s.other (as_state s) c.self.invariant.0.size (c.self.invariant.2 honest))
 
 pub returns-in-Ok-clause-exact : goal.returns-in-Ok-clause-exact
 returns-in-Ok-clause-exact g c = λ honest1.
@@ -160,6 +160,6 @@ returns-in-Ok-clause-exact g c = λ honest1.
     let disk = g.D.Disk in
     let k = as_state s in
     let d1 = c.grow.new.disk in
-    subst (λ (v : StoreState g.row.D.Denot). StandForCovered disk.images v) (is_committed g c)
-    (stand_covered disk.images s.areas.side s.other (committed k d1) c.self.invariant.0.size
-    (standing_fresh disk.images s.areas.side s.other k c.self.invariant.0.size d1 (settled g c honest1)))
+    subst (λ (v : StoreState g.row.D.Denot). RecoverToCovered disk.images v) (is_committed g c)
+    (recover_to_covered disk.images s.areas.side s.other (committed k d1) c.self.invariant.0.size
+    (consistent_fresh disk.images s.areas.side s.other k c.self.invariant.0.size d1 (settled g c honest1)))

@@ -1,9 +1,9 @@
 use Rattle.std.proofs.Common.{subst}
 use Rattle.act_store.specs.GroupsOfHistory.{KeepsGroups}
-use Rattle.act_store.specs.StoreState.{StoreState, StandForCovered}
+use Rattle.act_store.specs.StoreState.{StoreState, RecoverToCovered}
 use Rattle.act_store.proofs.GroupsOfHistory.{keeps_groups}
 use Rattle.act_store.specs.StoreSeen.{as_state}
-use Rattle.act_store.proofs.Settling.{stand_covered}
+use Rattle.act_store.proofs.Settling.{recover_to_covered}
 use Rattle.act_store.proofs.store.Store.covered.Goals as goal
 
 pub returns-clause-groups : goal.returns-clause-groups
@@ -16,5 +16,5 @@ pub returns-clause-exact : goal.returns-clause-exact
 returns-clause-exact g c =
     let s = c.self.inside in
     let disk = g.D.Disk in
-    subst (λ (v : StoreState g.row.D.Denot). disk.honest v.disk → StandForCovered disk.images v) c.self.view_is
-    (λ honest. stand_covered disk.images s.areas.side s.other (as_state s) c.self.invariant.0.size (c.self.invariant.2 honest))
+    subst (λ (v : StoreState g.row.D.Denot). disk.honest v.disk → RecoverToCovered disk.images v) c.self.view_is
+    (λ honest. recover_to_covered disk.images s.areas.side s.other (as_state s) c.self.invariant.0.size (c.self.invariant.2 honest))

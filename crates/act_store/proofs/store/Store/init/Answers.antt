@@ -8,7 +8,7 @@ use Rattle.gated_journal.specs.declared.gate.Gate.TheVariants.{Closed}
 use Rattle.gated_journal.specs.declared.side.Side.TheVariants.{First}
 use Rattle.act_store.specs.Images.{IsAreaLength}
 use Rattle.act_store.specs.declared.layout.Layout.TheVariants as layouts
-use Rattle.act_store.proofs.Beginning.{counted_begun, standing_begun, first_head, first_bytes, first_fits, first_settled, first_stands}
+use Rattle.act_store.proofs.Beginning.{counted_begun, consistent_begun, first_head, first_bytes, first_fits, first_settled, first_recovers}
 use Rattle.act_store.proofs.Settling.{settled_at}
 use Rattle.act_store.proofs.store.Store.init.Goals as goal
 
@@ -28,16 +28,16 @@ invariant_of-result g c =
       (λ _. search (rules, arith)),
       λ honest1.
           let honest = c.make_areas.ensures.honest.0 honest1 in
-          standing_begun d1 area base 30 1 layouts.Second None false c.new.result.items none disk.images First Closed size
+          consistent_begun d1 area base 30 1 layouts.Second None false c.new.result.items none disk.images First Closed size
           (settled_at area First Closed 1 30 layouts.Second empty base (disk.images d1) (sym is_empty)
           (first_settled area (disk.images d1) (c.in-Ok.ensures.made first_head [] honest (sym first_bytes) first_fits))),
       _,
     )
 
-pub returns-in-Ok-clause-stands : goal.returns-in-Ok-clause-stands
-returns-in-Ok-clause-stands g c = λ honest1.
+pub returns-in-Ok-clause-recovers : goal.returns-in-Ok-clause-recovers
+returns-in-Ok-clause-recovers g c = λ honest1.
     let disk = g.D.Disk in
     let d1 = c.make_areas.new.disk in
     let size : IsAreaLength c.args.area = record { least = c.requires.least; most = c.requires.most } in
     let honest = c.make_areas.ensures.honest.0 honest1 in
-    first_stands c.args.area (disk.images d1) size (c.in-Ok.ensures.made first_head [] honest (sym first_bytes) first_fits)
+    first_recovers c.args.area (disk.images d1) size (c.in-Ok.ensures.made first_head [] honest (sym first_bytes) first_fits)

@@ -16,7 +16,7 @@ returns g c =
     let b = c.args.begun.now in
     let value : c.deref.result.now ≡ s.history.items = search rules in
     let on = from_on b.place s.history.items c.deref.result.now value in
-    let front : c.len.result ≡ length b.front.items = search rules in
+    let prefix : c.len.result ≡ length b.prefix.items = search rules in
     let encoded : c.encoded_len.result ≡ length (flat_map command_bytes (commands_of (drop b.place s.history.items))) =
     c.encoded_len.ensures.length ∙ ap (λ (l : List Entry). length (flat_map command_bytes (commands_of l))) on in
     let some : 0 < length (drop b.place s.history.items) = search (rules, arith) in
@@ -24,5 +24,5 @@ returns g c =
     ap (λ n. nat_lt n s.areas.len) same
     ∙ subst (λ (v : StoreState g.row.D.Denot). nat_lt (c.len.result + 10 + c.encoded_len.result) s.areas.len ≡ not (has_no_room v (as_checkpoint b)))
     c.self.view_is
-    (fits_is c.len.result (length b.front.items) c.encoded_len.result s.areas.len (drop b.place s.history.items) some c.requires.head front
+    (fits_is c.len.result (length b.prefix.items) c.encoded_len.result s.areas.len (drop b.place s.history.items) some c.requires.head prefix
     encoded)

@@ -1,13 +1,13 @@
 use Rattle.std.proofs.Common.{length}
 use Rattle.gated_journal.proofs.Composed.{both_ok}
-use Rattle.gated_journal.proofs.Moves.{turn_begins, turn_moments, turn_done}
+use Rattle.gated_journal.proofs.Moves.{switch_begins, switch_moments, switch_done}
 use Rattle.gated_journal.proofs.area_pair.AreaPair.switch.Goals as goal
 
 pub returns-in_err-write_synced-clause-any_moment : goal.returns-in_err-write_synced-clause-any_moment
 returns-in_err-write_synced-clause-any_moment g c = λ head next bodies others honest each completes.
     let disk = g.D.Disk in
-    turn_begins c.args.self.now.len c.args.self.now.side head bodies disk.moment disk.images_since disk.images c.args.disk.now next others
-    c.other_area-start.result.start c.args.at c.other_area-start.ensures.start c.requires.behind c.write_synced.new.disk
+    switch_begins c.args.self.now.len c.args.self.now.side head bodies disk.moment disk.images_since disk.images c.args.disk.now next others
+    c.other_area-start.result.start c.args.at c.other_area-start.ensures.start c.requires.suffix c.write_synced.new.disk
     (length c.args.bytes.now) c.requires.fits (c.write_synced.ensures.any_moment honest) each
 
 pub returns-clause-any_moment : goal.returns-clause-any_moment
@@ -16,14 +16,14 @@ returns-clause-any_moment g c = λ head next bodies others honest each completes
     let d0 = c.args.disk.now in
     let d1 = c.write_synced.new.disk in
     let first = c.write_synced.ensures in
-    turn_moments c.args.self.now.len c.args.self.now.side head bodies disk.moment disk.images_since disk.images d0 next others
-    c.other_area-start.result.start c.args.at c.other_area-start.ensures.start c.requires.behind c.args.bytes.now (disk.seen d0)
+    switch_moments c.args.self.now.len c.args.self.now.side head bodies disk.moment disk.images_since disk.images d0 next others
+    c.other_area-start.result.start c.args.at c.other_area-start.ensures.start c.requires.suffix c.args.bytes.now (disk.seen d0)
     (disk.seen d1) c.requires.fits (g.met.D.Disk.seen_is_image d0 honest) (c.in_ok-write_synced.ensures.written honest) each completes
     d1 c.write_synced-2.new.disk (first.any_moment honest) (c.write_synced-2.ensures.any_moment (first.honest.1 honest))
     (c.in_ok-write_synced.ensures.stable honest)
 
-pub returns-clause-turned : goal.returns-clause-turned
-returns-clause-turned g c =
+pub returns-clause-switched : goal.returns-clause-switched
+returns-clause-switched g c =
     let disk = g.D.Disk in
     let d0 = c.args.disk.now in
     let d1 = c.write_synced.new.disk in
@@ -31,7 +31,7 @@ returns-clause-turned g c =
     let still = c.write_synced.ensures.honest.1 in
     both_ok c.write_synced-2.result c.write_synced-2.ensures.written c.write_synced-2.ensures.stable
     (λ written stable head next bodies others honest each completes.
-    turn_done c.args.self.now.len c.args.self.now.side head bodies disk.moment disk.images_since disk.images d0 next others
-    c.other_area-start.result.start c.args.at c.other_area-start.ensures.start c.requires.behind c.args.bytes.now (disk.seen d0)
+    switch_done c.args.self.now.len c.args.self.now.side head bodies disk.moment disk.images_since disk.images d0 next others
+    c.other_area-start.result.start c.args.at c.other_area-start.ensures.start c.requires.suffix c.args.bytes.now (disk.seen d0)
     (disk.seen d1) c.requires.fits (g.met.D.Disk.seen_is_image d0 honest) (c.in_ok-write_synced.ensures.written honest) each completes
     (disk.seen d2) (disk.images d2) (written (still honest)) (stable (still honest)))

@@ -1,7 +1,7 @@
 use Rattle.std.proofs.Common.{◌≡◌, ℕ, ◌<◌, ◌∷◌, ◌++◌, ◌+◌, [], Some, length, length-append, if◌then◌else◌, slice_get, sym, subst, ap, ◌∙◌}
 use Rattle.run_marks.specs.Marked.{Covers}
-use Rattle.label_lists.specs.Known.{AreMarked, KnownState, OnlyEnters, asks_at, offers_at}
-use Rattle.label_lists.proofs.Entering.{asked_appended, list_stays, offers_appended}
+use Rattle.label_lists.specs.Known.{AreMarked, KnownState, OnlyEnters, requests_at, offers_at}
+use Rattle.label_lists.proofs.Entering.{requested_appended, list_stays, offers_appended}
 use Rattle.label_lists.proofs.Marked.{marked_appended}
 use Rattle.label_lists.proofs.Passed.{old_number, one_number}
 use Rattle.label_lists.proofs.SameLabels.{each_once, one_list}
@@ -19,28 +19,28 @@ returns-clause-number c =
 
 pub returns-clause-enters : goal.returns-clause-enters
 returns-clause-enters c =
-    let asking = c.self.inside.asking.items in
+    let requesting = c.self.inside.requesting.items in
     let new = c.new-2.result in
     let items = c.push_reserved.ensures.items ∙ ap (λ xs. xs ++ new ∷ []) c.in_ok-reserve.ensures.items in
-    subst (λ (s : KnownState). OnlyEnters s (record { lists = c.insert_full.new.self.keys; asking = c.push_reserved.new.self.items })) c.self.view_is
+    subst (λ (s : KnownState). OnlyEnters s (record { lists = c.insert_full.new.self.keys; requesting = c.push_reserved.new.self.items })) c.self.view_is
     record {
       lists = (λ n other at.
           subst (λ ks. slice_get ks n ≡ Some other) (sym c.in_ok-number.ensures.keys) (list_stays c.self.inside.lists.keys c.new.result other n at));
-      asks = (λ n r is. ap (λ xs. asks_at xs n r) items ∙ asked_appended asking new c.new-2.ensures n r ∙ is);
-      offers = (λ n r. ap (λ xs. offers_at xs n r) items ∙ offers_appended asking new c.new-2.ensures n r);
+      requests = (λ n r is. ap (λ xs. requests_at xs n r) items ∙ requested_appended requesting new c.new-2.ensures n r ∙ is);
+      offers = (λ n r. ap (λ xs. offers_at xs n r) items ∙ offers_appended requesting new c.new-2.ensures n r);
     }
 
 pub invariant_of-self-2 : goal.invariant_of-self-2
 invariant_of-self-2 c =
-    let asking = c.self.inside.asking.items in
+    let requesting = c.self.inside.requesting.items in
     let new = c.new-2.result in
     let items = c.push_reserved.ensures.items ∙ ap (λ xs. xs ++ new ∷ []) c.in_ok-reserve.ensures.items in
     let more = c.in_ok-number.ensures.len ∙ ap (λ b. length c.self.inside.lists.keys + (if b then 1 else 0)) c.if-not-is_new.false in
-    let covers = subst (λ n. Covers c.reserve_up_to.new.self (n + 1)) (c.len.ensures ∙ c.self.inside.asking.ok.0) c.in_ok-reserve_up_to.ensures.covers in (
+    let covers = subst (λ n. Covers c.reserve_up_to.new.self (n + 1)) (c.len.ensures ∙ c.self.inside.requesting.ok.0) c.in_ok-reserve_up_to.ensures.covers in (
       c.in_ok-number.ensures.unique,
-      ap length items ∙ length-append asking (new ∷ []) ∙ ap (λ n. n + 1) c.self.invariant.1 ∙ sym more,
+      ap length items ∙ length-append requesting (new ∷ []) ∙ ap (λ n. n + 1) c.self.invariant.1 ∙ sym more,
       subst (λ xs. AreMarked xs c.reserve_up_to.new.self) (sym items)
-          (marked_appended asking new c.self.inside.offering c.reserve_up_to.new.self c.self.invariant.2 c.new-2.ensures c.in_ok-reserve_up_to.ensures.marks covers),
+          (marked_appended requesting new c.self.inside.offering c.reserve_up_to.new.self c.self.invariant.2 c.new-2.ensures c.in_ok-reserve_up_to.ensures.marks covers),
     )
 
 pub returns-then-not-is_new-clause-keeps : goal.returns-then-not-is_new-clause-keeps
@@ -57,7 +57,7 @@ returns-then-not-is_new-clause-had c =
     let keys = c.self.inside.lists.keys in
     let stored = c.in_ok-number.ensures.stored in
     let at = stored.1 ∙ ap Some (sym ((one_list c.new.result stored.0).0 stored.2) ∙ c.new.ensures) in
-    subst (λ (s : KnownState). c.in_ok-number.number < length s.asking → slice_get s.lists c.in_ok-number.number ≡ Some c.args.labels) c.self.view_is
+    subst (λ (s : KnownState). c.in_ok-number.number < length s.requesting → slice_get s.lists c.in_ok-number.number ≡ Some c.args.labels) c.self.view_is
     (λ within. old_number keys c.insert_full.new.self.keys c.args.labels c.in_ok-number.number at
     (λ k other was. subst (λ ks. slice_get ks k ≡ Some other) (sym c.in_ok-number.ensures.keys) (list_stays keys c.new.result other k was))
     (subst (λ n. c.in_ok-number.number < n) c.self.invariant.1 within))
@@ -76,7 +76,7 @@ returns-clause-had c =
     let keys = c.self.inside.lists.keys in
     let stored = c.in_ok-number.ensures.stored in
     let at = stored.1 ∙ ap Some (sym ((one_list c.new.result stored.0).0 stored.2) ∙ c.new.ensures) in
-    subst (λ (s : KnownState). c.in_ok-number.number < length s.asking → slice_get s.lists c.in_ok-number.number ≡ Some c.args.labels) c.self.view_is
+    subst (λ (s : KnownState). c.in_ok-number.number < length s.requesting → slice_get s.lists c.in_ok-number.number ≡ Some c.args.labels) c.self.view_is
     (λ within. old_number keys c.insert_full.new.self.keys c.args.labels c.in_ok-number.number at
     (λ k other was. subst (λ ks. slice_get ks k ≡ Some other) (sym c.in_ok-number.ensures.keys) (list_stays keys c.new.result other k was))
     (subst (λ n. c.in_ok-number.number < n) c.self.invariant.1 within))

@@ -8,9 +8,9 @@ use Rattle.needs_graph.proofs.lookup.Lookup.place_from.Goals as goal
 pub returns : goal.returns
 returns c =
     let places = c.self.inside.places in
-    let asked : get_by (λ k. bytes_eq c.args.id.now k.now) places ≡ c.copied.result = ap (λ id. get_by (λ k. bytes_eq id k.now) places)
+    let requested : get_by (λ k. bytes_eq c.args.id.now k.now) places ≡ c.copied.result = ap (λ id. get_by (λ k. bytes_eq id k.now) places)
     (sym c.as_str.ensures) ∙ cc (c.get.ensures.value, c.copied.ensures) in
     let found = c.self.invariant c.args.id.now in
     let P : Option ℕ → Type 0 = λ o. Finds c.self.inside.jobs.now c.args.id.now o in
     let Q : List JobNeeds → Type 0 = λ jobs. Finds jobs c.args.id.now c.copied.result in
-    subst Q c.self.view_is (subst P asked found)
+    subst Q c.self.view_is (subst P requested found)

@@ -20,8 +20,8 @@ put-requires c =
     c.requires.place ∙ ap (λ (t : TableState). place_named t.runners c.args.claim.now.runner) (sym c.self.view_is)
     ∙ ap (λ (r : RunnerState). place_named c.self.inside.runners r.name) (sym c.in_ok-runner.ensures.runner)
 
-pub told_twice-requires-clause-there : goal.told_twice-requires-clause-there
-told_twice-requires-clause-there c =
+pub runner_and_replies-requires-clause-there : goal.runner_and_replies-requires-clause-there
+runner_and_replies-requires-clause-there c =
     let t = c.args.self.now in
     let p = c.args.leg in
     let ready = fitting_leg c.args.claim.now.labels t.runs p c.requires.fits in

@@ -7,13 +7,13 @@ use Rattle.wf_value.proofs.PassedOn.{same_Ok}
 
 pub rerun-requires : goal.rerun-requires
 rerun-requires c =
-    may_begin c.args.self.now c.args.asked.now c.self.inside.runs c.place_of-place.result (sym c.in_default.ensures)
+    may_begin c.args.self.now c.args.requested.now c.self.inside.runs c.place_of-place.result (sym c.in_default.ensures)
     (ap (λ (t : TableState). t.runs) c.self.view_is) c.place_of-place.ensures
 
 -- the run has begun again at its index
-begun : (c : In_ok-rerun) → Begun c.args.self.now c.args.asked.now c.rerun.new.self c.place_of-place.result
+begun : (c : In_ok-rerun) → Begun c.args.self.now c.args.requested.now c.rerun.new.self c.place_of-place.result
 begun c =
-    has_begun c.args.self.now c.args.asked.now c.self.inside.runs c.rerun.new.self c.place_of-place.result c.requires (sym c.in_default.ensures)
+    has_begun c.args.self.now c.args.requested.now c.self.inside.runs c.rerun.new.self c.place_of-place.result c.requires (sym c.in_default.ensures)
     (ap (λ (t : TableState). t.runs) c.self.view_is) (sym (same_Ok _ _ c.in_ok-rerun.ensures.again)) c.place_of-place.ensures
 
 pub arrive-requires : goal.arrive-requires

@@ -6,7 +6,7 @@ use Rattle.stored_tables.specs.TableOf.{AreRunnersAs}
 use Rattle.run_states.specs.AsPlanned.{AreAsPlanned}
 use Rattle.run_table.specs.TableState.{RunnerState}
 use Rattle.run_states.specs.RunState.{RunState}
-use Rattle.run_table.specs.Turns.{names_rise}
+use Rattle.run_table.specs.SequenceNumbers.{names_rise}
 use Rattle.run_states.proofs.OneAfterAnother.{not_so}
 use Rattle.stored_tables.proofs.PartsRead.{kept_of_legs}
 use Rattle.stored_tables.proofs.StoredOnce.{none_listed, none_planned, none_sound}

@@ -6,7 +6,7 @@ use Rattle.run_states.specs.PlacedLegs.{PlacedLeg, placed_legs}
 use Rattle.run_states.specs.Places.{leg_at}
 use Rattle.run_states.proofs.Found.{all_weaken}
 use Rattle.run_states.proofs.OneAfterAnother.{no, not_so, yes}
-use Rattle.workflow_runs.proofs.PlacedLegs.{each_is_there, each_placed}
+use Rattle.settling_laws.proofs.PlacedLegs.{each_is_there, each_placed}
 use Rattle.stored_tables.proofs.sound.legs.are_legs_sound.Goals as goal
 
 pub loop-place-init : goal.loop-place-init

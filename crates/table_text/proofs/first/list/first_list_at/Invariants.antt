@@ -1,8 +1,8 @@
 use Rattle.std.proofs.Common.{◌≡◌, ◌-◌}
-use Rattle.table_text.specs.Reading.{items_at, with_front}
+use Rattle.table_text.specs.Reading.{items_at, with_prefix}
 use Rattle.table_text.proofs.first.list.first_list_at.Given as goal
 
 -- the values so far and the remaining ones make up all
 abbrev pub invariant-loop : goal.invariant-loop
 invariant-loop g l =
-    with_front l.values.items (items_at g.T.ReadFirstAt.stands_first (l.count - l.counter) l.rest) ≡ items_at g.T.ReadFirstAt.stands_first l.count l.bytes
+    with_prefix l.values.items (items_at g.T.ReadFirstAt.first_prefix_at (l.count - l.counter) l.rest) ≡ items_at g.T.ReadFirstAt.first_prefix_at l.count l.bytes

@@ -1,7 +1,7 @@
 use Rattle.std.proofs.Common.{refl, ◌∙◌}
 use Rattle.std.proofs.lemmas.Result.{err_from_is_err_and}
 use Rattle.wf_expr.specs.declared.properties.Properties.TheViews.{out-Properties}
-use Rattle.wf_expr.proofs.PropertyLemmas.{changed, hit, behind-others, kept}
+use Rattle.wf_expr.proofs.PropertyLemmas.{changed, hit, suffix-others, kept}
 use Rattle.wf_expr.proofs.properties.Properties.nest.Goals as goal
 
 pub returns-in_err-insert-clause-err : goal.returns-in_err-insert-clause-err
@@ -19,7 +19,7 @@ returns-clause-within c =
 
 pub returns-clause-others : goal.returns-clause-others
 returns-clause-others c =
-    behind-others _ _ _ _
+    suffix-others _ _ _ _
     (changed
     (record (out-Properties c.args.self.now) {
       inner = c.insert.new.self;

@@ -144,8 +144,8 @@ invariant_of-self-2 c =
       run_number = decimal c.in_ok-number.number;
       run_attempt = decimal c.args.run.attempt;
     } in
-    let asked : RunSays facts c.in_ok-asked.asked = search rules in
-    let says : RunSays facts c.in_ok-bindings.bindings = c.in_ok-bindings.ensures.says facts (c.in_ok-grouped.ensures.says facts asked) in
+    let requested : RunSays facts c.in_ok-requested.requested = search rules in
+    let says : RunSays facts c.in_ok-bindings.bindings = c.in_ok-bindings.ensures.says facts (c.in_ok-grouped.ensures.says facts requested) in
     let r = c.len-r.result in
     let end : r ≡ length items = search rules in
     let kept =

@@ -1,6 +1,6 @@
 use Rattle.std.specs.Prelude.{true, false, refl}
 use Rattle.std.proofs.Common.{rules}
-use Rattle.workflow_runs.proofs.Arrives.{arrived_by_stops}
+use Rattle.settling_laws.proofs.Arrives.{arrived_by_stops}
 use Rattle.workflow_runs.proofs.runs.Runs.arrive.Goals as goal
 
 pub returns-then-cancels : goal.returns-then-cancels

@@ -3,7 +3,7 @@ use Rattle.std.proofs.Common.{sym, subst}
 use Rattle.run_states.specs.Groups.{HasOneBeside, waits}
 use Rattle.run_states.specs.RunState.{RunState}
 use Rattle.run_states.specs.SoundRuns.{RunsAreSound}
-use Rattle.workflow_runs.proofs.ArrivingLegs.{arriving_beside, arriving_sound, arriving_waits}
+use Rattle.settling_laws.proofs.ArrivingLegs.{arriving_beside, arriving_sound, arriving_waits}
 use Rattle.workflow_runs.proofs.runs.Runs.begin_leg.Goals as goal
 use Rattle.run_states.specs.declared.holder.Holder.TheVariants.{Leg}
 

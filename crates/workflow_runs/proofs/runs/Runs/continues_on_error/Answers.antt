@@ -21,7 +21,7 @@ returns-in-Some-flag c =
     let there : c.args.place.run ≡ p.run = search rules in
     c.is_set.ensures
     ∙ flag_said runs p x job k bound at planned
-    (λ facts told. c.in-Some-with_bindings.ensures.says facts (ap (run_facts_at runs) there ∙ told)) is
+    (λ facts leg_facts. c.in-Some-with_bindings.ensures.says facts (ap (run_facts_at runs) there ∙ leg_facts)) is
 
 pub returns-in-None : goal.returns-in-None
 returns-in-None c =
@@ -36,4 +36,4 @@ returns-in-None c =
     let none : flag_for k p.job p.leg ≡ None = search rules in
     let there : c.args.place.run ≡ p.run = search rules in
     sym (nothing_bound runs p x job c.in-Template.field-0 k at planned is
-    (λ facts told. c.in-Some-with_bindings.ensures.says facts (ap (run_facts_at runs) there ∙ told)) none)
+    (λ facts leg_facts. c.in-Some-with_bindings.ensures.says facts (ap (run_facts_at runs) there ∙ leg_facts)) none)

@@ -1,4 +1,4 @@
-use Rattle.std.specs.Prelude.{◌≡◌, ℕ, Bool, None, Some, false, option_and_then, option_map, slice_get}
+use Rattle.std.specs.Prelude.{◌≡◌, None, Some, false, option_and_then, option_map, slice_get}
 use Rattle.std.specs.Option.{option_map_or}
 use Rattle.std.proofs.Common.{ap, subst, sym, ◌∙◌, rules}
 use Rattle.run_plan.specs.PlanOf.{plan_of}
@@ -24,7 +24,7 @@ returns-in-Some c =
     let at : run_at runs p.run ≡ Some x = search rules in
     let there : c.args.place.run ≡ p.run = search rules in
     let says : (facts : RunFacts) → run_facts_at runs p.run ≡ Some facts → RunSays facts k =
-    λ facts told. c.in-Some.ensures.says facts (ap (run_facts_at runs) there ∙ told) in
+    λ facts leg_facts. c.in-Some.ensures.says facts (ap (run_facts_at runs) there ∙ leg_facts) in
     let own = labels_kept runs p x k at says (planned_leg runs p.run p.job p.leg x at c.requires) in
     let job_is : c.args.place.job ≡ p.job = search rules in
     let leg_is : c.args.place.leg ≡ p.leg = search rules in

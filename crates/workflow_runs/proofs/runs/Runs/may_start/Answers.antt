@@ -1,7 +1,7 @@
 use Rattle.std.specs.Prelude.{◌≡◌, true, is_none, is_some}
 use Rattle.std.proofs.Common.{rules}
 use Rattle.run_states.specs.GroupOf.{group_at}
-use Rattle.workflow_runs.proofs.Meant.{starts_where}
+use Rattle.settling_laws.proofs.Meant.{starts_where}
 use Rattle.workflow_runs.proofs.runs.Runs.may_start.Goals as goal
 
 pub returns-else-not-has_group : goal.returns-else-not-has_group

@@ -5,7 +5,7 @@ use Rattle.run_states.specs.NewRun.{again}
 use Rattle.run_states.specs.Places.{run_at}
 use Rattle.run_states.specs.RunState.{RunState}
 use Rattle.run_bindings.specs.Bindings.{RunSays}
-use Rattle.run_bindings.proofs.GroupKeys.{number_of_that_run}
+use Rattle.run_bindings.proofs.NumberOfRun.{number_of_that_run}
 use Rattle.workflow_runs.proofs.runs.Runs.next_attempt.Goals as goal
 
 pub returns-clause-says : goal.returns-clause-says
@@ -21,4 +21,4 @@ returns-clause-says c =
       run_id = decimal (c.args.r + 1);
       run_number = decimal n;
       run_attempt = decimal next.attempt;
-    }) c.in_ok-asked.asked) number c.in_ok-asked.ensures.says
+    }) c.in_ok-requested.requested) number c.in_ok-requested.ensures.says

@@ -1,7 +1,7 @@
 use Rattle.std.proofs.Common.{◌≡◌, ◌∙◌, List, ap, false}
 use Rattle.run_states.specs.ActiveRuns.{is_active}
 use Rattle.run_states.specs.RunState.{RunState}
-use Rattle.workflow_runs.specs.MarkedRuns.{is_so_at}
+use Rattle.resuming_laws.specs.RunFacts.{is_so_at}
 use Rattle.workflow_runs.proofs.FoundHolders.{found_unmarked}
 use Rattle.workflow_runs.proofs.MarkedRuns.{not_so_there, unmarked}
 use Rattle.workflow_runs.proofs.runs.Runs.pass.Goals as goal

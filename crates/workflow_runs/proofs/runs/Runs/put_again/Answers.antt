@@ -66,8 +66,8 @@ invariant_of-self-2 c =
     let r = c.args.r in
     let next = c.args.next in
     let from = next_of items r next (c.requires.next ∙ ap (λ (rs : List RunState). option_map again (run_at rs r)) (sym c.self.view_is)) in
-    let said : RunSays (facts_of_run items r next) c.args.asked =
-    subst (λ (rs : List RunState). RunSays (facts_of_run rs r next) c.args.asked) (sym c.self.view_is) c.requires.says in
+    let said : RunSays (facts_of_run items r next) c.args.requested =
+    subst (λ (rs : List RunState). RunSays (facts_of_run rs r next) c.args.requested) (sym c.self.view_is) c.requires.says in
     let many : c.len-count.result ≡ length items = search rules in
     let entered = kept_taken items c.self.inside.numbers.items c.self.inside.bindings.items c.self.inside.index c.self.inside.marks
     c.reserve_up_to.new.self c.enter.new.self c.with_lists.new.lists c.reserve_up_to.ensures.grows c.enter.ensures.enters c.enter.ensures.marks

@@ -13,14 +13,14 @@ invariant_of-self c =
     let bindings = c.self.inside.bindings.items in
     let r = c.args.place.run in
     let run = c.index-run.result.now in
-    let asked = c.index.result.now in
+    let requested = c.index.result.now in
     let number = c.list_number-number.result in
     let within : r < length runs = search rules in
     let run_there : slice_get runs r ≡ Some run = slice_get_read runs (length runs) r run refl within c.index-run.ensures in
-    let asked_there : slice_get bindings r ≡ Some asked =
-    slice_get_read bindings (length bindings) r asked refl (omega (arith, within, are.bound.as_many)) c.index.ensures in
+    let requested_there : slice_get bindings r ≡ Some requested =
+    slice_get_read bindings (length bindings) r requested refl (omega (arith, within, are.bound.as_many)) c.index.ensures in
     let none : c.offers_list.result ≡ false = search rules in
-    let rests : offers_list run asked.lists number ≡ false =
+    let rests : offers_list run requested.lists number ≡ false =
     subst (λ (numbers : List ListNumbers). offers_list run numbers number ≡ false) c.as_slice-numbers.ensures
     (sym c.offers_list.ensures ∙ none) in
     record {
@@ -31,6 +31,6 @@ invariant_of-self c =
       marked = are.marked;
       grouped = are.grouped;
       listed = are.listed;
-      offered = number_unmarked runs bindings c.self.inside.index.lists c.unmark.new.self r number run asked run_there asked_there rests
+      offered = number_unmarked runs bindings c.self.inside.index.lists c.unmark.new.self r number run requested run_there requested_there rests
           c.unmark.ensures are.offered;
     }

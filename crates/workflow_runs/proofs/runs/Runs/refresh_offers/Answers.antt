@@ -5,7 +5,7 @@ use Rattle.label_lists.specs.Lists.{HasPlace}
 use Rattle.run_states.specs.ActiveRuns.{offers_legs}
 use Rattle.run_bindings.specs.LabelNumbers.{list_number}
 use Rattle.run_bindings.specs.declared.label_numbers.ListNumbers.{ListNumbers}
-use Rattle.workflow_runs.specs.MarkedRuns.{is_so_at}
+use Rattle.resuming_laws.specs.RunFacts.{is_so_at}
 use Rattle.workflow_runs.proofs.LegsOffered.{offered_unmarked}
 use Rattle.workflow_runs.proofs.runs.Runs.refresh_offers.Goals as goal
 

@@ -8,11 +8,11 @@ use Rattle.run_states.specs.Settling.{first_rule, remaining_phases, settled}
 use Rattle.run_states.specs.SoundRuns.{RunsAreSound}
 use Rattle.run_states.specs.declared.place.JobPlace.{JobPlace}
 use Rattle.run_states.proofs.Optional.{from_map}
-use Rattle.workflow_runs.proofs.Lowered.{first_rule_lowers}
-use Rattle.workflow_runs.proofs.OneEachRules.{first_rule_one_each}
-use Rattle.workflow_runs.proofs.Rests.{settled_after_rule, settled_at_rest}
-use Rattle.workflow_runs.proofs.SettlingKeeps.{first_rule_settles}
-use Rattle.workflow_runs.proofs.SoundRuns.{runs_that_fit, sound_runs}
+use Rattle.settling_laws.proofs.Lowered.{first_rule_lowers}
+use Rattle.settling_laws.proofs.OneEachRules.{first_rule_one_each}
+use Rattle.settling_laws.proofs.Rests.{settled_after_rule, settled_at_rest}
+use Rattle.settling_laws.proofs.SettlingKeeps.{first_rule_settles}
+use Rattle.settling_laws.proofs.SoundRuns.{runs_that_fit, sound_runs}
 use Rattle.workflow_runs.proofs.runs.Runs.settle_from.Goals as goal
 use Rattle.workflow_runs.proofs.runs.Runs.settle_from.Invariants.{Settling}
 

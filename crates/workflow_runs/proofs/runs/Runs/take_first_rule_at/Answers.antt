@@ -1,6 +1,6 @@
 use Rattle.std.specs.Prelude.{◌≡◌, List, Some, IfSome, Bool, option_and_then}
 use Rattle.std.proofs.Common.{ap, subst, sym, ◌∙◌}
-use Rattle.run_states.specs.Resuming.{RestBefore, may_wake_others, resume_point}
+use Rattle.run_states.specs.Resuming.{RestBefore, may_invalidate_others, resume_point}
 use Rattle.run_states.specs.Moves.{Transition}
 use Rattle.run_states.specs.Rules.{rule_at}
 use Rattle.run_states.specs.RunState.{RunState}
@@ -10,19 +10,19 @@ use Rattle.run_states.specs.declared.place.JobPlace.{JobPlace}
 use Rattle.run_states.specs.declared.place.RuleSite.{RuleSite}
 use Rattle.run_states.proofs.Optional.{from_map}
 use Rattle.run_states.proofs.Transitions.{first_rule_taken}
-use Rattle.workflow_runs.proofs.Resumed.{rest_after_rule}
-use Rattle.workflow_runs.proofs.SoundRuns.{runs_that_fit}
+use Rattle.resuming_laws.proofs.Resumed.{rest_after_rule}
+use Rattle.settling_laws.proofs.SoundRuns.{runs_that_fit}
 use Rattle.workflow_runs.proofs.runs.Runs.take_first_rule_at.Goals as goal
 
 rest_again : (runs new : List RunState) (place : RuleSite) (freed : Bool) (again : JobPlace) → RunsAreSound runs
     → first_place runs ≡ Some place
-    → IfSome (rule_at runs place) (λ next. new ≡ next.runs) → freed ≡ may_wake_others runs place → again ≡ resume_point freed new place
+    → IfSome (rule_at runs place) (λ next. new ≡ next.runs) → freed ≡ may_invalidate_others runs place → again ≡ resume_point freed new place
     → RestBefore new again
 rest_again runs new place freed again sound first taken frees_is is =
     let rule = from_map (λ (m : Transition). m.runs) (first_rule runs) new (first_rule_taken runs new place first taken) in
     let at : rule_at runs place ≡ Some rule.value = sym (ap (option_and_then (rule_at runs)) first) ∙ rule.is in
     subst (RestBefore new) (sym (is ∙ ap (λ b. resume_point b new place) frees_is))
-    (subst (λ (xs : List RunState). RestBefore xs (resume_point (may_wake_others runs place) xs place)) rule.gives
+    (subst (λ (xs : List RunState). RestBefore xs (resume_point (may_invalidate_others runs place) xs place)) rule.gives
     (rest_after_rule runs rule.value place (runs_that_fit runs sound) first at))
 
 pub returns-clause-took : goal.returns-clause-took
@@ -30,5 +30,5 @@ returns-clause-took c = first_rule_taken c.args.self.now c.take_rule.new.self c.
 
 pub returns-clause-rest : goal.returns-clause-rest
 returns-clause-rest c =
-    rest_again c.args.self.now c.take_rule.new.self c.args.place c.may_wake_others-may_wake_others.result c.resume_point.result c.requires.sound
-    c.requires.first c.take_rule.ensures c.may_wake_others-may_wake_others.ensures c.resume_point.ensures
+    rest_again c.args.self.now c.take_rule.new.self c.args.place c.may_invalidate_others-may_invalidate_others.result c.resume_point.result c.requires.sound
+    c.requires.first c.take_rule.ensures c.may_invalidate_others-may_invalidate_others.ensures c.resume_point.ensures

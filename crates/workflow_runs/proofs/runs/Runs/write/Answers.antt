@@ -12,19 +12,19 @@ use Rattle.run_states.specs.declared.frees.Frees.{Frees}
 use Rattle.run_states.specs.declared.holder.Holder.{Holder}
 use Rattle.run_states.proofs.Doors.{changed_within}
 use Rattle.run_bindings.specs.LabelNumbers.{IsOffered, IsReadyAt, LegsAreOffered}
-use Rattle.workflow_runs.specs.FoundHolders.{HoldersAreFound, IsFound, Stands, StillFound}
-use Rattle.workflow_runs.specs.LettingGo.{LetsGoOnly, freed}
+use Rattle.workflow_runs.specs.FoundHolders.{HoldersAreFound, IsFound, IsActiveHolder, StillFound}
+use Rattle.resuming_laws.specs.LettingGo.{LetsGoOnly, freed}
 use Rattle.workflow_runs.specs.MarkedRuns.{RunsAreMarked}
 use Rattle.workflow_runs.proofs.FoundHolders.{found_after}
-use Rattle.workflow_runs.proofs.KeptBack.{RunsStillFor}
+use Rattle.resuming_laws.proofs.KeptBack.{RunsStillFor}
 use Rattle.workflow_runs.proofs.LegsOffered.{has_place, offered_after}
-use Rattle.workflow_runs.proofs.LettingGo.{freed_of_run, only_freed_go}
+use Rattle.resuming_laws.proofs.LettingGo.{freed_of_run, only_freed_go}
 use Rattle.workflow_runs.proofs.MarkedRuns.{marks_after_change, not_so}
 use Rattle.workflow_runs.proofs.ReadyBefore.{ready_before}
-use Rattle.workflow_runs.proofs.Stays.{changed_admitted, changed_attempt}
+use Rattle.settling_laws.proofs.Stays.{changed_admitted, changed_attempt}
 use Rattle.workflow_runs.proofs.StillBound.{still_kept}
 use Rattle.workflow_runs.proofs.StoodBefore.{stood_before}
-use Rattle.workflow_runs.proofs.Woken.{marks_woken, unwoken_still}
+use Rattle.workflow_runs.proofs.Invalidated.{marks_woken, unwoken_still}
 use Rattle.workflow_runs.proofs.runs.Runs.write.Goals as goal
 
 pub invariant_of-self : goal.invariant_of-self
@@ -48,7 +48,7 @@ invariant_of-self c =
     subst (λ (f : Frees). LetsGoOnly f items (slice_set items r new)) (sym is_freed)
     (subst (λ (rs : List RunState). LetsGoOnly (freed items r change) items rs) (sym is_next) (only_freed_go items r change)) in
     let seen : c.as_slice-runs.result.now ≡ items = c.as_slice-runs.ensures.value in
-    let asked_at : slice_get bindings r ≡ Some c.index-bindings.result.now =
+    let requested_at : slice_get bindings r ≡ Some c.index-bindings.result.now =
     slice_get_read bindings (length bindings) r c.index-bindings.result.now refl (omega (arith, within, c.self.invariant.bound.as_many))
     c.index-bindings.ensures in
     let itself : IfSome (newcomer r change) (IsFound groups.book.entries groups.unlisted c.index-bindings.result.now) =
@@ -59,25 +59,25 @@ invariant_of-self c =
     c.list_newcomer.ensures.others in
     let found : HoldersAreFound (slice_set items r new) bindings groups.book.entries groups.unlisted =
     found_after items (slice_set items r new) bindings held.book.entries groups.book.entries held.unlisted groups.unlisted r change
-    c.index-bindings.result.now (length-set items r new) c.list_newcomer.ensures.room asked_at
-    (λ h stands. stood_before items r change h (subst (λ (rs : List RunState). Stands rs h) is_next stands)) itself others
+    c.index-bindings.result.now (length-set items r new) c.list_newcomer.ensures.room requested_at
+    (λ h is_active_holder. stood_before items r change h (subst (λ (rs : List RunState). IsActiveHolder rs h) is_next is_active_holder)) itself others
     c.self.invariant.listed in
     let was = c.self.inside.index.lists in
     let lists = c.offer.new.lists in
     let one : IfSome (offered_by r change) (IsOffered lists c.index-bindings.result.now) =
     subst (λ (leg : Option LegPlace). IfSome leg (IsOffered lists c.index-bindings.result.now)) c.offered-offered.ensures c.offer.ensures.itself in
     let offered : LegsAreOffered (slice_set items r new) bindings lists =
-    offered_after items (slice_set items r new) bindings was lists r change c.index-bindings.result.now asked_at
+    offered_after items (slice_set items r new) bindings was lists r change c.index-bindings.result.now requested_at
     (λ p ready. ready_before items r change p (subst (λ (rs : List RunState). IsReadyAt rs p) is_next ready)) one c.offer.ensures.others
     c.self.invariant.offered in
-    let woken = c.wake_freed.new.self in
+    let woken = c.invalidate_freed.new.self in
     let count = length c.as_slice-runs.result.now in
     let many : count ≡ length items = ap length seen in
     let marked_woken : RunsAreMarked items woken =
-    marks_woken items goes held c.index-bindings.result.now count c.self.inside.marks woken c.wake_freed.ensures c.self.invariant.marked in
+    marks_woken items goes held c.index-bindings.result.now count c.self.inside.marks woken c.invalidate_freed.ensures c.self.invariant.marked in
     let still : (s : ℕ) → is_marked woken.due s ≡ false → RunsStillFor items (slice_set items r new) s =
     unwoken_still items bindings held c.self.invariant.bound c.self.invariant.grouped c.self.invariant.listed c.self.inside.marks woken.due r
-    count c.index-bindings.result.now many asked_at c.self.invariant.marked.waiting (slice_set items r new) goes c.wake_freed.ensures.woken
+    count c.index-bindings.result.now many requested_at c.self.invariant.marked.waiting (slice_set items r new) goes c.invalidate_freed.ensures.woken
     (λ one is. freed_of_run items r change one (sym is_freed ∙ is)) only in
     still_kept items _ bindings c.self.inside.index groups lists c.self.inside.marks c.mark_dirty.new.self r old new c.list_newcomer.ensures.numbers
     found offered within c.index_mut-run.ensures.value
@@ -92,7 +92,7 @@ pub offer-requires : goal.offer-requires
 offer-requires c =
     let bindings = c.self.inside.bindings.items in
     let r = c.args.r in
-    let asked_at : slice_get bindings r ≡ Some c.index-bindings.result.now =
+    let requested_at : slice_get bindings r ≡ Some c.index-bindings.result.now =
     slice_get_read bindings (length bindings) r c.index-bindings.result.now refl (search rules) c.index-bindings.ensures in
     has_place c.self.inside.index.lists r c.args.change c.index-bindings.result.now
-    (c.self.invariant.offered.numbers r c.index-bindings.result.now asked_at) c.offered-offered.result c.offered-offered.ensures
+    (c.self.invariant.offered.numbers r c.index-bindings.result.now requested_at) c.offered-offered.result c.offered-offered.ensures

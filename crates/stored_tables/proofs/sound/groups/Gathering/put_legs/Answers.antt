@@ -5,7 +5,7 @@ use Rattle.run_states.specs.PlacedLegs.{PlacedLeg, placed_legs}
 use Rattle.run_states.specs.declared.place.LegPlace.{LegPlace}
 use Rattle.stored_tables.proofs.GroupsGathered.{all_new, leg_and_others, none_left, same_clash, same_gathered}
 use Rattle.stored_tables.proofs.GroupsOfTable.{leg_among}
-use Rattle.stored_tables.proofs.LegsOnce.{Among, Once, is_a_leg, not_behind, once_placed, places}
+use Rattle.stored_tables.proofs.LegsOnce.{Among, Once, is_a_leg, not_after, once_placed, places}
 use Rattle.stored_tables.proofs.sound.groups.Gathering.put_legs.Goals as goal
 use Rattle.run_states.specs.declared.holder.Holder.{Holder}
 use Rattle.run_states.specs.declared.holder.Holder.TheVariants.{Leg}
@@ -29,7 +29,7 @@ loop-place-preserved c =
       (λ after all_new adds.
           c.loop-place.invariant.0 after all_new
           (subst (λ (ps : List LegPlace). AddsEach group_of c.loop-place.groups after (Among ps) all_new) (sym steps)
-          (leg_and_others group_of place rest c.loop-place.groups c.put.new.groups after all_new (not_behind place rest once.0) put adds))),
+          (leg_and_others group_of place rest c.loop-place.groups c.put.new.groups after all_new (not_after place rest once.0) put adds))),
       once.1,
     )
 

@@ -12,12 +12,12 @@ loop-j-init c =
 
 pub returns-then-not-branch-clause-rest : goal.returns-then-not-branch-clause-rest
 returns-then-not-branch-clause-rest c =
-    let asked = first_in_job c.args.self.now.runs.now c.args.r c.args.run.now in
+    let requested = first_in_job c.args.self.now.runs.now c.args.r c.args.run.now in
     let jobs = c.args.jobs.now in
     let moves : c.in_ok-job_rests.field-0 ≡ false = search rules in
-    Decides-like false (λ each. none_of_each asked (states jobs) (each_mapped (NoneAt asked) (λ (x : JobCells). x.state) jobs each))
-    (λ none. each_unmapped (NoneAt asked) (λ (x : JobCells). x.state) jobs (each_none asked (states jobs) none))
-    (stopped_at (λ (k : ℕ) (x : JobCells). NoneAt asked k x.state) jobs c.loop-j.j c.index-jobs-j.result c.in_ok-job_rests.field-0
+    Decides-like false (λ each. none_of_each requested (states jobs) (each_mapped (NoneAt requested) (λ (x : JobCells). x.state) jobs each))
+    (λ none. each_unmapped (NoneAt requested) (λ (x : JobCells). x.state) jobs (each_none requested (states jobs) none))
+    (stopped_at (λ (k : ℕ) (x : JobCells). NoneAt requested k x.state) jobs c.loop-j.j c.index-jobs-j.result c.in_ok-job_rests.field-0
     (omega arith) c.index-jobs-j.is c.in_ok-job_rests.ensures.rests moves)
 
 pub loop-j-preserved : goal.loop-j-preserved
@@ -28,8 +28,8 @@ loop-j-preserved c =
 
 pub returns-clause-rest : goal.returns-clause-rest
 returns-clause-rest c =
-    let asked = first_in_job c.args.self.now.runs.now c.args.r c.args.run.now in
+    let requested = first_in_job c.args.self.now.runs.now c.args.r c.args.run.now in
     let jobs = c.args.jobs.now in
-    Decides-like true (λ each. none_of_each asked (states jobs) (each_mapped (NoneAt asked) (λ (x : JobCells). x.state) jobs each))
-    (λ none. each_unmapped (NoneAt asked) (λ (x : JobCells). x.state) jobs (each_none asked (states jobs) none))
-    (passed (λ (k : ℕ) (x : JobCells). NoneAt asked k x.state) jobs c.loop-j.j c.loop-j.invariant (omega arith))
+    Decides-like true (λ each. none_of_each requested (states jobs) (each_mapped (NoneAt requested) (λ (x : JobCells). x.state) jobs each))
+    (λ none. each_unmapped (NoneAt requested) (λ (x : JobCells). x.state) jobs (each_none requested (states jobs) none))
+    (passed (λ (k : ℕ) (x : JobCells). NoneAt requested k x.state) jobs c.loop-j.j c.loop-j.invariant (omega arith))

@@ -10,7 +10,7 @@ loop-j-preserved c =
     let new = c.list_legs.new.self in
     let lists = c.list_legs.ensures.others in (
       lists_more runs c.args.self.now old new c.loop-j.invariant.0 lists,
-      (λ stands. lists.found _ c.args.bindings.now stands (c.loop-j.invariant.1 stands)),
+      (λ is_active_holder. lists.found _ c.args.bindings.now is_active_holder (c.loop-j.invariant.1 is_active_holder)),
       job_more runs old new c.args.bindings.now c.args.r c.loop-j.j lists c.loop-j.invariant.2 c.list_legs.ensures.all,
     )
 

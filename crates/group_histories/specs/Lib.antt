@@ -1,0 +1,2 @@
+pub mod GroupHistories
+pub mod GroupHolders

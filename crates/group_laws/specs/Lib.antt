@@ -1,0 +1,4 @@
+pub mod GroupChanges
+pub mod GroupLaw
+pub mod GroupLawTest
+pub mod Names

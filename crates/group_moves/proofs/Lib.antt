@@ -1,0 +1,12 @@
+pub mod ArrivalLaw
+pub mod ArrivalTold
+pub mod ChangesTold
+pub mod GroupsKept
+pub mod HolderStatus
+pub mod HoldersOnce
+pub mod LawSoFar
+pub mod RoomMade
+pub mod RulesLaw
+pub mod SameGroups
+pub mod StopsTold
+pub mod Unbegun

@@ -1,0 +1,2 @@
+pub mod LettingGo
+pub mod RunFacts

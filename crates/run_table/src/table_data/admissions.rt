@@ -1,0 +1,45 @@
+//! Admits an event: creates its run, unless its delivery has one already.
+
+ghost use Rattle.std.specs.Prelude.{◌≡◌, ◌<◌, true, length, Ok, OnErr, IsOk};
+ghost use Rattle.wf_value.specs.Gives.{Gives};
+ghost use Rattle.run_table.specs.Sound.{IsSound};
+ghost use Rattle.run_table.specs.Step.{admission_answer, admitted, admitting, is_allocation_free, outcome};
+
+use crate::table_data::{TableData, id_of, refused};
+use run_plan::{Prepared, Reply};
+use run_states::{Holder, MAX_RUNS, Run};
+use std::alloc::Global;
+use wf_value::{Code, Refusal};
+
+impl TableData {
+    pub(super) fn admit(&mut self, alloc: Global, prepared: &Prepared) -> Result<Reply, Refusal>
+        requires { IsSound self.old }
+        ensures step { Gives (λ reply. (self.new, reply)) result (Ok (outcome (admitted self.old prepared.now))) }
+        ensures err { OnErr result (self.new ≡ self.old) }
+        ensures answers { is_allocation_free (admission_answer self.old prepared.now) ≡ true → IsOk result }
+    {
+        if let Some(place) = self.runs.position(prepared.delivery()) {
+            return Ok(Reply::Created(id_of(place)));
+        }
+        if self.runs.len() >= MAX_RUNS as usize {
+            return Ok(refused(Code::LastCounter));
+        }
+        self.enter(alloc, prepared)
+    }
+
+    /// Creates a run for the event.
+    fn enter(&mut self, alloc: Global, prepared: &Prepared) -> Result<Reply, Refusal>
+        requires sound { IsSound self.old }
+        requires few { length self.old.runs < MAX_RUNS }
+        ensures step { Gives (λ reply. (self.new, reply)) result (Ok (outcome (admitting self.old prepared.now))) }
+        ensures err { OnErr result (self.new ≡ self.old) }
+    {
+        let place = self.runs.len();
+        let run = Run::of_event(alloc, prepared)?;
+        self.runs.add(alloc, run)?;
+        let start = self.runs.resume_at_arrival(place);
+        self.runs.arrive(&Holder::Run(place));
+        self.runs.settle_from(start);
+        Ok(Reply::Created(id_of(place)))
+    }
+}

@@ -1,0 +1,57 @@
+//! Handles the loss of a runner: the leg of its lease ends.
+
+ghost use Rattle.std.specs.Prelude.{◌≡◌, true, Ok, OnErr, IsOk};
+ghost use Rattle.wf_value.specs.Gives.{Gives};
+ghost use Rattle.run_states.specs.Fitting.{OnlyAtWork};
+ghost use Rattle.run_states.specs.Groups.{HasOneEach};
+ghost use Rattle.run_table.specs.Sound.{IsSound};
+ghost use Rattle.run_states.specs.SoundRuns.{RunsAreSound};
+ghost use Rattle.run_table.specs.Step.{is_allocation_free, losing, loss_answer, lost, outcome};
+ghost use Rattle.run_states.specs.StopMoves.{with_ended};
+ghost use Rattle.run_states.specs.Stops.{outcome_of_loss};
+ghost use Rattle.run_table.specs.PlaceNamed.{place_named};
+
+use crate::runner::Runner;
+use crate::table_data::{TableData, refused};
+use run_plan::{Number, Reply, RunnerName};
+use std::alloc::Global;
+use wf_value::{Code, Refusal};
+
+impl TableData {
+    pub(super) fn lose(&mut self, alloc: Global, name: &RunnerName) -> Result<Reply, Refusal>
+        requires { IsSound self.old }
+        ensures step { Gives (λ reply. (self.new, reply)) result (Ok (outcome (lost self.old name.now))) }
+        ensures err { OnErr result (self.new ≡ self.old) }
+        ensures answers { is_allocation_free (loss_answer self.old name.now) ≡ true → IsOk result }
+    {
+        let place = self.runners.place_named(name);
+        match self.runners.at(place, name) {
+            Some(runner) => match runner.holds {
+                Some(lease) => {
+                    let runner = runner.released(alloc)?;
+                    self.end_lost(place, runner, lease)
+                }
+                None => Ok(refused(Code::LeaseNotHeld)),
+            },
+            None => Ok(refused(Code::NoRunner)),
+        }
+    }
+
+    /// Ends the leg of a lost runner's lease. `runner` is that runner, released.
+    fn end_lost(&mut self, place: usize, runner: Runner, lease: Number) -> Result<Reply, Refusal>
+        requires sound { IsSound self.old }
+        requires place { place ≡ place_named self.old.runners runner.name }
+        requires work { OnlyAtWork self.old.runs lease }
+        requires ends { RunsAreSound (with_ended lease (outcome_of_loss self.old.runs lease) self.old.runs) }
+        requires one_each { HasOneEach (with_ended lease (outcome_of_loss self.old.runs lease) self.old.runs) }
+        ensures step { Gives (λ reply. (self.new, reply)) result (Ok (outcome (losing self.old runner lease))) }
+        ensures err { OnErr result (self.new ≡ self.old) }
+    {
+        let outcome = self.outcome_of_loss(place, lease);
+        let leg = self.leg_held(place, lease);
+        self.runners.put(place, runner)?;
+        self.runs.end(leg, outcome);
+        self.runs.settle();
+        Ok(Reply::Ok)
+    }
+}

@@ -1,0 +1,62 @@
+-- Settling keeps what each rule keeps.
+use Rattle.std.specs.Prelude.{◌≡◌, ℕ, zero, suc, List, Some, None, refl}
+use Rattle.std.specs.Option.{option_map_or}
+use Rattle.run_states.specs.Moves.{Transition, and_then, without_moves}
+use Rattle.run_states.specs.Rules.{rule_at}
+use Rattle.run_states.specs.RunState.{RunState}
+use Rattle.run_states.specs.Settling.{first_place, first_rule, remaining_phases, settled_within, settled}
+use Rattle.run_states.specs.declared.place.RuleSite.{RuleSite}
+use Rattle.run_states.proofs.Optional.{from_and_then}
+use Rattle.run_states.proofs.RunFits.{RunsFit}
+use Rattle.run_states.proofs.Settles.{Settles, settles_nothing, settles_on}
+use Rattle.settling_laws.proofs.LivePlaces.{LivePlace, first_place_is_live}
+use Rattle.settling_laws.proofs.RuleKeeps.{rule_settles}
+
+pub first_rule_settles : (runs : List RunState) (m : Transition) → RunsFit runs → first_rule runs ≡ Some m → Settles runs m.runs
+first_rule_settles runs m fit h =
+    let made = from_and_then (rule_at runs) (first_place runs) m h in
+    rule_settles runs m made.value fit (first_place_is_live runs made.value made.is) made.gives
+
+pub settles_within : (n : ℕ) (runs : List RunState) → RunsFit runs → Settles runs (settled_within n runs).runs
+settles_within zero runs fit = settles_nothing runs fit
+settles_within (suc n) runs fit =
+    elim (first_rule runs) as
+    (λ o. first_rule runs ≡ o → Settles runs (option_map_or (λ m. and_then m (settled_within n)) o (without_moves runs)).runs) [
+      | None ↦ λ is. settles_nothing runs fit
+      | Some m ↦ λ is.
+          let one = first_rule_settles runs m fit is in
+          settles_on runs m.runs (settled_within n m.runs).runs one (settles_within n m.runs one.stay.fit)
+    ] refl
+
+pub settling_settles : (runs : List RunState) → RunsFit runs → Settles runs (settled runs)
+settling_settles runs fit = settles_within (remaining_phases runs) runs fit
+
+-- ---- what each rule keeps
+
+-- A rule that applies at a live place preserves the property.
+abbrev pub RulesKeep : (List RunState → Type 0) → Type 0
+RulesKeep Keeps = (runs : List RunState) (m : Transition) (place : RuleSite) → RunsFit runs → LivePlace runs place → rule_at runs place ≡ Some m
+    → Keeps runs → Keeps m.runs
+
+pub first_rule_keeps : (Keeps : List RunState → Type 0) → RulesKeep Keeps → (runs : List RunState) (m : Transition) → RunsFit runs
+    → first_rule runs ≡ Some m
+    → Keeps runs → Keeps m.runs
+first_rule_keeps Keeps each_rule runs m fit h kept =
+    let made = from_and_then (rule_at runs) (first_place runs) m h in
+    each_rule runs m made.value fit (first_place_is_live runs made.value made.is) made.gives kept
+
+keeps_within : (Keeps : List RunState → Type 0) → RulesKeep Keeps → (n : ℕ) (runs : List RunState) → RunsFit runs → Keeps runs
+    → Keeps (settled_within n runs).runs
+keeps_within Keeps each_rule zero runs fit kept = kept
+keeps_within Keeps each_rule (suc n) runs fit kept =
+    elim (first_rule runs) as
+    (λ o. first_rule runs ≡ o → Keeps (option_map_or (λ m. and_then m (settled_within n)) o (without_moves runs)).runs) [
+      | None ↦ λ is. kept
+      | Some m ↦ λ is.
+          keeps_within Keeps each_rule n m.runs (first_rule_settles runs m fit is).stay.fit
+          (first_rule_keeps Keeps each_rule runs m fit is kept)
+    ] refl
+
+pub settling_keeps : (Keeps : List RunState → Type 0) → RulesKeep Keeps → (runs : List RunState) → RunsFit runs → Keeps runs
+    → Keeps (settled runs)
+settling_keeps Keeps each_rule runs fit kept = keeps_within Keeps each_rule (remaining_phases runs) runs fit kept

@@ -1,0 +1,31 @@
+//! Laws of settling.
+
+ghost use Rattle.std.specs.Prelude.{◌≡◌, ◌<◌, ℕ, List, Some, None};
+ghost use Rattle.run_states.specs.Moves.{Transition, and_then};
+ghost use Rattle.run_states.specs.Places.{run_at};
+ghost use Rattle.run_states.specs.Rules.{IsNoArrival, rule_at, run_of_place};
+ghost use Rattle.run_states.specs.Settling.{first_place, first_rule, remaining_phases, settled, settling};
+ghost use Rattle.run_states.specs.RunState.{RunState};
+ghost use Rattle.run_states.specs.declared.place.RuleSite.{RuleSite};
+
+/// Settling terminates: each rule lowers the number of phases that the runs still have to pass.
+pub fn each_rule_lowers()
+    ensures { (runs : List RunState) (next : Transition) → first_rule runs ≡ Some next → remaining_phases next.runs < remaining_phases runs }
+{}
+
+/// After settling no rule applies.
+pub fn settled_runs_rest()
+    ensures { (runs : List RunState) → first_place (settled runs) ≡ None }
+{}
+
+/// Applying the first rule and then settling gives the same as settling.
+pub fn rules_lead_to_one_end()
+    ensures { (runs : List RunState) (next : Transition) → first_rule runs ≡ Some next → settling runs ≡ and_then next settling }
+{}
+
+/// The rule at a place changes only the run of the place, unless a leg arrives there. An arrival may end and stop holders of its group in
+/// other runs.
+pub fn rules_touch_one_run()
+    ensures { (runs : List RunState) (next : Transition) (place : RuleSite) (r : ℕ) → rule_at runs place ≡ Some next
+        → IsNoArrival runs place → (r ≡ run_of_place place → ⊥) → run_at next.runs r ≡ run_at runs r }
+{}

@@ -1,5 +1,0 @@
-use Rattle.table_laws.proofs.Packed.{packed}
-use Rattle.table_laws.proofs.laws.attempts_have_names.Goals as goal
-
-pub returns : goal.returns
-returns c = packed

@@ -1,5 +1,0 @@
-use Rattle.table_laws.proofs.HistoryLaw.{group_keeps_law}
-use Rattle.table_laws.proofs.laws.every_group_keeps_its_law.Goals as goal
-
-pub returns : goal.returns
-returns c = group_keeps_law

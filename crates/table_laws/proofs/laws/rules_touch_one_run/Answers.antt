@@ -1,5 +1,0 @@
-use Rattle.table_laws.proofs.OwnRun.{own_run_alone}
-use Rattle.table_laws.proofs.laws.rules_touch_one_run.Goals as goal
-
-pub returns : goal.returns
-returns c = λ runs next place r is plain other. own_run_alone runs next place r is plain other

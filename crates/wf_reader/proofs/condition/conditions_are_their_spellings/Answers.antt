@@ -1,5 +1,0 @@
-use Rattle.wf_reader.proofs.ConditionTexts.{spelled}
-use Rattle.wf_reader.proofs.condition.conditions_are_their_spellings.Goals as goal
-
-pub returns : goal.returns
-returns c = spelled

@@ -1,0 +1,10 @@
+use Rattle.std.proofs.Common.{◌≡◌, string_bytes}
+use Rattle.std.specs.List.{list_all}
+use Rattle.wf_reader.specs.Strategy.{is_strategy_name}
+use Rattle.wf_reader.proofs.strategy.has_strategy_names.Given as goal
+
+-- the names so far are members of a strategy
+abbrev pub invariant-loop-name : goal.invariant-loop-name
+invariant-loop-name l =
+    list_all (λ e. is_strategy_name (string_bytes e.0)) l.members.entries
+    ≡ list_all (λ e. is_strategy_name (string_bytes e.0)) l.name-iterator
