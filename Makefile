@@ -3,7 +3,7 @@
 ACTS := crates/acts/out/acts
 FIRST := crates/first_run
 
-.PHONY: first-run test names build install example serve-example bench gate sweep hostile compared stops-over-a-file wrong-bodies tested-bodies definitions
+.PHONY: first-run test names build install example serve-example bench gate sweep hostile compared crashes-over-a-file wrong-bodies tested-bodies definitions
 
 # Plays the example by a trial run, and prints each line of the script with its answer. A trial interprets the program before it compiles it,
 # and the interpreter can't answer here, since the program reads its input; with `--steps 1` that costs one step instead of some seconds.
@@ -76,9 +76,9 @@ compared: build
 	sweeps/all $(ACTS) compared
 
 # Crashes of a store in a file, by programs that are proved first: each write and sync failing in turn, and `kill -9`. Needs a C compiler.
-stops-over-a-file:
-	sweeps/stops/file.sh
-	sweeps/stops/killed.sh
+crashes-over-a-file:
+	sweeps/crashes/file.sh
+	sweeps/crashes/killed.sh
 
 # The wrong bodies beyond those of the gate: of all crates, of CRATE, or a single one with CRATE=NAME/EDIT.
 wrong-bodies:

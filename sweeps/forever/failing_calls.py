@@ -1,6 +1,6 @@
 """Services over the same file, one after the other, each with a write or a sync that fails at random under load.
 
-`sweeps/stops/failing.c` fails the call with a given number, alone or with all after it, and of a write nothing or half is written. Each client that
+`sweeps/crashes/failing.c` fails the call with a given number, alone or with all after it, and of a write nothing or half is written. Each client that
 has asked before has to get its reply, 51 or 52; the service ends by itself with 51 or 52, status 1, within seconds; and the next one opens the
 file.
 """
@@ -45,7 +45,7 @@ def meet(acts, path, load, dice, settings):
 
 def check(acts, folder, amount):
     dice, path, ends, slowest, refused = random.Random(amount.seed), os.path.join(folder, 'store'), collections.Counter(), 0.0, 0
-    shim, stores, failed = served.library(os.path.join(HERE, '../stops/failing.c'), folder), 0, 0
+    shim, stores, failed = served.library(os.path.join(HERE, '../crashes/failing.c'), folder), 0, 0
     while failed < amount.faults:
         load, stores = Load(f'{amount.seed} fault {stores}'), stores + 1
         served.init(acts, path, AREA)

@@ -3,8 +3,9 @@ ghost use Rattle.std.specs.Prelude.{◌≡◌, []};
 
 use crate::holds::holds;
 use crate::lines::{Session, session, settled};
-use crate::stores::{command, expect_answer, store_in_memory};
-use act_desk::{Desk, Free, Ledgers, Named, Pending, Seat, Settled, flusher, serve_all};
+use crate::seats::{cover, enter, look};
+use crate::stores::{expect_answer, store_in_memory};
+use act_desk::{Desk, Free, Ledgers, Named, Seat, Settled, flusher, serve_all};
 use act_disk::MemoryDisk;
 use act_sessions::{Ending, Transcript};
 use act_store::Store;
@@ -15,7 +16,6 @@ use std::sync::ledger::Ledger;
 use std::sync::{Mutex, Wait};
 use std::thread::Threads;
 use std::time::Clock;
-use tests_common::commands::Words;
 
 /// The byte of an open area gate, and the offset of the second area's gate with areas of 4,096 bytes.
 const OPEN: u8 = 0xA5;
@@ -26,28 +26,6 @@ const SECOND: usize = 4_096;
 const FETCH: &str = "FETCH 9\n";
 
 const REFUSED: &str = "refused 40\n";
-
-fn enter<E: Named, T: Ledger>(
-    rt: &(impl Wait + Clock + Abort),
-    alloc: Global,
-    desk: &Desk<MemoryDisk, E, T>,
-    seat: &mut Seat<E, T>,
-) -> Pending<E> {
-    let look = command(rt, alloc, &Words::Look("1"));
-    desk.enter(rt, alloc, seat, look).expect(rt, "entered")
-}
-
-/// Enters a look-up of a run that does not exist, and covers it.
-fn look<E: Named, T: Ledger>(
-    rt: &(impl Wait + Clock + Abort),
-    alloc: Global,
-    desk: &Desk<MemoryDisk, E, T>,
-    seat: &mut Seat<E, T>,
-) {
-    let pending = enter(rt, alloc, desk, seat);
-    let answer = desk.cover(rt, seat, pending);
-    expect_answer(rt, alloc, &answer, "refused 40");
-}
 
 /// A seat that makes `count` look-ups.
 fn seat_after_looks<E: Named, T: Ledger>(
@@ -144,8 +122,7 @@ fn cover_pending<E: Named, T: Ledger, R: Wait + Clock + Abort>(
     let mut seat = seat_after_looks(rt, alloc, &desk, 150);
     let pending = enter(rt, alloc, &desk, &mut seat);
     holds!(rt; checkpoints_made(rt, alloc, &desk) == 1);
-    let answer = desk.cover(rt, &mut seat, pending);
-    expect_answer(rt, alloc, &answer, "refused 40");
+    cover(rt, alloc, &desk, &mut seat, pending);
     holds!(rt; desk.give_back(seat) == (151, 151));
     let store = desk.into_store();
     holds!(rt; store.covered() == 151);

@@ -112,7 +112,8 @@ fn a_desk_has_64_seats(rt: HostRuntime) {
     all_seats::<Brand, Brand, HostRuntime>(&rt, rt.alloc(), Ledgers::new());
 }
 
-fn enter<E: Named, T: Ledger>(
+/// Enters a look-up of a run that does not exist.
+pub fn enter<E: Named, T: Ledger>(
     rt: &(impl Wait + Clock + Abort),
     alloc: Global,
     desk: &Desk<MemoryDisk, E, T>,
@@ -122,7 +123,8 @@ fn enter<E: Named, T: Ledger>(
     desk.enter(rt, alloc, seat, look).expect(rt, "entered")
 }
 
-fn cover<E: Named, T: Ledger>(
+/// Covers such a look-up, and checks its answer.
+pub fn cover<E: Named, T: Ledger>(
     rt: &(impl Wait + Clock + Abort),
     alloc: Global,
     desk: &Desk<MemoryDisk, E, T>,
@@ -131,6 +133,17 @@ fn cover<E: Named, T: Ledger>(
 ) {
     let answer = desk.cover(rt, seat, pending);
     expect_answer(rt, alloc, &answer, "refused 40");
+}
+
+/// Enters a look-up of a run that does not exist, and covers it.
+pub fn look<E: Named, T: Ledger>(
+    rt: &(impl Wait + Clock + Abort),
+    alloc: Global,
+    desk: &Desk<MemoryDisk, E, T>,
+    seat: &mut Seat<E, T>,
+) {
+    let pending = enter(rt, alloc, desk, seat);
+    cover(rt, alloc, desk, seat, pending);
 }
 
 /// Three seats enter a look-up each. The first one to cover writes all three. Before the others cover, a fourth seat enters and covers one
@@ -218,8 +231,7 @@ fn long_history<E: Named, T: Ledger, R: Wait + Clock + Abort>(
     let desk: Desk<MemoryDisk, E, T> = Desk::new(store, ledgers);
     let mut seat = seat_of(rt, &desk, 0);
     for _ in 0..ENTRIES {
-        let pending = enter(rt, alloc, &desk, &mut seat);
-        cover(rt, alloc, &desk, &mut seat, pending);
+        look(rt, alloc, &desk, &mut seat);
     }
     holds!(rt; desk.give_back(seat) == (ENTRIES, ENTRIES));
     let (store, whole) = desk.into_parts();

@@ -2,15 +2,15 @@
 
 use crate::disk_calls::{DiskCall, Row, play};
 use crate::holds::{expect_bytes, holds};
-use act_disk::{FileDisk, ScriptedFile, Turn};
+use act_disk::{FileDisk, ScriptedCall, ScriptedFile};
 use std::alloc::Global;
 use std::process::Abort;
 use wf_value::{Code, Refusal};
 
 /// A disk over a file whose calls follow the script.
-fn scripted(rt: &impl Abort, alloc: Global, script: &[Turn]) -> FileDisk<ScriptedFile> {
-    let turns = script.to_vec(alloc).expect(rt, "turns");
-    FileDisk::over(ScriptedFile::new(alloc, turns)).expect(rt, "a disk")
+fn scripted(rt: &impl Abort, alloc: Global, script: &[ScriptedCall]) -> FileDisk<ScriptedFile> {
+    let scripted_calls = script.to_vec(alloc).expect(rt, "turns");
+    FileDisk::over(ScriptedFile::new(alloc, scripted_calls)).expect(rt, "a disk")
 }
 
 /// Makes the calls, and compares the number of calls on the file and the file's bytes.
@@ -18,29 +18,29 @@ fn expect_played(
     rt: &impl Abort,
     mut disk: FileDisk<ScriptedFile>,
     rows: &[Row],
-    turns: usize,
+    scripted_calls: usize,
     bytes: &[u8],
 ) {
     play(rt, &mut disk, rows);
     let file = disk.into_file();
-    holds!(rt; file.turns() == turns);
+    holds!(rt; file.scripted_calls() == scripted_calls);
     expect_bytes(rt, file.bytes(), bytes);
 }
 
 /// The length, a write of six bytes in three calls, a sync, a read of four bytes in two calls, and four further steps, so that later calls
 /// are counted too.
-const TURNS: &[Turn] = &[
-    Turn::Whole,
-    Turn::Short(2),
-    Turn::Short(2),
-    Turn::Whole,
-    Turn::Whole,
-    Turn::Short(3),
-    Turn::Whole,
-    Turn::Whole,
-    Turn::Whole,
-    Turn::Whole,
-    Turn::Whole,
+const SCRIPTED_CALLS: &[ScriptedCall] = &[
+    ScriptedCall::Whole,
+    ScriptedCall::Short(2),
+    ScriptedCall::Short(2),
+    ScriptedCall::Whole,
+    ScriptedCall::Whole,
+    ScriptedCall::Short(3),
+    ScriptedCall::Whole,
+    ScriptedCall::Whole,
+    ScriptedCall::Whole,
+    ScriptedCall::Whole,
+    ScriptedCall::Whole,
 ];
 
 const WRITTEN_AND_READ: &[Row] = &[
@@ -51,16 +51,16 @@ const WRITTEN_AND_READ: &[Row] = &[
 
 #[test]
 fn short_reads_and_writes_are_continued(rt: HostRuntime) {
-    let disk = scripted(&rt, rt.alloc(), TURNS);
+    let disk = scripted(&rt, rt.alloc(), SCRIPTED_CALLS);
     expect_played(&rt, disk, WRITTEN_AND_READ, 7, b"abcdef");
 }
 
 /// The steps, with two interruptions inserted at this place.
 fn interrupted_at(rt: &impl Abort, alloc: Global, index: usize) -> FileDisk<ScriptedFile> {
-    let mut script = TURNS.to_vec(alloc).expect(rt, "turns");
+    let mut script = SCRIPTED_CALLS.to_vec(alloc).expect(rt, "turns");
     for _ in 0..2 {
         holds!(rt; index <= script.len());
-        holds!(rt; script.insert(index, Turn::Interrupted).is_ok());
+        holds!(rt; script.insert(index, ScriptedCall::Interrupted).is_ok());
     }
     scripted(rt, alloc, &script)
 }
@@ -75,16 +75,18 @@ fn interrupted_calls_are_retried(rt: HostRuntime) {
 
 /// The steps, with a failure at this place.
 fn failing_at(rt: &impl Abort, alloc: Global, index: usize) -> FileDisk<ScriptedFile> {
-    let mut script = TURNS.to_vec(alloc).expect(rt, "turns");
+    let mut script = SCRIPTED_CALLS.to_vec(alloc).expect(rt, "turns");
     holds!(rt; index < script.len());
-    script[index] = Turn::Failed;
+    script[index] = ScriptedCall::Failed;
     scripted(rt, alloc, &script)
 }
 
 #[test]
 fn a_failed_length_call_is_refused_with_61(rt: HostRuntime) {
-    let turns = [Turn::Failed].to_vec(rt.alloc()).expect(&rt, "turns");
-    let opened = FileDisk::over(ScriptedFile::new(rt.alloc(), turns));
+    let scripted_calls = [ScriptedCall::Failed]
+        .to_vec(rt.alloc())
+        .expect(&rt, "turns");
+    let opened = FileDisk::over(ScriptedFile::new(rt.alloc(), scripted_calls));
     holds!(rt; matches!(opened, Err(Refusal::Numbered(Code::StreamFailed))));
 }
 
@@ -111,9 +113,9 @@ const FAILED_WRITES: &[(usize, usize, &[Row], &[u8])] = &[
 
 #[test]
 fn no_file_call_follows_a_failed_write(rt: HostRuntime) {
-    for (index, turns, rows, bytes) in FAILED_WRITES {
+    for (index, scripted_calls, rows, bytes) in FAILED_WRITES {
         let disk = failing_at(&rt, rt.alloc(), *index);
-        expect_played(&rt, disk, rows, *turns, bytes);
+        expect_played(&rt, disk, rows, *scripted_calls, bytes);
     }
 }
 
@@ -146,9 +148,9 @@ const FAILED_READ_AT: &[(usize, usize)] = &[(5, 9), (6, 10)];
 
 #[test]
 fn a_disk_works_after_a_failed_read(rt: HostRuntime) {
-    for &(index, turns) in FAILED_READ_AT {
+    for &(index, scripted_calls) in FAILED_READ_AT {
         let disk = failing_at(&rt, rt.alloc(), index);
-        expect_played(&rt, disk, FAILED_READ, turns, b"abcdefg");
+        expect_played(&rt, disk, FAILED_READ, scripted_calls, b"abcdefg");
     }
 }
 
@@ -161,8 +163,20 @@ const NOT_GROWN: &[Row] = &[(DiskCall::Write(3, b""), false, 1, 0)];
 
 #[test]
 fn an_empty_write_past_the_end_extends_the_file(rt: HostRuntime) {
-    let disk = scripted(&rt, rt.alloc(), &[Turn::Whole, Turn::Interrupted]);
+    let disk = scripted(
+        &rt,
+        rt.alloc(),
+        &[ScriptedCall::Whole, ScriptedCall::Interrupted],
+    );
     expect_played(&rt, disk, GROWN, 2, &[0, 0, 0]);
-    let disk = scripted(&rt, rt.alloc(), &[Turn::Whole, Turn::Failed, Turn::Whole]);
+    let disk = scripted(
+        &rt,
+        rt.alloc(),
+        &[
+            ScriptedCall::Whole,
+            ScriptedCall::Failed,
+            ScriptedCall::Whole,
+        ],
+    );
     expect_played(&rt, disk, NOT_GROWN, 2, &[]);
 }

@@ -5,7 +5,7 @@ use crate::holds::holds;
 use crate::process::{Page, Process};
 use acts_cli::run;
 use acts_ops::MAX_BYTES;
-use std::alloc::Global;
+use std::alloc::{AllocError, Global};
 use std::net::{Net, TcpListener, TcpStream};
 use std::process::{Abort, ExitCode};
 use std::sync::Wait;
@@ -17,13 +17,23 @@ use tests_common::long_texts::repeated;
 /// one.
 type Exit<'a> = (u8, Option<&'a str>, Option<&'a str>);
 
-/// Runs `acts` with these words and this input. Standard output has room for `room` bytes.
+/// The words of a command line.
+fn words_of(alloc: Global, line: &str) -> Result<Vec<&str>, AllocError> {
+    let mut words = Vec::new(alloc);
+    for word in line.split(' ') {
+        words.push(word)?;
+    }
+    Ok(words)
+}
+
+/// Runs `acts` with this command line and this input. Standard output has room for `room` bytes.
 fn expect<
     S: Abort + Threads + Wait + Clock + Sync + Net<Listener = TcpListener, Stream = TcpStream>,
->(rt: &S, alloc: Global, words: &[&str], input: &str, room: usize, exit: Exit<'_>) {
+>(rt: &S, alloc: Global, line: &str, input: &str, room: usize, exit: Exit<'_>) {
+    let words = words_of(alloc, line).expect(rt, "memory");
     let process = Process {
         alloc,
-        words,
+        words: words.as_slice(),
         input: input.as_bytes(),
         out: Page::new(alloc, room),
         err: Page::new(alloc, 10_000),
@@ -47,13 +57,13 @@ fn is_as_wanted(page: Page, want: Option<&str>) -> bool {
     }
 }
 
-const PLAY: &[&str] = &["acts", "play"];
+const PLAY: &str = "acts play";
 
-const HELP: &[&str] = &["acts", "--help"];
+const HELP: &str = "acts --help";
 
-const CHECK: &[&str] = &["acts", "check"];
+const CHECK: &str = "acts check";
 
-const LINT: &[&str] = &["acts", "lint"];
+const LINT: &str = "acts lint";
 
 /// A workflow with a fault in its name and one in its job.
 const FAULTY: &str = "{\"name\":5,\"jobs\":{\"build\":{\"runs-on\":[\"x\",5]}}}";
@@ -64,32 +74,11 @@ const FAULTS_FOUND: &str = concat!(
 );
 
 /// The largest hook port and number of sessions, and the smallest runner port.
-const SERVE: &[&str] = &[
-    "acts",
-    "serve",
-    "store",
-    "--hook-port",
-    "65535",
-    "--runner-port",
-    "1",
-    "--sessions",
-    "32",
-];
+const SERVE: &str = "acts serve store --hook-port 65535 --runner-port 1 --sessions 32";
 
 /// The largest number of rounds.
-const ROUNDS: &[&str] = &[
-    "acts",
-    "serve",
-    "store",
-    "--hook-port",
-    "8080",
-    "--runner-port",
-    "8081",
-    "--sessions",
-    "1",
-    "--rounds",
-    "18446744073709551615",
-];
+const ROUNDS: &str =
+    "acts serve store --hook-port 8080 --runner-port 8081 --sessions 1 --rounds 18446744073709551615";
 
 /// The explanation of a refusal's number, with an input that gets it.
 const EXPLAINED: &str = concat!(
@@ -98,118 +87,58 @@ const EXPLAINED: &str = concat!(
     "What helps: name one label at least, as \"runs-on\":\"linux\".\n",
 );
 
-/// Words, the room on standard output, and the result over the first script. The status is 0 on success and after a
-/// help text, and 1 otherwise.
-const ROWS: &[(&[&str], usize, Exit<'static>)] = &[
+/// A command line, the room on standard output, and the result over the first script. The status is 0 on success and after a help
+/// text, and 1 otherwise.
+const ROWS: &[(&str, usize, Exit<'static>)] = &[
     (PLAY, 10_000, (0, Some(FIRST_ANSWERS), Some(""))),
     (HELP, 10_000, (0, None, Some(""))),
     (HELP, 0, REFUSED_61),
     (
-        &["acts", "--version"],
+        "acts --version",
         10_000,
         (0, Some("acts 0.1.0 (no commit named)\n"), Some("")),
     ),
-    (
-        &["acts", "explain", "15"],
-        10_000,
-        (0, Some(EXPLAINED), Some("")),
-    ),
-    (&["acts", "init", "store", "4096"], 10_000, REFUSED_61),
-    (&["acts", "init", "store", "1073741824"], 10_000, REFUSED_61),
-    (&["acts", "show", "store"], 10_000, REFUSED_61),
-    (
-        &["acts", "show", "store", "999999999", "--json"],
-        10_000,
-        REFUSED_61,
-    ),
-    (&["acts", "runners", "store"], 10_000, REFUSED_61),
-    (&["acts", "queue", "--json", "store"], 10_000, REFUSED_61),
+    ("acts explain 15", 10_000, (0, Some(EXPLAINED), Some(""))),
+    ("acts init store 4096", 10_000, REFUSED_61),
+    ("acts init store 1073741824", 10_000, REFUSED_61),
+    ("acts show store", 10_000, REFUSED_61),
+    ("acts show store 999999999 --json", 10_000, REFUSED_61),
+    ("acts runners store", 10_000, REFUSED_61),
+    ("acts queue --json store", 10_000, REFUSED_61),
     (SERVE, 10_000, REFUSED_61),
     (ROUNDS, 10_000, REFUSED_61),
 ];
 
-/// Words that are no command line of `acts`.
-const USAGE_ERRORS: &[&[&str]] = &[
-    &["acts"],
-    &["acts", "serve"],
-    &["acts", "play", "script"],
-    &["acts", "check", "workflow"],
-    &["acts", "lint", "workflow"],
-    &["acts", "--verbose", "play"],
-    &["acts", "explain"],
-    &["acts", "explain", "17", "18"],
-    &["acts", "explain", "9"],
-    &["acts", "explain", "017"],
-    &["acts", "explain", "refused"],
-    &["acts", "init", "store", "4095"],
-    &["acts", "init", "store", "1073741825"],
-    &["acts", "init", "store"],
-    &["acts", "show"],
-    &["acts", "show", "store", "0"],
-    &["acts", "show", "store", "1000000000"],
-    &["acts", "show", "store", "1", "2"],
-    &["acts", "runners"],
-    &["acts", "runners", "store", "r1"],
-    &["acts", "queue"],
-    &["acts", "queue", "store", "--text"],
-    &["acts", "serve", "store", "--hook-port", "8080"],
-    &[
-        "acts",
-        "serve",
-        "store",
-        "--hook-port",
-        "0",
-        "--runner-port",
-        "8081",
-        "--sessions",
-        "1",
-    ],
-    &[
-        "acts",
-        "serve",
-        "store",
-        "--hook-port",
-        "8080",
-        "--runner-port",
-        "65536",
-        "--sessions",
-        "1",
-    ],
-    &[
-        "acts",
-        "serve",
-        "store",
-        "--hook-port",
-        "8080",
-        "--runner-port",
-        "8081",
-        "--sessions",
-        "0",
-    ],
-    &[
-        "acts",
-        "serve",
-        "store",
-        "--hook-port",
-        "8080",
-        "--runner-port",
-        "8081",
-        "--sessions",
-        "33",
-    ],
-    &[
-        "acts",
-        "serve",
-        "store",
-        "--hook-port",
-        "8080",
-        "--runner-port",
-        "8081",
-        "--sessions",
-        "1",
-        "--rounds",
-        "0",
-    ],
+/// Command lines that `acts` does not have.
+const USAGE_ERRORS: &[&str] = &[
+    "acts",
+    "acts serve",
+    "acts play script",
+    "acts check workflow",
+    "acts lint workflow",
+    "acts --verbose play",
+    "acts explain",
+    "acts explain 17 18",
+    "acts explain 9",
+    "acts explain 017",
+    "acts explain refused",
+    "acts init store 4095",
+    "acts init store 1073741825",
+    "acts init store",
+    "acts show",
+    "acts show store 0",
+    "acts show store 1000000000",
+    "acts show store 1 2",
+    "acts runners",
+    "acts runners store r1",
+    "acts queue",
+    "acts queue store --text",
+    "acts serve store --hook-port 8080",
+    "acts serve store --hook-port 0 --runner-port 8081 --sessions 1",
+    "acts serve store --hook-port 8080 --runner-port 65536 --sessions 1",
+    "acts serve store --hook-port 8080 --runner-port 8081 --sessions 0",
+    "acts serve store --hook-port 8080 --runner-port 8081 --sessions 33",
+    "acts serve store --hook-port 8080 --runner-port 8081 --sessions 1 --rounds 0",
 ];
 
 /// Status 1 after a refusal, which is printed on standard error: output that does not fit on a page, or a file that
@@ -221,15 +150,15 @@ const USAGE_ERROR: Exit<'static> = (2, Some(""), None);
 
 #[test]
 fn a_command_exits_with_its_status(rt: HostRuntime) {
-    for &(words, room, exit) in ROWS {
-        expect(&rt, rt.alloc(), words, FIRST, room, exit);
+    for &(line, room, exit) in ROWS {
+        expect(&rt, rt.alloc(), line, FIRST, room, exit);
     }
 }
 
 #[test]
 fn a_command_line_error_exits_with_2(rt: HostRuntime) {
-    for words in USAGE_ERRORS {
-        expect(&rt, rt.alloc(), words, "look 1\n", 10_000, USAGE_ERROR);
+    for &line in USAGE_ERRORS {
+        expect(&rt, rt.alloc(), line, "look 1\n", 10_000, USAGE_ERROR);
     }
 }
 
@@ -275,10 +204,18 @@ const NUMBERS: &[&str] = &[
 
 #[test]
 fn each_refusal_number_is_explained(rt: HostRuntime) {
+    let alloc = rt.alloc();
     for &number in NUMBERS {
-        let words = ["acts", "explain", number];
-        expect(&rt, rt.alloc(), &words, FIRST, 10_000, (0, None, Some("")));
-        expect(&rt, rt.alloc(), &words, FIRST, 10, REFUSED_61);
+        let line = format!(in alloc; "acts explain {number}").expect(&rt, "memory");
+        expect(
+            &rt,
+            alloc,
+            line.as_str(),
+            FIRST,
+            10_000,
+            (0, None, Some("")),
+        );
+        expect(&rt, alloc, line.as_str(), FIRST, 10, REFUSED_61);
     }
 }
 

@@ -1,11 +1,11 @@
 //! The end of a session. Whatever a client has sent after it, the client reads the last answers and then the end of the
 //! stream. A client that does not close holds no seat.
 
-use crate::clients::{BODY, POST};
+use crate::clients::{BODY, POST, listeners};
 use crate::service::serve;
 use std::alloc::Global;
 use std::io::{Read, Write};
-use std::net::{Net, SocketAddr, TcpListener, TcpStream};
+use std::net::{Net, SocketAddr, TcpStream};
 use std::test::Fail;
 use std::{io, thread};
 
@@ -98,10 +98,8 @@ fn run_clients<R: Net<Stream = TcpStream>>(
 #[test]
 fn clients_read_their_last_answers(rt: HostRuntime) -> Result<(), Fail> {
     let alloc: Global = rt.alloc();
-    let hooks = TcpListener::bind(&rt, "127.0.0.1:0")?;
-    let runners = TcpListener::bind(&rt, "127.0.0.1:0")?;
-    let to_hooks = hooks.local_addr()?;
-    let to_runners = runners.local_addr()?;
+    let (hooks, runners, ports) = listeners(&rt)?;
+    let (to_hooks, to_runners) = (ports.hooks, ports.runners);
     let mut out: Vec<u8> = Vec::new(alloc);
     let rt = &rt;
     let ended = thread::scope(thread::scope_env(), rt, |scope| {
@@ -132,10 +130,8 @@ fn is_cut_off<R: Net<Stream = TcpStream>>(rt: &R, to: SocketAddr) -> io::Result<
 #[test]
 fn clients_that_do_not_close_hold_no_seat(rt: HostRuntime) -> Result<(), Fail> {
     let alloc: Global = rt.alloc();
-    let hooks = TcpListener::bind(&rt, "127.0.0.1:0")?;
-    let runners = TcpListener::bind(&rt, "127.0.0.1:0")?;
-    let to_hooks = hooks.local_addr()?;
-    let to_runners = runners.local_addr()?;
+    let (hooks, runners, ports) = listeners(&rt)?;
+    let (to_hooks, to_runners) = (ports.hooks, ports.runners);
     let mut out: Vec<u8> = Vec::new(alloc);
     let rt = &rt;
     let ended = thread::scope(thread::scope_env(), rt, |scope| {

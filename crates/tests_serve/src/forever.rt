@@ -1,12 +1,12 @@
 //! A service without end, with one seat on each port: the clients of a port share it, and their sessions continue over
 //! its histories.
 
-use crate::clients::{BODY, CREATED, POST, is_answered};
+use crate::clients::{BODY, CREATED, LOOK, POST, Ports, SEEN, is_answered, listeners};
 use crate::service::{Lines, serve_until_output_fails};
 use acts_serve::Limits;
 use std::alloc::Global;
 use std::io::{Read, Write};
-use std::net::{Net, SocketAddr, TcpListener, TcpStream};
+use std::net::{Net, SocketAddr, TcpStream};
 use std::test::Fail;
 use std::time::Duration;
 use std::{io, thread};
@@ -14,34 +14,9 @@ use std::{io, thread};
 /// How long a client waits at most for an answer, in seconds.
 const TIMEOUT: u64 = 20;
 
-const LOOK: &str = "GET /runs/1 HTTP/1.1\r\n\r\n";
-
-const SEEN: &str =
-    "HTTP/1.1 200 OK\r\nContent-Type: text/plain\r\nContent-Length: 49\r\n\r\nrun 1 1 completed success build:success(success)\n";
-
 const FETCH: &str = "FETCH 9\n";
 
 const UNKNOWN: &str = "refused 40\n";
-
-/// The ports of a service.
-#[derive(Clone, Copy)]
-struct Ports {
-    hooks: SocketAddr,
-    runners: SocketAddr,
-}
-
-/// Listeners on free ports, and their addresses.
-fn listeners<R: Net<Listener = TcpListener, Stream = TcpStream>>(
-    rt: &R,
-) -> io::Result<(TcpListener, TcpListener, Ports)> {
-    let hooks = TcpListener::bind(rt, "127.0.0.1:0")?;
-    let runners = TcpListener::bind(rt, "127.0.0.1:0")?;
-    let ports = Ports {
-        hooks: hooks.local_addr()?,
-        runners: runners.local_addr()?,
-    };
-    Ok((hooks, runners, ports))
-}
 
 /// A history of so many commands, in which no client is closed for silence.
 fn limits(commands: u64) -> Limits {

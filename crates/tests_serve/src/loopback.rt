@@ -1,6 +1,6 @@
 //! One client of each port, in threads of the test's process, which work alternately.
 
-use crate::clients::{BODY, CREATED, POST, is_answered};
+use crate::clients::{BODY, CREATED, LOOK, POST, SEEN, is_answered, listeners};
 use act_disk::MemoryDisk;
 use act_store::Store;
 use acts_serve::serve_on;
@@ -12,11 +12,6 @@ use std::test::Fail;
 use std::thread::Threads;
 use std::time::Clock;
 use std::{io, thread};
-
-const LOOK: &str = "GET /runs/1 HTTP/1.1\r\n\r\n";
-
-const SEEN: &str =
-    "HTTP/1.1 200 OK\r\nContent-Type: text/plain\r\nContent-Length: 49\r\n\r\nrun 1 1 completed success build:success(success)\n";
 
 /// Posts an event, lets the runner work, and looks at the run.
 fn hook<R: Net<Stream = TcpStream> + Wait>(
@@ -66,10 +61,8 @@ fn serve<R: Threads + Wait + Clock + Sync>(
 #[test]
 fn serves_one_client_on_each_port(rt: HostRuntime) -> Result<(), Fail> {
     let alloc: Global = rt.alloc();
-    let hooks = TcpListener::bind(&rt, "127.0.0.1:0")?;
-    let runners = TcpListener::bind(&rt, "127.0.0.1:0")?;
-    let to_hooks = hooks.local_addr()?;
-    let to_runners = runners.local_addr()?;
+    let (hooks, runners, ports) = listeners(&rt)?;
+    let (to_hooks, to_runners) = (ports.hooks, ports.runners);
     let (to_runner, runner_signal) = crossbeam_channel::bounded(alloc, 1)?;
     let (to_hook, hook_signal) = crossbeam_channel::bounded(alloc, 1)?;
     let mut out: Vec<u8> = Vec::new(alloc);

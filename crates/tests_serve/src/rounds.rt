@@ -1,11 +1,11 @@
 //! Rounds of sessions over loopback. Each continues from the table that the one before has left, and a failed stream
 //! ends no round.
 
-use crate::clients::{BODY, CREATED, POST, is_answered};
+use crate::clients::{BODY, CREATED, POST, is_answered, listeners};
 use crate::service::serve;
 use std::alloc::Global;
 use std::io::Write;
-use std::net::{Net, SocketAddr, TcpListener, TcpStream};
+use std::net::{Net, SocketAddr, TcpStream};
 use std::test::Fail;
 use std::{io, thread};
 
@@ -42,10 +42,8 @@ const RUNNER: &[(&[&str], &str)] = &[
 #[test]
 fn serves_two_rounds(rt: HostRuntime) -> Result<(), Fail> {
     let alloc: Global = rt.alloc();
-    let hooks = TcpListener::bind(&rt, "127.0.0.1:0")?;
-    let runners = TcpListener::bind(&rt, "127.0.0.1:0")?;
-    let to_hooks = hooks.local_addr()?;
-    let to_runners = runners.local_addr()?;
+    let (hooks, runners, ports) = listeners(&rt)?;
+    let (to_hooks, to_runners) = (ports.hooks, ports.runners);
     let mut out: Vec<u8> = Vec::new(alloc);
     let rt = &rt;
     let ended = thread::scope(thread::scope_env(), rt, |scope| {
@@ -76,10 +74,8 @@ fn run_clients_after_a_reset<R: Net<Stream = TcpStream>>(
 #[test]
 fn a_failed_stream_does_not_end_its_round(rt: HostRuntime) -> Result<(), Fail> {
     let alloc: Global = rt.alloc();
-    let hooks = TcpListener::bind(&rt, "127.0.0.1:0")?;
-    let runners = TcpListener::bind(&rt, "127.0.0.1:0")?;
-    let to_hooks = hooks.local_addr()?;
-    let to_runners = runners.local_addr()?;
+    let (hooks, runners, ports) = listeners(&rt)?;
+    let (to_hooks, to_runners) = (ports.hooks, ports.runners);
     let mut out: Vec<u8> = Vec::new(alloc);
     let rt = &rt;
     let ended = thread::scope(thread::scope_env(), rt, |scope| {

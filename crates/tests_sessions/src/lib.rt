@@ -1,8 +1,8 @@
-//! Tests of sessions, over fakes and over a store that no one else uses. No other crate depends on this one.
+//! Tests of sessions, over a fake and over a store that no one else uses. No other crate depends on this one.
 #![tactic(auto)]
 
 #[cfg(test)]
-mod runner_fake;
+mod outcomes;
 #[cfg(test)]
 mod runner_faults;
 #[cfg(test)]
@@ -10,9 +10,9 @@ mod runner_plain;
 #[cfg(test)]
 mod runner_rows;
 #[cfg(test)]
-mod webhook_bounds;
+mod service_fake;
 #[cfg(test)]
-mod webhook_fakes;
+mod webhook_bounds;
 #[cfg(test)]
 mod webhook_faults;
 #[cfg(test)]

@@ -1,12 +1,13 @@
 //! Runner sessions whose reader or writer fails at each byte.
 
-use crate::runner_fake::Service;
+use crate::outcomes::{expect_broken, expect_logged};
 use crate::runner_rows::{ANSWERS, LINES};
-use crate::webhook_fakes::{Bounded, Pieces};
-use act_sessions::{Ending, Transcript};
+use crate::service_fake::Service;
+use act_sessions::Transcript;
 use runner_sessions::Session;
 use std::alloc::Global;
 use std::process::Abort;
+use tests_common::streams::{Bounded, Pieces};
 
 /// Where each answer begins, and how many commands are submitted by then. A faulty line submits none.
 const ANSWERED: [(usize, usize); 5] = [(0, 1), (21, 2), (32, 3), (38, 3), (49, 4)];
@@ -30,20 +31,8 @@ fn broken(
     let mut reader = reader;
     let mut writer = Bounded::new(alloc, taken);
     let mut service = Service::new(alloc);
-    match Session::run(alloc, &mut reader, &mut writer, &mut service) {
-        Ok(_) => panic!(rt; "it broke"),
-        Err(fault) => {
-            assert!(rt; fault.transcript.ending == Ending::Broken);
-            assert!(rt; fault.refusal().number() == 61);
-            (fault.transcript, writer.bytes, service.count())
-        }
-    }
-}
-
-/// Checks that a transcript lists what was submitted and counts what was written.
-fn expect_logged(rt: &impl Abort, transcript: &Transcript, written: &[u8], submitted: usize) {
-    assert!(rt; transcript.asked.len() == submitted);
-    assert!(rt; transcript.written == written.len() as u64);
+    let ended = Session::run(alloc, &mut reader, &mut writer, &mut service);
+    (expect_broken(rt, ended), writer.bytes, service.count())
 }
 
 /// How many bytes of the answers are written, and how many commands submitted, once `given` bytes of the lines were read.

@@ -1,13 +1,14 @@
 //! A session of runner lines as a plain program over all of its bytes, without a buffer or pieces, and sessions that write the same.
 
-use crate::runner_fake::Service;
-use crate::runner_rows::{LONG, ROWS, expect_answered, repeated};
-use crate::webhook_fakes::Pieces;
+use crate::runner_rows::{LONG, ROWS, expect_answered};
+use crate::service_fake::Service;
 use act_sessions::Answer;
 use run_plan::{Command, Reply};
 use std::alloc::Global;
 use std::process::Abort;
 use tests_common::commands::{Words, command_of};
+use tests_common::long_texts::repeated;
+use tests_common::streams::Pieces;
 use wf_value::{Code, Outcome, Refusal};
 
 /// The most bytes of a line with its line feed, and the most lines.
@@ -127,12 +128,12 @@ fn expect_plain(rt: &impl Abort, alloc: Global, input: &[u8]) {
 fn lines_are_answered_as_by_the_plain_program(rt: HostRuntime) {
     for &(one, _, _) in ROWS {
         for &(other, _, _) in ROWS {
-            let input = repeated(&rt, rt.alloc(), &[(one, 1), (other, 1)]);
-            expect_plain(&rt, rt.alloc(), input.as_slice());
+            let input = repeated(rt.alloc(), &[(one, 1), (other, 1)]).expect(&rt, "memory");
+            expect_plain(&rt, rt.alloc(), input.as_bytes());
         }
     }
     for &(pieces, _, _) in LONG {
-        let input = repeated(&rt, rt.alloc(), pieces);
-        expect_plain(&rt, rt.alloc(), input.as_slice());
+        let input = repeated(rt.alloc(), pieces).expect(&rt, "memory");
+        expect_plain(&rt, rt.alloc(), input.as_bytes());
     }
 }

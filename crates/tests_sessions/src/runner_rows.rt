@@ -1,13 +1,14 @@
 //! Runner lines, and the lines that answer them.
 
-use crate::runner_fake::Service;
-use crate::webhook_fakes::Pieces;
-use act_sessions::{Ending, Transcript};
+use crate::outcomes::expect_done;
+use crate::service_fake::Service;
 use runner_sessions::Session;
 use std::alloc::Global;
 use std::io;
 use std::io::Read;
 use std::process::Abort;
+use tests_common::long_texts::repeated;
+use tests_common::streams::Pieces;
 
 pub const LINES: &str =
     "CLAIM r1 1 linux\nCLAIM r1 2 linux\nBEAT r1 1\nclaim\nDONE r1 2 1 success\n";
@@ -77,25 +78,8 @@ pub fn expect_answered<R: Read + Drop>(
     let mut reader = reader;
     let mut written = Vec::new(alloc);
     let mut service = Service::new(alloc);
-    let transcript = match Session::run(alloc, &mut reader, &mut written, &mut service) {
-        Ok(transcript) => transcript,
-        Err(fault) => fault.transcript,
-    };
-    assert!(rt;
-        written.as_slice() == output,
-        "{:?} in place of {:?}",
-        written,
-        output
-    );
-    expect_transcript(rt, &transcript, output.len(), submitted);
-    assert!(rt; service.count() == submitted);
-}
-
-/// Checks that a session ended well, and counts what it wrote and submitted.
-fn expect_transcript(rt: &impl Abort, transcript: &Transcript, written: usize, submitted: usize) {
-    assert!(rt; transcript.ending == Ending::Done);
-    assert!(rt; transcript.written == written as u64);
-    assert!(rt; transcript.asked.len() == submitted);
+    let ended = Session::run(alloc, &mut reader, &mut written, &mut service);
+    expect_done(rt, ended, &service, (written.as_slice(), output), submitted);
 }
 
 /// How many bytes a reader gives at a time.
@@ -175,19 +159,6 @@ pub const LONG: &[Long] = &[
     ),
 ];
 
-/// The repeated pieces in a row.
-pub fn repeated(rt: &impl Abort, alloc: Global, pieces: &[(&str, usize)]) -> Vec<u8> {
-    let mut bytes = Vec::new(alloc);
-    for &(piece, times) in pieces {
-        for _ in 0..times {
-            bytes
-                .extend_from_slice(piece.as_bytes())
-                .expect(rt, "memory");
-        }
-    }
-    bytes
-}
-
 /// Line feeds without end.
 #[derive(Drop)]
 struct Endless;
@@ -204,13 +175,13 @@ impl Read for Endless {
 #[test]
 fn a_runner_session_is_bounded(rt: HostRuntime) {
     for &(input, output, submitted) in LONG {
-        let input = repeated(&rt, rt.alloc(), input);
-        let output = repeated(&rt, rt.alloc(), output);
+        let input = repeated(rt.alloc(), input).expect(&rt, "memory");
+        let output = repeated(rt.alloc(), output).expect(&rt, "memory");
         for piece in [5, 100_000] {
-            let reader = Pieces::new(input.as_slice(), piece);
-            expect_answered(&rt, rt.alloc(), reader, output.as_slice(), submitted);
+            let reader = Pieces::new(input.as_bytes(), piece);
+            expect_answered(&rt, rt.alloc(), reader, output.as_bytes(), submitted);
         }
     }
-    let output = repeated(&rt, rt.alloc(), &[("refused 75\n", 1_024)]);
-    expect_answered(&rt, rt.alloc(), Endless, output.as_slice(), 0);
+    let output = repeated(rt.alloc(), &[("refused 75\n", 1_024)]).expect(&rt, "memory");
+    expect_answered(&rt, rt.alloc(), Endless, output.as_bytes(), 0);
 }

@@ -1,16 +1,9 @@
 //! The longest heads, bodies and sessions, and inputs that are a byte, a field or a request longer.
 
-use crate::webhook_fakes::Pieces;
+use crate::runner_rows::Long;
 use crate::webhook_rows::{BAD_HEAD, LOOK, NO_PATH, SEEN, SEEN_AT_LAST, expect_answered};
-use std::alloc::Global;
-use std::process::Abort;
-
-/// The pieces of an input, each with its number of repetitions, the same for the answer, and how many commands the input submits.
-pub type Long = (
-    &'static [(&'static str, usize)],
-    &'static [(&'static str, usize)],
-    usize,
-);
+use tests_common::long_texts::repeated;
+use tests_common::streams::Pieces;
 
 pub const LONG: &[Long] = &[
     // A head of 8,192 bytes without an end, one that ends there, and one that is a byte longer.
@@ -73,27 +66,14 @@ pub const LONG: &[Long] = &[
     (&[(LOOK, 65)], &[(SEEN, 63), (SEEN_AT_LAST, 1)], 64),
 ];
 
-/// The repeated pieces in a row.
-pub fn repeated(rt: &impl Abort, alloc: Global, pieces: &[(&str, usize)]) -> Vec<u8> {
-    let mut bytes = Vec::new(alloc);
-    for &(piece, times) in pieces {
-        for _ in 0..times {
-            bytes
-                .extend_from_slice(piece.as_bytes())
-                .expect(rt, "memory");
-        }
-    }
-    bytes
-}
-
 #[test]
 fn a_webhook_session_is_bounded(rt: HostRuntime) {
     for &(input, output, submitted) in LONG {
-        let input = repeated(&rt, rt.alloc(), input);
-        let output = repeated(&rt, rt.alloc(), output);
+        let input = repeated(rt.alloc(), input).expect(&rt, "memory");
+        let output = repeated(rt.alloc(), output).expect(&rt, "memory");
         for piece in [1_000, 100_000] {
-            let reader = Pieces::new(input.as_slice(), piece);
-            expect_answered(&rt, rt.alloc(), reader, output.as_slice(), submitted);
+            let reader = Pieces::new(input.as_bytes(), piece);
+            expect_answered(&rt, rt.alloc(), reader, output.as_bytes(), submitted);
         }
     }
 }

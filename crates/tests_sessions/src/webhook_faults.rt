@@ -1,12 +1,14 @@
 //! Webhook sessions whose reader or writer fails at each byte.
 
-use crate::webhook_fakes::{Bounded, Fake, Pieces};
+use crate::outcomes::{expect_broken, expect_logged};
+use crate::service_fake::Service;
 use crate::webhook_rows::{
     CREATED, EVENT, FETCHED, GET_ALONE, LOOK, NO_PATH, NO_RUN, SEEN, TOO_LONG,
 };
-use act_sessions::{Ending, Transcript};
+use act_sessions::Transcript;
 use std::alloc::Global;
 use std::process::Abort;
+use tests_common::streams::{Bounded, Pieces};
 use webhook_sessions::Session;
 
 /// The two example requests and their answers.
@@ -26,7 +28,7 @@ pub const OUTPUT: &str = concat!(
     "HTTP/1.1 200 OK\r\nContent-Type: text/plain\r\nContent-Length: 35\r\n\r\nrun 1 1 queued - build:open(ready)\n",
 );
 
-/// A session that broke: its transcript, what was written, and how many commands the fake got.
+/// A session that broke: its transcript, what was written, and how many commands the service got.
 fn broken(
     rt: &impl Abort,
     alloc: Global,
@@ -35,21 +37,9 @@ fn broken(
 ) -> (Transcript, Vec<u8>, usize) {
     let mut reader = reader;
     let mut writer = Bounded::new(alloc, taken);
-    let mut fake = Fake::new(alloc);
-    match Session::run(alloc, &mut reader, &mut writer, &mut fake) {
-        Ok(_) => panic!(rt; "it broke"),
-        Err(fault) => {
-            assert!(rt; fault.transcript.ending == Ending::Broken);
-            assert!(rt; fault.refusal().number() == 61);
-            (fault.transcript, writer.bytes, fake.count())
-        }
-    }
-}
-
-/// Checks that a transcript lists what was submitted and counts what was written.
-fn expect_logged(rt: &impl Abort, transcript: &Transcript, written: &[u8], submitted: usize) {
-    assert!(rt; transcript.asked.len() == submitted);
-    assert!(rt; transcript.written == written.len() as u64);
+    let mut service = Service::new(alloc);
+    let ended = Session::run(alloc, &mut reader, &mut writer, &mut service);
+    (expect_broken(rt, ended), writer.bytes, service.count())
 }
 
 #[test]

@@ -1,6 +1,5 @@
 //! Webhook sessions over a store that no one else uses.
 
-use crate::webhook_fakes::{Bounded, Pieces};
 use crate::webhook_rows::{CREATED, EVENT};
 use act_desk::Alone;
 use act_disk::MemoryDisk;
@@ -8,6 +7,7 @@ use act_sessions::{Ending, SessionFault, Transcript};
 use act_store::Store;
 use std::alloc::Global;
 use std::process::Abort;
+use tests_common::streams::{Bounded, Pieces};
 use webhook_sessions::Session;
 
 type LoneStore = Alone<MemoryDisk>;

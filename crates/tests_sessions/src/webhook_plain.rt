@@ -1,7 +1,7 @@
 //! An HTTP/1.1 session as a plain program over all of its bytes, without a buffer or pieces, and sessions that write the same.
 
-use crate::webhook_bounds::{LONG, repeated};
-use crate::webhook_fakes::{Fake, Pieces};
+use crate::service_fake::Service;
+use crate::webhook_bounds::LONG;
 use crate::webhook_rows::{ROWS, expect_answered};
 use act_sessions::Answer;
 use httparse::{EMPTY_HEADER, Header, Request, Status};
@@ -9,6 +9,8 @@ use run_plan::{Command, DeliveryId, EventName, Reply, prepare};
 use std::alloc::Global;
 use std::process::Abort;
 use tests_common::commands::{Words, command_of};
+use tests_common::long_texts::repeated;
+use tests_common::streams::Pieces;
 use wf_value::{Code, Refusal};
 
 /// The most bytes of a head and of a body, and the most requests.
@@ -254,8 +256,8 @@ fn reply_answer(alloc: Global, reply: &Reply) -> Result<PlainAnswer, Refusal> {
     })
 }
 
-fn submit(alloc: Global, fake: &mut Fake, command: Command) -> Result<PlainAnswer, Refusal> {
-    match fake.ask(command) {
+fn submit(alloc: Global, service: &mut Service, command: Command) -> Result<PlainAnswer, Refusal> {
+    match service.ask(command) {
         Ok(reply) => reply_answer(alloc, &reply),
         Err(refusal) => refusal_answer(
             alloc,
@@ -316,7 +318,7 @@ fn answer_to<'a>(
     alloc: Global,
     head: &Request<'_, '_>,
     after: &'a [u8],
-    fake: &mut Fake,
+    service: &mut Service,
 ) -> Result<Option<(PlainAnswer, bool, &'a [u8])>, Refusal> {
     let length = match body_length(alloc, head) {
         Ok(length) => length,
@@ -327,7 +329,7 @@ fn answer_to<'a>(
     }
     let (body, following) = after.split_at(length);
     let answer = match command_in(alloc, head, body) {
-        Ok(command) => submit(alloc, fake, command)?,
+        Ok(command) => submit(alloc, service, command)?,
         Err(fault) => refusal_answer(alloc, fault)?,
     };
     let closes = answer.status == 503 || wants_close(head);
@@ -338,14 +340,14 @@ fn answer_to<'a>(
 fn first_answer<'a>(
     alloc: Global,
     bytes: &'a [u8],
-    fake: &mut Fake,
+    service: &mut Service,
 ) -> Result<Option<(PlainAnswer, bool, &'a [u8])>, Refusal> {
     let prefix = &bytes[..bytes.len().min(MAX_HEAD)];
     let mut fields = [EMPTY_HEADER; 64];
     let mut head = Request::new(&mut fields);
     match head.parse(prefix) {
         Ok(Status::Complete(length)) => {
-            answer_to(alloc, &head, bytes.get(length..).unwrap_or(&[]), fake)
+            answer_to(alloc, &head, bytes.get(length..).unwrap_or(&[]), service)
         }
         Ok(Status::Partial) if bytes.len() < MAX_HEAD => Ok(None),
         _ => Ok(Some((
@@ -358,11 +360,11 @@ fn first_answer<'a>(
 
 /// What a session writes over all of its bytes, and how many commands it submits.
 fn written_over(alloc: Global, input: &[u8]) -> Result<(Vec<u8>, usize), Refusal> {
-    let mut fake = Fake::new(alloc);
+    let mut service = Service::new(alloc);
     let mut written = Vec::new(alloc);
     let mut rest = input;
     for count in 1..=MAX_REQUESTS {
-        let Some((answer, closes, following)) = first_answer(alloc, rest, &mut fake)? else {
+        let Some((answer, closes, following)) = first_answer(alloc, rest, &mut service)? else {
             break;
         };
         let last = closes || count == MAX_REQUESTS;
@@ -372,7 +374,7 @@ fn written_over(alloc: Global, input: &[u8]) -> Result<(Vec<u8>, usize), Refusal
         }
         rest = following;
     }
-    Ok((written, fake.count()))
+    Ok((written, service.count()))
 }
 
 /// Checks that sessions over the bytes do what the plain program does, whatever the pieces.
@@ -388,12 +390,12 @@ fn expect_plain(rt: &impl Abort, alloc: Global, input: &[u8]) {
 fn requests_are_answered_as_by_the_plain_program(rt: HostRuntime) {
     for &(one, _, _) in ROWS {
         for &(other, _, _) in ROWS {
-            let input = repeated(&rt, rt.alloc(), &[(one, 1), (other, 1)]);
-            expect_plain(&rt, rt.alloc(), input.as_slice());
+            let input = repeated(rt.alloc(), &[(one, 1), (other, 1)]).expect(&rt, "memory");
+            expect_plain(&rt, rt.alloc(), input.as_bytes());
         }
     }
     for &(pieces, _, _) in LONG {
-        let input = repeated(&rt, rt.alloc(), pieces);
-        expect_plain(&rt, rt.alloc(), input.as_slice());
+        let input = repeated(rt.alloc(), pieces).expect(&rt, "memory");
+        expect_plain(&rt, rt.alloc(), input.as_bytes());
     }
 }

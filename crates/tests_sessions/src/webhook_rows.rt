@@ -1,9 +1,10 @@
 //! Requests of webhook sessions, and the bytes that answer them.
 
-use crate::webhook_fakes::{Fake, Pieces};
-use act_sessions::{Ending, Transcript};
+use crate::outcomes::expect_done;
+use crate::service_fake::Service;
 use std::alloc::Global;
 use std::process::Abort;
+use tests_common::streams::Pieces;
 use webhook_sessions::Session;
 
 pub const BODY: &str =
@@ -413,34 +414,9 @@ pub fn expect_answered(
 ) {
     let mut reader = reader;
     let mut written = Vec::new(alloc);
-    let mut fake = Fake::new(alloc);
-    let transcript = match Session::run(alloc, &mut reader, &mut written, &mut fake) {
-        Ok(transcript) => transcript,
-        Err(fault) => fault.transcript,
-    };
-    assert!(rt;
-        written.as_slice() == output,
-        "{:?} in place of {:?}",
-        written,
-        output
-    );
-    expect_transcript(rt, &transcript, output.len(), submitted);
-    assert!(rt;
-        fake.count() == submitted,
-        "{} were submitted in place of {submitted}",
-        fake.count()
-    );
-}
-
-/// Checks that a session ended well, and counts what it wrote and submitted.
-fn expect_transcript(rt: &impl Abort, transcript: &Transcript, written: usize, submitted: usize) {
-    assert!(rt;
-        transcript.ending == Ending::Done,
-        "{:?}",
-        transcript.ending
-    );
-    assert!(rt; transcript.written == written as u64);
-    assert!(rt; transcript.asked.len() == submitted);
+    let mut service = Service::new(alloc);
+    let ended = Session::run(alloc, &mut reader, &mut written, &mut service);
+    expect_done(rt, ended, &service, (written.as_slice(), output), submitted);
 }
 
 /// How many bytes a reader gives at a time.

@@ -1,51 +1,35 @@
 //! Sessions as works, whose answers have to reach the writer that they were given; and sessions whose input ends inside a request, which
 //! is not a failure.
 
-use crate::runner_fake::Service;
+use crate::outcomes::expect_done;
 use crate::runner_rows::{ANSWERS, LINES};
-use crate::webhook_fakes::{Fake, Pieces};
+use crate::service_fake::Service;
 use crate::webhook_faults::{INPUT, OUTPUT};
 use crate::webhook_rows::{CREATED, EVENT};
-use act_sessions::{Ending, SessionFault, Transcript, Work};
+use act_sessions::Work;
 use runner_sessions::Lines;
 use std::alloc::Global;
 use std::process::Abort;
+use tests_common::streams::Pieces;
 use webhook_sessions::Hook;
 
-/// Checks that a session ended well, after `submitted` commands and with these bytes written.
-fn expect_done(
-    rt: &impl Abort,
-    ended: Result<Transcript, SessionFault>,
-    written: &[u8],
-    (submitted, output): (usize, &str),
-) {
-    match ended {
-        Ok(transcript) => {
-            assert!(rt; transcript.ending == Ending::Done);
-            assert!(rt; transcript.asked.len() == submitted);
-            assert!(rt; transcript.written == output.len() as u64);
-        }
-        Err(fault) => panic!(rt; "ended with {}", fault.refusal()),
-    }
-    assert!(rt; written == output.as_bytes());
-}
-
 /// Checks the answer to the first `given` bytes of a sender.
-fn expect_hook(rt: &impl Abort, alloc: Global, given: usize, wanted: (usize, &str)) {
+fn expect_hook(rt: &impl Abort, alloc: Global, given: usize, (submitted, wanted): (usize, &str)) {
     let mut output = Vec::new(alloc);
-    let mut fake = Fake::new(alloc);
+    let mut service = Service::new(alloc);
     let input = INPUT.as_bytes();
     assert!(rt; given <= input.len());
     let hook = Hook {
         reader: Pieces::new(&input[..given], 50),
         writer: &mut output,
     };
-    let ended = hook.work(alloc, &mut fake);
-    expect_done(rt, ended, output.as_slice(), wanted);
+    let ended = hook.work(alloc, &mut service);
+    let written = (output.as_slice(), wanted.as_bytes());
+    expect_done(rt, ended, &service, written, submitted);
 }
 
 /// Checks the answer to the first `given` bytes of a runner.
-fn expect_lines(rt: &impl Abort, alloc: Global, given: usize, wanted: (usize, &str)) {
+fn expect_lines(rt: &impl Abort, alloc: Global, given: usize, (submitted, wanted): (usize, &str)) {
     let mut output = Vec::new(alloc);
     let mut service = Service::new(alloc);
     let input = LINES.as_bytes();
@@ -55,7 +39,8 @@ fn expect_lines(rt: &impl Abort, alloc: Global, given: usize, wanted: (usize, &s
         writer: &mut output,
     };
     let ended = lines.work(alloc, &mut service);
-    expect_done(rt, ended, output.as_slice(), wanted);
+    let written = (output.as_slice(), wanted.as_bytes());
+    expect_done(rt, ended, &service, written, submitted);
 }
 
 #[test]

@@ -4,10 +4,11 @@
 use crate::holds::holds;
 use crate::openings::overwrite;
 use crate::stores::{Row, TestStep, close, is_answered, number_of_opening, open_store, play};
-use act_disk::{Fill, MemoryDisk};
+use act_disk::MemoryDisk;
 use std::alloc::Global;
 use std::process::Abort;
 use tests_common::commands::Words;
+use tests_common::crashes::crash_images;
 use wf_value::{Outcome, Refusal};
 
 /// Pieces of a file with two areas of 4,096 bytes, by their offsets. All other bytes are zeros.
@@ -70,12 +71,8 @@ fn a_checkpoint_upgrades_the_first_layout(rt: HostRuntime) {
 /// Opening the file makes one sync, a commit four calls, the slice one, and the finish four.
 const CALLS: usize = 10;
 
-const FILLS: &[Fill] = &[Fill::Old, Fill::New, Fill::Half, Fill::Gates];
-
-/// Opens the image of a crash inside a call, and looks at its run.
-fn expect_run(rt: &impl Abort, alloc: Global, disk: &MemoryDisk, call: u64, fill: Fill) {
-    holds!(rt; (call as usize) < disk.calls().len());
-    let image = disk.image(alloc, call, fill).expect(rt, "an image");
+/// Opens what a crash inside a call leaves, and looks at its run.
+fn expect_run(rt: &impl Abort, alloc: Global, call: usize, image: MemoryDisk) {
     let mut store = open_store(rt, alloc, image);
     holds!(rt; is_answered(alloc, &mut store, &LOOK, READY).expect(rt, "memory"), call);
     close(store);
@@ -89,10 +86,8 @@ fn a_crash_during_the_upgrade_loses_nothing(rt: HostRuntime) {
     play(&rt, alloc, &mut store, UPGRADED);
     let disk = store.into_disk();
     holds!(rt; disk.calls().len() == CALLS);
-    for call in 0..CALLS as u64 {
-        for &fill in FILLS {
-            expect_run(&rt, alloc, &disk, call, fill);
-        }
+    for (call, image) in crash_images(alloc, &disk, 0..CALLS).expect(&rt, "images") {
+        expect_run(&rt, alloc, call, image);
     }
 }
 

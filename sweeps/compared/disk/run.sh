@@ -5,7 +5,7 @@
 # `crash` prints a line CALL WORD KIND FILL N for each of these calls and each fill of an image: the image opens to the table of N entries.
 # `faults` fails each of these calls, alone and with all after it, opens what is seen then and the image of each fill, and prints `N calls,
 # M images as wanted`, after a line for each image that opens to no prefix of the history with all that was covered.
-# The wanted output comes from another program, since the plain model has no disk; `sweeps/stops/run.sh` judges the same images by itself.
+# The wanted output comes from another program, since the plain model has no disk; `sweeps/crashes/run.sh` judges the same images by itself.
 # Usage: sweeps/compared/disk/run.sh FOLDER. It is a trial run: nothing is proved, and overflows, indexes and accesses are checked at run time.
 set -eu
 . "$(dirname "$0")/../../../bench/copy.sh"

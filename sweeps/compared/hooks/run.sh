@@ -10,6 +10,7 @@ make=$1 say=$2 count=${3:-1000} first=${4:-1}
 cases=${CASES:-$scratch/cases}
 mkdir -p "$cases"
 copy_for compared_hooks main.rt.txt wf_value act_disk act_store act_desk act_sessions webhook_sessions anyhow
+cp "$here/../pieces.rt.txt" "$scratch/crates/compared_hooks/src/pieces.rt"
 build compared_hooks
 
 differ=0

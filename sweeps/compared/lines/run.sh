@@ -12,6 +12,7 @@ make=$1 say=$2 count=${3:-1000} first=${4:-1}
 cases=${CASES:-$scratch/cases}
 mkdir -p "$cases"
 copy_for compared_lines main.rt.txt wf_value run_plan act_disk act_store act_desk act_sessions command_lines runner_sessions anyhow
+cp "$here/../pieces.rt.txt" "$scratch/crates/compared_lines/src/pieces.rt"
 build compared_lines
 
 one() { # SEED

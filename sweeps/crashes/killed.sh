@@ -1,6 +1,6 @@
 #!/bin/bash
-# Plays over a store in a file, ended by `kill -9` at 200 random moments, and what the files open to (`sweeps/stops/killed`). Needs Python 3.
-# Usage: sweeps/stops/killed.sh [FOLDER [CUTS [SEED]]].
+# Plays over a store in a file, ended by `kill -9` at 200 random moments, and what the files open to (`sweeps/crashes/killed`). Needs Python 3.
+# Usage: sweeps/crashes/killed.sh [FOLDER [CUTS [SEED]]].
 set -eu
 . "$(dirname "$0")/../../bench/copy.sh"
 folder=${1:-$here/out}

@@ -5,16 +5,16 @@
 # this is done over a new store, and again over an empty one of the first layout, which the checkpoint replaces. Without SCRIPT it is the
 # sixteen runs of the rows with a checkpoint among them; a name ends in `.script`, and the answers are beside it. It is a trial run of the
 # sweep's own program, so nothing of that is proved. Each opening costs by the bytes of the disk: with areas of 4,096 bytes, which the
-# sixteen runs fit, it takes some minutes, and its output comes at the end. `sweeps/stops/file.sh` does the same over a file, and
-# `sweeps/stops/served` over a service and its file.
-# Usage: sweeps/stops/run.sh [SCRIPT [AREA]]
+# sixteen runs fit, it takes some minutes, and its output comes at the end. `sweeps/crashes/file.sh` does the same over a file, and
+# `sweeps/crashes/served` over a service and its file.
+# Usage: sweeps/crashes/run.sh [SCRIPT [AREA]]
 set -eu
 . "$(dirname "$0")/../../bench/copy.sh"
 script=$(realpath "${1:-$top/crates/acts_rows/data/store/checkpoint_among_sixteen_runs.script}")
 area=${2:-4096}
-copy_for stops_sweep main.rt.txt act_disk act_store command_lines run_plan wf_value anyhow
-for part in lines script crashes faults; do cp "$here/$part.rt.txt" "$scratch/crates/stops_sweep/src/$part.rt"; done
-cd "$scratch/crates/stops_sweep"
+copy_for crash_sweep main.rt.txt act_disk act_store command_lines run_plan wf_value tests_common anyhow
+for part in lines script crashes faults; do cp "$here/$part.rt.txt" "$scratch/crates/crash_sweep/src/$part.rt"; done
+cd "$scratch/crates/crash_sweep"
 rt fmt > /dev/null
 rt try --steps 1 --seconds 7200 -- "$area" < "$script" > "$scratch/said" 2> "$scratch/log" || { tail -n 5 "$scratch/said" "$scratch/log" >&2; exit 1; }
 count=$(wc -l < "${script%.script}.answers")
