@@ -44,7 +44,7 @@ pub struct LockedStore<D: Disk, E: Named, T: Ledger> {
 
 impl<D: Disk, E: Named, T: Ledger> Model for LockedStore<D, E, T> {
     ghost use Rattle.std.specs.Prelude.{◌≡◌, ◌≤◌, false, length};
-    ghost use Rattle.act_store.specs.declared.apply.TheConstants.{MAX_ENTRIES};
+    ghost use Rattle.stated_limits.specs.Limits.{max_entries};
     ghost use Rattle.act_desk.specs.Shown.{Shown};
 
     ghost Value = { Shown D };
@@ -52,7 +52,7 @@ impl<D: Disk, E: Named, T: Ledger> Model for LockedStore<D, E, T> {
     ghost view = { λ d. record { store = d.store; entered = d.entries.total; answered = d.replies.total; released = d.released; lost = d.lost } };
 
     ghost invariant = { λ d. (d.entries.total ≡ length d.store.history) × (d.replies.total ≡ d.released) × (d.released ≤ d.store.covered)
-        × (length d.store.history ≤ MAX_ENTRIES) × (d.lost ≡ false → d.prefix ≡ d.store.history) };
+        × (length d.store.history ≤ max_entries) × (d.lost ≡ false → d.prefix ≡ d.store.history) };
 }
 
 impl<D: Disk, E: Named, T: Ledger> LockedStore<D, E, T> {

@@ -14,10 +14,10 @@ use Rattle.run_table.specs.Sound.{IsSound}
 use Rattle.stored_tables.specs.Stored.{StoredRunner, stored_runner}
 use Rattle.run_table.specs.TableState.{TableState}
 use Rattle.table_laws.proofs.ReachedTables.{after_is_sound}
-use Rattle.table_text.specs.Commands.{number}
-use Rattle.table_text.specs.Format.{pair, word_bytes, text_bytes}
+use Rattle.command_encodings.specs.Commands.{number}
+use Rattle.command_encodings.specs.Format.{pair, word_bytes, text_bytes}
 use Rattle.table_text.specs.Tables.{last_command, lease, runner, run}
-use Rattle.table_text.proofs.LengthLaws.{length_text}
+use Rattle.command_encodings.proofs.LengthLaws.{length_text}
 use Rattle.act_store.specs.Checkpoints.{first_gate, text_length}
 use Rattle.act_store.specs.Entries.{commands_of, table_after}
 use Rattle.act_store.specs.StoreState.{Checkpoint, StoreState, RecoversToEither, covered_table, table_of}

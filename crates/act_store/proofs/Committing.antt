@@ -11,7 +11,7 @@ use Rattle.gated_journal.specs.Whole.{RecoversWhole, WholeOrGrew}
 use Rattle.gated_journal.specs.declared.gate.Gate.{Gate}
 use Rattle.gated_journal.specs.declared.side.Side.{Side}
 use Rattle.run_table.specs.TableState.{TableState}
-use Rattle.table_text.specs.Commands.{IsEncoded, batch}
+use Rattle.command_encodings.specs.Commands.{IsEncoded, batch}
 use Rattle.act_store.specs.Entries.{commands_of, table_after}
 use Rattle.act_store.specs.Images.{RecoversTo}
 use Rattle.act_store.specs.Layouts.{HasCommand}

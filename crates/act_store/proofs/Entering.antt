@@ -8,7 +8,7 @@ use Rattle.std.proofs.lemmas.List.{drop-append-le, length-drop, length-map}
 use Rattle.run_plan.specs.declared.command.Command.{Command}
 use Rattle.run_table.specs.Step.{stepped}
 use Rattle.run_table.specs.TableState.{TableState}
-use Rattle.table_text.specs.Commands.{IsEncoded, command_bytes}
+use Rattle.command_encodings.specs.Commands.{IsEncoded, command_bytes}
 use Rattle.act_store.specs.Entries.{IsLegal, commands_of, table_after}
 use Rattle.act_store.specs.Layouts.{HasCommand, has_command}
 use Rattle.act_store.specs.StoreState.{StoreState, pending_commands, table_of}

@@ -16,7 +16,7 @@ use Rattle.gated_journal.specs.declared.gate.Gate.TheVariants.{Open, Closed}
 use Rattle.run_plan.specs.declared.command.Command.{Command}
 use Rattle.run_table.specs.Histories.{after}
 use Rattle.run_table.specs.TableState.{TableState}
-use Rattle.table_text.specs.Commands.{IsEncoded, batch, command_bytes}
+use Rattle.command_encodings.specs.Commands.{IsEncoded, batch, command_bytes}
 use Rattle.act_store.specs.Checkpoints.{first_gate, gate_after, refusal_of_finish}
 use Rattle.act_store.specs.Entries.{commands_of, table_after}
 use Rattle.act_store.specs.Layouts.{HasCommand, batch_format, current_version, layout_of}

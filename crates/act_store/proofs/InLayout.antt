@@ -7,12 +7,12 @@ use Rattle.gated_journal.specs.Layout.{Head}
 use Rattle.run_plan.specs.declared.command.Command.{Command}
 use Rattle.run_table.specs.Sound.{IsSound}
 use Rattle.run_table.specs.TableState.{TableState}
-use Rattle.table_text.specs.Commands.{batch}
+use Rattle.command_encodings.specs.Commands.{batch}
 use Rattle.table_text.specs.FirstLayout.{is_in_first_layout}
-use Rattle.table_text.specs.Format.{NoneBeginsAnother}
-use Rattle.table_text.specs.ReadingCommands.{batch_at}
-use Rattle.table_text.proofs.CommandReaders.{batch_reads}
-use Rattle.table_text.proofs.Readers.{none_begins}
+use Rattle.command_encodings.specs.Format.{NoneBeginsAnother}
+use Rattle.command_encodings.specs.ReadingCommands.{batch_at}
+use Rattle.command_encodings.proofs.CommandReaders.{batch_reads}
+use Rattle.command_encodings.proofs.Readers.{none_begins}
 use Rattle.table_text.proofs.WholeFirstTables.{first_batch_begins_none, first_begins_none}
 use Rattle.table_text.proofs.WholeTables.{whole_begins_none}
 use Rattle.act_store.specs.Layouts.{HasCommand, batch_format, layout_of, table_format}

@@ -7,7 +7,7 @@ use Rattle.std.proofs.lemmas.List.Concat.{flat_map-append}
 use Rattle.gated_journal.specs.Appends.{record_of}
 use Rattle.gated_journal.specs.Layout.{framed}
 use Rattle.run_plan.specs.declared.command.Command.{Command}
-use Rattle.table_text.specs.Commands.{batch, command_bytes}
+use Rattle.command_encodings.specs.Commands.{batch, command_bytes}
 use Rattle.act_store.specs.Entries.{commands_of}
 use Rattle.act_store.specs.LastPart.{last_part}
 use Rattle.act_store.specs.PendingBatch.{body_of, batch_state_of}

@@ -4,7 +4,7 @@ mod Checkpointing
 mod Committing
 mod Entering
 mod Finishing
-mod GroupsOfHistory
+pub mod GroupsOfHistory
 mod Histories
 mod InLayout
 mod LastPart

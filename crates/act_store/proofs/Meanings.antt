@@ -8,7 +8,7 @@ use Rattle.run_plan.specs.declared.command.Command.{Command}
 use Rattle.run_table.specs.Histories.{after}
 use Rattle.run_table.specs.TableState.{TableState}
 use Rattle.group_histories.proofs.LeasesStay.{after_both}
-use Rattle.table_text.specs.Commands.{batch}
+use Rattle.command_encodings.specs.Commands.{batch}
 use Rattle.act_store.specs.Layouts.{batch_format}
 use Rattle.act_store.specs.Meaning.{EncodeCommands, MeansTable}
 use Rattle.act_store.specs.declared.layout.Layout.{Layout}

@@ -7,9 +7,9 @@ use Rattle.std.proofs.lemmas.List.{append-nil, drop-append-le, drop-take, drop_a
 use Rattle.std.proofs.lemmas.List.Concat.{flat_map-append}
 use Rattle.gated_journal.specs.Appends.{record_of}
 use Rattle.run_plan.specs.declared.command.Command.{Command}
-use Rattle.table_text.specs.Commands.{batch, command_bytes}
-use Rattle.table_text.specs.Format.{word_bytes}
-use Rattle.table_text.proofs.LengthLaws.{length_word}
+use Rattle.command_encodings.specs.Commands.{batch, command_bytes}
+use Rattle.command_encodings.specs.Format.{word_bytes}
+use Rattle.command_encodings.proofs.LengthLaws.{length_word}
 use Rattle.act_store.specs.Plain.{batch_length}
 use Rattle.act_store.specs.PendingBatch.{body_of, encoded_between, batch_state_of, with_command}
 

@@ -11,7 +11,7 @@ use Rattle.gated_journal.specs.declared.side.Side.{Side}
 use Rattle.gated_journal.proofs.Grown.{opened-push}
 use Rattle.run_table.specs.Histories.{after}
 use Rattle.run_table.specs.TableState.{TableState}
-use Rattle.table_text.specs.Commands.{batch}
+use Rattle.command_encodings.specs.Commands.{batch}
 use Rattle.act_store.specs.Entries.{table_after}
 use Rattle.act_store.specs.Images.{IsAreaLength, RecoversFrom, RecoversTo}
 use Rattle.act_store.specs.StoreState.{StoreState, RecoverToCovered, RecoversToEither, covered_table, pending_commands, table_of}

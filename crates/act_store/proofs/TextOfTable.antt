@@ -6,7 +6,7 @@ use Rattle.run_table.specs.Step.{empty}
 use Rattle.stored_tables.specs.Stored.{stored_table}
 use Rattle.run_table.specs.TableState.{TableState}
 use Rattle.run_table.proofs.StepKeeps.{empty_is_sound}
-use Rattle.table_text.specs.Format.{OpensWith, ReadsPrefix, word_bytes}
+use Rattle.command_encodings.specs.Format.{OpensWith, ReadsPrefix, word_bytes}
 use Rattle.table_text.specs.Tables.{table}
 use Rattle.table_text.specs.WholeTables.{whole_table}
 use Rattle.act_store.specs.Layouts.{table_format}

@@ -1,18 +1,18 @@
 -- The table that an image of a disk recovers to.
 use Rattle.std.specs.Prelude.{◌≡◌, ℕ, ◌+◌, ◌≤◌, List, length, None, Some}
+use Rattle.stated_limits.specs.Limits.{max_area, min_area}
 use Rattle.gated_journal.specs.Layout.{Head, opened}
 use Rattle.gated_journal.specs.TwoAreas.{active_side, Encodes}
 use Rattle.gated_journal.specs.declared.side.Side.{Side}
 use Rattle.run_table.specs.TableState.{TableState}
 use Rattle.act_store.specs.Layouts.{layout_of}
 use Rattle.act_store.specs.Meaning.{MeansTable}
-use Rattle.act_store.specs.declared.init.TheConstants.{MAX_AREA, MIN_AREA}
 use Rattle.act_store.specs.declared.layout.Layout.{Layout}
 
 -- the possible lengths of an area
 pub record IsAreaLength (len : ℕ) : Type 0 where
-  pub least : MIN_AREA ≤ len
-  pub most : len ≤ MAX_AREA
+  pub least : min_area ≤ len
+  pub most : len ≤ max_area
 
 -- The image is two areas long, and the active one encodes this table.
 pub record RecoversTo (table : TableState) (image : List ℕ) : Type 0 where

@@ -2,7 +2,7 @@
 use Rattle.std.specs.Prelude.{ℕ, List, [], ◌∷◌, ◌++◌}
 use Rattle.gated_journal.specs.Layout.{record_bytes}
 use Rattle.run_plan.specs.declared.command.Command.{Command}
-use Rattle.table_text.specs.Commands.{batch}
+use Rattle.command_encodings.specs.Commands.{batch}
 
 abbrev pub bodies_of : List Command → List (List ℕ)
 bodies_of [] = []

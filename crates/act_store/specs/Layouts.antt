@@ -3,9 +3,9 @@
 use Rattle.std.specs.Prelude.{ℕ, ◌==◌, Bool, true, IsTrue, List, Option, Some, None, if◌then◌else◌}
 use Rattle.run_plan.specs.declared.command.Command.{Command}
 use Rattle.run_table.specs.TableState.{TableState}
-use Rattle.table_text.specs.Commands.{batch}
+use Rattle.command_encodings.specs.Commands.{batch}
 use Rattle.table_text.specs.FirstLayout.{first_batch, is_in_first_layout}
-use Rattle.table_text.specs.Format.{Format}
+use Rattle.command_encodings.specs.Format.{Format}
 use Rattle.table_text.specs.WholeFirstTables.{whole_first_table}
 use Rattle.table_text.specs.WholeTables.{whole_table}
 use Rattle.act_store.specs.declared.layout.Layout.{Layout}

@@ -3,7 +3,7 @@ use Rattle.std.specs.Prelude.{◌≡◌, ℕ, ◌+◌, ◌-◌, List, [], ◌++�
 use Rattle.std.specs.Int.{to_be_bytes, w32}
 use Rattle.gated_journal.specs.declared.lengths.TheConstants.{FRAME, LENGTH}
 use Rattle.run_plan.specs.declared.command.Command.{Command}
-use Rattle.table_text.specs.Commands.{command_bytes}
+use Rattle.command_encodings.specs.Commands.{command_bytes}
 use Rattle.act_store.specs.declared.pending_batch.TheConstants.{COUNT}
 
 -- the number of pending commands, and their encodings in a row

@@ -1,6 +1,7 @@
 -- The abstract store: when each call is refused, what it returns, and its effect. It assumes that memory and the device do not fail; for
 -- failures the contracts of the calls define the effect.
 use Rattle.std.specs.Prelude.{◌≡◌, ◌⊎◌, ℕ, ◌+◌, List, [], ◌∷◌, ◌++◌, length, is_some, ◌||◌, nat_le, nat_lt, if◌then◌else◌, true, false, Option, Some, None}
+use Rattle.stated_limits.specs.Limits.{max_entries}
 use Rattle.wf_value.specs.declared.code.Code.TheVariants.{AreaFull, CheckpointTurn, DiskNotEmpty, FailedEarlier, HistoryFull, NoArea, NoTable, OldLayout}
 use Rattle.wf_value.specs.declared.refusal.Refusal.{Refusal}
 use Rattle.wf_value.specs.declared.refusal.Refusal.TheVariants.{Numbered}
@@ -9,10 +10,9 @@ use Rattle.act_disk.specs.Failed.{device_failed}
 use Rattle.gated_journal.specs.declared.lengths.TheConstants.{FRAME, GATE}
 use Rattle.run_plan.specs.declared.command.Command.{Command}
 use Rattle.run_table.specs.Step.{empty, stepped}
-use Rattle.table_text.specs.Commands.{batch}
+use Rattle.command_encodings.specs.Commands.{batch}
 use Rattle.act_store.specs.Layouts.{has_command}
 use Rattle.act_store.specs.StoreState.{StoreState, pending_commands, table_of}
-use Rattle.act_store.specs.declared.apply.TheConstants.{MAX_ENTRIES}
 use Rattle.act_store.specs.declared.entry.Entry.{Entry}
 use Rattle.act_store.specs.declared.init.TheConstants.{USED}
 use Rattle.act_store.specs.declared.layout.Layout.TheVariants as layouts
@@ -56,7 +56,7 @@ refusal_of_form s command = if has_command s.layout command then refusal_of_room
 
 abbrev pub refusal_of_apply : {D : Type 0} → StoreState D → Command → Option Refusal
 refusal_of_apply s command =
-    if s.failed then Some failed_earlier else (if nat_le MAX_ENTRIES (length s.history) then Some history_full else refusal_of_form s command)
+    if s.failed then Some failed_earlier else (if nat_le max_entries (length s.history) then Some history_full else refusal_of_form s command)
 
 -- the entry of a command at the end of the history
 abbrev pub entry_of : {D : Type 0} → StoreState D → ℕ → Command → Entry

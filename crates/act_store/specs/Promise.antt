@@ -1,6 +1,7 @@
 -- What a store guarantees after any calls: the promise about the images of its disk.
 use Rattle.std.specs.Prelude.{◌≡◌, ℕ, ◌<◌, ◌≤◌, ◌+◌, ◌^◌, List, length, take, Bool, false, Some}
 use Rattle.std.specs.List.{AllByRecursion}
+use Rattle.stated_limits.specs.Limits.{max_entries}
 use Rattle.act_disk.specs.Images.{Holds}
 use Rattle.gated_journal.specs.Layout.{Head, head_bytes, opened}
 use Rattle.gated_journal.specs.TwoAreas.{other, start_of}
@@ -10,7 +11,7 @@ use Rattle.gated_journal.specs.declared.gate.Gate.TheVariants.{Closed}
 use Rattle.gated_journal.specs.declared.side.Side.{Side}
 use Rattle.run_table.specs.Sound.{IsSound}
 use Rattle.run_table.specs.TableState.{TableState}
-use Rattle.table_text.specs.Commands.{IsEncoded}
+use Rattle.command_encodings.specs.Commands.{IsEncoded}
 use Rattle.act_store.specs.Entries.{IsLegal, table_after}
 use Rattle.act_store.specs.Images.{IsAreaLength}
 use Rattle.act_store.specs.StoreState.{StoreState, RecoversToEither, covered_table, pending_commands, table_of}
@@ -19,7 +20,6 @@ use Rattle.act_store.specs.Meaning.{MeansTable}
 use Rattle.act_store.specs.Plain.{record_end}
 use Rattle.act_store.specs.TableText.{EncodesTable}
 use Rattle.act_store.specs.PendingBatch.{BatchState, batch_state_of}
-use Rattle.act_store.specs.declared.apply.TheConstants.{MAX_ENTRIES}
 use Rattle.act_store.specs.declared.begun.Begun.{Begun}
 use Rattle.act_store.specs.declared.entry.Entry.{Entry}
 use Rattle.act_store.specs.declared.layout.Layout.{Layout}
@@ -49,7 +49,7 @@ pub record IsCounted {D : Type 0} (s : StoreState D) (table : TableState) (pendi
   pub legal : IsLegal s.base s.history
   pub table_is : table ≡ table_of s
   pub covers : s.covered ≤ length s.history
-  pub most : length s.history ≤ MAX_ENTRIES
+  pub most : length s.history ≤ max_entries
   pub size : IsAreaLength s.area
   pub gate_fits : s.used < s.area
   pub record_fits : s.covered < length s.history → record_end s (pending_commands s) ≤ s.area

@@ -5,7 +5,7 @@ use Rattle.gated_journal.specs.Layout.{record_bytes}
 use Rattle.run_plan.specs.declared.command.Command.{Command}
 use Rattle.run_table.specs.Histories.{after}
 use Rattle.run_table.specs.TableState.{TableState}
-use Rattle.table_text.specs.Format.{Encodes}
+use Rattle.command_encodings.specs.Format.{Encodes}
 use Rattle.act_store.specs.Layouts.{batch_format}
 use Rattle.act_store.specs.Meaning.{EncodeCommands}
 use Rattle.act_store.specs.declared.layout.Layout.{Layout}

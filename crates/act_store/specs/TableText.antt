@@ -2,7 +2,7 @@
 -- it start from that table.
 use Rattle.std.specs.Prelude.{ℕ, List}
 use Rattle.run_table.specs.TableState.{TableState}
-use Rattle.table_text.specs.Format.{Encodes}
+use Rattle.command_encodings.specs.Format.{Encodes}
 use Rattle.act_store.specs.Layouts.{table_format}
 use Rattle.act_store.specs.declared.layout.Layout.{Layout}
 

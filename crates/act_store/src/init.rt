@@ -1,4 +1,5 @@
 ghost use Rattle.std.specs.Prelude.{◌≡◌, ◌⊎◌, ◌↔◌, ◌<◌, ◌≤◌, ◌+◌, ℕ, List, Err, IfErr, IfOk};
+ghost use Rattle.stated_limits.specs.Limits.{max_area, min_area};
 ghost use Rattle.wf_value.specs.Gives.{no_memory};
 ghost use Rattle.act_disk.specs.Failed.{device_failed};
 ghost use Rattle.run_table.specs.Step.{empty};
@@ -36,8 +37,8 @@ impl<D: Disk> Store<D> {
     /// A disk that is not empty is refused with 55. Every refusal returns the disk.
     pub fn init(alloc: Global, disk: D, area: u64) -> Result<Store<D>, (D, Refusal)>
         requires countable { D.fault_count disk < u64.MAX }
-        requires least { MIN_AREA ≤ area }
-        requires most { area ≤ MAX_AREA }
+        requires least { min_area ≤ area }
+        requires most { area ≤ max_area }
         ensures made { IfOk result (λ s. s ≡ fresh s.disk area) }
         ensures size { IfOk result (λ s. D.size s.disk ≡ area + area) }
         ensures recovers { IfOk result (λ s. D.honest s.disk → (c : List ℕ) → D.images s.disk c → RecoversTo empty c) }

@@ -1,11 +1,11 @@
 ghost use Rattle.std.specs.Prelude.{◌≡◌, ◌+◌, ◌*◌, ◌<◌, ◌≤◌, ◌^◌, length, flat_map, IfErr, IfOk, OnOk};
 ghost use Rattle.std.specs.List.{AllByRecursion};
+ghost use Rattle.stated_limits.specs.Limits.{max_entries};
 ghost use Rattle.wf_value.specs.Gives.{no_memory};
-ghost use Rattle.table_text.specs.Commands.{IsEncoded, command_bytes};
+ghost use Rattle.command_encodings.specs.Commands.{IsEncoded, command_bytes};
 ghost use Rattle.act_store.specs.Entries.{commands_of};
 ghost use Rattle.act_store.specs.LastPart.{last_part};
 ghost use Rattle.act_store.specs.PendingBatch.{batch_state_of};
-ghost use Rattle.act_store.specs.declared.apply.TheConstants.{MAX_ENTRIES};
 ghost use Rattle.act_store.specs.declared.pending_batch.TheConstants.{COUNT};
 
 use crate::entry::Entry;
@@ -17,9 +17,9 @@ use wf_value::Refusal;
 
 /// The length of the encoded commands of some entries.
 pub(crate) fn encoded_len(entries: &[Entry]) -> u64
-    requires { length entries.now ≤ MAX_ENTRIES }
+    requires { length entries.now ≤ max_entries }
     ensures length { result ≡ length (flat_map command_bytes (commands_of entries.now)) }
-    ensures most { result ≤ 65677 * MAX_ENTRIES }
+    ensures most { result ≤ 65677 * max_entries }
 {
     let mut total: u64 = 0;
     for entry in entries {
@@ -30,7 +30,7 @@ pub(crate) fn encoded_len(entries: &[Entry]) -> u64
 
 /// The commands of some entries, encoded in a record.
 fn waiting_of(alloc: Global, entries: &[Entry]) -> Result<PendingBatch, Refusal>
-    requires few { length entries.now ≤ MAX_ENTRIES }
+    requires few { length entries.now ≤ max_entries }
     requires fits { COUNT + length (flat_map command_bytes (commands_of entries.now)) < 2 ^ 32 }
     ensures waits { IfOk result (λ waits. waits ≡ batch_state_of (commands_of entries.now)) }
     ensures encoded { OnOk result (AllByRecursion IsEncoded (commands_of entries.now)) }
@@ -45,7 +45,7 @@ fn waiting_of(alloc: Global, entries: &[Entry]) -> Result<PendingBatch, Refusal>
 
 /// The last part that a checkpoint writes: one record of the entries, if there are any, and the gate after it.
 pub(crate) fn last_part(alloc: Global, entries: &[Entry]) -> Result<Vec<u8>, Refusal>
-    requires few { length entries.now ≤ MAX_ENTRIES }
+    requires few { length entries.now ≤ max_entries }
     requires fits { COUNT + length (flat_map command_bytes (commands_of entries.now)) < 2 ^ 32 }
     ensures bytes { IfOk result (λ bytes. bytes.items ≡ last_part (commands_of entries.now)) }
     ensures encoded { OnOk result (AllByRecursion IsEncoded (commands_of entries.now)) }

@@ -4,7 +4,7 @@ ghost use Rattle.std.specs.Int.{to_be_bytes, w32};
 ghost use Rattle.wf_value.specs.Gives.{no_memory};
 ghost use Rattle.gated_journal.specs.Appends.{record_of};
 ghost use Rattle.run_plan.specs.declared.command.Command.{Command};
-ghost use Rattle.table_text.specs.Commands.{IsEncoded, command_bytes};
+ghost use Rattle.command_encodings.specs.Commands.{IsEncoded, command_bytes};
 ghost use Rattle.act_store.specs.Plain.{batch_length};
 ghost use Rattle.act_store.specs.PendingBatch.{body_of, encoded_between, encoded_in, batch_state_of, with_command};
 

@@ -76,6 +76,7 @@ impl<D: Disk> Store<D> {
     pub fn covered(&self) -> u64
         ensures value { result ≡ self.now.covered }
         ensures within { self.now.covered ≤ length self.now.history }
+        ensures sound { IsSound self.now.base }
         ensures legal { IsLegal self.now.base self.now.history }
         ensures groups { KeepsGroups self.now.base self.now.history }
         ensures exact { D.honest self.now.disk → RecoverToCovered D.images self.now }

@@ -8,13 +8,13 @@ use Rattle.std.specs.Cmp.Lexicographic.{slice_cmp}
 use Rattle.std.specs.Str.{bytes_eq}
 use Rattle.std.specs.FinMap.{find}
 use Rattle.std.specs.FinMap.Entries.{by_order}
+use Rattle.stated_limits.specs.Limits.{max_choices, max_legs}
 use Rattle.wf_value.specs.Matrix.{NamedValues, MatrixLists}
 use Rattle.wf_value.specs.declared.code.Code.TheVariants.{MatrixTooLarge, LegCount}
 use Rattle.wf_value.specs.declared.refusal.Refusal.{Refusal}
 use Rattle.wf_value.specs.declared.refusal.Refusal.TheVariants.{Numbered}
 use Rattle.wf_value.specs.declared.scalar.Scalar.{Scalar}
 use Rattle.wf_value.specs.ScalarValue.{same_scalar}
-use Rattle.matrix_expand.specs.declared.original.TheConstants.{MAX_CHOICES, MAX_LEGS}
 
 -- a value for each of several names
 abbrev pub Combination : Type 0
@@ -101,16 +101,16 @@ new_combinations m = filter (λ object. not (list_any (λ original. agrees m ori
 abbrev pub combinations : MatrixLists → List Combination
 combinations m = map (final_combination m) (kept m) ++ new_combinations m
 
--- the combinations, if there are 1 to `MAX_LEGS`
+-- the combinations, if there are 1 to `max_legs`
 abbrev pub legs_or_refusal : List Combination → Result (List Combination) Refusal
 legs_or_refusal [] = Err (Numbered LegCount)
-legs_or_refusal (c ∷ cs) = cond (nat_lt MAX_LEGS (length (c ∷ cs))) (Err (Numbered LegCount)) (Ok (c ∷ cs))
+legs_or_refusal (c ∷ cs) = cond (nat_lt max_legs (length (c ∷ cs))) (Err (Numbered LegCount)) (Ok (c ∷ cs))
 
 -- the combinations, if there are at most 4,096 choices
 abbrev pub within_choices : Bool → MatrixLists → Result (List Combination) Refusal
 within_choices true m = Err (Numbered MatrixTooLarge)
 within_choices false m = legs_or_refusal (combinations m)
 
--- the combinations, or 21 for more than `MAX_CHOICES` choices, else 22 for no combination or more than `MAX_LEGS`
+-- the combinations, or 21 for more than `max_choices` choices, else 22 for no combination or more than `max_legs`
 abbrev pub combinations_or_refusal : MatrixLists → Result (List Combination) Refusal
-combinations_or_refusal m = within_choices (nat_lt MAX_CHOICES (choice_count m.variables)) m
+combinations_or_refusal m = within_choices (nat_lt max_choices (choice_count m.variables)) m

@@ -6,6 +6,7 @@ use Rattle.std.specs.Option.{option_map}
 use Rattle.std.specs.Ordering.{nat_cmp}
 use Rattle.std.specs.Cmp.Lexicographic.{slice_cmp}
 use Rattle.std.specs.FinMap.{find}
+use Rattle.stated_limits.specs.Limits.{max_legs}
 use Rattle.wf_value.specs.Matrix.{NamedValues, MatrixLists}
 use Rattle.wf_value.specs.declared.code.Code.TheVariants.{LegCount}
 use Rattle.wf_value.specs.declared.refusal.Refusal.{Refusal}
@@ -15,7 +16,6 @@ use Rattle.wf_value.specs.declared.scalar.Scalar.{Scalar}
 use Rattle.wf_value.specs.declared.scalar.Scalar.TheVariants.{Null}
 use Rattle.matrix_expand.specs.Combinations.{Combination, choice_count}
 use Rattle.matrix_expand.specs.Values.{ChoiceValue, AxisValue, WantedValue, PatternValue}
-use Rattle.matrix_expand.specs.declared.original.TheConstants.{MAX_LEGS}
 
 -- the value in the original with this number
 abbrev pub chosen : ChoiceValue → ℕ → Scalar
@@ -59,9 +59,9 @@ kept_from excludes first count = filter (λ number. not (list_any (pattern_remov
 abbrev pub kept_numbers : List PatternValue → ℕ → List ℕ
 kept_numbers excludes count = kept_from excludes 0 count
 
--- the numbers, if there are at most `MAX_LEGS`
+-- the numbers, if there are at most `max_legs`
 abbrev pub kept_or_refusal : List ℕ → Result (List ℕ) Refusal
-kept_or_refusal numbers = cond (nat_lt MAX_LEGS (length numbers)) (Err (Numbered LegCount)) (Ok numbers)
+kept_or_refusal numbers = cond (nat_lt max_legs (length numbers)) (Err (Numbered LegCount)) (Ok numbers)
 
 -- the objects that agree with none of the originals
 abbrev pub new_objects : List PatternValue → List ℕ → List Combination

@@ -1,5 +1,6 @@
 ghost use Rattle.std.specs.List.{list_any, slice_index_or};
 ghost use Rattle.std.specs.Prelude.{◌≡◌, ◌↔◌, ◌+◌, ◌<◌, ◌≤◌, [], length, map, IsTrue, IfOk, Ok};
+ghost use Rattle.stated_limits.specs.Limits.{max_legs};
 ghost use Rattle.wf_value.specs.Gives.{Gives};
 ghost use Rattle.wf_value.specs.Names.{names_rise};
 ghost use Rattle.matrix_expand.specs.Combinations.{choice_count, combinations, legs_or_refusal, combinations_or_refusal};
@@ -29,10 +30,10 @@ pub struct Expansion<'a> {
 
 impl<'a> Model for Expansion<'a> {
     ghost use Rattle.std.specs.Prelude.{◌+◌, ◌≤◌, ◌++◌, List, length, map, IsTrue};
+    ghost use Rattle.stated_limits.specs.Limits.{max_legs};
     ghost use Rattle.wf_value.specs.Names.{names_rise};
     ghost use Rattle.matrix_expand.specs.Combinations.{Combination};
     ghost use Rattle.matrix_expand.specs.Entries.{names_ascend, pairs_of, final_from};
-    ghost use Rattle.matrix_expand.specs.declared.original.TheConstants.{MAX_LEGS};
 
     ghost Value = { List Combination };
 
@@ -40,7 +41,7 @@ impl<'a> Model for Expansion<'a> {
         ++ map (λ c. c.now) e.added.items };
 
     ghost invariant = { λ e. IsTrue (names_ascend (pairs_of e.entries.items)) × IsTrue (names_rise e.axes.items)
-        × (length e.kept.items + length e.added.items ≤ MAX_LEGS) };
+        × (length e.kept.items + length e.added.items ≤ max_legs) };
 }
 
 impl<'a> Expansion<'a> {
@@ -184,7 +185,7 @@ fn number_variables<'a>(
 
 /// Whether the total is from 1 to 256.
 fn is_leg_count(kept: usize, added: usize) -> bool
-    ensures { IsTrue result ↔ ((0 < kept + added) × (kept + added ≤ MAX_LEGS)) }
+    ensures { IsTrue result ↔ ((0 < kept + added) × (kept + added ≤ max_legs)) }
 {
     (kept > 0 || added > 0) && kept <= MAX_LEGS && added <= MAX_LEGS - kept
 }

@@ -3,11 +3,11 @@
 use Rattle.std.specs.Prelude.{◌≡◌, ℕ, List, [], map, Bool, length, nat_eq, nat_le, Option, Some, slice_get, if◌then◌else◌}
 use Rattle.std.specs.List.{flat_map, list_all}
 use Rattle.std.specs.Option.{option_map_or}
+use Rattle.stated_limits.specs.Limits.{max_text_bytes}
 use Rattle.wf_expr.specs.Bound.{Results, bound_of, bound_text, no_results}
 use Rattle.wf_expr.specs.declared.bound.BoundPiece.{BoundPiece}
 use Rattle.run_plan.specs.PlanOf.{plan_of}
 use Rattle.run_plan.specs.declared.planned.PlannedJob.{PlannedJob}
-use Rattle.run_plan.specs.declared.small_text.TheConstants.{MAX_TEXT_BYTES}
 use Rattle.run_states.specs.GroupOf.{RunFacts}
 use Rattle.run_states.specs.LegContext.{context_of}
 use Rattle.run_bindings.specs.BoundGroups.{facts_by, need_of_job}
@@ -30,7 +30,7 @@ otherwise_text label = flat_map (λ (piece : BoundPiece). piece.otherwise) label
 
 -- the text that is kept of a label: the empty text if the label is longer than a runner's label can be, since no runner has either
 abbrev pub short_text : List ℕ → List ℕ
-short_text text = if nat_le (length text) MAX_TEXT_BYTES then text else []
+short_text text = if nat_le (length text) max_text_bytes then text else []
 
 -- the texts if no label depends on a result, and otherwise the bound labels
 abbrev pub kept_of : List (List BoundPiece) → ResolvedLabels

@@ -11,9 +11,9 @@ use Rattle.std.specs.Int.{IsInRange}
 use Rattle.std.proofs.lemmas.Int.Digits.{digits_value-lt, digits_value_more}
 use Rattle.std.proofs.lemmas.Str.Parse.{digit_at, digits_value-take-le}
 use Rattle.std.proofs.lemmas.Str.{digit_value_digit}
+use Rattle.stated_limits.specs.Limits.{last_number}
 use Rattle.run_plan.specs.Decimal.{is_decimal}
 use Rattle.run_plan.specs.SmallText.{is_number}
-use Rattle.run_plan.specs.declared.number.TheConstants.{LAST_NUMBER}
 
 digit_small : (b : ℕ) → is_ascii_digit b ≡ true → digit_value b < 10
 digit_small b h = grind (arith, common_steps)
@@ -37,7 +37,7 @@ nine_digits bs h =
     let some : 1 ≤ length bs = grind (arith, common_steps) in
     record { all = parts.1; some = some; few = few }
 
-pub decimal_most : (bs : List ℕ) → is_decimal bs ≡ true → digits_value 10 bs ≤ LAST_NUMBER
+pub decimal_most : (bs : List ℕ) → is_decimal bs ≡ true → digits_value 10 bs ≤ last_number
 decimal_most bs h =
     let nine = nine_digits bs h in
     let below : digits_value 10 bs < 10 ^ length bs = digits_value-lt 10 bs (digits_of_test bs nine.all) in
@@ -66,7 +66,7 @@ pub record OneDigitMore (bs : List ℕ) (i : ℕ) : Type 0 where
   pub digit : 48 ≤ get_or bs i 0
   pub last : get_or bs i 0 ≤ 57
   pub value : digits_value 10 (take (i + 1) bs) ≡ digits_value 10 (take i bs) * 10 + (get_or bs i 0 - 48)
-  pub most : digits_value 10 (take (i + 1) bs) ≤ LAST_NUMBER
+  pub most : digits_value 10 (take (i + 1) bs) ≤ last_number
 
 pub one_digit_more : (bs : List ℕ) (i : ℕ) → is_decimal bs ≡ true → i < length bs → OneDigitMore bs i
 one_digit_more bs i h lt =

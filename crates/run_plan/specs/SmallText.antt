@@ -3,14 +3,13 @@ use Rattle.std.specs.Prelude.{ℕ, ◌==◌, ◌&&◌, ◌||◌, List, length, B
 use Rattle.std.specs.List.{list_all, slice_split}
 use Rattle.std.specs.Char.{is_ascii_digit, is_ascii_lowercase, is_ascii_alphanumeric, is_ascii_graphic}
 use Rattle.std.specs.Str.Parse.{digits_value}
+use Rattle.stated_limits.specs.Limits.{max_labels, max_text_bytes}
 use Rattle.run_plan.specs.Decimal.{is_decimal}
-use Rattle.run_plan.specs.declared.labels.TheConstants.{MAX_LABELS}
-use Rattle.run_plan.specs.declared.small_text.TheConstants.{MAX_TEXT_BYTES}
 
 abbrev pub is_of_short_length : List ℕ → Bool
-is_of_short_length text = nat_le 1 (length text) && nat_le (length text) MAX_TEXT_BYTES
+is_of_short_length text = nat_le 1 (length text) && nat_le (length text) max_text_bytes
 
--- 1 to `MAX_TEXT_BYTES` bytes of a kind
+-- 1 to `max_text_bytes` bytes of a kind
 abbrev pub is_short : (ℕ → Bool) → List ℕ → Bool
 is_short kind text = is_of_short_length text && list_all kind text
 
@@ -34,7 +33,7 @@ is_label_byte b = is_ascii_graphic b && not (b == 44)
 abbrev pub found_if : {X : Type 0} → Bool → X → Option X
 found_if test x = if test then Some x else None
 
--- the text, if it is 1 to `MAX_TEXT_BYTES` bytes of a kind
+-- the text, if it is 1 to `max_text_bytes` bytes of a kind
 abbrev pub short_text_of : (ℕ → Bool) → List ℕ → Option (List ℕ)
 short_text_of kind text = found_if (is_short kind text) text
 
@@ -47,9 +46,9 @@ event_name_of = short_text_of is_event_byte
 abbrev pub runner_name_of : List ℕ → Option (List ℕ)
 runner_name_of = short_text_of is_runner_byte
 
--- 1 to `MAX_LABELS` labels
+-- 1 to `max_labels` labels
 abbrev pub are_labels : List (List ℕ) → Bool
-are_labels labels = nat_le 1 (length labels) && nat_le (length labels) MAX_LABELS && list_all (is_short is_label_byte) labels
+are_labels labels = nat_le 1 (length labels) && nat_le (length labels) max_labels && list_all (is_short is_label_byte) labels
 
 abbrev pub split_at_commas : List ℕ → List (List ℕ)
 split_at_commas = slice_split (λ b. b == 44)
@@ -62,6 +61,6 @@ label_list_of text = found_if (are_labels (split_at_commas text)) (split_at_comm
 abbrev pub is_number : List ℕ → Bool
 is_number text = is_decimal text && not (slice_index text 0 == 48)
 
--- decimal, 1 to `LAST_NUMBER`, no leading zero
+-- decimal, 1 to `last_number`, no leading zero
 abbrev pub number_of : List ℕ → Option ℕ
 number_of text = found_if (is_number text) (digits_value 10 text)

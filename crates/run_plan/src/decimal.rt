@@ -2,13 +2,13 @@ ghost use Rattle.std.specs.Prelude.{◌≡◌, ◌≤◌, IfSome, IsTrue};
 ghost use Rattle.std.specs.List.{list_all};
 ghost use Rattle.std.specs.Char.{is_ascii_digit};
 ghost use Rattle.std.specs.Str.Parse.{digits_value};
+ghost use Rattle.stated_limits.specs.Limits.{last_number};
 ghost use Rattle.run_plan.specs.Decimal.{decimal_of, is_decimal};
-ghost use Rattle.run_plan.specs.declared.number.TheConstants.{LAST_NUMBER};
 
 /// The number that one to nine decimal digits write, which may begin with zeros.
 pub fn decimal_of(text: &[u8]) -> Option<u32>
     ensures number { result ≡ decimal_of text.now }
-    ensures most { IfSome result (λ n. n ≤ LAST_NUMBER) }
+    ensures most { IfSome result (λ n. n ≤ last_number) }
 {
     if !is_decimal(text) {
         return None;
@@ -31,7 +31,7 @@ fn are_digits(text: &[u8]) -> bool
 fn value_of(digits: &[u8]) -> u32
     requires { IsTrue (is_decimal digits.now) }
     ensures value { result ≡ digits_value 10 digits.now }
-    ensures most { result ≤ LAST_NUMBER }
+    ensures most { result ≤ last_number }
 {
     let mut value = 0;
     for b in digits {

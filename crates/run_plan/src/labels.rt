@@ -1,5 +1,6 @@
 ghost use Rattle.std.specs.Prelude.{◌≡◌, ◌==◌, false, length, nat_le, IsTrue, Ok, None};
 ghost use Rattle.std.specs.List.{list_all};
+ghost use Rattle.stated_limits.specs.Limits.{max_labels};
 ghost use Rattle.wf_value.specs.Gives.{Gives};
 ghost use Rattle.run_plan.specs.SmallText.{are_labels, is_short, is_label_byte, label_list_of, split_at_commas};
 
@@ -83,7 +84,7 @@ fn is_comma(byte: &u8) -> bool
 }
 
 fn are_few(text: &[u8]) -> bool
-    ensures { result ≡ nat_le (length (split_at_commas text.now)) MAX_LABELS }
+    ensures { result ≡ nat_le (length (split_at_commas text.now)) max_labels }
 {
     text.split(is_comma).count() <= MAX_LABELS
 }

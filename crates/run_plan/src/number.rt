@@ -1,4 +1,5 @@
 ghost use Rattle.std.specs.Prelude.{◌≡◌, ◌≤◌};
+ghost use Rattle.stated_limits.specs.Limits.{last_number};
 ghost use Rattle.run_plan.specs.SmallText.{number_of};
 
 use crate::decimal::decimal_of;
@@ -15,13 +16,13 @@ pub struct Number {
 
 impl Model for Number {
     ghost use Rattle.std.specs.Prelude.{ℕ, ◌≤◌};
-    ghost use Rattle.run_plan.specs.declared.number.TheConstants.{LAST_NUMBER};
+    ghost use Rattle.stated_limits.specs.Limits.{last_number};
 
     ghost Value = { ℕ };
 
     ghost view = { λ n. n.value };
 
-    ghost invariant = { λ n. (1 ≤ n.value) × (n.value ≤ LAST_NUMBER) };
+    ghost invariant = { λ n. (1 ≤ n.value) × (n.value ≤ last_number) };
 
     ghost inverse = { λ n. record { value = n } };
 }
@@ -29,7 +30,7 @@ impl Model for Number {
 impl Number {
     pub fn new(value: u32) -> Self
         requires low { 1 ≤ value }
-        requires high { value ≤ LAST_NUMBER }
+        requires high { value ≤ last_number }
         ensures { result ≡ value }
     {
         Number { value }
@@ -38,7 +39,7 @@ impl Number {
     pub fn get(self) -> u32
         ensures value { result ≡ self }
         ensures low { 1 ≤ result }
-        ensures high { result ≤ LAST_NUMBER }
+        ensures high { result ≤ last_number }
     {
         self.value
     }

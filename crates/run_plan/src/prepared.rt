@@ -1,11 +1,11 @@
 ghost use Rattle.std.specs.Prelude.{◌≡◌, ◌<◌, ◌≤◌, [], Err, IfOk, Ok, false, length, option_copied};
 ghost use Rattle.std.specs.Str.{is_utf8};
+ghost use Rattle.stated_limits.specs.Limits.{max_body};
 ghost use Rattle.wf_value.specs.declared.code.Code.TheVariants.{NotJson, TooLong};
 ghost use Rattle.wf_value.specs.declared.refusal.Refusal.TheVariants.{Numbered};
 ghost use Rattle.wf_value.specs.Gives.{Gives};
 ghost use Rattle.wf_reader.specs.Event.{event_of};
 ghost use Rattle.wf_reader.specs.Faults.{unless_faulty};
-ghost use Rattle.wf_reader.specs.declared.body.TheConstants.{MAX_BODY};
 ghost use Rattle.run_plan.specs.Origins.{IsOrigin};
 ghost use Rattle.run_plan.specs.PlanOf.{faults_of, plan_of};
 
@@ -185,8 +185,8 @@ fn origin_and_jobs(event: Event) -> (Origin, Jobs)
 fn origin_and_plan(alloc: Global, body: &[u8]) -> Result<(Origin, Plan), Refusal>
     ensures gives { Gives (λ p. p.1) result (unless_faulty (faults_of body.now) (plan_of body.now)) }
     ensures origin { IfOk result (λ p. IsOrigin p.0 (event_of body.now)) }
-    ensures too_long { MAX_BODY < length body.now → result ≡ Err (Numbered TooLong) }
-    ensures no_text { length body.now ≤ MAX_BODY → is_utf8 body.now ≡ false → result ≡ Err (Numbered NotJson) }
+    ensures too_long { max_body < length body.now → result ≡ Err (Numbered TooLong) }
+    ensures no_text { length body.now ≤ max_body → is_utf8 body.now ≡ false → result ≡ Err (Numbered NotJson) }
 {
     let read = read_event(alloc, body)?;
     let (origin, jobs) = origin_and_jobs(read);
@@ -206,8 +206,8 @@ pub fn prepare(
         (unless_faulty (faults_of body.items) (record { delivery = delivery; event = event; body = body.items })) }
 
     // These two hold with or without memory:
-    ensures too_long { MAX_BODY < length body.items → result ≡ Err (Numbered TooLong) }
-    ensures no_text { length body.items ≤ MAX_BODY → is_utf8 body.items ≡ false
+    ensures too_long { max_body < length body.items → result ≡ Err (Numbered TooLong) }
+    ensures no_text { length body.items ≤ max_body → is_utf8 body.items ≡ false
         → result ≡ Err (Numbered NotJson) }
 {
     let (origin, plan) = origin_and_plan(alloc, body.as_slice())?;

@@ -1,10 +1,10 @@
 -- Runs that match their plans: each has the jobs of its plan, and each job has none of its legs or all.
 use Rattle.std.specs.Prelude.{◌≡◌, ◌⊎◌, ℕ, ◌≤◌, List, [], length, slice_get, Some}
+use Rattle.stated_limits.specs.Limits.{max_runs}
 use Rattle.run_plan.specs.PlanOf.{plan_of}
 use Rattle.run_plan.specs.declared.planned.PlannedJob.{PlannedJob}
 use Rattle.run_states.specs.Places.{run_at}
 use Rattle.run_states.specs.RunState.{LegState, JobState, RunState}
-use Rattle.run_states.specs.declared.limits.TheConstants.{MAX_RUNS}
 
 -- a job has none of its legs, or all that its plan has
 abbrev pub HasRoom : ℕ → List LegState → Type 0
@@ -21,5 +21,5 @@ pub record IsAsPlanned (plan : List PlannedJob) (jobs : List JobState) : Type 0 
   pub have_room : HaveRoom plan jobs
 
 pub record AreAsPlanned (runs : List RunState) : Type 0 where
-  pub few : length runs ≤ MAX_RUNS
+  pub few : length runs ≤ max_runs
   pub each : (r : ℕ) (x : RunState) → run_at runs r ≡ Some x → IsAsPlanned (plan_of x.admitted.body) x.jobs

@@ -2,10 +2,10 @@
 -- defines that a workflow is identified by its repository and its path.
 use Rattle.std.specs.Prelude.{◌≡◌, ℕ, ◌+◌, ◌≤◌, ◌&&◌, List, [], ◌∷◌, ◌++◌, map, length, take, count_by, Bool}
 use Rattle.std.specs.Str.{bytes_eq}
+use Rattle.stated_limits.specs.Limits.{max_runs}
 use Rattle.wf_reader.specs.Event.{event_of}
 use Rattle.run_plan.specs.Admitted.{Admitted}
 use Rattle.run_states.specs.RunState.{RunState}
-use Rattle.run_states.specs.declared.limits.TheConstants.{MAX_RUNS}
 
 -- the events of runs
 abbrev pub events : List RunState → List Admitted
@@ -33,5 +33,5 @@ numbers_after before (event ∷ all) =
     count_by (same_workflow event) (before ++ event ∷ []) ∷ numbers_after (before ++ event ∷ []) all
 
 pub record AreNumbered (runs : List RunState) (numbers : List ℕ) : Type 0 where
-  pub few : length runs ≤ MAX_RUNS
+  pub few : length runs ≤ max_runs
   pub numbered : numbers ≡ numbers_after [] (events runs)

@@ -1,5 +1,6 @@
 ghost use Rattle.std.specs.Prelude.{◌≡◌, ◌&&◌, ◌<◌, None, Ok, is_some, length, map, not, option_map, slice_get, true};
 ghost use Rattle.std.specs.List.{list_any, slice_index_or};
+ghost use Rattle.stated_limits.specs.Limits.{last_attempt};
 ghost use Rattle.wf_value.specs.Gives.{Gives};
 ghost use Rattle.run_plan.specs.PlanOf.{plan_of};
 ghost use Rattle.run_states.specs.ActiveRuns.{has_active_leg, has_ready_leg, has_waiting_leg, is_active, offers_legs, someone_waits};
@@ -15,7 +16,6 @@ ghost use Rattle.run_states.specs.Settling.{legs_in_plan};
 ghost use Rattle.run_states.specs.Stops.{cancelled, is_open_at, stopped_run, with_stop_requested, with_job_stopped};
 ghost use Rattle.run_states.specs.Stops.{with_jobs_stopped, with_stopped_legs};
 ghost use Rattle.run_states.specs.WithinRun.{condition_in, may_run_in, needs_settled_in};
-ghost use Rattle.run_states.specs.declared.limits.TheConstants.{LAST_ATTEMPT};
 
 mod needs;
 mod of;
@@ -64,7 +64,7 @@ impl Run {
 
     /// The next attempt of the run: waiting, with all its jobs blocked.
     pub fn again(&self, alloc: Global) -> Result<Self, Refusal>
-        requires { self.now.attempt < LAST_ATTEMPT }
+        requires { self.now.attempt < last_attempt }
         ensures { Gives (λ r. r) result (Ok (again self.now)) }
     {
         let next = Number::new(self.attempt.get() + 1);

@@ -7,6 +7,7 @@ use Rattle.std.proofs.lemmas.Bool.{cases_eq, leb-false, true≢false}
 use Rattle.std.proofs.lemmas.List.{length-map}
 use Rattle.std.proofs.lemmas.Option.{same_Some, slice_get-map, slice_get_past, slice_get_within}
 use Rattle.std.proofs.lemmas.Slice.Eq.{bytes_eq-Decides}
+use Rattle.stated_limits.specs.Limits.{last_attempt}
 use Rattle.wf_value.specs.declared.code.Code.TheVariants.{LastCounter}
 use Rattle.wf_value.proofs.OptionOr.{or_nothing}
 use Rattle.run_plan.specs.Admitted.{Admitted}
@@ -23,7 +24,6 @@ use Rattle.run_states.specs.NewRun.{is_delivered_as, blocked_job, new_run, run_i
 use Rattle.run_table.specs.TableState.{TableState}
 use Rattle.run_states.specs.RunState.{LegState, JobState, RunState}
 use Rattle.run_states.specs.Words.{planned_legs}
-use Rattle.run_states.specs.declared.limits.TheConstants.{LAST_ATTEMPT}
 use Rattle.run_states.proofs.Found.{none_found, found_nowhere, each_at, at_the_end, before_the_end}
 use Rattle.run_table.proofs.Kept.{IsKept, StillHad, kept_still_had}
 use Rattle.run_states.proofs.LeaseReads.{leases_same}
@@ -158,7 +158,7 @@ first_attempt runs event given r y at =
       | inl s ↦
           let same : new_run event ≡ y = same_Some (new_run event) y
           (sym (at_the_end runs (new_run event)) ∙ ap (slice_get (runs ++ new_run event ∷ [])) (sym s) ∙ at) in
-          subst (λ (v : RunState). (1 ≤ v.attempt) × (v.attempt ≤ LAST_ATTEMPT)) same (omega arith, omega arith)
+          subst (λ (v : RunState). (1 ≤ v.attempt) × (v.attempt ≤ last_attempt)) same (omega arith, omega arith)
       | inr n ↦ given r y (sym (before_the_end runs (new_run event) r n) ∙ at)
     ]
 

@@ -4,6 +4,7 @@ use Rattle.std.specs.Prelude.{slice_get, if◌then◌else◌, refl}
 use Rattle.std.specs.Option.{option_map_or}
 use Rattle.std.proofs.Common.{inl, inr, subst}
 use Rattle.std.proofs.lemmas.Bool.{eqb-true, leb-false}
+use Rattle.stated_limits.specs.Limits.{last_attempt}
 use Rattle.wf_value.specs.declared.code.Code.TheVariants.{LastCounter, NoRun, RunNotCompleted}
 use Rattle.wf_value.specs.declared.outcome.JobResult.{JobResult}
 use Rattle.wf_value.specs.declared.refusal.Refusal.TheVariants.{Turn}
@@ -17,7 +18,6 @@ use Rattle.run_states.specs.RunState.{LegState, JobState, RunState}
 use Rattle.run_states.specs.SoundRuns.{LegsFit, PhaseFits}
 use Rattle.run_states.specs.StateWords.{is_settled, leg_has_ended, outcome_of}
 use Rattle.run_states.specs.Words.{planned_legs}
-use Rattle.run_states.specs.declared.limits.TheConstants.{LAST_ATTEMPT}
 use Rattle.run_states.specs.declared.phases.JobPhase.{JobPhase}
 use Rattle.run_states.specs.declared.phases.JobPhase.TheVariants as job
 use Rattle.run_states.specs.declared.phases.LegPhase.{LegPhase}
@@ -39,7 +39,7 @@ pub record BeginsAgain (runs : List RunState) (r attempt : ℕ) : Type 0 where
   pub there : run_at runs r ≡ Some was
   pub ended : was.phase ≡ run.Ended
   pub next : attempt ≡ was.attempt + 1
-  pub below : was.attempt < LAST_ATTEMPT
+  pub below : was.attempt < last_attempt
 
 if_refused : {Y : Type 0} (b : Bool) (y : Y) (o : Option Y) → (if b then Some y else o) ≡ None → (b ≡ false) × (o ≡ None)
 if_refused true y o e = cc
@@ -55,15 +55,15 @@ completed run.Live e = cc
 completed run.Ended e = refl
 
 begins : (x : RunState) (requested : Attempt) → answer_of_attempt x requested ≡ None
-    → (x.phase ≡ run.Ended) × (requested.attempt ≡ x.attempt + 1) × (x.attempt < LAST_ATTEMPT)
+    → (x.phase ≡ run.Ended) × (requested.attempt ≡ x.attempt + 1) × (x.attempt < last_attempt)
 begins x requested none =
     let another = if_refused (nat_eq requested.attempt x.attempt) (reply.Again requested)
     (if nat_eq requested.attempt (x.attempt + 1) then answer_of_next x else Some (reply.Refused (Turn x.attempt))) none in
     let next = if_passed (nat_eq requested.attempt (x.attempt + 1)) (answer_of_next x) (reply.Refused (Turn x.attempt)) another.1 in
-    let left = if_refused (nat_le LAST_ATTEMPT x.attempt) (refused LastCounter)
+    let left = if_refused (nat_le last_attempt x.attempt) (refused LastCounter)
     (if has_completed x.phase then None else Some (refused RunNotCompleted)) next.1 in
     let over = if_passed (has_completed x.phase) None (refused RunNotCompleted) left.1 in
-    (completed x.phase over.0, eqb-true requested.attempt (x.attempt + 1) next.0, leb-false LAST_ATTEMPT x.attempt left.0)
+    (completed x.phase over.0, eqb-true requested.attempt (x.attempt + 1) next.0, leb-false last_attempt x.attempt left.0)
 
 begins_at : (runs : List RunState) (r : ℕ) (requested : Attempt) (o : Option RunState) → run_at runs r ≡ o
     → option_map_or (λ x. answer_of_attempt x requested) o (Some (refused NoRun)) ≡ None → BeginsAgain runs r requested.attempt

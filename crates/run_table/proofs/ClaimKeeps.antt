@@ -6,6 +6,7 @@ use Rattle.std.specs.Option.{option_map_or}
 use Rattle.std.proofs.Common.{arith, ap, sym, ◌∙◌, subst, inl, inr}
 use Rattle.std.proofs.lemmas.Bool.{cases_eq, and_parts, leb-false, ltb-true}
 use Rattle.std.proofs.lemmas.Option.{none-some, slice_get_within}
+use Rattle.stated_limits.specs.Limits.{last_number}
 use Rattle.wf_value.specs.declared.code.Code.TheVariants.{HasLease, LastCounter}
 use Rattle.wf_value.proofs.OptionOr.{or_nothing}
 use Rattle.run_plan.specs.declared.command.Claim.{Claim as Claimed}
@@ -30,7 +31,6 @@ use Rattle.run_table.specs.TableState.{RunnerState, TableState}
 use Rattle.run_states.specs.RunState.{LegState, JobState, RunState}
 use Rattle.run_table.specs.SequenceNumbers.{runner_named, answer_by_number, with_runner, holds_lease}
 use Rattle.run_plan.specs.declared.last_command.ClaimReply.TheVariants as given
-use Rattle.run_plan.specs.declared.number.TheConstants.{LAST_NUMBER}
 use Rattle.run_states.specs.declared.phases.LegPhase.{LegPhase}
 use Rattle.run_states.specs.declared.phases.LegPhase.TheVariants as leg
 use Rattle.run_states.proofs.Found.{find_passes}
@@ -260,8 +260,8 @@ leasing_keeps t claim p s none fit =
     (if holds_lease runner then Some (refused HasLease) else
     (if has_no_lease_left t claim then Some (refused LastCounter) else None)) none in
     let tests = looked_first (holds_lease runner) (has_no_lease_left t claim) (refused HasLease) (refused LastCounter) looked.1 in
-    let left = leb-false LAST_NUMBER t.last_lease
-    (no_lease_left (first_fit claim.labels t.runs) p (nat_le LAST_NUMBER t.last_lease) fit tests.1) in
+    let left = leb-false last_number t.last_lease
+    (no_lease_left (first_fit claim.labels t.runs) p (nat_le last_number t.last_lease) fit tests.1) in
     let ready = fitting_leg claim.labels t.runs p fit in
     let z = ready.leg_of in
     let unended : leg_has_ended z ≡ false = ap (λ (phase : LegPhase). leg_has_ended (record z { phase = phase })) ready.ready in

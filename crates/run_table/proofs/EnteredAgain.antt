@@ -6,6 +6,7 @@ use Rattle.std.specs.Option.{option_map_or}
 use Rattle.std.proofs.Common.{arith, ap, inl, inr, sym, ◌∙◌, subst}
 use Rattle.std.proofs.lemmas.Bool.{and_from, and_parts, cases_eq, false≢true}
 use Rattle.std.proofs.lemmas.Option.{none-some, same_Some}
+use Rattle.stated_limits.specs.Limits.{last_attempt}
 use Rattle.group_name.specs.Group.{Group, same_group}
 use Rattle.run_plan.specs.PlanOf.{plan_of}
 use Rattle.run_states.specs.GroupOf.{group_at}
@@ -43,7 +44,6 @@ use Rattle.run_table.proofs.Kept.{IsKept, StillHad, deliveries_still_differ, kep
 use Rattle.run_table.proofs.RunnerPut.{holds_at}
 use Rattle.run_states.specs.declared.holder.Holder.{Holder}
 use Rattle.run_states.specs.declared.holder.Holder.TheVariants.{Run, Leg}
-use Rattle.run_states.specs.declared.limits.TheConstants.{LAST_ATTEMPT}
 
 -- ---- leases of legs that are gone
 
@@ -142,12 +142,12 @@ module _ (runs : List RunState) (r : ℕ) where
     ]);
   }
 
-  again_is_given : (x : RunState) → run_at runs r ≡ Some x → x.attempt < LAST_ATTEMPT → AttemptsAreGiven runs → AttemptsAreGiven next
+  again_is_given : (x : RunState) → run_at runs r ≡ Some x → x.attempt < last_attempt → AttemptsAreGiven runs → AttemptsAreGiven next
   again_is_given x at less given k y then_at =
       elim (cases_eq k r) [
         | inl same ↦
             let now : again x ≡ y = same_Some (again x) y (sym (here k x same (ap (run_at runs) same ∙ at)) ∙ then_at) in
-            subst (λ (v : RunState). (1 ≤ v.attempt) × (v.attempt ≤ LAST_ATTEMPT)) now (omega arith, omega (arith, less))
+            subst (λ (v : RunState). (1 ≤ v.attempt) × (v.attempt ≤ last_attempt)) now (omega arith, omega (arith, less))
         | inr other ↦ given k y (sym (elsewhere k other) ∙ then_at)
       ]
 

@@ -4,6 +4,7 @@ use Rattle.std.specs.Prelude.{if◌then◌else◌, refl}
 use Rattle.std.specs.Option.{option_map_or}
 use Rattle.std.proofs.Common.{arith, ap, sym, ◌∙◌, subst}
 use Rattle.std.proofs.lemmas.Option.{same_Some}
+use Rattle.stated_limits.specs.Limits.{last_attempt, last_number}
 use Rattle.run_states.specs.Groups.{HasOneEach}
 use Rattle.run_plan.specs.declared.planned.PlannedJob.{PlannedJob}
 use Rattle.run_states.specs.Places.{run_at, leg_at, plan_at}
@@ -21,8 +22,6 @@ use Rattle.run_plan.specs.declared.last_command.LastCommand.{LastCommand}
 use Rattle.run_plan.specs.declared.last_command.LastCommand.TheVariants as last
 use Rattle.run_plan.specs.declared.last_command.ClaimReply.TheVariants as given
 use Rattle.run_plan.specs.declared.last_command.KeptLease.{KeptLease}
-use Rattle.run_plan.specs.declared.number.TheConstants.{LAST_NUMBER}
-use Rattle.run_states.specs.declared.limits.TheConstants.{LAST_ATTEMPT}
 use Rattle.run_table.proofs.AtWork.{settling_bounded}
 use Rattle.run_states.proofs.LeaseReads.{LeasesAgree, leases_same}
 use Rattle.run_states.proofs.LegFacts.{attempt_at}
@@ -64,7 +63,7 @@ pub record IsKept (t : TableState) : Type 0 where
   pub fit : RunsFit t.runs
   pub parallel_bounded : ParallelIsBounded t.runs
   pub agree : LeasesAgree t.last_lease (had_at t.runs) (works_at t.runs) (holds_at t.runners)
-  pub last_lease_in_range : t.last_lease ≤ LAST_NUMBER
+  pub last_lease_in_range : t.last_lease ≤ last_number
   pub runners_in_order : names_rise t.runners ≡ true
   pub lasts_are_own : LastsAreOwn t.runners
   pub kept_are_had : KeptAreHad t.last_lease t.runs t.runners
@@ -209,7 +208,7 @@ pub attempts_still_given : (runs next : List RunState) → ((r : ℕ) → attemp
 attempts_still_given runs next same given r y at =
     let attempt = λ (v : RunState). v.attempt in
     let f = from_map attempt (run_at runs r) y.attempt (sym (same r) ∙ ap (option_map attempt) at) in
-    subst (λ (n : ℕ). (1 ≤ n) × (n ≤ LAST_ATTEMPT)) f.gives (given r f.value f.is)
+    subst (λ (n : ℕ). (1 ≤ n) × (n ≤ last_attempt)) f.gives (given r f.value f.is)
 
 -- runs of the same events at the same attempts
 pub stay_still_had : (runs next : List RunState) → ((r : ℕ) → admitted_at next r ≡ admitted_at runs r)

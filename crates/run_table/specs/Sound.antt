@@ -2,6 +2,7 @@
 -- them: "Workflow syntax for GitHub Actions" (jobs, jobs.<job_id>.strategy, jobs.<job_id>.runs-on) and "Control the
 -- concurrency of workflows and jobs". This project defines leases, command numbers and kept replies.
 use Rattle.std.specs.Prelude.{◌≡◌, ℕ, ◌<◌, ◌≤◌, List, length, true, slice_get, Some, None}
+use Rattle.stated_limits.specs.Limits.{last_attempt, last_number, max_runs}
 use Rattle.run_states.specs.Groups.{HasOneEach}
 use Rattle.run_states.specs.Parallel.{is_at_work, legs_at_work, most_at_work}
 use Rattle.run_states.specs.Places.{run_at, job_at, leg_at}
@@ -15,10 +16,8 @@ use Rattle.run_plan.specs.declared.last_command.LastCommand.{LastCommand}
 use Rattle.run_plan.specs.declared.last_command.LastCommand.TheVariants as last
 use Rattle.run_plan.specs.declared.last_command.ClaimReply.TheVariants as given
 use Rattle.run_plan.specs.declared.last_command.KeptLease.{KeptLease}
-use Rattle.run_plan.specs.declared.number.TheConstants.{LAST_NUMBER}
 use Rattle.run_states.specs.SoundRuns.{JobsAreThePlans, RunPhasesFit, JobsFit, NeedsComeFirst, LeasesFit}
 use Rattle.run_states.specs.Words.{planned_legs}
-use Rattle.run_states.specs.declared.limits.TheConstants.{LAST_ATTEMPT, MAX_RUNS}
 
 -- ---- runs
 
@@ -29,7 +28,7 @@ DeliveriesDiffer runs =
 
 -- an attempt is a number from 1 to the last
 abbrev pub AttemptIsGiven : RunState → Type 0
-AttemptIsGiven x = (1 ≤ x.attempt) × (x.attempt ≤ LAST_ATTEMPT)
+AttemptIsGiven x = (1 ≤ x.attempt) × (x.attempt ≤ last_attempt)
 
 abbrev pub AttemptsAreGiven : List RunState → Type 0
 AttemptsAreGiven runs = (r : ℕ) (x : RunState) → run_at runs r ≡ Some x → AttemptIsGiven x
@@ -110,7 +109,7 @@ KeptLeasesAreOfLegs most runs runners = (k : ℕ) (x : RunnerState) → slice_ge
 -- ---- all rules
 
 pub record IsSound (t : TableState) : Type 0 where
-  pub few_runs : length t.runs ≤ MAX_RUNS
+  pub few_runs : length t.runs ≤ max_runs
   pub deliveries_differ : DeliveriesDiffer t.runs
   pub attempts_are_given : AttemptsAreGiven t.runs
   pub jobs_are_the_plans : JobsAreThePlans t.runs
@@ -122,7 +121,7 @@ pub record IsSound (t : TableState) : Type 0 where
   pub leases_fit : LeasesFit t.runs
   pub leases_are_given : LeasesAreGiven t.last_lease t.runs
   pub leases_differ : LeasesDiffer t.runs
-  pub last_lease_in_range : t.last_lease ≤ LAST_NUMBER
+  pub last_lease_in_range : t.last_lease ≤ last_number
   pub runners_in_order : names_rise t.runners ≡ true
   pub work_is_held : WorkIsHeld t.runs t.runners
   pub held_is_at_work : HeldIsAtWork t.runs t.runners

@@ -6,6 +6,7 @@ use Rattle.std.specs.Prelude.{ℕ, ◌+◌, ◌-◌, ◌&&◌, List, [], ◌∷�
 use Rattle.std.specs.Prelude.{option_map, if◌then◌else◌}
 use Rattle.std.specs.List.{position}
 use Rattle.std.specs.Option.{option_or, option_map_or}
+use Rattle.stated_limits.specs.Limits.{last_attempt, last_number, max_runs}
 use Rattle.wf_value.specs.declared.code.Code.{Code}
 use Rattle.wf_value.specs.declared.code.Code.TheVariants.{HasLease, LeaseNotHeld, LastCounter, NoRun, NoRunner}
 use Rattle.wf_value.specs.declared.code.Code.TheVariants.{RunCompleted, RunNotCompleted}
@@ -39,12 +40,10 @@ use Rattle.run_plan.specs.declared.last_command.LastCommand.TheVariants as last
 use Rattle.run_plan.specs.declared.last_command.ClaimReply.{ClaimReply}
 use Rattle.run_plan.specs.declared.last_command.ClaimReply.TheVariants as given
 use Rattle.run_plan.specs.declared.last_command.KeptLease.{KeptLease}
-use Rattle.run_plan.specs.declared.number.TheConstants.{LAST_NUMBER}
 use Rattle.run_states.specs.NewRun.{again, is_delivered_as, new_run, leased_leg}
 use Rattle.run_states.specs.declared.phases.RunPhase.{RunPhase}
 use Rattle.run_states.specs.declared.phases.RunPhase.TheVariants as run
 use Rattle.run_states.specs.declared.holder.Holder.TheVariants.{Run}
-use Rattle.run_states.specs.declared.limits.TheConstants.{LAST_ATTEMPT, MAX_RUNS}
 
 -- a table without runs or runners
 abbrev pub empty : TableState
@@ -71,7 +70,7 @@ at_rest t reply = at_rest_after [] t reply
 abbrev pub admission_answer : TableState → Admitted → Option Reply
 admission_answer t event =
     option_or (option_map (λ i. reply.Created (i + 1)) (position (is_delivered_as event.delivery) t.runs))
-    (if nat_le MAX_RUNS (length t.runs) then Some (refused LastCounter) else None)
+    (if nat_le max_runs (length t.runs) then Some (refused LastCounter) else None)
 
 -- the new run arrives in its group
 abbrev pub entered : TableState → Admitted → Transition
@@ -88,7 +87,7 @@ admitted t event = option_map_or (unchanged t) (admission_answer t event) (admit
 
 -- a leg fits, but the last lease number is used up
 abbrev pub has_no_lease_left : TableState → Claimed → Bool
-has_no_lease_left t claim = is_some (first_fit claim.labels t.runs) && nat_le LAST_NUMBER t.last_lease
+has_no_lease_left t claim = is_some (first_fit claim.labels t.runs) && nat_le last_number t.last_lease
 
 abbrev pub lease_answer : TableState → Claimed → Option Reply
 lease_answer t claim = if has_no_lease_left t claim then Some (refused LastCounter) else None
@@ -196,7 +195,7 @@ has_completed run.Ended = true
 -- why the next attempt of a run may not begin, if it may not
 abbrev pub answer_of_next : RunState → Option Reply
 answer_of_next x =
-    if nat_le LAST_ATTEMPT x.attempt then Some (refused LastCounter)
+    if nat_le last_attempt x.attempt then Some (refused LastCounter)
     else (if has_completed x.phase then None else Some (refused RunNotCompleted))
 
 -- The current attempt has begun already. Of the others, only the next may begin.

@@ -1,12 +1,12 @@
 -- What makes a table storable: a run has as many jobs as its plan, a leg count of a job fits in four bytes, and no leg is new, since new legs have no
 -- encoding.
 use Rattle.std.specs.Prelude.{◌≡◌, ℕ, ◌≤◌, List, length, false, Some}
+use Rattle.stated_limits.specs.Limits.{max_runs}
 use Rattle.run_states.specs.Places.{job_at, leg_at}
 use Rattle.run_states.specs.declared.place.LegPlace.{LegPlace}
 use Rattle.run_states.specs.RunState.{LegState, JobState, RunState}
 use Rattle.run_states.specs.SoundRuns.{JobsAreThePlans}
 use Rattle.run_states.specs.StateWords.{is_new}
-use Rattle.run_states.specs.declared.limits.TheConstants.{MAX_RUNS}
 use Rattle.run_table.specs.Sound.{AttemptsAreGiven}
 
 -- after settling none is
@@ -18,7 +18,7 @@ abbrev pub LegsAreFew : List RunState → Type 0
 LegsAreFew runs = (r j : ℕ) (x : JobState) → job_at runs r j ≡ Some x → length x.legs ≤ 256
 
 pub record IsStorable (runs : List RunState) : Type 0 where
-  pub few_runs : length runs ≤ MAX_RUNS
+  pub few_runs : length runs ≤ max_runs
   pub attempts_are_given : AttemptsAreGiven runs
   pub jobs_are_the_plans : JobsAreThePlans runs
   pub legs_are_few : LegsAreFew runs

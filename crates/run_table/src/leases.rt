@@ -2,10 +2,10 @@
 
 ghost use Rattle.std.specs.Option.{option_map_or};
 ghost use Rattle.std.specs.Prelude.{◌≡◌, ◌<◌, Ok, false};
+ghost use Rattle.stated_limits.specs.Limits.{max_runs};
 ghost use Rattle.wf_value.specs.Gives.{Gives};
 ghost use Rattle.run_states.specs.Fitting.{has_lease};
 ghost use Rattle.run_states.specs.Places.{leg_at};
-ghost use Rattle.run_states.specs.declared.limits.TheConstants.{MAX_RUNS};
 ghost use Rattle.run_table.specs.Step.{kept_lease, lease_at};
 
 use crate::table_data::id_of;
@@ -23,7 +23,7 @@ pub fn kept_lease(
     place: LegPlace,
     lease: Number,
 ) -> Result<KeptLease, Refusal>
-    requires { place.run < MAX_RUNS }
+    requires { place.run < max_runs }
     ensures { Gives (λ k. k) result (Ok (kept_lease runs.now attempt place lease)) }
 {
     Ok(KeptLease {
@@ -35,7 +35,7 @@ pub fn kept_lease(
 
 /// The lease as it is sent to the runner that gets the leg.
 fn lease_at(alloc: Global, runs: &Runs, place: LegPlace, lease: Number) -> Result<Lease, Refusal>
-    requires { place.run < MAX_RUNS }
+    requires { place.run < max_runs }
     ensures { Gives (λ l. l) result (Ok (lease_at runs.now place lease)) }
 {
     Ok(Lease {

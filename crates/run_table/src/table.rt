@@ -1,6 +1,6 @@
 ghost use Rattle.std.specs.Prelude.{◌≡◌, ◌≤◌, true, IfOk, Ok, OnErr, IsOk};
+ghost use Rattle.stated_limits.specs.Limits.{last_number};
 ghost use Rattle.wf_value.specs.Gives.{Gives};
-ghost use Rattle.run_plan.specs.declared.number.TheConstants.{LAST_NUMBER};
 ghost use Rattle.run_table.specs.Sound.{IsSound};
 ghost use Rattle.run_table.specs.Storable.{IsStorable};
 ghost use Rattle.run_table.specs.Step.{read_only_reply, empty, is_allocation_free, seen, step};
@@ -105,7 +105,7 @@ impl Table {
     pub fn last_lease(&self) -> u32
         ensures lease { result ≡ self.now.last_lease }
         ensures sound { IsSound self.now }
-        ensures most { result ≤ LAST_NUMBER }
+        ensures most { result ≤ last_number }
     {
         self.table_data.last_lease()
     }

@@ -1,9 +1,9 @@
 //! The contents of a table, and a step of it. The modules below carry out the commands.
 
 ghost use Rattle.std.specs.Prelude.{◌≡◌, ◌<◌, ◌+◌, ◌-◌, true, false, Ok, IfOk, OnErr, IsOk};
+ghost use Rattle.stated_limits.specs.Limits.{max_runs};
 ghost use Rattle.wf_value.specs.Gives.{Gives};
 ghost use Rattle.run_plan.specs.ReplyText.{carries_text};
-ghost use Rattle.run_states.specs.declared.limits.TheConstants.{MAX_RUNS};
 ghost use Rattle.run_table.specs.Claims.{is_claim};
 ghost use Rattle.run_table.specs.Sound.{IsSound};
 ghost use Rattle.run_table.specs.Step.{empty, is_allocation_free, read_only_reply, refused, step};
@@ -165,7 +165,7 @@ fn with_copy(alloc: Global, reply: Reply) -> Result<(Reply, Reply), Refusal>
 
 /// The id of the run at an index.
 pub(crate) fn id_of(place: usize) -> Number
-    requires { place < MAX_RUNS }
+    requires { place < max_runs }
     ensures { result ≡ place + 1 }
 {
     Number::new(place as u32 + 1)

@@ -4,6 +4,7 @@ use Rattle.std.specs.List.{All}
 use Rattle.std.specs.Option.{option_map_or}
 use Rattle.std.specs.Str.{bytes_eq}
 use Rattle.std.specs.Str.Lines.{strip_carriage_return}
+use Rattle.stated_limits.specs.Limits.{max_line, max_lines}
 use Rattle.wf_value.specs.RefusalText.{refusal_text}
 use Rattle.wf_value.specs.declared.refusal.Refusal.{Refusal}
 use Rattle.run_plan.specs.ReplyText.{reply_text}
@@ -15,8 +16,6 @@ use Rattle.act_sessions.specs.declared.request.Demand.TheVariants as demand
 use Rattle.act_sessions.specs.declared.request.Request.{Request}
 use Rattle.act_sessions.specs.Rules.{Rules}
 use Rattle.act_sessions.specs.Exchange.{Response}
-use Rattle.runner_sessions.specs.declared.line.TheConstants.{MAX_LINE}
-use Rattle.runner_sessions.specs.declared.protocol.TheConstants.{MAX_LINES}
 
 -- `CLAIM RUNNER NUMBER LABELS`, `DONE RUNNER NUMBER LEASE RESULT`, `BEAT RUNNER LEASE` or `FETCH RUN`
 abbrev pub command_by : List ℕ → List ℕ → Result Command Refusal
@@ -38,7 +37,7 @@ demand_by (Err e) = demand.Fault e
 abbrev pub request_in : List ℕ → Request Refusal
 request_in line = record { demand = demand_by (command_of (strip_carriage_return line)); closes = false }
 
--- `MAX_LINE` bytes without a line feed are refused with 75 and end the session
+-- `max_line` bytes without a line feed are refused with 75 and end the session
 abbrev pub too_long : Request Refusal
 too_long = record { demand = demand.Fault not_a_line; closes = true }
 
@@ -47,21 +46,21 @@ HasNoFeed line = All (λ b. b ≢ 10) line
 
 -- less than a line: the bytes contain no line feed, and are fewer than the longest line has
 abbrev pub IsUnfinished : List ℕ → Type 0
-IsUnfinished bytes = HasNoFeed bytes × (length bytes < MAX_LINE)
+IsUnfinished bytes = HasNoFeed bytes × (length bytes < max_line)
 
 -- The bytes begin with a line and its line feed, or with as many bytes as the longest line has and no line feed. A rest follows.
 abbrev pub LineReads : List ℕ → Request Refusal → List ℕ → Type 0
 LineReads bytes r rest =
     (line : List ℕ) × HasNoFeed line
-    × (((length line < MAX_LINE) × (bytes ≡ line ++ 10 ∷ rest) × (r ≡ request_in line))
-    ⊎ ((length line ≡ MAX_LINE) × (bytes ≡ line ++ rest) × (r ≡ too_long)))
+    × (((length line < max_line) × (bytes ≡ line ++ 10 ∷ rest) × (r ≡ request_in line))
+    ⊎ ((length line ≡ max_line) × (bytes ≡ line ++ rest) × (r ≡ too_long)))
 
 -- the text of the reply or the refusal, and a line feed
 abbrev pub response_text : Response → List ℕ
 response_text (Ok reply) = reply_text reply ++ 10 ∷ []
 response_text (Err e) = refusal_text e ++ 10 ∷ []
 
--- A session takes at most `MAX_LINES` lines, including faulty and empty ones. An unfinished line waits. Running out of memory ends the
+-- A session takes at most `max_lines` lines, including faulty and empty ones. An unfinished line waits. Running out of memory ends the
 -- session with a fault.
 abbrev pub runner_rules : Rules Refusal
 runner_rules = record {
@@ -70,6 +69,6 @@ runner_rules = record {
   answer_text = λ last a. response_text a;
   fault_text = λ last e. refusal_text e ++ 10 ∷ [];
   out_of_memory_response = None;
-  most = MAX_LINES;
-  limit = MAX_LINE;
+  most = max_lines;
+  limit = max_line;
 }

@@ -1,11 +1,11 @@
 -- The leases of legs, by place, and the leases that runners hold.
 use Rattle.std.specs.Prelude.{ℕ, ◌≤◌, List, Option, length, option_and_then, slice_get}
+use Rattle.stated_limits.specs.Limits.{max_runs}
 use Rattle.stored_tables.specs.ByNumber.{Finds}
 use Rattle.run_states.specs.Places.{run_at}
 use Rattle.run_states.specs.declared.place.LegPlace.{LegPlace}
 use Rattle.run_table.specs.TableState.{RunnerState}
 use Rattle.run_states.specs.RunState.{LegState, JobState, RunState}
-use Rattle.run_states.specs.declared.limits.TheConstants.{MAX_RUNS}
 
 -- the lease of the leg at an index, if it has one
 abbrev pub lease_in_job : List LegState → ℕ → Option ℕ
@@ -20,7 +20,7 @@ lease_of_leg runs p = option_and_then (λ run. lease_in_run run.jobs p.job p.leg
 -- leg_of finds the legs by their leases, and there are at most as many runs as a table may have
 pub record FindsLegs (runs : List RunState) (leg_of : ℕ → Option LegPlace) : Type 0 where
   pub legs : (n : ℕ) → Finds (lease_of_leg runs) n (leg_of n)
-  pub few : length runs ≤ MAX_RUNS
+  pub few : length runs ≤ max_runs
 
 -- the lease that the runner at an index holds, if any
 abbrev pub lease_of_runner : List RunnerState → ℕ → Option ℕ

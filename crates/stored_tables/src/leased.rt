@@ -4,6 +4,7 @@ ghost use Rattle.std.specs.BTreeMap.{get};
 ghost use Rattle.std.specs.Bool.{Decides};
 ghost use Rattle.std.specs.Ordering.{nat_cmp};
 ghost use Rattle.std.specs.Prelude.{◌≡◌, ◌≤◌, IfOk, MatchOption, None, Some, length, nat_lt, option_map};
+ghost use Rattle.stated_limits.specs.Limits.{max_runs};
 ghost use Rattle.wf_value.specs.Gives.{ErrsOnlyByMemory};
 ghost use Rattle.run_plan.specs.declared.last_command.KeptLease.{KeptLease as Kept};
 ghost use Rattle.stored_tables.specs.ByLease.{FindsLegs};
@@ -14,7 +15,6 @@ ghost use Rattle.stored_tables.specs.TableOf.{IsLeaseAs};
 ghost use Rattle.run_states.specs.AsPlanned.{AreAsPlanned};
 ghost use Rattle.run_states.specs.Places.{run_at};
 ghost use Rattle.run_states.specs.Words.{planned_legs};
-ghost use Rattle.run_states.specs.declared.limits.TheConstants.{MAX_RUNS};
 
 use crate::parts::{StoredLease, StoredPlace};
 use crate::sound::jobs::planned_legs;
@@ -78,7 +78,7 @@ impl<'a> Leased<'a> {
     /// The lease, at the place where it was granted, or `None` if there is no such leg.
     fn given_at(&self, lease: Number, stored: &StoredPlace) -> Result<Option<KeptLease>, Refusal>
         requires last { lease ≤ self.now.last }
-        requires few { length self.now.runs.now ≤ MAX_RUNS }
+        requires few { length self.now.runs.now ≤ max_runs }
         ensures err { ErrsOnlyByMemory result }
         ensures of { IfOk result (λ found. MatchOption found
             ((kept : Kept) → IsLeaseAs self.now.last self.now.runs.now (record { lease = lease; place = Some stored.now }) kept → ⊥)

@@ -5,6 +5,7 @@ use Rattle.std.specs.Option.{option_map_or}
 use Rattle.std.proofs.Common.{ap, inl, inr, sym, ◌∙◌}
 use Rattle.std.proofs.lemmas.Bool.{cases_eq, eq-eqb, eqb-true}
 use Rattle.std.proofs.lemmas.Option.{same_Some, slice_get-map}
+use Rattle.stated_limits.specs.Limits.{last_attempt}
 use Rattle.run_plan.specs.declared.command.Attempt.{Attempt}
 use Rattle.run_plan.specs.declared.command.Command.{Command}
 use Rattle.run_plan.specs.declared.command.Command.TheVariants as command
@@ -26,7 +27,6 @@ use Rattle.table_laws.specs.Remembered.{AreNoOtherAttempts, IsNoOtherAttempt, Kn
 use Rattle.table_laws.proofs.RunsStay.{IsOfCourse, arrived_stays, settled_stays}
 use Rattle.table_laws.proofs.StepsStay.{Keeps, step_stays}
 use Rattle.run_states.specs.declared.holder.Holder.TheVariants.{Run}
-use Rattle.run_states.specs.declared.limits.TheConstants.{LAST_ATTEMPT}
 
 -- ---- a run begins again
 
@@ -84,7 +84,7 @@ answered_now x requested is =
     not_begun false false e = cc
 
     not_the_next : (b : Bool) → (if b then answer_of_next x else Some (reply.Refused (Turn x.attempt))) ≡ Some (reply.Again requested) → ⊥
-    not_the_next true e = not_begun (nat_le LAST_ATTEMPT x.attempt) (has_completed x.phase) e
+    not_the_next true e = not_begun (nat_le last_attempt x.attempt) (has_completed x.phase) e
     not_the_next false e = cc
 
 answered_at : (o : Option RunState) (requested : Attempt)

@@ -1,13 +1,5 @@
-pub mod CommandReaders
 pub mod FirstReaders
 mod FirstRows
-pub mod FormReaders
-pub mod Keeping
-pub mod Known
-pub mod LengthLaws
-mod LengthRows
-pub mod Loop
-pub mod Readers
 pub mod TableKnown
 pub mod TableLengthLaws
 pub mod TableReaders

@@ -31,9 +31,9 @@ use Rattle.run_states.specs.declared.phases.LegPhase.{LegPhase}
 use Rattle.run_states.specs.declared.phases.LegPhase.TheVariants as leg_phase
 use Rattle.run_states.specs.declared.phases.RunPhase.{RunPhase}
 use Rattle.run_states.specs.declared.phases.RunPhase.TheVariants as run_phase
-use Rattle.table_text.specs.Commands.{admit, are_none, is_faultless}
+use Rattle.command_encodings.specs.Commands.{admit, are_none, is_faultless}
 use Rattle.table_text.specs.Tables.{IsLease, flag_byte, is_attempt, job, leg, leg_byte, run, run_byte, runner, table}
-use Rattle.table_text.specs.Format.{only, word, word_bytes}
+use Rattle.command_encodings.specs.Format.{only, word, word_bytes}
 use Rattle.table_text.specs.Writing.{HasByte, JobHasBytes, KeptHasBytes, RunHasBytes}
 use Rattle.run_table.proofs.RunnerPut.{all_from_each}
 use Rattle.run_states.proofs.Found.{each_at}
@@ -68,11 +68,6 @@ run_takes r has admitted all =
     (admitted, (attempt_takes r.attempt has.2.0 has.2.1, (run_byte_fits r.phase, (flag_byte_fits r.stopping, (has.0, all)))))
 
 -- ---- lists
-
-pub all_get : {X : Type 0} (P : X → Type 0) (xs : List X) (i : ℕ) (d : X) → i < length xs → AllByRecursion P xs → P (get_or xs i d)
-all_get P [] i d below all = absurd (omega (arith, below))
-all_get P (x ∷ xs) zero d below all = all.0
-all_get P (x ∷ xs) (suc i) d below all = all_get P xs i d (omega (arith, below)) all.1
 
 pub all_seen : {X Y : Type 0} (P : Y → Type 0) (f : X → Y) (xs : List X) → AllByRecursion (λ x. P (f x)) xs → AllByRecursion P (map f xs)
 all_seen P f [] all = tt

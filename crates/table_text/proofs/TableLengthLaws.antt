@@ -11,14 +11,14 @@ use Rattle.stored_tables.specs.declared.parts.LastParts.{LastParts}
 use Rattle.stored_tables.specs.declared.parts.LastParts.TheVariants as last
 use Rattle.stored_tables.specs.declared.parts.StoredLease.{StoredLease}
 use Rattle.stored_tables.specs.declared.parts.StoredPlace.{StoredPlace}
-use Rattle.table_text.specs.Commands.{admit, command_bytes}
-use Rattle.table_text.specs.Format.{present, text_bytes, word_bytes}
-use Rattle.table_text.specs.Lengths.{command_length, fields_length, length_of, text_length}
+use Rattle.command_encodings.specs.Commands.{admit, command_bytes}
+use Rattle.command_encodings.specs.Format.{present, text_bytes, word_bytes}
+use Rattle.command_encodings.specs.Lengths.{command_length, fields_length, length_of, text_length}
 use Rattle.table_text.specs.TableLengths.{job_length, last_length, lease_length, run_length, runner_length, table_length}
 use Rattle.table_text.specs.Tables.{flag_byte, job, kept, kept_lease, last_command, lease, leg, place, run, run_byte, runner, table}
 use Rattle.table_text.specs.declared.kept.StoredReply.TheVariants as replied
-use Rattle.table_text.proofs.LengthLaws.{after_one, length_admit, length_command, length_counted, length_text, length_two, length_word}
-use Rattle.table_text.proofs.LengthLaws.{sum_same}
+use Rattle.command_encodings.proofs.LengthLaws.{after_one, length_admit, length_command, length_counted, length_text, length_two, length_word}
+use Rattle.command_encodings.proofs.LengthLaws.{sum_same}
 
 length_leg : (l : LegState) → length_of leg l ≡ 5
 length_leg l = after_one (lease.encoding l.lease) (length_lease l.lease) ∙ omega arith

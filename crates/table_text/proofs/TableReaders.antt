@@ -23,10 +23,10 @@ use Rattle.run_states.specs.declared.phases.LegPhase.{LegPhase}
 use Rattle.run_states.specs.declared.phases.LegPhase.TheVariants as leg_phase
 use Rattle.run_states.specs.declared.phases.RunPhase.{RunPhase}
 use Rattle.run_states.specs.declared.phases.RunPhase.TheVariants as run_phase
-use Rattle.table_text.specs.Commands.{admit, command, is_numbered, number, small_text}
-use Rattle.table_text.specs.Format.{Format, byte, counted, follow, only, pair, parts, present, row, word}
-use Rattle.table_text.specs.Reading.{byte_at, counted_at, follow_at, items_at, pair_at, parts_at, present_at, some_at, word_at}
-use Rattle.table_text.specs.ReadingCommands.{admit_at, command_at, number_at, small_text_at}
+use Rattle.command_encodings.specs.Commands.{admit, command, is_numbered, number, small_text}
+use Rattle.command_encodings.specs.Format.{Format, byte, counted, follow, only, pair, parts, present, row, word}
+use Rattle.command_encodings.specs.Reading.{byte_at, counted_at, follow_at, items_at, pair_at, parts_at, present_at, some_at, word_at}
+use Rattle.command_encodings.specs.ReadingCommands.{admit_at, command_at, number_at, small_text_at}
 use Rattle.table_text.specs.ReadingTables.{attempt_at, claim_with, course_at, flag_at, job_at, job_phase_at, job_phases, kept_at}
 use Rattle.table_text.specs.ReadingTables.{kept_lease_at, kept_of, last_at, last_lease_at, last_of, last_with, lease_at, lease_of}
 use Rattle.table_text.specs.ReadingTables.{leg_at, leg_phase_at, leg_phases, of_byte, place_at, report_with, run_at, run_phase_at}
@@ -36,11 +36,11 @@ use Rattle.table_text.specs.Tables.{kept_lease, last_command, last_parts, lease,
 use Rattle.table_text.specs.Tables.{run_byte, runner, table}
 use Rattle.table_text.specs.declared.kept.StoredReply.{StoredReply}
 use Rattle.table_text.specs.declared.kept.StoredReply.TheVariants as replied
-use Rattle.table_text.proofs.CommandReaders.{admit_reads, chosen, command_reads, number_reads, small_text_reads}
+use Rattle.command_encodings.proofs.CommandReaders.{admit_reads, chosen, command_reads, number_reads, small_text_reads}
 use Rattle.wf_value.proofs.Bytes.{AreBytes, AreBytes-drop}
-use Rattle.table_text.proofs.FormReaders.{byte_reads, follow_reads, present_reads, row_reads}
-use Rattle.table_text.proofs.Readers.{Prefixes, Reads, bind_some, counted_reads, only_reads, pair_reads, parts_reads, some_bind, some_reads}
-use Rattle.table_text.proofs.Readers.{these_read, word_reads}
+use Rattle.command_encodings.proofs.FormReaders.{byte_reads, follow_reads, present_reads, row_reads}
+use Rattle.command_encodings.proofs.Readers.{Prefixes, Reads, bind_some, counted_reads, only_reads, pair_reads, parts_reads, some_bind, some_reads}
+use Rattle.command_encodings.proofs.Readers.{these_read, word_reads}
 use Rattle.run_states.proofs.Found.{find_passes}
 
 -- ---- leases

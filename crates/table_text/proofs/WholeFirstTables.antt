@@ -23,15 +23,15 @@ use Rattle.stored_tables.specs.declared.parts.LastParts.TheVariants as stored
 use Rattle.stored_tables.specs.declared.parts.StoredLease.{StoredLease}
 use Rattle.stored_tables.specs.declared.parts.StoredPlace.{StoredPlace}
 use Rattle.stored_tables.proofs.StoredOnce.{run_told, same_runners}
-use Rattle.table_text.specs.Commands.{batch}
+use Rattle.command_encodings.specs.Commands.{batch}
 use Rattle.table_text.specs.FirstLayout.{first_batch, first_last_command, first_run, first_runner, first_table, is_in_first_layout}
-use Rattle.table_text.specs.Format.{NoneBeginsAnother, OpensWith, ReadsPrefix}
-use Rattle.table_text.specs.ReadingCommands.{batch_at}
+use Rattle.command_encodings.specs.Format.{NoneBeginsAnother, OpensWith, ReadsPrefix}
+use Rattle.command_encodings.specs.ReadingCommands.{batch_at}
 use Rattle.table_text.specs.ReadingFirst.{first_table_at}
 use Rattle.table_text.specs.WholeFirstTables.{first_stored_last, first_stored_runner, first_stored_table, whole_first_table}
-use Rattle.table_text.proofs.CommandReaders.{batch_reads}
+use Rattle.command_encodings.proofs.CommandReaders.{batch_reads}
 use Rattle.table_text.proofs.FirstReaders.{first_table_reads}
-use Rattle.table_text.proofs.Readers.{none_begins}
+use Rattle.command_encodings.proofs.Readers.{none_begins}
 
 -- ---- from a sound table whose runs are at their first attempt
 

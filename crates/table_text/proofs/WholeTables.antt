@@ -13,11 +13,11 @@ use Rattle.run_states.specs.RunState.{RunState}
 use Rattle.run_states.proofs.Found.{each_at}
 use Rattle.stored_tables.proofs.StoredOnce.{same_runners}
 use Rattle.stored_tables.proofs.StoredParts.{HasPlace, HavePlaces, is_stored, stored_again}
-use Rattle.table_text.specs.Format.{NoneBeginsAnother, OpensWith, ReadsPrefix, present}
+use Rattle.command_encodings.specs.Format.{NoneBeginsAnother, OpensWith, ReadsPrefix, present}
 use Rattle.table_text.specs.ReadingTables.{table_at}
 use Rattle.table_text.specs.Tables.{last_command, place, runner, table}
 use Rattle.table_text.specs.WholeTables.{whole_table}
-use Rattle.table_text.proofs.Readers.{none_begins}
+use Rattle.command_encodings.proofs.Readers.{none_begins}
 use Rattle.table_text.proofs.TableReaders.{table_reads}
 
 -- sound tables with the same stored parts are equal

@@ -4,17 +4,17 @@
 -- defined by this project.
 use Rattle.std.specs.Prelude.{◌≡◌, ℕ, List, [], Bool, true, false, Option, Some, None}
 use Rattle.std.specs.List.{list_all}
+use Rattle.stated_limits.specs.Limits.{max_runs}
 use Rattle.run_plan.specs.SmallText.{is_runner_byte}
 use Rattle.run_plan.specs.declared.command.Command.{Command}
 use Rattle.run_plan.specs.declared.command.Command.TheVariants as requested
 use Rattle.stored_tables.specs.Stored.{StoredRunner, StoredTable}
 use Rattle.stored_tables.specs.declared.parts.LastParts.{LastParts}
 use Rattle.run_states.specs.RunState.{RunState}
-use Rattle.run_states.specs.declared.limits.TheConstants.{MAX_RUNS}
 use Rattle.table_text.specs.declared.kept.StoredReply.{StoredReply}
 use Rattle.table_text.specs.declared.kept.StoredReply.TheVariants as replied
-use Rattle.table_text.specs.Commands.{admit, batch, command, number, small_text}
-use Rattle.table_text.specs.Format.{Format, byte, counted, follow, only, pair, parts, row, word}
+use Rattle.command_encodings.specs.Commands.{admit, batch, command, number, small_text}
+use Rattle.command_encodings.specs.Format.{Format, byte, counted, follow, only, pair, parts, row, word}
 use Rattle.table_text.specs.Tables.{flag_byte, is_last_lease, job, jobs_planned, last_parts, lease, names_rise, run_byte}
 
 -- a value that is not encoded, since it is always this one
@@ -59,7 +59,7 @@ first_runner = parts (λ (r : StoredRunner). (r.name, (r.number, (r.last, r.hold
 -- the last lease, the runs in the order of their ids, and the runners in the order of their names
 abbrev pub first_table : Format StoredTable
 first_table = parts (λ (t : StoredTable). (t.last_lease, (t.runs, t.runners)))
-    (pair (only is_last_lease word) (pair (counted 0 MAX_RUNS first_run) (only names_rise (counted 0 4294967295 first_runner))))
+    (pair (only is_last_lease word) (pair (counted 0 max_runs first_run) (only names_rise (counted 0 4294967295 first_runner))))
 
 -- ---- batches
 

@@ -1,9 +1,4 @@
-pub mod Commands
 pub mod FirstLayout
-pub mod Format
-pub mod Lengths
-pub mod Reading
-pub mod ReadingCommands
 pub mod ReadingFirst
 pub mod ReadingTables
 pub mod TableLengths

@@ -1,16 +1,16 @@
 -- Reading of a table in the first layout as a function, where it differs from the second layout.
 use Rattle.std.specs.Prelude.{ℕ, ◌==◌, List, Bool, if◌then◌else◌, Option, Some, None}
+use Rattle.stated_limits.specs.Limits.{max_runs}
 use Rattle.run_plan.specs.Admitted.{Admitted}
 use Rattle.run_plan.specs.SmallText.{is_runner_byte}
 use Rattle.stored_tables.specs.Stored.{StoredRunner, StoredTable}
 use Rattle.stored_tables.specs.declared.parts.LastParts.{LastParts}
 use Rattle.run_states.specs.RunState.{JobState, RunState}
-use Rattle.run_states.specs.declared.limits.TheConstants.{MAX_RUNS}
 use Rattle.run_states.specs.declared.phases.RunPhase.{RunPhase}
 use Rattle.table_text.specs.declared.kept.StoredReply.{StoredReply}
 use Rattle.table_text.specs.declared.kept.StoredReply.TheVariants as replied
-use Rattle.table_text.specs.Reading.{Reader, byte_at, counted_at, follow_at, items_at, only_at, pair_at, parts_at, some_at}
-use Rattle.table_text.specs.ReadingCommands.{admit_at, command_at, number_at, small_text_at}
+use Rattle.command_encodings.specs.Reading.{Reader, byte_at, counted_at, follow_at, items_at, only_at, pair_at, parts_at, some_at}
+use Rattle.command_encodings.specs.ReadingCommands.{admit_at, command_at, number_at, small_text_at}
 use Rattle.table_text.specs.ReadingTables.{flag_at, job_at, last_lease_at, last_of, lease_at, run_phase_at}
 use Rattle.table_text.specs.Tables.{jobs_planned, names_rise}
 
@@ -61,7 +61,7 @@ first_runner_at bytes =
 -- ---- tables
 
 unfoldable pub first_runs_at : Reader (List RunState)
-first_runs_at bytes = counted_at 0 MAX_RUNS first_run_at bytes
+first_runs_at bytes = counted_at 0 max_runs first_run_at bytes
 
 unfoldable pub first_runners_at : Reader (List StoredRunner)
 first_runners_at bytes = only_at names_rise (counted_at 0 4294967295 first_runner_at) bytes

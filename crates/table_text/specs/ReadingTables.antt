@@ -1,5 +1,6 @@
 -- Reading of a table as a function, field by field.
 use Rattle.std.specs.Prelude.{ℕ, ◌==◌, List, [], ◌∷◌, find, Bool, true, false, not, if◌then◌else◌, Option, Some, None}
+use Rattle.stated_limits.specs.Limits.{max_runs}
 use Rattle.wf_value.specs.declared.outcome.JobResult.TheVariants as result
 use Rattle.wf_value.specs.declared.outcome.Outcome.TheVariants as outcome
 use Rattle.run_plan.specs.Admitted.{Admitted}
@@ -10,7 +11,6 @@ use Rattle.run_plan.specs.declared.command.Command.{Command}
 use Rattle.run_plan.specs.declared.command.Command.TheVariants as requested
 use Rattle.stored_tables.specs.Stored.{StoredRunner, StoredTable, is_new}
 use Rattle.run_states.specs.RunState.{LegState, JobState, RunState}
-use Rattle.run_states.specs.declared.limits.TheConstants.{MAX_RUNS}
 use Rattle.stored_tables.specs.declared.parts.LastParts.{LastParts}
 use Rattle.stored_tables.specs.declared.parts.LastParts.TheVariants as last
 use Rattle.stored_tables.specs.declared.parts.StoredLease.{StoredLease}
@@ -23,9 +23,9 @@ use Rattle.run_states.specs.declared.phases.RunPhase.{RunPhase}
 use Rattle.run_states.specs.declared.phases.RunPhase.TheVariants as run_phase
 use Rattle.table_text.specs.declared.kept.StoredReply.{StoredReply}
 use Rattle.table_text.specs.declared.kept.StoredReply.TheVariants as replied
-use Rattle.table_text.specs.Commands.{is_numbered}
-use Rattle.table_text.specs.Reading.{Reader, byte_at, counted_at, follow_at, items_at, only_at, pair_at, parts_at, present_at, some_at, word_at}
-use Rattle.table_text.specs.ReadingCommands.{admit_at, command_at, number_at, small_text_at}
+use Rattle.command_encodings.specs.Commands.{is_numbered}
+use Rattle.command_encodings.specs.Reading.{Reader, byte_at, counted_at, follow_at, items_at, only_at, pair_at, parts_at, present_at, some_at, word_at}
+use Rattle.command_encodings.specs.ReadingCommands.{admit_at, command_at, number_at, small_text_at}
 use Rattle.table_text.specs.Tables.{flag_byte, is_attempt, is_last_lease, job_byte, jobs_planned, leg_byte, names_rise, run_byte}
 
 -- 0 means none
@@ -152,7 +152,7 @@ unfoldable pub last_lease_at : Reader ℕ
 last_lease_at bytes = only_at is_last_lease word_at bytes
 
 unfoldable pub runs_at : Reader (List RunState)
-runs_at bytes = counted_at 0 MAX_RUNS run_at bytes
+runs_at bytes = counted_at 0 max_runs run_at bytes
 
 unfoldable pub runners_at : Reader (List StoredRunner)
 runners_at bytes = only_at names_rise (counted_at 0 4294967295 runner_at) bytes

@@ -7,7 +7,7 @@ use Rattle.run_states.specs.RunState.{JobState, RunState}
 use Rattle.stored_tables.specs.declared.parts.LastParts.{LastParts}
 use Rattle.stored_tables.specs.declared.parts.LastParts.TheVariants as last
 use Rattle.stored_tables.specs.declared.parts.StoredLease.{StoredLease}
-use Rattle.table_text.specs.Lengths.{command_length, fields_length, text_length}
+use Rattle.command_encodings.specs.Lengths.{command_length, fields_length, text_length}
 
 -- a phase, the number of legs, and for each leg its phase and its lease
 abbrev pub job_length : JobState → ℕ

@@ -1,6 +1,7 @@
 -- The encoding of a table, field by field. The bytes of a run do not contain the number of its jobs: it follows from
 -- the body's plan. This is defined by this project.
 use Rattle.std.specs.Prelude.{ℕ, List, [], ◌∷◌, length, ◌&&◌, Bool, true, false, not, nat_le, Option, Some, None}
+use Rattle.stated_limits.specs.Limits.{last_attempt, last_number, max_runs}
 use Rattle.wf_value.specs.Names.{rises_by}
 use Rattle.wf_value.specs.declared.outcome.JobResult.TheVariants as result
 use Rattle.wf_value.specs.declared.outcome.Outcome.TheVariants as outcome
@@ -9,10 +10,8 @@ use Rattle.run_plan.specs.PlanOf.{plan_of}
 use Rattle.run_plan.specs.SmallText.{is_runner_byte}
 use Rattle.run_plan.specs.declared.command.Command.{Command}
 use Rattle.run_plan.specs.declared.command.Command.TheVariants as requested
-use Rattle.run_plan.specs.declared.number.TheConstants.{LAST_NUMBER}
 use Rattle.stored_tables.specs.Stored.{StoredRunner, StoredTable, is_new}
 use Rattle.run_states.specs.RunState.{LegState, JobState, RunState}
-use Rattle.run_states.specs.declared.limits.TheConstants.{LAST_ATTEMPT, MAX_RUNS}
 use Rattle.stored_tables.specs.declared.parts.LastParts.{LastParts}
 use Rattle.stored_tables.specs.declared.parts.LastParts.TheVariants as last
 use Rattle.stored_tables.specs.declared.parts.StoredLease.{StoredLease}
@@ -25,8 +24,8 @@ use Rattle.run_states.specs.declared.phases.RunPhase.{RunPhase}
 use Rattle.run_states.specs.declared.phases.RunPhase.TheVariants as run_phase
 use Rattle.table_text.specs.declared.kept.StoredReply.{StoredReply}
 use Rattle.table_text.specs.declared.kept.StoredReply.TheVariants as replied
-use Rattle.table_text.specs.Commands.{admit, command, number, small_text}
-use Rattle.table_text.specs.Format.{Format, byte, counted, follow, only, pair, parts, present, row, word, word_bytes}
+use Rattle.command_encodings.specs.Commands.{admit, command, number, small_text}
+use Rattle.command_encodings.specs.Format.{Format, byte, counted, follow, only, pair, parts, present, row, word, word_bytes}
 
 -- ---- leases
 
@@ -82,7 +81,7 @@ job = parts (λ (j : JobState). (j.phase, j.legs)) (pair (parts job_byte byte) (
 
 -- an attempt of a run: 1 to 1,000
 abbrev pub is_attempt : ℕ → Bool
-is_attempt n = nat_le 1 n && nat_le n LAST_ATTEMPT
+is_attempt n = nat_le 1 n && nat_le n last_attempt
 
 -- the number of jobs in the plan of an admitted body
 abbrev pub jobs_planned : Admitted → ℕ
@@ -136,7 +135,7 @@ runner = parts (λ (r : StoredRunner). (r.name, (r.number, (r.last, r.holds))))
 
 -- up to 999,999,999
 abbrev pub is_last_lease : ℕ → Bool
-is_last_lease n = nat_le n LAST_NUMBER
+is_last_lease n = nat_le n last_number
 
 -- names strictly increase in byte order
 abbrev pub names_rise : List StoredRunner → Bool
@@ -145,4 +144,4 @@ names_rise runners = rises_by (λ r. r.name) runners
 -- the last lease, the runs in the order of their ids, and the runners in the order of their names
 abbrev pub table : Format StoredTable
 table = parts (λ (t : StoredTable). (t.last_lease, (t.runs, t.runners)))
-    (pair (only is_last_lease word) (pair (counted 0 MAX_RUNS run) (only names_rise (counted 0 4294967295 runner))))
+    (pair (only is_last_lease word) (pair (counted 0 max_runs run) (only names_rise (counted 0 4294967295 runner))))

@@ -11,7 +11,7 @@ use Rattle.run_table.specs.TableState.{RunnerState, TableState}
 use Rattle.stored_tables.specs.declared.parts.LastParts.{LastParts}
 use Rattle.stored_tables.specs.declared.parts.LastParts.TheVariants as stored
 use Rattle.table_text.specs.FirstLayout.{first_table}
-use Rattle.table_text.specs.Format.{Format}
+use Rattle.command_encodings.specs.Format.{Format}
 
 abbrev pub first_stored_last : LastCommand → LastParts
 first_stored_last (last.Claim claim given.Nothing) = stored.Claim claim None

@@ -2,7 +2,7 @@
 use Rattle.run_table.specs.Sound.{IsSound}
 use Rattle.stored_tables.specs.Stored.{stored_table}
 use Rattle.run_table.specs.TableState.{TableState}
-use Rattle.table_text.specs.Format.{Format}
+use Rattle.command_encodings.specs.Format.{Format}
 use Rattle.table_text.specs.Tables.{table}
 
 abbrev pub whole_table : Format TableState

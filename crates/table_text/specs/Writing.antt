@@ -1,5 +1,5 @@
--- What is known of runs, jobs and kept leases before they are written, and of the bytes after a partial write.
-use Rattle.std.specs.Prelude.{◌≡◌, ◌<◌, ◌≤◌, ◌^◌, ℕ, List, length, take, false}
+-- What is known of runs, jobs and kept leases before they are written.
+use Rattle.std.specs.Prelude.{◌≡◌, ◌<◌, ◌≤◌, ◌^◌, length, false}
 use Rattle.std.specs.List.{AllByRecursion}
 use Rattle.run_plan.specs.declared.last_command.ClaimReply.TheVariants as given
 use Rattle.run_plan.specs.declared.last_command.LastCommand.{LastCommand}
@@ -26,7 +26,3 @@ abbrev pub KeptHasBytes : LastCommand → Type 0
 KeptHasBytes (last.Claim claim given.Nothing) = Unit {0}
 KeptHasBytes (last.Claim claim (given.Lease kept)) = (kept.job < 2 ^ 32) × (kept.lease_reply.leg < 2 ^ 32)
 KeptHasBytes (last.Done report) = Unit {0}
-
--- the bytes before are a prefix of those after
-abbrev pub Keeps : List ℕ → List ℕ → Type 0
-Keeps before after = take (length before) after ≡ before

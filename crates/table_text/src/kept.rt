@@ -1,11 +1,9 @@
 //! The kept reply to a last command, at the front of bytes.
 
-ghost use Rattle.table_text.specs.Reading.{Finds};
+ghost use Rattle.command_encodings.specs.Reading.{Finds};
 ghost use Rattle.table_text.specs.ReadingTables.{kept_at, kept_lease_at, kept_of, place_at};
 
-use crate::decode_error::DecodeError;
-use crate::fields::number_at;
-use crate::prefix::word_at;
+use command_encodings::{DecodeError, number_at, word_at};
 use run_plan::Number;
 use stored_tables::{StoredLease, StoredPlace};
 

@@ -1,9 +1,9 @@
 //! Consecutive values at the front of bytes.
 
 ghost use Rattle.std.specs.Prelude.{ℕ, List, Option};
-ghost use Rattle.table_text.specs.Reading.{Finds, items_at};
+ghost use Rattle.command_encodings.specs.Reading.{Finds, items_at};
 
-use crate::decode_error::DecodeError;
+use command_encodings::DecodeError;
 use std::alloc::Global;
 
 /// A type that can be read from the front of bytes.

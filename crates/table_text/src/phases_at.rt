@@ -2,13 +2,12 @@
 
 ghost use Rattle.std.specs.Prelude.{not};
 ghost use Rattle.stored_tables.specs.Stored.{is_new};
-ghost use Rattle.table_text.specs.Reading.{Finds, kept};
+ghost use Rattle.command_encodings.specs.Reading.{Finds, kept};
 ghost use Rattle.table_text.specs.ReadingTables.{flag_at, flags, job_phase_at, job_phases, leg_phase_at, leg_phases, of_byte, run_phase_at};
 ghost use Rattle.table_text.specs.ReadingTables.{run_phases};
 ghost use Rattle.table_text.specs.Tables.{flag_byte, job_byte, leg_byte, run_byte};
 
-use crate::decode_error::DecodeError;
-use crate::prefix::byte_at;
+use command_encodings::{DecodeError, byte_at};
 use run_states::{JobPhase, LegPhase, RunPhase};
 use wf_value::{JobResult, Outcome};
 

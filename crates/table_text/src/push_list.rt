@@ -1,9 +1,9 @@
 //! Appends consecutive values.
-#![tactic(auto, using(crate::proofs::Keeping::unchanged, crate::proofs::Keeping::longer))]
+#![tactic(auto, using(command_encodings::proofs::Keeping::unchanged, command_encodings::proofs::Keeping::longer))]
 
 ghost use Rattle.std.specs.Prelude.{◌≡◌, ◌++◌, ℕ, List, flat_map, OnErr, OnOk};
 ghost use Rattle.std.specs.List.{AllByRecursion};
-ghost use Rattle.table_text.specs.Writing.{Keeps};
+ghost use Rattle.command_encodings.specs.Writing.{Keeps};
 
 use std::alloc::AllocError;
 

@@ -1,18 +1,21 @@
 //! Appends the parts of a table's encoding to bytes.
-#![tactic(auto, using(crate::proofs::Keeping::unchanged, crate::proofs::Keeping::longer))]
+#![tactic(auto, using(command_encodings::proofs::Keeping::unchanged, command_encodings::proofs::Keeping::longer))]
 
 ghost use Rattle.std.specs.Prelude.{◌≡◌, [], ◌∷◌, ◌++◌, ◌<◌, ◌≤◌, ◌^◌, length, OnErr, OnOk};
 ghost use Rattle.run_plan.specs.declared.last_command.LastCommand.TheVariants as last;
 ghost use Rattle.stored_tables.specs.Stored.{is_new, stored_last, stored_lease, stored_runner, stored_table};
 ghost use Rattle.run_table.specs.TableState.{RunnerState};
 ghost use Rattle.run_states.specs.RunState.{JobState, RunState};
-ghost use Rattle.table_text.specs.Format.{word_bytes};
+ghost use Rattle.command_encodings.specs.Format.{word_bytes};
 ghost use Rattle.table_text.specs.Tables.{flag_byte, job, job_byte, kept_lease, last_command, lease, leg, leg_byte, run, run_byte, runner};
 ghost use Rattle.table_text.specs.Tables.{table};
-ghost use Rattle.table_text.specs.Writing.{HasByte, JobHasBytes, Keeps, KeptHasBytes, RunHasBytes};
+ghost use Rattle.command_encodings.specs.Writing.{Keeps};
+ghost use Rattle.table_text.specs.Writing.{HasByte, JobHasBytes, KeptHasBytes, RunHasBytes};
 
-use crate::push::{push_admit, push_claim, push_done, push_number, push_small_text, push_word};
 use crate::push_list::{Push, push_list};
+use command_encodings::{
+    push_admit, push_claim, push_done, push_number, push_small_text, push_word,
+};
 use run_plan::{Claim, ClaimReply, Done, KeptLease, LastCommand, Number};
 use run_states::{Job, JobPhase, Leg, LegPhase, Run, RunPhase};
 use run_table::{Runner, Table};

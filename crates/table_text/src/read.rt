@@ -1,45 +1,16 @@
 ghost use Rattle.std.specs.Prelude.{◌≡◌, IfErr, IfOk};
 ghost use Rattle.std.specs.Option.{option_map};
 ghost use Rattle.wf_value.specs.Gives.{no_memory};
-ghost use Rattle.table_text.specs.Commands.{batch, command};
-ghost use Rattle.table_text.specs.Format.{ReadsPrefix};
+ghost use Rattle.command_encodings.specs.Format.{ReadsPrefix};
 ghost use Rattle.table_text.specs.Tables.{table};
 ghost use Rattle.table_text.specs.WholeTables.{whole_table};
 
-use crate::command_at::{batch_at, command_at};
-use crate::decode_error::DecodeError;
 use crate::table_at::table_at;
-use run_plan::Command;
+use command_encodings::DecodeError;
 use run_table::Table;
 use std::alloc::Global;
 use stored_tables::TableParts;
 use wf_value::{Code, Refusal};
-
-/// The command whose encoding is a prefix of the bytes, and the bytes after it; `None` if no prefix encodes one. The
-/// only error is 50, out of memory, which says nothing about the bytes.
-pub fn read_command(alloc: Global, bytes: &[u8]) -> Result<Option<(Command, &[u8])>, Refusal>
-    ensures prefix { IfOk result (λ found. ReadsPrefix command bytes.now (option_map (λ f. (f.0, f.1.now)) found)) }
-    ensures refused { IfErr result (λ e. e ≡ no_memory) }
-{
-    match command_at(alloc, bytes) {
-        Ok(found) => Ok(Some(found)),
-        Err(DecodeError::NoEncoding) => Ok(None),
-        Err(DecodeError::NoMemory) => Err(Refusal::Numbered(Code::NoMemory)),
-    }
-}
-
-/// The batch whose encoding is a prefix of the bytes, and the bytes after it; `None` if no prefix encodes one. The only
-/// error is 50, out of memory, which says nothing about the bytes.
-pub fn read_batch(alloc: Global, bytes: &[u8]) -> Result<Option<(Vec<Command>, &[u8])>, Refusal>
-    ensures prefix { IfOk result (λ found. ReadsPrefix batch bytes.now (option_map (λ f. (f.0.items, f.1.now)) found)) }
-    ensures refused { IfErr result (λ e. e ≡ no_memory) }
-{
-    match batch_at(alloc, bytes) {
-        Ok(found) => Ok(Some(found)),
-        Err(DecodeError::NoEncoding) => Ok(None),
-        Err(DecodeError::NoMemory) => Err(Refusal::Numbered(Code::NoMemory)),
-    }
-}
 
 /// The parts of the table whose encoding is a prefix of the bytes, and the bytes after it; `None` if no prefix encodes
 /// a table. The only error is 50, out of memory, which says nothing about the bytes.

@@ -1,15 +1,13 @@
 //! The runners of a table at the front of bytes.
 
-ghost use Rattle.table_text.specs.Reading.{Finds, kept};
+ghost use Rattle.command_encodings.specs.Reading.{Finds, kept};
 ghost use Rattle.table_text.specs.ReadingTables.{claim_with, last_at, last_with, report_with, runner_at, runners_at};
 ghost use Rattle.table_text.specs.Tables.{names_rise};
 
-use crate::command_at::command_at;
-use crate::decode_error::DecodeError;
-use crate::fields::{lease_at, number_at, optional_lease, small_text_at};
 use crate::kept::{StoredReply, kept_at};
+use crate::lease_fields::{lease_at, optional_lease};
 use crate::list_at::{ReadAt, list_at};
-use crate::prefix::word_at;
+use command_encodings::{DecodeError, command_at, number_at, small_text_at, word_at};
 use run_plan::{Claim, Command, Done, Number, RunnerForm};
 use std::alloc::Global;
 use stored_tables::{LastParts, RunnerParts, do_names_rise};

@@ -1,17 +1,15 @@
 //! The runs of a table at the front of bytes, with their jobs and legs.
 
 ghost use Rattle.std.specs.Prelude.{◌≤◌, IfOk};
-ghost use Rattle.run_plan.specs.declared.number.TheConstants.{LAST_NUMBER};
-ghost use Rattle.table_text.specs.Reading.{Finds, items_at, kept};
+ghost use Rattle.stated_limits.specs.Limits.{last_attempt, last_number};
+ghost use Rattle.command_encodings.specs.Reading.{Finds, items_at, kept};
 ghost use Rattle.table_text.specs.ReadingTables.{attempt_at, job_at, leg_at, optional_lease, run_at, runs_at};
 ghost use Rattle.table_text.specs.Tables.{is_attempt, jobs_planned};
 
-use crate::command_at::admit_at;
-use crate::decode_error::DecodeError;
-use crate::fields::{lease_at, optional_lease};
+use crate::lease_fields::{lease_at, optional_lease};
 use crate::list_at::{ReadAt, list_at};
 use crate::phases_at::{flag_at, job_phase_at, leg_phase_at, run_phase_at};
-use crate::prefix::word_at;
+use command_encodings::{DecodeError, admit_at, word_at};
 use run_plan::{Number, Prepared};
 use run_states::{JobParts, LAST_ATTEMPT, Leg, LegPhase, MAX_RUNS, RunParts};
 use std::alloc::Global;
@@ -21,7 +19,7 @@ use wf_value::Sequence;
 #[tactic(auto, unfolding(crate::specs::ReadingTables::leg_at))]
 fn leg_parts_at(bytes: &[u8]) -> Result<(LegPhase, u32, &[u8]), DecodeError>
     ensures gives { Finds (λ f. (record { phase = f.0; lease = optional_lease f.1 }, f.2.now)) result (leg_at bytes.now) }
-    ensures most { IfOk result (λ f. f.1 ≤ LAST_NUMBER) }
+    ensures most { IfOk result (λ f. f.1 ≤ last_number) }
 {
     let (phase, rest) = leg_phase_at(bytes)?;
     let (lease, rest) = lease_at(rest)?;
@@ -57,7 +55,7 @@ impl ReadAt for JobParts {
 /// The value, if it is an attempt number.
 fn attempt_of(value: u32) -> Result<u32, DecodeError>
     ensures gives { Finds (λ n. n) result (kept is_attempt value) }
-    ensures range { IfOk result (λ n. (1 ≤ n) × (n ≤ LAST_ATTEMPT)) }
+    ensures range { IfOk result (λ n. (1 ≤ n) × (n ≤ last_attempt)) }
 {
     if 1 <= value && value <= LAST_ATTEMPT {
         return Ok(value);
@@ -69,7 +67,7 @@ fn attempt_of(value: u32) -> Result<u32, DecodeError>
 #[tactic(auto, unfolding(crate::specs::ReadingTables::attempt_at))]
 fn attempt_at(bytes: &[u8]) -> Result<(u32, &[u8]), DecodeError>
     ensures gives { Finds (λ f. (f.0, f.1.now)) result (attempt_at bytes.now) }
-    ensures range { IfOk result (λ f. (1 ≤ f.0) × (f.0 ≤ LAST_ATTEMPT)) }
+    ensures range { IfOk result (λ f. (1 ≤ f.0) × (f.0 ≤ last_attempt)) }
 {
     let (value, rest) = word_at(bytes)?;
     let attempt = attempt_of(value)?;

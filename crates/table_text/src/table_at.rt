@@ -1,13 +1,12 @@
 //! The parts of a table, at the front of bytes.
 
-ghost use Rattle.table_text.specs.Reading.{Finds, kept};
+ghost use Rattle.command_encodings.specs.Reading.{Finds, kept};
 ghost use Rattle.table_text.specs.ReadingTables.{last_lease_at, table_at};
 ghost use Rattle.table_text.specs.Tables.{is_last_lease};
 
-use crate::decode_error::DecodeError;
-use crate::prefix::word_at;
 use crate::runners_at::runners_at;
 use crate::runs_at::runs_at;
+use command_encodings::{DecodeError, word_at};
 use run_plan::LAST_NUMBER;
 use std::alloc::Global;
 use stored_tables::TableParts;

@@ -2,14 +2,14 @@
 
 ghost use Rattle.std.specs.Prelude.{◌≡◌, ◌≤◌, ◌*◌, length, sum_by};
 ghost use Rattle.std.specs.List.{AllByRecursion};
-ghost use Rattle.run_states.specs.declared.limits.TheConstants.{MAX_RUNS};
+ghost use Rattle.stated_limits.specs.Limits.{max_runs};
 ghost use Rattle.stored_tables.specs.Stored.{stored_last, stored_runner, stored_table};
-ghost use Rattle.table_text.specs.Lengths.{length_of};
+ghost use Rattle.command_encodings.specs.Lengths.{length_of};
 ghost use Rattle.table_text.specs.TableLengths.{job_length, last_length, run_length, runner_length};
 ghost use Rattle.table_text.specs.Tables.{table};
 ghost use Rattle.table_text.specs.Writing.{JobHasBytes, RunHasBytes};
 
-use crate::lengths::{WORD, admit_length, claim_length, done_length, small_text_length};
+use command_encodings::{WORD, admit_length, claim_length, done_length, small_text_length};
 use run_plan::{ClaimReply, LastCommand};
 use run_states::{Job, Run};
 use run_table::{Runner, Table};
@@ -53,10 +53,10 @@ fn run_length(value: &Run) -> u64
 
 /// The bytes of all the runs.
 fn run_list_length(list: &[Run]) -> u64
-    requires few { length list.now ≤ MAX_RUNS }
+    requires few { length list.now ≤ max_runs }
     requires each { AllByRecursion RunHasBytes list.now }
     ensures length { result ≡ sum_by run_length list.now }
-    ensures most { result ≤ MAX_RUNS * 394642 }
+    ensures most { result ≤ max_runs * 394642 }
 {
     let mut total = 0;
     for value in list {

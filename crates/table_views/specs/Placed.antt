@@ -1,8 +1,8 @@
 -- Bounds on the places of legs.
 use Rattle.std.specs.Prelude.{ℕ, ◌<◌, ◌^◌}
-use Rattle.run_states.specs.declared.limits.TheConstants.{MAX_RUNS}
+use Rattle.stated_limits.specs.Limits.{max_runs}
 use Rattle.run_states.specs.declared.place.LegPlace.{LegPlace}
 
 -- a place is within what a table may have
 abbrev pub IsWithin : LegPlace → Type 0
-IsWithin p = (p.run < MAX_RUNS) × (p.leg < 2 ^ 63)
+IsWithin p = (p.run < max_runs) × (p.leg < 2 ^ 63)

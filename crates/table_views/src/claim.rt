@@ -1,6 +1,6 @@
 ghost use Rattle.std.specs.Prelude.{◌<◌};
+ghost use Rattle.stated_limits.specs.Limits.{max_runs};
 ghost use Rattle.run_states.specs.Holders.{run_of};
-ghost use Rattle.run_states.specs.declared.limits.TheConstants.{MAX_RUNS};
 
 use group_name::GroupKey;
 use run_states::Holder;
@@ -10,5 +10,5 @@ use run_states::Holder;
 pub(crate) struct GroupClaim {
     pub group: GroupKey,
     pub holder: Holder,
-    ghost within: { run_of holder < MAX_RUNS },
+    ghost within: { run_of holder < max_runs },
 }

@@ -3,6 +3,7 @@
 
 ghost use Rattle.std.specs.Prelude.{◌≡◌, ◌&&◌, ◌++◌, ◌<◌, ◌≤◌, [], ◌∷◌, IfOk, IfSome, None, Ok, OnOk, Some, codes, filter_map, find, length, map, option_copied, string_bytes, take};
 ghost use Rattle.std.specs.List.{All, list_any};
+ghost use Rattle.stated_limits.specs.Limits.{max_runs};
 ghost use Rattle.wf_value.specs.Gives.{ErrsOnlyByMemory, Gives};
 ghost use Rattle.group_name.specs.Group.{same_group};
 ghost use Rattle.run_states.specs.Groups.{all_holders, holds, is_pending_in, is_in_progress_in, waits};
@@ -13,7 +14,6 @@ ghost use Rattle.table_views.specs.GroupLines.{group_in_use, group_line, group_l
 ghost use Rattle.table_views.specs.Placed.{IsWithin};
 ghost use Rattle.table_views.specs.Texts.{line};
 ghost use Rattle.run_states.specs.declared.holder.Holder.TheVariants as held;
-ghost use Rattle.run_states.specs.declared.limits.TheConstants.{MAX_RUNS};
 
 use crate::claim::GroupClaim;
 use crate::form::Form;
@@ -43,7 +43,7 @@ fn push_claim(
     claims: &mut Vec<GroupClaim>,
     holder: Holder,
 ) -> Result<(), Refusal>
-    requires { run_of holder < MAX_RUNS }
+    requires { run_of holder < max_runs }
     ensures err { ErrsOnlyByMemory result }
     ensures added { OnOk result (map said claims.new.items
         ≡ map said claims.old.items ++ filter_map (claim_of runs.now) (holder ∷ [])) }
@@ -110,7 +110,7 @@ fn pending_claim<'c>(
 fn in_progress(runs: &Runs, claims: &[GroupClaim], group: &GroupKey) -> Option<Holder>
     requires { map said claims.now ≡ claims_of runs.now }
     ensures holder { result ≡ find (is_in_progress_in runs.now group.now) (all_holders runs.now) }
-    ensures within { IfSome result (λ h. run_of h < MAX_RUNS) }
+    ensures within { IfSome result (λ h. run_of h < max_runs) }
 {
     match claim_in_progress(runs, claims, group) {
         Some(claim) => Some(claim.holder),
@@ -122,7 +122,7 @@ fn in_progress(runs: &Runs, claims: &[GroupClaim], group: &GroupKey) -> Option<H
 fn pending(runs: &Runs, claims: &[GroupClaim], group: &GroupKey) -> Option<Holder>
     requires { map said claims.now ≡ claims_of runs.now }
     ensures holder { result ≡ find (is_pending_in runs.now group.now) (all_holders runs.now) }
-    ensures within { IfSome result (λ h. run_of h < MAX_RUNS) }
+    ensures within { IfSome result (λ h. run_of h < max_runs) }
 {
     match pending_claim(runs, claims, group) {
         Some(claim) => Some(claim.holder),
@@ -133,7 +133,7 @@ fn pending(runs: &Runs, claims: &[GroupClaim], group: &GroupKey) -> Option<Holde
 // ---- lines
 
 fn text_of_leg(alloc: Global, form: Form, runs: &Runs, place: LegPlace) -> Result<String, Refusal>
-    requires { place.run < MAX_RUNS }
+    requires { place.run < max_runs }
     ensures { Gives string_bytes result (Ok (holder_text form runs.now (Some (held.Leg place)))) }
 {
     match form {
@@ -149,7 +149,7 @@ fn text_of_leg(alloc: Global, form: Form, runs: &Runs, place: LegPlace) -> Resul
 }
 
 fn text_of_run(alloc: Global, form: Form, place: usize) -> Result<String, Refusal>
-    requires { place < MAX_RUNS }
+    requires { place < max_runs }
     ensures { Gives string_bytes result (Ok (holder_text form [] (Some (held.Run place)))) }
 {
     let run = place + 1;
@@ -175,7 +175,7 @@ fn text_of_holder(
     runs: &Runs,
     holder: &Holder,
 ) -> Result<String, Refusal>
-    requires { run_of holder.now < MAX_RUNS }
+    requires { run_of holder.now < max_runs }
     ensures { Gives string_bytes result (Ok (holder_text form runs.now (Some holder.now))) }
 {
     match holder {
@@ -190,7 +190,7 @@ fn holder_text(
     runs: &Runs,
     holder: Option<Holder>,
 ) -> Result<String, Refusal>
-    requires { IfSome holder (λ h. run_of h < MAX_RUNS) }
+    requires { IfSome holder (λ h. run_of h < max_runs) }
     ensures { Gives string_bytes result (Ok (holder_text form runs.now (holder))) }
 {
     match holder {

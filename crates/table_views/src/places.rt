@@ -3,12 +3,12 @@
 ghost use Rattle.std.specs.Prelude.{◌≡◌, ◌++◌, ◌<◌, ◌≤◌, ◌^◌, IfOk, OnOk, false, length, map};
 ghost use Rattle.std.specs.List.{All};
 ghost use Rattle.std.specs.Option.{option_map_or};
+ghost use Rattle.stated_limits.specs.Limits.{max_runs};
 ghost use Rattle.wf_value.specs.Gives.{Gives};
 ghost use Rattle.run_states.specs.Cells.{states};
 ghost use Rattle.run_states.specs.Fitting.{place_of_lease};
 ghost use Rattle.run_states.specs.Groups.{all_holders};
 ghost use Rattle.run_states.specs.Places.{leg_places, leg_places_of_job, leg_places_of_run};
-ghost use Rattle.run_states.specs.declared.limits.TheConstants.{MAX_RUNS};
 ghost use Rattle.table_views.specs.Placed.{IsWithin};
 
 use run_plan::Number;
@@ -23,7 +23,7 @@ fn push_legs_of_job(
     j: usize,
     job: &Job,
 ) -> Result<(), AllocError>
-    requires run { r < MAX_RUNS }
+    requires run { r < max_runs }
     requires within { All IsWithin places.old.items }
     ensures places { OnOk result (places.new.items ≡ places.old.items ++ leg_places_of_job r (j, job.now.state)) }
     ensures within { OnOk result (All IsWithin places.new.items) }
@@ -35,7 +35,7 @@ fn push_legs_of_job(
 }
 
 fn push_legs_of_run(places: &mut Vec<LegPlace>, r: usize, run: &Run) -> Result<(), AllocError>
-    requires run { r < MAX_RUNS }
+    requires run { r < max_runs }
     requires within { All IsWithin places.old.items }
     ensures places { OnOk result (places.new.items ≡ places.old.items ++ leg_places_of_run (r, run.now)) }
     ensures within { OnOk result (All IsWithin places.new.items) }

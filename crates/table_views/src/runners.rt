@@ -3,10 +3,10 @@
 ghost use Rattle.std.specs.Prelude.{◌≡◌, ◌++◌, ◌<◌, [], IfOk, IfSome, None, Ok, Some, codes, decimal, false, find, option_copied, string_bytes};
 ghost use Rattle.std.specs.List.{All};
 ghost use Rattle.std.specs.Option.{option_map_or};
+ghost use Rattle.stated_limits.specs.Limits.{max_runs};
 ghost use Rattle.wf_value.specs.Gives.{Gives};
 ghost use Rattle.run_states.specs.Fitting.{has_lease, place_of_lease};
 ghost use Rattle.run_states.specs.Places.{leg_at, leg_places};
-ghost use Rattle.run_states.specs.declared.limits.TheConstants.{MAX_RUNS};
 ghost use Rattle.table_views.specs.Placed.{IsWithin};
 ghost use Rattle.table_views.specs.RunnerLines.{held_leg, lease_text, runner_line, runner_lines};
 ghost use Rattle.table_views.specs.Texts.{line};
@@ -43,7 +43,7 @@ fn has_lease_at(runs: &Runs, place: LegPlace, lease: Number) -> bool
 fn first_with_lease<'p>(runs: &Runs, places: &'p [LegPlace], lease: Number) -> Option<&'p LegPlace>
     requires { All IsWithin places.now }
     ensures found { option_copied result ≡ find (λ p. option_map_or (has_lease lease) (leg_at runs.now p) false) places.now }
-    ensures run { IfSome result (λ p. p.now.run < MAX_RUNS) }
+    ensures run { IfSome result (λ p. p.now.run < max_runs) }
 {
     places
         .iter()
@@ -55,7 +55,7 @@ fn place_of_lease(runs: &Runs, places: &[LegPlace], lease: Number) -> Option<Leg
     requires all { places.now ≡ leg_places runs.now }
     requires within { All IsWithin places.now }
     ensures found { result ≡ place_of_lease runs.now lease }
-    ensures run { IfSome result (λ p. p.run < MAX_RUNS) }
+    ensures run { IfSome result (λ p. p.run < max_runs) }
 {
     match first_with_lease(runs, places, lease) {
         Some(place) => Some(*place),
@@ -71,7 +71,7 @@ fn held_text(
     lease: Number,
     place: LegPlace,
 ) -> Result<String, Refusal>
-    requires { place.run < MAX_RUNS }
+    requires { place.run < max_runs }
     ensures { Gives string_bytes result (Ok (lease_text form runs.now (Some (lease, place)))) }
 {
     let lease = lease.get();

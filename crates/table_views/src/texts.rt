@@ -2,8 +2,8 @@
 
 ghost use Rattle.std.specs.Prelude.{◌≡◌, ◌++◌, ◌<◌, IfOk, Ok, OnOk, string_bytes};
 ghost use Rattle.std.specs.List.{join_with_byte};
+ghost use Rattle.stated_limits.specs.Limits.{max_runs};
 ghost use Rattle.wf_value.specs.Gives.{Gives};
-ghost use Rattle.run_states.specs.declared.limits.TheConstants.{MAX_RUNS};
 ghost use Rattle.table_views.specs.Texts.{leg_members, leg_words, listed, quoted};
 
 use json::Writer;
@@ -54,7 +54,7 @@ fn push_joined(items: &[Chars], text: &mut String) -> Result<(), AllocError>
 
 /// A leg as words: its run, its job and its number.
 pub(crate) fn leg_words(alloc: Global, runs: &Runs, place: LegPlace) -> Result<String, Refusal>
-    requires { place.run < MAX_RUNS }
+    requires { place.run < max_runs }
     ensures { Gives string_bytes result (Ok (leg_words runs.now place)) }
 {
     let run = place.run + 1;
@@ -66,7 +66,7 @@ pub(crate) fn leg_words(alloc: Global, runs: &Runs, place: LegPlace) -> Result<S
 
 /// A leg as members of a JSON object.
 pub(crate) fn leg_members(alloc: Global, runs: &Runs, place: LegPlace) -> Result<String, Refusal>
-    requires { place.run < MAX_RUNS }
+    requires { place.run < max_runs }
     ensures { Gives string_bytes result (Ok (leg_members runs.now place)) }
 {
     let run = place.run + 1;

@@ -3,6 +3,7 @@ use Rattle.std.proofs.Common.{◌≡◌, ◌⊎◌, ℕ, ◌<◌, ◌≤◌, Boo
 use Rattle.std.specs.Prelude.{min, codes, cond, nat_le, Option, Some, None, Result, Ok, Err, ⊤}
 use Rattle.std.proofs.lemmas.Bool.Decides.{nat_tests}
 use Rattle.std.proofs.lemmas.List.{drop-drop, length-map}
+use Rattle.stated_limits.specs.Limits.{max_body}
 use lib.Seq.{drop-append-le}
 use Rattle.httparse.specs.declared.spans.HeaderSpan.{HeaderSpan}
 use Rattle.httparse.specs.declared.spans.RequestSpans.{RequestSpans}
@@ -11,7 +12,6 @@ use Rattle.httparse.specs.Spans.{RequestOverflows, IsRequestAt, IsRequestWithin,
 use Rattle.httparse.proofs.GrammarLemmas.{ReadsRequest-append}
 use Rattle.http1.specs.Fields.{values_named}
 use Rattle.wf_value.specs.declared.refusal.Refusal.{Refusal}
-use Rattle.wf_reader.specs.declared.body.TheConstants.{MAX_BODY}
 use Rattle.run_plan.specs.Decimal.{is_decimal}
 use Rattle.act_sessions.specs.declared.request.FoundRequest.{FoundRequest}
 use Rattle.act_sessions.specs.Rules.{IsNext}
@@ -49,20 +49,20 @@ over : (m n : ℕ) → nat_le m n ≡ false → n < m
 over m n h = grind (arith, nat_tests)
 
 abbrev IsSmall : Result ℕ Fault → Type 0
-IsSmall (Ok n) = n ≤ MAX_BODY
+IsSmall (Ok n) = n ≤ max_body
 IsSmall (Err f) = ⊤
 
 abbrev IsSmallIfStated : Result (Option ℕ) Fault → Type 0
-IsSmallIfStated (Ok (Some n)) = n ≤ MAX_BODY
+IsSmallIfStated (Ok (Some n)) = n ≤ max_body
 IsSmallIfStated (Ok None) = ⊤
 IsSmallIfStated (Err f) = ⊤
 
-small_if : (n : ℕ) (within : Bool) (f : Fault) → nat_le n MAX_BODY ≡ within → IsSmallIfStated (just (cond within (Ok n) (Err f)))
-small_if n true f h = at_most n MAX_BODY h
+small_if : (n : ℕ) (within : Bool) (f : Fault) → nat_le n max_body ≡ within → IsSmallIfStated (just (cond within (Ok n) (Err f)))
+small_if n true f h = at_most n max_body h
 small_if n false f h = tt
 
-length_small : (digits : Bool) (n : ℕ) (f g : Fault) → IsSmallIfStated (just (cond digits (cond (nat_le n MAX_BODY) (Ok n) (Err f)) (Err g)))
-length_small true n f g = small_if n (nat_le n MAX_BODY) f refl
+length_small : (digits : Bool) (n : ℕ) (f g : Fault) → IsSmallIfStated (just (cond digits (cond (nat_le n max_body) (Ok n) (Err f)) (Err g)))
+length_small true n f g = small_if n (nat_le n max_body) f refl
 length_small false n f g = tt
 
 stated_small : (values : List (List ℕ)) → IsSmallIfStated (stated_by values)
@@ -92,7 +92,7 @@ body_small head =
 some_is_none : {A : Type 0} (x : A) → Some x ≡ None → ⊥
 some_is_none x e = cc
 
-short_by : (head : Heading) (after : List ℕ) (r : Result ℕ Fault) → IsSmall r → with_body head after r ≡ None → length after < MAX_BODY
+short_by : (head : Heading) (after : List ℕ) (r : Result ℕ Fault) → IsSmall r → with_body head after r ≡ None → length after < max_body
 short_by head after (Err f) small e = absurd (some_is_none _ e)
 short_by head after (Ok n) small e =
     elim (chosen (nat_le n (length after)) _ None None e) [

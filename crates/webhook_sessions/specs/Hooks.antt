@@ -1,9 +1,9 @@
 -- The rules of an HTTP/1.1 session. A request is a head as in the grammar of `httparse`, RFC 9112, sections 2 to 5, and a body of as many
--- bytes as its `Content-Length` says. The limits `MAX_HEAD` and `MAX_FIELDS` of a head are defined by this project.
+-- bytes as its `Content-Length` says. The limits `max_head` and `max_fields` of a head are defined by this project.
 use Rattle.std.specs.Prelude.{◌≡◌, ◌⊎◌, ℕ, ◌+◌, ◌≤◌, ◌<◌, List, length, take, Some, None}
+use Rattle.stated_limits.specs.Limits.{max_body, max_fields, max_head, max_requests}
 use Rattle.httparse.specs.Grammar.{RequestHead, ReadsRequest, HasNoRequest, MayBecomeRequest, print_request}
 use Rattle.httparse.specs.Spans.{RequestOverflows}
-use Rattle.wf_reader.specs.declared.body.TheConstants.{MAX_BODY}
 use Rattle.act_sessions.specs.declared.request.Request.{Request}
 use Rattle.act_sessions.specs.Rules.{Rules}
 use Rattle.webhook_sessions.specs.declared.fault.Fault.{Fault}
@@ -11,18 +11,16 @@ use Rattle.webhook_sessions.specs.declared.fault.Fault.TheVariants.{BadHead}
 use Rattle.webhook_sessions.specs.Answers.{answer_text, fault_text, out_of_memory_text}
 use Rattle.webhook_sessions.specs.Asking.{request_after, unread}
 use Rattle.webhook_sessions.specs.Heading.{heading_of}
-use Rattle.webhook_sessions.specs.declared.protocol.TheConstants.{MAX_REQUESTS}
-use Rattle.webhook_sessions.specs.declared.request.TheConstants.{MAX_FIELDS, MAX_HEAD}
 
 -- the bytes begin with this head, which is within the limits
 pub record BeginsWith (bytes : List ℕ) (h : RequestHead) (after : List ℕ) : Type 0 where
   pub reads : ReadsRequest bytes h after
-  pub fields : length h.fields ≤ MAX_FIELDS
-  pub short : length (print_request h) ≤ MAX_HEAD
+  pub fields : length h.fields ≤ max_fields
+  pub short : length (print_request h) ≤ max_head
 
--- whatever follows, the bytes begin with no head of at most `MAX_FIELDS` fields, or `MAX_HEAD` bytes contain no whole head
+-- whatever follows, the bytes begin with no head of at most `max_fields` fields, or `max_head` bytes contain no whole head
 abbrev pub HasBadHead : List ℕ → Type 0
-HasBadHead bytes = RequestOverflows MAX_FIELDS bytes ⊎ ((MAX_HEAD ≤ length bytes) × HasNoRequest (take MAX_HEAD bytes))
+HasBadHead bytes = RequestOverflows max_fields bytes ⊎ ((max_head ≤ length bytes) × HasNoRequest (take max_head bytes))
 
 -- the bytes are this request, then a rest
 abbrev pub HookReads : List ℕ → Request Fault → List ℕ → Type 0
@@ -33,10 +31,10 @@ HookReads bytes r rest =
 -- the bytes are less than a request: a head may still come, or the body is incomplete
 abbrev pub HookWaits : List ℕ → Type 0
 HookWaits bytes =
-    (HasNoRequest bytes × MayBecomeRequest bytes × (length bytes < MAX_HEAD))
+    (HasNoRequest bytes × MayBecomeRequest bytes × (length bytes < max_head))
     ⊎ ((h : RequestHead) × (after : List ℕ) × BeginsWith bytes h after × (request_after (heading_of h) after ≡ None))
 
--- A session takes at most `MAX_REQUESTS` requests; this limit is defined by this project. No more bytes wait than the longest head and
+-- A session takes at most `max_requests` requests; this limit is defined by this project. No more bytes wait than the longest head and
 -- the longest body have.
 abbrev pub hooks : Rules Fault
 hooks = record {
@@ -45,6 +43,6 @@ hooks = record {
   answer_text = answer_text;
   fault_text = fault_text;
   out_of_memory_response = Some out_of_memory_text;
-  most = MAX_REQUESTS;
-  limit = MAX_HEAD + MAX_BODY;
+  most = max_requests;
+  limit = max_head + max_body;
 }

@@ -1,15 +1,15 @@
 -- The length of a request's body: RFC 9112, section 6.
 use Rattle.std.specs.Prelude.{ℕ, List, [], ◌∷◌, nat_le, codes, Option, Some, None, Result, Ok, Err, if◌then◌else◌}
 use Rattle.std.specs.Str.Parse.{digits_value}
+use Rattle.stated_limits.specs.Limits.{max_body}
 use Rattle.run_plan.specs.Decimal.{is_decimal}
 use Rattle.http1.specs.Fields.{Header, values_named}
-use Rattle.wf_reader.specs.declared.body.TheConstants.{MAX_BODY}
 use Rattle.webhook_sessions.specs.declared.fault.Fault.{Fault}
 use Rattle.webhook_sessions.specs.declared.fault.Fault.TheVariants.{NoLength, BadLength, TooLong}
 
 -- The length that a field states: one to nine digits, and no more than the longest body. RFC 9110, section 8.6, allows any number of digits.
 abbrev pub length_of : List ℕ → Result ℕ Fault
-length_of text = if is_decimal text then (if nat_le (digits_value 10 text) MAX_BODY then Ok (digits_value 10 text) else Err TooLong) else Err BadLength
+length_of text = if is_decimal text then (if nat_le (digits_value 10 text) max_body then Ok (digits_value 10 text) else Err TooLong) else Err BadLength
 
 abbrev pub just : Result ℕ Fault → Result (Option ℕ) Fault
 just (Ok n) = Ok (Some n)

@@ -4,6 +4,7 @@
 use Rattle.std.specs.Prelude.{ℕ, List, [], ◌∷◌, ◌++◌, length, Bool, false, ◌&&◌, ◌||◌, ◌==◌, nat_le, codes, map, flat_map, option_map}
 use Rattle.std.specs.Char.{is_ascii_alphabetic, is_ascii_digit}
 use Rattle.std.specs.List.{list_all}
+use Rattle.stated_limits.specs.Limits.{max_job_id}
 use Rattle.serde_json.specs.Data.{Data, null, boolean, number, string, array, object, no_items, item}
 use Rattle.serde_json.specs.Find.{get}
 use Rattle.wf_value.specs.declared.code.Code.TheVariants.{WrongKind, JobId, NoLabels, LeftOut}
@@ -19,9 +20,8 @@ use Rattle.wf_reader.specs.Needs.{needs_faults, needs_in}
 use Rattle.wf_reader.specs.Strategy.{strategy_faults, strategy_of}
 use Rattle.wf_reader.specs.Templates.{template_faults, template_in}
 use Rattle.wf_reader.specs.declared.job.Job.{Job}
-use Rattle.wf_reader.specs.declared.job_id.TheConstants.{MAX_ID}
 
--- ---- jobs.<job_id>: a letter or `_`, then letters, digits, `-` and `_`; the limit `MAX_ID` is defined by this project
+-- ---- jobs.<job_id>: a letter or `_`, then letters, digits, `-` and `_`; the limit `max_job_id` is defined by this project
 
 abbrev pub is_id_start : ℕ → Bool
 is_id_start b = is_ascii_alphabetic b || b == 95
@@ -31,7 +31,7 @@ is_id_part b = is_id_start b || is_ascii_digit b || b == 45
 
 abbrev pub is_job_id : List ℕ → Bool
 is_job_id [] = false
-is_job_id (b ∷ bs) = is_id_start b && list_all is_id_part bs && nat_le (length (b ∷ bs)) MAX_ID
+is_job_id (b ∷ bs) = is_id_start b && list_all is_id_part bs && nat_le (length (b ∷ bs)) max_job_id
 
 -- ---- runs-on: a text, or a list of texts, each of them a template
 

@@ -4,6 +4,7 @@ use Rattle.std.specs.Prelude.{ℕ, List, [], ◌∷◌, Bool, true, ◌&&◌, na
 use Rattle.std.specs.Prelude.{Option, Some, None, option_map, option_and_then, unwrap_or}
 use Rattle.std.specs.List.{list_all, list_any}
 use Rattle.std.specs.Str.{bytes_eq}
+use Rattle.stated_limits.specs.Limits.{max_parallel}
 use Rattle.serde_json.specs.Data.{Data}
 use Rattle.serde_json.specs.Find.{get, as_bool, as_number, as_object, as_u64}
 use Rattle.wf_value.specs.declared.code.Code.TheVariants.{StrategyMember}
@@ -12,7 +13,6 @@ use Rattle.wf_reader.specs.Faults.{fault, fault_unless, faults_in_order, optiona
 use Rattle.wf_reader.specs.Json.{members_of}
 use Rattle.wf_reader.specs.MatrixOf.{matrix_faults, matrix_of}
 use Rattle.wf_reader.specs.declared.strategy.Strategy.{Strategy}
-use Rattle.wf_reader.specs.declared.strategy.TheConstants.{MAX_PARALLEL}
 
 abbrev pub is_strategy_name : List ℕ → Bool
 is_strategy_name name = list_any (bytes_eq name) (codes "matrix" ∷ codes "fail-fast" ∷ codes "max-parallel" ∷ [])
@@ -25,9 +25,9 @@ names_faults d = fault_unless (list_all (λ m. is_strategy_name m.0) (members_of
 abbrev pub fail_fast_faults : Data → List Refusal
 fail_fast_faults d = fault_unless (is_some (as_bool d)) StrategyMember
 
--- an integer from 1 to `MAX_PARALLEL`; the upper limit is defined by this project
+-- an integer from 1 to `max_parallel`; the upper limit is defined by this project
 abbrev pub if_parallel : ℕ → Option ℕ
-if_parallel n = if nat_le 1 n && nat_le n MAX_PARALLEL then Some n else None
+if_parallel n = if nat_le 1 n && nat_le n max_parallel then Some n else None
 
 abbrev pub max_parallel_in : Data → Option ℕ
 max_parallel_in d = option_and_then if_parallel (option_and_then as_u64 (as_number d))

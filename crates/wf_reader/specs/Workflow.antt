@@ -1,6 +1,7 @@
 -- A workflow: its faults and its value. Other members are ignored. GitHub Docs, "Workflow syntax for GitHub Actions": name,
 -- concurrency, jobs.
 use Rattle.std.specs.Prelude.{ℕ, List, [], ◌∷◌, ◌++◌, map, length, nat_le, codes, flat_map, option_map}
+use Rattle.stated_limits.specs.Limits.{max_jobs}
 use Rattle.serde_json.specs.Data.{Data}
 use Rattle.serde_json.specs.Find.{get}
 use Rattle.wf_value.specs.declared.code.Code.TheVariants.{WrongKind, TooManyJobs}
@@ -11,13 +12,12 @@ use Rattle.wf_reader.specs.Concurrency.{concurrency_faults, concurrency_in}
 use Rattle.wf_reader.specs.Faults.{fault, fault_unless, faults_in_order, optional, text_faults, faults_within}
 use Rattle.wf_reader.specs.Job.{job_faults, job_of}
 use Rattle.wf_reader.specs.Json.{text_in, members_of, member_at}
-use Rattle.wf_reader.specs.declared.workflow.TheConstants.{MAX_JOBS}
 use Rattle.wf_reader.specs.declared.workflow.Workflow.{Workflow}
 
--- 1 to `MAX_JOBS` jobs, in the order of their ids; the upper limit is defined by this project
+-- 1 to `max_jobs` jobs, in the order of their ids; the upper limit is defined by this project
 abbrev pub jobs_faults : List (List ℕ × Data) → List Refusal
 jobs_faults [] = fault WrongKind
-jobs_faults (j ∷ js) = fault_unless (nat_le (length (j ∷ js)) MAX_JOBS) TooManyJobs ++ flat_map job_faults (j ∷ js)
+jobs_faults (j ∷ js) = fault_unless (nat_le (length (j ∷ js)) max_jobs) TooManyJobs ++ flat_map job_faults (j ∷ js)
 
 abbrev pub inside_workflow : Data → List Refusal
 inside_workflow d = faults_in_order (optional text_faults (get (codes "name") d)

@@ -1,5 +1,6 @@
 ghost use Rattle.std.specs.Prelude.{◌≡◌, ◌<◌, ◌≤◌, [], length, false, Err};
 ghost use Rattle.std.specs.Str.{is_utf8};
+ghost use Rattle.stated_limits.specs.Limits.{max_body};
 ghost use Rattle.serde_json.specs.View.{view};
 ghost use Rattle.wf_value.specs.Gives.{Gives};
 ghost use Rattle.wf_value.specs.declared.code.Code.TheVariants.{NotJson, TooLong};
@@ -20,8 +21,8 @@ pub const MAX_BODY: usize = 65_536;
 pub fn read_body(alloc: Global, bytes: &[u8]) -> Result<Value, Refusal>
     ensures gives { Gives view result
         (unless_faulty (body_faults (λ _. []) bytes.now) (body_value bytes.now)) }
-    ensures too_long { MAX_BODY < length bytes.now → result ≡ Err (Numbered TooLong) }
-    ensures no_text { length bytes.now ≤ MAX_BODY → is_utf8 bytes.now ≡ false
+    ensures too_long { max_body < length bytes.now → result ≡ Err (Numbered TooLong) }
+    ensures no_text { length bytes.now ≤ max_body → is_utf8 bytes.now ≡ false
         → result ≡ Err (Numbered NotJson) }
 {
     if bytes.len() > MAX_BODY {

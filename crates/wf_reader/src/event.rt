@@ -1,5 +1,6 @@
 ghost use Rattle.std.specs.Prelude.{◌≡◌, ◌<◌, ◌≤◌, length, option_map, unwrap_or, false, Err};
 ghost use Rattle.std.specs.Str.{is_utf8};
+ghost use Rattle.stated_limits.specs.Limits.{max_body};
 ghost use Rattle.serde_json.specs.Data.{null};
 ghost use Rattle.serde_json.specs.View.{view};
 ghost use Rattle.wf_value.specs.Gives.{Gives};
@@ -71,8 +72,8 @@ pub fn read_event(alloc: Global, bytes: &[u8]) -> Result<Event, Refusal>
         (unless_faulty (event_faults bytes.now) (event_of bytes.now)) }
 
     // These two hold with or without memory:
-    ensures too_long { MAX_BODY < length bytes.now → result ≡ Err (Numbered TooLong) }
-    ensures no_text { length bytes.now ≤ MAX_BODY → is_utf8 bytes.now ≡ false
+    ensures too_long { max_body < length bytes.now → result ≡ Err (Numbered TooLong) }
+    ensures no_text { length bytes.now ≤ max_body → is_utf8 bytes.now ≡ false
         → result ≡ Err (Numbered NotJson) }
 {
     let value = read_body(alloc, bytes)?;

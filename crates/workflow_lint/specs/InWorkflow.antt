@@ -2,6 +2,7 @@
 -- syntax for GitHub Actions".
 use Rattle.std.specs.Prelude.{ℕ, List, [], ◌∷◌, ◌++◌, is_some, if◌then◌else◌, codes, flat_map, length, nat_le}
 use Rattle.std.specs.Option.{option_map_or}
+use Rattle.stated_limits.specs.Limits.{max_body, max_jobs}
 use Rattle.serde_json.specs.Data.{Data}
 use Rattle.serde_json.specs.Find.{as_object}
 use Rattle.wf_value.specs.declared.code.Code.TheVariants.{NotJson, TooLong, TooManyJobs, WrongKind}
@@ -9,8 +10,6 @@ use Rattle.wf_expr.specs.declared.place.ContextSite.TheVariants as place
 use Rattle.wf_reader.specs.Body.{json_of}
 use Rattle.wf_reader.specs.Faults.{fault, fault_unless}
 use Rattle.wf_reader.specs.Json.{member_at, members_of}
-use Rattle.wf_reader.specs.declared.body.TheConstants.{MAX_BODY}
-use Rattle.wf_reader.specs.declared.workflow.TheConstants.{MAX_JOBS}
 use Rattle.workflow_lint.specs.Checks.{found_by, optional_at}
 use Rattle.workflow_lint.specs.Findings.{at}
 use Rattle.workflow_lint.specs.InJob.{concurrency_at, job_at}
@@ -24,7 +23,7 @@ each_job_at jobs = flat_map (λ job. job_at (member_path (codes "jobs") job.0) j
 
 abbrev pub jobs_at : List (List ℕ × Data) → List Finding
 jobs_at [] = at (codes "jobs") (fault WrongKind)
-jobs_at (j ∷ js) = at (codes "jobs") (fault_unless (nat_le (length (j ∷ js)) MAX_JOBS) TooManyJobs) ++ each_job_at (j ∷ js)
+jobs_at (j ∷ js) = at (codes "jobs") (fault_unless (nat_le (length (j ∷ js)) max_jobs) TooManyJobs) ++ each_job_at (j ∷ js)
 
 abbrev pub inside_workflow_at : Data → List Finding
 inside_workflow_at d =
@@ -38,4 +37,4 @@ workflow_at d = if is_some (as_object d) then inside_workflow_at d else at [] (f
 
 abbrev pub found_in_text : List ℕ → List Finding
 found_in_text bytes =
-    if nat_le (length bytes) MAX_BODY then option_map_or workflow_at (json_of bytes) (at [] (fault NotJson)) else at [] (fault TooLong)
+    if nat_le (length bytes) max_body then option_map_or workflow_at (json_of bytes) (at [] (fault NotJson)) else at [] (fault TooLong)

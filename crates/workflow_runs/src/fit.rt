@@ -2,6 +2,7 @@
 
 ghost use Rattle.std.specs.Prelude.{◌≡◌, ◌<◌, ◌^◌, ◌&&◌, IfSome, Some, false, if◌then◌else◌};
 ghost use Rattle.std.specs.Option.{option_map_or};
+ghost use Rattle.stated_limits.specs.Limits.{max_runs};
 ghost use Rattle.wf_value.specs.declared.outcome.Outcome.TheVariants.{Cancelled, Failure};
 ghost use Rattle.run_states.specs.Cells.{HaveTheirRoom, states};
 ghost use Rattle.run_states.specs.Fitting.{OnlyAtWork, first_fit, is_ready, is_served, is_stopping_leg, place_of_lease};
@@ -9,7 +10,6 @@ ghost use Rattle.run_states.specs.Parallel.{has_room};
 ghost use Rattle.run_states.specs.Places.{leg_at, run_at};
 ghost use Rattle.run_states.specs.WithinRun.{fit_in_job, fit_in_jobs, lease_in_run, served_in_job};
 ghost use Rattle.run_states.specs.Words.{planned_legs};
-ghost use Rattle.run_states.specs.declared.limits.TheConstants.{MAX_RUNS};
 
 use crate::runs::Runs;
 use crate::walk::Legs;
@@ -89,7 +89,7 @@ fn fit_in_run(labels: &[Label], runs: &Runs, r: usize, run: &Run) -> Option<LegP
 /// The first ready leg such that `labels` has all labels that it asks for and one more leg of its job may run. Takes no memory.
 pub fn first_fit(labels: &[Label], runs: &Runs) -> Option<LegPlace>
     ensures found { result ≡ first_fit labels.now runs.now }
-    ensures run { IfSome result (λ p. p.run < MAX_RUNS) }
+    ensures run { IfSome result (λ p. p.run < max_runs) }
 {
     let all = runs.as_slice();
     let mut from = 0;

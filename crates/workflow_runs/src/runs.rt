@@ -2,6 +2,7 @@ ghost use Rattle.std.specs.Prelude.{◌≡◌, ◌≤◌, ◌<◌, ◌∷◌, �
 ghost use Rattle.std.specs.Prelude.{option_map, option_copied, slice_get, Ok, ◌^◌, false, true};
 ghost use Rattle.std.specs.List.{position};
 ghost use Rattle.std.specs.Option.{option_map_or};
+ghost use Rattle.stated_limits.specs.Limits.{max_runs};
 ghost use Rattle.wf_value.specs.Gives.{Gives};
 ghost use Rattle.run_states.specs.LegContext.{facts_at};
 ghost use Rattle.run_states.specs.NewRun.{is_delivered_as};
@@ -9,7 +10,6 @@ ghost use Rattle.run_states.specs.Parallel.{most_at_work};
 ghost use Rattle.run_states.specs.Places.{job_at, leg_at, plan_at, run_at};
 ghost use Rattle.run_states.specs.RunNumber.{events, run_number};
 ghost use Rattle.run_states.specs.Words.{combo_at, job_id};
-ghost use Rattle.run_states.specs.declared.limits.TheConstants.{MAX_RUNS};
 ghost use Rattle.workflow_runs.specs.Counted.{IsOf};
 
 mod changes;
@@ -84,7 +84,7 @@ impl Runs {
 
     pub fn as_slice(&self) -> &[Run]
         ensures runs { result.now ≡ self.now }
-        ensures most { length self.now ≤ MAX_RUNS }
+        ensures most { length self.now ≤ max_runs }
     {
         self.runs.as_slice()
     }
@@ -92,14 +92,14 @@ impl Runs {
     /// Run `r`.
     fn run(&self, r: usize) -> Option<&Run>
         ensures run { option_copied result ≡ run_at self.now r }
-        ensures within { IfSome result (λ run. r < MAX_RUNS) }
+        ensures within { IfSome result (λ run. r < max_runs) }
     {
         self.as_slice().get(r)
     }
 
     pub fn len(&self) -> usize
         ensures len { result ≡ length self.now }
-        ensures most { result ≤ MAX_RUNS }
+        ensures most { result ≤ max_runs }
     {
         self.runs.len()
     }
@@ -166,7 +166,7 @@ impl Runs {
     /// The index of the first run of the delivery.
     pub fn position(&self, delivery: &DeliveryId) -> Option<usize>
         ensures found { result ≡ position (is_delivered_as delivery.now) self.now }
-        ensures most { IfSome result (λ i. i < MAX_RUNS) }
+        ensures most { IfSome result (λ i. i < max_runs) }
     {
         let place = self.index.places.place(delivery)?;
         if self.is_delivered_at(place, delivery) {
@@ -179,7 +179,7 @@ impl Runs {
     /// Whether the run at index `place` is of the delivery.
     fn is_delivered_at(&self, place: usize, delivery: &DeliveryId) -> bool
         ensures is { result ≡ option_map_or (is_delivered_as delivery.now) (slice_get self.now place) false }
-        ensures within { result ≡ true → place < MAX_RUNS }
+        ensures within { result ≡ true → place < max_runs }
     {
         match self.as_slice().get(place) {
             Some(run) => run.is_delivered_as(delivery),
@@ -205,7 +205,7 @@ impl Runs {
 
     /// Adds a run at the end, with its number and its bindings. On an `Err` it is not added.
     pub fn add(&mut self, alloc: Global, run: Run) -> Result<(), Refusal>
-        requires { length self.old < MAX_RUNS }
+        requires { length self.old < max_runs }
         ensures added { Gives (λ _. self.new) result (Ok (self.old ++ run ∷ [])) }
         ensures err { OnErr result (self.new ≡ self.old) }
     {
@@ -222,7 +222,7 @@ impl Runs {
         found: Option<usize>,
         workflow: Workflow,
     ) -> Result<(), Refusal>
-        requires room { length self.old < MAX_RUNS }
+        requires room { length self.old < max_runs }
         requires found { found ≡ position (is_delivered_as run.admitted.delivery) self.old }
         requires workflow { IsOf workflow run.admitted }
         ensures added { Gives (λ _. self.new) result (Ok (self.old ++ run ∷ [])) }

@@ -1,6 +1,7 @@
 //! Admits an event: creates its run, unless its delivery has one already.
 
 ghost use Rattle.std.specs.Prelude.{◌≡◌, ◌<◌, true, length, Ok, OnErr, IsOk};
+ghost use Rattle.stated_limits.specs.Limits.{max_runs};
 ghost use Rattle.wf_value.specs.Gives.{Gives};
 ghost use Rattle.run_table.specs.Sound.{IsSound};
 ghost use Rattle.run_table.specs.Step.{admission_answer, admitted, admitting, is_allocation_free, outcome};
@@ -30,7 +31,7 @@ impl TableData {
     /// Creates a run for the event.
     fn enter(&mut self, alloc: Global, prepared: &Prepared) -> Result<Reply, Refusal>
         requires sound { IsSound self.old }
-        requires few { length self.old.runs < MAX_RUNS }
+        requires few { length self.old.runs < max_runs }
         ensures step { Gives (λ reply. (self.new, reply)) result (Ok (outcome (admitting self.old prepared.now))) }
         ensures err { OnErr result (self.new ≡ self.old) }
     {

@@ -2,9 +2,9 @@
 
 ghost use Rattle.std.specs.Prelude.{◌≡◌, ◌<◌, true, length, Ok, IfErr, IfOk, OnErr, IsOk, is_some, Some};
 ghost use Rattle.std.specs.Option.{option_map_or};
+ghost use Rattle.stated_limits.specs.Limits.{last_number, max_runs};
 ghost use Rattle.wf_value.specs.Gives.{Gives, no_memory};
 ghost use Rattle.run_states.specs.Fitting.{first_fit};
-ghost use Rattle.run_states.specs.declared.limits.TheConstants.{MAX_RUNS};
 ghost use Rattle.run_table.specs.Sound.{IsSound};
 ghost use Rattle.run_states.specs.Places.{run_at};
 ghost use Rattle.run_table.specs.Step.{claim_answer, claimed, claiming, claiming_runner, is_allocation_free, kept_lease_at};
@@ -96,9 +96,9 @@ impl TableData {
     ) -> Result<(Reply, Reply), Refusal>
         requires sound { IsSound self.old }
         requires place { place ≡ place_named self.old.runners claim.now.runner }
-        requires run { leg.run < MAX_RUNS }
+        requires run { leg.run < max_runs }
         requires fits { first_fit claim.now.labels self.old.runs ≡ Some leg }
-        requires left { self.old.last_lease < LAST_NUMBER }
+        requires left { self.old.last_lease < last_number }
         ensures step { Gives (λ replies. (self.new, replies.0)) result (Ok (outcome (leasing self.old claim.now leg))) }
         ensures copy { IfOk result (λ replies. replies.1 ≡ replies.0) }
         ensures err { OnErr result (self.new ≡ self.old) }
@@ -121,7 +121,7 @@ fn runner_and_replies(
     place: LegPlace,
     lease: Number,
 ) -> Result<(Runner, BoxedLease, BoxedLease), Refusal>
-    requires run { place.run < MAX_RUNS }
+    requires run { place.run < max_runs }
     requires there { place.run < length runs.now }
     ensures runner { let at = kept_lease_at runs.now place lease in
         IfOk result (λ kept. kept.0 ≡ claiming_runner claim.now (Some lease) (given.Lease at)) }

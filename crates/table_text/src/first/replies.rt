@@ -1,12 +1,11 @@
 //! The kept reply to a last command, in the first layout.
 
-ghost use Rattle.table_text.specs.Reading.{Finds};
+ghost use Rattle.command_encodings.specs.Reading.{Finds};
 ghost use Rattle.table_text.specs.ReadingFirst.{first_kept_at, first_kept_of};
 
-use crate::decode_error::DecodeError;
-use crate::fields::{lease_at, optional_lease};
 use crate::kept::StoredReply;
-use crate::prefix::byte_at;
+use crate::lease_fields::{lease_at, optional_lease};
+use command_encodings::{DecodeError, byte_at};
 use run_plan::Number;
 use stored_tables::StoredLease;
 

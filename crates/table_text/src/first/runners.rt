@@ -1,15 +1,13 @@
 //! The runners of a table of the first layout.
 
-ghost use Rattle.table_text.specs.Reading.{Finds};
+ghost use Rattle.command_encodings.specs.Reading.{Finds};
 ghost use Rattle.table_text.specs.ReadingFirst.{first_last_at, first_runner_at, first_runners_at};
 
 use super::list::{ReadFirstAt, first_list_at};
 use super::replies::first_kept_at;
-use crate::command_at::command_at;
-use crate::decode_error::DecodeError;
-use crate::fields::{lease_at, number_at, optional_lease, small_text_at};
-use crate::prefix::word_at;
+use crate::lease_fields::{lease_at, optional_lease};
 use crate::runners_at::{last_with, rising};
+use command_encodings::{DecodeError, command_at, number_at, small_text_at, word_at};
 use run_plan::{Number, RunnerForm};
 use std::alloc::Global;
 use stored_tables::{LastParts, RunnerParts};

@@ -1,14 +1,12 @@
 //! The runs of a table of the first layout. Each is at its first attempt.
 
-ghost use Rattle.table_text.specs.Reading.{Finds};
+ghost use Rattle.command_encodings.specs.Reading.{Finds};
 ghost use Rattle.table_text.specs.ReadingFirst.{first_run_at, first_runs_at};
 
 use super::list::{ReadFirstAt, first_list_at};
-use crate::command_at::admit_at;
-use crate::decode_error::DecodeError;
 use crate::phases_at::{flag_at, run_phase_at};
-use crate::prefix::word_at;
 use crate::runs_at::planned_jobs_at;
+use command_encodings::{DecodeError, admit_at, word_at};
 use run_plan::Number;
 use run_states::{MAX_RUNS, RunParts};
 use std::alloc::Global;

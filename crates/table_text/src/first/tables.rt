@@ -1,12 +1,12 @@
 //! The parts of a table of the first layout.
 
-ghost use Rattle.table_text.specs.Reading.{Finds};
+ghost use Rattle.command_encodings.specs.Reading.{Finds};
 ghost use Rattle.table_text.specs.ReadingFirst.{first_table_at};
 
 use super::runners::first_runners_at;
 use super::runs::first_runs_at;
-use crate::decode_error::DecodeError;
 use crate::table_at::last_lease_at;
+use command_encodings::DecodeError;
 use std::alloc::Global;
 use stored_tables::TableParts;
 use wf_value::Sequence;

@@ -3,6 +3,7 @@
 //! no memory.
 
 ghost use Rattle.std.specs.Prelude.{◌≡◌, ◌<◌, ◌≤◌, ℕ, IfNone, IfSome, Some, false, find, length, map, option_and_then, true};
+ghost use Rattle.stated_limits.specs.Limits.{max_runs};
 ghost use Rattle.run_marks.specs.Marked.{is_marked};
 ghost use Rattle.run_states.specs.FirstOf.{placed};
 ghost use Rattle.run_states.specs.Holders.{first_conflicting, is_conflicting};
@@ -11,7 +12,6 @@ ghost use Rattle.run_states.specs.declared.holder.HolderFilter.{HolderFilter as 
 ghost use Rattle.workflow_runs.specs.SlotHolders.{HaveAll, TellsOf, first_marked, is_marked_conflicting};
 ghost use Rattle.run_states.specs.declared.holder.Holder.{Holder as HolderInCode};
 ghost use Rattle.run_states.specs.declared.holder.Holder.TheVariants as held;
-ghost use Rattle.run_states.specs.declared.limits.TheConstants.{MAX_RUNS};
 
 use crate::runs::Runs;
 use crate::runs::marks::next_below;
@@ -202,7 +202,7 @@ impl Runs {
     /// The first marked run at or after `from`.
     fn next_marked(&self, marks: &RunBitmap, from: usize) -> Option<usize>
         ensures within { IfSome result (λ r. r < length self.now) }
-        ensures few { IfSome result (λ r. r < MAX_RUNS) }
+        ensures few { IfSome result (λ r. r < max_runs) }
         ensures from { IfSome result (λ r. from ≤ r) }
         ensures itself { IfSome result (λ r. is_marked marks.now r ≡ true) }
         ensures between { IfSome result (λ r. (i : ℕ) → from ≤ i → i < r → is_marked marks.now i ≡ false) }

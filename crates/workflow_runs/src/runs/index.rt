@@ -4,12 +4,12 @@ ghost use Rattle.std.specs.List.{position};
 ghost use Rattle.std.specs.Prelude.{◌≡◌, ◌+◌, ◌<◌, ◌&&◌, ◌∷◌, ◌++◌, ℕ, [], IfOk, List, OnErr, OnOk, Some, if◌then◌else◌, is_none};
 ghost use Rattle.std.specs.Prelude.{length, true};
 ghost use Rattle.std.specs.Str.{bytes_eq};
+ghost use Rattle.stated_limits.specs.Limits.{max_runs};
 ghost use Rattle.indexmap.specs.IndexMap.{get_by_text};
 ghost use Rattle.wf_value.specs.Gives.{ErrsOnlyByMemory};
 ghost use Rattle.run_plan.specs.Admitted.{Admitted};
 ghost use Rattle.run_states.specs.NewRun.{is_delivered_as};
 ghost use Rattle.run_states.specs.RunNumber.{events, number_of_next};
-ghost use Rattle.run_states.specs.declared.limits.TheConstants.{MAX_RUNS};
 ghost use Rattle.run_bindings.specs.LabelNumbers.{LegsAreOffered};
 ghost use Rattle.workflow_runs.specs.Counted.{AreCounted, IsOf, count_of, is_counted};
 ghost use Rattle.workflow_runs.specs.Delivered.{FindsFirst};
@@ -60,7 +60,7 @@ impl Index {
         workflow: &Workflow,
         found: Option<usize>,
     ) -> Result<usize, Refusal>
-        requires few { length runs.now < MAX_RUNS }
+        requires few { length runs.now < max_runs }
         requires found { found ≡ position (is_delivered_as event.now.delivery) runs.now }
         requires workflow { IsOf workflow.now event.now }
         requires finds { FindsFirst (events runs.now) self.old.places.places }
@@ -86,7 +86,7 @@ impl Index {
         place: usize,
         found: Option<usize>,
     ) -> Result<usize, Refusal>
-        requires few { count_of self.old.counts.counts event.now < MAX_RUNS }
+        requires few { count_of self.old.counts.counts event.now < max_runs }
         requires workflow { IsOf workflow.now event.now }
         ensures err { ErrsOnlyByMemory result }
         ensures number { IfOk result (λ number. number ≡ count_of self.old.counts.counts event.now + 1) }

@@ -1,13 +1,13 @@
 //! Where commands and settling search: in the runs that are marked for them. A search that finds nothing in a run removes the mark.
 
 ghost use Rattle.std.specs.Prelude.{◌≡◌, ℕ, ◌<◌, ◌≤◌, IfNone, IfSome, None, Some, false, length};
+ghost use Rattle.stated_limits.specs.Limits.{max_runs};
 ghost use Rattle.run_states.specs.ActiveRuns.{is_active, offers_legs, someone_waits};
 ghost use Rattle.run_states.specs.Resuming.{JobsRestBefore, RestBefore, apply_at};
 ghost use Rattle.run_states.specs.Places.{run_at};
 ghost use Rattle.run_states.specs.RunState.{RunState};
 ghost use Rattle.run_states.specs.Settling.{first_place};
 ghost use Rattle.run_states.specs.WithinRun.{first_in_run, fit_in_run};
-ghost use Rattle.run_states.specs.declared.limits.TheConstants.{MAX_RUNS};
 ghost use Rattle.resuming_laws.specs.RunFacts.{is_so_at};
 
 use crate::first_place::first_in_run_at;
@@ -22,7 +22,7 @@ impl Runs {
     /// The next run that may have a ready leg whose labels are all among `labels`.
     pub(crate) fn next_offering(&self, labels: &[Label], from: usize) -> Option<usize>
         ensures within { IfSome result (λ r. r < length self.now) }
-        ensures few { IfSome result (λ r. r < MAX_RUNS) }
+        ensures few { IfSome result (λ r. r < max_runs) }
         ensures from { IfSome result (λ r. from ≤ r) }
         ensures between { IfSome result (λ r. (i : ℕ) → from ≤ i → i < r → apply_at (fit_in_run labels.now self.now) self.now i ≡ None) }
         ensures none { IfNone result ((i : ℕ) → from ≤ i → apply_at (fit_in_run labels.now self.now) self.now i ≡ None) }
@@ -34,7 +34,7 @@ impl Runs {
     /// The next run in which a rule may apply.
     pub(crate) fn next_due(&self, from: usize) -> Option<usize>
         ensures within { IfSome result (λ r. r < length self.now) }
-        ensures few { IfSome result (λ r. r < MAX_RUNS) }
+        ensures few { IfSome result (λ r. r < max_runs) }
         ensures from { IfSome result (λ r. from ≤ r) }
         ensures between { IfSome result (λ r. (i : ℕ) → from ≤ i → i < r → apply_at (first_in_run self.now) self.now i ≡ None) }
         ensures none { IfNone result ((i : ℕ) → from ≤ i → apply_at (first_in_run self.now) self.now i ≡ None) }
@@ -45,7 +45,7 @@ impl Runs {
     /// The next run that may be active: one that waits or is live, or has a leg that waits for its group or holds it.
     pub(crate) fn next_active(&self, from: usize) -> Option<usize>
         ensures within { IfSome result (λ r. r < length self.now) }
-        ensures few { IfSome result (λ r. r < MAX_RUNS) }
+        ensures few { IfSome result (λ r. r < max_runs) }
         ensures from { IfSome result (λ r. from ≤ r) }
         ensures between { IfSome result (λ r. (i : ℕ) → from ≤ i → i < r → is_so_at is_active self.now i ≡ false) }
         ensures none { IfNone result ((i : ℕ) → from ≤ i → is_so_at is_active self.now i ≡ false) }

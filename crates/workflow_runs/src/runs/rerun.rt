@@ -2,11 +2,11 @@
 
 ghost use Rattle.std.specs.Prelude.{◌≡◌, ◌+◌, ◌<◌, IfOk, IfSome, Ok, OnErr, Some, option_map, slice_set, vec_len};
 ghost use Rattle.std.specs.Fmt.{decimal};
+ghost use Rattle.stated_limits.specs.Limits.{last_attempt};
 ghost use Rattle.wf_value.specs.Gives.{ErrsOnlyByMemory, Gives};
 ghost use Rattle.run_states.specs.NewRun.{again};
 ghost use Rattle.run_states.specs.Places.{run_at, with_run};
 ghost use Rattle.run_states.specs.RunNumber.{events, run_number};
-ghost use Rattle.run_states.specs.declared.limits.TheConstants.{LAST_ATTEMPT};
 ghost use Rattle.run_bindings.specs.Bindings.{RunSays};
 
 use crate::runs::Runs;
@@ -20,7 +20,7 @@ impl Runs {
     /// Puts run `r`, if there is one, into its next attempt: it waits, all its jobs are blocked, and its templates are bound again. All
     /// memory is taken first, so on an `Err` nothing has changed.
     pub fn rerun(&mut self, alloc: Global, r: usize) -> Result<(), Refusal>
-        requires { IfSome (run_at self.old r) (λ run. run.attempt < LAST_ATTEMPT) }
+        requires { IfSome (run_at self.old r) (λ run. run.attempt < last_attempt) }
         ensures again { Gives (λ _. self.new) result (Ok (with_run r again self.old)) }
         ensures err { OnErr result (self.new ≡ self.old) }
     {
@@ -63,7 +63,7 @@ impl Runs {
 
     /// The next attempt of run `r`, with its bindings.
     fn next_attempt(&self, alloc: Global, r: usize) -> Result<Option<(Run, RunBindings)>, Refusal>
-        requires { IfSome (run_at self.now r) (λ run. run.attempt < LAST_ATTEMPT) }
+        requires { IfSome (run_at self.now r) (λ run. run.attempt < last_attempt) }
         ensures err { ErrsOnlyByMemory result }
         ensures next { IfOk result (λ found. option_map (λ it. it.0) found ≡ option_map again (run_at self.now r)) }
         ensures says { IfOk result (λ found. IfSome found (λ it. RunSays (record {

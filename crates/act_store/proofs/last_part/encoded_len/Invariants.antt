@@ -1,6 +1,6 @@
 use Rattle.std.proofs.Common.{◌≡◌, ◌≤◌, ◌*◌, length, take}
 use Rattle.std.specs.Prelude.{flat_map}
-use Rattle.table_text.specs.Commands.{command_bytes}
+use Rattle.command_encodings.specs.Commands.{command_bytes}
 use Rattle.act_store.specs.Entries.{commands_of}
 use Rattle.act_store.proofs.last_part.encoded_len.Given as goal
 

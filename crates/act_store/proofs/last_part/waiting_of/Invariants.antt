@@ -1,6 +1,6 @@
 use Rattle.std.proofs.Common.{◌≡◌, take}
 use Rattle.std.specs.List.{AllByRecursion}
-use Rattle.table_text.specs.Commands.{IsEncoded}
+use Rattle.command_encodings.specs.Commands.{IsEncoded}
 use Rattle.act_store.specs.Entries.{commands_of}
 use Rattle.act_store.specs.PendingBatch.{batch_state_of}
 use Rattle.act_store.proofs.last_part.waiting_of.Given as goal

@@ -1,5 +1,5 @@
 use Rattle.std.proofs.Common.{◌≡◌, ◌∙◌, ◌+◌, ◌-◌, ◌++◌, [], ◌∷◌, take, drop, length, ap, arith, rules, List, ℕ, slice_index}
-use Rattle.table_text.specs.Commands.{command_bytes}
+use Rattle.command_encodings.specs.Commands.{command_bytes}
 use Rattle.act_store.specs.PendingBatch.{encoded_between}
 use Rattle.act_store.proofs.Records.{written_over, encoded_after}
 use Rattle.act_store.proofs.pending_batch.append.Goals as goal

@@ -1,11 +1,11 @@
 use Rattle.std.proofs.Common.{rules, tests, ap, nat_le}
 use Rattle.std.proofs.lemmas.Iterator.Consumers.{count_from_yields_List}
 use Rattle.std.proofs.lemmas.Iterator.Splits.{YieldsList-from_slice_split}
-use Rattle.run_plan.specs.declared.labels.TheConstants.{MAX_LABELS}
+use Rattle.stated_limits.specs.Limits.{max_labels}
 use Rattle.run_plan.proofs.labels.are_few.Goals as goal
 
 pub returns : goal.returns
 returns c =
-    ap (λ n. nat_le n MAX_LABELS) (count_from_yields_List _ _ c.count.ensures.ran
+    ap (λ n. nat_le n max_labels) (count_from_yields_List _ _ c.count.ensures.ran
     (YieldsList-from_slice_split _ _ c.args.text.now c.split.ensures.rest c.split.ensures.done c.split.ensures.closure
     (λ x r q k. search (rules, tests))))

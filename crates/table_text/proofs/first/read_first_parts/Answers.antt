@@ -1,7 +1,7 @@
 use Rattle.std.proofs.Common.{arith}
 use Rattle.table_text.specs.ReadingFirst.{first_table_at}
 use Rattle.table_text.specs.FirstLayout.{first_table}
-use Rattle.table_text.proofs.Readers.{found_as_prefix, none_as_prefix}
+use Rattle.command_encodings.proofs.Readers.{found_as_prefix, none_as_prefix}
 use Rattle.table_text.proofs.FirstReaders.{first_table_reads}
 use Rattle.table_text.proofs.first.read_first_parts.Goals as goal
 

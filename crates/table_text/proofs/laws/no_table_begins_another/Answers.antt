@@ -1,6 +1,6 @@
 use Rattle.table_text.specs.ReadingTables.{table_at}
 use Rattle.table_text.specs.Tables.{table}
-use Rattle.table_text.proofs.Readers.{none_begins}
+use Rattle.command_encodings.proofs.Readers.{none_begins}
 use Rattle.table_text.proofs.TableReaders.{table_reads}
 use Rattle.table_text.proofs.laws.no_table_begins_another.Goals as goal
 

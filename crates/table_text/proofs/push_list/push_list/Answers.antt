@@ -1,6 +1,5 @@
 use Rattle.std.proofs.Common.{subst, sym}
-use Rattle.table_text.proofs.Known.{all_more, bytes_more}
-use Rattle.table_text.proofs.TableKnown.{all_get}
+use Rattle.command_encodings.proofs.Known.{all_get, all_more, bytes_more}
 use Rattle.table_text.proofs.push_list.push_list.Goals as goal
 
 pub push_to-requires : goal.push_to-requires

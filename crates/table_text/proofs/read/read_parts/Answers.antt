@@ -1,7 +1,7 @@
 use Rattle.std.proofs.Common.{arith}
 use Rattle.table_text.specs.ReadingTables.{table_at}
 use Rattle.table_text.specs.Tables.{table}
-use Rattle.table_text.proofs.Readers.{found_as_prefix, none_as_prefix}
+use Rattle.command_encodings.proofs.Readers.{found_as_prefix, none_as_prefix}
 use Rattle.table_text.proofs.TableReaders.{table_reads}
 use Rattle.table_text.proofs.read.read_parts.Goals as goal
 

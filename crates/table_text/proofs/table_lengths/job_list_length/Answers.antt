@@ -2,8 +2,8 @@ use Rattle.std.proofs.Common.{arith, subst, sym}
 use Rattle.run_states.specs.Cells.{JobCells}
 use Rattle.table_text.specs.TableLengths.{job_length}
 use Rattle.table_text.specs.Writing.{JobHasBytes}
-use Rattle.table_text.proofs.LengthLaws.{sum_more}
-use Rattle.table_text.proofs.TableKnown.{all_get}
+use Rattle.command_encodings.proofs.LengthLaws.{sum_more}
+use Rattle.command_encodings.proofs.Known.{all_get}
 use Rattle.table_text.proofs.table_lengths.job_list_length.Goals as goal
 
 pub job_length-total-requires : goal.job_length-total-requires

@@ -6,7 +6,7 @@ use Rattle.run_plan.specs.PlanOf.{faults_of}
 use Rattle.run_plan.specs.declared.command.Command.TheVariants as requested
 use Rattle.run_states.specs.Cells.{JobCells, states}
 use Rattle.run_states.proofs.Found.{each_of_map}
-use Rattle.table_text.specs.Lengths.{fields_length}
+use Rattle.command_encodings.specs.Lengths.{fields_length}
 use Rattle.table_text.specs.TableLengths.{job_length}
 use Rattle.table_text.specs.Writing.{JobHasBytes}
 use Rattle.run_plan.proofs.FewJobs.{few_jobs}

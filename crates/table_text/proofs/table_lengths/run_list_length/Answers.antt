@@ -1,8 +1,8 @@
 use Rattle.std.proofs.Common.{arith, subst, sym}
 use Rattle.table_text.specs.TableLengths.{run_length}
 use Rattle.table_text.specs.Writing.{RunHasBytes}
-use Rattle.table_text.proofs.LengthLaws.{sum_more}
-use Rattle.table_text.proofs.TableKnown.{all_get}
+use Rattle.command_encodings.proofs.LengthLaws.{sum_more}
+use Rattle.command_encodings.proofs.Known.{all_get}
 use Rattle.table_text.proofs.table_lengths.run_list_length.Goals as goal
 
 pub run_length-total-requires : goal.run_length-total-requires

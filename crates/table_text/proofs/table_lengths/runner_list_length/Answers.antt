@@ -2,7 +2,7 @@ use Rattle.std.proofs.Common.{arith}
 use Rattle.stored_tables.specs.Stored.{stored_runner}
 use Rattle.run_table.specs.TableState.{RunnerState}
 use Rattle.table_text.specs.TableLengths.{runner_length}
-use Rattle.table_text.proofs.LengthLaws.{sum_more}
+use Rattle.command_encodings.proofs.LengthLaws.{sum_more}
 use Rattle.table_text.proofs.table_lengths.runner_list_length.Goals as goal
 
 pub loop-value-preserved : goal.loop-value-preserved

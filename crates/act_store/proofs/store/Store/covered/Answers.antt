@@ -1,10 +1,14 @@
 use Rattle.std.proofs.Common.{subst}
+use Rattle.run_table.specs.Sound.{IsSound}
 use Rattle.act_store.specs.GroupsOfHistory.{KeepsGroups}
 use Rattle.act_store.specs.StoreState.{StoreState, RecoverToCovered}
 use Rattle.act_store.proofs.GroupsOfHistory.{keeps_groups}
 use Rattle.act_store.specs.StoreSeen.{as_state}
 use Rattle.act_store.proofs.Settling.{recover_to_covered}
 use Rattle.act_store.proofs.store.Store.covered.Goals as goal
+
+pub returns-clause-sound : goal.returns-clause-sound
+returns-clause-sound g c = subst (λ (v : StoreState g.row.D.Denot). IsSound v.base) c.self.view_is c.self.invariant.0.sound
 
 pub returns-clause-groups : goal.returns-clause-groups
 returns-clause-groups g c =

@@ -1,6 +1,6 @@
 use Rattle.std.proofs.Common.{rules, arith, ◌≡◌, ◌<◌, ◌+◌, List, drop, length, not, ap, subst, ◌∙◌}
 use Rattle.std.specs.Prelude.{flat_map, nat_lt}
-use Rattle.table_text.specs.Commands.{command_bytes}
+use Rattle.command_encodings.specs.Commands.{command_bytes}
 use Rattle.act_store.specs.Checkpoints.{has_no_room}
 use Rattle.act_store.specs.Entries.{commands_of}
 use Rattle.act_store.specs.StoreState.{StoreState}

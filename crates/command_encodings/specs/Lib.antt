@@ -1,0 +1,6 @@
+pub mod Commands
+pub mod Format
+pub mod Lengths
+pub mod Reading
+pub mod ReadingCommands
+pub mod Writing

@@ -1,0 +1,34 @@
+//! Consecutive values at the front of bytes.
+
+ghost use Rattle.std.specs.Prelude.{ℕ, List, Option};
+ghost use Rattle.command_encodings.specs.Reading.{Finds, items_at};
+
+use crate::decode_error::DecodeError;
+use std::alloc::Global;
+
+/// A type that can be read from the front of bytes.
+pub(crate) trait ReadAt: Drop {
+    ghost prefix_at: { List ℕ → Option (Self × List ℕ) };
+
+    /// The value at the front of the bytes, and the bytes after it.
+    fn read_at(alloc: Global, bytes: &[u8]) -> Result<(Self, &[u8]), DecodeError>
+        ensures { Finds (λ f. (f.0, f.1.now)) result (prefix_at bytes.now) };
+}
+
+/// `count` consecutive values, and the bytes after them.
+pub(crate) fn list_at<T: ReadAt>(
+    alloc: Global,
+    count: usize,
+    bytes: &[u8],
+) -> Result<(Vec<T>, &[u8]), DecodeError>
+    ensures { Finds (λ f. (f.0.items, f.1.now)) result (items_at T.prefix_at count bytes.now) }
+{
+    let mut values = Vec::new(alloc);
+    let mut rest = bytes;
+    for _ in 0..count {
+        let (value, suffix) = T::read_at(alloc, rest)?;
+        values.push(value)?;
+        rest = suffix;
+    }
+    Ok((values, rest))
+}

@@ -1,5 +1,0 @@
-use Rattle.table_text.proofs.LengthLaws.{length_batch}
-use Rattle.table_text.proofs.laws.a_batch_has_four_bytes_and_those_of_its_commands.Goals as goal
-
-pub returns : goal.returns
-returns c = length_batch

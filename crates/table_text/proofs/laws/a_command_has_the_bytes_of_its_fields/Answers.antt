@@ -1,5 +1,0 @@
-use Rattle.table_text.proofs.LengthLaws.{length_command}
-use Rattle.table_text.proofs.laws.a_command_has_the_bytes_of_its_fields.Goals as goal
-
-pub returns : goal.returns
-returns c = length_command

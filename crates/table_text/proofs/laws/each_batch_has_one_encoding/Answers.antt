@@ -1,6 +1,0 @@
-use Rattle.table_text.specs.Commands.{batch}
-use Rattle.table_text.proofs.Readers.{one_encoding}
-use Rattle.table_text.proofs.laws.each_batch_has_one_encoding.Goals as goal
-
-pub returns : goal.returns
-returns c = one_encoding batch
