@@ -1,0 +1,9 @@
+mod Happening
+mod HeldPieces
+mod Machine
+mod PendingPart
+mod PortSlots
+mod QuietSteps
+mod Served
+mod TurnLists
+mod TurnsSoFar

@@ -1,0 +1,159 @@
+-- Turns over a store, one after another.
+use Rattle.std.proofs.Common.{◌≡◌, ℕ, ◌+◌, ◌<◌, ◌≤◌, ◌⊎◌, ⊎_elim, true, false, Bool, List, [], ◌∷◌, ◌++◌, length, refl, sym, ap, subst, ◌∙◌, inl, inr, append-nil, append_assoc, length-append, arith}
+use Rattle.std.specs.Prelude.{Option, Some, None}
+use Rattle.std.proofs.lemmas.Bool.Decides.{nat_tests}
+use Rattle.act_sessions.specs.declared.request.Request.{Request}
+use Rattle.act_sessions.specs.Exchange.{Exchange}
+use Rattle.act_sessions.specs.Rules.{Rules, Turn, Reads, IsEnded, IsOpen, exchanges_at, exchanges_of, is_last, request_of, texts, turn_text}
+use Rattle.act_store.specs.StoreState.{StoreState}
+use Rattle.act_loop.specs.declared.pause.Pause.TheVariants as pause
+use Rattle.act_loop.specs.Entering.{Enters}
+use Rattle.act_loop.specs.declared.turns.TheConstants.{MAX_WITHHELD}
+use Rattle.act_loop.specs.Turns.{Appended, EndsRound, Goes, Moment, TakesTurn, TakesTurns, Writes, pause_after}
+use Rattle.act_loop.proofs.TurnLists.{Reads_snoc, IsOpen_snoc, IsEnded_snoc, texts_snoc, exchanges_snoc}
+
+pub enters_then : {D : Type 0} (number : ℕ) (old mid new : StoreState D) (xs ys : List Exchange) → Enters number old xs mid → Enters number mid ys new
+    → Enters number old (xs ++ ys) new
+enters_then {D} number old mid new [] ys first second = subst (λ (s : StoreState D). Enters number s ys new) first second
+enters_then number old mid new (x ∷ xs) ys first second = (first.0, first.1, enters_then number first.0 mid new xs ys first.2 second)
+
+pub goes_start : {F D : Type 0} (p : Rules F) (number n : ℕ) (bytes : List ℕ) (now : Moment D) → n < p.most → Goes p number n bytes now now n bytes
+goes_start p number n bytes now room = record {
+  turns = [];
+  reads = refl;
+  unended = tt;
+  count_is = omega arith;
+  room = room;
+  enters = refl;
+  exchanges_are = sym (append-nil now.exchanges);
+  wrote = sym (append-nil now.out);
+}
+
+-- after a turn that is not the last, the session may take another one
+still_room : {F : Type 0} (p : Rules F) (n : ℕ) (t : Turn F) → n < p.most → is_last p n t ≡ false → n + 1 < p.most
+still_room p n t room h = grind (arith, nat_tests)
+
+module _ {F D : Type 0} (p : Rules F) (number n most : ℕ) (bytes : List ℕ) (old mid new : Moment D) (count : ℕ) (held left : List ℕ) (r : Request F)
+    (below : count < n + most) (goes : Goes p number n bytes old mid count held) (reads : p.reads held r left) where
+  few_more : (t : Turn F) → length (goes.turns ++ t ∷ []) ≤ most
+  few_more t = let e = length-append goes.turns (t ∷ []) in let f = goes.count_is in omega arith
+
+  reads_more : (t : Turn F) → request_of t ≡ r → Reads p bytes (goes.turns ++ t ∷ []) left
+  reads_more t is = Reads_snoc p bytes goes.turns held left t goes.reads (subst (λ (q : Request F). p.reads held q left) (sym is) reads)
+
+  enters_more : (t : Turn F) → Enters number mid.store (exchanges_at t) new.store → Enters number old.store (exchanges_of (goes.turns ++ t ∷ [])) new.store
+  enters_more t enters = subst (λ (l : List Exchange). Enters number old.store l new.store) (sym (exchanges_snoc goes.turns t))
+      (enters_then number old.store mid.store new.store (exchanges_of goes.turns) (exchanges_at t) goes.enters enters)
+
+  asked_more : (t : Turn F) → new.exchanges ≡ mid.exchanges ++ exchanges_at t → new.exchanges ≡ old.exchanges ++ exchanges_of (goes.turns ++ t ∷ [])
+  asked_more t is =
+      is ∙ ap (λ (l : List Exchange). l ++ exchanges_at t) goes.exchanges_are ∙ append_assoc old.exchanges (exchanges_of goes.turns) (exchanges_at t)
+      ∙ ap (λ (l : List Exchange). old.exchanges ++ l) (sym (exchanges_snoc goes.turns t))
+
+  wrote_more : (t : Turn F) (last : Bool) → is_last p count t ≡ last → new.out ≡ mid.out ++ turn_text p last t
+      → new.out ≡ old.out ++ texts p n (goes.turns ++ t ∷ [])
+  wrote_more t last is writes =
+      writes ∙ ap (λ (l : List ℕ). l ++ turn_text p last t) goes.wrote ∙ append_assoc old.out (texts p n goes.turns) (turn_text p last t)
+      ∙ ap (λ (b : Bool). old.out ++ (texts p n goes.turns ++ turn_text p b t)) (sym is)
+      ∙ ap (λ (l : List ℕ). old.out ++ l) (sym (texts_snoc p n count goes.turns t (sym goes.count_is)))
+
+  -- a turn that is not the last
+  pub goes_on : TakesTurn p number count r mid new (Some false) → Goes p number n bytes old new (count + 1) left
+  goes_on took = record {
+    turns = goes.turns ++ took.turn ∷ [];
+    reads = reads_more took.turn took.is;
+    unended = IsOpen_snoc p n count goes.turns took.turn goes.unended (sym goes.count_is) took.writes.0;
+    count_is = let e = length-append goes.turns (took.turn ∷ []) in let f = goes.count_is in omega arith;
+    room = still_room p count took.turn goes.room took.writes.0;
+    enters = enters_more took.turn took.enters;
+    exchanges_are = asked_more took.turn took.exchanges_are;
+    wrote = wrote_more took.turn false took.writes.0 took.writes.1;
+  }
+
+  -- the last turn
+  pub goes_over : (k : ℕ) → TakesTurn p number count r mid new (Some true) → TakesTurns p number n most bytes old new k left pause.Over
+  goes_over k took = record {
+    turns = goes.turns ++ took.turn ∷ [];
+    few = few_more took.turn;
+    rest = left;
+    reads = reads_more took.turn took.is;
+    enters = enters_more took.turn took.enters;
+    exchanges_are = asked_more took.turn took.exchanges_are;
+    paused = (
+      IsEnded_snoc p n count goes.turns took.turn goes.unended (sym goes.count_is) took.writes.0,
+      wrote_more took.turn true took.writes.0 took.writes.1,
+    );
+  }
+
+  -- no memory for the text of a turn
+  pub goes_silent : (k : ℕ) → TakesTurn p number count r mid new None → TakesTurns p number n most bytes old new k left pause.Memory
+  goes_silent k took = record {
+    turns = goes.turns ++ took.turn ∷ [];
+    few = few_more took.turn;
+    rest = left;
+    reads = reads_more took.turn took.is;
+    enters = enters_more took.turn took.enters;
+    exchanges_are = asked_more took.turn took.exchanges_are;
+    paused = (goes.turns, (goes.unended, inr (took.turn, refl)), took.writes ∙ goes.wrote);
+  }
+
+module _ {F D : Type 0} (p : Rules F) (number n most : ℕ) (bytes : List ℕ) (old new : Moment D) (count : ℕ) (held : List ℕ)
+    (within : count ≤ n + most) (goes : Goes p number n bytes old new count held) where
+  few : length goes.turns ≤ most
+  few = let f = goes.count_is in omega arith
+
+  -- the bytes are no whole request
+  pub goes_waits : p.waits held → length held < p.limit → TakesTurns p number n most bytes old new count held pause.Waits
+  goes_waits waits short = record {
+    turns = goes.turns;
+    few = few;
+    rest = held;
+    reads = goes.reads;
+    enters = goes.enters;
+    exchanges_are = goes.exchanges_are;
+    paused = (goes.unended, refl, waits, short, goes.count_is, goes.room, goes.wrote);
+  }
+
+  -- as many turns as may be taken, or many bytes are withheld
+  pub goes_pauses : (count ≡ n + most) ⊎ (MAX_WITHHELD ≤ length new.out) → TakesTurns p number n most bytes old new count held pause.More
+  goes_pauses full = record {
+    turns = goes.turns;
+    few = few;
+    rest = held;
+    reads = goes.reads;
+    enters = goes.enters;
+    exchanges_are = goes.exchanges_are;
+    paused = (
+      goes.unended,
+      refl,
+      ⊎_elim (λ all. inl (let f = goes.count_is in omega (arith, all))) (λ many. inr many) full,
+      goes.count_is,
+      goes.room,
+      goes.wrote,
+    );
+  }
+
+  -- no memory to read a request
+  pub goes_blind : (k : ℕ) (h : List ℕ) → TakesTurns p number n most bytes old new k h pause.Memory
+  goes_blind k h = record {
+    turns = goes.turns;
+    few = few;
+    rest = held;
+    reads = goes.reads;
+    enters = goes.enters;
+    exchanges_are = goes.exchanges_are;
+    paused = (goes.turns, (goes.unended, inl refl), goes.wrote);
+  }
+
+pub writes_appended : {F : Type 0} (p : Rules F) (n : ℕ) (t : Turn F) (out out_new : List ℕ) (last : Bool) (r : Option Bool) → is_last p n t ≡ last
+    → Appended (turn_text p last t) last out out_new r → Writes p n t out out_new r
+writes_appended p n t out out_new last (Some l) is says =
+    (is ∙ sym says.0, says.1 ∙ ap (λ (b : Bool). out ++ turn_text p b t) (sym says.0))
+writes_appended p n t out out_new last None is says = says
+
+pub round_ends : {F D : Type 0} (p : Rules F) (number n most : ℕ) (bytes : List ℕ) (old mid new : Moment D) (count : ℕ) (held left : List ℕ) (r : Request F)
+    → count < n + most → Goes p number n bytes old mid count held → p.reads held r left → (last : Option Bool) → TakesTurn p number count r mid new last
+    → EndsRound p number n most bytes old new count left (pause_after last)
+round_ends p number n most bytes old mid new count held left r below goes reads (Some true) took = goes_over p number n most bytes old mid new count held left r below goes reads count took
+round_ends p number n most bytes old mid new count held left r below goes reads (Some false) took = goes_on p number n most bytes old mid new count held left r below goes reads took
+round_ends p number n most bytes old mid new count held left r below goes reads None took = goes_silent p number n most bytes old mid new count held left r below goes reads count took

@@ -1,0 +1,56 @@
+-- What one client sent, and how it was answered.
+use Rattle.std.specs.Prelude.{◌≡◌, ◌⊎◌, ℕ, ◌≤◌, ◌<◌, Bool, true, false, List, [], ◌∷◌, ◌++◌, length, Some}
+use Rattle.act_sessions.specs.Exchange.{Exchange}
+use Rattle.act_sessions.specs.Rules.{Rules, Turn, Reads, IsEnded, IsOpen, exchanges_of, texts}
+use Rattle.act_sessions.specs.Session.{ArePassed}
+
+-- The bytes that were received from a client, its commands with their answers, the bytes that were sent to it, and those that are withheld.
+pub record Conversation : Type 0 where
+  pub received : List ℕ
+  pub exchanges : List Exchange
+  pub sent : List ℕ
+  pub withheld : List ℕ
+  -- whether a turn ended before all whole requests were answered
+  pub more : Bool
+  -- whether the session is over
+  pub over : Bool
+
+-- all bytes of its answers
+abbrev pub answer_bytes : Conversation → List ℕ
+answer_bytes c = c.sent ++ c.withheld
+
+-- a client that has just come
+abbrev pub no_conversation : Conversation
+no_conversation = record { received = []; exchanges = []; sent = []; withheld = []; more = false; over = false }
+
+-- the last bytes of a session that ran out of memory outside a command
+abbrev pub IsLastText : {F : Type 0} → Rules F → List ℕ → Type 0
+IsLastText p last = (last ≡ []) ⊎ (p.out_of_memory_response ≡ Some last)
+
+-- It ran out of memory outside a command: the texts of all turns, or of all but the last one, and then that response or nothing.
+abbrev pub IsCutShort : {F : Type 0} → Rules F → List (Turn F) → List ℕ → Type 0
+IsCutShort {F} p turns bytes =
+    (passed : List (Turn F)) × ArePassed p 0 turns passed × (last : List ℕ) × IsLastText p last × (bytes ≡ texts p 0 passed ++ last)
+
+-- These bytes answer these turns, in a session that goes on or in one that is over.
+abbrev pub AreAnswers : {F : Type 0} → Rules F → Bool → List (Turn F) → List ℕ → Type 0
+AreAnswers p false turns bytes = IsOpen p 0 turns × (bytes ≡ texts p 0 turns)
+AreAnswers p true turns bytes = (IsEnded p 0 turns × (bytes ≡ texts p 0 turns)) ⊎ IsCutShort p turns bytes
+
+-- The bytes that were received are the requests of some turns and a rest. The commands are those of the turns, in order, each once, and the
+-- bytes of the answers are those that the protocol gives to the turns.
+pub record Follows {F : Type 0} (p : Rules F) (c : Conversation) : Type 0 where
+  pub turns : List (Turn F)
+  pub rest : List ℕ
+  pub reads : Reads p c.received turns rest
+  pub exchanges_are : c.exchanges ≡ exchanges_of turns
+  pub answers_are : AreAnswers p c.over turns (answer_bytes c)
+  -- no whole request is left without an answer, and no more bytes wait than the protocol allows
+  pub waits : c.over ≡ false → c.more ≡ false → ((c.received ≡ []) ⊎ p.waits rest) × (length rest ≤ p.limit)
+
+-- A session in memory: the number of turns, and the bytes after them.
+pub record IsInMemory {F : Type 0} (p : Rules F) (c : Conversation) (count : ℕ) (held : List ℕ) : Type 0 where
+  pub follows : Follows p c
+  pub count_is : c.over ≡ false → count ≡ length follows.turns
+  pub held_is : c.over ≡ false → held ≡ follows.rest
+  pub room : c.over ≡ false → count < p.most

@@ -1,0 +1,9 @@
+-- A service of many clients over one store, in one thread.
+pub mod Clients
+pub mod Conversation
+pub mod Entering
+pub mod Events
+pub mod Hearing
+pub mod Service
+pub mod Slots
+pub mod Turns

@@ -1,0 +1,86 @@
+ghost use Rattle.std.specs.Prelude.{◌↔◌};
+ghost use Rattle.act_disk.specs.Images.{EachSince};
+ghost use Rattle.act_store.specs.StoreState.{RecoversToSome};
+ghost use Rattle.act_loop.specs.Events.{Grows, Happens, Plays, Survives};
+ghost use Rattle.act_loop.specs.Service.{IsPromised, covered_of, history_of};
+ghost use Rattle.act_loop.specs.Slots.{by_port};
+
+use crate::event::Event;
+use crate::service::Service;
+use act_disk::Disk;
+use act_sessions::Protocol;
+use act_store::Step;
+use std::alloc::Global;
+
+/// One event. An event that is not possible changes nothing.
+fn happen<D: Disk, P: Protocol, Q: Protocol>(
+    alloc: Global,
+    service: &mut Service<D, P, Q>,
+    event: &Event,
+)
+    ensures happens { Happens (by_port service.old.slots.hooks P.rules Q.rules) service.old event.now service.new }
+    ensures survives { Survives D.honest D.moment D.images_since service.old service.new }
+{
+    let _covered = service.is_covered();
+    match event {
+        Event::Joins(index) => {
+            if service.has_slot(*index) {
+                service.join(alloc, *index);
+            }
+        }
+        Event::Hears(index, bytes) => {
+            if service.has_slot(*index) {
+                service.hear(alloc, *index, bytes, bytes.len());
+            }
+        }
+        Event::Sends(index, n) => {
+            if service.has_slot(*index) {
+                service.send(*index, *n);
+            }
+        }
+        Event::Leaves(index) => {
+            if service.has_slot(*index) {
+                service.leave(*index);
+            }
+        }
+        Event::Commits => {
+            let _ = service.commit();
+        }
+        Event::Begins => {
+            service.step(alloc, Step::Begin);
+        }
+        Event::Slices => {
+            service.step(alloc, Step::Slice);
+        }
+        Event::Finishes => {
+            service.step(alloc, Step::Finish);
+        }
+        Event::TurnsOver => {
+            let _ = service.turn_over();
+        }
+    }
+}
+
+/// Any events in any order, whatever the device does.
+///
+/// Whatever bytes come to any clients in whatever pieces and order, and whenever the machine crashes, the disk recovers to the state after
+/// some first entries of one history, with every command of which a client was sent a byte of the answer. Each client was sent the bytes
+/// that its own bytes and that history spell, or a prefix of them. The history keeps the law of concurrency groups.
+pub fn play<D: Disk, P: Protocol, Q: Protocol>(
+    alloc: Global,
+    service: &mut Service<D, P, Q>,
+    events: &[Event],
+)
+    ensures plays { Plays (Survives D.honest D.moment D.images_since) (by_port service.old.slots.hooks P.rules Q.rules) service.old events.now
+        service.new }
+    ensures promise { IsPromised (by_port service.new.slots.hooks P.rules Q.rules) D.honest D.images service.new }
+    ensures any_moment { D.honest service.old.store.disk → EachSince D.moment D.images_since service.old.store.disk service.new.store.disk
+        (RecoversToSome service.new.origin (history_of service.new) (covered_of service.old)) }
+    ensures grows { Grows service.old service.new }
+    ensures honest { D.honest service.new.store.disk ↔ D.honest service.old.store.disk }
+{
+    for event in events {
+        happen(alloc, service, event);
+    }
+    let _covered = service.is_covered();
+}
