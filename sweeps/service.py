@@ -124,11 +124,11 @@ class Service:
 class Forever(Service):
     """A process of `acts serve --forever`. What it prints of its histories is kept as it comes: `settled` has the number of entries of each."""
 
-    def __init__(self, acts, path, seats, turn_over=None, idle=None, **how):
+    def __init__(self, acts, path, turn_over=None, idle=None, **how):
         words = ['--forever']
         words += [] if turn_over is None else ['--turn-over', str(turn_over)]
         words += [] if idle is None else ['--idle', str(idle)]
-        super().__init__(acts, path, seats, endless=words, **how)
+        super().__init__(acts, path, 1, endless=words, **how)
         self.settled, self.strange, self.news = [], [], threading.Condition()
         self.listener = threading.Thread(target=self.listen, daemon=True)
         self.listener.start()

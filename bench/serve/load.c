@@ -15,7 +15,7 @@
 #include <time.h>
 #include <unistd.h>
 
-#define MAX_PAIRS 256
+#define MAX_PAIRS 1024
 #define BODY "{\"repo\":\"o/r\",\"path\":\"ci.json\",\"workflow\":{\"jobs\":{\"build\":{\"runs-on\":\"l%ld\"}}}}"
 
 static int ports[2];

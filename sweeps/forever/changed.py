@@ -61,7 +61,7 @@ class Lane:
     def forever(self, seed, what, given, taken):
         served.init(self.acts, self.path, AREA)
         dice = random.Random(f'forever {seed}')
-        service = served.Forever(self.acts, self.path, dice.randint(1, 3), turn_over=dice.randint(1, 5))
+        service = served.Forever(self.acts, self.path, turn_over=dice.randint(1, 5))
         if not service.ready:
             raise Wrong(f'not ready: {service.end()}')
         if what == 'lines':

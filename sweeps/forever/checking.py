@@ -50,11 +50,11 @@ def at_once(tasks, seconds):
     expect(alive == 0, alive, 'of', len(threads), 'clients have not ended after', seconds, 'seconds')
 
 
-def opened(acts, folder, seats, area=8 << 20, **how):
+def opened(acts, folder, area=8 << 20, **how):
     """A service over a new store."""
     path = os.path.join(folder, 'store')
     served.init(acts, path, area)
-    service = served.Forever(acts, path, seats, **how)
+    service = served.Forever(acts, path, **how)
     if not service.ready:
         raise Wrong(f'not ready: {service.end()}')
     return service, path

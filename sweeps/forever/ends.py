@@ -24,13 +24,16 @@ def words_of(path, hooks, runners, *more):
 def before_it_is_ready(acts, folder, path):
     """A service that can't begin."""
     one, other = served.free_ports()
-    refused = lambda number: (1, '', f'acts: refused {number}\n')
+    refused = lambda number, why='': (1, '', f'acts: refused {number}\n{why}')
+    port_taken = f'acts: port {one}: Address already in use (os error 98)\n'
+    none = os.path.join(folder, 'none')
     with socket.socket() as taken:
         taken.bind(('127.0.0.1', one))
         taken.listen()
-        ended(acts, words_of(path, one, other, '--forever'), refused(61), 'a port that is taken')
-        ended(acts, words_of(path, other, one, '--forever'), refused(61), 'the other port that is taken')
-    ended(acts, words_of(os.path.join(folder, 'none'), one, other, '--forever'), refused(61), 'a file that is not there')
+        ended(acts, words_of(path, one, other, '--forever'), refused(61, port_taken), 'a port that is taken')
+        ended(acts, words_of(path, other, one, '--forever'), refused(61, port_taken), 'the other port that is taken')
+    no_file = refused(61, f'acts: {none}: No such file or directory (os error 2)\n')
+    ended(acts, words_of(none, one, other, '--forever'), no_file, 'a file that is not there')
     empty = os.path.join(folder, 'empty')
     open(empty, 'wb').close()
     ended(acts, words_of(empty, one, other, '--forever'), refused(53), 'an empty file')
@@ -56,7 +59,8 @@ def without_output(acts, path):
     client.close()
     status = service.child.wait(20)
     err = service.child.stderr.read().decode()
-    expect((status, err) == (1, 'acts: refused 61\n') and answers >= 5, 'without a standard output: status', status, err, answers, 'answers')
+    wanted = 1, 'acts: refused 61\nacts: standard output: Broken pipe (os error 32)\n'
+    expect((status, err) == wanted and answers >= 5, 'without a standard output: status', status, err, answers, 'answers')
 
 
 def check(acts, folder, amount):

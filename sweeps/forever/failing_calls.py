@@ -15,14 +15,14 @@ import killed
 from checking import HERE, expect, served, stopped
 from load import Load
 
-SEATS, AREA = killed.SEATS, killed.AREA
+AREA = killed.AREA
 SECONDS = 5
 MAX_CALLS, MAX_RUNS = 400, 700
 
 
 def meet(acts, path, load, dice, settings):
     """One service with one failing call. How it ended, how long after the fault, and whether the fault came before it was ready."""
-    service = served.Forever(acts, path, SEATS, turn_over=killed.TURN_OVER, settings=settings)
+    service = served.Forever(acts, path, turn_over=killed.TURN_OVER, settings=settings)
     if not service.ready:
         status, out, err, failed = service.end(SECONDS)
         expect((status, out, err, failed) == (1, '', 'acts: refused 51\n', True), settings, 'an opening that failed', status, out, err)

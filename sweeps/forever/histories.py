@@ -5,7 +5,7 @@ import time
 
 from checking import at_once, expect, opened, served, stopped
 
-SEATS, TURN_OVER, COMMANDS, CLIENTS = 4, 100, 1000, 8
+TURN_OVER, COMMANDS, CLIENTS = 100, 1000, 8
 BODY = served.BODY + b' ' * 60_000
 # The bytes after which a history turns over, and how much later it may.
 BYTES, MORE = 64 << 20, 8 << 20
@@ -13,7 +13,7 @@ BYTES, MORE = 64 << 20, 8 << 20
 
 def by_commands(acts, folder):
     """Eight clients ask a thousand commands together. No history has fewer than it may have, and all of them together have all that was asked."""
-    service, _ = opened(acts, folder, SEATS, turn_over=TURN_OVER)
+    service, _ = opened(acts, folder, turn_over=TURN_OVER)
 
     def ask():
         client = service.runner()
@@ -25,8 +25,8 @@ def by_commands(acts, folder):
     expect(service.wait_settled(1), 'no history has turned over')
     time.sleep(0.5)
     settled = list(service.settled)
-    # A seat may still answer what it has read: a read of lines has 512 bytes.
-    most = TURN_OVER + SEATS * (512 // len(b'BEAT nobody 1\n') + 1)
+    # A history turns over at the end of a turn, which takes 16 commands of each client at most.
+    most = TURN_OVER + 16 * CLIENTS
     expect(all(TURN_OVER <= count <= most for count in settled), 'histories of', settled, 'entries')
     expect(0 <= COMMANDS - sum(settled) <= most, COMMANDS, 'commands in histories of', settled, 'entries')
     stopped(service)
@@ -55,7 +55,7 @@ def bodies(service):
 
 def by_bytes(acts, folder, what):
     """Bodies of 60,000 bytes are sent, or asked for, until a history turns over. Otherwise what it keeps of them would take all memory."""
-    service, path = opened(acts, folder, SEATS, area=64 << 20)
+    service, path = opened(acts, folder, area=64 << 20)
     hook = service.hook()
     expect(hook.ask(served.event('d1', BODY)) == (201, 'created 1'), 'an event')
     hook.close()

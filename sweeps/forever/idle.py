@@ -10,7 +10,7 @@ EARLIEST, LATEST = 1.8, 4.5
 
 
 def check(acts, folder, amount):
-    service, path = opened(acts, folder, 2, idle=IDLE)
+    service, path = opened(acts, folder, idle=IDLE)
     ends = []
 
     def let_go(client, said):

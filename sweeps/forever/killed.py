@@ -8,12 +8,12 @@ import time
 from checking import Wrong, expect, served, stopped
 from load import Load
 
-SEATS, TURN_OVER, AREA = 4, 150, 262_144
+TURN_OVER, AREA = 150, 262_144
 MAX_ANSWERS, MAX_RUNS = 500, 700
 
 
 def begin(acts, path):
-    service = served.Forever(acts, path, SEATS, turn_over=TURN_OVER)
+    service = served.Forever(acts, path, turn_over=TURN_OVER)
     if not service.ready:
         raise Wrong(f'not ready: {service.end()}')
     return service
@@ -40,7 +40,7 @@ class Chain:
     def kill_early(self):
         """Kills a service about when it opens the file."""
         hooks, runners = map(str, served.free_ports())
-        words = [self.acts, 'serve', self.path, '--hook-port', hooks, '--runner-port', runners, '--sessions', str(SEATS), '--forever']
+        words = [self.acts, 'serve', self.path, '--hook-port', hooks, '--runner-port', runners, '--sessions', '1', '--forever']
         service = subprocess.Popen(words, stdout=subprocess.DEVNULL)
         time.sleep(self.dice.random() * 0.03)
         service.kill()

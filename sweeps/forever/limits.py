@@ -1,22 +1,18 @@
-"""More clients than can be accepted, and a service that is given few threads.
+"""More clients than can be accepted, and a service that can start no thread.
 
 With `ulimit -n 64` a hundred clients come to a port, and without it 1,120: those that are accepted are answered, the others once these have gone, and meanwhile
-the service rests. As a user of its own with few threads (RLIMIT_NPROC, which does not bind root) it either ends with 50 before its first client, or serves
-both ports. One that finds no thread later on, since its limit was lowered, goes on, and serves all clients once the limit is restored.
+the service rests. As a user of its own without threads (RLIMIT_NPROC, which does not bind root) it serves both ports.
 """
 
-import collections
 import contextlib
 import os
 import resource
 import select
 import shutil
-import subprocess
 import time
 
-from checking import Wrong, expect, opened, served, stopped
+from checking import expect, opened, served, stopped
 
-SEATS = 4
 # The seconds in which a client is answered, or a service has ended.
 SECONDS = 10
 BEAT, TOLD = b'BEAT nobody 1\n', b'refused 45\n'
@@ -38,7 +34,7 @@ def answered(waiting, seconds):
 
 def more_than_are_accepted(acts, folder, what, count, least, limits=()):
     """So many clients come to a port; LEAST of them have to be accepted at once."""
-    service, path = opened(acts, folder, SEATS, limits=limits)
+    service, path = opened(acts, folder, limits=limits)
     waiting = [service.runner() for _ in range(count)]
     for client in waiting:
         client.send(BEAT)
@@ -101,65 +97,16 @@ def of_a_user(acts, folder):
     return user, path
 
 
-def with_threads(acts, folder, limit):
-    """What happens to a service that may have so many threads."""
+def without_threads(acts, folder):
+    """A service that may start no thread serves both ports, over histories that turn over."""
     user, path = of_a_user(acts, folder)
-    with threads(limit):
-        service = served.Forever(acts, path, SEATS, turn_over=20, user=user)
-    fault = None
-    if service.ready:
-        try:
-            works(service, f'd{limit}')
-        except (served.Ended, OSError) as end:
-            fault = end
-    if service.ready and fault is None:
-        stopped(service)
-        return 'serve'
-    try:
-        status, out, err, _ = service.end(SECONDS)
-    except subprocess.TimeoutExpired:
-        raise Wrong(f'a service that may have {limit} threads does not serve both ports, and goes on: {fault!r}') from None
-    expect((status, out, err) == (1, '', 'acts: refused 50\n') and not service.settled, limit, 'threads: the end', status, out, err, fault)
-    return 'end with 50 before the first client'
-
-
-def few_threads(acts, folder):
-    ends = collections.Counter(with_threads(acts, folder, limit) for limit in range(1, 2 * SEATS + 6))
-    kinds = ', '.join(f'{count} {end}' for end, count in sorted(ends.items()))
-    expect(len(ends) == 2, 'services with 1 to', 2 * SEATS + 5, 'threads all', kinds)
-    return f'services that may have 1 to {2 * SEATS + 5} threads: {kinds}'
-
-
-def limit_threads(service, user, count):
-    """Limits a running service to so many threads. Root may lack the right to do so; the service's own user has it."""
-    subprocess.run(['prlimit', f'--pid={service.child.pid}', f'--nproc={count}:'], check=True, cwd='/', user=user, group=user, extra_groups=[])
-
-
-def threads_later(acts, folder):
-    """The limit is lowered while histories turn over, and raised again."""
-    user, path = of_a_user(acts, folder)
-    with threads(64):
-        service = served.Forever(acts, path, SEATS, turn_over=20, user=user)
-    expect(service.ready, 'not ready')
-    works(service, 'before')
-    limit_threads(service, user, 1)
-    asked, end = 0, time.monotonic() + 3
-    while time.monotonic() < end:
-        try:
-            client = served.Runner(service.runners, 0.5)
-            client.ask(BEAT)
-            asked += 1
-            client.close()
-        except (served.Ended, OSError):
-            time.sleep(0.05)
-    expect(service.child.poll() is None, 'a service that found no thread has ended')
-    limit_threads(service, user, 64)
-    start = time.monotonic()
-    works(service, 'after')
-    took = time.monotonic() - start
-    expect(took < SECONDS, 'once threads can be had again all is answered after', f'{took:.1f} s')
+    with threads(1):
+        service = served.Forever(acts, path, turn_over=20, user=user)
+    expect(service.ready, 'not ready without threads')
+    works(service, 'd')
+    expect(service.wait_settled(1), 'no history has turned over')
     stopped(service)
-    return f'no further thread for 3 s: {asked} clients were answered meanwhile, and all once there were threads again, the last {took:.2f} s later'
+    return f'no thread can be started: both ports are served, and {len(service.settled)} histories turn over'
 
 
 def check(acts, folder, amount):
@@ -172,8 +119,4 @@ def check(acts, folder, amount):
     own = os.path.join(folder, 'acts')
     shutil.copy(acts, own)
     os.chmod(own, 0o755)
-    yield few_threads(own, folder)
-    if shutil.which('prlimit') is None:
-        yield 'no thread later on: left out, since prlimit is not here'
-        return
-    yield threads_later(own, folder)
+    yield without_threads(own, folder)

@@ -10,7 +10,6 @@ from checking import at_once, expect, module, opened, served, stopped, turned_ov
 
 plain = module('plain', '../compared/plain.py')
 
-SEATS = 4
 MOMENT = 0.001
 
 
@@ -120,7 +119,7 @@ def pieces(dice, data):
 
 def one_of_each(acts, folder, turn_over, dice):
     """A session of 64 requests and one of 1,024 lines, alternately, over histories of so many commands. Gives a summary."""
-    service, path = opened(acts, folder, SEATS, turn_over=turn_over)
+    service, path = opened(acts, folder, turn_over=turn_over)
     store, deliveries = plain.Store(), (f'd{n}' for n in range(1, 100))
     hook = Talker(service.hook(), plain.Requests(store), 'the sender')
     runner = Talker(service.runner(), plain.Lines(store), 'the runner')
@@ -201,7 +200,7 @@ def requests_ahead(dice, table, place):
 
 def pipelined(acts, folder, turn_over, dice):
     """Sixteen clients send whole sessions at once over histories that turn over meanwhile."""
-    service, path = opened(acts, folder, SEATS, turn_over=turn_over)
+    service, path = opened(acts, folder, turn_over=turn_over)
     store = prepared(service)
     before, talkers, tasks = len(service.settled), [], []
     for place in range(8):
@@ -250,7 +249,7 @@ class Cut:
 
 def cut_at_each_byte(acts, folder):
     """A request and a line are cut at each of their bytes, and a history turns over there; and then at all bytes."""
-    service, path = opened(acts, folder, SEATS, turn_over=2)
+    service, path = opened(acts, folder, turn_over=2)
     store, given = plain.Store(), body('linux')
     cut, last, beat = Cut(service, store), event('c999', given), b'BEAT runner-1 99\n'
     requests = [event(f'c{100 + place}', given) for place in range(len(last) - 1)]
@@ -270,7 +269,7 @@ def cut_at_each_byte(acts, folder):
 
 def halves(acts, folder, dice):
     """Forty clients have each sent half of something, ten histories turn over, and each sends the rest, in another order."""
-    service, path = opened(acts, folder, SEATS, turn_over=3)
+    service, path = opened(acts, folder, turn_over=3)
     store, other, clients = plain.Store(), service.runner(), []
     for place in range(20):
         for client, kind, data in ((service.hook(), plain.Requests, event(f'h{place}', body('linux', space=place))),

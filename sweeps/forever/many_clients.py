@@ -1,11 +1,11 @@
-"""A thousand clients on each port, and four seats: each is answered, sixteen busy ones get about the same share, and the others are not forgotten."""
+"""A thousand clients on each port: each is answered, sixteen busy ones get about the same share, and the others are not forgotten."""
 
 import threading
 import time
 
 from checking import expect, at_once, milliseconds, opened, served, stopped
 
-SEATS, CLIENTS, BUSY, SECONDS = 4, 1000, 16, 3
+CLIENTS, BUSY, SECONDS = 1000, 16, 3
 # Commands, so that histories turn over meanwhile.
 TURN_OVER = 3000
 ASKS = {'runner': (b'FETCH 999999999\n', (None, 'refused 40'), 1024), 'hook': (b'GET /runs/999999999 HTTP/1.1\r\n\r\n', (404, 'refused 40'), 64)}
@@ -72,7 +72,7 @@ def busy_ones(service, clients, port, ahead):
 def check(acts, folder, amount):
     room = served.room_for_streams(2 * CLIENTS + 200)
     clients = CLIENTS if room else 400
-    service, _ = opened(acts, folder, SEATS, turn_over=TURN_OVER)
+    service, _ = opened(acts, folder, turn_over=TURN_OVER)
     crowd = {port: [] for port in ASKS}
     for _ in range(clients):
         for port, those in crowd.items():

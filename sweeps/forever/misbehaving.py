@@ -1,5 +1,5 @@
-"""Clients that misbehave, a crowd of each kind on both ports beside eight good ones, over one service with four seats on each port; and one that holds
-the only seat. The good ones are answered within seconds, each crowd is disconnected, and the service goes on.
+"""Clients that misbehave, a crowd of each kind on both ports beside eight good ones, over one service; and one of a kind beside one
+other. The good ones are answered within seconds, each crowd is disconnected, and the service goes on.
 """
 
 import os
@@ -9,7 +9,7 @@ import time
 
 from checking import at_once, expect, milliseconds, opened, served, stopped
 
-SEATS, GOOD, TURNS, PAUSE = 4, 4, 30, 0.03
+GOOD, TURNS, PAUSE = 4, 30, 0.03
 BIG = served.BODY + b' ' * 60_000
 
 
@@ -173,8 +173,8 @@ def stay_until_cut_off(service):
 
 
 def ask_beside(acts, folder, kind, longest):
-    """There is one seat on each port, and one client that misbehaves there. How long another one waits for its answer."""
-    service, _ = opened(acts, folder, 1)
+    """There is one client on each port that misbehaves. How long another one waits for its answer."""
+    service, _ = opened(acts, folder)
     hook = service.hook()
     expect(hook.ask(served.event('big', BIG))[0] == 201, 'an event')
     hook.close()
@@ -206,7 +206,7 @@ def swallow(misbehave):
 
 
 def check(acts, folder, amount):
-    service, path = opened(acts, folder, SEATS, area=64 << 20, turn_over=500)
+    service, path = opened(acts, folder, area=64 << 20, turn_over=500)
     hook = service.hook()
     expect(hook.ask(served.event('big', BIG)) == (201, 'created 1'), 'an event')
     hook.close()
@@ -223,4 +223,4 @@ def check(acts, folder, amount):
     for kind in ('stay', 'send_afterwards', 'never_read'):
         os.remove(path)
         wait = milliseconds(ask_beside(acts, folder, kind, amount.longest))
-        yield f'one that does {kind.replace("_", " ")} on the only seat: another one waits for {wait} at the longest'
+        yield f'one that does {kind.replace("_", " ")} alone: another one waits for {wait} at the longest'

@@ -1,16 +1,16 @@
-"""Two hundred connections one after the other beside 24 silent clients on four seats: nobody holds them up, and the silent ones are answered after them."""
+"""Two hundred connections one after the other beside 24 silent clients: nobody holds them up, and the silent ones are answered after them."""
 
 import time
 
 from checking import expect, milliseconds, opened, served, stopped
 
-SEATS, SILENT, CONNECTIONS = 4, 24, 200
+SILENT, CONNECTIONS = 24, 200
 # The longest that one may take, in seconds, and all of them.
 ONE, ALL = 2, 20
 
 
 def check(acts, folder, amount):
-    service, _ = opened(acts, folder, SEATS)
+    service, _ = opened(acts, folder)
     # Half of those on each port have said nothing, and half of them a part of something.
     silent = []
     for place in range(SILENT // 2):

@@ -11,7 +11,7 @@ import select
 from checking import HERE, expect, module, served, stopped
 
 refused = module('refused_memory', '../refused_memory/served')
-SEATS, AREA, TURN_OVER, SESSIONS = 2, 65536, 3, 5
+AREA, TURN_OVER, SESSIONS = 65536, 3, 5
 
 
 def failed(service):
@@ -35,11 +35,11 @@ def play(service):
 def try_growth(acts, path, shim, growth):
     """Refuses a growth. The outcome, or None if there is no such growth."""
     served.init(acts, path, AREA)
-    service = served.Forever(acts, path, SEATS, turn_over=TURN_OVER, settings={'LD_PRELOAD': shim, 'FAIL_AT': growth})
+    service = served.Forever(acts, path, turn_over=TURN_OVER, settings={'LD_PRELOAD': shim, 'FAIL_AT': growth})
     done, sessions = play(service) if service.ready else (0, 0)
     if done == 0:
-        status, out, err, failed = service.end(10)
-        expect((status, out, err, failed) == (1, '', 'acts: refused 50\n', True), 'growth', growth, 'the end before the first client', status, out, err)
+        status, out, err, was_refused = service.end(10)
+        expect((status, out, err, was_refused) == (1, '', 'acts: refused 50\n', True), 'growth', growth, 'the end before the first client', status, out, err)
         return 'the service ended with 50 before its first client'
     was_refused = failed(service)
     expect(done == len(refused.WHOLE), 'growth', growth, 'only', done, 'commands were answered in', sessions, 'sessions')

@@ -1,175 +1,94 @@
-//! How a seat reads from a client and writes to it during one part of the client's session.
+//! Reads from a client's stream and writes to it, both without waiting.
 
-use crate::port::Port;
-use crate::service::Service;
-use act_sessions::Protocol;
+use std::io;
 use std::io::{ErrorKind, Read, Write};
 use std::net::TcpStream;
-use std::sync::Wait;
-use std::sync::atomic::{AtomicU64, Ordering};
-use std::time::{Clock, Duration, Instant};
-use std::{io, thread};
 
-/// Why a part has no more input.
+/// Whether more may be read from a client.
 #[derive(Clone, Copy, Debug, PartialEq, Eq)]
-pub(crate) enum Pause {
-    /// The client has closed its side.
-    Closed,
-    /// The client has sent nothing more yet.
-    Silent,
-    /// The seat is needed for other clients, or the history turns over.
-    Yields,
+pub(crate) enum Input {
+    /// It has sent nothing more yet.
+    Drained,
+    /// It may have sent more.
+    More,
+    /// It has closed its side.
+    Ended,
+    /// Its stream has failed.
+    Failed,
 }
 
-/// Decides whether a seat goes on reading from its client.
-pub(crate) trait Yielding {
-    /// Whether the seat must leave its client after this many answers.
-    fn must_yield(&self, answers: u64) -> bool;
-
-    /// Counts bytes that were read, or were to be written.
-    fn moves(&self, count: usize);
+/// Whether the error says only that nothing can be read or written yet.
+pub(crate) fn would_block(e: &io::Error) -> bool {
+    matches!(e.kind(), ErrorKind::WouldBlock | ErrorKind::Interrupted)
 }
 
-/// Makes the seats of a port leave their clients when others wait or the history turns over.
-#[derive(Drop)]
-pub(crate) struct SeatYielding<'a, P: Protocol, R: Wait + Clock> {
-    pub(crate) service: &'a Service<'a, R>,
-    pub(crate) port: &'a Port<'a, P>,
-}
-
-impl<P: Protocol, R: Wait + Clock> Yielding for SeatYielding<'_, P, R> {
-    fn must_yield(&self, answers: u64) -> bool {
-        self.port.must_yield(self.service.rt, answers)
-    }
-
-    fn moves(&self, count: usize) {
-        self.service.moves(count as u64);
+/// What a read says of the client's input. A read that does not fill its buffer has emptied the stream, but if the
+/// client has closed its side, the end is still to be read.
+fn input_after(read: &io::Result<usize>, room: usize, is_closing: bool) -> Input {
+    match read {
+        Ok(0) => Input::Ended,
+        Ok(count) if *count == room || is_closing => Input::More,
+        Ok(_) => Input::Drained,
+        Err(e) if would_block(e) => Input::Drained,
+        Err(_) => Input::Failed,
     }
 }
 
-/// Reads from a client. The input ends when there is nothing more to read yet, or when the seat must leave the client.
+/// Reads from a client, and keeps what the last read says of its input.
 #[derive(Drop)]
-pub(crate) struct ClientReader<'s, 't, 'a, T: Yielding> {
+pub(crate) struct ClientReader<'s> {
     stream: &'s TcpStream,
-    yielding: &'t T,
-    /// The number of answers written in this part.
-    answers: &'a AtomicU64,
-    /// Whether something was read.
-    pub(crate) heard: bool,
-    pub(crate) pause: Pause,
+    /// Whether the client has closed its side.
+    is_closing: bool,
+    pub(crate) input: Input,
 }
 
-impl<'s, 't, 'a, T: Yielding> ClientReader<'s, 't, 'a, T> {
-    pub(crate) fn new(
-        stream: &'s TcpStream,
-        yielding: &'t T,
-        answers: &'a AtomicU64,
-    ) -> ClientReader<'s, 't, 'a, T> {
+impl<'s> ClientReader<'s> {
+    pub(crate) fn new(stream: &'s TcpStream, is_closing: bool) -> ClientReader<'s> {
         ClientReader {
             stream,
-            yielding,
-            answers,
-            heard: false,
-            pause: Pause::Closed,
+            is_closing,
+            input: Input::Drained,
         }
     }
 }
 
-impl<T: Yielding> Read for ClientReader<'_, '_, '_, T> {
+impl Read for ClientReader<'_> {
     fn read(&mut self, buffer: &mut [u8]) -> io::Result<usize> {
-        if self
-            .yielding
-            .must_yield(self.answers.load(Ordering::SeqCst))
-        {
-            self.pause = Pause::Yields;
-            return Ok(0);
-        }
         let mut stream = self.stream;
-        match stream.read(buffer) {
-            Ok(count) => {
-                self.heard = self.heard || count > 0;
-                self.yielding.moves(count);
-                Ok(count)
-            }
-            Err(e) if e.kind() == ErrorKind::WouldBlock => {
-                self.pause = Pause::Silent;
-                Ok(0)
-            }
-            Err(e) => Err(e),
-        }
+        let read = stream.read(buffer);
+        self.input = input_after(&read, buffer.len(), self.is_closing);
+        read
     }
 }
 
-/// Writes to a client. If the client does not read, it waits, for at most `patience` in total.
+/// Writes to a client, and keeps whether its stream has failed.
 #[derive(Drop)]
-pub(crate) struct ClientWriter<'c, 's, 't, 'a, C: Clock, T: Yielding> {
-    clock: &'c C,
+pub(crate) struct ClientWriter<'s> {
     stream: &'s TcpStream,
-    yielding: &'t T,
-    answers: &'a AtomicU64,
-    patience: Duration,
+    pub(crate) has_failed: bool,
 }
 
-impl<'c, 's, 't, 'a, C: Clock, T: Yielding> ClientWriter<'c, 's, 't, 'a, C, T> {
-    pub(crate) fn new(
-        clock: &'c C,
-        stream: &'s TcpStream,
-        yielding: &'t T,
-        answers: &'a AtomicU64,
-        patience: Duration,
-    ) -> ClientWriter<'c, 's, 't, 'a, C, T> {
+impl<'s> ClientWriter<'s> {
+    pub(crate) fn new(stream: &'s TcpStream) -> ClientWriter<'s> {
         ClientWriter {
-            clock,
             stream,
-            yielding,
-            answers,
-            patience,
+            has_failed: false,
         }
-    }
-
-    /// Waits for a millisecond if there is patience left, and returns whether it did. Patience ends if the clock cannot
-    /// be read.
-    fn waits(&mut self) -> bool {
-        if self.patience.is_zero() {
-            return false;
-        }
-        let begin = Instant::now(self.clock);
-        thread::sleep(self.clock, Duration::from_millis(1));
-        let waited = begin.and_then(|begin| begin.elapsed(self.clock));
-        self.patience = match waited {
-            Ok(waited) => self.patience.saturating_sub(waited),
-            Err(_) => Duration::ZERO,
-        };
-        true
     }
 }
 
-impl<C: Clock, T: Yielding> Write for ClientWriter<'_, '_, '_, '_, C, T> {
+impl Write for ClientWriter<'_> {
     fn write(&mut self, bytes: &[u8]) -> io::Result<usize> {
-        for _ in 0..u64::MAX {
-            let mut stream = self.stream;
-            match stream.write(bytes) {
-                Ok(count) => {
-                    self.yielding.moves(count);
-                    return Ok(count);
-                }
-                Err(e) if e.kind() == ErrorKind::WouldBlock => {
-                    if !self.waits() {
-                        break;
-                    }
-                }
-                Err(e) if e.kind() == ErrorKind::Interrupted => return Err(e),
-                Err(_) => break,
-            }
+        let mut stream = self.stream;
+        let written = stream.write(bytes);
+        if let Err(e) = &written {
+            self.has_failed = !would_block(e);
         }
-        // These bytes count too, since the answer is kept.
-        self.yielding.moves(bytes.len());
-        Err(io::Error::from(ErrorKind::BrokenPipe))
+        written
     }
 
-    /// Counts an answer. A session flushes after each.
     fn flush(&mut self) -> io::Result<()> {
-        self.answers.fetch_add(1, Ordering::SeqCst);
         Ok(())
     }
 }

@@ -1,97 +1,90 @@
 //! Ends the clients' sessions after a device failure: every request that has arrived is answered, and all streams are
 //! closed.
 
-use crate::client::Client;
-use crate::exchange::Yielding;
-use crate::port::{MAX_CLIENTS, Port};
-use crate::seat::{Then, hold_part};
-use crate::watch::accept_all;
-use act_sessions::{Answer, LoggedExchange, Protocol, Transcript};
-use run_plan::{Command, Reply};
+use crate::client::{Next, Stage};
+use crate::port::MAX_CLIENTS;
+use crate::turns::Turns;
+use act_disk::Disk;
+use act_sessions::Protocol;
+use runner_sessions::RunnerLines;
 use std::alloc::Global;
-use std::sync::Wait;
-use std::time::{Clock, Duration};
+use std::io::Write;
+use std::net::TcpStream;
+use webhook_sessions::Hooks;
 use wf_value::{Code, Refusal};
 
-/// How many times waiting connections are accepted. The system's queue holds fewer than a port has slots, so the second
-/// round accepts those for which there was no slot in the first.
+/// How many times waiting connections are accepted. The system's queue holds fewer than a port has places, so the second
+/// round accepts those for which there was no place in the first.
 const ROUNDS: u64 = 2;
 
-/// Refuses each command with 52 and records it. It asks no store.
-#[derive(Drop)]
-struct Refusing {
-    asked: Vec<LoggedExchange>,
-}
+/// How many parts of what a client has sent are heard.
+const PARTS: u64 = 64;
 
-impl Answer for Refusing {
-    ghost use Rattle.act_sessions.specs.Exchange.{exchanges_in};
-
-    ghost asked = { λ refusing. exchanges_in refusing.asked.items };
-
-    fn ask(&mut self, command: Command) -> Result<Reply, Refusal> {
-        self.asked.reserve(1)?;
-        self.asked.push_reserved(LoggedExchange {
-            command,
-            answer: Err(Refusal::Numbered(Code::FailedEarlier)),
-        });
-        Err(Refusal::Numbered(Code::FailedEarlier))
+/// Writes to a client, as the last answer of its session, that the device has failed.
+fn refuse<P: Protocol>(alloc: Global, stream: &TcpStream) {
+    let mut stream = stream;
+    if let Ok(text) = P::answer_text(alloc, true, &Err(Refusal::Numbered(Code::FailedEarlier))) {
+        let _ = stream.write_all(&text);
     }
 }
 
-/// No other client needs the seat.
-struct Alone;
-
-impl Yielding for Alone {
-    fn must_yield(&self, _answers: u64) -> bool {
-        false
-    }
-
-    fn moves(&self, _count: usize) {}
-}
-
-/// Answers what a client has asked so far, and ends its session.
-fn part_with<P: Protocol, C: Clock>(clock: &C, alloc: Global, client: &mut Client<P>) {
-    let mut refusing = Refusing {
-        asked: Vec::new(alloc),
-    };
-    let mut transcript = Transcript::new(alloc);
-    let held = hold_part(
-        clock,
-        alloc,
-        &Alone,
-        Duration::ZERO,
-        &client.stream,
-        &mut client.session_state,
-        &mut refusing,
-        &mut transcript,
-    );
-    if held.then == Then::Leaves {
-        client.leave(clock);
-    }
-}
-
-/// Ends the sessions of a port's clients and frees their slots.
-fn part_with_those_here<P: Protocol, R: Wait + Clock>(rt: &R, alloc: Global, port: &Port<'_, P>) {
-    for place in 0..MAX_CLIENTS {
-        if let Some(mut client) = port.take_any(rt, place) {
-            if !client.is_leaving() {
-                part_with(rt, alloc, &mut client);
+impl<D: Disk> Turns<'_, D> {
+    /// Hears the client in a place until something is withheld from it, or it has sent nothing more.
+    fn hear_out(&mut self, place: usize) {
+        for _ in 0..PARTS {
+            if self.withheld(place) > 0 || self.hear_more(place) == 0 {
+                return;
             }
-            port.close_client(rt, client);
         }
     }
+
+    /// Answers what a client has asked so far, and ends its session. No answer is sent to a command that the device has
+    /// lost, except that the device has failed.
+    fn answer_last(&mut self, place: usize) {
+        if self.service.may_send(place) {
+            self.release(place);
+        } else if let Some(client) = self.clients.get(place) {
+            if place < MAX_CLIENTS {
+                refuse::<Hooks>(self.alloc, client.stream());
+            } else {
+                refuse::<RunnerLines>(self.alloc, client.stream());
+            }
+            client.leave();
+        }
+    }
+
+    /// Discards what a client sends after its last answer, so that it can read that.
+    fn see_off(&mut self, place: usize) {
+        for _ in 0..PARTS {
+            let Some(client) = self.clients.get(place) else {
+                return;
+            };
+            if client.discard(&mut self.buffer, self.now) != Next::Again {
+                return;
+            }
+        }
+    }
+
+    /// Ends the session of the client in a place.
+    fn part_with(&mut self, place: usize) {
+        let Some(client) = self.clients.get(place) else {
+            return;
+        };
+        if client.stage() == Stage::Talks {
+            self.hear_out(place);
+            self.answer_last(place);
+            self.see_off(place);
+        }
+        self.close(place);
+    }
 }
 
-/// Ends the sessions of all clients that have connected to a port, including those in the system's queue. No other
-/// thread may serve the port by then.
-pub(crate) fn part_with_all<P: Protocol, R: Wait + Clock>(
-    rt: &R,
-    alloc: Global,
-    port: &Port<'_, P>,
-) {
+/// Ends the sessions of all clients that have connected, including those in the system's queue.
+pub(crate) fn part_with_all<D: Disk>(turns: &mut Turns<'_, D>) {
     for _ in 0..ROUNDS {
-        // If the listener fails, no more clients come.
-        let _ = accept_all(rt, alloc, port);
-        part_with_those_here(rt, alloc, port);
+        turns.accept_all();
+        for place in 0..turns.clients.len() {
+            turns.part_with(place);
+        }
     }
 }

@@ -1,28 +1,37 @@
-//! A service without end: the clients of a port share its seats, and the history turns over by itself.
+//! A service without end: one loop in one thread over all clients of both ports.
 
-ghost use Rattle.std.specs.Prelude.{◌≡◌, ◌<◌, ◌≤◌, []};
+ghost use Rattle.std.specs.Prelude.{◌≡◌, []};
 
+use crate::clients::Clients;
 use crate::farewell::part_with_all;
-use crate::histories::hold_histories;
-use crate::port::Port;
-use crate::service::{Limits, Service};
+use crate::limits::Limits;
+use crate::port::MAX_CLIENTS;
 use crate::telling::tell_ready;
+use crate::turns::Turns;
 use crate::upgrade::brought_up;
-use crate::watch::watch;
 use act_disk::Disk;
+use act_loop::{Service, Slots};
 use act_store::Store;
-use mio::{Events, Poll, Registry};
+use mio::{Events, Poll};
 use std::alloc::Global;
 use std::io::{ErrorKind, Write};
 use std::net::{Net, TcpListener};
 use std::sync::Wait;
-use std::thread::Threads;
-use std::time::Clock;
+use std::time::{Clock, Duration, Instant};
 use std::{io, thread};
 use wf_value::{Code, Refusal};
 
 /// The most events that are taken at once.
-const EVENTS: usize = 256;
+const EVENTS: usize = 1_024;
+
+/// The most bytes that one read takes from a client.
+const PIECE: usize = 16_384;
+
+/// How long the service sleeps at a time while it waits for clients before a commit, in microseconds.
+const NAP: u64 = 50;
+
+/// How many times it sleeps at most.
+const NAPS: u64 = 10_000;
 
 /// The refusal for a failed system call: 50 if it ran out of memory, else 61.
 fn refusal_of(e: &io::Error) -> Refusal {
@@ -32,75 +41,205 @@ fn refusal_of(e: &io::Error) -> Refusal {
     }
 }
 
-/// Serves while one thread watches the ports. It returns only with a refusal.
-fn serve_watched<D: Disk + Drop + Send, R: Threads + Wait + Clock + Sync, O: Write>(
-    service: &Service<'_, R>,
-    alloc: Global,
+/// What reports that a connection has come, or a client has sent something.
+#[derive(Drop)]
+struct Watch {
     poll: Poll,
     events: Events,
-    store: Store<D>,
-    sessions: u64,
-    out: &mut O,
-) -> Result<(), Refusal>
-    requires fresh { store.history ≡ [] }
-    requires sessions { (0 < sessions) × (sessions ≤ 32) }
-{
-    let rt = service.rt;
-    thread::scope(
-        thread::scope_env(),
-        rt,
-        |scope| -> Result<(), Refusal>
-            requires fresh { store.history ≡ [] }
-            requires sessions { (0 < sessions) × (sessions ≤ 32) }
-        {
-            let Ok(watching) = scope.spawn(move || watch(service, alloc, poll, events)) else {
-                return Err(Refusal::Numbered(Code::NoMemory));
-            };
-            let ended = hold_histories(service, alloc, store, sessions, out);
-            service.end();
-            watching.join(rt);
-            if let Err(Refusal::Numbered(Code::DeviceFailed | Code::FailedEarlier)) = ended {
-                part_with_all(rt, alloc, service.hooks);
-                part_with_all(rt, alloc, service.runners);
-            }
-            ended
-        },
-    )
 }
 
-/// Serves a store without entries on two ports, without end. Each port has `sessions` seats, which its clients share:
-/// clients of HTTP on one port, and clients of runner lines on the other. A store in the first layout is first upgraded
-/// to the second. Then it writes `ready`, before the first client.
+impl Watch {
+    fn new<R: Net>(rt: &R, alloc: Global) -> Result<Watch, Refusal> {
+        let events = Events::with_capacity(alloc, EVENTS)?;
+        match Poll::new(rt) {
+            Ok(poll) => Ok(Watch { poll, events }),
+            Err(e) => Err(refusal_of(&e)),
+        }
+    }
+
+    /// The clients of two ports, of which this reports.
+    fn clients<'a>(
+        &self,
+        alloc: Global,
+        hooks: &'a TcpListener,
+        runners: &'a TcpListener,
+    ) -> Result<Clients<'a>, Refusal> {
+        let registry = self
+            .poll
+            .registry()
+            .try_clone()
+            .map_err(|e| refusal_of(&e))?;
+        let clients = Clients::new(alloc, hooks, runners, registry)?;
+        clients.watch().map_err(|e| refusal_of(&e))?;
+        Ok(clients)
+    }
+
+    /// Waits for events and notes them. Returns whether there were any.
+    fn look(&mut self, clients: &mut Clients<'_>, wait: Duration) -> Result<bool, Refusal> {
+        match self.poll.poll(&mut self.events, Some(wait)) {
+            Err(e) if e.kind() != ErrorKind::Interrupted => return Err(refusal_of(&e)),
+            _ => {}
+        }
+        for event in self.events.iter() {
+            clients.note(event);
+        }
+        Ok(!self.events.is_empty())
+    }
+}
+
+/// Hears the clients that come until as many have spoken as are expected, or the wait has been long enough.
+fn linger<D: Disk, R: Clock>(
+    rt: &R,
+    watch: &mut Watch,
+    turns: &mut Turns<'_, D>,
+) -> Result<(), Refusal> {
+    if turns.service.is_covered() || !turns.has_room() {
+        return Ok(());
+    }
+    let Some(most) = turns.linger.begins(turns.clients.spoken()) else {
+        return Ok(());
+    };
+    let begin = turns.now;
+    for _ in 0..NAPS {
+        if watch.look(&mut turns.clients, Duration::ZERO)? {
+            turns.hear_all();
+        } else {
+            thread::sleep(rt, Duration::from_micros(NAP));
+        }
+        turns.begin(rt);
+        let waited = turns.now.saturating_duration_since(begin);
+        let are_back = turns.linger.are_back(turns.clients.spoken());
+        if are_back || waited >= most || !turns.has_room() {
+            break;
+        }
+    }
+    turns.linger.ends(turns.clients.spoken());
+    Ok(())
+}
+
+/// Makes all that was asked durable, and notes how long that took and how many clients came meanwhile.
+fn commit<D: Disk, R: Clock>(
+    rt: &R,
+    watch: &mut Watch,
+    turns: &mut Turns<'_, D>,
+) -> Result<(), Refusal> {
+    if turns.service.is_covered() {
+        return Ok(());
+    }
+    turns.begin(rt);
+    let begin = turns.now;
+    turns.commit()?;
+    turns.begin(rt);
+    let took = turns.now.saturating_duration_since(begin);
+    let came = coming(watch, turns)?;
+    turns
+        .linger
+        .has_committed(took, turns.clients.spoken(), came);
+    Ok(())
+}
+
+/// How many clients have come since the last look. Where that is of no use, it is not asked.
+fn coming<D: Disk>(watch: &mut Watch, turns: &mut Turns<'_, D>) -> Result<usize, Refusal> {
+    if !turns.linger.helps() {
+        return Ok(0);
+    }
+    let before = turns.clients.queued();
+    watch.look(&mut turns.clients, Duration::ZERO)?;
+    Ok(turns.clients.queued().saturating_sub(before))
+}
+
+/// One turn.
+fn take_turn<D: Disk, R: Clock, O: Write>(
+    rt: &R,
+    watch: &mut Watch,
+    turns: &mut Turns<'_, D>,
+    out: &mut O,
+) -> Result<(), Refusal> {
+    let wait = turns.patience();
+    watch.look(&mut turns.clients, wait)?;
+    turns.begin(rt);
+    turns.accept(0)?;
+    turns.accept(1)?;
+    turns.hear_all();
+    linger(rt, watch, turns)?;
+    commit(rt, watch, turns)?;
+    turns.release_all();
+    turns.checkpoint()?;
+    turns.turn_over(out)?;
+    turns.sweep();
+    Ok(())
+}
+
+/// Takes turns until the service cannot go on. Returns why.
+fn take_turns<D: Disk, R: Wait + Clock, O: Write>(
+    rt: &R,
+    watch: &mut Watch,
+    turns: &mut Turns<'_, D>,
+    out: &mut O,
+) -> Result<(), Refusal> {
+    for _ in rt.forever() {
+        take_turn(rt, watch, turns, out)?;
+    }
+    unreachable!()
+}
+
+/// The turns of a service over a store, before its first client.
+fn first_turn<'a, D: Disk + Drop>(
+    alloc: Global,
+    now: Instant,
+    limits: Limits,
+    store: Store<D>,
+    clients: Clients<'a>,
+) -> Result<Turns<'a, D>, Refusal>
+    requires fresh { store.history ≡ [] }
+{
+    let buffer = vec![in alloc; 0u8; PIECE]?;
+    let slots = Slots::new(alloc, MAX_CLIENTS, MAX_CLIENTS)?;
+    let service = Service::new(store, slots);
+    Ok(Turns::new(alloc, now, limits, service, clients, buffer))
+}
+
+/// Takes turns until the service cannot go on. If that is since the device has failed, the clients are answered.
+fn serve<D: Disk, R: Wait + Clock, O: Write>(
+    rt: &R,
+    watch: &mut Watch,
+    turns: &mut Turns<'_, D>,
+    out: &mut O,
+) -> Result<(), Refusal> {
+    tell_ready(out)?;
+    let ended = take_turns(rt, watch, turns, out);
+    if let Err(Refusal::Numbered(Code::DeviceFailed | Code::FailedEarlier)) = ended {
+        part_with_all(turns);
+    }
+    ended
+}
+
+/// Serves a store without entries on two ports, without end: clients of HTTP on one port, and clients of runner lines on
+/// the other. A store in the first layout is first upgraded to the second. Then it writes `ready`, before the first
+/// client.
 ///
-/// After `limits.commands` commands, or 64 MiB that clients have sent or received, the history turns over: each seat
-/// leaves its client between two requests, the answers of each seat are compared with the history, `settled COUNT` is
-/// written, and the next history begins at the current table. The clients' sessions continue in it.
+/// Each turn hears every client that has sent something, for at most 16 requests, commits all that they asked, and
+/// answers them. After `limits.commands` commands, or 64 MiB that clients have sent or received, the history turns over:
+/// `settled COUNT` is written, and the next history begins at the current table. The clients' sessions continue in it.
 ///
-/// It ends with a refusal: 50 if memory or threads run out before the first client, 52 if the device has failed, 60 if
-/// the answers are not those of the history, and 61 if the output cannot be written or a port fails. A stream that
-/// fails ends one session, and so does running out of memory later on.
-pub fn serve_forever<D: Disk + Drop + Send, R: Threads + Wait + Clock + Sync + Net, O: Write>(
+/// It ends with a refusal: 50 if memory runs out before the first client, 51 or 52 if the device has failed, and 61 if
+/// the output cannot be written or a port fails. A stream that fails ends one session, and so does running out of memory
+/// later on.
+pub fn serve_forever<D: Disk + Drop, R: Wait + Clock + Net, O: Write>(
     rt: &R,
     alloc: Global,
     store: Store<D>,
     hooks: &TcpListener,
     runners: &TcpListener,
-    sessions: u64,
     limits: Limits,
     out: &mut O,
 ) -> Result<(), Refusal>
     requires fresh { store.history ≡ [] }
-    requires sessions { (0 < sessions) × (sessions ≤ 32) }
 {
-    let poll = Poll::new(rt).map_err(|e| refusal_of(&e))?;
-    let registry = poll.registry().try_clone().map_err(|e| refusal_of(&e))?;
-    let events = Events::with_capacity(alloc, EVENTS)?;
-    let hook_port = Port::new(alloc, hooks, &registry, 0)?;
-    let runner_port = Port::new(alloc, runners, &registry, 1)?;
-    hook_port.watch_listener().map_err(|e| refusal_of(&e))?;
-    runner_port.watch_listener().map_err(|e| refusal_of(&e))?;
-    let service = Service::new(rt, &hook_port, &runner_port, limits);
+    let now = Instant::now(rt).map_err(|e| refusal_of(&e))?;
     let store = brought_up(alloc, store)?;
-    tell_ready(out)?;
-    serve_watched(&service, alloc, poll, events, store, sessions, out)
+    let mut watch = Watch::new(rt, alloc)?;
+    let clients = watch.clients(alloc, hooks, runners)?;
+    let mut turns = first_turn(alloc, now, limits, store, clients)?;
+    serve(rt, &mut watch, &mut turns, out)
 }

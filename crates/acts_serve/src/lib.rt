@@ -1,22 +1,23 @@
 //! Serves a store on two ports, with sessions of HTTP on one and sessions of runner lines on the other: in rounds of a
-//! fixed number of sessions, or without end, with seats that any number of clients share.
+//! fixed number of sessions, each in a thread, or without end in one loop.
 #![tactic(auto)]
 
+mod checkpoints;
 mod client;
+mod clients;
 mod closing;
 mod connection;
 mod exchange;
 mod farewell;
 mod forever;
-mod histories;
+mod limits;
+mod linger;
 mod port;
-mod seat;
 mod serve;
-mod service;
 mod telling;
+mod turns;
 mod upgrade;
-mod watch;
 
 pub use forever::serve_forever;
+pub use limits::Limits;
 pub use serve::{serve_on, serve_rounds};
-pub use service::Limits;

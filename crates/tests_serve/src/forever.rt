@@ -1,5 +1,4 @@
-//! A service without end, with one seat on each port: the clients of a port share it, and their sessions continue over
-//! its histories.
+//! A service without end: its clients are heard alternately, and their sessions continue over its histories.
 
 use crate::clients::{BODY, CREATED, LOOK, POST, Ports, SEEN, is_answered, listeners};
 use crate::service::{Lines, serve_until_output_fails};
@@ -14,12 +13,12 @@ use std::{io, thread};
 /// How long a client waits at most for an answer, in seconds.
 const TIMEOUT: u64 = 20;
 
-const FETCH: &str = "FETCH 9\n";
+pub const FETCH: &str = "FETCH 9\n";
 
-const UNKNOWN: &str = "refused 40\n";
+pub const UNKNOWN: &str = "refused 40\n";
 
 /// A history of so many commands, in which no client is closed for silence.
-fn limits(commands: u64) -> Limits {
+pub fn limits(commands: u64) -> Limits {
     Limits {
         commands,
         idle: Duration::from_secs(300),
@@ -27,7 +26,7 @@ fn limits(commands: u64) -> Limits {
 }
 
 /// A client that waits for an answer for a limited time.
-fn client<R: Net<Stream = TcpStream>>(rt: &R, to: SocketAddr) -> io::Result<TcpStream> {
+pub fn client<R: Net<Stream = TcpStream>>(rt: &R, to: SocketAddr) -> io::Result<TcpStream> {
     let stream = TcpStream::connect(rt, to)?;
     stream.set_read_timeout(Some(Duration::from_secs(TIMEOUT)))?;
     Ok(stream)
@@ -38,7 +37,7 @@ fn send(stream: &TcpStream, text: &str) -> io::Result<()> {
     stream.write_all(text.as_bytes())
 }
 
-/// Clients of each port that send nothing, or half a request, beside others on the same seat.
+/// Clients of each port that send nothing, or half a request, beside others.
 fn silent_clients<R: Net<Stream = TcpStream>>(rt: &R, ports: Ports) -> io::Result<bool> {
     let silent = client(rt, ports.runners)?;
     let half = client(rt, ports.hooks)?;
@@ -53,7 +52,7 @@ fn silent_clients<R: Net<Stream = TcpStream>>(rt: &R, ports: Ports) -> io::Resul
 }
 
 #[test]
-fn an_idle_client_lends_its_seat(rt: HostRuntime) -> Result<(), Fail> {
+fn an_idle_client_holds_up_nobody(rt: HostRuntime) -> Result<(), Fail> {
     let alloc: Global = rt.alloc();
     let mut out = Lines::new(alloc, 1);
     let (hooks, runners, ports) = listeners(&rt)?;
@@ -165,6 +164,55 @@ fn an_idle_client_is_disconnected_in_time(rt: HostRuntime) -> Result<(), Fail> {
     let ended = thread::scope(thread::scope_env(), rt, |scope| {
         let playing = scope.spawn(|| idle_clients(rt, ports));
         let refused = serve_until_output_fails(rt, alloc, &hooks, &runners, limits, &mut out);
+        let answered = playing.is_ok_and(|handle| handle.join(rt).unwrap_or(false));
+        (answered, refused)
+    });
+    assert_eq!(rt; ended, (true, 61));
+    Ok(())
+}
+
+/// How many lines a client sends at once, more than one turn takes, and how many while those are being answered.
+const FIRST: usize = 500;
+
+const SECOND: usize = 100;
+
+/// So many lines.
+fn lines(alloc: Global, count: usize) -> io::Result<Vec<u8>> {
+    let mut text = Vec::new(alloc);
+    for _ in 0..count {
+        text.extend_from_slice(FETCH.as_bytes())?;
+    }
+    Ok(text)
+}
+
+/// A client that sends many lines at once, and more once it has read the first answer, reads the answer to each. Another
+/// one is answered beside it.
+fn lines_at_once<R: Net<Stream = TcpStream>>(
+    rt: &R,
+    alloc: Global,
+    ports: Ports,
+) -> io::Result<bool> {
+    let runner = client(rt, ports.runners)?;
+    let mut stream = &runner;
+    stream.write_all(&lines(alloc, FIRST)?)?;
+    let mut all = is_answered(&runner, &[], UNKNOWN)?;
+    stream.write_all(&lines(alloc, SECOND)?)?;
+    all = all && is_answered(&client(rt, ports.runners)?, &[FETCH], UNKNOWN)?;
+    for _ in 1..FIRST + SECOND {
+        all = all && is_answered(&runner, &[], UNKNOWN)?;
+    }
+    Ok(all)
+}
+
+#[test]
+fn lines_that_come_at_once_are_all_answered(rt: HostRuntime) -> Result<(), Fail> {
+    let alloc: Global = rt.alloc();
+    let mut out = Lines::new(alloc, 1);
+    let (hooks, runners, ports) = listeners(&rt)?;
+    let rt = &rt;
+    let ended = thread::scope(thread::scope_env(), rt, |scope| {
+        let playing = scope.spawn(|| lines_at_once(rt, alloc, ports));
+        let refused = serve_until_output_fails(rt, alloc, &hooks, &runners, limits(601), &mut out);
         let answered = playing.is_ok_and(|handle| handle.join(rt).unwrap_or(false));
         (answered, refused)
     });

@@ -6,6 +6,8 @@ mod clients;
 #[cfg(test)]
 mod closing;
 #[cfg(test)]
+mod failing;
+#[cfg(test)]
 mod forever;
 #[cfg(test)]
 mod loopback;

@@ -1,5 +1,4 @@
-//! A service over a new store in memory, with one session on each port in each round, or one seat for all clients of a
-//! port.
+//! A service over a new store in memory, with one session on each port in each round, or without end.
 
 use act_disk::MemoryDisk;
 use act_store::Store;
@@ -61,9 +60,8 @@ impl Write for Lines {
     }
 }
 
-/// Serves without end, with one seat on each port, until the output fails. Returns the number of the refusal that ended
-/// it.
-pub fn serve_until_output_fails<R: Threads + Wait + Clock + Sync + Net>(
+/// Serves without end, until the output fails. Returns the number of the refusal that ended it.
+pub fn serve_until_output_fails<R: Wait + Clock + Net>(
     rt: &R,
     alloc: Global,
     hooks: &TcpListener,
@@ -74,7 +72,7 @@ pub fn serve_until_output_fails<R: Threads + Wait + Clock + Sync + Net>(
     let Ok(store) = Store::init(alloc, MemoryDisk::new(alloc), 4096) else {
         return 0;
     };
-    match serve_forever(rt, alloc, store, hooks, runners, 1, limits, out) {
+    match serve_forever(rt, alloc, store, hooks, runners, limits, out) {
         Ok(()) => 0,
         Err(refusal) => refusal.number(),
     }

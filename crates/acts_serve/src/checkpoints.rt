@@ -1,0 +1,142 @@
+//! Checkpoints of a service without end, a few slices in each turn.
+
+use act_disk::Disk;
+use act_loop::Service;
+use act_store::{Played, Step};
+use runner_sessions::RunnerLines;
+use std::alloc::Global;
+use webhook_sessions::Hooks;
+use wf_value::{Code, Refusal};
+
+/// How far a service is with its checkpoints.
+#[derive(Drop)]
+pub(crate) struct Checkpoints {
+    /// How many bytes of the checkpoint in progress are left to write, if there is one.
+    left: Option<u64>,
+    /// How many entries of the history were covered when it last tried to begin one.
+    tried: Option<u64>,
+    /// Whether the last step ran out of memory.
+    lacks_memory: bool,
+}
+
+impl Checkpoints {
+    pub(crate) fn new() -> Checkpoints {
+        Checkpoints {
+            left: None,
+            tried: None,
+            lacks_memory: false,
+        }
+    }
+
+    /// Whether a checkpoint is in progress.
+    pub(crate) fn is_under_way(&self) -> bool {
+        self.left.is_some()
+    }
+
+    /// Whether a step may be taken at once.
+    pub(crate) fn goes_on(&self) -> bool {
+        self.is_under_way() && !self.lacks_memory
+    }
+
+    /// A new history has begun, so the number of its entries says nothing of the last attempt.
+    pub(crate) fn turn_over(&mut self) {
+        self.tried = None;
+    }
+
+    /// Takes up to `slices` steps of the checkpoint in progress, or begins one if that is due. The only errors are those
+    /// of the device: any other refusal ends the checkpoint, and one for lack of memory delays it.
+    pub(crate) fn advance<D: Disk>(
+        &mut self,
+        alloc: Global,
+        service: &mut Service<D, Hooks, RunnerLines>,
+        slices: u64,
+    ) -> Result<(), Refusal> {
+        self.lacks_memory = false;
+        if self.left.is_none() {
+            return self.begin(alloc, service);
+        }
+        for _ in 0..slices {
+            if !self.goes_on() {
+                break;
+            }
+            self.step(alloc, service)?;
+        }
+        Ok(())
+    }
+
+    /// Begins a checkpoint if less than half of the area is left and entries were covered since the last attempt.
+    fn begin<D: Disk>(
+        &mut self,
+        alloc: Global,
+        service: &mut Service<D, Hooks, RunnerLines>,
+    ) -> Result<(), Refusal> {
+        let store = service.store();
+        let (room, covered) = (store.room(), store.covered());
+        let is_pressed = room < store.area().saturating_sub(room);
+        if !is_pressed || self.tried == Some(covered) {
+            return Ok(());
+        }
+        self.tried = Some(covered);
+        let begun = service.step(alloc, Step::Begin);
+        self.note(begun)
+    }
+
+    fn step<D: Disk>(
+        &mut self,
+        alloc: Global,
+        service: &mut Service<D, Hooks, RunnerLines>,
+    ) -> Result<(), Refusal> {
+        if self.left == Some(0) {
+            self.finish(alloc, service)
+        } else {
+            let written = service.step(alloc, Step::Slice);
+            self.note(written)
+        }
+    }
+
+    fn finish<D: Disk>(
+        &mut self,
+        alloc: Global,
+        service: &mut Service<D, Hooks, RunnerLines>,
+    ) -> Result<(), Refusal> {
+        match service.step(alloc, Step::Finish) {
+            Played::Refused(refusal) => self.refused(refusal, Some(0)),
+            _ => {
+                self.left = None;
+                Ok(())
+            }
+        }
+    }
+
+    /// Keeps how many bytes are left after a step that was not the last.
+    fn note(&mut self, played: Played) -> Result<(), Refusal> {
+        match played {
+            Played::Count(left) => {
+                self.left = Some(left);
+                Ok(())
+            }
+            Played::Refused(refusal) => self.refused(refusal, None),
+            Played::Replied(_) => Ok(()),
+        }
+    }
+
+    /// Handles the refusal of a step. For lack of memory there are `left` bytes to write as before.
+    fn refused(&mut self, refusal: Refusal, left: Option<u64>) -> Result<(), Refusal> {
+        match refusal.number() {
+            51 => Err(Refusal::Numbered(Code::DeviceFailed)),
+            52 => Err(Refusal::Numbered(Code::FailedEarlier)),
+            50 => {
+                self.lacks_memory = true;
+                self.left = left;
+                if left.is_none() {
+                    self.tried = None;
+                }
+                Ok(())
+            }
+            _ => {
+                self.left = None;
+                Ok(())
+            }
+        }
+    }
+}
