@@ -1,8 +1,9 @@
 //! The program `acts`: the coordinating half of GitHub Actions.
 #![tactic(auto)]
 
+use act_disk::Empty;
 use std::process::ExitCode;
 
 fn main(rt: HostRuntime) -> ExitCode {
-    acts_cli::run(&rt, &rt)
+    acts_cli::run::<Empty, _, _>(&rt, &rt)
 }

@@ -1,0 +1,50 @@
+//! Makes a store in a file, and shows one: `acts init`, `acts show`, `acts runners` and `acts queue`.
+
+use crate::failure::{Failure, ended};
+use crate::streams::output;
+use act_disk::Start;
+use acts_ops::{Form, Shown, run_init, run_show};
+use command_words::{AreaLength, Shown as Asked, View};
+use process_io::HeldStreams;
+use run_plan::Number;
+use std::fs::{File, Files};
+use std::sync::Wait;
+use std::thread::Threads;
+use std::time::Clock;
+
+/// Makes a store in a file, which is created if it does not exist. No other server may use it.
+pub fn init<
+    'a,
+    B: Start,
+    R: Print + Files<File = File> + AllocGlobal,
+    S: Threads + Wait + Clock + Eprint + Sync,
+>(rt: &R, system: &S, file: &'a str, area: &AreaLength) -> Result<(), Failure<'a>> {
+    let streams = HeldStreams::hold(rt)?;
+    let disk = streams.create_for_server::<B, R, S>(rt, system, file, 2 * area.bytes)?;
+    let mut out = output(rt)?;
+    let made = run_init(rt.alloc(), disk, area.bytes, &mut out).1;
+    ended(made, out.into_fault(), None)
+}
+
+/// What is asked for, as the store's views know it.
+fn shown_of(what: Asked) -> Shown {
+    match what {
+        Asked::Runs => Shown::Runs,
+        Asked::Run(id) => Shown::Run(Number::new(id.number)),
+        Asked::Runners => Shown::Runners,
+        Asked::Queue => Shown::Queue,
+    }
+}
+
+/// Shows a store.
+pub fn show<'a, B: Start, R: Print + Files<File = File> + AllocGlobal>(
+    rt: &R,
+    view: &View<'a>,
+) -> Result<(), Failure<'a>> {
+    let streams = HeldStreams::hold(rt)?;
+    let disk = streams.open_for_reading::<B, R>(rt, view.file)?;
+    let form = if view.json { Form::Json } else { Form::Lines };
+    let mut out = output(rt)?;
+    let shown = run_show(rt.alloc(), disk, shown_of(view.what), form, &mut out).1;
+    ended(shown, out.into_fault(), None)
+}

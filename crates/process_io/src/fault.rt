@@ -1,0 +1,43 @@
+use std::{fmt, io};
+use wf_value::{Code, Refusal};
+
+/// What can't be used, and why. Its text is what standard error shows after the refusal.
+#[derive(Drop)]
+pub enum Fault<'a> {
+    /// A file, its lock, or its folder, or `/dev/null`.
+    File(&'a str, io::Error),
+    /// Another process has the lock of this file.
+    Locked(&'a str),
+    /// The length of this file is not known.
+    Unmeasured(&'a str),
+    /// This file is longer than the system lets this process write.
+    TooLong(&'a str),
+    Port(u16, io::Error),
+    /// A standard stream.
+    Stream(&'static str, io::Error),
+}
+
+impl Fault<'_> {
+    /// The refusal: 51 for a file that is too long, and else 61.
+    pub fn refusal(&self) -> Refusal {
+        Refusal::Numbered(match self {
+            Fault::TooLong(_) => Code::DeviceFailed,
+            _ => Code::StreamFailed,
+        })
+    }
+}
+
+impl fmt::Display for Fault<'_> {
+    fn fmt<W: fmt::Write>(&self, f: &mut fmt::Formatter<W>) -> fmt::Result {
+        match self {
+            Fault::File(path, error) => write!(f, "{path}: {error}"),
+            Fault::Locked(path) => write!(f, "{path}: another process has its lock"),
+            Fault::Unmeasured(path) => write!(f, "{path}: its length is not known"),
+            Fault::TooLong(path) => {
+                write!(f, "{path}: longer than this process may write (ulimit -f)")
+            }
+            Fault::Port(port, error) => write!(f, "port {port}: {error}"),
+            Fault::Stream(name, error) => write!(f, "{name}: {error}"),
+        }
+    }
+}

@@ -1,0 +1,137 @@
+//! A server takes the exclusive advisory lock of its file (`flock(2)`) before it reads or writes it. It holds the lock
+//! until the file is closed, at the latest when its process ends. A command that only reads takes no lock and needs no
+//! write permission.
+
+ghost use Rattle.std.specs.Prelude.{◌≡◌, ◌↔◌, List, length, IfOk};
+ghost use Rattle.act_disk.specs.FileDisk.{faults_of, honest_of, len_of};
+ghost use Rattle.act_disk.specs.SystemCalls.{FileCall, IsHonest};
+ghost use Rattle.process_io.specs.Answered.{IsReadFrom};
+
+use crate::fault::Fault;
+use crate::length_limit::may_write;
+use crate::streams::HeldStreams;
+use crate::waiting::Opening;
+use act_disk::{Disk, FileDisk, HostFile, Start, sync_folder};
+use std::fs::{File, Files, OpenOptions, TryLockError};
+use std::sync::Wait;
+use std::thread;
+use std::thread::Threads;
+use std::time::Clock;
+
+/// A disk over a file of the system, which held what `B` says as it was opened.
+pub type RealDisk<B> = FileDisk<HostFile<B>>;
+
+impl HeldStreams {
+    /// Opens an existing file that only this server may read and write. It fails if another server has it. If that takes
+    /// over two seconds, standard error says so.
+    ///
+    /// The disk is honest if the file has as many bytes as `B` says, and it stays so as long as they are what is read.
+    #[tactic(auto, using(crate::proofs::Opened::reads_are_honest))]
+    pub fn open_for_server<
+        'a,
+        B: Start,
+        R: Files<File = File>,
+        S: Threads + Wait + Clock + Eprint + Sync,
+    >(&self, rt: &R, system: &S, path: &'a str) -> Result<RealDisk<B>, Fault<'a>>
+        ensures faults { IfOk result (λ disk. faults_of disk ≡ 0) }
+        ensures honest { IfOk result (λ disk. honest_of disk ↔ (len_of disk ≡ length B.Start.held)) }
+        ensures reads { (calls : List FileCall) → IsReadFrom B.Start.held calls → IsHonest B.Start.held calls }
+    {
+        let file = opened_in_time(rt, system, OpenOptions::new().read(true).write(true), path)?;
+        let disk = disk_over(file, path)?;
+        refuse_beyond_limit(disk.len(), path)?;
+        Ok(disk)
+    }
+
+    /// Does the same with a file that is created if it does not exist, and that is to be `len` bytes long. It syncs the
+    /// file's folder, so that the name is durable. Nothing is created if the system does not let this process write as much.
+    pub fn create_for_server<
+        'a,
+        B: Start,
+        R: Files<File = File>,
+        S: Threads + Wait + Clock + Eprint + Sync,
+    >(&self, rt: &R, system: &S, path: &'a str, len: u64) -> Result<RealDisk<B>, Fault<'a>>
+        ensures faults { IfOk result (λ disk. faults_of disk ≡ 0) }
+        ensures honest { IfOk result (λ disk. honest_of disk ↔ (len_of disk ≡ length B.Start.held)) }
+    {
+        refuse_beyond_limit(len, path)?;
+        let mut options = OpenOptions::new();
+        let how = options.read(true).write(true).create(true);
+        let file = opened_in_time(rt, system, how, path)?;
+        let disk = disk_over(file, path)?;
+        sync_folder(rt, path).map_err(|error| Fault::File(path, error))?;
+        Ok(disk)
+    }
+
+    /// Opens an existing file for reading only.
+    #[tactic(auto, using(crate::proofs::Opened::reads_are_honest))]
+    pub fn open_for_reading<'a, B: Start, R: Files<File = File>>(
+        &self,
+        rt: &R,
+        path: &'a str,
+    ) -> Result<RealDisk<B>, Fault<'a>>
+        ensures faults { IfOk result (λ disk. faults_of disk ≡ 0) }
+        ensures honest { IfOk result (λ disk. honest_of disk ↔ (len_of disk ≡ length B.Start.held)) }
+        ensures reads { (calls : List FileCall) → IsReadFrom B.Start.held calls → IsHonest B.Start.held calls }
+    {
+        let opened = OpenOptions::new().read(true).open(rt, path);
+        disk_over(opened.map_err(|error| Fault::File(path, error))?, path)
+    }
+}
+
+/// A disk over an open file.
+#[tactic(auto, using(crate::proofs::Opened::honest_at_first))]
+fn disk_over<B: Start>(file: File, path: &str) -> Result<RealDisk<B>, Fault<'_>>
+    ensures faults { IfOk result (λ disk. faults_of disk ≡ 0) }
+    ensures honest { IfOk result (λ disk. honest_of disk ↔ (len_of disk ≡ length B.Start.held)) }
+{
+    match FileDisk::opened(Ok(file)) {
+        Ok(disk) => Ok(disk),
+        Err(_) => Err(Fault::Unmeasured(path)),
+    }
+}
+
+/// Refuses a length that the system does not let this process write.
+fn refuse_beyond_limit(len: u64, path: &str) -> Result<(), Fault<'_>> {
+    if may_write(len) {
+        Ok(())
+    } else {
+        Err(Fault::TooLong(path))
+    }
+}
+
+/// Opens and locks a file. A thread tells if that takes long, unless none can be started.
+fn opened_in_time<'a, R: Files<File = File>, S: Threads + Wait + Clock + Eprint + Sync>(
+    rt: &R,
+    system: &S,
+    how: &OpenOptions,
+    path: &'a str,
+) -> Result<File, Fault<'a>> {
+    let opening = Opening::new();
+    let shared = &opening;
+    thread::scope(thread::scope_env(), system, |scope| {
+        let watching = scope.spawn(move || shared.watch(system, path)).ok();
+        let opened = opened_and_locked(rt, how, path);
+        shared.end(system);
+        if let Some(watching) = watching {
+            watching.join(system);
+        }
+        opened
+    })
+}
+
+/// Opens and locks a file. If another process holds the lock, it fails at once.
+fn opened_and_locked<'a, R: Files<File = File>>(
+    rt: &R,
+    how: &OpenOptions,
+    path: &'a str,
+) -> Result<File, Fault<'a>> {
+    let file = how
+        .open(rt, path)
+        .map_err(|error| Fault::File(path, error))?;
+    match file.try_lock() {
+        Ok(()) => Ok(file),
+        Err(TryLockError::WouldBlock) => Err(Fault::Locked(path)),
+        Err(TryLockError::Error(error)) => Err(Fault::File(path, error)),
+    }
+}
