@@ -6,6 +6,7 @@ use Rattle.std.specs.Io.KnownBytes.{Appends}
 use Rattle.std.specs.List.{flat_map, enumerate_from}
 use Rattle.std.specs.Prelude.{IsErrAnd}
 use Rattle.std.specs.Result.{result_unwrap_or}
+use Rattle.stated_limits.specs.Limits.{max_input}
 use Rattle.wf_value.specs.Gives.{no_memory}
 use Rattle.wf_value.specs.declared.refusal.Refusal.{Refusal}
 use Rattle.wf_reader.specs.Faults.{unless_faulty}
@@ -21,7 +22,6 @@ use Rattle.act_disk.specs.Failed.{stream_failed}
 use Rattle.acts_ops.specs.Check.{leg_line, leg_lines, job_lines, plan_lines, checked, Written, ChecksTo}
 use Rattle.acts_ops.specs.Input.{RefusesInput}
 use Rattle.acts_ops.specs.Writes.{Writes}
-use Rattle.acts_ops.specs.declared.input.TheConstants.{MAX_BYTES}
 
 -- ---- legs
 
@@ -114,7 +114,7 @@ lines_written text lines old new (Ok u) told all = (lines, all, told)
 lines_written text lines old new (Err e) told part = (part.1.0, part.1.2, inr (part.0, inr (part.1.1, told ∙ ap Ok (sym part.1.3))))
 
 -- a text that is not too long
-pub checks_within : {U : Type 0} (text out : List ℕ) (r : Result U Refusal) → length text ≤ MAX_BYTES → Written text out r
+pub checks_within : {U : Type 0} (text out : List ℕ) (r : Result U Refusal) → length text ≤ max_input → Written text out r
     → ChecksTo text out r
 checks_within text out (Ok u) fits h = (fits, h)
 checks_within text out (Err e) fits h = inr (inl (fits, h))

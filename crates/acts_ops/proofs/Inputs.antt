@@ -4,13 +4,13 @@ use Rattle.std.proofs.Common.{refl, sym, ap, subst, arith, length-append}
 use Rattle.std.specs.Io.KnownBytes.{Appends, Consumes}
 use Rattle.std.specs.Prelude.{IsErrAnd}
 use Rattle.std.proofs.KnownBytes.{Appends-nil}
+use Rattle.stated_limits.specs.Limits.{max_input}
 use Rattle.wf_value.specs.Gives.{no_memory}
 use Rattle.wf_value.specs.declared.code.Code.TheVariants.{InputTooLong}
 use Rattle.wf_value.specs.declared.refusal.Refusal.{Refusal}
 use Rattle.wf_value.specs.declared.refusal.Refusal.TheVariants.{Numbered}
 use Rattle.act_disk.specs.Failed.{stream_failed}
 use Rattle.acts_ops.specs.Input.{RefusesInput}
-use Rattle.acts_ops.specs.declared.input.TheConstants.{MAX_BYTES}
 
 pub for_any : {X : Type 0} {P : X → Type 0} (o : Option X) → ((x : X) → P x) → IfSome o P
 for_any None f = tt
@@ -34,7 +34,7 @@ unread (Err f) e input is why =
     for_any input (λ x. inr (subst (λ g. (g ≡ stream_failed) ⊎ (g ≡ no_memory)) (sym is) why))
 
 -- more of it was read than is allowed
-pub too_long : (before after : Option (List ℕ)) (read : List ℕ) → Consumes before after read → MAX_BYTES < length read
+pub too_long : (before after : Option (List ℕ)) (read : List ℕ) → Consumes before after read → max_input < length read
     → IfSome before (RefusesInput (Numbered InputTooLong))
 too_long None after read consumed long = tt
 too_long (Some x) None read consumed long = absurd consumed

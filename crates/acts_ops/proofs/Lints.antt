@@ -3,6 +3,7 @@ use Rattle.std.proofs.Common.{◌≡◌, ◌⊎◌, inl, inr, ℕ, ◌≤◌, Li
 use Rattle.std.specs.Io.KnownBytes.{Appends}
 use Rattle.std.specs.Prelude.{IsErrAnd}
 use Rattle.std.proofs.KnownBytes.{Appends-nil}
+use Rattle.stated_limits.specs.Limits.{max_input}
 use Rattle.wf_value.specs.Gives.{no_memory}
 use Rattle.wf_value.specs.declared.refusal.Refusal.{Refusal}
 use Rattle.act_disk.specs.Failed.{stream_failed}
@@ -11,7 +12,6 @@ use Rattle.workflow_lint.specs.declared.finding.Finding.{Finding}
 use Rattle.acts_ops.specs.Input.{RefusesInput}
 use Rattle.acts_ops.specs.Lint.{Lints, LintsTo, linted}
 use Rattle.acts_ops.specs.Writes.{PrefixWritten, Writes}
-use Rattle.acts_ops.specs.declared.input.TheConstants.{MAX_BYTES}
 
 -- the findings, as they are written
 pub slice_is : (text : List ℕ) (found slice : List Finding) → ◌≡◌ {A = Result (List Finding) Refusal} (Ok (found_in text)) (Ok found)
@@ -27,7 +27,7 @@ prefix_linted text lines old new (Err f) e is same why prefix =
     (prefix.0, prefix.2, (subst (λ x. (x ≡ stream_failed) ⊎ (x ≡ no_memory)) (sym is) why, (prefix.1, prefix.3 ∙ same)))
 
 -- a text that is not too long
-pub lints_within : (text out : List ℕ) (r : Result Bool Refusal) → length text ≤ MAX_BYTES → Lints text out r → LintsTo text out r
+pub lints_within : (text out : List ℕ) (r : Result Bool Refusal) → length text ≤ max_input → Lints text out r → LintsTo text out r
 lints_within text out (Ok b) fits h = (fits, h)
 lints_within text out (Err e) fits h = inr h
 

@@ -6,6 +6,7 @@ use Rattle.std.specs.Prelude.{IsErrAnd}
 use Rattle.std.specs.List.{All}
 use Rattle.std.specs.Str.Lines.{lines}
 use Rattle.std.proofs.lemmas.List.Elements.{All-head, All-tail}
+use Rattle.stated_limits.specs.Limits.{max_input}
 use Rattle.wf_value.specs.Gives.{no_memory}
 use Rattle.wf_value.specs.declared.refusal.Refusal.{Refusal}
 use Rattle.act_disk.specs.Failed.{stream_failed}
@@ -13,7 +14,6 @@ use Rattle.acts_ops.specs.Answers.{has_bytes, script_lines, answer_of, after_lin
 use Rattle.acts_ops.specs.Input.{RefusesInput}
 use Rattle.acts_ops.specs.PlainStore.{PlainStore}
 use Rattle.acts_ops.specs.Play.{IsAnswer, Answers, PlaysFrom, Plays, memory_refused, device_refused, Ends}
-use Rattle.acts_ops.specs.declared.input.TheConstants.{MAX_BYTES}
 
 -- ---- all lines
 
@@ -89,11 +89,11 @@ leads_on_within first before script t faults rest out a n so_far =
 
 -- ---- the end
 
-pub ends_within : (U : Type 0) (faults : ℕ) (script out more : List ℕ) (end : ℕ) (e : Refusal) → length script ≤ MAX_BYTES
+pub ends_within : (U : Type 0) (faults : ℕ) (script out more : List ℕ) (end : ℕ) (e : Refusal) → length script ≤ max_input
     → Plays faults script (out ++ more) end → (e ≡ stream_failed) ⊎ (e ≡ no_memory) → Ends {U = U} faults script out end (Err e)
 ends_within U faults script out more end e fits h why = inr (inr (why, inr (fits, more, h)))
 
-pub ends_after : {U : Type 0} (faults : ℕ) (script out : List ℕ) (end : ℕ) (r : Result U Refusal) → length script ≤ MAX_BYTES
+pub ends_after : {U : Type 0} (faults : ℕ) (script out : List ℕ) (end : ℕ) (r : Result U Refusal) → length script ≤ max_input
     → Plays faults script out end → IfErr r (λ e. e ≡ stream_failed) → Ends faults script out end r
 ends_after faults script out end (Ok u) fits h why = (fits, h)
 ends_after faults script out end (Err e) fits h why =

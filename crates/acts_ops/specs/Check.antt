@@ -3,6 +3,7 @@
 use Rattle.std.specs.Prelude.{◌≡◌, ◌⊎◌, ℕ, ◌≤◌, ◌<◌, List, [], ◌∷◌, ◌++◌, length, map, flat_map, codes, Result, Ok, Err}
 use Rattle.std.specs.Fmt.{decimal}
 use Rattle.std.specs.List.{enumerate_from}
+use Rattle.stated_limits.specs.Limits.{max_input}
 use Rattle.wf_value.specs.Gives.{no_memory}
 use Rattle.wf_value.specs.declared.code.Code.TheVariants.{InputTooLong}
 use Rattle.wf_value.specs.declared.refusal.Refusal.{Refusal}
@@ -14,7 +15,6 @@ use Rattle.act_disk.specs.Failed.{stream_failed}
 use Rattle.run_plan.specs.PlanOf.{plan_faults, workflow_plan}
 use Rattle.run_plan.specs.ReplyText.{combo_text}
 use Rattle.run_plan.specs.declared.planned.PlannedJob.{PlannedJob}
-use Rattle.acts_ops.specs.declared.input.TheConstants.{MAX_BYTES}
 
 -- `JOB LEG COMBO` and a line feed
 abbrev pub leg_text : List ℕ → ℕ → List ℕ → List ℕ
@@ -56,7 +56,7 @@ Written text out (Err e) = Fails text out e
 -- How a call on a text ends, and what it has written by then. If a text is too long, or cannot be read to its end
 -- because the stream fails or memory runs out, nothing is written.
 abbrev pub ChecksTo : {U : Type 0} → List ℕ → List ℕ → Result U Refusal → Type 0
-ChecksTo text out (Ok u) = (length text ≤ MAX_BYTES) × (checked text ≡ Ok out)
+ChecksTo text out (Ok u) = (length text ≤ max_input) × (checked text ≡ Ok out)
 ChecksTo text out (Err e) =
-    ((e ≡ Numbered InputTooLong) × (MAX_BYTES < length text) × (out ≡ []))
-    ⊎ (((length text ≤ MAX_BYTES) × Fails text out e) ⊎ (((e ≡ stream_failed) ⊎ (e ≡ no_memory)) × (out ≡ [])))
+    ((e ≡ Numbered InputTooLong) × (max_input < length text) × (out ≡ []))
+    ⊎ (((length text ≤ max_input) × Fails text out e) ⊎ (((e ≡ stream_failed) ⊎ (e ≡ no_memory)) × (out ≡ [])))

@@ -1,5 +1,6 @@
 -- The output of `acts lint`: a line for each fault of a workflow. The format is defined by this project.
 use Rattle.std.specs.Prelude.{◌≡◌, ◌⊎◌, ℕ, ◌≤◌, ◌<◌, List, [], ◌∷◌, ◌++◌, length, Bool, true, false, Result, Ok, Err}
+use Rattle.stated_limits.specs.Limits.{max_input}
 use Rattle.wf_value.specs.Gives.{no_memory}
 use Rattle.wf_value.specs.declared.code.Code.TheVariants.{InputTooLong}
 use Rattle.wf_value.specs.declared.refusal.Refusal.{Refusal}
@@ -8,7 +9,6 @@ use Rattle.act_disk.specs.Failed.{stream_failed}
 use Rattle.workflow_lint.specs.Lines.{finding_lines}
 use Rattle.workflow_lint.specs.Plans.{found_in}
 use Rattle.workflow_lint.specs.declared.finding.Finding.{Finding}
-use Rattle.acts_ops.specs.declared.input.TheConstants.{MAX_BYTES}
 
 abbrev pub linted : List ℕ → List ℕ
 linted text = finding_lines (found_in text)
@@ -28,5 +28,5 @@ Lints text out (Err e) = ((e ≡ stream_failed) ⊎ (e ≡ no_memory)) × IsPref
 
 -- How a call on a text ends, and what it has written by then. If a text is too long, nothing is written.
 abbrev pub LintsTo : List ℕ → List ℕ → Result Bool Refusal → Type 0
-LintsTo text out (Ok faulty) = (length text ≤ MAX_BYTES) × Lints text out (Ok faulty)
-LintsTo text out (Err e) = ((e ≡ Numbered InputTooLong) × (MAX_BYTES < length text) × (out ≡ [])) ⊎ Lints text out (Err e)
+LintsTo text out (Ok faulty) = (length text ≤ max_input) × Lints text out (Ok faulty)
+LintsTo text out (Err e) = ((e ≡ Numbered InputTooLong) × (max_input < length text) × (out ≡ [])) ⊎ Lints text out (Err e)

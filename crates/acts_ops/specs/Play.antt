@@ -2,6 +2,7 @@
 -- and by its end.
 use Rattle.std.specs.Prelude.{◌≡◌, ◌≢◌, ◌⊎◌, ℕ, ◌+◌, ◌≤◌, ◌<◌, List, [], ◌∷◌, ◌++◌, length, Result, Ok, Err, None, ⊤}
 use Rattle.std.specs.List.{All}
+use Rattle.stated_limits.specs.Limits.{max_input}
 use Rattle.wf_value.specs.Gives.{no_memory}
 use Rattle.wf_value.specs.RefusalText.{refusal_text}
 use Rattle.wf_value.specs.declared.code.Code.TheVariants.{InputTooLong}
@@ -14,7 +15,6 @@ use Rattle.act_store.specs.declared.step.Step.{Step}
 use Rattle.act_store.specs.declared.step.Step.TheVariants as requested
 use Rattle.acts_ops.specs.Answers.{carried_out, output_from, printed, script_lines, step_of}
 use Rattle.acts_ops.specs.PlainStore.{PlainStore, start}
-use Rattle.acts_ops.specs.declared.input.TheConstants.{MAX_BYTES}
 
 -- `refused 50`
 abbrev pub memory_refused : List ℕ
@@ -83,7 +83,7 @@ Plays faults script out end = PlaysFrom start faults script out end
 
 -- all of what a script may write, or a prefix of it
 abbrev pub PlaysTo : ℕ → List ℕ → List ℕ → ℕ → Type 0
-PlaysTo faults script out end = (length script ≤ MAX_BYTES) × (rest : List ℕ) × Plays faults script (out ++ rest) end
+PlaysTo faults script out end = (length script ≤ max_input) × (rest : List ℕ) × Plays faults script (out ++ rest) end
 
 -- nothing was written, and no disk call failed
 abbrev pub IsUnplayed : ℕ → List ℕ → ℕ → Type 0
@@ -93,8 +93,8 @@ IsUnplayed faults out end = (out ≡ []) × (end ≡ faults)
 -- script is too long, nothing is written. After a failed stream, or out of memory outside a line, a prefix has been
 -- written.
 abbrev pub Ends : {U : Type 0} → ℕ → List ℕ → List ℕ → ℕ → Result U Refusal → Type 0
-Ends faults script out end (Ok u) = (length script ≤ MAX_BYTES) × Plays faults script out end
+Ends faults script out end (Ok u) = (length script ≤ max_input) × Plays faults script out end
 Ends faults script out end (Err e) =
-    ((e ≡ Numbered InputTooLong) × (MAX_BYTES < length script) × IsUnplayed faults out end)
+    ((e ≡ Numbered InputTooLong) × (max_input < length script) × IsUnplayed faults out end)
     ⊎ (((e ≡ device_failed) × (out ≡ []) × (end ≡ faults + 1))
     ⊎ (((e ≡ stream_failed) ⊎ (e ≡ no_memory)) × (IsUnplayed faults out end ⊎ PlaysTo faults script out end)))

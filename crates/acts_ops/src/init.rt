@@ -2,12 +2,12 @@
 
 ghost use Rattle.std.specs.Prelude.{◌≡◌, ◌↔◌, ◌+◌, ◌<◌, ◌≤◌, ℕ, List, take, Err, IfErr, OnOk};
 ghost use Rattle.std.specs.Io.KnownBytes.{Appends};
+ghost use Rattle.stated_limits.specs.Limits.{max_area, min_area};
 ghost use Rattle.act_disk.specs.Failed.{stream_failed};
 ghost use Rattle.run_table.specs.Step.{empty};
 ghost use Rattle.act_store.specs.Images.{RecoversTo};
 ghost use Rattle.act_store.specs.Plain.{disk_not_empty};
 ghost use Rattle.act_store.specs.FaultCauses.{TellsFault};
-ghost use Rattle.act_store.specs.declared.init.TheConstants.{MAX_AREA, MIN_AREA};
 ghost use Rattle.acts_ops.specs.Made.{Makes, made_line};
 
 use act_disk::Disk;
@@ -37,8 +37,8 @@ pub fn run_init<D: Disk, W: Write>(
     writer: &mut W,
 ) -> (D, Result<(), Refusal>)
     requires countable { D.fault_count disk < u64.MAX }
-    requires least { MIN_AREA ≤ area }
-    requires most { area ≤ MAX_AREA }
+    requires least { min_area ≤ area }
+    requires most { area ≤ max_area }
     ensures written { (out : List ℕ) × Appends (W.contents writer.old) (W.contents writer.new) out × Makes (D.size disk) out result.1 }
     ensures occupied { (D.size disk ≡ 0 → ⊥) → result ≡ (disk, Err disk_not_empty) }
     ensures size { OnOk result.1 (D.size result.0 ≡ area + area) }

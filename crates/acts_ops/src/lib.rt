@@ -15,6 +15,7 @@ mod play;
 mod show;
 mod shown;
 
+pub use answer::{Answer, answer_line, answer_to};
 pub use check::run_check;
 pub use init::run_init;
 pub use input::MAX_BYTES;

@@ -2,6 +2,7 @@
 
 use crate::kind::Kind;
 use crate::sessions::{Setting, output_at_each_cut};
+use crate::steps::push_steps;
 use crate::upgraded::push_upgraded;
 use crate::views::push_views;
 use act_disk::MemoryDisk;
@@ -102,6 +103,7 @@ pub fn answers_to(alloc: Global, kind: Kind, row: &Row<'_>) -> Result<Vec<u8>, A
         Kind::Lints => push_all_linted(alloc, &mut answers, row.given)?,
         Kind::Views => push_views(alloc, &mut answers, row.given)?,
         Kind::Upgraded => push_upgraded(alloc, &mut answers, row)?,
+        Kind::Steps => push_steps(alloc, &mut answers, row.given)?,
         Kind::Session(protocol) => {
             push_session(alloc, &mut answers, Setting { protocol, before }, row)?;
         }

@@ -17,6 +17,8 @@ pub enum Kind {
     Views,
     /// What is shown of a file of the first layout, before and after a session of runners and a checkpoint.
     Upgraded,
+    /// A store that is made, opened, played on and shown byte by byte.
+    Steps,
     /// A session.
     Session(Protocol),
 }
@@ -29,6 +31,7 @@ const SUFFIXES: &[(Kind, &str, &str)] = &[
     (Kind::Lints, ".lints", ".faults"),
     (Kind::Views, ".store", ".views"),
     (Kind::Upgraded, ".first", ".views"),
+    (Kind::Steps, ".steps", ".outcome"),
     (Kind::Session(Protocol::Http), ".http", ".reply"),
     (Kind::Session(Protocol::Lines), ".runner", ".replies"),
 ];

@@ -10,9 +10,12 @@
 //!   as lines and as JSON.
 //! - `NAME.first`, a file that a program before re-runs wrote. `NAME.views` has what is shown of it, the answers to the
 //!   runner lines of `NAME.before` over it, and what is shown again after these and a checkpoint.
+//! - `NAME.steps`, lines of a script over a store of the row's own, between them others that make, open and show it
+//!   (`steps.rt`). `NAME.outcome` has what comes of each.
 //! - `NAME.http` and `NAME.runner`, the input of a session of HTTP and of runner lines. `NAME.reply` and `NAME.replies`
-//!   have the wanted output, wherever the input is split in two. The session is over a store in memory, and
-//!   `NAME.before` is the input of a session of HTTP before it.
+//!   have the wanted output, wherever the input is split in two and byte by byte, and then a line `asked N`: how many
+//!   commands it asks. The session is over a store in memory, and `NAME.before` is the input of a session of HTTP
+//!   before it.
 //!
 //! A row is named by its topic and its name, such as `groups/jobs_have_groups`. If a call is refused, the last line of
 //! its answers is the refusal.
@@ -21,9 +24,11 @@
 mod answers;
 mod difference;
 mod folder;
+mod images;
 mod kind;
 mod row;
 mod sessions;
+mod steps;
 mod upgraded;
 mod views;
 

@@ -5,6 +5,7 @@ use act_disk::MemoryDisk;
 use act_store::Store;
 use std::alloc::Global;
 use std::io::Read;
+use tests_common::streams::Pieces;
 use wf_value::Refusal;
 
 /// The protocol of a session.
@@ -27,20 +28,20 @@ fn alone(alloc: Global) -> Result<Alone<MemoryDisk>, Refusal> {
     }
 }
 
-/// The bytes that a session writes. The store answers what it asks.
+/// The bytes that a session writes, and how many commands it asks. The store answers what it asks.
 pub fn output_of<R: Read>(
     alloc: Global,
     protocol: Protocol,
     reader: &mut R,
     answerer: &mut Alone<MemoryDisk>,
-) -> Result<Vec<u8>, Refusal> {
+) -> Result<(Vec<u8>, usize), Refusal> {
     let mut writer = Vec::new(alloc);
     let ended = match protocol {
         Protocol::Http => webhook_sessions::Session::run(alloc, reader, &mut writer, answerer),
         Protocol::Lines => runner_sessions::Session::run(alloc, reader, &mut writer, answerer),
     };
     match ended {
-        Ok(_) => Ok(writer),
+        Ok(transcript) => Ok((writer, transcript.asked.len())),
         Err(fault) => Err(fault.refusal()),
     }
 }
@@ -52,21 +53,23 @@ pub struct Setting<'a> {
     pub before: &'a [u8],
 }
 
-/// The bytes that a session writes whose input comes in two pieces, after the session before it over the same store.
-fn output_in_two_pieces(
+/// What a session writes, and a line of how many commands it asks, after the session before it over the same store.
+fn output_after<R: Read>(
     alloc: Global,
     setting: Setting<'_>,
-    pieces: (&[u8], &[u8]),
+    reader: &mut R,
 ) -> Result<Vec<u8>, Refusal> {
     let mut answerer = alone(alloc)?;
     let mut before = setting.before;
     let _written = output_of(alloc, Protocol::Http, &mut before, &mut answerer)?;
-    let mut reader = pieces.0.chain(pieces.1);
-    output_of(alloc, setting.protocol, &mut reader, &mut answerer)
+    let (mut written, asked) = output_of(alloc, setting.protocol, reader, &mut answerer)?;
+    let line = format!(in alloc; "asked {asked}\n")?;
+    written.extend_from_slice(line.as_bytes())?;
+    Ok(written)
 }
 
 /// The output of a session with its input split in two, at the first split that does not give the wanted output, or
-/// else that of the whole input.
+/// else that of an input that comes byte by byte.
 pub fn output_at_each_cut(
     alloc: Global,
     setting: Setting<'_>,
@@ -74,10 +77,11 @@ pub fn output_at_each_cut(
     wanted: &[u8],
 ) -> Result<Vec<u8>, Refusal> {
     for cut in 0..input.len() {
-        let found = output_in_two_pieces(alloc, setting, input.split_at(cut))?;
+        let (first, rest) = input.split_at(cut);
+        let found = output_after(alloc, setting, &mut first.chain(rest))?;
         if found.as_slice() != wanted {
             return Ok(found);
         }
     }
-    output_in_two_pieces(alloc, setting, (input, &[]))
+    output_after(alloc, setting, &mut Pieces::new(input, 1))
 }

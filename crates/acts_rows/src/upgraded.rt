@@ -13,7 +13,7 @@ use wf_value::{Code, Refusal};
 const MAX_SLICES: u64 = 64;
 
 /// The store on a disk. A disk in memory has counted no faults.
-fn opened(alloc: Global, disk: MemoryDisk) -> Result<Store<MemoryDisk>, Refusal> {
+pub fn opened(alloc: Global, disk: MemoryDisk) -> Result<Store<MemoryDisk>, Refusal> {
     if disk.faults() == u64::MAX {
         return Err(Refusal::Numbered(Code::DeviceFailed));
     }
@@ -45,7 +45,7 @@ fn served_over(
 ) -> Result<MemoryDisk, Refusal> {
     let mut alone = Alone::new(alloc, opened(alloc, disk)?);
     let mut reader = lines;
-    let replies = output_of(alloc, Protocol::Lines, &mut reader, &mut alone)?;
+    let (replies, _) = output_of(alloc, Protocol::Lines, &mut reader, &mut alone)?;
     answers.extend_from_slice(&replies)?;
     checked(alloc, alone.into_store())
 }

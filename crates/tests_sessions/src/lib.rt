@@ -6,19 +6,13 @@ mod outcomes;
 #[cfg(test)]
 mod runner_faults;
 #[cfg(test)]
-mod runner_plain;
-#[cfg(test)]
 mod runner_rows;
 #[cfg(test)]
 mod service_fake;
 #[cfg(test)]
-mod webhook_bounds;
-#[cfg(test)]
 mod webhook_faults;
 #[cfg(test)]
 mod webhook_over_a_store;
-#[cfg(test)]
-mod webhook_plain;
 #[cfg(test)]
 mod webhook_rows;
 #[cfg(test)]

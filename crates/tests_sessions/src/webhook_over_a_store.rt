@@ -32,42 +32,6 @@ fn run_session(
     (ended, writer.bytes)
 }
 
-/// An event, then a look-up, a body, a wrong method, an unknown path and an unknown run.
-const REQUESTS: &str = concat!(
-    "POST /events HTTP/1.1\r\n",
-    "Host: x\r\n",
-    "X-GitHub-Delivery: d1\r\n",
-    "X-GitHub-Event: push\r\n",
-    "Content-Length: 81\r\n",
-    "\r\n",
-    "{\"repo\":\"o/r\",\"path\":\"ci.json\",\"workflow\":{\"jobs\":{\"build\":{\"runs-on\":\"linux\"}}}}",
-    "GET /runs/1 HTTP/1.1\r\n\r\n",
-    "GET /runs/1/body HTTP/1.1\r\n\r\n",
-    "POST /runs/1 HTTP/1.1\r\n\r\n",
-    "GET /runs/0 HTTP/1.1\r\n\r\n",
-    "POST /runs/9/cancel HTTP/1.1\r\n\r\n",
-);
-
-const ANSWERS: &str = concat!(
-    "HTTP/1.1 201 Created\r\nContent-Type: text/plain\r\nContent-Length: 10\r\n\r\ncreated 1\n",
-    "HTTP/1.1 200 OK\r\nContent-Type: text/plain\r\nContent-Length: 35\r\n\r\nrun 1 1 queued - build:open(ready)\n",
-    "HTTP/1.1 200 OK\r\nContent-Type: application/json\r\nContent-Length: 81\r\n\r\n",
-    "{\"repo\":\"o/r\",\"path\":\"ci.json\",\"workflow\":{\"jobs\":{\"build\":{\"runs-on\":\"linux\"}}}}",
-    "HTTP/1.1 405 Method Not Allowed\r\nContent-Type: text/plain\r\nContent-Length: 11\r\nAllow: GET\r\n\r\nrefused 73\n",
-    "HTTP/1.1 404 Not Found\r\nContent-Type: text/plain\r\nContent-Length: 11\r\n\r\nrefused 72\n",
-    "HTTP/1.1 404 Not Found\r\nContent-Type: text/plain\r\nContent-Length: 11\r\n\r\nrefused 40\n",
-);
-
-#[test]
-fn requests_are_answered_from_a_store(rt: HostRuntime) {
-    let mut alone = empty_store(&rt, rt.alloc());
-    let (ended, written) = run_session(rt.alloc(), &mut alone, REQUESTS, usize::MAX);
-    assert!(rt; ended.is_ok());
-    assert!(rt; written.as_slice() == ANSWERS.as_bytes(), "{written:?}");
-    // The wrong method and the unknown path submitted no command.
-    assert!(rt; alone.into_store().entries() == 4);
-}
-
 /// Checks that the writer failed after seven bytes, with one command submitted.
 fn expect_broken(rt: &impl Abort, ended: Result<Transcript, SessionFault>) {
     match ended {

@@ -1,6 +1,6 @@
-//! Scripts with answers worked out by hand, and what opens from their disks.
+//! Steps in one call, and steps after a fault, with answers worked out by hand.
 
-use crate::events::{BUILD, BUILD_ELSEWHERE};
+use crate::events::BUILD;
 use crate::holds::holds;
 use crate::stores::{
     MIN_AREA, Row, TestStep, close, new_store, open_store, play, steps_of, text_of, try_init,
@@ -10,7 +10,7 @@ use act_store::{Played, Store};
 use std::alloc::Global;
 use std::process::Abort;
 use tests_common::commands::Words;
-use wf_value::{Outcome, Refusal};
+use wf_value::Refusal;
 
 /// A run is made and leased. Nothing is pending at the first commit and at the last.
 const FIRST: &[Row] = &[
@@ -40,86 +40,6 @@ const FIRST: &[Row] = &[
     (TestStep::Commit, "covered 5", 5, 5),
 ];
 
-/// After an opening: the delivery has its run and makes no second one, and the runner's last number gets the kept
-/// reply. One entry stays uncovered.
-const AGAIN: &[Row] = &[
-    (
-        TestStep::Apply(Words::Admit("d1", BUILD)),
-        "created 1",
-        1,
-        0,
-    ),
-    (
-        TestStep::Apply(Words::Admit("d1", BUILD_ELSEWHERE)),
-        "created 1",
-        2,
-        0,
-    ),
-    (TestStep::Apply(Words::Look("2")), "refused 40", 3, 0),
-    (
-        TestStep::Apply(Words::Claim("r1", "1", "linux")),
-        "lease 1 1 build 0 {}",
-        4,
-        0,
-    ),
-    (
-        TestStep::Apply(Words::Claim("r1", "1", "gpu")),
-        "refused 43 1",
-        5,
-        0,
-    ),
-    (TestStep::Commit, "covered 5", 5, 5),
-    (
-        TestStep::Apply(Words::Done("r1", "2", "1", Outcome::Success)),
-        "ok",
-        6,
-        5,
-    ),
-];
-
-/// The report was not covered, so it has no effect.
-const AFTER_THAT: &[Row] = &[
-    (
-        TestStep::Apply(Words::Look("1")),
-        "run 1 1 in_progress - build:open(running)",
-        1,
-        0,
-    ),
-    (
-        TestStep::Apply(Words::Done("r1", "2", "1", Outcome::Failure)),
-        "ok",
-        2,
-        0,
-    ),
-    (
-        TestStep::Apply(Words::Done("r1", "2", "1", Outcome::Failure)),
-        "ok",
-        3,
-        0,
-    ),
-    (
-        TestStep::Apply(Words::Look("1")),
-        "run 1 1 completed failure build:failure(failure)",
-        4,
-        0,
-    ),
-    (TestStep::Commit, "covered 4", 4, 4),
-];
-
-/// Each is played over what the one before it left.
-const PLAYS: &[&[Row]] = &[FIRST, AGAIN, AFTER_THAT];
-
-#[test]
-fn covered_entries_survive_reopening(rt: HostRuntime) {
-    let mut disk = new_store(&rt, rt.alloc(), MIN_AREA).into_disk();
-    for &rows in PLAYS {
-        let mut store = open_store(&rt, rt.alloc(), disk);
-        play(&rt, rt.alloc(), &mut store, rows);
-        disk = store.into_disk();
-    }
-    holds!(rt; disk.faults() == 0);
-}
-
 /// Whether the answers are those of the rows.
 fn are_answers(alloc: Global, answers: &[Played], rows: &[Row]) -> Result<bool, Refusal> {
     for (answer, row) in answers.iter().zip(rows) {
@@ -144,6 +64,7 @@ fn plays_at_once<D: Disk>(
 #[test]
 fn steps_are_played_in_one_call(rt: HostRuntime) {
     let mut store = new_store(&rt, rt.alloc(), MIN_AREA);
+    holds!(rt; store.area() == 4_096 && store.room() == 4_060);
     let as_wanted = plays_at_once(rt.alloc(), &mut store, FIRST).expect(&rt, "memory");
     close(store);
     holds!(rt; as_wanted);

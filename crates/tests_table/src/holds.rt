@@ -12,20 +12,6 @@ pub fn expect_so_at<R: Abort, D: Display + Drop>(rt: &R, is_so: bool, condition:
     assert!(rt; is_so, "not so: {condition}, at {place}");
 }
 
-/// Expects these bytes.
-pub fn expect_bytes<R: Abort>(rt: &R, bytes: &[u8], want: &[u8]) {
-    assert!(rt; bytes == want, "{bytes:?} in place of {want:?}");
-}
-
-/// Expects the first answer to be `Ok` or out of memory, and the second to be `Ok`.
-pub fn expect_twice<R: Abort>(rt: &R, first: Result<(), Refusal>, second: Result<(), Refusal>) {
-    assert!(rt;
-        matches!(first, Ok(()) | Err(Refusal::Numbered(Code::NoMemory))),
-        "another refusal"
-    );
-    assert!(rt; second.is_ok(), "refused again");
-}
-
 /// Expects a condition to hold, optionally at a place: `holds!(rt; a < b)`, `holds!(rt; a < b, row)`.
 macro_rules! holds {
     ($rt:expr; $condition:expr $(,)?) => {

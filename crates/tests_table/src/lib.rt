@@ -1,9 +1,7 @@
-//! Tests of commands, tables and their stored bytes. Tests that need memory run twice: the first
-//! time an allocation may fail, and the answer is then 50. No crate depends on this one.
+//! Tests of copies of commands and tables, of parts that make a table or none, and of how many rules settling tries. No
+//! crate depends on this one.
 #![tactic(auto)]
 
-#[cfg(test)]
-mod command_encodings;
 #[cfg(test)]
 mod copies;
 #[cfg(test)]
@@ -12,5 +10,3 @@ mod group_parts;
 mod holds;
 #[cfg(test)]
 mod rule_tries;
-#[cfg(test)]
-mod table_encodings;

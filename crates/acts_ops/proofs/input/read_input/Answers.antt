@@ -1,7 +1,7 @@
 use Rattle.std.proofs.Common.{◌≤◌, ◌<◌, length, arith, refl}
 use Rattle.std.proofs.KnownBytes.{Consumes-whole}
+use Rattle.stated_limits.specs.Limits.{max_input}
 use Rattle.acts_ops.specs.Input.{IsReadAs}
-use Rattle.acts_ops.specs.declared.input.TheConstants.{MAX_BYTES}
 use Rattle.acts_ops.proofs.Inputs.{too_long, unread}
 use Rattle.acts_ops.proofs.input.read_input.Goals as goal
 
@@ -12,12 +12,12 @@ returns-in_err-input-clause-refused g c =
 
 pub returns-then-len-gt-MAX_BYTES-clause-refused : goal.returns-then-len-gt-MAX_BYTES-clause-refused
 returns-then-len-gt-MAX_BYTES-clause-refused g c =
-    let long : MAX_BYTES < length c.in_ok-input.input.items = omega arith in
+    let long : max_input < length c.in_ok-input.input.items = omega arith in
     too_long _ _ c.in_ok-input.input.items c.in_ok-input.ensures.bytes long
 
 pub returns-clause-whole : goal.returns-clause-whole
 returns-clause-whole g c =
     let input = c.in_ok-input.input.items in
     let read = c.in_ok-input.ensures in
-    let fits : length input ≤ MAX_BYTES = omega arith in
+    let fits : length input ≤ max_input = omega arith in
     Consumes-whole _ _ input (IsReadAs input) read.bytes (read.end (omega arith)) (refl, fits)

@@ -1,0 +1,165 @@
+"""Sizes that a team has. `sweeps/edits/tested_bodies/acts` has a body for each that is right up to half of it."""
+
+import time
+
+from checking import expect, opened, served, stopped
+from command_lines import ran
+from encoded import claim, file, job, leg, number, run, table
+from files import held, write
+
+RUNS, RUNNERS, LEASED_FROM = 20_000, 2_000, 17_000
+TABLE_AREA, SECONDS = 4 << 20, 60
+LAST_RUN, LAST_AREA = 100_000, 16 << 20
+BODY_BYTES, COMMANDS, SESSION_LINES, CONNECTIONS = 65_536, 40_000, 1_024, 2_000
+BEAT = b'BEAT nobody 1\n'
+
+
+def stored(place, phase, lease=0):
+    """A run of one job: its leg is ready, running or has succeeded."""
+    live, state, at = {'ready': (1, 1, 2), 'running': (1, 1, 3), 'ended': (2, 2, 5)}[phase]
+    return run(place, live, 0, job(state, leg(at, lease)), attempt=number(1))
+
+
+def large_table():
+    """Runs that have ended, then one for each runner at work, then ready ones."""
+    last = LEASED_FROM + RUNNERS
+    runs = [stored(it, 'ended', it) if it <= LEASED_FROM else stored(it, 'running', it) if it <= last else stored(it, 'ready')
+            for it in range(1, RUNS + 1)]
+    runners = sorted(f'r{it}' for it in range(1, RUNNERS + 1))
+    return table(last, runs, [held(it, 1, claim(it, 1), lease_of(it), (lease_of(it), 1), lease_of(it)) for it in runners])
+
+
+def lease_of(runner):
+    return LEASED_FROM + int(runner[1:])
+
+
+def view(place):
+    last = LEASED_FROM + RUNNERS
+    return served.view(place, 3 * place - (0 if place <= LEASED_FROM else 1 if place <= last else 2))
+
+
+def generation(path, at):
+    with open(path, 'rb') as it:
+        it.seek(at)
+        gate, _, *rest = it.read(10)
+    return int.from_bytes(rest, 'big') if gate == 0xA5 else 0
+
+
+def ask(client, asked, wanted):
+    found = client.ask(asked)[1]
+    expect(found == wanted, asked[:100], 'is answered', found[:200], 'and not', wanted)
+
+
+def expect_large(acts, path, runs, runners):
+    for words, lines in (('show', runs), ('runners', runners)):
+        status, out, err = ran(acts, [words, path])
+        found = out.splitlines()
+        wrong = next((place for place, (one, other) in enumerate(zip(found, lines)) if one != other), min(len(found), len(lines)))
+        expect((status, err) == (0, '') and found == lines, words, 'of the large table: line', wrong + 1, 'of', len(found), found[wrong:wrong + 1], err)
+
+
+def many_runs(acts, folder):
+    """A large table is checkpointed, opened and played on."""
+    path = f'{folder}/store'
+    write(path, file(large_table(), length=TABLE_AREA, layout=2))
+    runs = [view(it) for it in range(1, RUNS + 1)]
+    runners = [f'runner {it} 1 lease {lease_of(it)} {lease_of(it)} build 0' for it in sorted(f'r{it}' for it in range(1, RUNNERS + 1))]
+    service = served.Forever(acts, path)
+    hook, runner = service.hook(), service.runner()
+    ask(hook, served.event(f'd{RUNS + 1}'), f'created {RUNS + 1}')
+    runs.append(f'run {RUNS + 1} {RUNS + 1} queued - build:open(ready)')
+    end = time.monotonic() + SECONDS
+    while generation(path, TABLE_AREA) < 2:
+        expect(time.monotonic() < end, 'a large table is not checkpointed in', SECONDS, 's')
+        time.sleep(0.1)
+    stopped(service)
+    expect_large(acts, path, runs, runners)
+    service = served.Forever(acts, path)
+    hook, runner = service.hook(), service.runner()
+    first = LEASED_FROM + RUNNERS + 1
+    ask(hook, served.event(f'd{RUNS - 1}'), f'created {RUNS - 1}')
+    ask(runner, f'CLAIM r{RUNNERS} 1 linux\n'.encode(), f'lease {first - 1} {first - 1} build 0 {{}}')
+    ask(runner, f'DONE r{RUNNERS} 2 {first - 1} success\n'.encode(), 'ok')
+    ask(hook, served.look(first - 1), served.view(first - 1, 3 * (first - 1)))
+    ask(runner, f'CLAIM r{RUNNERS} 3 linux\n'.encode(), f'lease {first} {first} build 0 {{}}')
+    stopped(service)
+    return f'{RUNS} runs and {RUNNERS} runners are checkpointed, opened and played on'
+
+
+def last_run(acts, folder):
+    """The last run of a table, and one more."""
+    path = f'{folder}/store'
+    write(path, file(table(LAST_RUN - 1, [stored(it, 'ended', it) for it in range(1, LAST_RUN)]), length=LAST_AREA, layout=2))
+    service = served.Forever(acts, path)
+    hook = served.Hook(service.hooks, SECONDS)
+    ask(hook, served.event(f'd{LAST_RUN}'), f'created {LAST_RUN}')
+    ask(hook, served.look(LAST_RUN), f'run {LAST_RUN} {LAST_RUN} queued - build:open(ready)')
+    ask(hook, served.event('d1'), 'created 1')
+    answer = hook.ask(served.event('one-more'))
+    expect(answer == (503, 'refused 48'), 'a run too many is answered', answer)
+    stopped(service)
+    return f'{LAST_RUN} runs, and then 48'
+
+
+def long_body(acts, folder):
+    """The longest body, posted and fetched on both ports."""
+    body = served.BODY[:-1] + b',"more":"'
+    body += b'e' * (BODY_BYTES - len(body) - 2) + b'"}'
+    service, _ = opened(acts, folder)
+    hook = service.hook()
+    ask(hook, served.event('d1', body), 'created 1')
+    hook.send(b'GET /runs/1/body HTTP/1.1\r\n\r\n')
+    head, found = hook.until(b'\r\n\r\n'), hook.take(BODY_BYTES)
+    expect(found == body and head.startswith(b'HTTP/1.1 200 OK\r\nContent-Type: application/json\r\n'), 'the longest body differs, after', head)
+    answer = hook.ask(served.event('d2', body + b' '))
+    expect(answer == (413, 'refused 24'), 'a body that is a byte too long is answered', answer)
+    runner = service.runner()
+    runner.send(b'FETCH 1\n')
+    expect(runner.until(b'\n') == b'body %d\n' % BODY_BYTES and runner.take(BODY_BYTES + 1) == body + b'\n', 'a runner fetches another body')
+    stopped(service)
+    return f'a body of {BODY_BYTES} bytes is posted, and fetched by a sender and a runner'
+
+
+def many_legs(acts, folder):
+    """256 jobs of 256 legs each: checked, and played."""
+    values = ','.join(map(str, range(16)))
+    jobs = ','.join(f'"j{it:03}":{{"runs-on":"x","strategy":{{"matrix":{{"a":[{values}],"b":[{values}]}}}}}}' for it in range(256))
+    combos = [f'{{"a":{a},"b":{b}}}' for a in range(16) for b in range(16)]
+    wanted = ''.join(f'j{it:03} {place} {combo}\n' for it in range(256) for place, combo in enumerate(combos))
+    found = ran(acts, ['check'], f'{{"jobs":{{{jobs}}}}}')
+    expect(found == (0, wanted, ''), '65,536 legs are checked as', len(found[1]), 'bytes', found[1][-100:], found[2])
+    script = f'admit d1 push {{"repo":"o/r","path":"ci.json","workflow":{{"jobs":{{{jobs}}}}}}}\nclaim r1 1 x\ncommit\nlook 1\n'
+    states = ' '.join(f'j{it:03}:open({",".join(["running" if it == 0 else "ready"] + ["ready"] * 255)})' for it in range(256))
+    wanted = f'created 1\nlease 1 1 j000 0 {combos[0]}\ncommitted 2\nrun 1 1 in_progress - {states}\n'
+    found = ran(acts, ['play'], script)
+    expect(found == (0, wanted, ''), '65,536 legs are played as', found[1][:100], found[1][-100:], found[2])
+    return '256 jobs of 256 legs are checked and played'
+
+
+def long_transcript(acts, folder):
+    """One seat's transcript of a whole history is compared."""
+    service, _ = opened(acts, folder, turn_over=COMMANDS)
+    left = COMMANDS
+    while left > 0:
+        runner, count = served.Runner(service.runners, SECONDS), min(SESSION_LINES, left)
+        runner.send(BEAT * count)
+        expect(runner.take(count * len(b'refused 45\n')) == b'refused 45\n' * count, 'beats of nobody are answered otherwise')
+        runner.close()
+        left -= count
+    expect(service.wait_settled(1, SECONDS), 'a history of', COMMANDS, 'commands does not settle')
+    expect(COMMANDS <= service.settled[0] < COMMANDS + 16, 'the history that settles has', service.settled[0], 'commands')
+    stopped(service)
+    return f'a transcript of {service.settled[0]} commands is compared'
+
+
+def one_after_another(acts, folder):
+    service, _ = opened(acts, folder)
+    for turn in range(2 * CONNECTIONS):
+        client, asked, wanted = (service.runner(), BEAT, 'refused 45') if turn % 2 else (service.hook(), served.look(1), 'refused 40')
+        ask(client, asked, wanted)
+        client.close()
+    stopped(service)
+    return f'{CONNECTIONS} connections to each port, one after another'
+
+
+CHECKS = many_runs, last_run, long_body, many_legs, long_transcript, one_after_another
