@@ -4,6 +4,7 @@ ACTS := crates/acts/out/acts
 FIRST := crates/first_run
 
 .PHONY: first-run test names build install example serve-example bench gate sweep hostile compared crashes-over-a-file wrong-bodies tested-bodies definitions
+.PHONY: engine
 
 # Plays the example by a trial run, and prints each line of the script with its answer. A trial interprets the program before it compiles it,
 # and the interpreter can't answer here, since the program reads its input; with `--steps 1` that costs one step instead of some seconds.
@@ -14,31 +15,38 @@ first-run:
 	@echo 'This was a trial run, which proves nothing; `make build` makes the proved program.' >&2
 
 # Proves and builds `acts` and the crates below it. During the build, a line of the source names the commit, for `acts --version`.
-COMMIT_LINE := crates/acts_cli/src/commit.rt
-COMMIT_KEPT := crates/acts_cli/commit.kept
+COMMIT_LINE := crates/command_words/src/commit.rt
+COMMIT_KEPT := crates/command_words/commit.kept
 COMMIT := $(shell git describe --always --dirty --exclude '*' 2> /dev/null)
 
 build:
 	@cp $(COMMIT_LINE) $(COMMIT_KEPT); trap 'mv $(CURDIR)/$(COMMIT_KEPT) $(CURDIR)/$(COMMIT_LINE)' EXIT; trap 'exit 130' INT TERM; \
 		$(if $(COMMIT),sed -i 's/no commit named/commit $(COMMIT)/' $(COMMIT_LINE);) cd crates/acts && rt run -- play < /dev/null
 
-# Installs the program of `make build`, a manual page made from its help texts, and the systemd unit below PREFIX, with DESTDIR before all
-# paths. `make install PREFIX=$HOME/.local` installs elsewhere, and `make install ACTS=PATH` installs another program.
+# Installs below PREFIX, with DESTDIR before all paths: the program of `make build`, a manual page made from its help texts, the runner, the bridge and the watchdog
+# in lib/acts, and their units for systemd. `make install PREFIX=$HOME/.local` installs elsewhere, `make install ACTS=PATH` another program, and UNITS=FOLDER the
+# units in another folder. It says so if systemd does not look there.
 PREFIX ?= /usr/local
+UNITS ?= $(PREFIX)/lib/systemd/system
+SYSTEMD_UNITS := /etc/systemd/system /usr/local/lib/systemd/system /usr/lib/systemd/system /lib/systemd/system
 
 install:
 	@test -x $(ACTS) || { echo 'install: make build first: there is no $(ACTS)' >&2; exit 1; }
 	install -D -m 755 $(ACTS) $(DESTDIR)$(PREFIX)/bin/acts
-	install -d $(DESTDIR)$(PREFIX)/share/man/man1 $(DESTDIR)$(PREFIX)/lib/systemd/system
+	install -d $(DESTDIR)$(PREFIX)/share/man/man1 $(DESTDIR)$(PREFIX)/share/acts $(DESTDIR)$(PREFIX)/lib/acts $(DESTDIR)$(UNITS)
 	docs/man_page $(DESTDIR)$(PREFIX)/bin/acts > $(DESTDIR)$(PREFIX)/share/man/man1/acts.1
-	sed 's,/usr/local/bin/acts,$(PREFIX)/bin/acts,g' examples/acts.service > $(DESTDIR)$(PREFIX)/lib/systemd/system/acts.service
+	install -m 755 $(filter-out examples/runner_cases_% examples/runner_trials.py,$(wildcard examples/*.py)) $(DESTDIR)$(PREFIX)/lib/acts
+	install -m 644 examples/board.html examples/board.nginx examples/runners.haproxy $(DESTDIR)$(PREFIX)/share/acts
+	for unit in examples/*.service; do sed 's,/usr/local/,$(PREFIX)/,g' $$unit > $(DESTDIR)$(UNITS)/$${unit##*/} || exit 1; done
+	@$(if $(filter $(UNITS),$(SYSTEMD_UNITS)),,echo 'systemd does not look in $(UNITS): `systemctl link $(UNITS)/acts.service` lets it find this unit')
 
 # Plays the fan-out and fan-in to its end and compares the answers.
 example: build
 	$(ACTS) play < examples/fan_out_fan_in.script | diff - examples/fan_out_fan_in.answers
 
-# All of examples/ with a trial of the program: the quick start, on free ports; both runners under restarts, cut streams, kills and cancelled
-# steps; events from GitHub's webhooks; and the board of runs. Needs bash, curl, jq, git, Python 3.9 and util-linux, and says what is missing.
+# All of examples/ with a trial of the program: the quick start, on free ports; the runner under restarts, cut streams, kills and cancelled steps;
+# events from GitHub's webhooks; the watchdog; HAProxy with certificates; what an operator does; and the board of runs. Needs bash, curl, jq, git,
+# Python 3.9 and util-linux, and says what is missing.
 # `examples/try_examples $(ACTS)` does the same with the proved program.
 serve-example:
 	examples/try_examples
@@ -49,14 +57,11 @@ names:
 	@if command -v python3 > /dev/null; then docs/check_names; else echo 'names: python3 is not here, so the names in docs/ were not checked'; fi
 
 # The merge gate: the names in docs/; every proof, except what an earlier run on this machine has passed; the must-fail edits, the tests and
-# the stored runs; and then the quick start, with the proved program. By default `rt ci` reserves memory for a check by the length of its crate,
-# more than it needs, so processors wait. LANES gives each processor a check, as far as there are 5 GB for each. CRATES="NAME .." checks
-# only these crates and those below them.
-LANES ?= $(shell awk -v most="$$(nproc)" '/^MemAvailable/ { held = int($$2 / 5000000); print held < 1 ? 1 : held < most ? held : most }' /proc/meminfo)
-
+# the stored runs; and then, with the proved program, the quick start and its checks from outside (`sweeps/program`). It says at its start about
+# how long it takes, and at its end what took longest. LANES=N checks so many crates at a time, by default as many as there are processors and
+# 5 GB of memory for each. CRATES="NAME .." checks only these crates and those below them.
 test: names
-	RT_JOBS=$(LANES) rt ci $(CRATES)
-	$(if $(CRATES),,examples/serve_example $$(test ! -x $(ACTS) || echo $(ACTS)))
+	LANES='$(LANES)' bench/prove $(CRATES)
 
 # Commands per second over growing tables.
 bench: build
@@ -71,6 +76,13 @@ sweep: build
 hostile: build
 	sweeps/all $(ACTS)
 
+# Failovers of two machines over CephFS, RBD and GlusterFS, with the scripts of examples/two_machines. It installs packages of Debian, and says which
+# and how much, so it is part of nothing else. Needs root, 4 GB of disk and 1 GB of memory.
+# `sweeps/engine/run PROGRAM` does the same with a program that is built already.
+engine: build
+	sweeps/engine/packages
+	sweeps/engine/run $(ACTS)
+
 # Scripts, workflows and sessions by the proved program and by the plain model, compared byte by byte.
 compared: build
 	sweeps/all $(ACTS) compared
@@ -80,7 +92,7 @@ crashes-over-a-file:
 	sweeps/crashes/file.sh
 	sweeps/crashes/killed.sh
 
-# The wrong bodies beyond those of the gate: of all crates, of CRATE, or a single one with CRATE=NAME/EDIT.
+# The wrong bodies, those of the gate and the others: of all crates, of CRATE, or a single one with CRATE=NAME/EDIT.
 wrong-bodies:
 	sweeps/edits/run wrong_bodies $(CRATE)
 
