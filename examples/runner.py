@@ -1,150 +1,274 @@
 #!/usr/bin/env python3
 """A runner for `acts serve`, on Linux, with the standard library only. docs/RUNNERS.md says why it works as it does."""
-import argparse, contextlib, glob, json, os, re, shutil, signal, socket, subprocess, sys, time
+import argparse
+import hashlib
+import os
+import re
+import signal
+import sys
+import time
+import runner_job
+from runner_leg import Leg, be_leg
+from runner_lines import Port, look, tls_of
+from runner_state import State, Unusable, lock, present
 
-SHELLS = {None: ['bash', '-ec'], 'bash': ['bash', '--noprofile', '--norc', '-eo', 'pipefail', '-c'], 'sh': ['sh', '-ec']}
+SECONDS_OF_CANCEL = 330  # for the steps that run after a cancel, which have five minutes, and for the end of what they leave
 
-def keep(path, text):
-    """Writes a file of this folder, which is there whole or not at all, also after a crash of the machine."""
-    with open(path + '.new', 'w') as file:
-        print(text, file=file)
-    subprocess.run(['sync', file.name], check=True)
-    os.rename(file.name, path)
-    subprocess.run(['sync', '.'], check=True)
-
-def read(path): # the empty text if there is none
-    with contextlib.suppress(OSError), open(path, errors='replace') as file:
-        return file.read()
-    return ''
-
-def group_of(process): # None for one that has ended, zombies included
-    state, _, group = (read(f'/proc/{process}/stat').rpartition(') ')[2].split() or 'Z--')[:3]
-    return None if state in 'ZX' else group
-
-def end(group):
-    """Ends what is left of a process group by TERM, and after ten seconds by KILL, and waits until nothing is left."""
-    began, signals = time.monotonic(), [signal.SIGKILL, signal.SIGTERM]
-    while group and any(group_of(path[6:]) == group for path in glob.glob('/proc/[0-9]*')):
-        if len(signals) == 2 or signals and time.monotonic() > began + 10:
-            with contextlib.suppress(ProcessLookupError):
-                os.killpg(int(group), signals.pop())
-        time.sleep(0.05)
-
-def clear(group=None): # forgets a leg: first how the steps ended, then that they began
-    end(group)
-    for path in glob.glob('status') + glob.glob('begun'):
-        os.remove(path)
-
-def variables(values, prefix=''):
-    """The members of an object, other than lists and objects, as variables for a step."""
-    texts = {name: value if isinstance(value, str) else json.dumps(value) for name, value in values.items() if not isinstance(value, (dict, list))}
-    return {prefix + re.sub(r'\W', '_', name).upper(): value for name, value in texts.items()} if prefix else texts
-
-def run_steps(run, name, combo, body):
-    """Runs the steps of a job one by one, each in the folder `work` or below it, and says whether the job succeeded."""
-    workflow, job, work, good = body['workflow'], body['workflow']['jobs'][name], os.path.abspath('work'), True
-    github = {'actions': True, 'repository': body['repo'], 'workflow': workflow.get('name', body['path']), 'run_id': run, 'job': name, 'workspace': work}
-    given = {'CI': 'true', 'COMBO': combo} | variables(json.loads(combo), 'MATRIX_') | variables(body.get('github', {}) | github, 'GITHUB_')
-    for step in job.get('steps', []):
-        settings = workflow.get('defaults', {}).get('run', {}) | job.get('defaults', {}).get('run', {}) | step
-        texts = [settings.get(name) for name in ('run', 'env', 'working-directory')] + [job.get('env'), workflow.get('env')]
-        if 'run' not in step or settings.get('shell') not in SHELLS or '${{' in json.dumps(texts):
-            sys.exit(f'not run, since it is no text for bash or sh, or has expressions: {step}')
-        due = {'success()': good, 'true': good, 'failure()': not good, 'always()': True, '!cancelled()': True, 'cancelled()': False, 'false': False}
-        if due[str(step.get('if', 'true')).lower().strip('${} ')]:
-            env = os.environ | given | variables(workflow.get('env', {})) | variables(job.get('env', {})) | variables(step.get('env', {}))
-            place, words = os.path.join(work, settings.get('working-directory', '')), [*SHELLS[settings.get('shell')], step['run']]
-            good &= subprocess.call(words, cwd=place, env=env, stdin=subprocess.DEVNULL) == 0 or step.get('continue-on-error') is True
-    return good
-
-def be_leg():
-    """Runs the steps of the leg in this folder, and notes there that they began, and how they ended."""
-    lease, run, job, _, combo, body = json.loads(read('leg'))
-    keep('begun', f'{os.getpid()} {lease}')
-    shutil.rmtree('work', ignore_errors=True)
-    os.mkdir('work')
-    keep('status', 'success' if run_steps(run, job, combo, body) else 'failure')
 
 class Runner:
-    place, kept, forgotten = '', True, False
+    def __init__(self, options, port):
+        self.options, self.port, self.signals, self.body, self.standing = options, port, 0, None, None
+        self.state = State(options.name, options.labels, options.exact_name, options.take_over)
+        options.full_name = self.state.name
+        self.tell(f'known to the service as {self.state.name}')
+        if options.exact_name:
+            self.tell('its name is used as it is (--exact-name): no other host may use it')
+        self.place = ''
+        signal.signal(signal.SIGTERM, self.drain)
 
-    def ask(self, line):
-        """The answer to a line, and the body after that of FETCH. Sends the line until it is answered, each time over a stream of its own."""
+    def tell(self, words):
+        print(f'{self.options.name}: {words}', file=sys.stderr, flush=True)
+
+    def drain(self, *_):
+        """The first SIGTERM lets it finish its leg, the second one ends it. Steps that run go on until its next life."""
+        self.signals += 1
+        if self.signals > 1:
+            os._exit(128 + signal.SIGTERM)
+        self.tell('ends when its leg has ended')
+
+    def run(self):
+        if self.state.last is None and not self.state.line:
+            self.learn_number()
         while True:
-            with contextlib.suppress(OSError), socket.create_connection(('127.0.0.1', self.port), timeout=60) as stream, stream.makefile('rb') as file:
-                stream.sendall(line.encode() + b'\n')
-                answer = file.readline().decode()
-                length = int(answer[5:]) + 1 if answer.startswith('body ') else 0
-                body = file.read(length)
-                if answer.endswith('\n') and len(body) == length and not re.match('refused (4[678]|5.|60)\n', answer):
-                    return answer[:-1], body
-            time.sleep(1)
+            if self.state.leg:
+                self.finish(self.state.leg)
+            elif self.signals or not self.claim():
+                return
 
-    def work(self, lease, run, job, leg, combo):
-        """Starts the steps of a leg in a process group of their own, or takes up those that run. Gives how they ended, or None if the lease was taken."""
-        self.place, token, beat = f'run {run} {job} {leg}', f'ACTS_LEG={os.getcwd()} ', f'BEAT {self.name} {lease}'
-        lock = open('starting', 'w') # held by the process of the steps to its end: that of an earlier life may not have begun yet
-        while not read('begun').endswith(f' {lease}\n') and subprocess.call(['flock', '-n', str(lock.fileno())], pass_fds=[lock.fileno()]):
-            time.sleep(0.02)
-        group, begun = read('begun').split() or (None, None)
-        if group and not any(token + begun in read(path).split('\0') for path in glob.glob('/proc/[0-9]*/environ')):
-            group = None # all of it has ended, and the number may have been reused
-        if begun not in (None, lease):
-            clear(group)
-        answer, asked = self.ask(beat)[0], time.monotonic()
-        if answer == 'go on' and begun != lease and not self.forgotten:
-            keep('leg', json.dumps([lease, run, job, leg, combo, json.loads(self.ask(f'FETCH {run}')[1])]))
-            child = subprocess.Popen(['env', token + lease, sys.executable, __file__, '--leg'], start_new_session=True, pass_fds=[lock.fileno()])
-            while child.poll() is None and not read('begun'):
-                time.sleep(0.02)
-            group = (read('begun').split() or [None])[0]
-        while answer == 'go on' and group and group_of(group) and not read('status'):
+    def learn_number(self):
+        """Asks out of turn: the answer has the number of the last command of this name."""
+        answer = self.port.settle(lambda session: session.ask(self.state.claim(999999999)), lambda: self.signals)
+        if answer is None:
+            return
+        last = re.fullmatch('refused 43 ([0-9]+)', answer)
+        if not last:
+            raise Unusable(f'{answer} to its first claim')
+        if last[1] != '0' and not self.state.take_over:
+            raise Unusable(f'its folder is empty, and the service knows {self.state.name} at number {last[1]}: if nothing else uses the name, add --take-over')
+        self.state.keep(last=int(last[1]), most=int(last[1]))
+
+    def claim(self):
+        """Claims a leg and notes it. Gives whether to go on."""
+        old, self.state.old = self.state.old, False
+        line = self.state.line or self.state.next_claim()
+        number = int(line.split()[2])
+        answer, *held = self.port.settle(lambda session: self.claimed(session, line), lambda: self.signals) or [None]
+        words = (answer or '').split(' ', 5)
+        if words[0] == 'lease':
+            self.note(line, words, *held)
+        elif words[0] == 'nothing':
+            self.state.answered(number)
+            return old or self.rest()  # an old answer is no reason for a pause
+        elif answer == 'refused 42':
+            return self.recover()
+        elif words[:2] == ['refused', '43']:
+            self.turn(number, int(words[2]))
+        else:
+            return answer is not None and self.fail(f'{answer} to {line}')
+        return True
+
+    def claimed(self, session, line):
+        """The answer to a claim, and with a lease how it stands and the body of its run, all over one stream."""
+        answer = session.ask(line)
+        if not answer.startswith('lease '):
+            return [answer]
+        _, lease, run, *_ = answer.split(' ')
+        return [answer, session.ask(f'BEAT {self.state.name} {lease}'), session.fetch(run)]
+
+    def note(self, claim, words, standing, body):
+        number, when = int(claim.split()[2]), self.state.present
+        leg = dict(zip(('lease', 'run', 'job', 'leg', 'combo'), words[1:]), claim=claim, present=when, body=hashlib.sha256(body or b'').hexdigest())
+        self.state.answered(number)
+        try:
+            self.state.keep(leg=leg, result=None if when == present() and body else 'failure')
+        except OSError as fault:  # not begun, since nobody would know of it later
+            answer = self.port.settle(lambda session: session.ask(f'DONE {self.state.name} {number + 1} {leg["lease"]} failure'))
+            self.fail(f'run {leg["run"]} {leg["job"]} {leg["leg"]} failure: {answer}, since its state can\'t be kept: {fault}')
+        self.standing, self.body = standing, body
+
+    def rest(self):
+        if self.options.once:
+            print(f'{self.options.name}: nothing', flush=True)
+            return False
+        late = time.monotonic() + self.options.pause
+        while time.monotonic() < late and not self.signals:
+            time.sleep(min(0.1, self.options.pause))
+        return True
+
+    def fail(self, words):
+        raise Unusable(words)
+
+    def turn(self, number, last):
+        """Takes up another number. It is this runner's own if the service has an answer to a claim of its."""
+        claims = self.state.claims_at(last) if last > self.state.most else []
+        answers = self.port.settle(lambda session: [session.ask(claim) for claim in claims])
+        self.state.turn(number, last, any(not answer.startswith('refused') for answer in answers))
+
+    def recover(self):
+        """The service has a lease of this runner that its folder does not: that of its last number, which is the answer to that claim. Nobody knows
+        how far its steps came, so it has failed."""
+        Leg('').end()
+        last = self.state.last
+        for claim in self.state.claims_at(last):
+            words = (self.port.settle(lambda session: session.ask(claim)) or '').split(' ', 5)
+            if words[0] == 'lease':
+                leg = dict(zip(('lease', 'run', 'job', 'leg', 'combo'), words[1:]), claim=claim, present=None, body=None)
+                self.state.keep(line=None, leg=leg, result='failure')
+                return True
+        self.state.keep(line=None)
+        return self.fail(f'{self.state.name} has a lease of which its folder knows nothing: once nothing of it runs, report it lost '
+                         f'(POST /runners/{self.state.name}/lost)')
+
+    def finish(self, leg):
+        """Runs the steps of a leg, or takes up those that run, and reports how they ended."""
+        self.place = f'run {leg["run"]} {leg["job"]} {leg["leg"]}'
+        process = Leg(leg['claim'])
+        result = self.state.result or self.work(leg, process)
+        process.end()
+        runner_job.clear(self.options)
+        if result:
+            number = self.state.last + 1
+            self.state.keep(result=result, reported=max(number, self.state.reported), line=f'DONE {self.state.name} {number} {leg["lease"]} {result}')
+            self.report(leg, result)
+        else:
+            self.state.keep(leg=None, result=None)
+
+    def confirm(self, session, leg):
+        """Whether the service has this leg as it was noted: the lease, the claim that it answers, and the body. All of it over one stream, since the
+        service's file may have been restored meanwhile, and then the same numbers may stand for something else."""
+        standing = session.ask(f'BEAT {self.state.name} {leg["lease"]}')
+        if standing.startswith('refused') or leg['body'] is None:
+            return standing, None
+        answer = session.ask(leg['claim'])
+        body = session.fetch(leg['run'])
+        same = answer == ' '.join(['lease', *(leg[name] for name in ('lease', 'run', 'job', 'leg', 'combo'))])
+        return standing if same and hashlib.sha256(body or b'').hexdigest() == leg['body'] else 'another', body
+
+    def work(self, leg, process):
+        """How the steps of a leg ended; None if there is nothing to report."""
+        standing, body = self.standing, self.body
+        self.standing = self.body = None
+        if not standing:
+            standing, body = self.port.settle(lambda session: self.confirm(session, leg))
+        child = None
+        if process.may_begin() and standing == 'go on' and leg['present'] == present():
+            seen = look(self.options.look, leg['run']) if self.options.look else {}
+            child = process.begin({'leg': leg, 'body': body.decode(), 'options': vars(self.options), 'seen': seen})
+        standing = self.watch(leg, process, standing)
+        process.end()
+        if child:
+            child.wait()
+        if standing.startswith('refused') or standing == 'another':
+            return None
+        return process.notes().get('result') or ('cancelled' if standing == 'stop' and not process.notes() else 'failure')
+
+    def watch(self, leg, process, standing):
+        """Beats while the steps run, and passes on a cancel. Gives the last answer to a beat."""
+        asked, late = time.monotonic(), None
+        while standing in ('go on', 'stop') and 'result' not in process.notes() and process.is_alive() and (not late or time.monotonic() < late):
+            if standing == 'stop' and not late:
+                process.cancel()
+                late = time.monotonic() + SECONDS_OF_CANCEL
             time.sleep(0.05)
-            if time.monotonic() >= asked + self.beat:
-                answer, asked = self.ask(beat)[0], time.monotonic()
-        end(group)
-        self.forgotten, result = False, read('status').strip() or 'failure'
-        return None if answer.startswith('refused') else 'cancelled' if answer == 'stop' and result == 'failure' else result
+            if time.monotonic() >= asked + self.options.beat:
+                standing, asked = self.port.settle(lambda session: session.ask(f'BEAT {self.state.name} {leg["lease"]}')), time.monotonic()
+        return standing
 
-    def go_on(self, line):
-        """Keeps a numbered line and sends it. Gives the line to send next, or None if there is nothing to do."""
-        keep('words', line)
-        kept, self.kept = self.kept, False
-        answer, last, claim = self.ask(line)[0].split(' ', 5), int(line.split()[2]), f'CLAIM {self.name} %d {self.labels}'
-        if answer[0] == 'lease':
-            result = self.work(*answer[1:])
-            return f'DONE {self.name} {last + 1} {answer[1]} {result}' if result else claim % (last + 1)
-        if answer[0] == 'ok':
-            print(f'{self.name}: {self.place or "lease " + line.split()[3]} {line.split()[4]}: ok', flush=True)
-            clear()
-        elif answer[0] == 'nothing' and not kept: # may be an old answer, so ask again at once
-            if self.once:
-                return print(f'{self.name}: nothing')
-            time.sleep(self.pause)
-        elif answer[1:] in (['42'], ['44']): # 42: a forgotten lease, which its claim gets again
-            self.forgotten = answer[1] == '42'
-            last -= 2 if self.forgotten else 1
-        elif answer[0] == 'refused':
-            last = int(answer[2]) if answer[1] == '43' and answer[2] != str(last) else sys.exit(f'{self.name}: {" ".join(answer)} to {line}')
-        return claim % (last + 1)
+    def report(self, leg, result):
+        """Sends DONE until it is answered. If the lease is held, DONE is new to the service, and a success is reported of nothing but the leg that
+        was noted."""
+        number = self.state.last + 1
+        standing, answer = self.port.settle(lambda session: self.reported(session, leg))
+        if standing == 'another':
+            self.state.keep(line=None, leg=None, result=None)
+        elif answer == 'ok':
+            self.state.answered(number)
+            self.state.keep(leg=None, result=None)
+            print(f'{self.options.name}: {self.place} {result}: ok', flush=True)
+        elif answer.startswith('refused 43 '):
+            self.turn(number, int(answer.split()[2]))
+        elif answer == 'refused 44':
+            self.state.keep(line=None, leg=None, result=None)
+        else:
+            self.fail(f'{answer} to {self.state.line}')
 
-def main():
+    def reported(self, session, leg):
+        standing, _ = self.confirm(session, leg)
+        return standing, None if standing == 'another' else session.ask(self.state.line)
+
+
+def arguments():
     parser = argparse.ArgumentParser(description=__doc__)
-    parser.add_argument('port', type=int, help='the runner port of `acts serve`')
-    parser.add_argument('name', help='the name of this runner')
-    parser.add_argument('labels', help='its labels, joined by commas')
+    parser.add_argument('port', type=int, nargs='?', help='the runner port of `acts serve` on this machine')
+    parser.add_argument('name', help='the name of this runner; the service knows it as NAME and a suffix of its own')
+    parser.add_argument('labels', help='its labels, joined by commas, 15 at most')
     parser.add_argument('--once', action='store_true', help='end when there is nothing to do')
     parser.add_argument('--pause', type=float, default=5, help='seconds until it asks again when there is nothing to do (5)')
     parser.add_argument('--beat', type=float, default=20, help='seconds between two beats (20)')
     parser.add_argument('--state', default=os.path.expanduser('~/.local/state/acts'), help='the folder below which its folder NAME keeps its state')
-    runner = parser.parse_args(namespace=Runner())
-    os.makedirs(os.path.join(runner.state, runner.name), exist_ok=True)
-    os.chdir(os.path.join(runner.state, runner.name))
-    lock = open('lock', 'w')
-    if subprocess.call(['flock', '-w', '5', str(lock.fileno())], pass_fds=[lock.fileno()]):
-        sys.exit(f'{runner.name}: it runs already')
-    line = read('words').strip() or f'CLAIM {runner.name} 999999999 {runner.labels}' # out of turn: the answer has the last number
-    while line:
-        line = runner.go_on(line)
+    parser.add_argument('--exact-name', action='store_true', help='use NAME without a suffix: no other host may use it')
+    parser.add_argument('--take-over', action='store_true', help='go on under a name that the service knows from before, which nothing else uses')
+    parser.add_argument('--work', help='a folder, of another file system if you can, below which a folder of its own has what steps write (that of the state)')
+    parser.add_argument('--logs', help='the folder for a log of each leg (logs, beside the state)')
+    parser.add_argument('--log-bytes', type=int, default=1 << 26, help='bytes of a log; what follows is left out (67108864)')
+    parser.add_argument('--logs-kept', type=int, default=1000, help='how many logs there are at most; the oldest ones are removed (1000)')
+    parser.add_argument('--mirrors', metavar='PLACE', help='where actions/checkout finds OWNER/NAME.git: a folder, or what a URL begins with')
+    parser.add_argument('--actions', metavar='FOLDER', help='a folder with a repository OWNER/NAME.git for each action that steps use')
+    parser.add_argument('--artifacts', metavar='FOLDER', help='the folder for artifacts, which all runners of a repository see')
+    parser.add_argument('--secrets', metavar='FILE', help='a file with a JSON object of secrets, for its owner alone')
+    parser.add_argument('--environment', metavar='NAME', action='append', default=[], help='an environment whose jobs need no approval')
+    parser.add_argument('--look', metavar='HOST:PORT', help='the hook port, or what passes on its GET /runs/N: for number and attempt of a run')
+    parser.add_argument('--act', action='store_true', help='let act (nektos/act) run the legs')
+    parser.add_argument('--act-option', metavar='WORD', action='append', default=[], help='a word more for act, as --act-option=--pull=false')
+    parser.add_argument('--connect', metavar='HOST:PORT', help='in place of the port: speak TLS to this one')
+    parser.add_argument('--ca', help="a file with the certificates of who signs the service's (those of the system)")
+    parser.add_argument('--certificate', help="a file with this runner's certificate")
+    parser.add_argument('--key', help='a file with the key of this certificate, if it is not in the same file')
+    return parser
 
-be_leg() if sys.argv[1:] == ['--leg'] else main()
+
+def options_of(words):
+    parser = arguments()
+    options = parser.parse_args(words)
+    if (options.port is None) == (options.connect is None):
+        parser.error('either the port, or --connect HOST:PORT')
+    if not re.fullmatch('[A-Za-z0-9_.-]{1,51}', options.name):
+        parser.error('a name has 1 to 51 letters, digits, _, - and .')
+    if not re.fullmatch('[!-+.-~-]{1,64}(,[!-+.-~-]{1,64}){0,14}', options.labels):
+        parser.error('1 to 15 labels, each of 1 to 64 characters without spaces')
+    for name in ('state', 'work', 'logs', 'actions', 'artifacts', 'secrets'):
+        setattr(options, name, getattr(options, name) and os.path.abspath(getattr(options, name)))
+    if options.mirrors and os.path.isdir(options.mirrors):
+        options.mirrors = os.path.abspath(options.mirrors)
+    return options
+
+
+def main():
+    options = options_of(sys.argv[1:])
+    host, _, port = (options.connect or f'127.0.0.1:{options.port}').rpartition(':')
+    folder = os.path.join(options.state, options.name)
+    os.makedirs(folder, exist_ok=True)
+    sys.argv[0] = os.path.abspath(sys.argv[0])
+    tls = tls_of(options.ca, options.certificate, options.key) if options.connect else None
+    os.chdir(folder)
+    held = lock('lock', seconds=5)
+    if not held:
+        sys.exit(f'{options.name}: it runs already')
+    try:
+        Runner(options, Port(host.strip('[]'), int(port), tls, lambda words: print(f'{options.name}: {words}', file=sys.stderr, flush=True))).run()
+    except Unusable as why:
+        sys.exit(f'{options.name}: {why}')
+
+
+if __name__ == '__main__':
+    be_leg(runner_job.run) if sys.argv[1:] == ['--leg'] else main()
