@@ -8,6 +8,7 @@ class Rest(str):
 class Each(list):
     """The values that `.*` gives."""
 
+PIECE = re.compile(r"\$\{\{((?:'[^']*'|[^'])*?)\}\}", re.S)
 TOKEN = re.compile(r"\s*('(?:[^']|'')*'|-?(?:0x[0-9A-Fa-f]+|0o[0-7]+|\d+(?:\.\d+)?(?:[eE][-+]?\d+)?)(?!\w)|[A-Za-z_][\w-]*|&&|\|\||[=!<>]=|[][!<>().,*])")
 LEVELS = ('||',), ('&&',), ('==', '!='), ('<', '<=', '>', '>=')
 NUMBER = re.compile(r'-?(?:0x[0-9A-Fa-f]+|0o[0-7]+|\d+(?:\.\d+)?(?:[eE][-+]?\d+)?)')
@@ -23,9 +24,13 @@ def number(value):
 
 
 def text_of(value):
+    """The text as which GitHub prints a value: a number with 15 digits at most, a list or an object by its kind alone."""
     if isinstance(value, (list, dict)):
         return 'Array' if isinstance(value, list) else 'Object'
-    return '' if value is None else str(value).lower() if isinstance(value, bool) else f'{value:.15g}' if isinstance(value, float) else str(value)
+    if isinstance(value, (int, float)) and not isinstance(value, bool):
+        digits = f'{value:.15g}' if value != value or abs(value) < 1 << 1023 else 'inf' if value > 0 else '-inf'
+        return {'inf': 'Infinity', '-inf': '-Infinity', 'nan': 'NaN'}.get(digits, digits.replace('e', 'E'))
+    return '' if value is None else str(value).lower() if isinstance(value, bool) else str(value)
 
 
 def truth(value):

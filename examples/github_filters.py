@@ -1,5 +1,6 @@
 """Which workflows an event starts: the filters of `on`, by GitHub's patterns of branches, tags and paths."""
 import functools, re
+from github_expressions import number, text_of
 
 GLOB = re.compile(r'(?<![^/])\*\*/|\*\*|\*|\?|\+|\[[A-Za-z0-9-]+\]|\\?.', re.S)
 GLOBS = {'**/': '(?:.*/)?', '**': '.*', '*': '[^/]*'}
@@ -76,21 +77,26 @@ def not_wanted(on, event, action, kind, name, changed):
     return None
 
 
-def inputs_of(on, given):
-    """The inputs of a `workflow_dispatch`, with their defaults, each with its type."""
-    inputs = {}
-    for name, form in (triggers_of(on)['workflow_dispatch'].get('inputs') or {}).items():
-        form = form or {}
-        value = given.get(name) if given.get(name) is not None else form.get('default')
-        kind = form.get('type', 'string')
-        if value in (None, '') and form.get('required'):
-            raise ValueError(f'the input {name} is required')
-        if kind == 'choice' and value is not None and value not in form.get('options', []):
-            raise ValueError(f'the input {name} has no option {value}')
-        if kind == 'boolean':
-            inputs[name] = str(value).lower() == 'true'
-        elif kind == 'number' and re.fullmatch('-?[0-9]+', str(value)):
-            inputs[name] = int(value)
-        else:
-            inputs[name] = '' if value is None else str(value)
-    return inputs
+def inputs_of(forms, given):
+    """The inputs of a workflow with their defaults, each with its type."""
+    return {name: input_of(name, form or {}, given.get(name)) for name, form in (forms or {}).items()}
+
+
+def input_of(name, form, given):
+    value, kind = given if given is not None else form.get('default'), form.get('type', 'string')
+    if value in (None, '') and form.get('required'):
+        raise ValueError(f'the input {name} is required')
+    if kind == 'choice' and value is not None and text_of(value) not in map(text_of, form.get('options', [])):
+        raise ValueError(f'the input {name} has no option {text_of(value)}')
+    if kind == 'boolean':
+        return text_of(value).lower() == 'true'
+    if kind == 'number' and value not in (None, ''):
+        return number_of(name, text_of(value))
+    return text_of(value)
+
+
+def number_of(name, text):
+    value = number(text)
+    if not abs(value) < float('inf'):
+        raise ValueError(f'the input {name} is no number: {text}')
+    return int(value) if value == int(value) else value

@@ -1,27 +1,46 @@
 """What a local mirror of a repository says of an event: the commit, its workflows, and the files that changed."""
-import os, subprocess, sys
+import contextlib, os, signal, subprocess, sys
 
 EMPTY_TREE = '4b825dc642cb6eb9a060e54bf8d69288fbee4904'
+LONGEST = 60  # seconds of a command of git that asks no other machine
 
 
 class NoCommit(Exception):
     """The mirror does not have this commit, or not yet."""
 
 
-class Mirror:
-    """A bare clone of a repository. If it has a remote, it is fetched for each delivery."""
+def ended(process):
+    """Ends a command with all that it has started: by TERM, so that git removes its locks, and after five seconds by KILL."""
+    for number in signal.SIGTERM, signal.SIGKILL:
+        with contextlib.suppress(ProcessLookupError):
+            os.killpg(process.pid, number)
+        with contextlib.suppress(subprocess.TimeoutExpired):
+            return process.communicate(timeout=5)
 
-    def __init__(self, folder):
-        self.folder = folder
+
+class Mirror:
+    """A bare clone of a repository. If it has a remote, it is fetched for each delivery, for so many seconds at most. `is_fetched` says whether that succeeded."""
+
+    def __init__(self, folder, seconds):
+        self.folder, self.is_fetched = folder, True
         if self.git('remote'):
             try:
-                self.git('fetch', '--quiet', '--prune', 'origin')
+                self.git('fetch', '--quiet', '--prune', 'origin', seconds=seconds)
             except subprocess.SubprocessError as fault:
+                self.is_fetched = False
                 print(f'github_events: {folder}: no fetch:', getattr(fault, 'stderr', b'') or fault, file=sys.stderr, flush=True)
 
-    def git(self, *words):
-        done = subprocess.run(['git', '-C', self.folder, *words], capture_output=True, check=True, timeout=300, env={**os.environ, 'GIT_TERMINAL_PROMPT': '0'})
-        return done.stdout.decode(errors='replace')
+    def git(self, *words, seconds=LONGEST):
+        process = subprocess.Popen(['git', '-C', self.folder, *words], stdout=subprocess.PIPE, stderr=subprocess.PIPE, start_new_session=True,
+                                   env={**os.environ, 'GIT_TERMINAL_PROMPT': '0'})
+        try:
+            output, errors = process.communicate(timeout=seconds)
+        except subprocess.TimeoutExpired:
+            ended(process)
+            raise
+        if process.returncode:
+            raise subprocess.CalledProcessError(process.returncode, process.args, output, errors)
+        return output.decode(errors='replace')
 
     def ask(self, *words):
         """The answer without its line feed; None if git fails."""
@@ -59,8 +78,11 @@ class Occasion:
             self.commit = merge[0] if self.head in merge[2:] else self.head  # with another second parent, the merge is of an earlier push
         else:
             ref = payload['ref'] if payload['ref'].startswith('refs/') else 'refs/heads/' + payload['ref']
+            if event == 'workflow_dispatch' and not mirror.is_fetched:
+                raise NoCommit(f'{mirror.folder} was not fetched, so {ref} may be another commit by now')
             self.kind, self.name = 'tags' if ref.startswith('refs/tags/') else 'branches', ref.split('/', 2)[2]
             self.head = self.commit = mirror.commit(payload['after'] if event == 'push' else ref)
+        self.read = lambda path: mirror.ask('show', f'{self.commit}:{path}')
         self.github = {'ref': ref, 'ref_name': ref.split('/', 2)[2], 'ref_type': 'tag' if self.kind == 'tags' else 'branch', 'sha': self.commit,
                        'base_ref': base_ref, 'head_ref': head_ref}
 

@@ -1,6 +1,7 @@
 """A workflow of a repository as the service takes it: YAML as JSON, with constants in place of what the sender of the event knows."""
 import json, re, subprocess
-from github_expressions import Rest, condition, evaluate, text_of
+import github_calls
+from github_expressions import PIECE, Rest, condition, evaluate, text_of, truth
 try:
     import yaml
 except ImportError:
@@ -8,7 +9,6 @@ except ImportError:
 
 LONGEST = 1 << 20  # characters of a workflow as JSON
 
-PIECE = re.compile(r"\$\{\{((?:'[^']*'|[^'])*?)\}\}", re.S)
 NAME = '[A-Za-z_][A-Za-z0-9_-]*'
 OPERAND = rf"(?:'(?:[^']|'')*'|(?:github|inputs|vars|strategy|matrix)(?: *\. *{NAME})+|needs *\. *{NAME} *\. *result)"
 PROFILE = re.compile(rf' *{OPERAND}(?: *\|\| *{OPERAND})* *')  # what the service accepts between the braces
@@ -49,14 +49,41 @@ def quoted(value):
         return {name: quoted(item) for name, item in value.items()}
     if isinstance(value, list):
         return [quoted(item) for item in value]
-    return "${{ '" + value.replace("'", "''") + "' }}" if isinstance(value, str) and set(value) & set('${') else value
+    return "${{ " + literal(value) + " }}" if isinstance(value, str) and set(value) & set('${') else value
+
+
+def literal(text):
+    return "'" + text.replace("'", "''") + "'"
+
+
+def without_fractions(value):
+    """The value with each fraction as the text that GitHub prints, since a matrix of the service has whole numbers alone."""
+    if isinstance(value, dict):
+        return {name: without_fractions(item) for name, item in value.items()}
+    if isinstance(value, list):
+        return [without_fractions(item) for item in value]
+    if not isinstance(value, float):
+        return value
+    return int(value) if value.is_integer() and abs(value) < 1e15 else text_of(value)
 
 
 class Known:
-    """Replaces with constants what the contexts give. `notes` lists what the service does not take: refusal, place and text."""
+    """Replaces with constants what the contexts give. `notes` lists what the service does not take: refusal, place and text. `free` names, in small letters,
+    the environments that jobs may use, or is None if all may; `read_file` gives the text of a file of the repository. What must not be sent is a `ValueError`."""
 
-    def __init__(self, contexts):
-        self.contexts, self.notes = contexts, []
+    def __init__(self, contexts, free=None, read_file=None, depth=0):
+        self.contexts, self.free, self.read_file, self.depth, self.notes = contexts, free, read_file, depth, []
+
+    def within(self, inputs):
+        """What is known in a workflow that is called with these inputs."""
+        return Known({**self.contexts, 'inputs': inputs}, self.free, self.read_file, self.depth + 1)
+
+    def called(self, path):
+        """The workflow in a file of the repository."""
+        text = self.read_file(path) if self.read_file else None
+        if text is None:
+            raise ValueError(f'{path}: there is no such file')
+        return read(text)
 
     def workflow(self, workflow):
         workflow = dict(workflow)
@@ -64,20 +91,41 @@ class Known:
             workflow['concurrency'] = self.template(workflow['concurrency'], 'concurrency')
         if isinstance(workflow.get('jobs'), dict):
             workflow['jobs'] = {name: self.job(job, f'jobs.{name}') if isinstance(job, dict) else job for name, job in workflow['jobs'].items()}
+            workflow = github_calls.in_place(workflow, self)
         return workflow
 
     def job(self, job, place):
         job = dict(job)
-        for member in {'runs-on', 'concurrency', 'continue-on-error', 'strategy'} & job.keys():
-            job[member] = self.template(job[member], f'{place}.{member}')
+        for member in ('runs-on', 'concurrency', 'continue-on-error', 'strategy'):
+            if member in job:
+                job[member] = self.template(job[member], f'{place}.{member}')
         if isinstance(job.get('if'), str):
             job['if'] = self.condition(job['if'], f'{place}.if')
-        if 'uses' in job or isinstance(job.get('runs-on'), dict):
+        if 'environment' in job and self.free is not None:
+            self.environment(job, f'{place}.environment')
+        if 'uses' in job and not github_calls.path_of(job) or isinstance(job.get('runs-on'), dict):
             member = 'uses' if 'uses' in job else 'runs-on'
             self.notes.append((16, f'{place}.{member}', job[member]))
         if isinstance(job.get('strategy'), dict):
-            self.strategy(job['strategy'], f'{place}.strategy')
+            job['strategy'] = self.strategy(job['strategy'], f'{place}.strategy')
         return job
+
+    def environment(self, job, place):
+        """Leaves out an environment that the operator has named as free. For others nothing here asks reviewers, waits, or has secrets."""
+        value = job.pop('environment')
+        name = self.value(value.get('name') if isinstance(value, dict) else value)
+        if job.get('if') is not False and (isinstance(name, Rest) or text_of(name) and text_of(name).lower() not in self.free):
+            raise ValueError(f'{place}: {json.dumps(value) if isinstance(name, Rest) else name} is not named as free')
+
+    def value(self, value):
+        """A text with its expressions evaluated, or `Rest` if one is not known here; another value as it is."""
+        if not isinstance(value, str) or '${{' not in value:
+            return value
+        whole = PIECE.match(value)
+        if whole and whole.end() == len(value):
+            return evaluate(whole[1], self.contexts)
+        known = [evaluate(piece, self.contexts) for piece in PIECE.findall(value)]
+        return Rest('?') if any(isinstance(item, Rest) for item in known) else PIECE.sub(lambda _: text_of(known.pop(0)), value)
 
     def condition(self, text, place):
         whole = PIECE.fullmatch(text.strip())
@@ -89,15 +137,17 @@ class Known:
 
     def strategy(self, strategy, place):
         self.notes += [(25, f'{place}.{name}', value) for name, value in strategy.items() if isinstance(value, str)]
-        matrix = strategy.get('matrix')
+        matrix = without_fractions(strategy.get('matrix'))
         for name, values in matrix.items() if isinstance(matrix, dict) else ():
             if not isinstance(values, list):
                 self.notes.append((19, f'{place}.matrix.{name}', values))
             elif name not in ('include', 'exclude'):
-                self.notes += [(19, f'{place}.matrix.{name}[{i}]', value) for i, value in enumerate(values) if isinstance(value, (list, dict, float))]
+                self.notes += [(19, f'{place}.matrix.{name}[{i}]', value) for i, value in enumerate(values) if isinstance(value, (list, dict))]
+        return {**strategy, 'matrix': matrix} if 'matrix' in strategy else strategy
 
     def template(self, value, place):
-        """A text that is one expression becomes a list or an object, and in a strategy a value of any kind; elsewhere the service wants texts."""
+        """A text that is one expression becomes a value of any kind in a strategy, a list in `runs-on`, an object in `runs-on` and for `concurrency`; elsewhere
+        a text, as the service wants it."""
         if isinstance(value, dict):
             return {name: self.template(item, f'{place}.{name}') for name, item in value.items()}
         if isinstance(value, list):
@@ -108,8 +158,10 @@ class Known:
         whole = PIECE.match(value)
         if whole and whole.end() == len(value):
             known = evaluate(whole[1], self.contexts)
-            if isinstance(known, (list, dict)) or in_strategy and not isinstance(known, Rest):
-                return known if in_strategy else quoted(known)
+            if in_strategy and not isinstance(known, Rest):
+                return known
+            if isinstance(known, list) and place.endswith('.runs-on') or isinstance(known, dict) and place.endswith(('.runs-on', 'concurrency')):
+                return quoted(known if isinstance(known, dict) else [text_of(item) for item in known])
         if '${{' in PIECE.sub('', value):
             self.notes.append((17, place, value))
         return PIECE.sub(lambda piece: self.piece(piece, place, in_strategy), value)
@@ -122,4 +174,19 @@ class Known:
             self.notes.append((17, place, piece[0]))
         elif place.startswith('concurrency') and re.search(r'\b(needs|matrix|strategy) *\.', piece[1]):
             self.notes.append((18, place, piece[0]))
+        elif not in_strategy:
+            return self.chain(re.findall(OPERAND, piece[1])) or piece[0]
         return piece[0]
+
+    def chain(self, operands):
+        """The alternatives of a piece, with a text for each that is known. None if no more than one is left."""
+        left = []
+        for at, operand in enumerate(operands):
+            known = evaluate(operand, self.contexts)
+            if isinstance(known, Rest):
+                left.append(operand)
+            elif truth(known) or at == len(operands) - 1:
+                left.append(literal(text_of(known)))
+            if not isinstance(known, Rest) and truth(known):
+                break
+        return '${{ ' + ' || '.join(left) + ' }}' if len(operands) > 1 else None
