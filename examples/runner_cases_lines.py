@@ -172,8 +172,8 @@ def killed_and_its_folder_lost(case):
 
 
 def lease_is_taken_away(case):
-    """The steps are ended, and nothing is reported."""
-    case.post(NOTED.format(50))
+    """The steps are ended, and nothing is reported. A shell that outlives its child by a moment says so on standard error."""
+    case.post('exec 2> /dev/null; ' + NOTED.format(50))
     case.start(beat=1)
     until(case.noted)
     assert case.service.ask('POST', f'/runners/{case.between.lines[0].split()[1]}/lost') == 'ok'
