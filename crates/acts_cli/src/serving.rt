@@ -4,7 +4,8 @@ ghost use Rattle.std.specs.Prelude.{◌≡◌, [], IfOk};
 
 use act_disk::Start;
 use act_store::Store;
-use acts_serve::{Limits, serve_forever, serve_rounds};
+use acts_rounds::serve_rounds;
+use acts_serve::{Limits, serve_forever};
 use command_words::{Serving, Span};
 use local_commands::{Failure, ended, output};
 use process_io::{Fault, HeldStreams, RealDisk, listener};

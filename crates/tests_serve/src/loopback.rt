@@ -3,7 +3,7 @@
 use crate::clients::{BODY, CREATED, LOOK, POST, SEEN, is_answered, listeners};
 use act_disk::MemoryDisk;
 use act_store::Store;
-use acts_serve::serve_on;
+use acts_rounds::serve_on;
 use crossbeam_channel::{Receiver, Sender};
 use std::alloc::Global;
 use std::net::{Net, SocketAddr, TcpListener, TcpStream};

@@ -2,7 +2,8 @@
 
 use act_disk::MemoryDisk;
 use act_store::Store;
-use acts_serve::{Limits, serve_forever, serve_rounds};
+use acts_rounds::serve_rounds;
+use acts_serve::{Limits, serve_forever};
 use std::alloc::Global;
 use std::io;
 use std::io::{ErrorKind, Write};

@@ -1,0 +1,4 @@
+-- Lemmas of a service in rounds.
+pub mod Held
+pub mod Lines
+pub mod Yielding

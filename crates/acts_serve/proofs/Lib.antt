@@ -1,4 +1,0 @@
--- Lemmas of a service.
-pub mod Held
-pub mod Lines
-pub mod Yielding

@@ -1,0 +1,2 @@
+-- The lines that a service prints.
+pub mod Reports

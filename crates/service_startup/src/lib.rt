@@ -1,0 +1,8 @@
+//! What a service does before its first client, and the lines that it prints.
+#![tactic(auto)]
+
+mod reports;
+mod upgrade;
+
+pub use reports::{tell_ready, tell_settled};
+pub use upgrade::brought_up;
