@@ -10,7 +10,8 @@ from files import held, write
 RUNS, RUNNERS, LEASED_FROM = 20_000, 2_000, 17_000
 TABLE_AREA, SECONDS = 4 << 20, 60
 LAST_RUN, LAST_AREA = 100_000, 16 << 20
-BODY_BYTES, COMMANDS, SESSION_LINES, CONNECTIONS = 65_536, 40_000, 1_024, 2_000
+BODY_BYTES, COMMANDS, CONNECTIONS = 65_536, 40_000, 2_000
+SESSIONS, SESSION_LINES, SESSION_REQUESTS = 32, 1_024, 64
 BEAT = b'BEAT nobody 1\n'
 
 
@@ -136,20 +137,40 @@ def many_legs(acts, folder):
     return '256 jobs of 256 legs are checked and played'
 
 
-def long_transcript(acts, folder):
-    """One seat's transcript of a whole history is compared."""
+def beats(port, count):
+    """Beats of nobody, as many in one session."""
+    runner = served.Runner(port, SECONDS)
+    runner.send(BEAT * count)
+    expect(runner.take(count * len(b'refused 45\n')) == b'refused 45\n' * count, 'beats of nobody are answered otherwise')
+    runner.close()
+
+
+def long_history(acts, folder):
+    """A history of a service without end, of as many commands as its option says."""
     service, _ = opened(acts, folder, turn_over=COMMANDS)
-    left = COMMANDS
-    while left > 0:
-        runner, count = served.Runner(service.runners, SECONDS), min(SESSION_LINES, left)
-        runner.send(BEAT * count)
-        expect(runner.take(count * len(b'refused 45\n')) == b'refused 45\n' * count, 'beats of nobody are answered otherwise')
-        runner.close()
-        left -= count
-    expect(service.wait_settled(1, SECONDS), 'a history of', COMMANDS, 'commands does not settle')
-    expect(COMMANDS <= service.settled[0] < COMMANDS + 16, 'the history that settles has', service.settled[0], 'commands')
+    for begun in range(0, COMMANDS, SESSION_LINES):
+        beats(service.runners, min(SESSION_LINES, COMMANDS - begun))
+    expect(service.wait_settled(1, SECONDS), 'a history of', COMMANDS, 'commands does not turn over')
+    expect(COMMANDS <= service.settled[0] < COMMANDS + 16, 'the history that turns over has', service.settled[0], 'commands')
     stopped(service)
-    return f'a transcript of {service.settled[0]} commands is compared'
+    return f'a history of {service.settled[0]} commands turns over'
+
+
+def full_round(acts, folder):
+    """As many sessions as a round can have, each as long as it can be. Their transcripts are compared with the history."""
+    path = f'{folder}/store'
+    served.init(acts, path, TABLE_AREA)
+    service = served.Service(acts, path, SESSIONS)
+    for _ in range(SESSIONS):
+        beats(service.runners, SESSION_LINES)
+        hook = service.hook()
+        for _ in range(SESSION_REQUESTS):
+            ask(hook, served.look(1), 'refused 40')
+        hook.close()
+    commands = SESSIONS * (SESSION_LINES + SESSION_REQUESTS)
+    ended = service.end(SECONDS)[:3]
+    expect(ended == (0, f'settled {commands}\n', ''), 'a round of', commands, 'commands ends with', ended)
+    return f'{2 * SESSIONS} transcripts of {commands} commands are compared'
 
 
 def one_after_another(acts, folder):
@@ -162,4 +183,4 @@ def one_after_another(acts, folder):
     return f'{CONNECTIONS} connections to each port, one after another'
 
 
-CHECKS = many_runs, last_run, long_body, many_legs, long_transcript, one_after_another
+CHECKS = many_runs, last_run, long_body, many_legs, long_history, full_round, one_after_another
