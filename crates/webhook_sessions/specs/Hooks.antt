@@ -1,8 +1,8 @@
 -- The rules of an HTTP/1.1 session. A request is a head as in the grammar of `httparse`, RFC 9112, sections 2 to 5, and a body of as many
 -- bytes as its `Content-Length` says. The limits `max_head` and `max_fields` of a head are defined by this project.
-use Rattle.std.specs.Prelude.{◌≡◌, ◌⊎◌, ℕ, ◌+◌, ◌≤◌, ◌<◌, List, length, take, Some, None}
+use Rattle.std.specs.Prelude.{◌≡◌, ◌⊎◌, ℕ, ◌+◌, ◌≤◌, ◌<◌, List, [], ◌++◌, length, take, Some, None}
 use Rattle.stated_limits.specs.Limits.{max_body, max_fields, max_head, max_requests}
-use Rattle.httparse.specs.Grammar.{RequestHead, ReadsRequest, HasNoRequest, MayBecomeRequest, print_request}
+use Rattle.httparse.specs.Grammar.{RequestHead, ReadsRequest, HasNoRequest, MayBecomeRequest, EndsInTarget, print_request}
 use Rattle.httparse.specs.Spans.{RequestOverflows}
 use Rattle.act_sessions.specs.declared.request.Request.{Request}
 use Rattle.act_sessions.specs.Rules.{Rules}
@@ -33,6 +33,14 @@ abbrev pub HookWaits : List ℕ → Type 0
 HookWaits bytes =
     (HasNoRequest bytes × MayBecomeRequest bytes × (length bytes < max_head))
     ⊎ ((h : RequestHead) × (after : List ℕ) × BeginsWith bytes h after × (request_after (heading_of h) after ≡ None))
+
+-- the bytes end inside a target, and no bytes after them make a head within the limits: the target is not UTF-8
+abbrev pub IsInLostTarget : List ℕ → Type 0
+IsInLostTarget bytes = EndsInTarget bytes × RequestOverflows max_fields bytes
+
+-- some bytes after them make a head, and each such head has more than `max_fields` fields: the bytes end inside the first field too many
+abbrev pub IsInExcessField : List ℕ → Type 0
+IsInExcessField bytes = ((more : List ℕ) × (h : RequestHead) × ReadsRequest (bytes ++ more) h []) × RequestOverflows max_fields bytes
 
 -- A session takes at most `max_requests` requests; this limit is defined by this project. No more bytes wait than the longest head and
 -- the longest body have.

@@ -1,9 +1,10 @@
 -- Bytes after a request do not change it, and bytes are read as at most one request.
-use Rattle.std.specs.Prelude.{◌≡◌, ◌⊎◌, ℕ, ◌+◌, ◌-◌, ◌≤◌, Bool, true, false, List, [], ◌++◌, length, take, cond, nat_le, Option, Some, None, Result, Ok, Err, refl}
+use Rattle.std.specs.Prelude.{◌≡◌, ◌⊎◌, ℕ, ◌+◌, ◌-◌, ◌≤◌, ◌<◌, Bool, true, false, List, [], ◌++◌, length, take, cond, nat_le, Option, Some, None, Result, Ok, Err, refl}
 use Rattle.std.proofs.Common.{sym, ap, subst, ◌∙◌, inl, inr, append_assoc, append-nil, length-append, arith}
 use Rattle.std.proofs.lemmas.List.{take-append-le}
 use Rattle.std.proofs.lemmas.Bool.Decides.{nat_tests}
 use lib.Seq.{drop-append-le}
+use Rattle.stated_limits.specs.Limits.{max_head}
 use Rattle.std.proofs.Math.Seq.{take-append-add}
 use Rattle.httparse.specs.Grammar.{RequestHead, ReadsRequest, HasNoRequest, print_request}
 use Rattle.httparse.proofs.GrammarLemmas.{ReadsRequest-append, request_unique}
@@ -13,7 +14,7 @@ use Rattle.webhook_sessions.specs.declared.fault.Fault.{Fault}
 use Rattle.webhook_sessions.specs.declared.fault.Fault.TheVariants.{BadHead}
 use Rattle.webhook_sessions.specs.Asking.{body_length, request_after, unread, with_body}
 use Rattle.webhook_sessions.specs.Heading.{Heading, heading_of}
-use Rattle.webhook_sessions.specs.Hooks.{BeginsWith, HasBadHead, HookReads, HookWaits, hooks}
+use Rattle.webhook_sessions.specs.Hooks.{BeginsWith, HasBadHead, HookReads, HookWaits, IsInExcessField, IsInLostTarget, hooks}
 
 bad_head_stays : (bytes more : List ℕ) → HasBadHead bytes → HasBadHead (bytes ++ more)
 bad_head_stays bytes more (inl never) =
@@ -92,14 +93,25 @@ reads_one bytes rest other r s (inr (h, after, head, found)) (inr (k, suffix, pr
 pub hooks_one : IsOne hooks
 hooks_one = reads_one
 
--- bytes that wait contain no whole head, so they are not a request with a head
-waits_for_one : (bytes rest : List ℕ) (r : Request Fault) → HookWaits bytes → HookReads bytes r rest → r ≡ unread BadHead
-waits_for_one bytes rest r waits (inl (bad, is, e)) = is
+-- bytes that wait contain no whole head, so they are at most a bad one, in one of the two cases
+waits_for_one : (bytes rest : List ℕ) (r : Request Fault) → HookWaits bytes → HookReads bytes r rest
+    → (r ≡ unread BadHead) × (rest ≡ bytes) × (IsInLostTarget bytes ⊎ IsInExcessField bytes)
+waits_for_one bytes rest r (inl (none, inl may, short)) (inl (inl never, is, e)) = (is, e, inr (may, never))
+waits_for_one bytes rest r (inl (none, inr target, short)) (inl (inl never, is, e)) = (is, e, inl (target, never))
+waits_for_one bytes rest r (inl (none, may, short)) (inl (inr (long, no_head), is, e)) = absurd (omega arith)
 waits_for_one bytes rest r (inl (none, may, short)) (inr (h, after, head, found)) = absurd (none h after head.reads)
+waits_for_one bytes rest r (inr (k, suffix, prefix, missing)) (inl (bad, is, e)) = absurd (head_is_not_bad bytes k suffix bad prefix)
 waits_for_one bytes rest r (inr (k, suffix, prefix, missing)) (inr (h, after, head, found)) =
     let same = request_unique bytes h k after suffix head.reads prefix.reads in
     let e = sym missing ∙ ap (λ x. request_after (heading_of x) suffix) (sym same.0) ∙ ap (request_after (heading_of h)) (sym same.1) ∙ found in
     absurd (none_is_some (r, rest) e)
 
-pub hooks_wait : (bytes rest : List ℕ) (r : Request Fault) → hooks.waits bytes → hooks.reads bytes r rest → r ≡ unread BadHead
+pub hooks_wait : (bytes rest : List ℕ) (r : Request Fault) → hooks.waits bytes → hooks.reads bytes r rest
+    → (r ≡ unread BadHead) × (rest ≡ bytes) × (IsInLostTarget bytes ⊎ IsInExcessField bytes)
 hooks_wait = waits_for_one
+
+-- and in these both are allowed
+pub hooks_may_do_both : (bytes : List ℕ) → HasNoRequest bytes → length bytes < max_head → IsInLostTarget bytes ⊎ IsInExcessField bytes
+    → hooks.waits bytes × hooks.reads bytes (unread BadHead) bytes
+hooks_may_do_both bytes none short (inl (target, never)) = (inl (none, inr target, short), inl (inl never, refl, refl))
+hooks_may_do_both bytes none short (inr (may, never)) = (inl (none, inl may, short), inl (inl never, refl, refl))

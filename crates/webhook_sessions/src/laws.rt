@@ -1,10 +1,12 @@
 //! Laws of the definitions.
-ghost use Rattle.std.specs.Prelude.{◌≡◌, ◌↔◌, ℕ, List, Some};
+ghost use Rattle.std.specs.Prelude.{◌≡◌, ◌⊎◌, ◌<◌, ◌↔◌, ℕ, List, length, Some};
+ghost use Rattle.stated_limits.specs.Limits.{max_head};
+ghost use Rattle.httparse.specs.Grammar.{HasNoRequest};
 ghost use Rattle.act_sessions.specs.declared.request.Request.{Request};
 ghost use Rattle.webhook_sessions.specs.declared.fault.Fault.{Fault as Faulty};
 ghost use Rattle.webhook_sessions.specs.declared.path.Path.{Path};
 ghost use Rattle.webhook_sessions.specs.Asking.{unread};
-ghost use Rattle.webhook_sessions.specs.Hooks.{hooks};
+ghost use Rattle.webhook_sessions.specs.Hooks.{IsInExcessField, IsInLostTarget, hooks};
 ghost use Rattle.webhook_sessions.specs.Paths.{IsTargetOf, path_of};
 
 use crate::fault::Fault;
@@ -14,8 +16,11 @@ pub fn a_path_has_its_targets()
     ensures { (target : List ℕ) (path : Path) → (path_of target ≡ Some path) ↔ IsTargetOf path target }
 {}
 
-/// Bytes that wait are not a request, with one exception: a head that no further bytes can complete. Inside a 65th field or an invalid
-/// target, both the 400 and no answer are allowed.
+/// Bytes that wait are not a request, with two exceptions, in which a session may answer 400 or wait for more. The bytes end inside a
+/// target that is not UTF-8, or inside the first field too many. In both no further bytes make a head within the limits.
 pub fn bytes_that_wait_are_at_most_a_bad_head()
-    ensures { (bytes rest : List ℕ) (r : Request Faulty) → hooks.waits bytes → hooks.reads bytes r rest → r ≡ unread Fault.BadHead }
+    ensures only { (bytes rest : List ℕ) (r : Request Faulty) → hooks.waits bytes → hooks.reads bytes r rest
+        → (r ≡ unread Fault.BadHead) × (rest ≡ bytes) × (IsInLostTarget bytes ⊎ IsInExcessField bytes) }
+    ensures both { (bytes : List ℕ) → HasNoRequest bytes → length bytes < max_head → IsInLostTarget bytes ⊎ IsInExcessField bytes
+        → hooks.waits bytes × hooks.reads bytes (unread Fault.BadHead) bytes }
 {}
