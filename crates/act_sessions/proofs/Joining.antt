@@ -13,21 +13,21 @@ use Rattle.act_sessions.specs.Joined.{added, IsJoined}
 use Rattle.act_sessions.proofs.Going.{Writes_trans}
 use Rattle.act_sessions.proofs.Listing.{Reads_grows, AreAsked_after}
 
-Reads_append : {F : Type 0} (p : Rules F) (bytes middle rest : List ℕ) (ts us : List (Turn F)) → Reads p bytes ts middle → Reads p middle us rest → Reads p bytes (ts ++ us) rest
+pub Reads_append : {F : Type 0} (p : Rules F) (bytes middle rest : List ℕ) (ts us : List (Turn F)) → Reads p bytes ts middle → Reads p middle us rest → Reads p bytes (ts ++ us) rest
 Reads_append p bytes middle rest [] us r s = subst (λ b. Reads p b us rest) (sym r) s
 Reads_append p bytes middle rest (t ∷ ts) us r s = (r.0, r.1, Reads_append p r.0 middle rest ts us r.2 s)
 
-IsOpen_append : {F : Type 0} (p : Rules F) (n k : ℕ) (ts us : List (Turn F)) → IsOpen p n ts → n + length ts ≡ k → IsOpen p k us → IsOpen p n (ts ++ us)
+pub IsOpen_append : {F : Type 0} (p : Rules F) (n k : ℕ) (ts us : List (Turn F)) → IsOpen p n ts → n + length ts ≡ k → IsOpen p k us → IsOpen p n (ts ++ us)
 IsOpen_append p n k [] us o e h = let same : k ≡ n = omega arith in subst (λ m. IsOpen p m us) same h
 IsOpen_append p n k (t ∷ ts) us o e h = (o.0, IsOpen_append p (n + 1) k ts us o.1 (omega arith) h)
 
-IsEnded_append : {F : Type 0} (p : Rules F) (n k : ℕ) (ts us : List (Turn F)) → IsOpen p n ts → n + length ts ≡ k → IsEnded p k us → IsEnded p n (ts ++ us)
+pub IsEnded_append : {F : Type 0} (p : Rules F) (n k : ℕ) (ts us : List (Turn F)) → IsOpen p n ts → n + length ts ≡ k → IsEnded p k us → IsEnded p n (ts ++ us)
 IsEnded_append p n k [] us o e h = let same : k ≡ n = omega arith in subst (λ m. IsEnded p m us) same h
 IsEnded_append p n k (t ∷ []) [] o e h = absurd h
 IsEnded_append p n k (t ∷ []) (u ∷ us) o e h = let same : k ≡ n + 1 = omega arith in (o.0, subst (λ m. IsEnded p m (u ∷ us)) same h)
 IsEnded_append p n k (t ∷ v ∷ ts) us o e h = (o.0, IsEnded_append p (n + 1) k (v ∷ ts) us o.1 (omega arith) h)
 
-texts_append : {F : Type 0} (p : Rules F) (n k : ℕ) (ts us : List (Turn F)) → n + length ts ≡ k → texts p n (ts ++ us) ≡ texts p n ts ++ texts p k us
+pub texts_append : {F : Type 0} (p : Rules F) (n k : ℕ) (ts us : List (Turn F)) → n + length ts ≡ k → texts p n (ts ++ us) ≡ texts p n ts ++ texts p k us
 texts_append p n k [] us e = let same : n ≡ k = omega arith in ap (λ m. texts p m us) same
 texts_append p n k (t ∷ ts) us e =
     ap (λ l. turn_text p (is_last p n t) t ++ l) (texts_append p (n + 1) k ts us (omega arith)) ∙ sym (append_assoc (turn_text p (is_last p n t) t) (texts p (n + 1) ts) (texts p k us))

@@ -3,8 +3,9 @@ mod Closing
 mod Going
 mod Heard
 pub mod Joining
-mod Listing
+pub mod Listing
 mod One
 mod Rounds
 mod Shut
+pub mod Taken
 mod Turning

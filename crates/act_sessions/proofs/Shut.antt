@@ -1,20 +1,20 @@
--- Answers that leave it unknown whether their command was entered. In a part only the last answer may do so; in a list of parts only the
--- last answer of all.
-use Rattle.std.proofs.Common.{◌≡◌, ℕ, ◌+◌, ◌==◌, ◌||◌, Bool, true, false, List, [], ◌∷◌, ◌++◌, Ok, Err, refl, sym, ap, subst, ◌∙◌, inl, inr, append-nil, append_assoc}
+-- Answers that leave it unknown whether their command was entered. In a part only the last answer may do so.
+use Rattle.std.proofs.Common.{◌≡◌, ℕ, ◌+◌, ◌==◌, ◌||◌, Bool, true, false, List, [], ◌∷◌, ◌++◌, Ok, Err, refl, sym, ap, subst, ◌∙◌, inl, inr, append-nil}
+use Rattle.std.specs.Prelude.{⊤}
 use Rattle.std.specs.List.{list_any}
-use Rattle.wf_value.specs.Gives.{no_memory}
 use Rattle.wf_value.specs.RefusalText.{refusal_number}
-use Rattle.run_plan.specs.declared.command.Command.{Command}
-use Rattle.act_sessions.specs.declared.transcript.LoggedExchange.{LoggedExchange}
 use Rattle.act_sessions.specs.declared.transcript.Ending.{Ending}
 use Rattle.act_sessions.specs.declared.transcript.Ending.TheVariants.{Done, Memory, Broken}
-use Rattle.act_sessions.specs.declared.transcript.Transcript.{Transcript}
 use Rattle.act_sessions.specs.Last.{ends_session}
 use Rattle.act_sessions.specs.Rules.{Rules, Turn, Answered, Refused, exchanges_at, exchanges_of, is_last, IsOpen, IsEnded}
 use Rattle.act_sessions.specs.Session.{ArePassed, EndsSo}
-use Rattle.act_sessions.specs.Exchange.{AreAsked, IsShut, NoneOpen, OnlyLastOpen, Response, Exchange, leaves_open, exchanges_by, exchanges_in}
+use Rattle.act_sessions.specs.Exchange.{OnlyLastOpen, Response, Exchange, leaves_open}
 use Rattle.act_sessions.proofs.Joining.{exchanges_append}
-use Rattle.act_sessions.proofs.Turning.{exchanges_in_snoc}
+
+-- Each answer settles whether its command was entered.
+abbrev NoneOpen : List Exchange → Type 0
+NoneOpen [] = ⊤
+NoneOpen (t ∷ exchanges) = (leaves_open t.1 ≡ false) × NoneOpen exchanges
 
 left_false : (a b : Bool) → (a || b) ≡ false → a ≡ false
 left_false false b h = refl
@@ -45,10 +45,6 @@ only_cons t (u ∷ exchanges) h only = (h, only)
 only_after : (prefix exchanges : List Exchange) → NoneOpen prefix → OnlyLastOpen exchanges → OnlyLastOpen (prefix ++ exchanges)
 only_after [] exchanges none only = only
 only_after (t ∷ prefix) exchanges none only = only_cons t (prefix ++ exchanges) none.0 (only_after prefix exchanges none.1 only)
-
-none_after : (prefix exchanges : List Exchange) → NoneOpen prefix → NoneOpen exchanges → NoneOpen (prefix ++ exchanges)
-none_after [] exchanges none more = more
-none_after (t ∷ prefix) exchanges none more = (none.0, none_after prefix exchanges none.1 more)
 
 none_of : {F : Type 0} (p : Rules F) (n : ℕ) (ts : List (Turn F)) → IsOpen p n ts → NoneOpen (exchanges_of ts)
 none_of p n [] h = tt
@@ -84,51 +80,3 @@ only_over p n Done turns rest out (inr (passed, are, text, out_of_memory_respons
 only_over p n Memory turns rest out (none, passed, are, same) = only_passed p n turns passed are
 only_over p n Broken turns rest out (inl (unended, waits, same)) = only_open p n turns unended
 only_over p n Broken turns rest out (inr (passed, are, text, next, k, wrote)) = only_passed p n turns passed are
-
--- a list of parts
-
-none_shut : (prefix : List Exchange) (t : Exchange) → OnlyLastOpen (prefix ++ t ∷ []) → leaves_open t.1 ≡ false → NoneOpen (prefix ++ t ∷ [])
-none_shut [] t only h = (h, tt)
-none_shut (u ∷ []) t only h = (only.0, (h, tt))
-none_shut (u ∷ v ∷ prefix) t only h = (only.0, none_shut (v ∷ prefix) t only.1 h)
-
-none_told : (asked : List LoggedExchange) → OnlyLastOpen (exchanges_in asked) → IsShut asked → NoneOpen (exchanges_in asked)
-none_told asked only (inl e) = subst (λ l. NoneOpen (exchanges_in l)) (sym e) tt
-none_told asked only (inr (prefix, last, is, h)) =
-    let exchanges = ap exchanges_in is ∙ exchanges_in_snoc prefix last in
-    subst NoneOpen (sym exchanges) (none_shut (exchanges_in prefix) (last.command, last.answer) (subst OnlyLastOpen exchanges only) h)
-
-pub none_only : (exchanges : List Exchange) → NoneOpen exchanges → OnlyLastOpen exchanges
-none_only exchanges none = subst OnlyLastOpen (append-nil exchanges) (only_after exchanges [] none tt)
-
--- an out-of-memory answer leaves it unknown whether its command was entered
-none_last : (prefix : List Exchange) (c : Command) → NoneOpen (prefix ++ (c, Err no_memory) ∷ []) → ⊥
-none_last [] c none = cc
-none_last (t ∷ prefix) c none = none_last prefix c none.1
-
-module _ (begin asked now : List Exchange) (old new : Transcript) (exchanges : List Exchange) (before : asked ≡ begin ++ exchanges_by old) (none : NoneOpen (exchanges_by old))
-    (are : AreAsked asked now exchanges) (listed : exchanges_by new ≡ exchanges_by old ++ exchanges) (only : OnlyLastOpen exchanges) where
-  pub parts_only : OnlyLastOpen (exchanges_by new)
-  parts_only = subst OnlyLastOpen (sym listed) (only_after (exchanges_by old) exchanges none only)
-
-  parts_asked_by : AreAsked asked now exchanges → AreAsked begin now (exchanges_by new)
-  parts_asked_by (inl e) = inl (e ∙ ap (λ l. l ++ exchanges) before ∙ append_assoc begin (exchanges_by old) exchanges ∙ ap (λ l. begin ++ l) (sym listed))
-  parts_asked_by (inr (prefix, c, is, e)) = inr (
-    exchanges_by old ++ prefix,
-    c,
-    listed ∙ ap (λ l. exchanges_by old ++ l) is ∙ sym (append_assoc (exchanges_by old) prefix _),
-    e ∙ ap (λ l. l ++ prefix) before ∙ append_assoc begin (exchanges_by old) prefix,
-  )
-
-  pub parts_asked : AreAsked begin now (exchanges_by new)
-  parts_asked = parts_asked_by are
-
-  pub parts_none : IsShut new.asked.items → NoneOpen (exchanges_by new)
-  parts_none shut = none_told new.asked.items parts_only shut
-
-  parts_gone : IsShut new.asked.items → AreAsked begin now (exchanges_by new) → now ≡ begin ++ exchanges_by new
-  parts_gone shut (inl e) = e
-  parts_gone shut (inr (prefix, c, is, e)) = absurd (none_last prefix c (subst NoneOpen is (parts_none shut)))
-
-  pub parts_go_on : IsShut new.asked.items → (now ≡ begin ++ exchanges_by new) × NoneOpen (exchanges_by new)
-  parts_go_on shut = (parts_gone shut parts_asked, parts_none shut)

@@ -1,5 +1,5 @@
 -- What a session submits, and the answers it gets.
-use Rattle.std.specs.Prelude.{◌≡◌, ◌⊎◌, ℕ, Bool, false, ◌==◌, List, [], ◌∷◌, ◌++◌, map, Result, Ok, Err, ⊤, true}
+use Rattle.std.specs.Prelude.{◌≡◌, ◌⊎◌, ℕ, Bool, false, ◌==◌, List, [], ◌∷◌, ◌++◌, map, Result, Ok, Err, ⊤}
 use Rattle.std.specs.List.{list_any}
 use Rattle.wf_value.specs.Gives.{no_memory}
 use Rattle.wf_value.specs.RefusalText.{refusal_number}
@@ -35,24 +35,11 @@ abbrev pub leaves_open : Response → Bool
 leaves_open (Ok reply) = false
 leaves_open (Err refusal) = list_any (λ n. n == refusal_number refusal) open_numbers
 
--- Each answer settles whether its command was entered.
-abbrev pub NoneOpen : List Exchange → Type 0
-NoneOpen [] = ⊤
-NoneOpen (t ∷ exchanges) = (leaves_open t.1 ≡ false) × NoneOpen exchanges
-
 -- Each answer but the last settles whether its command was entered.
 abbrev pub OnlyLastOpen : List Exchange → Type 0
 OnlyLastOpen [] = ⊤
 OnlyLastOpen (t ∷ []) = ⊤
 OnlyLastOpen (t ∷ u ∷ exchanges) = (leaves_open t.1 ≡ false) × OnlyLastOpen (u ∷ exchanges)
-
--- The last answer, if there is one, settles whether its command was entered.
-abbrev pub IsShut : List LoggedExchange → Type 0
-IsShut asked = (asked ≡ []) ⊎ ((prefix : List LoggedExchange) × (last : LoggedExchange) × (asked ≡ prefix ++ last ∷ []) × (leaves_open last.answer ≡ false))
-
--- There is a last answer, and it leaves it unknown whether its command was entered.
-abbrev pub IsLeftOpen : List LoggedExchange → Type 0
-IsLeftOpen asked = (prefix : List LoggedExchange) × (last : LoggedExchange) × (asked ≡ prefix ++ last ∷ []) × (leaves_open last.answer ≡ true)
 
 abbrev pub exchanges_in : List LoggedExchange → List Exchange
 exchanges_in asked = map (λ a. (a.command, a.answer)) asked

@@ -7,4 +7,5 @@ pub mod Rules
 pub mod Session
 pub mod Exchange
 pub mod SessionErrors
+pub mod Taking
 pub mod Turns

@@ -5,6 +5,7 @@ ghost use Rattle.act_sessions.specs.Hearing.{Awaits};
 use crate::error::SessionError;
 use crate::protocol::Protocol;
 use crate::request::Request;
+use crate::turn::next_request;
 use byte_streams::read_some;
 use std::alloc::Global;
 use std::io::Read;
@@ -47,9 +48,8 @@ pub fn await_request<P: Protocol, R: Read>(
     ensures { Awaits P.rules (R.remaining reader.old) (R.remaining reader.new) buffer.old.items buffer.new.items result }
 {
     'pieces: loop {
-        if let Some(found) = P::next(alloc, buffer)? {
-            buffer.drain(..found.length);
-            return Ok(Some(found.request));
+        if let Some(request) = next_request::<P>(alloc, buffer)? {
+            return Ok(Some(request));
         }
         if !read_more(reader, buffer, P::limit())? {
             return Ok(None);

@@ -1,4 +1,5 @@
-ghost use Rattle.std.specs.Prelude.{◌≡◌, ◌||◌};
+ghost use Rattle.std.specs.Prelude.{◌≡◌};
+ghost use Rattle.act_sessions.specs.Exchange.{leaves_open};
 ghost use Rattle.act_sessions.specs.Last.{ends_by, ends_session};
 
 use run_plan::Reply;
@@ -12,7 +13,7 @@ pub fn ends_by(refusal: &Refusal) -> bool
 }
 
 /// Whether an answer ends a session: one refused with 46, 47, 48, 50, 51, 52, 57 or 60.
-fn ends_session(answer: &Result<Reply, Refusal>) -> bool
+pub fn ends_session(answer: &Result<Reply, Refusal>) -> bool
     ensures { result ≡ ends_session answer.now }
 {
     match answer {
@@ -22,9 +23,12 @@ fn ends_session(answer: &Result<Reply, Refusal>) -> bool
     }
 }
 
-/// Whether a command's turn ends the session whatever the count: its request closes it, or its answer ends it.
-pub fn ends_turn(closes: bool, answer: &Result<Reply, Refusal>) -> bool
-    ensures { result ≡ (closes || ends_session answer.now) }
+/// Whether an answer leaves it unknown whether its command was entered: 50, 51, 52 and 60 do.
+pub fn leaves_open(answer: &Result<Reply, Refusal>) -> bool
+    ensures { result ≡ leaves_open answer.now }
 {
-    closes || ends_session(answer)
+    match answer {
+        Ok(_) => false,
+        Err(refusal) => matches!(refusal.number(), 50 | 51 | 52 | 60),
+    }
 }

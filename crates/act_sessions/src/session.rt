@@ -1,4 +1,4 @@
-ghost use Rattle.std.specs.Prelude.{Option, ◌≡◌, ◌<◌, ◌≤◌, ◌+◌, ◌==◌, ◌||◌, ◌++◌, ◌∷◌, [], ℕ, List, IfOk, IfErr, OnErr, vec_len, vec_capacity};
+ghost use Rattle.std.specs.Prelude.{Option, ◌≡◌, ◌<◌, ◌≤◌, ◌++◌, ℕ, List, IfOk, IfErr, vec_len};
 ghost use Rattle.act_sessions.specs.Ends.{HasFailed, HasFinished};
 ghost use Rattle.act_sessions.specs.Session.{moment, Goes, IsPart, Moment, Place};
 ghost use Rattle.act_sessions.specs.Exchange.{AreAsked, OnlyLastOpen, Exchange, exchanges_by};
@@ -7,38 +7,13 @@ ghost use Rattle.act_sessions.specs.Turns.{EndsRound, Aborts, Says, TakesTurn};
 use crate::answer::Answer;
 use crate::error::SessionError;
 use crate::input::await_request;
-use crate::last::ends_turn;
 use crate::output::respond;
 use crate::protocol::Protocol;
-use crate::request::{Demand, Request};
-use crate::transcript::{Ending, LoggedExchange, Part, SessionFault, Transcript};
-use run_plan::Command;
+use crate::request::Request;
+use crate::transcript::{Ending, Part, SessionFault, Transcript};
+use crate::turn::take_turn;
 use std::alloc::Global;
 use std::io::{Read, Write};
-use wf_value::TryCopy;
-
-/// Reserves space to record a command, and copies it.
-fn make_ready(
-    alloc: Global,
-    transcript: &mut Transcript,
-    command: &Command,
-) -> Result<Command, SessionError>
-    ensures copy { IfOk result (λ copy. (copy ≡ command.now) × (vec_len transcript.new.asked < vec_capacity transcript.new.asked)) }
-    ensures memory { IfErr result (λ e. e ≡ SessionError.Memory) }
-    ensures asked { transcript.new.asked.items ≡ transcript.old.asked.items }
-    ensures written { transcript.new.written ≡ transcript.old.written }
-{
-    transcript.asked.reserve(1)?;
-    Ok(command.copy(alloc)?)
-}
-
-/// Whether a turn after `count` others is the last.
-fn is_last(ends: bool, count: u64, most: u64) -> bool
-    requires { count < most }
-    ensures { result ≡ (ends || (count + 1 == most)) }
-{
-    ends || count + 1 == most
-}
 
 /// Writes a text, and returns `last`.
 fn say<W: Write>(
@@ -55,53 +30,8 @@ fn say<W: Write>(
     Ok(last)
 }
 
-/// Submits a command, records it with its answer, and writes the answer. Returns whether it is the last of the session.
-fn take_command<P: Protocol, W: Write, A: Answer>(
-    alloc: Global,
-    writer: &mut W,
-    answerer: &mut A,
-    transcript: &mut Transcript,
-    command: Command,
-    closes: bool,
-    count: u64,
-) -> Result<bool, SessionError>
-    requires { count < P.rules.most }
-    ensures { TakesTurn P.rules count (record { demand = Demand.Command command; closes = closes })
-        (moment (W.contents writer.old) (A.asked answerer.old) transcript.old)
-        (moment (W.contents writer.new) (A.asked answerer.new) transcript.new) result }
-{
-    let copy = make_ready(alloc, transcript, &command)?;
-    let answer = answerer.ask(command);
-    let last = is_last(ends_turn(closes, &answer), count, P::most());
-    let text = P::answer_text(alloc, last, &answer);
-    transcript.asked.push_reserved(LoggedExchange {
-        command: copy,
-        answer,
-    });
-    say(writer, transcript, &text?, last)
-}
-
-/// Answers a request for which no command is submitted. Returns whether it is the last of the session.
-fn take_fault<P: Protocol, W: Write>(
-    alloc: Global,
-    writer: &mut W,
-    transcript: &mut Transcript,
-    fault: P::Fault,
-    closes: bool,
-    count: u64,
-) -> Result<bool, SessionError>
-    requires { count < P.rules.most }
-    ensures { (asked : List Exchange) → TakesTurn P.rules count (record { demand = Demand.Fault fault; closes = closes })
-        (moment (W.contents writer.old) asked transcript.old)
-        (moment (W.contents writer.new) asked transcript.new) result }
-{
-    let last = is_last(closes, count, P::most());
-    let text = P::fault_text(alloc, last, &fault)?;
-    say(writer, transcript, &text, last)
-}
-
-/// Answers one request. Returns whether it is the last of the session.
-fn take_turn<P: Protocol, W: Write, A: Answer>(
+/// Takes a turn, and writes its text. Returns whether it is the last of the session.
+fn write_turn<P: Protocol, W: Write, A: Answer>(
     alloc: Global,
     writer: &mut W,
     answerer: &mut A,
@@ -114,12 +44,9 @@ fn take_turn<P: Protocol, W: Write, A: Answer>(
         (moment (W.contents writer.old) (A.asked answerer.old) transcript.old)
         (moment (W.contents writer.new) (A.asked answerer.new) transcript.new) result }
 {
-    let Request { demand, closes } = request;
-    match demand {
-        Demand::Command(command) => {
-            take_command::<P, W, A>(alloc, writer, answerer, transcript, command, closes, count)
-        }
-        Demand::Fault(fault) => take_fault::<P, W>(alloc, writer, transcript, fault, closes, count),
+    match take_turn::<P, Transcript, A>(alloc, transcript, answerer, request, count) {
+        Some(text) => say(writer, transcript, &text.bytes, text.last),
+        None => Err(SessionError::Memory),
     }
 }
 
@@ -163,7 +90,7 @@ fn take_round<P: Protocol, R: Read, W: Write, A: Answer>(
 {
     match await_request::<P, R>(alloc, reader, buffer)? {
         Some(request) => {
-            let last = take_turn::<P, W, A>(alloc, writer, answerer, transcript, request, count)?;
+            let last = write_turn::<P, W, A>(alloc, writer, answerer, transcript, request, count)?;
             Ok(Some(last))
         }
         None => Ok(None),

@@ -1,7 +1,7 @@
-use Rattle.std.proofs.Common.{◌≤◌, ◌++◌, ◌∙◌, length, Ok, ap, subst, length-append, arith}
+use Rattle.std.proofs.Common.{◌≤◌, ◌++◌, length, Ok, ap, subst, length-append, arith}
 use Rattle.std.specs.Prelude.{None}
 use Rattle.std.proofs.lemmas.Result.{err_from_is_err_and}
-use Rattle.act_sessions.specs.Rules.{IsNext}
+use Rattle.act_sessions.specs.Taking.{Finds}
 use Rattle.act_sessions.proofs.Heard.{read_failed}
 use Rattle.act_sessions.proofs.input.await_request.Goals as goal
 
@@ -13,17 +13,18 @@ returns-in_err-read_more g c =
     let more = c.in_err-read_more.ensures.err in
     let e = c.in_err-read_more.field-0.0 in
     let p = err_from_is_err_and c.from_residual-in_err-read_more.result c.from_residual-in_err-read_more.ensures.1 in
+    let next : Finds rules c.pieces.buffer.items c.next_request.new.held.items (Ok None) = rw c.in_default.is at c.in_ok-request.ensures in
     let short : length (buffer ++ (before.0 ++ more.0)) ≤ rules.limit =
     let a = length-append buffer (before.0 ++ more.0) in
     let b = length-append before.0 more.0 in
     let d = length-append buffer before.0 in
     let e = ap length before.2 in
+    let kept = ap length next.2 in
     let f = more.2 in
     let h = c.limit.ensures in
     omega arith in
     let held : length (buffer ++ before.0) ≤ rules.limit = let e = ap length before.2 in omega arith in
-    let next : IsNext rules c.deref.result.now (Ok None) = rw c.in_default.is at c.in_ok-found.ensures in
-    let waits = subst rules.waits (c.deref.ensures.value ∙ before.2) next.0 in
+    let waits = subst rules.waits before.2 next.0 in
     rw (p.1, p.2)
     (read_failed rules (g.R.Read.remaining c.args.reader.now) (g.R.Read.remaining c.pieces.reader) (g.R.Read.remaining c.read_more.new.reader) buffer before.0 more.0
     c.read_more.new.buffer.items e before.1 more.1 short held waits c.in_err-read_more.ensures.broken)

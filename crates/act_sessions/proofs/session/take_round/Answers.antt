@@ -24,7 +24,7 @@ returns-in_err-last-in-Some g c from input begin goes =
     let i1 = g.R.Read.remaining c.args.reader.now in
     let i2 = g.R.Read.remaining c.await_request.new.reader in
     let mid = moment (g.W.Write.contents c.args.writer.now) (g.A.Answer.asked c.args.answerer.now) c.args.transcript.now in
-    let new = moment (g.W.Write.contents c.take_turn.new.writer) (g.A.Answer.asked c.take_turn.new.answerer) c.take_turn.new.transcript in
+    let new = moment (g.W.Write.contents c.write_turn.new.writer) (g.A.Answer.asked c.write_turn.new.answerer) c.write_turn.new.transcript in
     let is = err_from_is_err_and c.from_residual-in_err-last-in-Some.result c.from_residual-in_err-last-in-Some.ensures.1 in
     let heard : Awaits p i1 i2 c.args.buffer.now.items c.await_request.new.buffer.items (Ok (Some c.in-Some.request)) = rw c.in-Some.is at c.in_ok-request.ensures in
     let e = c.in_err-last-in-Some.field-0.0 in
@@ -37,7 +37,7 @@ returns-in_ok-last-in-Some g c from input begin goes =
     let i1 = g.R.Read.remaining c.args.reader.now in
     let i2 = g.R.Read.remaining c.await_request.new.reader in
     let mid = moment (g.W.Write.contents c.args.writer.now) (g.A.Answer.asked c.args.answerer.now) c.args.transcript.now in
-    let new = moment (g.W.Write.contents c.take_turn.new.writer) (g.A.Answer.asked c.take_turn.new.answerer) c.take_turn.new.transcript in
+    let new = moment (g.W.Write.contents c.write_turn.new.writer) (g.A.Answer.asked c.write_turn.new.answerer) c.write_turn.new.transcript in
     let heard : Awaits p i1 i2 c.args.buffer.now.items c.await_request.new.buffer.items (Ok (Some c.in-Some.request)) = rw c.in-Some.is at c.in_ok-request.ensures in
     let took : TakesTurn p c.args.count c.in-Some.request mid new (Ok c.in_ok-last-in-Some.last) = c.in_ok-last-in-Some.ensures in
     round_heard p g.met.P.Protocol.steady from input i1 i2 begin mid new c.args.buffer.now.items c.args.count c.await_request.new.buffer.items c.in-Some.request c.in_ok-last-in-Some.last goes heard took
