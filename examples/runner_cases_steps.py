@@ -8,7 +8,7 @@ import ssl
 import subprocess
 import threading
 import time
-from runner_trials import lines_of, until
+from runner_trials import certificates, forward, lines_of, server_tls, until
 
 HERE = os.path.dirname(os.path.abspath(__file__))
 NEVER = {'run': 'echo never >> "$NOTES"'}
@@ -488,46 +488,12 @@ def long_log_is_cut(case):
 # Other hosts.
 
 
-def _certificates(folder):
-    """An authority with a certificate for 127.0.0.1 and one for the runner, and another authority's for a stranger."""
-    def openssl(*words):
-        subprocess.run(['openssl', *words], cwd=folder, check=True, capture_output=True)
-    with open(os.path.join(folder, 'names'), 'w') as file:
-        file.write('subjectAltName=IP:127.0.0.1\n')
-    for signer, names in (('ca', ('server', 'runner')), ('other', ('stranger',))):
-        openssl('req', '-x509', '-newkey', 'rsa:2048', '-nodes', '-keyout', f'{signer}.key', '-out', f'{signer}.pem', '-days', '2', '-subj', f'/CN={signer}')
-        for name in names:
-            openssl('req', '-newkey', 'rsa:2048', '-nodes', '-keyout', f'{name}.key', '-out', f'{name}.csr', '-subj', f'/CN={name}')
-            openssl('x509', '-req', '-in', f'{name}.csr', '-CA', f'{signer}.pem', '-CAkey', f'{signer}.key', '-CAcreateserial', '-days', '2',
-                    '-out', f'{name}.pem', '-extfile', 'names')
-
-
-def _proxy(folder, port):
-    """A listener that speaks TLS, asks for a certificate of the authority, and passes on to a port. Gives its own port."""
-    context = ssl.SSLContext(ssl.PROTOCOL_TLS_SERVER)
-    context.load_cert_chain(os.path.join(folder, 'server.pem'), os.path.join(folder, 'server.key'))
-    context.load_verify_locations(os.path.join(folder, 'ca.pem'))
-    context.verify_mode = ssl.CERT_REQUIRED
-    listener = socket.create_server(('127.0.0.1', 0))
-
-    def hold(client):
-        with contextlib.suppress(OSError), context.wrap_socket(client, server_side=True) as spoken, socket.create_connection(('127.0.0.1', port)) as service:
-            while data := spoken.recv(65536):
-                service.sendall(data)
-                service.settimeout(5)
-                spoken.sendall(service.recv(65536))
-
-    def accept():
-        while True:
-            threading.Thread(target=hold, args=listener.accept()[:1], daemon=True).start()
-    threading.Thread(target=accept, daemon=True).start()
-    return listener.getsockname()[1]
-
-
 def over_tls(case):
     """Over TLS with a certificate of its own; a stranger's certificate, and a service of another authority, get nothing."""
-    _certificates(case.folder)
-    port, folder = _proxy(case.folder, case.service.runners), case.folder
+    certificates(case.folder)
+    listener, folder = socket.create_server(('127.0.0.1', 0)), case.folder
+    forward(listener, lambda: socket.create_connection(('127.0.0.1', case.service.runners)), server_tls(folder))
+    port = listener.getsockname()[1]
 
     def runner(certificate, authority):
         words = [case.words[0], 'r1', 'linux', '--once', '--connect', f'127.0.0.1:{port}', '--ca', f'{folder}/{authority}.pem',

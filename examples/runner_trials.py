@@ -6,9 +6,11 @@ import json
 import os
 import random
 import re
+import select
 import shutil
 import signal
 import socket
+import ssl
 import subprocess
 import threading
 import time
@@ -76,11 +78,76 @@ class Between(threading.Thread):
             pass
 
 
-class Service:
-    """A service over a new store in a folder."""
+def carry(one, other):
+    """Passes on what two streams say, until one of them ends."""
+    peers = {one: other, other: one}
+    with one, other, contextlib.suppress(OSError):
+        while True:
+            for stream in select.select([one, other], [], [])[0]:
+                while data := stream.recv(65536):
+                    peers[stream].sendall(data)
+                    if not (isinstance(stream, ssl.SSLSocket) and stream.pending()):
+                        break
+                else:
+                    return
 
-    def __init__(self, acts, folder):
-        self.acts, self.store = acts, os.path.join(folder, 'store')
+
+def forward(listener, connect, tls=None):
+    """Passes on each stream of a listener to one that a call gives. With a context it speaks TLS there."""
+    def hold(client):
+        with contextlib.suppress(OSError):
+            carry(tls.wrap_socket(client, server_side=True) if tls else client, connect())
+        client.close()
+
+    def accept():
+        with contextlib.suppress(OSError):
+            while True:
+                threading.Thread(target=hold, args=listener.accept()[:1], daemon=True).start()
+    threading.Thread(target=accept, daemon=True).start()
+
+
+def certificates(folder, address='127.0.0.1'):
+    """An authority `ca` with a certificate `server` for an address and one `runner`, and another authority's `stranger`."""
+    def openssl(*words):
+        subprocess.run(['openssl', *words], cwd=folder, check=True, capture_output=True)
+    with open(os.path.join(folder, 'names'), 'w') as file:
+        file.write(f'subjectAltName=IP:{address}\n')
+    key = ('-newkey', 'ec', '-pkeyopt', 'ec_paramgen_curve:prime256v1', '-nodes')
+    for signer, names in (('ca', ('server', 'runner')), ('other', ('stranger',))):
+        openssl('req', '-x509', *key, '-keyout', f'{signer}.key', '-out', f'{signer}.pem', '-days', '2', '-subj', f'/CN={signer}')
+        for name in names:
+            openssl('req', *key, '-keyout', f'{name}.key', '-out', f'{name}.csr', '-subj', f'/CN={name}')
+            openssl('x509', '-req', '-in', f'{name}.csr', '-CA', f'{signer}.pem', '-CAkey', f'{signer}.key', '-CAcreateserial', '-days', '2',
+                    '-out', f'{name}.pem', '-extfile', 'names')
+
+
+def server_tls(folder):
+    """How a listener with these certificates speaks TLS: it asks for one of the authority's."""
+    context = ssl.SSLContext(ssl.PROTOCOL_TLS_SERVER)
+    context.load_cert_chain(os.path.join(folder, 'server.pem'), os.path.join(folder, 'server.key'))
+    context.load_verify_locations(os.path.join(folder, 'ca.pem'))
+    context.verify_mode = ssl.CERT_REQUIRED
+    return context
+
+
+class Here:
+    """The machine of the trial, where a service and hosts are by default."""
+    words = ()  # before a command that begins there
+
+    def connect(self, port):
+        """A stream to a port of its loopback interface."""
+        return socket.create_connection(('127.0.0.1', port), 60)
+
+    def reach(self, service):
+        """The words by which a runner here reaches the runner port of a service here."""
+        return [str(service.runners)]
+
+
+class Service:
+    """A service over a new store in a folder, on this machine or another one."""
+
+    def __init__(self, acts, folder, machine=Here()):
+        self.acts, self.store, self.machine = acts, os.path.join(folder, 'store'), machine
         subprocess.run([acts, 'init', self.store, '4194304'], check=True, stdout=subprocess.DEVNULL)
         self.hooks, self.runners = free_ports()
         self.copies, self.process = 0, None
@@ -88,7 +155,7 @@ class Service:
 
     def start(self):
         words = ['serve', self.store, '--hook-port', str(self.hooks), '--runner-port', str(self.runners), '--sessions', '32', '--forever']
-        self.process = subprocess.Popen([self.acts, *words], stdout=subprocess.PIPE, stderr=subprocess.DEVNULL)
+        self.process = subprocess.Popen([*self.machine.words, self.acts, *words], stdout=subprocess.PIPE, stderr=subprocess.DEVNULL)
         assert self.process.stdout.readline() == b'ready\n', 'there is no service'
 
     def stop(self):
@@ -112,7 +179,8 @@ class Service:
 
     def ask(self, method, path, body=None, **headers):
         """The answer of the hook port."""
-        client = http.client.HTTPConnection('127.0.0.1', self.hooks, timeout=20)
+        client = http.client.HTTPConnection('127.0.0.1', self.hooks)
+        client.sock = self.machine.connect(self.hooks)
         client.request(method, path, body, {name.replace('_', '-'): value for name, value in headers.items()})
         answer = client.getresponse().read().decode().rstrip('\n')
         client.close()
@@ -127,17 +195,19 @@ class Service:
 
 
 class Host:
-    """A runner with a folder of its own, which can be killed and started again."""
+    """A runner with a folder of its own, which can be killed and started again. The words say how it reaches the service: a port, or where it connects
+    to. It is on this machine or another one."""
 
-    def __init__(self, program, port, folder, notes, name='r1', labels='linux'):
-        self.words, self.port, self.folder, self.notes, self.process = [program, name, labels], port, folder, notes, None
+    def __init__(self, program, reach, folder, notes, name='r1', labels='linux', machine=Here()):
+        self.words, self.reach, self.machine = [program, name, labels], reach, machine
+        self.folder, self.notes, self.process = folder, notes, None
         os.makedirs(folder, exist_ok=True)
         self.printed, self.errors = os.path.join(folder, 'printed'), os.path.join(folder, 'errors')
 
     def start(self, *more, pause=None, beat=None, **env):
         """With nothing to do it ends, or pauses for so many seconds."""
         program, name, labels = self.words
-        words = [program, str(self.port), name, labels, '--state', os.path.join(self.folder, 'state'), *more]
+        words = [*self.machine.words, program, *self.reach, name, labels, '--state', os.path.join(self.folder, 'state'), *more]
         words += [*(['--once'] if pause is None else ['--pause', str(pause)]), *([] if beat is None else ['--beat', str(beat)])]
         with open(self.printed, 'ab') as printed, open(self.errors, 'ab') as errors:
             self.process = subprocess.Popen(words, cwd=self.folder, stdin=subprocess.DEVNULL, stdout=printed, stderr=errors,
@@ -192,11 +262,11 @@ class Case(Host):
     def __init__(self, acts, runner, folder):
         self.service = Service(acts, folder)
         self.between, self.events, self.others = Between(self.service.runners), 0, []
-        super().__init__(runner, self.between.port, os.path.join(folder, 'one'), os.path.join(folder, 'notes'))
+        super().__init__(runner, [str(self.between.port)], os.path.join(folder, 'one'), os.path.join(folder, 'notes'))
 
     def another(self, name='r1', folder=None):
         """A runner on another host, which speaks to the service itself."""
-        host = Host(self.words[0], self.service.runners, os.path.join(os.path.dirname(self.folder), folder or f'host{len(self.others)}'), self.notes, name)
+        host = Host(self.words[0], [str(self.service.runners)], os.path.join(os.path.dirname(self.folder), folder or f'host{len(self.others)}'), self.notes, name)
         self.others.append(host)
         return host
 

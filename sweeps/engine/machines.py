@@ -16,6 +16,13 @@ class Network:
 
     def __init__(self, tag, others):
         self.tag, self.made, self.addresses = tag, [], {}
+        try:
+            self.begin(others)
+        except BaseException:
+            self.remove()
+            raise
+
+    def begin(self, others):
         self.add('engine', 1)
         self.inside('engine', 'ip', 'link', 'add', 'bridge', 'type', 'bridge')
         self.inside('engine', 'ip', 'addr', 'add', f'{self.addresses["engine"]}/24', 'dev', 'bridge')
