@@ -1,5 +1,6 @@
 """Puts local reusable workflows in place: the jobs of a workflow that is called by `uses: ./.github/workflows/NAME` become jobs of the one that calls it."""
 import json, re
+import github_matrices
 from github_expressions import PIECE, Rest, text_of
 from github_filters import as_list, inputs_of, triggers_of
 
@@ -84,27 +85,63 @@ def called_jobs(name, job, known):
         raise ValueError(f'{place}.uses: `on` of {path} does not name workflow_call')
     if not isinstance(called.get('jobs'), dict) or not called['jobs'] or not all(isinstance(inner, dict) for inner in called['jobs'].values()):
         raise ValueError(f'{place}.uses: {path} has no jobs, or one that is no object')
-    form = on['workflow_call']
-    inputs = inputs_of(form.get('inputs'), given_inputs(job, form, known, place))
-    inner = known.within(inputs)
+    forms = on['workflow_call'].get('inputs') or {}
+    unknown = [given for given in job.get('with') or {} if given not in forms]
+    if unknown:
+        raise ValueError(f'{place}.with.{unknown[0]}: the called workflow has no such input')
+    rows = github_matrices.rows_of(job, place)
+    if rows is None:
+        return jobs_of_call(name, job, called, known, given_inputs(job, forms, known, place))
+    if github_matrices.is_one_job(called):
+        return one_job(name, job, rows, called, forms, known)
+    return jobs_of_rows(name, job, rows, called, forms, known)
+
+
+def jobs_of_call(name, job, called, known, inputs):
+    """The jobs of a called workflow that gets these inputs."""
+    place, inner = f'jobs.{name}', known.within(inputs)
     workflow = inner.workflow(called)
-    known.notes += [(number, f'{place}: {path}: {where}', text) for number, where, text in inner.notes]
+    known.notes += [(number, f'{place}: {path_of(job)}: {where}', text) for number, where, text in inner.notes]
     jobs = without_skipped({id: with_settings(workflow, inner_job) for id, inner_job in workflow['jobs'].items()})
     jobs = conditioned(one_group(jobs, job, workflow, place), job, place)
     replaced = Replaced(inputs, secrets_of(job, place), {id: f'{name}__{id}' for id in jobs}, workflow['jobs'].keys() - jobs.keys(), place)
     return {f'{name}__{id}': replaced.job(inner_job) for id, inner_job in jobs.items()}
 
 
-def given_inputs(job, form, known, place):
-    given = {name: known.value(value) for name, value in (job.get('with') or {}).items()}
+def one_job(name, job, rows, called, forms, known):
+    """The single job of a called workflow, which gets the matrix of the call."""
+    passed, each = github_matrices.passed_on(job, rows, forms, known, f'jobs.{name}')
+    for inputs in each:
+        known.within(inputs).workflow(called)  # faults an environment that is not free
+    made = jobs_of_call(name, job, called, known.without_environments(), {**each[0], **passed})
+    left_out = () if known.free is None else ('environment',)
+    return {id: {**{member: value for member, value in inner.items() if member not in left_out}, 'strategy': job['strategy']} for id, inner in made.items()}
+
+
+def jobs_of_rows(name, job, rows, called, forms, known):
+    """The jobs of a called workflow for each combination of the call."""
+    place = f'jobs.{name}'
+    if not github_matrices.are_apart(job['strategy'], rows):
+        raise ValueError(f'{place}.strategy: {path_of(job)} has several jobs or a matrix, so `fail-fast` has to be false, and there can be no `max-parallel`')
+    if re.search(r'\bmatrix\b', json.dumps(job.get('secrets'))):
+        raise ValueError(f'{place}.secrets: they depend on the matrix')
+    groups = []
+    for number, row in enumerate(rows):
+        there = known.beside({'matrix': row})
+        call = github_matrices.call_of(job, there)
+        groups.append(jobs_of_call(f'{name}__{number}', call, called, known, given_inputs(call, forms, there, place)))
+        if sum(map(len, groups)) > MOST_JOBS:
+            break  # `in_place` refuses them
+    return github_matrices.without_skipped_rows(groups)
+
+
+def given_inputs(job, forms, known, place):
+    """The inputs of a call, all of which are known."""
+    given = github_matrices.values_of(job, known)
     for name, value in given.items():
-        if name not in (form.get('inputs') or {}):
-            raise ValueError(f'{place}.with.{name}: the called workflow has no such input')
         if isinstance(value, Rest):
             raise ValueError(f'{place}.with.{name}: {job["with"][name]} is not known before the run')
-    if 'strategy' in job:
-        raise ValueError(f'{place}.strategy: a called workflow is put in place once, so without a matrix')
-    return given
+    return inputs_of(forms, given)
 
 
 def without_skipped(jobs):
@@ -201,7 +238,10 @@ class Replaced:
         if context == 'needs' and name in self.skipped:
             return constant({'result': 'skipped', 'outputs': {}})
         if context == 'inputs':
-            return constant(self.inputs.get(name.lower()) if name else self.inputs)
+            value = self.inputs.get(name.lower()) if name else self.inputs
+            if not name and any(isinstance(item, Rest) for item in self.inputs.values()):
+                raise ValueError(f'{self.place}.with: the called workflow asks for all inputs at once, of which one depends on the matrix')
+            return value.text if isinstance(value, Rest) else constant(value)
         if context == 'secrets' and self.secrets is not None:
             if name is None:
                 raise ValueError(f'{self.place}.secrets: the called workflow asks for all of them')

@@ -78,6 +78,16 @@ class Known:
         """What is known in a workflow that is called with these inputs."""
         return Known({**self.contexts, 'inputs': inputs}, self.free, self.read_file, self.depth + 1)
 
+    def beside(self, contexts):
+        """What is known with these contexts besides."""
+        return Known({**self.contexts, **contexts}, self.free, self.read_file, self.depth)
+
+    def without_environments(self):
+        """The same, for a workflow whose environments have been judged; it shares the notes."""
+        made = Known(self.contexts, None, self.read_file, self.depth)
+        made.notes = self.notes
+        return made
+
     def called(self, path):
         """The workflow in a file of the repository."""
         text = self.read_file(path) if self.read_file else None
