@@ -91,7 +91,7 @@ def called_jobs(name, job, known):
         raise ValueError(f'{place}.with.{unknown[0]}: the called workflow has no such input')
     rows = github_matrices.rows_of(job, place)
     if rows is None:
-        return jobs_of_call(name, job, called, known, given_inputs(job, forms, known, place))
+        return jobs_of_call(name, job, called, known, github_matrices.inputs_of_call(job, forms, known, place)[0][0])
     if github_matrices.is_one_job(called):
         return one_job(name, job, rows, called, forms, known)
     return jobs_of_rows(name, job, rows, called, forms, known)
@@ -110,7 +110,7 @@ def jobs_of_call(name, job, called, known, inputs):
 
 def one_job(name, job, rows, called, forms, known):
     """The single job of a called workflow, which gets the matrix of the call."""
-    passed, each = github_matrices.passed_on(job, rows, forms, known, f'jobs.{name}')
+    each, passed = github_matrices.inputs_of_call(job, forms, known, f'jobs.{name}', rows)
     for inputs in each:
         known.within(inputs).workflow(called)  # faults an environment that is not free
     made = jobs_of_call(name, job, called, known.without_environments(), {**each[0], **passed})
@@ -129,19 +129,10 @@ def jobs_of_rows(name, job, rows, called, forms, known):
     for number, row in enumerate(rows):
         there = known.beside({'matrix': row})
         call = github_matrices.call_of(job, there)
-        groups.append(jobs_of_call(f'{name}__{number}', call, called, known, given_inputs(call, forms, there, place)))
+        groups.append(jobs_of_call(f'{name}__{number}', call, called, known, github_matrices.inputs_of_call(call, forms, there, place)[0][0]))
         if sum(map(len, groups)) > MOST_JOBS:
             break  # `in_place` refuses them
     return github_matrices.without_skipped_rows(groups)
-
-
-def given_inputs(job, forms, known, place):
-    """The inputs of a call, all of which are known."""
-    given = github_matrices.values_of(job, known)
-    for name, value in given.items():
-        if isinstance(value, Rest):
-            raise ValueError(f'{place}.with.{name}: {job["with"][name]} is not known before the run')
-    return inputs_of(forms, given)
 
 
 def without_skipped(jobs):
@@ -240,7 +231,7 @@ class Replaced:
         if context == 'inputs':
             value = self.inputs.get(name.lower()) if name else self.inputs
             if not name and any(isinstance(item, Rest) for item in self.inputs.values()):
-                raise ValueError(f'{self.place}.with: the called workflow asks for all inputs at once, of which one depends on the matrix')
+                raise ValueError(f'{self.place}.with: the called workflow asks for all inputs at once, of which one is not known before the run')
             return value.text if isinstance(value, Rest) else constant(value)
         if context == 'secrets' and self.secrets is not None:
             if name is None:

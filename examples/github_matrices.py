@@ -1,15 +1,17 @@
-"""Calls of local reusable workflows with a matrix: which jobs stand for such a call."""
+"""Calls of local reusable workflows: what their inputs are, and what stands for a call with a matrix."""
 import itertools, re
 from github_expressions import PIECE, Rest, text_of
-from github_filters import inputs_of
+from github_filters import as_list, inputs_of
 
-PASSED = re.compile(r' *matrix(?: *\. *[A-Za-z_][\w-]*)+ *')  # what a call of one job may pass on
+NAME = r'[A-Za-z_][\w-]*'
+MATRIX = re.compile(rf' *matrix(?: *\. *{NAME})+ *')
+OUTPUT = re.compile(rf' *needs *\. *({NAME}) *\. *outputs *\. *{NAME} *')
 OWN = re.compile(r"'(?:[^']|'')*'|(?<![\w.-])(matrix|strategy)(?![\w-])", re.I)  # what names the matrix in an expression
 MOST_COMBINATIONS = 256  # of a matrix: GitHub's limit
 
 
 class Passed(Rest):
-    """An input that each combination gives another value. `text` is the expression for it in the job."""
+    """An input that only the run knows, or that each combination gives another value. `text` is the expression for it in a job."""
 
     def __new__(cls, text):
         made = super().__new__(cls, '?')
@@ -71,28 +73,37 @@ def are_apart(strategy, rows):
     return len(rows) == 1 or strategy.get('fail-fast') is False and 'max-parallel' not in strategy
 
 
-def passed_on(job, rows, forms, known, place):
-    """The inputs that each combination gives another value, and all inputs as each combination gives them."""
-    passed = {}
-    for name, text in (job.get('with') or {}).items():
-        if not isinstance(known.value(text), Rest):
-            continue
-        whole = PIECE.fullmatch(text.strip())
-        if not whole or not PASSED.fullmatch(whole[1]):
-            raise ValueError(f'{place}.with.{name}: {text} is not known before the run, and no value of the matrix alone')
-        passed[name] = Passed(whole[1])
-    each = [inputs_of(forms, given) for given in (values_of(job, known.beside({'matrix': row})) for row in rows)]
-    for name in passed:
-        kind = (forms[name] or {}).get('type', 'string')
-        for row, inputs in zip(rows, each):
-            value = known.beside({'matrix': row}).value(job['with'][name])
-            if kind != 'string' and (type(value), value) != (type(inputs[name]), inputs[name]):
-                raise ValueError(f'{place}.with.{name}: {text_of(value)} is no {kind}')
-    return passed, each
+def passed_on(text, job, place):
+    """The expression that the jobs of a called workflow get for a value that only the run knows, or that each combination gives."""
+    whole = PIECE.fullmatch(text.strip())
+    if whole and 'strategy' in job and MATRIX.fullmatch(whole[1]):
+        return Passed(whole[1])
+    output = whole and OUTPUT.fullmatch(whole[1])
+    if output and output[1] in as_list(job.get('needs', [])):
+        return Passed(whole[1])
+    raise ValueError(f'{place}: {text} is not known before the run')
 
 
-def values_of(job, known):
-    return {name: known.value(value) for name, value in (job.get('with') or {}).items()}
+def inputs_of_call(job, forms, known, place, rows=(None,)):
+    """The inputs of a call for each combination, and those of them that are expressions in the jobs of the called workflow."""
+    texts = job.get('with') or {}
+    passed = {name: passed_on(text, job, f'{place}.with.{name}') for name, text in texts.items() if isinstance(known.value(text), Rest)}
+    each = []
+    for row in rows:
+        there = known if row is None else known.beside({'matrix': row})
+        given = {name: there.value(text) for name, text in texts.items()}
+        for name in passed:
+            check_kind(given[name], (forms[name] or {}).get('type', 'string'), f'{place}.with.{name}')
+        each.append({**inputs_of(forms, given), **{name: value for name, value in passed.items() if isinstance(given[name], Rest)}})
+    return each, passed
+
+
+def check_kind(value, kind, place):
+    """Faults a value that is passed on as it is, and not made one of its input's type."""
+    if isinstance(value, Rest) and kind != 'string':
+        raise ValueError(f'{place}: it is not known before the run whether it is a {kind}')
+    if kind == 'boolean' and not isinstance(value, bool) or kind == 'number' and not (isinstance(value, (int, float)) and not isinstance(value, bool)):
+        raise ValueError(f'{place}: {text_of(value)} is no {kind}')
 
 
 def call_of(job, known):
