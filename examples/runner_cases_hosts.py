@@ -70,6 +70,7 @@ def one_exact_name(case):
     assert sorted(case.noted()) == wanted, case.noted()
     ended = [host.complained() for host in hosts if host.has_ended()]
     assert len(ended) == 1 and 'add --take-over' in ended[0], ended
+    assert all('its name is used as it is (--exact-name): no other host may use it' in host.complained() for host in hosts), 'there is no warning'
 
 
 def exact_name_is_known(case):

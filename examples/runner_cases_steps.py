@@ -430,21 +430,44 @@ def file_that_cannot_be_removed(case):
     assert len(left) == 1 and case.said()[-2:] == ['r1: run 2 build 0 success: ok', 'r1: nothing'] and case.noted() == ['empty'], f'{left} {case.noted()}'
 
 
+@contextlib.contextmanager
+def _small_disk(path, size):
+    """Whether a folder is a file system of its own, of so many bytes."""
+    os.mkdir(path)
+    is_one = not subprocess.run(['mount', '-t', 'tmpfs', '-o', f'size={size}', 'tmpfs', path], capture_output=True, check=False).returncode
+    try:
+        yield is_one
+    finally:
+        if is_one:
+            subprocess.run(['umount', '-l', path], check=True)
+
+
 def full_disk_fails_a_leg_alone(case):
     """A step fills the file system of the runner's folders: the leg is reported, and the next one runs."""
-    state = os.path.join(case.folder, 'state')
-    os.mkdir(state)
-    if subprocess.run(['mount', '-t', 'tmpfs', '-o', 'size=6m', 'tmpfs', state], capture_output=True, check=False).returncode:
-        return print('full_disk_fails_a_leg_alone: no mount is allowed here, so it was not tried')
-    try:
+    with _small_disk(os.path.join(case.folder, 'state'), '6m') as is_small:
+        if not is_small:
+            return print('full_disk_fails_a_leg_alone: no mount is allowed here, so it was not tried')
         case.post('head -c 20000000 /dev/zero > full || true; echo began >> "$NOTES"; ! echo more > more 2> /dev/null')
         case.post('echo next >> "$NOTES"')
         case.start()
         until(case.has_ended)
         assert case.said()[-2:] == ['r1: run 2 build 0 success: ok', 'r1: nothing'] and case.noted() == ['began', 'next'], f'{case.said()} {case.complained()}'
-    finally:
-        case.kill()
-        subprocess.run(['umount', '-l', state], check=True)
+
+
+def full_work_leaves_the_log(case):
+    """What steps write is on a file system of its own, and a step fills it: the log has what comes after that, and the next leg runs."""
+    work = os.path.join(case.folder, 'work')
+    with _small_disk(work, '2m') as is_small:
+        if not is_small:
+            return print('full_work_leaves_the_log: no mount is allowed here, so it was not tried')
+        case.post('head -c 20000000 /dev/zero > full || true; ! echo more > more 2> /dev/null; seq 100000 | tail -n 5000; echo last')
+        case.post('head -c 1000000 /dev/zero > file; echo next >> "$NOTES"')
+        case.start('--work', work)
+        until(case.has_ended)
+        assert case.said()[-2:] == ['r1: run 2 build 0 success: ok', 'r1: nothing'] and case.noted() == ['next'], f'{case.said()} {case.complained()}'
+        log = lines_of(os.path.join(case.home(), 'logs', 'run-1-build-0-lease-1.log'))
+        assert any(line.endswith('last') for line in log) and sum(line.endswith('00') for line in log) == 50, log[-3:]
+        assert not any(os.path.isfile(os.path.join(path, name)) for path, _, names in os.walk(work) for name in names), 'work is not empty'
 
 
 def note_that_is_not_kept_is_a_failure(case):
