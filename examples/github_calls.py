@@ -2,7 +2,7 @@
 import json, re
 import github_matrices
 from github_expressions import PIECE, Rest, text_of
-from github_filters import as_list, inputs_of, triggers_of
+from github_filters import as_list, triggers_of
 
 LOCAL = re.compile(r'\./(\.github/workflows/[^/@]+\.ya?ml)')
 DEEPEST = 10  # workflows that call one another: GitHub's limit
@@ -105,7 +105,9 @@ def jobs_of_call(name, job, called, known, inputs):
     jobs = without_skipped({id: with_settings(workflow, inner_job) for id, inner_job in workflow['jobs'].items()})
     jobs = conditioned(one_group(jobs, job, workflow, place), job, place)
     replaced = Replaced(inputs, secrets_of(job, place), {id: f'{name}__{id}' for id in jobs}, workflow['jobs'].keys() - jobs.keys(), place)
-    return {f'{name}__{id}': replaced.job(inner_job) for id, inner_job in jobs.items()}
+    made = {f'{name}__{id}': replaced.job(inner_job) for id, inner_job in jobs.items()}
+    github_matrices.check_outputs(made, inputs, place)
+    return made
 
 
 def one_job(name, job, rows, called, forms, known):

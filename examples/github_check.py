@@ -1,5 +1,5 @@
 """Judges, before a push, what the bridge would send of a workflow: by `acts lint`, and by what the bridge itself refuses to send."""
-import json, pathlib, subprocess
+import json, subprocess
 import github_filters, github_workflows
 from github_sending import event_of
 

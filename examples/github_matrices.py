@@ -1,5 +1,5 @@
 """Calls of local reusable workflows: what their inputs are, and what stands for a call with a matrix."""
-import itertools, re
+import itertools, json, re
 from github_expressions import PIECE, Rest, text_of
 from github_filters import as_list, inputs_of
 
@@ -96,6 +96,16 @@ def inputs_of_call(job, forms, known, place, rows=(None,)):
             check_kind(given[name], (forms[name] or {}).get('type', 'string'), f'{place}.with.{name}')
         each.append({**inputs_of(forms, given), **{name: value for name, value in passed.items() if isinstance(given[name], Rest)}})
     return each, passed
+
+
+def check_outputs(jobs, inputs, place):
+    """Faults jobs that ask for an output where the service evaluates, which knows none."""
+    outputs = [(name, value.text) for name, value in inputs.items() if isinstance(value, Passed) and OUTPUT.fullmatch(value.text)]
+    for id, job in jobs.items():
+        for member in 'runs-on', 'concurrency', 'continue-on-error', 'strategy':
+            for name, text in outputs:
+                if text in json.dumps(job.get(member)):
+                    raise ValueError(f'{place}.with.{name}: {text} is known to runners alone, and {id} has it in {member}')
 
 
 def check_kind(value, kind, place):

@@ -4,9 +4,7 @@ import json
 import os
 import signal
 import socket
-import ssl
 import subprocess
-import threading
 import time
 from runner_trials import certificates, forward, lines_of, server_tls, until
 
