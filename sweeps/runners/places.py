@@ -1,6 +1,7 @@
 """Where the service and the hosts of a trial are: each on a machine of its own, which is a network namespace, where these are to be had."""
 import os
 import shutil
+import signal
 import socket
 import sys
 import tempfile
@@ -36,10 +37,16 @@ class Apart:
         self.network = machines.Network(f'runners{os.getpid()}', ['service', *hosts])
         self.address, self.listeners, self.cuts = self.network.addresses['service'], [], 0
         self.folder = tempfile.TemporaryDirectory()
-        if speaks_tls:
-            certificates(self.folder.name, self.address)
-        self.tls = server_tls(self.folder.name) if speaks_tls else None
+        self.tls = self.made_tls() if speaks_tls else None
         self.service, self.machines = Machine(self, 'service'), [Machine(self, name) for name in hosts]
+
+    def made_tls(self):
+        try:
+            certificates(self.folder.name, self.address)
+            return server_tls(self.folder.name)
+        except BaseException:
+            self.remove()
+            raise
 
     def listen(self, name, address, connect, tls=None):
         """Passes on what comes to an address of a machine. Gives the port."""
@@ -116,6 +123,7 @@ def places(hosts, runner):
     missing = [name for name in ('ip', 'nsenter', 'openssl') if not shutil.which(name)]
     if os.geteuid() or missing:
         return Together(hosts, f'{missing[0]} is not here' if missing else 'only root makes namespaces')
+    signal.signal(signal.SIGTERM, lambda *_: sys.exit('ended by a signal'))  # so that the namespaces are removed
     try:
         return Apart([f'host{number}' for number in range(hosts)], speaks_tls)
     except processes.Wrong as fault:
