@@ -1,5 +1,5 @@
 """Calls of local reusable workflows: what their inputs are, and what stands for a call with a matrix."""
-import itertools, json, re
+import itertools, json, math, re
 from github_expressions import PIECE, Rest, text_of
 from github_filters import as_list, inputs_of
 
@@ -7,7 +7,7 @@ NAME = r'[A-Za-z_][\w-]*'
 MATRIX = re.compile(rf' *matrix(?: *\. *{NAME})+ *')
 OUTPUT = re.compile(rf' *needs *\. *({NAME}) *\. *outputs *\. *{NAME} *')
 OWN = re.compile(r"'(?:[^']|'')*'|(?<![\w.-])(matrix|strategy)(?![\w-])", re.I)  # what names the matrix in an expression
-MOST_COMBINATIONS = 256  # of a matrix: GitHub's limit
+MOST_COMBINATIONS, MOST_CHOICES = 256, 4096  # of a matrix: GitHub's limit of jobs, and the service's before `exclude`
 
 
 class Passed(Rest):
@@ -24,11 +24,13 @@ def combinations(matrix):
     lists = {name: values for name, values in matrix.items() if name not in ('include', 'exclude')}
     if not lists and 'include' not in matrix or not all(isinstance(values, list) for values in matrix.values()):
         raise ValueError('it is not known before the run')
-    rows = [dict(zip(lists, values)) for values in itertools.islice(itertools.product(*lists.values()), MOST_COMBINATIONS + 1)] if lists else []
-    rows = [row for row in rows if not any(all(name in row and row[name] == value for name, value in left_out.items()) for left_out in matrix.get('exclude', []))]
+    if math.prod(map(len, lists.values())) > MOST_CHOICES:
+        raise ValueError(f'it has over {MOST_CHOICES} choices')
+    rows = [dict(zip(lists, values)) for values in itertools.product(*lists.values())] if lists else []
+    rows = [row for row in rows if not any(left_out.keys() <= row.keys() and agree(row, left_out) for left_out in matrix.get('exclude', []))]
     made = [dict(row) for row in rows]
     for more in matrix.get('include', []):
-        fitting = [new for row, new in zip(rows, made) if all(name not in row or row[name] == value for name, value in more.items())]
+        fitting = [new for row, new in zip(rows, made) if agree(row, more)]
         for new in fitting:
             new.update(more)
         if not fitting:
@@ -36,6 +38,11 @@ def combinations(matrix):
     if not 0 < len(made) <= MOST_COMBINATIONS:
         raise ValueError(f'it has {"no combination" if not made else f"over {MOST_COMBINATIONS} combinations"}')
     return made
+
+
+def agree(row, other):
+    """Whether two combinations have the same values under the names that both have. `true` is not 1."""
+    return all(json.dumps(row[name]) == json.dumps(other[name]) for name in row.keys() & other.keys())
 
 
 def rows_of(job, place):
