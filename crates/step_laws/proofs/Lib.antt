@@ -1,0 +1,4 @@
+pub mod After
+pub mod Answered
+mod BeatRows
+mod ConditionRows
