@@ -1,0 +1,116 @@
+ghost use Rattle.std.specs.Prelude.{◌<◌, ◌≤◌, ◌^◌, length};
+ghost use Rattle.run_plan.specs.declared.last_command.LastCommand.TheVariants as last;
+ghost use Rattle.run_states.specs.RunState.{JobState, RunState};
+ghost use Rattle.run_table.specs.Sound.{IsSound};
+ghost use Rattle.run_table.specs.TableState.{RunnerState};
+ghost use Rattle.stored_tables.specs.Stored.{stored_last, stored_lease, stored_runner, stored_table};
+ghost use Rattle.table_text.specs.Tables.{job, kept_lease, last_command, lease, leg, run, runner, table};
+ghost use Rattle.table_text.specs.Writing.{HasByte, JobHasBytes, KeptHasBytes, RunHasBytes};
+
+use crate::commands::{admit_fits, claim_fits, done_fits, number_fits, small_text_fits};
+use crate::lists::{Fits, all_fit};
+use run_plan::{Claim, ClaimReply, KeptLease, LastCommand, Number};
+use run_states::{Job, Leg, Run};
+use run_table::{Runner, Table};
+
+fn lease_fits(value: Option<Number>)
+    ensures { lease.Takes value }
+{
+    match value {
+        Some(number) => number_fits(number),
+        None => {}
+    }
+}
+
+// ---- runs
+
+impl Fits for Leg {
+    ghost can = { HasByte };
+
+    ghost takes = { leg.Takes };
+
+    fn fits(&self) {
+        lease_fits(self.lease);
+    }
+}
+
+impl Fits for Job {
+    ghost can = { λ j. JobHasBytes j.state };
+
+    ghost takes = { λ j. job.Takes j.state };
+
+    fn fits(&self) {
+        all_fit(self.legs());
+    }
+}
+
+impl Fits for Run {
+    ghost can = { RunHasBytes };
+
+    ghost takes = { run.Takes };
+
+    fn fits(&self) {
+        admit_fits(self.prepared());
+        all_fit(self.jobs());
+    }
+}
+
+// ---- runners
+
+fn kept_lease_fits(kept: &KeptLease)
+    requires job { kept.now.job < 2 ^ 32 }
+    requires leg { kept.now.lease_reply.leg < 2 ^ 32 }
+    ensures { kept_lease.Takes (stored_lease kept.now) }
+{
+    number_fits(kept.lease_reply.lease);
+    number_fits(kept.lease_reply.run);
+    number_fits(kept.attempt);
+}
+
+fn last_claim_fits(claim: &Claim, reply: &ClaimReply)
+    requires { KeptHasBytes (last.Claim claim.now reply.now) }
+    ensures { last_command.Takes (stored_last (last.Claim claim.now reply.now)) }
+{
+    claim_fits(claim);
+    match reply {
+        ClaimReply::Nothing => {}
+        ClaimReply::Lease(given) => kept_lease_fits(given),
+    }
+}
+
+fn last_fits(value: &LastCommand)
+    requires { KeptHasBytes value.now }
+    ensures { last_command.Takes (stored_last value.now) }
+{
+    match value {
+        LastCommand::Claim(claim, reply) => last_claim_fits(claim, reply),
+        LastCommand::Done(report) => done_fits(report),
+    }
+}
+
+impl Fits for Runner {
+    ghost can = { λ r. KeptHasBytes r.last };
+
+    ghost takes = { λ r. runner.Takes (stored_runner r) };
+
+    fn fits(&self) {
+        small_text_fits(&self.name);
+        number_fits(self.number);
+        last_fits(&self.last);
+        lease_fits(self.holds);
+    }
+}
+
+// ---- tables
+
+pub(crate) fn table_fits(value: &Table)
+    requires { length value.now.runners ≤ 4294967295 }
+    ensures sound { IsSound value.now }
+    ensures takes { table.Takes (stored_table value.now) }
+{
+    let _ = value.last_lease();
+    let runs = value.runs();
+    let runners = value.runners();
+    all_fit(runs);
+    all_fit(runners);
+}
