@@ -5,5 +5,4 @@ mod PendingPart
 mod PortSlots
 mod QuietSteps
 mod Served
-mod TurnLists
 mod TurnsSoFar

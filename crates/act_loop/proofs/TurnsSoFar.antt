@@ -2,15 +2,22 @@
 use Rattle.std.proofs.Common.{◌≡◌, ℕ, ◌+◌, ◌<◌, ◌≤◌, ◌⊎◌, ⊎_elim, true, false, Bool, List, [], ◌∷◌, ◌++◌, length, refl, sym, ap, subst, ◌∙◌, inl, inr, append-nil, append_assoc, length-append, arith}
 use Rattle.std.specs.Prelude.{Option, Some, None}
 use Rattle.std.proofs.lemmas.Bool.Decides.{nat_tests}
+use Rattle.act_sessions.specs.declared.request.Demand.{Demand}
+use Rattle.act_sessions.specs.declared.request.Demand.TheVariants as demand
 use Rattle.act_sessions.specs.declared.request.Request.{Request}
+use Rattle.act_sessions.specs.declared.turn_text.TurnText.{TurnText}
+use Rattle.act_sessions.specs.Taking.{IsText, TakesDemand}
 use Rattle.act_sessions.specs.Exchange.{Exchange}
-use Rattle.act_sessions.specs.Rules.{Rules, Turn, Reads, IsEnded, IsOpen, exchanges_at, exchanges_of, is_last, request_of, texts, turn_text}
+use Rattle.act_sessions.specs.Rules.{Rules, Turn, Answered, Refused, Reads, IsEnded, IsOpen, exchanges_at, exchanges_of, is_last, request_of, texts, turn_text}
 use Rattle.act_store.specs.StoreState.{StoreState}
 use Rattle.act_loop.specs.declared.pause.Pause.TheVariants as pause
+use Rattle.act_loop.specs.Authors.{IsEntered}
+use Rattle.act_loop.specs.Conversation.{AreFew}
 use Rattle.act_loop.specs.Entering.{Enters}
+use Rattle.act_loop.specs.declared.author.Author.{Author}
 use Rattle.act_loop.specs.declared.turns.TheConstants.{MAX_WITHHELD}
 use Rattle.act_loop.specs.Turns.{Appended, EndsRound, Goes, Moment, TakesTurn, TakesTurns, Writes, pause_after}
-use Rattle.act_loop.proofs.TurnLists.{Reads_snoc, IsOpen_snoc, IsEnded_snoc, texts_snoc, exchanges_snoc}
+use Rattle.act_sessions.proofs.Listing.{Reads_snoc, IsOpen_snoc, IsEnded_snoc, texts_snoc, exchanges_snoc}
 
 pub enters_then : {D : Type 0} (number : ℕ) (old mid new : StoreState D) (xs ys : List Exchange) → Enters number old xs mid → Enters number mid ys new
     → Enters number old (xs ++ ys) new
@@ -26,6 +33,7 @@ goes_start p number n bytes now room = record {
   room = room;
   enters = refl;
   exchanges_are = sym (append-nil now.exchanges);
+  few_withheld = λ few. few;
   wrote = sym (append-nil now.out);
 }
 
@@ -34,7 +42,7 @@ still_room : {F : Type 0} (p : Rules F) (n : ℕ) (t : Turn F) → n < p.most �
 still_room p n t room h = grind (arith, nat_tests)
 
 module _ {F D : Type 0} (p : Rules F) (number n most : ℕ) (bytes : List ℕ) (old mid new : Moment D) (count : ℕ) (held left : List ℕ) (r : Request F)
-    (below : count < n + most) (goes : Goes p number n bytes old mid count held) (reads : p.reads held r left) where
+    (below : count < n + most) (short : length mid.out < MAX_WITHHELD) (goes : Goes p number n bytes old mid count held) (reads : p.reads held r left) where
   few_more : (t : Turn F) → length (goes.turns ++ t ∷ []) ≤ most
   few_more t = let e = length-append goes.turns (t ∷ []) in let f = goes.count_is in omega arith
 
@@ -57,6 +65,16 @@ module _ {F D : Type 0} (p : Rules F) (number n most : ℕ) (bytes : List ℕ) (
       ∙ ap (λ (b : Bool). old.out ++ (texts p n goes.turns ++ turn_text p b t)) (sym is)
       ∙ ap (λ (l : List ℕ). old.out ++ l) (sym (texts_snoc p n count goes.turns t (sym goes.count_is)))
 
+  few_more_withheld : (t : Turn F) (last : Bool) → new.out ≡ mid.out ++ turn_text p last t → AreFew p false new.out
+  few_more_withheld t last is = (
+    turn_text p last t,
+    [],
+    inr (t, last, refl),
+    inl refl,
+    λ live. refl,
+    let e = ap length is in let f = length-append mid.out (turn_text p last t) in omega arith,
+  )
+
   -- a turn that is not the last
   pub goes_on : TakesTurn p number count r mid new (Some false) → Goes p number n bytes old new (count + 1) left
   goes_on took = record {
@@ -67,6 +85,7 @@ module _ {F D : Type 0} (p : Rules F) (number n most : ℕ) (bytes : List ℕ) (
     room = still_room p count took.turn goes.room took.writes.0;
     enters = enters_more took.turn took.enters;
     exchanges_are = asked_more took.turn took.exchanges_are;
+    few_withheld = λ few. few_more_withheld took.turn false took.writes.1;
     wrote = wrote_more took.turn false took.writes.0 took.writes.1;
   }
 
@@ -79,6 +98,7 @@ module _ {F D : Type 0} (p : Rules F) (number n most : ℕ) (bytes : List ℕ) (
     reads = reads_more took.turn took.is;
     enters = enters_more took.turn took.enters;
     exchanges_are = asked_more took.turn took.exchanges_are;
+    few_withheld = λ few. few_more_withheld took.turn true took.writes.1;
     paused = (
       IsEnded_snoc p n count goes.turns took.turn goes.unended (sym goes.count_is) took.writes.0,
       wrote_more took.turn true took.writes.0 took.writes.1,
@@ -94,6 +114,7 @@ module _ {F D : Type 0} (p : Rules F) (number n most : ℕ) (bytes : List ℕ) (
     reads = reads_more took.turn took.is;
     enters = enters_more took.turn took.enters;
     exchanges_are = asked_more took.turn took.exchanges_are;
+    few_withheld = λ few. subst (AreFew p false) (sym took.writes) (goes.few_withheld few);
     paused = (goes.turns, (goes.unended, inr (took.turn, refl)), took.writes ∙ goes.wrote);
   }
 
@@ -111,6 +132,7 @@ module _ {F D : Type 0} (p : Rules F) (number n most : ℕ) (bytes : List ℕ) (
     reads = goes.reads;
     enters = goes.enters;
     exchanges_are = goes.exchanges_are;
+    few_withheld = goes.few_withheld;
     paused = (goes.unended, refl, waits, short, goes.count_is, goes.room, goes.wrote);
   }
 
@@ -123,6 +145,7 @@ module _ {F D : Type 0} (p : Rules F) (number n most : ℕ) (bytes : List ℕ) (
     reads = goes.reads;
     enters = goes.enters;
     exchanges_are = goes.exchanges_are;
+    few_withheld = goes.few_withheld;
     paused = (
       goes.unended,
       refl,
@@ -142,18 +165,58 @@ module _ {F D : Type 0} (p : Rules F) (number n most : ℕ) (bytes : List ℕ) (
     reads = goes.reads;
     enters = goes.enters;
     exchanges_are = goes.exchanges_are;
+    few_withheld = goes.few_withheld;
     paused = (goes.turns, (goes.unended, inl refl), goes.wrote);
   }
 
-pub writes_appended : {F : Type 0} (p : Rules F) (n : ℕ) (t : Turn F) (out out_new : List ℕ) (last : Bool) (r : Option Bool) → is_last p n t ≡ last
-    → Appended (turn_text p last t) last out out_new r → Writes p n t out out_new r
-writes_appended p n t out out_new last (Some l) is says =
-    (is ∙ sym says.0, says.1 ∙ ap (λ (b : Bool). out ++ turn_text p b t) (sym says.0))
-writes_appended p n t out out_new last None is says = says
+writes_text : {F : Type 0} (p : Rules F) (n : ℕ) (t : Turn F) (out out_new : List ℕ) (text : TurnText) (r : Option Bool) → IsText p n t text
+    → Appended (Some text) out out_new r → Writes p n t out out_new r
+writes_text p n t out out_new text (Some last) (is, words) (same, appended) =
+    (is ∙ sym same, appended ∙ ap (λ (w : List ℕ). out ++ w) (words ∙ ap (λ (b : Bool). turn_text p b t) (sym same)))
+writes_text p n t out out_new text None is same = same
+
+writes_none : {F : Type 0} (p : Rules F) (n : ℕ) (t : Turn F) (out out_new : List ℕ) (r : Option Bool) → Appended None out out_new r → Writes p n t out out_new r
+writes_none p n t out out_new (Some last) wrong = absurd wrong
+writes_none p n t out out_new None same = same
+
+-- a turn was taken, and its text appended
+pub turn_appended : {F D : Type 0} (p : Rules F) (n : ℕ) (d : Demand F) (closes : Bool) (old new : Author) (store store_new : StoreState D) (out out_new : List ℕ)
+    (text : Option TurnText) (r : Option Bool) → TakesDemand p IsEntered n d closes old store new store_new text → Appended text out out_new r
+    → TakesTurn p old.number n (record { demand = d; closes = closes }) (record { store = store; exchanges = old.exchanges; out = out })
+    (record { store = store_new; exchanges = new.exchanges; out = out_new }) r
+turn_appended p n (demand.Command c) closes old new store store_new out out_new (Some text) r (answer, (entered, kept), is) wrote = record {
+  turn = Answered c closes answer;
+  is = refl;
+  enters = (store_new, entered, refl);
+  exchanges_are = kept;
+  writes = writes_text p n (Answered c closes answer) out out_new text r is wrote;
+}
+turn_appended p n (demand.Command c) closes old new store store_new out out_new None r (Some answer, (entered, kept)) wrote = record {
+  turn = Answered c closes answer;
+  is = refl;
+  enters = (store_new, entered, refl);
+  exchanges_are = kept;
+  writes = writes_none p n (Answered c closes answer) out out_new r wrote;
+}
+turn_appended p n (demand.Command c) closes old new store store_new out out_new None r (None, never) wrote = absurd never
+turn_appended p n (demand.Fault f) closes old new store store_new out out_new (Some text) r (same, still, is) wrote = record {
+  turn = Refused f closes;
+  is = refl;
+  enters = still;
+  exchanges_are = ap (λ (a : Author). a.exchanges) same ∙ sym (append-nil old.exchanges);
+  writes = writes_text p n (Refused f closes) out out_new text r is wrote;
+}
+turn_appended p n (demand.Fault f) closes old new store store_new out out_new None r (same, still, none) wrote = record {
+  turn = Refused f closes;
+  is = refl;
+  enters = still;
+  exchanges_are = ap (λ (a : Author). a.exchanges) same ∙ sym (append-nil old.exchanges);
+  writes = writes_none p n (Refused f closes) out out_new r wrote;
+}
 
 pub round_ends : {F D : Type 0} (p : Rules F) (number n most : ℕ) (bytes : List ℕ) (old mid new : Moment D) (count : ℕ) (held left : List ℕ) (r : Request F)
-    → count < n + most → Goes p number n bytes old mid count held → p.reads held r left → (last : Option Bool) → TakesTurn p number count r mid new last
+    → count < n + most → length mid.out < MAX_WITHHELD → Goes p number n bytes old mid count held → p.reads held r left → (last : Option Bool) → TakesTurn p number count r mid new last
     → EndsRound p number n most bytes old new count left (pause_after last)
-round_ends p number n most bytes old mid new count held left r below goes reads (Some true) took = goes_over p number n most bytes old mid new count held left r below goes reads count took
-round_ends p number n most bytes old mid new count held left r below goes reads (Some false) took = goes_on p number n most bytes old mid new count held left r below goes reads took
-round_ends p number n most bytes old mid new count held left r below goes reads None took = goes_silent p number n most bytes old mid new count held left r below goes reads count took
+round_ends p number n most bytes old mid new count held left r below short goes reads (Some true) took = goes_over p number n most bytes old mid new count held left r below short goes reads count took
+round_ends p number n most bytes old mid new count held left r below short goes reads (Some false) took = goes_on p number n most bytes old mid new count held left r below short goes reads took
+round_ends p number n most bytes old mid new count held left r below short goes reads None took = goes_silent p number n most bytes old mid new count held left r below short goes reads count took

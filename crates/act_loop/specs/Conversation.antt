@@ -1,12 +1,15 @@
 -- What one client sent, and how it was answered.
-use Rattle.std.specs.Prelude.{◌≡◌, ◌⊎◌, ℕ, ◌≤◌, ◌<◌, Bool, true, false, List, [], ◌∷◌, ◌++◌, length, Some}
+use Rattle.std.specs.Prelude.{◌≡◌, ◌⊎◌, ℕ, ◌+◌, ◌≤◌, ◌<◌, Bool, true, false, List, [], ◌∷◌, ◌++◌, length, Some}
 use Rattle.act_sessions.specs.Exchange.{Exchange}
-use Rattle.act_sessions.specs.Rules.{Rules, Turn, Reads, IsEnded, IsOpen, exchanges_of, texts}
+use Rattle.act_sessions.specs.Rules.{Rules, Turn, Reads, IsEnded, IsOpen, exchanges_of, texts, turn_text}
 use Rattle.act_sessions.specs.Session.{ArePassed}
+use Rattle.act_loop.specs.declared.turns.TheConstants.{MAX_WITHHELD}
 
 -- The bytes that were received from a client, its commands with their answers, the bytes that were sent to it, and those that are withheld.
 pub record Conversation : Type 0 where
   pub received : List ℕ
+  -- how many requests were answered, while the session goes on
+  pub requests : ℕ
   pub exchanges : List Exchange
   pub sent : List ℕ
   pub withheld : List ℕ
@@ -21,7 +24,7 @@ answer_bytes c = c.sent ++ c.withheld
 
 -- a client that has just come
 abbrev pub no_conversation : Conversation
-no_conversation = record { received = []; exchanges = []; sent = []; withheld = []; more = false; over = false }
+no_conversation = record { received = []; requests = 0; exchanges = []; sent = []; withheld = []; more = false; over = false }
 
 -- the last bytes of a session that ran out of memory outside a command
 abbrev pub IsLastText : {F : Type 0} → Rules F → List ℕ → Type 0
@@ -31,6 +34,16 @@ IsLastText p last = (last ≡ []) ⊎ (p.out_of_memory_response ≡ Some last)
 abbrev pub IsCutShort : {F : Type 0} → Rules F → List (Turn F) → List ℕ → Type 0
 IsCutShort {F} p turns bytes =
     (passed : List (Turn F)) × ArePassed p 0 turns passed × (last : List ℕ) × IsLastText p last × (bytes ≡ texts p 0 passed ++ last)
+
+-- the bytes that answer one request, or none
+abbrev pub IsAnswer : {F : Type 0} → Rules F → List ℕ → Type 0
+IsAnswer {F} p bytes = (bytes ≡ []) ⊎ ((t : Turn F) × (last : Bool) × (bytes ≡ turn_text p last t))
+
+-- Beside those of one answer these are fewer bytes than `MAX_WITHHELD`, and beside the last text of a session that is over.
+abbrev pub AreFew : {F : Type 0} → Rules F → Bool → List ℕ → Type 0
+AreFew p over bytes =
+    (answer : List ℕ) × (last : List ℕ) × IsAnswer p answer × IsLastText p last × (over ≡ false → last ≡ [])
+    × (length bytes < MAX_WITHHELD + (length answer + length last))
 
 -- These bytes answer these turns, in a session that goes on or in one that is over.
 abbrev pub AreAnswers : {F : Type 0} → Rules F → Bool → List (Turn F) → List ℕ → Type 0
@@ -43,14 +56,16 @@ pub record Follows {F : Type 0} (p : Rules F) (c : Conversation) : Type 0 where
   pub turns : List (Turn F)
   pub rest : List ℕ
   pub reads : Reads p c.received turns rest
+  pub requests_are : c.over ≡ false → c.requests ≡ length turns
   pub exchanges_are : c.exchanges ≡ exchanges_of turns
   pub answers_are : AreAnswers p c.over turns (answer_bytes c)
   -- no whole request is left without an answer, and no more bytes wait than the protocol allows
   pub waits : c.over ≡ false → c.more ≡ false → ((c.received ≡ []) ⊎ p.waits rest) × (length rest ≤ p.limit)
+  -- a client that takes no answers has few bytes withheld
+  pub few_withheld : AreFew p c.over c.withheld
 
--- A session in memory: the number of turns, and the bytes after them.
-pub record IsInMemory {F : Type 0} (p : Rules F) (c : Conversation) (count : ℕ) (held : List ℕ) : Type 0 where
+-- A session in memory, with the bytes after its turns.
+pub record IsInMemory {F : Type 0} (p : Rules F) (c : Conversation) (held : List ℕ) : Type 0 where
   pub follows : Follows p c
-  pub count_is : c.over ≡ false → count ≡ length follows.turns
   pub held_is : c.over ≡ false → held ≡ follows.rest
-  pub room : c.over ≡ false → count < p.most
+  pub room : c.over ≡ false → c.requests < p.most

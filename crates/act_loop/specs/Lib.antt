@@ -1,4 +1,5 @@
 -- A service of many clients over one store, in one thread.
+pub mod Authors
 pub mod Clients
 pub mod Conversation
 pub mod Entering

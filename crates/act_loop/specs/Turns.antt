@@ -1,13 +1,14 @@
 -- The turns that one client's bytes lead to, over a store.
-use Rattle.std.specs.Prelude.{◌≡◌, ◌⊎◌, ℕ, ◌+◌, ◌≤◌, ◌<◌, Bool, true, false, List, ◌++◌, length, Option, Some, None, Result, Ok, Err, ⊤}
-use Rattle.wf_value.specs.declared.refusal.Refusal.{Refusal}
+use Rattle.std.specs.Prelude.{◌≡◌, ◌⊎◌, ℕ, ◌+◌, ◌≤◌, ◌<◌, Bool, true, false, List, ◌++◌, length, Option, Some, None}
 use Rattle.act_sessions.specs.declared.request.Request.{Request}
+use Rattle.act_sessions.specs.declared.turn_text.TurnText.{TurnText}
 use Rattle.act_sessions.specs.Exchange.{Exchange}
 use Rattle.act_sessions.specs.Rules.{Rules, Turn, Reads, IsEnded, IsOpen, exchanges_at, exchanges_of, is_last, request_of, texts, turn_text}
 use Rattle.act_sessions.specs.Session.{ArePassed}
 use Rattle.act_store.specs.StoreState.{StoreState}
 use Rattle.act_loop.specs.declared.pause.Pause.{Pause}
 use Rattle.act_loop.specs.declared.pause.Pause.TheVariants.{Memory, More, Over, Waits}
+use Rattle.act_loop.specs.Conversation.{AreFew}
 use Rattle.act_loop.specs.Entering.{Enters}
 use Rattle.act_loop.specs.declared.turns.TheConstants.{MAX_WITHHELD}
 
@@ -17,22 +18,18 @@ pub record Moment (D : Type 0) : Type 0 where
   pub exchanges : List Exchange
   pub out : List ℕ
 
--- the bytes began with this request, which was taken; or they are less than a request
-abbrev pub Finds : {F : Type 0} → Rules F → List ℕ → List ℕ → Result (Option (Request F)) Refusal → Type 0
-Finds p held left (Ok (Some request)) = p.reads held request left
-Finds p held left (Ok None) = p.waits held × (length held < p.limit) × (left ≡ held)
-Finds p held left (Err e) = ⊤
-
 -- why there is no further turn after one
 abbrev pub pause_after : Option Bool → Option Pause
 pause_after (Some true) = Some Over
 pause_after (Some false) = None
 pause_after None = Some Memory
 
--- this text was appended, and `last` is returned; or there was no memory for it
-abbrev pub Appended : List ℕ → Bool → List ℕ → List ℕ → Option Bool → Type 0
-Appended text last out out_new (Some l) = (l ≡ last) × (out_new ≡ out ++ text)
-Appended text last out out_new None = out_new ≡ out
+-- The text was appended, and whether it is the last is returned; or there was no text, or no memory for it.
+abbrev pub Appended : Option TurnText → List ℕ → List ℕ → Option Bool → Type 0
+Appended (Some text) out out_new (Some last) = (last ≡ text.last) × (out_new ≡ out ++ text.bytes.items)
+Appended (Some text) out out_new None = out_new ≡ out
+Appended None out out_new (Some last) = ⊥
+Appended None out out_new None = out_new ≡ out
 
 -- Whether a turn was the last one, and its text was appended; or there was no memory for the text.
 abbrev pub Writes : {F : Type 0} → Rules F → ℕ → Turn F → List ℕ → List ℕ → Option Bool → Type 0
@@ -67,6 +64,7 @@ pub record TakesTurns {F D : Type 0} (p : Rules F) (number n most : ℕ) (bytes 
   pub reads : Reads p bytes turns rest
   pub enters : Enters number old.store (exchanges_of turns) new.store
   pub exchanges_are : new.exchanges ≡ old.exchanges ++ exchanges_of turns
+  pub few_withheld : AreFew p false old.out → AreFew p false new.out
   pub paused : IsPaused p n most turns rest count held old.out new.out pause
 
 -- turns so far, of which none was the last
@@ -78,6 +76,7 @@ pub record Goes {F D : Type 0} (p : Rules F) (number n : ℕ) (bytes : List ℕ)
   pub room : count < p.most
   pub enters : Enters number old.store (exchanges_of turns) new.store
   pub exchanges_are : new.exchanges ≡ old.exchanges ++ exchanges_of turns
+  pub few_withheld : AreFew p false old.out → AreFew p false new.out
   pub wrote : new.out ≡ old.out ++ texts p n turns
 
 -- one round: a turn that is not the last, or the pause

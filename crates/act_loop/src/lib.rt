@@ -2,6 +2,7 @@
 //! withholds each answer until its entry is durable.
 #![tactic(auto)]
 
+mod author;
 mod byte_history;
 mod client;
 mod entry_history;

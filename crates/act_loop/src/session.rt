@@ -36,11 +36,11 @@ impl<P: Protocol> Model for Session<P> {
 
     ghost Value = { Conversation };
 
-    ghost view = { λ s. record { received = s.received; exchanges = s.exchanges; sent = s.sent; withheld = s.out.items; more = s.more; over = s.over } };
+    ghost view = { λ s. record { received = s.received; requests = s.count; exchanges = s.exchanges; sent = s.sent; withheld = s.out.items; more = s.more; over = s.over } };
 
     ghost invariant = { λ s. IsInMemory P.Protocol.rules
-        (record { received = s.received; exchanges = s.exchanges; sent = s.sent; withheld = s.out.items; more = s.more; over = s.over })
-        s.count s.held.items };
+        (record { received = s.received; requests = s.count; exchanges = s.exchanges; sent = s.sent; withheld = s.out.items; more = s.more; over = s.over })
+        s.held.items };
 }
 
 /// Appends the protocol's response to an out-of-memory condition, or nothing.

@@ -1,18 +1,19 @@
 use Rattle.std.proofs.Common.{Ok, subst, sym}
 use Rattle.std.specs.Prelude.{Option, Some}
+use Rattle.act_sessions.specs.Taking.{Finds}
 use Rattle.act_loop.specs.declared.pause.Pause.{Pause}
-use Rattle.act_loop.specs.Turns.{EndsRound, Finds, Moment}
+use Rattle.act_loop.specs.Turns.{EndsRound, Moment}
 use Rattle.act_loop.proofs.TurnsSoFar.{goes_blind, goes_waits, round_ends}
 use Rattle.act_loop.proofs.turns.take_round.Goals as goal
 
 pub returns : goal.returns
-returns g c n most bytes begin below goes =
+returns g c n most bytes begin below short goes =
     let p = g.P.Protocol.rules in
     let mid : Moment g.row.D.Denot = record { store = c.args.store.now; exchanges = c.args.exchanges.now; out = c.args.out.now.items } in
     let new : Moment g.row.D.Denot =
-    record { store = c.take_turn-last.new.store; exchanges = c.take_turn-last.new.exchanges; out = c.take_turn-last.new.out.items } in
+    record { store = c.append_turn-last.new.store; exchanges = c.append_turn-last.new.exchanges; out = c.append_turn-last.new.out.items } in
     let left = c.next_request.new.held.items in
     let found : Finds p c.args.held.now.items left (Ok (Some c.in-Ok-Some.request)) = rw c.in-Ok-Some.field-0-is at c.in-Ok-Some.ensures in
     subst (λ (r : Option Pause). EndsRound p c.args.number n most bytes begin new c.args.count left r) (sym c.pause_after.ensures)
-    (round_ends p c.args.number n most bytes begin mid new c.args.count c.args.held.now.items left c.in-Ok-Some.request below goes found
-    c.take_turn-last.result c.take_turn-last.ensures)
+    (round_ends p c.args.number n most bytes begin mid new c.args.count c.args.held.now.items left c.in-Ok-Some.request below short goes found.0
+    c.append_turn-last.result c.append_turn-last.ensures)

@@ -1,5 +1,7 @@
-use Rattle.std.proofs.Common.{arith, inr, min, ℕ, ◌+◌, ◌<◌, ◌≡◌}
-use Rattle.act_loop.specs.Turns.{Goes, Moment}
+use Rattle.std.proofs.Common.{arith, inr, min, length, ℕ, ◌+◌, ◌<◌, ◌≡◌}
+use Rattle.std.specs.Prelude.{None}
+use Rattle.act_loop.specs.declared.turns.TheConstants.{MAX_WITHHELD}
+use Rattle.act_loop.specs.Turns.{EndsRound, Goes, Moment}
 use Rattle.act_loop.proofs.TurnsSoFar.{goes_pauses}
 use Rattle.act_loop.proofs.turns.take_turns.Given.{Over}
 use Rattle.act_loop.proofs.turns.take_turns.Goals as goal
@@ -12,23 +14,27 @@ returns-then-len-ge-MAX_WITHHELD g c =
     let l = c.rounds in
     let p = g.P.Protocol.rules in
     let begin : Moment g.row.D.Denot = record { store = c.args.store.now; exchanges = c.args.exchanges.now; out = c.args.out.now.items } in
-    let new : Moment g.row.D.Denot =
-    record { store = c.take_round.new.store; exchanges = c.take_round.new.exchanges; out = c.take_round.new.out.items } in
+    let now : Moment g.row.D.Denot = record { store = l.store; exchanges = l.exchanges; out = l.out.items } in
     let below = below_end l.turns c.args.count.now c.args.most c.most.result c.last_turn-end.result c.rounds-test.true c.last_turn-end.ensures in
-    goes_pauses p c.args.number c.args.count.now c.args.most c.args.held.now.items begin new (l.turns + 1) c.take_round.new.held.items (omega (arith, below))
-    (c.in-None.ensures c.args.count.now c.args.most c.args.held.now.items begin below l.invariant)
+    goes_pauses p c.args.number c.args.count.now c.args.most c.args.held.now.items begin now l.turns l.held.items (omega (arith, below)) l.invariant
     (inr (omega (arith, c.if-len-ge-MAX_WITHHELD.true)))
 
 pub returns-in-Some : goal.returns-in-Some
 returns-in-Some g c =
     let l = c.rounds in
+    let short : length l.out.items < MAX_WITHHELD = omega (arith, c.if-len-ge-MAX_WITHHELD.false) in
     c.in-Some.ensures c.args.count.now c.args.most c.args.held.now.items
     (record { store = c.args.store.now; exchanges = c.args.exchanges.now; out = c.args.out.now.items })
-    (below_end l.turns c.args.count.now c.args.most c.most.result c.last_turn-end.result c.rounds-test.true c.last_turn-end.ensures) l.invariant
+    (below_end l.turns c.args.count.now c.args.most c.most.result c.last_turn-end.result c.rounds-test.true c.last_turn-end.ensures) short l.invariant
 
 pub rounds-preserved : goal.rounds-preserved
 rounds-preserved g c =
     let l = c.rounds in
-    c.in-None.ensures c.args.count.now c.args.most c.args.held.now.items
-    (record { store = c.args.store.now; exchanges = c.args.exchanges.now; out = c.args.out.now.items })
-    (below_end l.turns c.args.count.now c.args.most c.most.result c.last_turn-end.result c.rounds-test.true c.last_turn-end.ensures) l.invariant
+    let p = g.P.Protocol.rules in
+    let begin : Moment g.row.D.Denot = record { store = c.args.store.now; exchanges = c.args.exchanges.now; out = c.args.out.now.items } in
+    let new : Moment g.row.D.Denot = record { store = c.take_round.new.store; exchanges = c.take_round.new.exchanges; out = c.take_round.new.out.items } in
+    let short : length l.out.items < MAX_WITHHELD = omega (arith, c.if-len-ge-MAX_WITHHELD.false) in
+    let round : EndsRound p c.args.number c.args.count.now c.args.most c.args.held.now.items begin new l.turns c.take_round.new.held.items None =
+    rw c.in_default.is at (c.take_round.ensures c.args.count.now c.args.most c.args.held.now.items begin
+    (below_end l.turns c.args.count.now c.args.most c.most.result c.last_turn-end.result c.rounds-test.true c.last_turn-end.ensures) short l.invariant) in
+    round

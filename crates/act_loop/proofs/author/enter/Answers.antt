@@ -2,7 +2,7 @@ use Rattle.std.proofs.Common.{◌≡◌, Ok, Err, rules, refl}
 use Rattle.std.specs.Prelude.{IfSome, Option, None, Some, Result}
 use Rattle.wf_value.specs.declared.refusal.Refusal.{Refusal}
 use Rattle.act_store.specs.declared.receipt.Receipt.{Receipt}
-use Rattle.act_loop.proofs.turns.enter.Goals as goal
+use Rattle.act_loop.proofs.author.enter.Goals as goal
 
 none_refuses : (receipt : Receipt) (o : Option Refusal) → IfSome o (λ e. ◌≡◌ {A = Result Receipt Refusal} (Ok receipt) (Err e)) → o ≡ None
 none_refuses receipt None refused = refl
