@@ -30,9 +30,9 @@ def second_server(trial):
     mount_unfenced(trial.there)
     trial.there.serve()
     ended = trial.there.ended(30)
-    expect(ended == (1, 'acts: refused 61'), 'a second service on the other host:', ended)
+    expect(ended == (1, f'acts: refused 61\nacts: {trial.there.file}: another process has its lock'), 'a second service on the other host:', ended)
     trial.there.release()
-    say('    a second service on the other host, which has shut nobody out:', ended[1])
+    say('    a second service on the other host, which has shut nobody out:', ended[1].splitlines()[0])
 
 
 def refused_without_cluster(trial):

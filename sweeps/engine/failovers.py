@@ -70,7 +70,7 @@ class Trial:
         host.serve(preload=self.preload)
         if not host.is_ready():
             ended = host.ended(20)
-            expect(False, host.name, 'did not get ready:', ended, kind=Broken if ended and ended[1] in UNREADABLE else Wrong)
+            expect(False, host.name, 'did not get ready:', ended, kind=Broken if ended and ended[1].startswith(UNREADABLE) else Wrong)
 
     def spell(self):
         """All clients ask as fast as they can, until there are so many answers more, and go on so. The service has to live on."""
