@@ -30,7 +30,7 @@ def second_server(trial):
     mount_unfenced(trial.there)
     trial.there.serve()
     ended = trial.there.ended(30)
-    expect(ended == (1, f'acts: refused 61\nacts: {trial.there.file}: another process has its lock'), 'a second service on the other host:', ended)
+    expect(ended == trial.there.locked_out(), 'a second service on the other host:', ended)
     trial.there.release()
     say('    a second service on the other host, which has shut nobody out:', ended[1].splitlines()[0])
 
@@ -56,13 +56,17 @@ def refused_without_server(trial, cluster):
 
 
 def unfenced(trial):
-    """The host that serves is cut off, and nobody shuts it out: the other one waits until CephFS does so itself, by its session timeout."""
+    """The host that serves is cut off, and nobody shuts it out: the service of the other one says that it waits, until CephFS does so itself, by its
+    session timeout."""
     old, other = trial.here, trial.there
+    mount_unfenced(other)
     failed = time.monotonic()
     trial.network.cut(old.name)
-    trial.take_over('cut off without a fence', failed, lambda: mount_unfenced(other))
+    trial.take_over('cut off without a fence', failed, lambda: None)
+    said = other.said()
+    expect(said == other.waits(), 'a service that waits for the lock of a host that is away says', repr(said))
     trial.network.heal(old.name)
-    say('    the host that was cut off ended with', old.ended(30))
+    say('    it said that it waits for the lock; the host that was cut off ended with', old.ended(30))
     old.crash()
 
 

@@ -13,8 +13,10 @@ from processes import Broken, Wrong, expect, run, say, until
 
 AREA, CLIENTS, STRAYS = 8 << 20, 4, 2
 # Answers from one failover to the next, and how long a client may pause after an answer when none is near.
-ANSWERS, PAUSE = 100, 1
+ANSWERS, PAUSE = 100, 2
 UNREADABLE = ('acts: refused 53', 'acts: refused 54')
+# How long the lock of `acts init` may outlive it: an engine in user space hears of the end of a process a moment later.
+LET_GO = 10
 
 
 class Trial:
@@ -36,11 +38,12 @@ class Trial:
     def begin(self):
         """A new store, served, with clients."""
         self.make_store()
-        self.begin_service(self.here)
+        self.begin_service(self.here, LET_GO)
         for place in range(CLIENTS):
             self.load.add(Sender, f's{place}')
             self.load.add(Runner, f'r{place}')
         expect(self.load.first.wait(60), 'no first answer')
+        self.load.pause = PAUSE
 
     def play(self, times, faults):
         """So many failovers of all kinds, in an order of chance, and some of these faults between them."""
@@ -61,16 +64,29 @@ class Trial:
         shutil.copyfile(self.here.file, copy)
         return check(self.load, self.here.acts, copy)
 
-    def begin_service(self, host):
+    def begin_service(self, host, patience=0):
         """Starts a service, which clients go to."""
-        self.start(host)
+        self.start(host, patience)
         self.load.serve_by(host.name)
 
-    def start(self, host):
+    def start(self, host, patience=0):
+        """Starts a service, for so many seconds again while another process has the lock."""
+        begun, locked = time.monotonic(), None
+        while ended := self.not_ready(host):
+            locked = time.monotonic() - begun
+            expect(locked < patience and ended == host.locked_out(), host.name, 'did not get ready:', ended,
+                   kind=Broken if ended[1].startswith(UNREADABLE) else Wrong)
+        if locked is not None:
+            say(f'    the lock of a process that had ended was still held {locked:.2f} s after the next one began')
+
+    def not_ready(self, host):
+        """Starts a service, and gives how it ended if it is not ready."""
         host.serve(preload=self.preload)
-        if not host.is_ready():
-            ended = host.ended(20)
-            expect(False, host.name, 'did not get ready:', ended, kind=Broken if ended and ended[1].startswith(UNREADABLE) else Wrong)
+        if host.is_ready():
+            return None
+        ended = host.ended(20)
+        expect(ended, host.name, 'closed its standard output')
+        return ended
 
     def spell(self):
         """All clients ask as fast as they can, until there are so many answers more, and go on so. The service has to live on."""

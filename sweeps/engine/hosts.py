@@ -87,6 +87,21 @@ class Host:
         status, self.service = self.service.returncode, None
         return status, err.decode().strip()
 
+    def locked_out(self):
+        """How a service ends if another process has the lock of the file."""
+        return 1, f'acts: refused 61\nacts: {self.file}: another process has its lock'
+
+    def waits(self):
+        """What a service says whose file system has not answered for two seconds."""
+        return f'acts: {self.file}: the file system has not answered for 2 seconds; waiting for the file and its lock'
+
+    def said(self):
+        """What the service has said on standard error since the last time."""
+        os.set_blocking(self.service.stderr.fileno(), False)
+        said = self.service.stderr.read() or b''
+        os.set_blocking(self.service.stderr.fileno(), True)
+        return said.decode().strip()
+
     def end_service(self):
         """Kills the service, and says how it had ended before, or None."""
         if not self.service:
