@@ -77,16 +77,16 @@ def answer_in(given, words):
 
 def ask(prefix, **words):
     """A command of the monitors, as `ceph PREFIX` asks it."""
-    words = {'prefix': prefix, 'format': 'json', **words}
-    return answer_in(in_time(lambda: cluster().mon_command(json.dumps(words), b''), prefix), words)
+    words, monitors = {'prefix': prefix, 'format': 'json', **words}, cluster()
+    return answer_in(in_time(lambda: monitors.mon_command(json.dumps(words), b''), prefix), words)
 
 
 def tell(server, prefix, **words):
     """A command of a server of CephFS, as `ceph tell mds.SERVER PREFIX` asks it."""
-    words = {'prefix': prefix, 'format': 'json', **words}
+    words, monitors = {'prefix': prefix, 'format': 'json', **words}, cluster()
 
     def do():
-        client = cephfs.LibCephFS(rados_inst=cluster())
+        client = cephfs.LibCephFS(rados_inst=monitors)
         client.init()
         try:
             return client.mds_command(server, json.dumps(words), b'')

@@ -38,7 +38,7 @@ def second_server(trial):
 def refused_without_cluster(trial):
     """A host that can't reach the cluster does not get the file."""
     trial.network.cut(trial.there.name)
-    say('    acquire on a host that does not reach the cluster:', trial.there.refusal())
+    say('    acquire on a host that does not reach the cluster:', trial.there.refusal('the cluster'))
     trial.network.heal(trial.there.name)
 
 
@@ -47,7 +47,7 @@ def refused_without_server(trial, cluster):
     names = [place for kind, place in cluster.children if kind == 'mds']
     for name in names:
         cluster.kill('mds', name)
-    say('    acquire without a server of CephFS:', trial.there.refusal())
+    say('    acquire without a server of CephFS:', trial.there.refusal('a server of each rank', 15))
     for name in names:
         cluster.start('mds', name)
     until(cluster.active_server, SECONDS, 'a server of CephFS', 1)

@@ -119,9 +119,13 @@ def tried(network, folder, acts, seed, name, options):
         volume.stop()
 
 
-def sweep(network, folder, acts, seed):
-    found = say_control('GlusterFS with its default options', tried(network, folder, acts, seed, 'default', []))
+def by_default(network, folder, acts, seed, attempt):
+    """The control: the default options. Whether they were found out in one cut."""
+    return say_control('GlusterFS with its default options', tried(network, folder, acts, seed + attempt, f'default{attempt}', []))
+
+
+def strict(network, folder, acts, seed):
+    """With `client.strict-locks on` nothing is lost."""
     wrong = tried(network, folder, acts, seed, 'strict', ['client.strict-locks'])
-    say('GlusterFS with client.strict-locks:', wrong or 'nothing is lost or doubled in one cut')
-    expect(found, 'GlusterFS with its default options was not found out')
     expect(not wrong, 'GlusterFS with client.strict-locks:', wrong)
+    say('GlusterFS with client.strict-locks: nothing is lost or doubled in one cut')

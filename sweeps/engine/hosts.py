@@ -3,6 +3,7 @@
 import os
 import signal
 import subprocess
+from unittest import mock
 
 from processes import end, expect, start
 
@@ -40,10 +41,12 @@ class Host:
         status, words = self.ask('release')
         expect(status == 0, self.name, 'did not release the file:', words)
 
-    def refusal(self):
-        """Why the script does not acquire the file. It has to refuse, with nothing mounted."""
-        status, words = self.ask('acquire')
+    def refusal(self, why, step=STEP):
+        """What the script says that does not acquire the file, with WHY in it. It has to refuse, with nothing mounted."""
+        with mock.patch.dict(self.settings, ACTS_SECONDS=str(step)):
+            status, words = self.ask('acquire')
         expect(status == 1 and not os.path.ismount(self.mount), self.name, 'acquired the file, and should not have:', status, words)
+        expect(f'refused: {why}' in words, self.name, 'refuses for another reason than', why, 'that is', words)
         return next(line for line in words.splitlines() if 'refused:' in line)[:140]
 
     def is_healthy(self):

@@ -9,6 +9,8 @@ import time
 BEGIN = time.monotonic()
 SET_PDEATHSIG = 1
 libc = ctypes.CDLL(None, use_errno=True)
+# The part of the sweep that this process plays.
+part = []
 
 
 class Wrong(Exception):
@@ -25,7 +27,7 @@ def expect(holds, *what, kind=Wrong):
 
 
 def say(*words):
-    print(f'{time.monotonic() - BEGIN:7.1f} s', *words, flush=True)
+    print(f'{time.monotonic() - BEGIN:7.1f} s', *part, *words, flush=True)
 
 
 def run(*words, timeout=300, **more):

@@ -37,7 +37,7 @@ def refused_without_lock(cluster, host):
     """An image that has no exclusive lock is not served."""
     cluster.do('rbd', 'create', '--size', SIZE, '--image-feature', 'layering', PLAIN)
     host.settings['ACTS_IMAGE'] = PLAIN
-    say('    acquire of an image without an exclusive lock:', host.refusal())
+    say('    acquire of an image without an exclusive lock:', host.refusal('the image has no exclusive lock'))
     host.settings['ACTS_IMAGE'] = IMAGE
 
 
