@@ -43,11 +43,11 @@ def refused_without_cluster(trial):
 
 
 def refused_without_server(trial, cluster):
-    """Nor does one when no server of the file system can say who holds it."""
+    """Nor does one when no server of the file system can say who holds it. The monitor may not know yet that they are gone."""
     names = [place for kind, place in cluster.children if kind == 'mds']
     for name in names:
         cluster.kill('mds', name)
-    say('    acquire without a server of CephFS:', trial.there.refusal('a server of each rank', 15))
+    say('    acquire without a server of CephFS:', trial.there.refusal('a server of each rank', 'session ls'))
     for name in names:
         cluster.start('mds', name)
     until(cluster.active_server, SECONDS, 'a server of CephFS', 1)

@@ -13,7 +13,7 @@ from processes import Broken, Wrong, expect, run, say, until
 
 AREA, CLIENTS, STRAYS = 8 << 20, 4, 2
 # Answers from one failover to the next, and how long a client may pause after an answer when none is near.
-ANSWERS, PAUSE = 100, 2
+ANSWERS, PAUSE = 100, 3
 UNREADABLE = ('acts: refused 53', 'acts: refused 54')
 # How long the lock of `acts init` may outlive it: an engine in user space hears of the end of a process a moment later.
 LET_GO = 10

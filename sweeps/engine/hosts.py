@@ -9,8 +9,8 @@ from processes import end, expect, start
 
 HERE = os.path.dirname(os.path.abspath(__file__))
 SCRIPTS = os.path.join(HERE, '../../examples/two_machines')
-# The seconds that a step of a script, and an answer to a look, may take.
-STEP, HEALTH = 60, 3
+# The seconds that a step of a script may take, one of a script that has to refuse, and an answer to a look.
+STEP, REFUSAL_STEP, HEALTH = 60, 15, 3
 
 
 class Host:
@@ -41,12 +41,12 @@ class Host:
         status, words = self.ask('release')
         expect(status == 0, self.name, 'did not release the file:', words)
 
-    def refusal(self, why, step=STEP):
-        """What the script says that does not acquire the file, with WHY in it. It has to refuse, with nothing mounted."""
-        with mock.patch.dict(self.settings, ACTS_SECONDS=str(step)):
+    def refusal(self, *whys):
+        """What the script says that does not acquire the file, for one of these reasons. It has to refuse, with nothing mounted."""
+        with mock.patch.dict(self.settings, ACTS_SECONDS=str(REFUSAL_STEP)):
             status, words = self.ask('acquire')
         expect(status == 1 and not os.path.ismount(self.mount), self.name, 'acquired the file, and should not have:', status, words)
-        expect(f'refused: {why}' in words, self.name, 'refuses for another reason than', why, 'that is', words)
+        expect(any(f'refused: {why}' in words for why in whys), self.name, 'refuses for another reason than', whys, 'that is', words)
         return next(line for line in words.splitlines() if 'refused:' in line)[:140]
 
     def is_healthy(self):
