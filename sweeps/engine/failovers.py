@@ -12,8 +12,8 @@ from load import Load, Runner, Sender
 from processes import Broken, Wrong, expect, run, say, until
 
 AREA, CLIENTS, STRAYS = 8 << 20, 4, 2
-# Answers from one failover to the next, and how long a client may pause after an answer when none is near.
-ANSWERS, PAUSE = 100, 3
+# Answers before each failover, and the most that clients get at full speed until it has begun.
+ANSWERS, MOST = 50, 200
 UNREADABLE = ('acts: refused 53', 'acts: refused 54')
 # How long the lock of `acts init` may outlive it: an engine in user space hears of the end of a process a moment later.
 LET_GO = 10
@@ -43,7 +43,7 @@ class Trial:
             self.load.add(Sender, f's{place}')
             self.load.add(Runner, f'r{place}')
         expect(self.load.first.wait(60), 'no first answer')
-        self.load.pause = PAUSE
+        self.load.hurry(0)
 
     def play(self, times, faults):
         """So many failovers of all kinds, in an order of chance, and some of these faults between them."""
@@ -90,7 +90,8 @@ class Trial:
 
     def spell(self):
         """All clients ask as fast as they can, until there are so many answers more, and go on so. The service has to live on."""
-        before, self.load.pause = self.load.answers.count(), 0
+        before = self.load.answers.count()
+        self.load.hurry(MOST)
         until(lambda: self.load.answers.count() >= before + ANSWERS or self.here.service.poll() is not None, 300, f'{ANSWERS} answers')
         expect(self.here.service.poll() is None, self.here.name, 'has ended:', self.here.ended(5))
 
@@ -102,7 +103,7 @@ class Trial:
         self.begin_service(self.there)
         ready = time.monotonic()
         expect(self.load.first.wait(120), 'no answer after', kind)
-        self.load.pause = PAUSE
+        self.load.hurry(0)
         first = time.monotonic()
         self.count += 1
         self.took[kind].append(first - failed)
@@ -126,7 +127,8 @@ class Trial:
         self.take_over('crash', failed)
 
     def strays(self, stop, host):
-        """Clients that stay with a host that is cut off, as those on the same machine do."""
+        """Clients that stay with a host that is cut off, as those on the same machine do. All ask as fast as they can."""
+        self.load.hurry(MOST)
         names = [(kind, f'{kind.port}-{host.name}-{self.count}-{place}') for kind in (Sender, Runner) for place in range(STRAYS)]
         return [self.load.add(kind, name, host.name, stop) for kind, name in names]
 

@@ -13,6 +13,7 @@ import time
 from processes import Wrong, expect
 
 HOOKS, RUNNERS = 8080, 8081
+PAUSE = 3
 UNKNOWN = re.compile(rb'refused (46|47|50|51|52|60)')
 
 
@@ -55,12 +56,19 @@ class Answers:
 
 
 class Load:
-    """PAUSE is how long a client may wait after an answer."""
+    """Clients ask as fast as they can until there are so many answers, and then wait after each one, up to PAUSE seconds. So a machine that is slow to let
+    a failover begin has no more commands to check."""
 
     def __init__(self, network, seed):
-        self.network, self.seed, self.pause = network, seed, 0
+        self.network, self.seed, self.fast_until = network, seed, float('inf')
         self.answers, self.over, self.first = Answers(), threading.Event(), threading.Event()
         self.machine, self.epoch, self.clients, self.threads = None, 0, [], []
+
+    def hurry(self, answers):
+        self.fast_until = self.answers.count() + answers
+
+    def pause(self):
+        return 0 if self.answers.count() < self.fast_until else PAUSE
 
     def serve_by(self, machine):
         """From now on this machine serves; with None, none does."""
@@ -112,7 +120,7 @@ class Client:
         try:
             self.held = b''
             while not self.stop.is_set() and self.ask(stream):
-                self.stop.wait(self.load.pause * self.dice.random())
+                self.stop.wait(self.load.pause() * self.dice.random())
         except (Cut, OSError):
             pass
         finally:
