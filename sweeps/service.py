@@ -104,7 +104,7 @@ class Service:
         os.close(self.seen)
         return self.said != b''
 
-    def end(self, timeout=60):
+    def end(self, timeout=300):
         """Waits for its end: the status, what it wrote after `ready`, standard error, and whether a library has failed a call."""
         try:
             out, err = self.child.communicate(timeout=timeout)
@@ -143,12 +143,12 @@ class Forever(Service):
                     self.strange.append(line)
                 self.news.notify_all()
 
-    def wait_settled(self, count, timeout=30):
+    def wait_settled(self, count, timeout=300):
         """Waits until so many histories have turned over. Whether they have."""
         with self.news:
             return self.news.wait_for(lambda: len(self.settled) >= count, timeout)
 
-    def end(self, timeout=60):
+    def end(self, timeout=300):
         """Waits until it ends by itself: the status, what it printed besides `settled COUNT`, standard error, and whether a library has failed
         a call."""
         try:
@@ -190,7 +190,7 @@ def room_for_streams(count):
 class Client:
     """A stream to a port."""
 
-    def __init__(self, port, timeout=20):
+    def __init__(self, port, timeout=60):
         self.stream = socket.create_connection(('127.0.0.1', port), timeout=timeout)
         self.stream.setsockopt(socket.IPPROTO_TCP, socket.TCP_NODELAY, 1)
         self.held = b''

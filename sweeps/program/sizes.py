@@ -8,7 +8,7 @@ from encoded import claim, file, job, leg, number, run, table
 from files import held, write
 
 RUNS, RUNNERS, LEASED_FROM = 20_000, 2_000, 17_000
-TABLE_AREA, SECONDS = 4 << 20, 60
+TABLE_AREA, SECONDS = 4 << 20, 600
 LAST_RUN, LAST_AREA = 100_000, 16 << 20
 BODY_BYTES, COMMANDS, CONNECTIONS = 65_536, 40_000, 2_000
 SESSIONS, SESSION_LINES, SESSION_REQUESTS = 32, 1_024, 64
