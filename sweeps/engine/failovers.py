@@ -120,11 +120,10 @@ class Trial:
         self.take_over('handover', failed)
 
     def crash(self):
-        """The machine loses power, and starts again."""
-        failed = time.monotonic()
+        """The machine loses power, and starts again. What the trial takes to end it is not counted."""
         self.here.crash()
         self.network.restart(self.here.name)
-        self.take_over('crash', failed)
+        self.take_over('crash', time.monotonic())
 
     def strays(self, stop, host):
         """Clients that stay with a host that is cut off, as those on the same machine do. All ask as fast as they can."""
