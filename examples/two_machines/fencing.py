@@ -28,10 +28,10 @@ def setting(name):
     return os.environ[name]
 
 
-def call(*words):
+def call(*words, seconds=SECONDS):
     """What a command prints. It has to succeed in time."""
     try:
-        ended = subprocess.run(words, stdin=subprocess.DEVNULL, stdout=subprocess.PIPE, stderr=subprocess.PIPE, timeout=SECONDS, check=False, text=True)
+        ended = subprocess.run(words, stdin=subprocess.DEVNULL, stdout=subprocess.PIPE, stderr=subprocess.PIPE, timeout=seconds, check=False, text=True)
     except (OSError, subprocess.TimeoutExpired) as fault:
         raise Refused(f'{" ".join(words)}: {fault}') from None
     if ended.returncode:
@@ -132,14 +132,20 @@ def is_mounted(folder):
 
 
 def unmount(folder):
-    """Takes a mount away, also one whose engine does not answer."""
+    """Takes a mount away, also one whose engine does not answer. A call that was too late, or that failed, may have done it all the same."""
     while is_mounted(folder):
         try:
-            ended = subprocess.run(['umount', folder], stderr=subprocess.DEVNULL, timeout=5, check=False).returncode
-        except subprocess.TimeoutExpired:
-            ended = 1
-        if ended:
-            call('umount', '--force', '--lazy', '--no-canonicalize', folder)
+            call('umount', folder, seconds=5)
+        except Refused:
+            force(folder)
+
+
+def force(folder):
+    try:
+        call('umount', '--force', '--lazy', '--no-canonicalize', folder)
+    except Refused:
+        if is_mounted(folder):
+            raise
 
 
 def say(*words):

@@ -13,7 +13,7 @@ from processes import Broken, Wrong, expect, run, say, until
 
 AREA, CLIENTS, STRAYS = 8 << 20, 4, 2
 # Answers before each failover, and the most that clients get at full speed until it has begun.
-ANSWERS, MOST = 50, 200
+ANSWERS, MOST = 50, 120
 UNREADABLE = ('acts: refused 53', 'acts: refused 54')
 # How long the lock of `acts init` may outlive it: an engine in user space hears of the end of a process a moment later.
 LET_GO = 10

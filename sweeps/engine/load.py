@@ -172,11 +172,11 @@ class Sender(Client):
 
     def next(self):
         chance = self.dice.random()
-        if self.runs and chance < 0.15:
+        if self.runs and chance < 0.25:
             return b'look %d' % self.dice.choice(self.runs)
-        if self.runs and chance < 0.2:
+        if self.runs and chance < 0.3:
             return b'cancel %d' % self.dice.choice(self.runs)
-        if self.deliveries and chance < 0.35:
+        if self.deliveries and chance < 0.5:
             return self.dice.choice(list(self.deliveries.values()))
         delivery = f'{self.name}-{len(self.deliveries)}'
         self.deliveries[delivery] = b'admit %s push %s' % (delivery.encode(), self.dice.choice(BODIES))
