@@ -1,9 +1,7 @@
 -- Events in a row.
-use Rattle.std.proofs.Common.{◌≡◌, ◌≢◌, ◌⊎◌, ◌↔◌, ⊎_elim, ℕ, ◌+◌, ◌<◌, ◌≤◌, true, false, Bool, List, [], ◌∷◌, ◌++◌, length, take, refl, sym, ap, subst, ◌∙◌, inl, inr, append-nil, append_assoc, length-append, arith, Ok, Err, zero, suc}
-use Rattle.std.specs.Prelude.{drop, slice_set, Option, Some, None, if◌then◌else◌}
+use Rattle.std.proofs.Common.{◌≡◌, ◌↔◌, ⊎_elim, ℕ, ◌+◌, ◌≤◌, true, false, Bool, List, [], ◌∷◌, ◌++◌, length, take, refl, sym, ap, subst, ◌∙◌, inl, inr, append-nil, append_assoc, length-append, arith, Ok, Err}
+use Rattle.std.specs.Prelude.{drop, Option, Some, None, if◌then◌else◌}
 use Rattle.std.proofs.lemmas.List.{length-set, take-append-le}
-use Rattle.wf_value.specs.Gives.{no_memory}
-use Rattle.wf_value.specs.declared.refusal.Refusal.{Refusal}
 use Rattle.run_table.specs.TableState.{TableState}
 use Rattle.act_disk.specs.Images.{EachSince}
 use Rattle.act_disk.proofs.Moments.{started, weakened, joined}
@@ -15,9 +13,9 @@ use Rattle.act_store.specs.StoreState.{RecoversToEither, RecoversToSome, StoreSt
 use Rattle.act_store.specs.declared.entry.Entry.{Entry}
 use Rattle.act_loop.specs.Clients.{SlotHears, SlotState}
 use Rattle.act_loop.specs.Conversation.{Conversation}
-use Rattle.act_loop.specs.Entering.{Enters, EntersOne, entries_of, part_of}
+use Rattle.act_loop.specs.Entering.{Enters, entries_of, part_of}
 use Rattle.act_loop.specs.Events.{Grows, Happens, IsQuiet, IsStuck, Plays, Survives}
-use Rattle.act_loop.specs.Service.{IsPromised, IsService, ServiceHears, ServiceState, covered_of, history_of, pending_of}
+use Rattle.act_loop.specs.Service.{IsPromised, IsService, ServiceHears, ServiceState, covered_of, history_of}
 use Rattle.act_loop.specs.Slots.{ChangesSlot, SlotsState}
 use Rattle.act_loop.specs.declared.event.Event.{Event}
 use Rattle.act_loop.specs.declared.event.Event.TheVariants as event

@@ -1,5 +1,5 @@
 -- What a service guarantees, from one call to the next.
-use Rattle.std.proofs.Common.{◌≡◌, ◌⊎◌, ⊎_elim, ℕ, ◌+◌, ◌<◌, ◌≤◌, true, false, Bool, List, [], ◌∷◌, ◌++◌, length, take, refl, sym, ap, subst, ◌∙◌, inl, inr, append-nil, append_assoc, length-append, arith, Ok, Err, zero, suc}
+use Rattle.std.proofs.Common.{◌≡◌, ⊎_elim, ℕ, ◌+◌, ◌<◌, ◌≤◌, true, false, Bool, List, [], ◌∷◌, ◌++◌, length, take, refl, sym, ap, subst, ◌∙◌, inl, inr, append-nil, append_assoc, length-append, arith, Ok, Err, zero, suc}
 use Rattle.std.specs.Prelude.{◌↔◌, ◌==◌, IsTrue, replicate, slice_get, slice_set, Some, None, Option, Result, OnOk, OnErr, is_some, nat_lt, ◌||◌, if◌then◌else◌}
 use Rattle.std.specs.List.{AllByRecursion}
 use Rattle.std.proofs.Math.Nat.{eq-or-lt_of_le}
@@ -19,7 +19,7 @@ use Rattle.act_store.specs.StoreState.{RecoversToEither, RecoversToSome, StoreSt
 use Rattle.act_store.specs.declared.entry.Entry.{Entry}
 use Rattle.act_store.proofs.GroupsOfHistory.{keeps_groups}
 use Rattle.act_loop.specs.Clients.{AreServed, ClientState, SlotHears, SlotJoins, SlotLeaves, SlotSends, SlotState, SlotWrites}
-use Rattle.act_loop.specs.Clients.{clients_of, free_slot, listed, new_client, with_client, without_client}
+use Rattle.act_loop.specs.Clients.{clients_of, free_slot, listed}
 use Rattle.act_loop.specs.Conversation.{Conversation, no_conversation}
 use Rattle.act_loop.specs.Entering.{entries_of, part_of}
 use Rattle.act_loop.specs.Service.{IsPromised, IsService, ServiceState, covered_of, history_of, pending_of}

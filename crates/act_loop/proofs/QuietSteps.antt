@@ -1,14 +1,12 @@
 -- The steps of a store that enter no command.
-use Rattle.std.proofs.Common.{◌≡◌, ◌⊎◌, ⊎_elim, ℕ, ◌<◌, ◌≤◌, Bool, true, false, List, length, refl, ap, ◌∙◌, subst, sym, arith}
+use Rattle.std.proofs.Common.{◌≡◌, ⊎_elim, ℕ, ◌≤◌, Bool, true, false, length, refl, ap, ◌∙◌, subst, sym, arith}
 use Rattle.std.proofs.Math.Nat.{eq-or-lt_of_le}
 use Rattle.std.specs.Prelude.{Option, Some, None, IsSomeAnd, if◌then◌else◌, ◌||◌, is_some, nat_lt}
 use Rattle.wf_value.specs.declared.refusal.Refusal.{Refusal}
-use Rattle.run_table.specs.TableState.{TableState}
 use Rattle.act_store.specs.Checkpoints.{begun_at, dropped, finished, sliced}
 use Rattle.act_store.specs.Plain.{broken, checkpoint_order, committed, failed_earlier, refusal_of_turn_over}
 use Rattle.act_store.specs.Steps.{Covers, IsRefused, Takes, is_area_full, left_by, refusal_of}
 use Rattle.act_store.specs.StoreState.{Checkpoint, StoreState}
-use Rattle.act_store.specs.declared.entry.Entry.{Entry}
 use Rattle.act_store.specs.declared.step.Played.{Played}
 use Rattle.act_store.specs.declared.step.Played.TheVariants as played
 use Rattle.act_store.specs.declared.step.Step.{Step}

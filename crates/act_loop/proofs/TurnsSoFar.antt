@@ -8,7 +8,7 @@ use Rattle.act_sessions.specs.declared.request.Request.{Request}
 use Rattle.act_sessions.specs.declared.turn_text.TurnText.{TurnText}
 use Rattle.act_sessions.specs.Taking.{IsText, TakesDemand}
 use Rattle.act_sessions.specs.Exchange.{Exchange}
-use Rattle.act_sessions.specs.Rules.{Rules, Turn, Answered, Refused, Reads, IsEnded, IsOpen, exchanges_at, exchanges_of, is_last, request_of, texts, turn_text}
+use Rattle.act_sessions.specs.Rules.{Rules, Turn, Answered, Refused, Reads, exchanges_at, exchanges_of, is_last, request_of, texts, turn_text}
 use Rattle.act_store.specs.StoreState.{StoreState}
 use Rattle.act_loop.specs.declared.pause.Pause.TheVariants as pause
 use Rattle.act_loop.specs.Authors.{IsEntered}

@@ -1,5 +1,5 @@
 -- What submitting a command to a store does.
-use Rattle.std.specs.Prelude.{◌≡◌, List, [], ◌∷◌, ◌++◌, Option, Some, None}
+use Rattle.std.specs.Prelude.{◌≡◌, [], ◌∷◌, ◌++◌, Option, Some, None}
 use Rattle.run_plan.specs.declared.command.Command.{Command}
 use Rattle.act_sessions.specs.Exchange.{Response}
 use Rattle.act_store.specs.StoreState.{StoreState}

@@ -1,5 +1,5 @@
-use Rattle.std.proofs.Common.{◌≡◌, ◌∙◌, ◌++◌, ◌∷◌, [], ℕ, List, ap, refl, subst, sym, take}
-use Rattle.std.proofs.lemmas.List.{take_all, take_more}
+use Rattle.std.proofs.Common.{◌∙◌, ◌++◌, ◌∷◌, [], ℕ, List, ap, refl, subst, sym, take}
+use Rattle.std.proofs.lemmas.List.{take_more}
 use Rattle.act_loop.specs.Conversation.{Conversation}
 use Rattle.act_loop.specs.Events.{Happens, Plays, Survives}
 use Rattle.act_loop.specs.Slots.{by_port}

@@ -1,5 +1,4 @@
-use Rattle.std.proofs.Common.{◌≡◌, ◌∙◌, arith, rules, ap, drop, refl, sym}
-use Rattle.act_loop.specs.Entering.{part_of}
+use Rattle.std.proofs.Common.{◌∙◌, arith, rules}
 use Rattle.act_loop.proofs.PendingPart.{next_part, none_pending, some_pending}
 use Rattle.act_loop.proofs.sending.none_pending.Goals as goal
 

@@ -1,9 +1,8 @@
 use Rattle.std.proofs.Common.{arith, inr, min, length, ℕ, ◌+◌, ◌<◌, ◌≡◌}
 use Rattle.std.specs.Prelude.{None}
 use Rattle.act_loop.specs.declared.turns.TheConstants.{MAX_WITHHELD}
-use Rattle.act_loop.specs.Turns.{EndsRound, Goes, Moment}
+use Rattle.act_loop.specs.Turns.{EndsRound, Moment}
 use Rattle.act_loop.proofs.TurnsSoFar.{goes_pauses}
-use Rattle.act_loop.proofs.turns.take_turns.Given.{Over}
 use Rattle.act_loop.proofs.turns.take_turns.Goals as goal
 
 below_end : (turns count most all end : ℕ) → turns < end → end ≡ min (count + most) all → turns < count + most

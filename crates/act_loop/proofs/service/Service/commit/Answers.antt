@@ -1,4 +1,4 @@
-use Rattle.std.proofs.Common.{◌≡◌, rules, refl, subst}
+use Rattle.std.proofs.Common.{subst}
 use Rattle.act_loop.specs.Events.{IsQuiet, Survives}
 use Rattle.act_loop.proofs.Happening.{commits, commits_survive}
 use Rattle.act_loop.proofs.Machine.{commit_keeps, service_covers}

@@ -1,10 +1,10 @@
-use Rattle.std.proofs.Common.{ℕ, [], ◌≡◌, inr, refl, rules, subst, sym}
+use Rattle.std.proofs.Common.{ℕ, [], ◌≡◌, refl, rules, subst, sym}
 use Rattle.act_loop.specs.Clients.{SlotSends}
 use Rattle.act_loop.specs.Entering.{part_of}
 use Rattle.act_loop.specs.Events.{Survives}
 use Rattle.act_loop.specs.Service.{ServiceSends, ServiceState, pending_of}
 use Rattle.act_loop.specs.Slots.{by_port}
-use Rattle.act_loop.proofs.Happening.{changes, changes_or_not, stays}
+use Rattle.act_loop.proofs.Happening.{changes_or_not, stays}
 use Rattle.act_loop.proofs.Machine.{service_sends_or_not}
 use Rattle.act_loop.proofs.service.Service.send.Goals as goal
 

@@ -1,6 +1,4 @@
-use Rattle.std.proofs.Common.{◌≡◌, rules, refl, subst}
-use Rattle.act_store.specs.Steps.{Takes}
-use Rattle.act_store.specs.StoreState.{StoreState}
+use Rattle.std.proofs.Common.{subst}
 use Rattle.act_loop.specs.Events.{IsQuiet, Survives}
 use Rattle.act_loop.proofs.Happening.{commits, commits_survive}
 use Rattle.act_loop.proofs.QuietSteps.{takes_dead, takes_keeps}

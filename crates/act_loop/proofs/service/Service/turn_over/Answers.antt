@@ -1,6 +1,6 @@
-use Rattle.std.proofs.Common.{◌≡◌, ap, rules, refl, subst, sym}
+use Rattle.std.proofs.Common.{◌≡◌, ap, rules, subst, sym}
 use Rattle.std.specs.Prelude.{None}
-use Rattle.act_store.specs.Plain.{refusal_of_turn_over, turned_over}
+use Rattle.act_store.specs.Plain.{refusal_of_turn_over}
 use Rattle.act_store.specs.StoreState.{StoreState}
 use Rattle.act_loop.specs.Events.{IsQuiet, Survives}
 use Rattle.act_loop.proofs.Happening.{stays, still_quiet, turns, turns_survive}

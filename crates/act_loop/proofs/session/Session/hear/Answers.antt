@@ -1,4 +1,4 @@
-use Rattle.std.proofs.Common.{rules, ◌≡◌, ◌++◌, [], refl, subst, sym, take, append-nil, true, false}
+use Rattle.std.proofs.Common.{[], refl, subst, sym, take, append-nil, true, false}
 use Rattle.act_loop.specs.Hearing.{Hears}
 use Rattle.act_loop.specs.Conversation.{Conversation}
 use Rattle.act_loop.specs.Turns.{Moment}

@@ -1,4 +1,4 @@
-use Rattle.std.proofs.Common.{◌≡◌, ◌∙◌, Bool, List, ap, inr, sym}
+use Rattle.std.proofs.Common.{◌∙◌, Bool, List, ap, inr, sym}
 use Rattle.std.specs.Prelude.{Some, map}
 use Rattle.act_loop.specs.Clients.{ClientState, SlotState, after_sending}
 use Rattle.act_loop.proofs.slot.Slot.send_to.Goals as goal

@@ -1,7 +1,6 @@
-use Rattle.std.proofs.Common.{◌-◌, ◌<◌, ◌≡◌, arith, length}
+use Rattle.std.proofs.Common.{◌-◌, ◌<◌, arith, length}
 use Rattle.act_loop.specs.Clients.{SlotJoins, SlotState}
 use Rattle.act_loop.specs.Conversation.{Conversation}
-use Rattle.act_loop.specs.Slots.{SlotsState}
 use Rattle.act_loop.proofs.PortSlots.{changes_hook, changes_runner, runner_below, same_hook, same_runner}
 use Rattle.act_loop.proofs.slots.Slots.join.Goals as goal
 

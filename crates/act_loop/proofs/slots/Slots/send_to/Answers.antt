@@ -1,7 +1,6 @@
-use Rattle.std.proofs.Common.{◌<◌, ◌≡◌, arith, length}
+use Rattle.std.proofs.Common.{◌<◌, arith, length}
 use Rattle.act_loop.specs.Clients.{SlotWrites, SlotState}
 use Rattle.act_loop.specs.Conversation.{Conversation}
-use Rattle.act_loop.specs.Slots.{SlotsState}
 use Rattle.act_loop.proofs.PortSlots.{changes_hook, changes_runner}
 use Rattle.act_loop.proofs.slots.Slots.send_to.Goals as goal
 
