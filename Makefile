@@ -45,8 +45,8 @@ example: build
 	$(ACTS) play < examples/fan_out_fan_in.script | diff - examples/fan_out_fan_in.answers
 
 # All of examples/ with a trial of the program: the quick start, on free ports; the runner under restarts, cut streams, kills and cancelled steps;
-# events from GitHub's webhooks; the watchdog; HAProxy with certificates; what an operator does; the board of runs; and four stores on two machines.
-# Needs bash, curl, jq, git, Python 3.9 and util-linux, and says what is missing.
+# events from GitHub's webhooks; the watchdog; HAProxy with certificates; what an operator does; the units under systemd; the board of runs; and four stores
+# on two machines. Needs bash, curl, jq, git, Python 3.9 and util-linux, and says what is missing.
 # `examples/try_examples $(ACTS)` does the same with the proved program.
 serve-example:
 	examples/try_examples
