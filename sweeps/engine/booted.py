@@ -49,7 +49,7 @@ class Booted:
 
     def __init__(self, folder, enter=()):
         os.makedirs(folder)
-        words = [*enter, 'unshare', *(['--net'] if not enter else []), '--mount', '--pid', '--cgroup', '--uts', '--ipc', '--fork', 'sh', '-c', BEGIN, 'sh', folder]
+        words = [*enter, 'unshare', *(['--net'] if not enter else []), '--mount', '--pid', '--cgroup', '--uts', '--ipc', '--fork', '--kill-child', 'sh', '-c', BEGIN, 'sh', folder]
         self.log = folder + '.log'
         self.child = start(words, self.log)
         until(self.first, 10, 'process 1')
