@@ -55,7 +55,7 @@ def _git(folder, *words):
     subprocess.run(['git', '-c', 'user.name=o', '-c', 'user.email=o@example.org', '-C', folder, *words], check=True, capture_output=True)
 
 
-def _mirror(place, name, files, commits=1, tags=()):
+def mirror(place, name, files, commits=1, tags=()):
     """A bare repository, and its newest commit."""
     source, bare = os.path.join(place, 'source', name), os.path.join(place, name + '.git')
     os.makedirs(source)
@@ -91,9 +91,9 @@ def _try(case, path):
         text = file.read()
     head = [line for line in text.splitlines() if line.startswith('#')]
     folder = case.folder
-    sha = _mirror(folder, 'octo/hello', FILES, 3, ('v1.1', 'v1.2'))
+    sha = mirror(folder, 'octo/hello', FILES, 3, ('v1.1', 'v1.2'))
     for name, files in (('octo/setup-ruby', SETUP_RUBY), ('octo/say', SAY)):
-        _mirror(os.path.join(folder, 'actions'), name, files, tags=('v1',))
+        mirror(os.path.join(folder, 'actions'), name, files, tags=('v1',))
     _stand_ins(os.path.join(folder, 'bin'))
     sys.path.insert(0, HERE)
     import github_workflows

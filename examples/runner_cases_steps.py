@@ -6,7 +6,8 @@ import signal
 import socket
 import subprocess
 import time
-from runner_trials import certificates, forward, lines_of, server_tls, until
+from runner_cases_starters import mirror
+from runner_trials import certificates, forward, free_ports, lines_of, server_tls, until
 
 HERE = os.path.dirname(os.path.abspath(__file__))
 NEVER = {'run': 'echo never >> "$NOTES"'}
@@ -86,6 +87,23 @@ def expressions_in_steps(case):
     case.start()
     case.says('the step fails: there is no folder ' + os.path.join(case.home(), 'work', 'linux'), 'r1: run 1 build 0 success: ok', 'r1: nothing')
     assert case.noted() == ['octo/hello linux 3 here build-Linux', 'success linux!'], case.noted()
+
+
+def checkout_from_a_url(case):
+    """The mirrors are at a URL, here of a git server of this machine."""
+    sha, (port, _) = mirror(case.folder, 'octo/hello', {'there': ''}), free_ports()
+    server = subprocess.Popen(['git', 'daemon', '--listen=127.0.0.1', f'--port={port}', f'--base-path={case.folder}', '--export-all', '--reuseaddr'], start_new_session=True,
+                              stderr=subprocess.DEVNULL)
+    try:
+        until(lambda: not subprocess.run(['git', 'ls-remote', f'git://127.0.0.1:{port}/octo/hello.git'], capture_output=True, check=False).returncode)
+        job = {'runs-on': 'linux', 'steps': [{'uses': 'actions/checkout@v4'}, note('$(git rev-parse HEAD) there*')]}
+        case.service.post('d1', {'jobs': {'build': job}}, github={'sha': sha, 'ref': 'refs/heads/main'})
+        case.start('--mirrors', f'git://127.0.0.1:{port}')
+        until(case.has_ended)
+        assert case.noted() == [f'{sha} there'], f'{case.noted()} {case.said()}'
+    finally:
+        os.killpg(server.pid, signal.SIGKILL)
+        server.wait()
 
 
 def outputs_of_jobs(case):
