@@ -205,7 +205,7 @@ def fault_in(trial, play):
     except Broken as broken:
         return str(broken)[:200]
     finally:
-        trial.load.over.set()
+        trial.load.end()
         for host in (trial.here, trial.there):
             host.crash()
     return None

@@ -62,7 +62,7 @@ class Load:
     def __init__(self, network, seed):
         self.network, self.seed, self.fast_until = network, seed, float('inf')
         self.answers, self.over, self.first = Answers(), threading.Event(), threading.Event()
-        self.machine, self.epoch, self.clients, self.threads = None, 0, [], []
+        self.machine, self.epoch, self.clients, self.threads, self.events = None, 0, [], [], {self.over}
 
     def hurry(self, answers):
         self.fast_until = self.answers.count() + answers
@@ -79,6 +79,7 @@ class Load:
     def add(self, kind, name, machine=None, stop=None):
         """A client, which stays with a machine if one is named, until an event."""
         client = kind(self, name, machine, stop or self.over)
+        self.events.add(client.stop)
         thread = threading.Thread(target=client.live, daemon=True)
         thread.start()
         if not machine:
@@ -86,10 +87,15 @@ class Load:
         self.threads.append(thread)
         return thread
 
-    def stop(self):
-        self.over.set()
+    def end(self):
+        """All clients end, also those that wait for an event of which nobody thinks any more."""
+        for event in self.events:
+            event.set()
         for thread in self.threads:
             thread.join(30)
+
+    def stop(self):
+        self.end()
         expect(not any(thread.is_alive() for thread in self.threads), 'a client did not end')
 
 
