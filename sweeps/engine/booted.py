@@ -22,7 +22,8 @@ mount -t cgroup2 cgroup2 sys/fs/cgroup
 mount -t tmpfs -o mode=755 tmpfs run
 mount -t tmpfs -o mode=1777 tmpfs tmp
 mount -t tmpfs -o mode=755 tmpfs dev
-for device in null zero full random urandom tty fuse; do [ ! -e "/dev/$device" ] || cp -a "/dev/$device" dev; done
+for device in null zero full random urandom tty fuse loop-control; do [ ! -e "/dev/$device" ] || cp -a "/dev/$device" dev; done
+for number in $(seq 0 31); do mknod "dev/loop$number" b 7 "$number"; done
 mkdir dev/pts dev/shm
 mount -t devpts -o newinstance,ptmxmode=666,mode=620 devpts dev/pts
 mount -t tmpfs -o mode=1777 tmpfs dev/shm

@@ -5,6 +5,7 @@ import random
 import threading
 import time
 
+import units
 from failovers import Trial, fault_in, say_control
 from hosts import HERE, Host
 from processes import Broken, expect, run, say
@@ -31,6 +32,29 @@ def mapped(host, **more):
     """Maps the image by hand. Gives the device."""
     words = [*host.network.enter(host.name), *host.settings['ACTS_MAP'].split(), IMAGE]
     return run(*words, env={**host.settings, **more}).strip()
+
+
+def units_tried(cluster, hosts, folder, acts):
+    """The units over the image, without a store."""
+    hosts[0].acquire()
+    if os.path.exists(hosts[0].file):
+        os.remove(hosts[0].file)
+    hosts[0].release()
+
+    def settings(name):
+        below = f'{MAP} %s /run/acts_{name}.nbd'
+        return {'ACTS_IMAGE': IMAGE, 'ACTS_MAP': below % 'map', 'ACTS_UNMAP': below % 'unmap'}
+
+    before = loops()
+    try:
+        units.tried(cluster, folder, acts, 'rbd', settings)
+    finally:
+        for device in loops() - before:  # of machines that have lost power, since the kernel lives on
+            run('losetup', '--detach', device)
+
+
+def loops():
+    return set(run('losetup', '--list', '--noheadings', '--output', 'NAME').split())
 
 
 def refused_without_lock(cluster, host):

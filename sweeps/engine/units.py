@@ -1,4 +1,5 @@
-"""Two machines that run systemd over a CephFS: the units of examples/two_machines, set up by the commands of docs/OPERATING.md, take the file over from one another."""
+"""Two machines that run systemd over a CephFS or an image of RBD: the units of examples/two_machines, set up by the commands of docs/OPERATING.md, take the file
+over from one another."""
 
 import json
 import os
@@ -23,29 +24,33 @@ def commands_of_page():
 
 
 class Machines:
-    def __init__(self, cluster, folder, acts):
+    """ENGINE is `cephfs` or `rbd`, SETTINGS gives what /etc/acts/file says beside the names of the page, for a machine."""
+
+    def __init__(self, cluster, folder, acts, engine, settings):
         self.cluster, self.network, self.folder, self.acts, self.hosts, self.boots = cluster, cluster.network, folder, acts, {}, 0
+        self.engine, self.settings = engine, settings
 
     def boot(self, name):
         """A machine starts, with everything set up but the store."""
         self.boots += 1
-        host = self.hosts[name] = Booted(os.path.join(self.folder, f'boot{self.boots}'), self.network.enter(name))
+        host = self.hosts[name] = Booted(os.path.join(self.folder, f'{self.engine}{self.boots}'), self.network.enter(name))
         host.install(self.acts, ROOT)
         host.do('useradd', '--system', '--uid', '900', '--home-dir', '/var/lib/acts', 'acts')
         host.do('sh', '-euc', f'cd {ROOT}\n{commands_of_page()[0]}')
-        self.set(name, CEPH_CONF=self.cluster.settings)
+        host.do('sed', '-i', f's,/cephfs ,/{self.engine} ,', '/etc/systemd/system/acts-file.service')
+        self.set(name, CEPH_CONF=self.cluster.settings, **self.settings(name))
         host.do('systemctl', 'daemon-reload')
 
     def set(self, name, **settings):
         with open(self.hosts[name].path('/etc/acts/file'), 'a') as file:
-            file.writelines(f'{setting}={value}\n' for setting, value in settings.items())
+            file.writelines(f'{setting}="{value}"\n' for setting, value in settings.items())
 
     def crash(self, name):
         self.hosts.pop(name).end()
         self.network.restart(name)
 
     def make_store(self, name):
-        self.hosts[name].do('sh', '-euc', commands_of_page()[1].replace('67108864', '1048576'))
+        self.hosts[name].do('sh', '-euc', commands_of_page()[1].replace('67108864', '1048576').replace('/cephfs ', f'/{self.engine} '))
 
     def start(self, name):
         """The unit takes the file over and serves it. How long that took."""
@@ -123,15 +128,15 @@ def refused(machines):
     machines.network.heal('a')
     expect(status and machines.state('a', 'acts') != 'active', 'the unit of a machine that does not reach the cluster has started')
     said = machines.journal('a')
-    expect('cephfs acquire: refused: the cluster' in said, 'its journal does not say why:', said[-300:])
+    expect(f'{machines.engine} acquire: refused: ' in said, 'its journal does not say why:', said[-300:])
     machines.runs('b', 3)
 
 
-def tried(cluster, folder, acts):
+def tried(cluster, folder, acts, engine='cephfs', settings=lambda name: {}):
     """The units under systemd, where it is here."""
     if missing():
         return say('units: systemd is not here, so the units were not tried')
-    machines = Machines(cluster, folder, acts)
+    machines = Machines(cluster, folder, acts, engine, settings)
     try:
         machines.boot('a')
         machines.boot('b')
@@ -139,6 +144,6 @@ def tried(cluster, folder, acts):
         first = machines.start('a')
         words = [moved(machines), crashed(machines), cut(machines)]
         refused(machines)
-        say(f'units under systemd: first started in {first:.1f} s,', *(f'{it},' for it in words), 'and refused without the cluster: nothing is lost')
+        say(f'units of {engine} under systemd: first started in {first:.1f} s,', *(f'{it},' for it in words), 'and refused without the cluster: nothing is lost')
     finally:
         machines.end()
