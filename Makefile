@@ -77,7 +77,7 @@ hostile: build
 	sweeps/all $(ACTS)
 
 # Failovers of two machines over CephFS, RBD and GlusterFS, with the scripts of examples/two_machines. It installs packages of Debian, and says which
-# and how much, so it is part of nothing else. Needs root, 8 GB of disk and 2 GB of memory.
+# and how much, so it is part of nothing else. Needs root, 8 GB of disk and 3 GB of memory.
 # `sweeps/engine/run PROGRAM` does the same with a program that is built already.
 engine: build
 	sweeps/engine/packages

@@ -45,16 +45,17 @@ def units_tried(cluster, hosts, folder, acts):
         below = f'{MAP} %s /run/acts_{name}.nbd'
         return {'ACTS_IMAGE': IMAGE, 'ACTS_MAP': below % 'map', 'ACTS_UNMAP': below % 'unmap'}
 
-    before = loops()
     try:
         units.tried(cluster, folder, acts, 'rbd', settings)
     finally:
-        for device in loops() - before:  # of machines that have lost power, since the kernel lives on
+        for device in loops_left():
             run('losetup', '--detach', device)
 
 
-def loops():
-    return set(run('losetup', '--list', '--noheadings', '--output', 'NAME').split())
+def loops_left():
+    """Devices of machines that have lost power: the kernel lives on, and their file has no folder any more."""
+    lines = run('losetup', '--list', '--noheadings', '--output', 'NAME,BACK-FILE').splitlines()
+    return [line.split()[0] for line in lines if line.split()[1:2] == ['/nbd']]
 
 
 def refused_without_lock(cluster, host):
