@@ -8,6 +8,7 @@ import subprocess
 import sys
 import threading
 import time
+import traceback
 
 import cephfs
 import rados
@@ -159,17 +160,34 @@ def undo(release):
         say('not released:', refused)
 
 
+def attempt(name, plan):
+    """Does a plan in a process of its own, since a fault of Ceph's library ends its process. The status, or None if a signal has ended it."""
+    child = os.fork()
+    if child:
+        status = os.waitpid(child, 0)[1]
+        return None if os.WIFSIGNALED(status) else os.WEXITSTATUS(status)
+    try:
+        plan()
+        status = 0
+    except Refused as refused:
+        say(f'{name} {sys.argv[1]}: refused: {refused}')
+        status = 1
+    except BaseException:
+        traceback.print_exc()
+        status = 1
+    os._exit(status)  # a call of Ceph that has no answer would keep the process
+
+
 def play(acquire, release):
-    """The main program of an engine."""
+    """The main program of an engine. What a signal has ended is tried once more: each plan begins by taking away what is there."""
     name = os.path.basename(sys.argv[0])
     plans = {'acquire': acquire, 'release': release}
     if len(sys.argv) != 2 or sys.argv[1] not in plans:
         sys.exit(f'usage: {name} acquire|release')
-    try:
-        plans[sys.argv[1]]()
-    except Refused as refused:
-        say(f'{name} {sys.argv[1]}: refused: {refused}')
-        if sys.argv[1] == 'acquire':
-            undo(release)
-        # A call of Ceph that has no answer would keep the process.
-        os._exit(1)
+    status = attempt(name, plans[sys.argv[1]])
+    if status is None:
+        say(f'{name} {sys.argv[1]}: ended by a signal, and tried again')
+        status = attempt(name, plans[sys.argv[1]])
+    if status != 0 and sys.argv[1] == 'acquire':
+        undo(release)
+    sys.exit(1 if status is None else status)
