@@ -13,11 +13,11 @@ use act_store::Store;
 use mio::{Events, Poll};
 use service_startup::{brought_up, tell_ready};
 use std::alloc::Global;
+use std::io;
 use std::io::{ErrorKind, Write};
 use std::net::{Net, TcpListener};
 use std::sync::Wait;
 use std::time::{Clock, Duration, Instant};
-use std::{io, thread};
 use wf_value::{Code, Refusal};
 
 /// The most events that are taken at once.
@@ -26,11 +26,8 @@ const EVENTS: usize = 1_024;
 /// The most bytes that one read takes from a client.
 const PIECE: usize = 16_384;
 
-/// How long the service sleeps at a time while it waits for clients before a commit, in microseconds.
-const NAP: u64 = 50;
-
-/// How many times it sleeps at most.
-const NAPS: u64 = 10_000;
+/// How many times at most the service waits for clients before a commit, also if the clock cannot be read.
+const WAITS: u64 = 4 * MAX_CLIENTS as u64;
 
 /// The refusal for a failed system call: 50 if it ran out of memory, else 61.
 fn refusal_of(e: &io::Error) -> Refusal {
@@ -73,8 +70,8 @@ impl Watch {
         Ok(clients)
     }
 
-    /// Waits for events and notes them. Returns whether there were any.
-    fn look(&mut self, clients: &mut Clients<'_>, wait: Duration) -> Result<bool, Refusal> {
+    /// Waits for events and notes them. The system waits in whole milliseconds, so up to one more.
+    fn look(&mut self, clients: &mut Clients<'_>, wait: Duration) -> Result<(), Refusal> {
         match self.poll.poll(&mut self.events, Some(wait)) {
             Err(e) if e.kind() != ErrorKind::Interrupted => return Err(refusal_of(&e)),
             _ => {}
@@ -82,8 +79,23 @@ impl Watch {
         for event in self.events.iter() {
             clients.note(event);
         }
-        Ok(!self.events.is_empty())
+        Ok(())
     }
+}
+
+/// Waits for events, accepts the clients that have connected, and hears those that have sent something.
+fn gather<D: Disk, R: Clock>(
+    rt: &R,
+    watch: &mut Watch,
+    turns: &mut Turns<'_, D>,
+    wait: Duration,
+) -> Result<(), Refusal> {
+    watch.look(&mut turns.clients, wait)?;
+    turns.begin(rt);
+    turns.accept(0)?;
+    turns.accept(1)?;
+    turns.hear_all();
+    Ok(())
 }
 
 /// Hears the clients that come until as many have spoken as are expected, or the wait has been long enough.
@@ -95,21 +107,15 @@ fn linger<D: Disk, R: Clock>(
     if turns.service.is_covered() || !turns.has_room() {
         return Ok(());
     }
-    let Some(most) = turns.linger.begins(turns.clients.spoken()) else {
+    if !turns.linger.begins(turns.clients.spoken()) {
         return Ok(());
-    };
+    }
     let begin = turns.now;
-    for _ in 0..NAPS {
-        if watch.look(&mut turns.clients, Duration::ZERO)? {
-            turns.hear_all();
-        } else {
-            thread::sleep(rt, Duration::from_micros(NAP));
-        }
-        turns.begin(rt);
+    for _ in 0..WAITS {
         let waited = turns.now.saturating_duration_since(begin);
-        let are_back = turns.linger.are_back(turns.clients.spoken());
-        if are_back || waited >= most || !turns.has_room() {
-            break;
+        match turns.linger.left(turns.clients.spoken(), waited) {
+            Some(left) if turns.has_room() => gather(rt, watch, turns, left)?,
+            _ => break,
         }
     }
     turns.linger.ends(turns.clients.spoken());
@@ -155,11 +161,7 @@ fn take_turn<D: Disk, R: Clock, O: Write>(
     out: &mut O,
 ) -> Result<(), Refusal> {
     let wait = turns.patience();
-    watch.look(&mut turns.clients, wait)?;
-    turns.begin(rt);
-    turns.accept(0)?;
-    turns.accept(1)?;
-    turns.hear_all();
+    gather(rt, watch, turns, wait)?;
     linger(rt, watch, turns)?;
     commit(rt, watch, turns)?;
     turns.release_all();

@@ -3,7 +3,8 @@ use std::time::Duration;
 /// How many commits at most skip the wait after clients were awaited needlessly.
 const MAX_REST: u64 = 16;
 
-/// The shortest wait, in microseconds. It takes longer to wait for less than to commit twice.
+/// The shortest half of a commit for which the service waits, in microseconds. It takes longer to wait for less than to
+/// commit twice.
 const SHORTEST: u64 = 100;
 
 /// How many clients the service waits for before it commits: as many as the last commit released, who are about to send
@@ -47,17 +48,26 @@ impl Linger {
         self.commit.checked_div(2).unwrap_or(Duration::ZERO)
     }
 
-    /// How long the service waits before it commits for the clients that have spoken, if it does: half the duration of
-    /// a commit.
-    pub(crate) fn begins(&mut self, spoke: usize) -> Option<Duration> {
+    /// Whether the service waits before it commits for the clients that have spoken.
+    pub(crate) fn begins(&mut self, spoke: usize) -> bool {
         if self.are_back(spoke) || !self.helps() {
-            return None;
+            return false;
         }
         if self.rest > 0 {
             self.rest = self.rest.saturating_sub(1);
+            return false;
+        }
+        true
+    }
+
+    /// How much longer it waits, if it does: fewer have spoken than are expected, and it has waited for less than half the
+    /// duration of a commit.
+    pub(crate) fn left(&self, spoke: usize, waited: Duration) -> Option<Duration> {
+        let left = self.half().saturating_sub(waited);
+        if self.are_back(spoke) || left.is_zero() {
             return None;
         }
-        Some(self.half())
+        Some(left)
     }
 
     /// The wait is over. After a needless one the next commits skip it, more of them each time in a row.
