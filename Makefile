@@ -35,8 +35,10 @@ install:
 	install -D -m 755 $(ACTS) $(DESTDIR)$(PREFIX)/bin/acts
 	install -d $(DESTDIR)$(PREFIX)/share/man/man1 $(DESTDIR)$(PREFIX)/share/acts $(DESTDIR)$(PREFIX)/lib/acts $(DESTDIR)$(UNITS)
 	docs/man_page $(DESTDIR)$(PREFIX)/bin/acts > $(DESTDIR)$(PREFIX)/share/man/man1/acts.1
-	install -m 755 $(filter-out examples/runner_cases_% examples/runner_trials.py,$(wildcard examples/*.py)) $(DESTDIR)$(PREFIX)/lib/acts
-	install -m 644 examples/board.html examples/board.nginx examples/runners.haproxy $(DESTDIR)$(PREFIX)/share/acts
+	install -m 755 $(filter-out examples/runner_cases_% %_trials.py examples/chromium.py,$(wildcard examples/*.py)) $(DESTDIR)$(PREFIX)/lib/acts
+	install -m 644 examples/runners.haproxy $(DESTDIR)$(PREFIX)/share/acts
+	install -D -t $(DESTDIR)$(PREFIX)/share/acts/board -m 644 $(wildcard examples/board/*)
+	install -D -t $(DESTDIR)$(PREFIX)/share/acts/prometheus -m 644 $(wildcard examples/prometheus/*)
 	for unit in examples/*.service; do sed 's,/usr/local/,$(PREFIX)/,g' $$unit > $(DESTDIR)$(UNITS)/$${unit##*/} || exit 1; done
 	@$(if $(filter $(UNITS),$(SYSTEMD_UNITS)),,echo 'systemd does not look in $(UNITS): `systemctl link $(UNITS)/acts.service` lets it find this unit')
 
@@ -45,8 +47,8 @@ example: build
 	$(ACTS) play < examples/fan_out_fan_in.script | diff - examples/fan_out_fan_in.answers
 
 # All of examples/ with a trial of the program: the quick start, on free ports; the runner under restarts, cut streams, kills and cancelled steps;
-# events from GitHub's webhooks; the watchdog; HAProxy with certificates; what an operator does; the units under systemd; the board of runs; and four stores
-# on two machines. Needs bash, curl, jq, git, Python 3.9 and util-linux, and says what is missing.
+# events from GitHub's webhooks; the watchdog; HAProxy with certificates; what an operator does; the units under systemd; the board of runs; notices of
+# runs; metrics and alerts; and four stores on two machines. Needs bash, curl, jq, git, Python 3.9 and util-linux, and says what is missing.
 # `examples/try_examples $(ACTS)` does the same with the proved program.
 serve-example:
 	examples/try_examples

@@ -4,5 +4,6 @@ mod Machine
 mod PendingPart
 mod PortSlots
 mod QuietSteps
+mod SeenTables
 mod Served
 mod TurnsSoFar

@@ -10,6 +10,7 @@ mod event;
 mod exchange_history;
 mod hearing;
 pub mod laws;
+mod looking;
 mod pause;
 mod playing;
 mod sending;

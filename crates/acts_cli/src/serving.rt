@@ -5,8 +5,8 @@ ghost use Rattle.std.specs.Prelude.{◌≡◌, [], IfOk};
 use act_disk::Start;
 use act_store::Store;
 use acts_rounds::serve_rounds;
-use acts_serve::{Limits, serve_forever};
-use command_words::{Serving, Span};
+use acts_serve::{Limits, Ports, ViewPort, serve_forever};
+use command_words::{Serving, Span, VERSION};
 use local_commands::{Failure, ended, output};
 use process_io::{Fault, HeldStreams, RealDisk, listener};
 use std::alloc::Global;
@@ -35,16 +35,60 @@ fn open_store<
     }
 }
 
-/// The listeners on both ports.
-fn listeners<'a, S: Net<Listener = TcpListener, Stream = TcpStream>>(
-    system: &S,
-    serving: &Serving<'_>,
-) -> Result<(TcpListener, TcpListener), Fault<'a>> {
-    let hooks = listener(system, serving.hook_port)?;
-    Ok((hooks, listener(system, serving.runner_port)?))
+/// The listeners on the ports.
+#[derive(Drop)]
+struct Listeners {
+    hooks: TcpListener,
+    runners: TcpListener,
+    views: Option<TcpListener>,
 }
 
-/// Serves a store on two ports, in rounds or without end.
+/// The port to look at a service, if one is asked for.
+fn view_port(span: &Span) -> Option<u16> {
+    match span {
+        Span::Rounds(_) => None,
+        Span::Forever { view_port, .. } => *view_port,
+    }
+}
+
+fn view_listener<'a, S: Net<Listener = TcpListener, Stream = TcpStream>>(
+    system: &S,
+    port: Option<u16>,
+) -> Result<Option<TcpListener>, Fault<'a>> {
+    match port {
+        Some(port) => Ok(Some(listener(system, port)?)),
+        None => Ok(None),
+    }
+}
+
+fn bound_listeners<'a, S: Net<Listener = TcpListener, Stream = TcpStream>>(
+    system: &S,
+    serving: &Serving<'_>,
+) -> Result<Listeners, Fault<'a>> {
+    Ok(Listeners {
+        hooks: listener(system, serving.hook_port)?,
+        runners: listener(system, serving.runner_port)?,
+        views: view_listener(system, view_port(&serving.span))?,
+    })
+}
+
+/// The ports of a service without end.
+fn ports(listeners: &Listeners) -> Ports<'_> {
+    let views = match &listeners.views {
+        Some(listener) => Some(ViewPort {
+            listener,
+            version: VERSION,
+        }),
+        None => None,
+    };
+    Ports {
+        hooks: &listeners.hooks,
+        runners: &listeners.runners,
+        views,
+    }
+}
+
+/// Serves a store on its ports, in rounds or without end.
 fn serve_on<
     B: Start + Send,
     S: Threads + Wait + Clock + Sync + Net<Listener = TcpListener, Stream = TcpStream>,
@@ -53,8 +97,7 @@ fn serve_on<
     system: &S,
     alloc: Global,
     store: Store<RealDisk<B>>,
-    hooks: &TcpListener,
-    runners: &TcpListener,
+    listeners: &Listeners,
     serving: &Serving<'_>,
     out: &mut O,
 ) -> Result<(), Refusal>
@@ -63,20 +106,21 @@ fn serve_on<
     match serving.span {
         Span::Rounds(rounds) => {
             let sessions = serving.sessions.count;
+            let (hooks, runners) = (&listeners.hooks, &listeners.runners);
             serve_rounds(system, alloc, store, hooks, runners, sessions, rounds, out)?;
             Ok(())
         }
-        Span::Forever { commands, idle } => {
+        Span::Forever { commands, idle, .. } => {
             let limits = Limits {
                 commands,
                 idle: Duration::from_secs(idle),
             };
-            serve_forever(system, alloc, store, hooks, runners, limits, out)
+            serve_forever(system, alloc, store, ports(listeners), limits, out)
         }
     }
 }
 
-/// Serves the store in a file on two ports.
+/// Serves the store in a file.
 pub(crate) fn serve<
     'a,
     B: Start + Send,
@@ -84,16 +128,8 @@ pub(crate) fn serve<
     S: Threads + Wait + Clock + Eprint + Sync + Net<Listener = TcpListener, Stream = TcpStream>,
 >(rt: &R, system: &S, serving: &Serving<'a>) -> Result<(), Failure<'a>> {
     let store = open_store::<B, R, S>(rt, system, serving.file)?;
-    let (hooks, runners) = listeners(system, serving)?;
+    let listeners = bound_listeners(system, serving)?;
     let mut out = output(rt)?;
-    let served = serve_on(
-        system,
-        rt.alloc(),
-        store,
-        &hooks,
-        &runners,
-        serving,
-        &mut out,
-    );
+    let served = serve_on(system, rt.alloc(), store, &listeners, serving, &mut out);
     ended(served, out.into_fault(), None)
 }

@@ -17,6 +17,8 @@ pub(crate) struct Checkpoints {
     tried: Option<u64>,
     /// Whether the last step ran out of memory.
     lacks_memory: bool,
+    /// How many were finished.
+    finished: u64,
 }
 
 impl Checkpoints {
@@ -25,7 +27,13 @@ impl Checkpoints {
             left: None,
             tried: None,
             lacks_memory: false,
+            finished: 0,
         }
+    }
+
+    /// How many were finished.
+    pub(crate) fn finished(&self) -> u64 {
+        self.finished
     }
 
     /// Whether a checkpoint is in progress.
@@ -103,6 +111,7 @@ impl Checkpoints {
             Played::Refused(refusal) => self.refused(refusal, Some(0)),
             _ => {
                 self.left = None;
+                self.finished = self.finished.saturating_add(1);
                 Ok(())
             }
         }

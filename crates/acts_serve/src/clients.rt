@@ -76,6 +76,11 @@ impl<'a> Clients<'a> {
         self.slots.len()
     }
 
+    /// How many clients the port of hooks and the port of runners have.
+    pub(crate) fn taken(&self) -> (usize, usize) {
+        (self.hooks.taken(), self.runners.taken())
+    }
+
     /// Whether nobody waits to be heard.
     pub(crate) fn is_quiet(&self) -> bool {
         self.queue.is_empty()

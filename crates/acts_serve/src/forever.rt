@@ -7,17 +7,19 @@ use crate::farewell::part_with_all;
 use crate::limits::Limits;
 use crate::port::MAX_CLIENTS;
 use crate::turns::Turns;
+use crate::views::{ViewPort, Views};
 use act_disk::Disk;
 use act_loop::{Service, Slots};
 use act_store::Store;
 use mio::{Events, Poll};
+use run_table::Table;
 use service_startup::{brought_up, tell_ready};
 use std::alloc::Global;
 use std::io;
 use std::io::{ErrorKind, Write};
 use std::net::{Net, TcpListener};
 use std::sync::Wait;
-use std::time::{Clock, Duration, Instant};
+use std::time::{Clock, Duration, Instant, SystemTime, UNIX_EPOCH};
 use wf_value::{Code, Refusal};
 
 /// The most events that are taken at once.
@@ -35,6 +37,28 @@ fn refusal_of(e: &io::Error) -> Refusal {
         ErrorKind::OutOfMemory => Refusal::Numbered(Code::NoMemory),
         _ => Refusal::Numbered(Code::StreamFailed),
     }
+}
+
+/// What the number of a process is below, so that a cursor can name it.
+const CURSORS: u128 = 1_000_000_000_000_000_000;
+
+/// A number that no other process over the file has: the last digits of the nanoseconds since 1970.
+fn process_number<R: Clock>(rt: &R) -> u64 {
+    let Ok(now) = SystemTime::now(rt) else {
+        return 0;
+    };
+    match now.duration_since(UNIX_EPOCH) {
+        Ok(since) => u64::try_from(since.as_nanos() % CURSORS).unwrap_or(0),
+        Err(_) => 0,
+    }
+}
+
+/// The ports of a service: those of its clients, and one to look at it.
+#[derive(Clone, Copy)]
+pub struct Ports<'a> {
+    pub hooks: &'a TcpListener,
+    pub runners: &'a TcpListener,
+    pub views: Option<ViewPort<'a>>,
 }
 
 /// What reports that a connection has come, or a client has sent something.
@@ -70,14 +94,36 @@ impl Watch {
         Ok(clients)
     }
 
+    /// The clients of the view port, of which this reports, if there is one.
+    fn views<'a, R: Clock>(
+        &self,
+        rt: &R,
+        alloc: Global,
+        port: Option<ViewPort<'a>>,
+        now: Instant,
+        table: &Table,
+    ) -> Result<Option<Views<'a>>, Refusal> {
+        let Some(port) = port else {
+            return Ok(None);
+        };
+        let registry = self
+            .poll
+            .registry()
+            .try_clone()
+            .map_err(|e| refusal_of(&e))?;
+        let views = Views::new(alloc, port, registry, process_number(rt), now, table)?;
+        views.watch()?;
+        Ok(Some(views))
+    }
+
     /// Waits for events and notes them. The system waits in whole milliseconds, so up to one more.
-    fn look(&mut self, clients: &mut Clients<'_>, wait: Duration) -> Result<(), Refusal> {
+    fn look<D: Disk>(&mut self, turns: &mut Turns<'_, D>, wait: Duration) -> Result<(), Refusal> {
         match self.poll.poll(&mut self.events, Some(wait)) {
             Err(e) if e.kind() != ErrorKind::Interrupted => return Err(refusal_of(&e)),
             _ => {}
         }
         for event in self.events.iter() {
-            clients.note(event);
+            turns.note(event);
         }
         Ok(())
     }
@@ -90,7 +136,7 @@ fn gather<D: Disk, R: Clock>(
     turns: &mut Turns<'_, D>,
     wait: Duration,
 ) -> Result<(), Refusal> {
-    watch.look(&mut turns.clients, wait)?;
+    watch.look(turns, wait)?;
     turns.begin(rt);
     turns.accept(0)?;
     turns.accept(1)?;
@@ -136,6 +182,7 @@ fn commit<D: Disk, R: Clock>(
     turns.commit()?;
     turns.begin(rt);
     let took = turns.now.saturating_duration_since(begin);
+    turns.has_committed(took);
     let came = coming(watch, turns)?;
     turns
         .linger
@@ -149,7 +196,7 @@ fn coming<D: Disk>(watch: &mut Watch, turns: &mut Turns<'_, D>) -> Result<usize,
         return Ok(0);
     }
     let before = turns.clients.queued();
-    watch.look(&mut turns.clients, Duration::ZERO)?;
+    watch.look(turns, Duration::ZERO)?;
     Ok(turns.clients.queued().saturating_sub(before))
 }
 
@@ -162,9 +209,11 @@ fn take_turn<D: Disk, R: Clock, O: Write>(
 ) -> Result<(), Refusal> {
     let wait = turns.patience();
     gather(rt, watch, turns, wait)?;
+    turns.has_begun();
     linger(rt, watch, turns)?;
     commit(rt, watch, turns)?;
     turns.release_all();
+    turns.show(rt)?;
     turns.checkpoint()?;
     turns.turn_over(out)?;
     turns.sweep();
@@ -191,13 +240,14 @@ fn first_turn<'a, D: Disk + Drop>(
     limits: Limits,
     store: Store<D>,
     clients: Clients<'a>,
+    views: Option<Views<'a>>,
 ) -> Result<Turns<'a, D>, Refusal>
     requires fresh { store.history ≡ [] }
 {
     let buffer = vec![in alloc; 0u8; PIECE]?;
     let slots = Slots::new(alloc, MAX_CLIENTS, MAX_CLIENTS)?;
     let service = Service::new(store, slots);
-    Ok(Turns::new(alloc, now, limits, service, clients, buffer))
+    Ok(Turns::new(alloc, now, limits, service, clients, views, buffer))
 }
 
 /// Takes turns until the service cannot go on. If that is since the device has failed, the clients are answered.
@@ -230,8 +280,7 @@ pub fn serve_forever<D: Disk + Drop, R: Wait + Clock + Net, O: Write>(
     rt: &R,
     alloc: Global,
     store: Store<D>,
-    hooks: &TcpListener,
-    runners: &TcpListener,
+    ports: Ports<'_>,
     limits: Limits,
     out: &mut O,
 ) -> Result<(), Refusal>
@@ -240,7 +289,8 @@ pub fn serve_forever<D: Disk + Drop, R: Wait + Clock + Net, O: Write>(
     let now = Instant::now(rt).map_err(|e| refusal_of(&e))?;
     let store = brought_up(alloc, store)?;
     let mut watch = Watch::new(rt, alloc)?;
-    let clients = watch.clients(alloc, hooks, runners)?;
-    let mut turns = first_turn(alloc, now, limits, store, clients)?;
+    let clients = watch.clients(alloc, ports.hooks, ports.runners)?;
+    let views = watch.views(rt, alloc, ports.views, now, store.table())?;
+    let mut turns = first_turn(alloc, now, limits, store, clients, views)?;
     serve(rt, &mut watch, &mut turns, out)
 }

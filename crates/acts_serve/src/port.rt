@@ -85,6 +85,11 @@ impl<'a> Port<'a> {
         self.callers == Callers::Some && !self.free.is_empty()
     }
 
+    /// How many clients it has.
+    pub(crate) fn taken(&self) -> usize {
+        MAX_CLIENTS.saturating_sub(self.free.len())
+    }
+
     /// Frees a place.
     pub(crate) fn vacate(&mut self, place: usize) {
         let _ = self.free.push(place);

@@ -7,9 +7,12 @@ use crate::clients::Clients;
 use crate::limits::Limits;
 use crate::linger::Linger;
 use crate::port::MAX_CLIENTS;
+use crate::views::{FIRST_TOKEN, Seen, Views};
 use act_disk::Disk;
 use act_loop::{MAX_REQUESTS, Service};
 use act_store::MAX_ENTRIES;
+use mio::Token;
+use mio::event::Event;
 use runner_sessions::RunnerLines;
 use service_startup::tell_settled;
 use std::alloc::Global;
@@ -43,12 +46,25 @@ const LONG_WAIT: u64 = 1_000;
 /// How long it waits while clients leave, or answers wait.
 const SHORT_WAIT: u64 = 250;
 
+/// The part of a turn that more than one view may take, as a divisor.
+const SHARE: u32 = 10;
+
+/// How long ago a moment was; nothing if the clock cannot be read.
+fn elapsed<R: Clock>(rt: &R, since: Instant) -> Duration {
+    match Instant::now(rt) {
+        Ok(now) => now.saturating_duration_since(since),
+        Err(_) => Duration::ZERO,
+    }
+}
+
 /// All that a turn needs.
 #[derive(Drop)]
 pub(crate) struct Turns<'a, D: Disk> {
     pub(crate) alloc: Global,
     pub(crate) service: Service<D, Hooks, RunnerLines>,
     pub(crate) clients: Clients<'a>,
+    /// The clients of the view port, if there is one.
+    views: Option<Views<'a>>,
     /// What is read at a time.
     pub(crate) buffer: Vec<u8>,
     checkpoints: Checkpoints,
@@ -60,6 +76,8 @@ pub(crate) struct Turns<'a, D: Disk> {
     bytes: u64,
     /// The time of this turn.
     pub(crate) now: Instant,
+    /// When its first clients were heard.
+    began: Instant,
     /// When silent clients were last looked for.
     swept: Instant,
     /// Whether clients leave, or answers wait.
@@ -74,12 +92,14 @@ impl<'a, D: Disk> Turns<'a, D> {
         limits: Limits,
         service: Service<D, Hooks, RunnerLines>,
         clients: Clients<'a>,
+        views: Option<Views<'a>>,
         buffer: Vec<u8>,
     ) -> Turns<'a, D> {
         Turns {
             alloc,
             service,
             clients,
+            views,
             buffer,
             checkpoints: Checkpoints::new(),
             linger: Linger::new(),
@@ -87,6 +107,7 @@ impl<'a, D: Disk> Turns<'a, D> {
             pending: 0,
             bytes: 0,
             now,
+            began: now,
             swept: now,
             is_restless: false,
         }
@@ -95,11 +116,28 @@ impl<'a, D: Disk> Turns<'a, D> {
     /// How long the service may wait for an event.
     pub(crate) fn patience(&self) -> Duration {
         let is_busy = self.clients.are_coming() || !self.clients.is_quiet();
-        if is_busy || self.checkpoints.goes_on() {
+        if is_busy || self.are_looked_at() || self.checkpoints.goes_on() {
             return Duration::ZERO;
         }
         let since = self.now.saturating_duration_since(self.swept);
         Duration::from_millis(self.pause()).saturating_sub(since)
+    }
+
+    /// Whether a client of the view port is to be served.
+    fn are_looked_at(&self) -> bool {
+        match &self.views {
+            Some(views) => views.is_busy(),
+            None => false,
+        }
+    }
+
+    /// A listener or the stream of a client has reported something.
+    pub(crate) fn note(&mut self, event: &Event) {
+        let Token(number) = event.token();
+        match (number.checked_sub(FIRST_TOKEN), &mut self.views) {
+            (Some(number), Some(views)) => views.note(number, event),
+            _ => self.clients.note(event),
+        }
     }
 
     /// How often silent clients are looked for, in milliseconds.
@@ -116,6 +154,11 @@ impl<'a, D: Disk> Turns<'a, D> {
         if let Ok(now) = Instant::now(clock) {
             self.now = now;
         }
+    }
+
+    /// The turn has heard its first clients.
+    pub(crate) fn has_begun(&mut self) {
+        self.began = self.now;
     }
 
     /// Accepts the connections that have come to a port.
@@ -280,6 +323,73 @@ impl<'a, D: Disk> Turns<'a, D> {
         self.go_on(place, released.next);
     }
 
+    /// A commit took so long.
+    pub(crate) fn has_committed(&mut self, took: Duration) {
+        if let Some(views) = &mut self.views {
+            views.counters.committed(took);
+        }
+    }
+
+    /// Accepts the connections that have come to the view port.
+    fn accept_views(&mut self) -> Result<(), Refusal> {
+        if let Some(views) = &mut self.views {
+            for _ in 0..ACCEPTED {
+                if !views.accept(self.alloc, self.now)? {
+                    break;
+                }
+            }
+        }
+        Ok(())
+    }
+
+    /// Serves the next client of the view port. Returns false if there is none.
+    fn show_next(&mut self) -> bool {
+        let (hooks, runners) = self.clients.taken();
+        let store = self.service.store();
+        let Some(table) = self.service.seen_table() else {
+            return false;
+        };
+        let Some(views) = &mut self.views else {
+            return false;
+        };
+        let seen = Seen {
+            table,
+            area: store.area(),
+            room: store.room(),
+            hooks,
+            runners,
+            checkpoints: self.checkpoints.finished(),
+            now: self.now,
+        };
+        views.serve_next(self.alloc, seen, &mut self.buffer)
+    }
+
+    /// Serves clients of the view port, while all entries are covered: one, and more as long as that takes less than a
+    /// tenth of the turn so far.
+    pub(crate) fn show<R: Clock>(&mut self, rt: &R) -> Result<(), Refusal> {
+        self.accept_views()?;
+        if !self.service.is_covered() {
+            return Ok(());
+        }
+        let Some(views) = &mut self.views else {
+            return Ok(());
+        };
+        views.take_up(self.alloc, self.service.store(), self.now);
+        let most = self.time_to_show(rt);
+        for _ in 0..MAX_CLIENTS {
+            if !self.show_next() || elapsed(rt, self.began) >= most {
+                break;
+            }
+        }
+        Ok(())
+    }
+
+    /// How long after the begin of a turn its views may end: a tenth more than has passed.
+    fn time_to_show<R: Clock>(&self, rt: &R) -> Duration {
+        let passed = elapsed(rt, self.began);
+        passed.saturating_add(passed.checked_div(SHARE).unwrap_or(Duration::ZERO))
+    }
+
     /// Takes some steps of a checkpoint.
     pub(crate) fn checkpoint(&mut self) -> Result<(), Refusal> {
         let slices = if self.clients.is_quiet() || self.is_due() {
@@ -308,6 +418,9 @@ impl<'a, D: Disk> Turns<'a, D> {
             Err(refusal) => Err(refusal),
             Ok(()) => {
                 self.checkpoints.turn_over();
+                if let Some(views) = &mut self.views {
+                    views.turn_over();
+                }
                 self.bytes = 0;
                 tell_settled(entries, out)
             }
@@ -324,6 +437,9 @@ impl<'a, D: Disk> Turns<'a, D> {
         self.is_restless = false;
         for place in 0..self.clients.len() {
             self.look_at(place);
+        }
+        if let Some(views) = &mut self.views {
+            self.is_restless = views.sweep(self.now, self.limits.idle) || self.is_restless;
         }
     }
 

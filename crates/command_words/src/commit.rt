@@ -2,4 +2,4 @@
 //! text afterwards.
 
 /// The version of the program, and its commit.
-pub(crate) const VERSION: &str = "0.1.0 (no commit named)";
+pub const VERSION: &str = "0.1.0 (no commit named)";

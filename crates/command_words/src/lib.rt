@@ -10,6 +10,7 @@ mod serving;
 mod storing;
 mod viewing;
 
+pub use commit::VERSION;
 pub use explain::{Explanation, numbers};
 pub use message::{Message, Unparsed};
 pub use requests::{Request, not_text, parse};

@@ -52,6 +52,8 @@ pub enum Span {
         commands: u64,
         /// How long a client may stay silent, in seconds.
         idle: u64,
+        /// The port to look at the service, if there is one.
+        view_port: Option<u16>,
     },
 }
 
@@ -106,6 +108,16 @@ fn idle_option<'a>(alloc: Global) -> Result<Arg<'a>, AllocError> {
         .requires_arg("forever")
 }
 
+/// The port to look at a service without end.
+fn view_port_option<'a>(alloc: Global) -> Result<Arg<'a>, AllocError> {
+    Arg::new(alloc, "view-port")
+        .long("view-port")
+        .value_name("PORT")
+        .help("With --forever: the port of 127.0.0.1 to look at the service over HTTP, 1 to 65535")
+        .value_parser(ValueParser::unsigned(1, MAX_PORT))
+        .requires_arg("forever")
+}
+
 /// The number of commands after which the history of a service without end turns over.
 fn turn_over_option<'a>(alloc: Global) -> Result<Arg<'a>, AllocError> {
     Arg::new(alloc, "turn-over")
@@ -150,7 +162,8 @@ fn with_span<'a>(alloc: Global, serve: Made<'a>) -> Made<'a> {
     let serve = with_arg(serve, Ok(rounds_option(alloc)));
     let serve = with_arg(serve, forever_option(alloc));
     let serve = with_arg(serve, idle_option(alloc));
-    with_arg(serve, turn_over_option(alloc))
+    let serve = with_arg(serve, turn_over_option(alloc));
+    with_arg(serve, view_port_option(alloc))
 }
 
 /// The port that an option names.
@@ -166,6 +179,7 @@ fn span_of(matches: &ArgMatches<'_>) -> Option<Span> {
     Some(Span::Forever {
         commands: matches.get_one::<u64>("turn-over")?,
         idle: matches.get_one::<u64>("idle")?,
+        view_port: port_of(matches, "view-port"),
     })
 }
 

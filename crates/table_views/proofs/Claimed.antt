@@ -84,3 +84,13 @@ leg_claimed runs prefix places i p old new lt is so_far more =
     more ∙ ap (λ cs. cs ++ filter_map (claim_of runs) (Leg p ∷ [])) so_far
     ∙ sym (filter_map-append (claim_of runs) (prefix ++ before) (Leg p ∷ []))
     ∙ ap (filter_map (claim_of runs)) (append_assoc prefix before (Leg p ∷ []) ∙ ap (λ hs. prefix ++ hs) (sym (legs_more places i p lt is)))
+
+-- ---- the rows of one leg more
+
+pub leg_row_more : {A : Type 0} (row : Holder → Option A) (places : List LegPlace) (i : ℕ) (p : LegPlace) (old so_far new : List A) → i < length places
+    → get_or places i p ≡ p → so_far ≡ old ++ filter_map row (map (λ q. Leg q) (take i places)) → new ≡ so_far ++ filter_map row (Leg p ∷ [])
+    → new ≡ old ++ filter_map row (map (λ q. Leg q) (take (i + 1) places))
+leg_row_more row places i p old so_far new lt is before more =
+    let legs = map (λ q. Leg q) (take i places) in
+    more ∙ ap (λ rs. rs ++ filter_map row (Leg p ∷ [])) before ∙ append_assoc old (filter_map row legs) (filter_map row (Leg p ∷ []))
+    ∙ ap (λ rs. old ++ rs) (sym (filter_map-append row legs (Leg p ∷ [])) ∙ ap (filter_map row) (sym (legs_more places i p lt is)))

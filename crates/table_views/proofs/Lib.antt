@@ -4,4 +4,5 @@ pub mod Found
 pub mod GroupsOnce
 pub mod JobsLeft
 pub mod Joined
+pub mod Paging
 pub mod Placing

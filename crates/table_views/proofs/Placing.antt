@@ -59,3 +59,22 @@ all_places {X} g n xs past = ap (λ ys. map (λ (x : ℕ × X). g x.0) (placed y
 
 pub added_more : {Y : Type 0} (old so_far part mid new : List Y) → mid ≡ old ++ so_far → new ≡ mid ++ part → new ≡ old ++ (so_far ++ part)
 added_more old so_far part mid new is more = more ∙ ap (λ ys. ys ++ part) is ∙ append_assoc old so_far part
+
+-- ---- one value of each element with its index
+
+map_more : {X Y : Type 0} (f : ℕ × X → Y) (m n : ℕ) (xs : List X) (x : X) → n < length xs → get_or xs n x ≡ x
+    → map f (enumerate_from m (take (suc n) xs)) ≡ map f (enumerate_from m (take n xs)) ++ f (m + n, x) ∷ []
+map_more f m n [] x lt is = absurd (omega (arith, lt))
+map_more f m zero (y ∷ ys) x lt is = ap (λ z. f (m, z) ∷ []) is ∙ ap (λ k. f (k, x) ∷ []) (let e : m ≡ m + 0 = omega arith in e)
+map_more f m (suc n) (y ∷ ys) x lt is =
+    ap (λ zs. f (m, y) ∷ zs)
+    (map_more f (m + 1) n ys x (omega (arith, lt)) is
+    ∙ ap (λ k. map f (enumerate_from (m + 1) (take n ys)) ++ f (k, x) ∷ []) (let e : m + 1 + n ≡ m + suc n = omega arith in e))
+
+pub one_value_more : {X Y : Type 0} (f : ℕ × X → Y) (n : ℕ) (xs : List X) (x : X) → n < length xs → get_or xs n x ≡ x
+    → map f (placed (take (n + 1) xs)) ≡ map f (placed (take n xs)) ++ f (n, x) ∷ []
+one_value_more f n xs x lt is =
+    let step : n + 1 ≡ suc n = omega arith in
+    let start : 0 + n ≡ n = omega arith in
+    ap (λ k. map f (placed (take k xs))) step ∙ map_more f 0 n xs x lt is
+    ∙ ap (λ k. map f (placed (take n xs)) ++ f (k, x) ∷ []) start

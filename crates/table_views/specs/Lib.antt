@@ -1,7 +1,17 @@
 pub mod Claims
 pub mod GroupLines
+pub mod HolderPages
+pub mod Members
+pub mod Pages
 pub mod Placed
 pub mod QueueLines
+pub mod ReadyPages
+pub mod RunFilters
 pub mod RunLines
+pub mod RunPages
+pub mod RunRows
+pub mod RunViews
 pub mod RunnerLines
+pub mod RunnerPages
+pub mod TableMetrics
 pub mod Texts

@@ -21,9 +21,13 @@ is_ready_at runs p = option_map_or (λ leg. is_ready leg.phase) (leg_at runs p) 
 abbrev pub labels_json : List RunState → LegPlace → List ℕ
 labels_json runs p = listed (map quoted (unwrap_or (labels_at runs p) []))
 
+-- a ready leg as JSON
+abbrev pub ready_row : List RunState → LegPlace → List ℕ
+ready_row runs p = codes "{" ++ leg_members runs p ++ codes ",\"labels\":" ++ labels_json runs p ++ codes "}"
+
 abbrev pub ready_line : Form → List RunState → LegPlace → List ℕ
 ready_line form.Lines runs p = line (codes "ready " ++ leg_words runs p ++ codes " " ++ labels_json runs p)
-ready_line form.Json runs p = line (codes "{" ++ leg_members runs p ++ codes ",\"labels\":" ++ labels_json runs p ++ codes "}")
+ready_line form.Json runs p = line (ready_row runs p)
 
 -- a line for each ready leg, in the order of run, job and leg
 abbrev pub ready_lines : Form → List RunState → List ℕ

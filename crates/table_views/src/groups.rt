@@ -27,7 +27,11 @@ use workflow_runs::runs::Runs;
 // ---- runs and legs that hold groups or wait for them
 
 /// The group that a run or a leg holds or waits for.
-fn group_in_use(alloc: Global, runs: &Runs, holder: &Holder) -> Result<Option<GroupKey>, Refusal>
+pub(crate) fn group_in_use(
+    alloc: Global,
+    runs: &Runs,
+    holder: &Holder,
+) -> Result<Option<GroupKey>, Refusal>
     ensures { Gives (λ group. group) result (Ok (group_in_use runs.now holder.now)) }
 {
     if runs.waits(holder) || runs.holds(holder) {

@@ -1,16 +1,39 @@
-//! The lines that an operator sees of a table: its runs, its runners and its queue, as text or as JSON.
+//! What an operator sees of a table: the lines of its runs, its runners and its queue, as text or as JSON, and pages of long lists as JSON.
 #![tactic(auto)]
 
+mod change_lines;
 mod claim;
 mod form;
+mod group_filter;
+mod group_holders;
 mod groups;
+mod known_runners;
+mod members;
+mod newest_runs;
+mod one_run;
+mod pages;
 mod places;
 mod queue;
+mod ready_legs;
+mod run_filter;
+mod run_legs;
+mod run_rows;
 mod runners;
 mod runs;
+mod table_metrics;
 mod texts;
+mod waiting;
 
+pub use change_lines::{entry_line, run_change_line};
 pub use form::Form;
+pub use group_filter::GroupFilter;
+pub use group_holders::holder_page;
+pub use known_runners::{index_after, index_of, one_runner, runner_page};
+pub use newest_runs::runs_page;
+pub use one_run::run_view;
 pub use queue::queue_text;
+pub use ready_legs::ready_page;
+pub use run_filter::RunFilter;
 pub use runners::runners_text;
 pub use runs::run_line;
+pub use table_metrics::{push_head, push_metric, push_table_metrics, push_value};

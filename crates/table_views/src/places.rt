@@ -34,7 +34,12 @@ fn push_legs_of_job(
     Ok(())
 }
 
-fn push_legs_of_run(places: &mut Vec<LegPlace>, r: usize, run: &Run) -> Result<(), AllocError>
+/// Adds the places of a run's legs.
+pub(crate) fn push_legs_of_run(
+    places: &mut Vec<LegPlace>,
+    r: usize,
+    run: &Run,
+) -> Result<(), AllocError>
     requires run { r < max_runs }
     requires within { All IsWithin places.old.items }
     ensures places { OnOk result (places.new.items ≡ places.old.items ++ leg_places_of_run (r, run.now)) }

@@ -7,7 +7,8 @@ ghost use Rattle.wf_value.specs.Gives.{Gives};
 ghost use Rattle.run_states.specs.Fitting.{is_ready};
 ghost use Rattle.run_states.specs.Places.{leg_at, leg_places};
 ghost use Rattle.table_views.specs.Placed.{IsWithin};
-ghost use Rattle.table_views.specs.QueueLines.{is_ready_at, labels_json, queue_lines, ready_line, ready_lines};
+ghost use Rattle.table_views.specs.QueueLines.{is_ready_at, labels_json, queue_lines, ready_line, ready_lines, ready_row};
+ghost use Rattle.table_views.specs.declared.form.Form.TheVariants as form;
 ghost use Rattle.table_views.specs.Texts.{quoted};
 
 use crate::form::Form;
@@ -30,7 +31,7 @@ fn is_ready(phase: LegPhase) -> bool
     }
 }
 
-fn is_ready_at(runs: &Runs, place: LegPlace) -> bool
+pub(crate) fn is_ready_at(runs: &Runs, place: LegPlace) -> bool
     ensures { result ≡ is_ready_at runs.now place }
 {
     match runs.leg(place) {
@@ -39,7 +40,7 @@ fn is_ready_at(runs: &Runs, place: LegPlace) -> bool
     }
 }
 
-fn quoted_each(alloc: Global, texts: &[Chars]) -> Result<Vec<Chars>, Refusal>
+pub(crate) fn quoted_each(alloc: Global, texts: &[Chars]) -> Result<Vec<Chars>, Refusal>
     ensures { Gives (λ quoted. quoted.items) result (Ok (map quoted texts.now)) }
 {
     let mut all = Vec::with_capacity(alloc, texts.len())?;
@@ -51,7 +52,7 @@ fn quoted_each(alloc: Global, texts: &[Chars]) -> Result<Vec<Chars>, Refusal>
 }
 
 /// The labels that a leg requires.
-fn labels_json(alloc: Global, runs: &Runs, place: LegPlace) -> Result<String, Refusal>
+pub(crate) fn labels_json(alloc: Global, runs: &Runs, place: LegPlace) -> Result<String, Refusal>
     requires { place.leg < 2 ^ 63 }
     ensures { Gives string_bytes result (Ok (labels_json runs.now place)) }
 {
@@ -60,19 +61,35 @@ fn labels_json(alloc: Global, runs: &Runs, place: LegPlace) -> Result<String, Re
     listed(alloc, texts.as_slice())
 }
 
+/// A ready leg as JSON.
+pub(crate) fn ready_row(alloc: Global, runs: &Runs, place: LegPlace) -> Result<String, Refusal>
+    requires { IsWithin place }
+    ensures { Gives string_bytes result (Ok (ready_row runs.now place)) }
+{
+    let labels = labels_json(alloc, runs, place)?;
+    let leg = leg_members(alloc, runs, place)?;
+    Ok(format!(in alloc; "{{{leg},\"labels\":{labels}}}")?)
+}
+
+fn ready_words(alloc: Global, runs: &Runs, place: LegPlace) -> Result<String, Refusal>
+    requires { IsWithin place }
+    ensures { Gives string_bytes result (Ok (ready_line form.Lines runs.now place)) }
+{
+    let labels = labels_json(alloc, runs, place)?;
+    let leg = leg_words(alloc, runs, place)?;
+    Ok(format!(in alloc; "ready {leg} {labels}\n")?)
+}
+
 fn ready_line(alloc: Global, form: Form, runs: &Runs, place: LegPlace) -> Result<String, Refusal>
     requires { IsWithin place }
     ensures { Gives string_bytes result (Ok (ready_line form runs.now place)) }
 {
-    let labels = labels_json(alloc, runs, place)?;
     match form {
-        Form::Lines => {
-            let leg = leg_words(alloc, runs, place)?;
-            Ok(format!(in alloc; "ready {leg} {labels}\n")?)
-        }
+        Form::Lines => ready_words(alloc, runs, place),
         Form::Json => {
-            let leg = leg_members(alloc, runs, place)?;
-            Ok(format!(in alloc; "{{{leg},\"labels\":{labels}}}\n")?)
+            let mut text = ready_row(alloc, runs, place)?;
+            text.push_str("\n")?;
+            Ok(text)
         }
     }
 }

@@ -14,7 +14,7 @@ use run_table::{RunView, conclusion_word, leg_word, status_word};
 use std::alloc::{AllocError, Global};
 use wf_value::{Chars, Refusal};
 
-fn state_word(phase: JobPhase) -> &'static str
+pub(crate) fn state_word(phase: JobPhase) -> &'static str
     ensures { result.now ≡ state_text phase }
 {
     match phase {

@@ -4,7 +4,7 @@ use crate::clients::{BODY, POST, Ports, is_answered, listeners};
 use crate::forever::{FETCH, UNKNOWN, client, limits};
 use act_disk::{FuseDisk, MemoryDisk};
 use act_store::Store;
-use acts_serve::serve_forever;
+use acts_serve::{Ports as ServedPorts, serve_forever};
 use std::alloc::Global;
 use std::net::{Net, TcpListener, TcpStream};
 use std::sync::Wait;
@@ -19,18 +19,23 @@ const UNAVAILABLE: &str =
     "HTTP/1.1 503 Service Unavailable\r\nContent-Type: text/plain\r\nContent-Length: 11\r\nConnection: close\r\n\r\nrefused 52\n";
 
 /// Serves a new store, whose second commit fails. Returns the number of the refusal that ended the service.
-fn serve<R: Wait + Clock + Net>(
+fn serve<'a, R: Wait + Clock + Net>(
     rt: &R,
     alloc: Global,
-    hooks: &TcpListener,
-    runners: &TcpListener,
+    hooks: &'a TcpListener,
+    runners: &'a TcpListener,
     out: &mut Vec<u8>,
 ) -> u64 {
     let disk = FuseDisk::from(MemoryDisk::new(alloc), FIRST_CALLS);
     let Ok(store) = Store::init(alloc, disk, 4096) else {
         return 0;
     };
-    match serve_forever(rt, alloc, store, hooks, runners, limits(50), out) {
+    let ports = ServedPorts {
+        hooks,
+        runners,
+        views: None,
+    };
+    match serve_forever(rt, alloc, store, ports, limits(50), out) {
         Ok(()) => 0,
         Err(refusal) => refusal.number(),
     }

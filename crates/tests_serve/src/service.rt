@@ -3,7 +3,7 @@
 use act_disk::MemoryDisk;
 use act_store::Store;
 use acts_rounds::serve_rounds;
-use acts_serve::{Limits, serve_forever};
+use acts_serve::{Limits, Ports, serve_forever};
 use std::alloc::Global;
 use std::io;
 use std::io::{ErrorKind, Write};
@@ -62,18 +62,23 @@ impl Write for Lines {
 }
 
 /// Serves without end, until the output fails. Returns the number of the refusal that ended it.
-pub fn serve_until_output_fails<R: Wait + Clock + Net>(
+pub fn serve_until_output_fails<'a, R: Wait + Clock + Net>(
     rt: &R,
     alloc: Global,
-    hooks: &TcpListener,
-    runners: &TcpListener,
+    hooks: &'a TcpListener,
+    runners: &'a TcpListener,
     limits: Limits,
     out: &mut Lines,
 ) -> u64 {
     let Ok(store) = Store::init(alloc, MemoryDisk::new(alloc), 4096) else {
         return 0;
     };
-    match serve_forever(rt, alloc, store, hooks, runners, limits, out) {
+    let ports = Ports {
+        hooks,
+        runners,
+        views: None,
+    };
+    match serve_forever(rt, alloc, store, ports, limits, out) {
         Ok(()) => 0,
         Err(refusal) => refusal.number(),
     }

@@ -1,0 +1,25 @@
+//! What may be seen of a service between its turns.
+
+ghost use Rattle.std.specs.Prelude.{◌<◌, IfNone, IfSome, length};
+ghost use Rattle.act_loop.specs.Looking.{IsSeen};
+ghost use Rattle.act_loop.specs.Service.{covered_of, history_of};
+
+use crate::service::Service;
+use act_disk::Disk;
+use act_sessions::Protocol;
+use run_table::Table;
+
+impl<D: Disk, P: Protocol, Q: Protocol> Service<D, P, Q> {
+    /// The table after all entries, if they are all covered: no crash takes back what it shows. Nothing is entered, and no device call is
+    /// made.
+    pub fn seen_table(&self) -> Option<&Table>
+        ensures seen { IfSome result (λ table. IsSeen D.honest D.images self.now table.now) }
+        ensures none { IfNone result (covered_of self.now < length (history_of self.now)) }
+    {
+        if self.is_covered() {
+            Some(self.store.table())
+        } else {
+            None
+        }
+    }
+}

@@ -1,0 +1,70 @@
+ghost use Rattle.std.specs.Prelude.{◌≡◌, ◌+◌, ◌<◌, ◌≤◌, ◌^◌, IfOk, IfSome, OnOk, length, true};
+ghost use Rattle.run_table.specs.Sound.{IsSound};
+ghost use Rattle.table_text.specs.WholeTables.{whole_table};
+ghost use Rattle.wf_value.specs.Gives.{ErrsOnlyByMemory};
+ghost use Rattle.act_store.specs.Images.{IsAreaLength, RecoversTo};
+ghost use Rattle.act_store.specs.TableText.{EncodesTable};
+ghost use Rattle.act_store.specs.declared.layout.Layout.TheVariants as layouts;
+ghost use Rattle.store_copies.specs.Copies.{copy_front, file_of};
+
+use crate::store_copy::StoreCopy;
+use act_store::{MAX_AREA, MIN_AREA};
+use gated_journal::OPEN;
+use gated_journal::lengths::{GATE, HEAD};
+use run_table::Table;
+use std::alloc::Global;
+use table_text::{table_length, write_table};
+use wf_value::Refusal;
+
+/// The version of the second layout.
+const VERSION: u8 = 2;
+
+/// The generation of the active area.
+const GENERATION: u64 = 1;
+
+/// Whether the text of a table fits an area of this length, with a head, its own gate and one for the first record.
+fn fits(area: u64, table: &Table) -> bool
+    ensures few { result ≡ true → length table.now.runners ≤ 4294967295 }
+    ensures area { result ≡ true → IsAreaLength area }
+    ensures room { result ≡ true → length (whole_table.encoding table.now) + 19 ≤ area }
+{
+    if table.runners().len() > u32::MAX as usize {
+        return false;
+    }
+    area >= MIN_AREA && area <= MAX_AREA && table_length(table) <= area - (GATE + HEAD + GATE)
+}
+
+/// The bytes up to the end of the table's text.
+#[tactic(auto, using(crate::proofs::Encoding::table_encodes))]
+fn front(alloc: Global, table: &Table) -> Result<Vec<u8>, Refusal>
+    requires few { length table.now.runners ≤ 4294967295 }
+    requires sound { IsSound table.now }
+    ensures err { ErrsOnlyByMemory result }
+    ensures bytes { IfOk result (λ bytes. bytes.items ≡ copy_front (whole_table.encoding table.now)) }
+    ensures encodes { OnOk result (EncodesTable layouts.Second table.now (whole_table.encoding table.now)) }
+{
+    let text = table_length(table);
+    let mut bytes = vec![in alloc; OPEN; 1]?;
+    bytes.push(VERSION)?;
+    bytes.extend_from_slice(&GENERATION.to_be_bytes())?;
+    bytes.extend_from_slice(&text.to_be_bytes())?;
+    write_table(&mut bytes, table)?;
+    Ok(bytes)
+}
+
+/// A store file of two areas of this length, of which the first has the table, in the second layout, and no record. `None` if the text of
+/// the table does not fit, or no store has areas of this length.
+pub fn copy_of(alloc: Global, area: u64, table: &Table) -> Result<Option<StoreCopy>, Refusal>
+    ensures err { ErrsOnlyByMemory result }
+    ensures recovers { IfOk result (λ found. IfSome found (λ copy. RecoversTo table.now (file_of copy))) }
+    ensures size { IfOk result (λ found. IfSome found (λ copy. length (file_of copy) ≡ area + area)) }
+{
+    if !fits(area, table) {
+        return Ok(None);
+    }
+    // This call says that the table is sound, as one that is encoded has to be.
+    let _ = table.last_lease();
+    let bytes = front(alloc, table)?;
+    let zeros = area + area - bytes.len() as u64;
+    Ok(Some(StoreCopy { bytes, zeros }))
+}

@@ -1,0 +1,10 @@
+use Rattle.std.proofs.Common.{◌≡◌, ◌++◌, map, take}
+use Rattle.std.specs.Prelude.{filter_map}
+use Rattle.run_states.specs.declared.holder.Holder.TheVariants.{Leg}
+use Rattle.table_views.specs.HolderPages.{row_of_holder}
+use Rattle.table_views.proofs.group_holders.push_legs.Given as goal
+
+-- the rows of the legs so far
+abbrev pub invariant-loop-place : goal.invariant-loop-place
+invariant-loop-place l =
+    l.rows.items ≡ l.initial.rows.items ++ filter_map (row_of_holder l.filter l.runs) (map (λ p. Leg p) (take l.place-index l.places))

@@ -1,0 +1,34 @@
+-- A page of the ready legs of a table, run by run.
+use Rattle.std.specs.Prelude.{◌≡◌, ℕ, ◌+◌, ◌-◌, List, [], ◌++◌, codes, length, map, min, nat_lt, slice_get, Option, Some, None, if◌then◌else◌}
+use Rattle.std.specs.List.{filter}
+use Rattle.std.specs.Option.{option_map_or}
+use Rattle.run_states.specs.Places.{leg_places_of_run}
+use Rattle.run_states.specs.RunState.{RunState}
+use Rattle.run_states.specs.declared.place.LegPlace.{LegPlace}
+use Rattle.run_table.specs.TableState.{TableState}
+use Rattle.table_views.specs.Members.{number_or_null}
+use Rattle.table_views.specs.Pages.{IsPage, page_text, rows_from}
+use Rattle.table_views.specs.QueueLines.{is_ready_at, ready_row}
+use Rattle.table_views.specs.declared.pages.TheConstants.{MOST_LOOKED}
+
+-- the places of the legs of the run at an index
+abbrev pub legs_at : List RunState → ℕ → List LegPlace
+legs_at runs r = option_map_or (λ run. leg_places_of_run (r, run)) (slice_get runs r) []
+
+-- the rows of its ready legs
+abbrev pub ready_rows : List RunState → ℕ → List (List ℕ)
+ready_rows runs r = map (ready_row runs) (filter (is_ready_at runs) (legs_at runs r))
+
+-- the index of the run with an id, or the end of the runs
+abbrev pub start_at : List RunState → ℕ → ℕ
+start_at runs from = min (from - 1) (length runs)
+
+-- the id of the run at an index, if there is one
+abbrev pub next_run : ℕ → ℕ → Option ℕ
+next_run runs index = if nat_lt index runs then Some (index + 1) else None
+
+pub record IsReadyPage (from limit : ℕ) (t : TableState) (text : List ℕ) : Type 0 where
+  pub count : ℕ
+  pub page : IsPage (λ r. length (ready_rows t.runs r)) (start_at t.runs from) (length t.runs - start_at t.runs from) limit MOST_LOOKED count
+  pub is : text ≡ page_text (codes "queue") (rows_from (ready_rows t.runs) (start_at t.runs from) count)
+      (codes "from") (number_or_null (next_run (length t.runs) (start_at t.runs from + count)))

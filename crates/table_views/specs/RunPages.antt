@@ -1,0 +1,37 @@
+-- A page of the runs of a table, newest first.
+use Rattle.std.specs.Prelude.{◌≡◌, ℕ, ◌+◌, ◌-◌, List, [], ◌∷◌, codes, decimal, length, min, nat_lt, Bool, Option, Some, None, if◌then◌else◌}
+use Rattle.std.specs.Option.{option_map_or}
+use Rattle.run_states.specs.RunState.{RunState}
+use Rattle.run_table.specs.TableState.{TableState}
+use Rattle.run_table.specs.ViewText.{seen_of}
+use Rattle.table_views.specs.Members.{number_or_null}
+use Rattle.table_views.specs.Pages.{IsPage, page_text, rows_from}
+use Rattle.table_views.specs.RunFilters.{is_shown}
+use Rattle.table_views.specs.RunRows.{run_row}
+use Rattle.table_views.specs.declared.pages.TheConstants.{MOST_LOOKED}
+use Rattle.table_views.specs.declared.run_filter.RunFilter.{RunFilter}
+
+-- the runs below an id, or all
+abbrev pub runs_below : List RunState → Option ℕ → ℕ
+runs_below runs None = length runs
+runs_below runs (Some before) = min (before - 1) (length runs)
+
+-- the row of a run, if the list shows it
+abbrev pub shown_row : RunFilter → List RunState → ℕ → List (List ℕ)
+shown_row f runs id =
+    option_map_or (λ seen. if is_shown f runs seen then run_row runs seen ∷ [] else []) (seen_of runs id) []
+
+-- the rows at an index that counts down from the newest of `top` runs
+abbrev pub newest_rows : RunFilter → List RunState → ℕ → ℕ → List (List ℕ)
+newest_rows f runs top index = shown_row f runs (top - index)
+
+-- the id below which the list goes on, if a run is left
+abbrev pub next_below : ℕ → ℕ → Option ℕ
+next_below top count = if nat_lt count top then Some (top - count + 1) else None
+
+-- the text of a page that has looked at `count` of the `top` runs below the asked id
+pub record IsRunsPage (f : RunFilter) (before : Option ℕ) (limit : ℕ) (t : TableState) (text : List ℕ) : Type 0 where
+  pub count : ℕ
+  pub page : IsPage (λ index. length (newest_rows f t.runs (runs_below t.runs before) index)) 0 (runs_below t.runs before) limit MOST_LOOKED count
+  pub is : text ≡ page_text (codes "runs") (rows_from (newest_rows f t.runs (runs_below t.runs before)) 0 count)
+      (codes "before") (number_or_null (next_below (runs_below t.runs before) count))

@@ -1,0 +1,68 @@
+-- A run as a row of a list. The format is defined by this project. GitHub Docs, "REST API endpoints for workflow runs" and "Contexts reference".
+use Rattle.std.specs.Prelude.{ℕ, ◌-◌, List, [], ◌∷◌, ◌++◌, codes, decimal, Option, Some, None, option_map, option_and_then}
+use Rattle.wf_value.specs.Words.{outcome_word}
+use Rattle.wf_value.specs.declared.scalar.Scalar.{Scalar}
+use Rattle.wf_value.specs.declared.scalar.Scalar.TheVariants as scalar
+use Rattle.needs_graph.specs.Results.{conclusion_of}
+use Rattle.wf_reader.specs.Contexts.{sent_value}
+use Rattle.wf_reader.specs.Event.{event_of}
+use Rattle.run_plan.specs.Admitted.{Admitted}
+use Rattle.group_name.specs.Order.{name_bytes}
+use Rattle.run_states.specs.GroupOf.{group_at}
+use Rattle.run_states.specs.RunState.{JobState, RunState}
+use Rattle.run_states.specs.declared.holder.Holder.TheVariants.{Run}
+use Rattle.run_states.specs.declared.phases.RunPhase.{RunPhase}
+use Rattle.run_states.specs.declared.phases.RunPhase.TheVariants as phase
+use Rattle.run_table.specs.ViewText.{Seen, results_of, status_text}
+use Rattle.table_views.specs.Members.{member, text_or_null}
+use Rattle.table_views.specs.Texts.{quoted}
+
+-- ---- what a row shows
+
+abbrev pub text_of : Scalar → Option (List ℕ)
+text_of (scalar.Text text) = Some text
+text_of _ = None
+
+-- `github.ref` of what was admitted, if it is a text
+abbrev pub ref_of : Admitted → Option (List ℕ)
+ref_of event = option_and_then text_of (sent_value (event_of event.body).contexts (codes "github" ∷ codes "ref" ∷ []))
+
+-- the conclusion, once the run has completed
+abbrev pub conclusion_at : RunPhase → List JobState → Option (List ℕ)
+conclusion_at phase.Waiting jobs = None
+conclusion_at phase.Live jobs = None
+conclusion_at phase.Ended jobs = Some (outcome_word (conclusion_of (results_of jobs)))
+
+-- the case-folded name of the group that the run itself asks for
+abbrev pub own_group : List RunState → ℕ → Option (List ℕ)
+own_group runs id = option_map name_bytes (group_at runs (Run (id - 1)))
+
+-- ---- its members
+
+abbrev pub number_members : Seen → List ℕ
+number_members seen =
+    codes "\"run\":" ++ decimal seen.id ++ member (codes "number") (decimal seen.number) ++ member (codes "attempt") (decimal seen.run.attempt)
+
+-- where the workflow stands
+abbrev pub origin_members : Admitted → List ℕ
+origin_members event =
+    member (codes "repository") (quoted (event_of event.body).repo) ++ member (codes "path") (quoted (event_of event.body).path)
+    ++ member (codes "workflow") (quoted (event_of event.body).workflow.name)
+
+abbrev pub event_members : Admitted → List ℕ
+event_members event =
+    member (codes "event") (quoted event.event) ++ member (codes "delivery") (quoted event.delivery)
+    ++ member (codes "ref") (text_or_null (ref_of event))
+
+abbrev pub state_members : RunState → List ℕ
+state_members run =
+    member (codes "status") (quoted (status_text run.phase run.jobs))
+    ++ member (codes "conclusion") (text_or_null (conclusion_at run.phase run.jobs))
+
+abbrev pub run_members : List RunState → Seen → List ℕ
+run_members runs seen =
+    number_members seen ++ origin_members seen.run.admitted ++ event_members seen.run.admitted ++ state_members seen.run
+    ++ member (codes "group") (text_or_null (own_group runs seen.id))
+
+abbrev pub run_row : List RunState → Seen → List ℕ
+run_row runs seen = codes "{" ++ run_members runs seen ++ codes "}"

@@ -1,0 +1,189 @@
+//! A page of the runners of a table, in the order of their names.
+
+ghost use Rattle.std.specs.Prelude.{◌≡◌, ◌≤◌, ◌<◌, ◌^◌, ◌++◌, ◌+◌, IfOk, OnOk, Ok, length, option_map, slice_get, string_bytes};
+ghost use Rattle.wf_value.specs.Gives.{ErrsOnlyByMemory, Gives};
+ghost use Rattle.table_views.specs.RunnerPages.{IsRunnerPage, heard_at, held_lease, lease_json, lease_of_last, next_name, runner_row, runner_rows};
+
+use crate::members::{number_or_null, push_member, push_number, push_text, text_or_null};
+use crate::pages::{Source, page_of, page_text};
+use crate::texts::quoted;
+use run_plan::{ClaimReply, LastCommand, Lease};
+use run_table::{Runner, Table};
+use std::alloc::Global;
+use wf_value::{Chars, Refusal};
+
+/// The lease that was the reply to a command.
+fn lease_of_last(last: &LastCommand) -> Option<&Lease>
+    ensures { option_map (λ lease. lease.now) result ≡ lease_of_last last.now }
+{
+    match last {
+        LastCommand::Claim(_, ClaimReply::Lease(kept)) => Some(&kept.lease_reply),
+        LastCommand::Claim(_, ClaimReply::Nothing) | LastCommand::Done(_) => None,
+    }
+}
+
+fn held_lease(runner: &Runner) -> Option<&Lease>
+    ensures { option_map (λ lease. lease.now) result ≡ held_lease runner.now }
+{
+    match runner.holds {
+        Some(_) => lease_of_last(&runner.last),
+        None => None,
+    }
+}
+
+fn lease_json(alloc: Global, lease: Option<&Lease>) -> Result<String, Refusal>
+    ensures { Gives string_bytes result (Ok (lease_json (option_map (λ lease. lease.now) lease.entry))) }
+{
+    let Some(lease) = lease else {
+        return Ok(String::from_str(alloc, "null")?);
+    };
+    let number = lease.lease.get();
+    let mut text = format!(in alloc; "{{\"lease\":{number}")?;
+    push_number(&mut text, "run", u64::from(lease.run.get()))?;
+    push_text(alloc, &mut text, "job", lease.job.as_str())?;
+    push_number(&mut text, "leg", lease.leg as u64)?;
+    text.push_str("}")?;
+    Ok(text)
+}
+
+fn runner_row(alloc: Global, heard: Option<u64>, runner: &Runner) -> Result<String, Refusal>
+    ensures { Gives string_bytes result (Ok (runner_row heard runner.now)) }
+{
+    let name = quoted(alloc, runner.name.as_str())?;
+    let lease = lease_json(alloc, held_lease(runner))?;
+    let seconds = number_or_null(alloc, heard)?;
+    let mut text = format!(in alloc; "{{\"runner\":{name}")?;
+    push_number(&mut text, "number", u64::from(runner.number.get()))?;
+    push_member(&mut text, "lease", lease.as_str())?;
+    push_member(&mut text, "heard_seconds_ago", seconds.as_str())?;
+    text.push_str("}")?;
+    Ok(text)
+}
+
+/// The runners of a table, with the seconds of those from an index on.
+#[derive(Drop)]
+struct Known<'a> {
+    runners: &'a [Runner],
+    heard: &'a [Option<u64>],
+    from: usize,
+}
+
+fn runner_at(runners: &[Runner], index: usize) -> Option<&Runner>
+    ensures { option_map (λ runner. runner.now) result ≡ slice_get runners.now index }
+{
+    runners.get(index)
+}
+
+/// The seconds of the runner at an index.
+fn heard_at(heard: &[Option<u64>], from: usize, index: usize) -> Option<u64>
+    ensures { result ≡ heard_at heard.now from index }
+{
+    match heard.get(index.saturating_sub(from)) {
+        Some(seconds) => *seconds,
+        None => None,
+    }
+}
+
+impl Source for Known<'_> {
+    ghost size = { λ s. length s.runners.now };
+
+    ghost rows = { λ s index. runner_rows s.heard.now s.from s.runners.now index };
+
+    ghost weigh = { λ s index. length (runner_rows s.heard.now s.from s.runners.now index) };
+
+    fn push_rows(
+        &self,
+        alloc: Global,
+        index: usize,
+        out: &mut Vec<Chars>,
+    ) -> Result<usize, Refusal> {
+        let Some(runner) = runner_at(self.runners, index) else {
+            return Ok(0);
+        };
+        let heard = heard_at(self.heard, self.from, index);
+        let row = runner_row(alloc, heard, runner)?;
+        out.push(Chars::new(row))?;
+        Ok(1)
+    }
+}
+
+/// The name after which the list goes on after `count` of the runners from an index on.
+fn next_name(runners: &[Runner], from: usize, count: usize) -> Option<&str>
+    requires { from + count ≤ length runners.now }
+    ensures { option_map (λ name. name.now) result ≡ next_name runners.now from count }
+{
+    let end = from + count;
+    if end >= runners.len() {
+        return None;
+    }
+    let last = runners.get(end.saturating_sub(1))?;
+    Some(last.name.as_str())
+}
+
+/// The index of the first runner whose name comes after this one.
+pub fn index_after(table: &Table, name: &str) -> usize
+    ensures { result ≤ length table.now.runners }
+{
+    let runners = table.runners();
+    match runners
+        .iter()
+        .position(|runner| runner.name.as_str() > name)
+    {
+        Some(index) => index,
+        None => runners.len(),
+    }
+}
+
+/// The index of the runner with this name.
+pub fn index_of(table: &Table, name: &str) -> Option<usize> {
+    table
+        .runners()
+        .iter()
+        .position(|runner| runner.name.as_str() == name)
+}
+
+/// A page of the runners from an index on. `heard` has the seconds since each of them was last heard, if that is known.
+pub fn runner_page(
+    alloc: Global,
+    table: &Table,
+    heard: &[Option<u64>],
+    from: usize,
+    limit: usize,
+) -> Result<String, Refusal>
+    requires from { from ≤ length table.now.runners }
+    requires limit { limit < 2 ^ 32 }
+    ensures err { ErrsOnlyByMemory result }
+    ensures page { IfOk result (λ text. IsRunnerPage heard.now from limit table.now (string_bytes text)) }
+{
+    let runners = table.runners();
+    let known = Known {
+        runners,
+        heard,
+        from,
+    };
+    let page = page_of(alloc, &known, from, runners.len() - from, limit)?;
+    let next = text_or_null(alloc, next_name(runners, from, page.count))?;
+    page_text(
+        alloc,
+        "runners",
+        page.rows.as_slice(),
+        "after",
+        next.as_str(),
+    )
+}
+
+/// A page of one runner alone, or of none.
+pub fn one_runner(
+    alloc: Global,
+    table: &Table,
+    heard: Option<u64>,
+    index: Option<usize>,
+) -> Result<String, Refusal> {
+    let mut rows = Vec::new(alloc);
+    if let Some(index) = index {
+        if let Some(runner) = runner_at(table.runners(), index) {
+            rows.push(Chars::new(runner_row(alloc, heard, runner)?))?;
+        }
+    }
+    page_text(alloc, "runners", rows.as_slice(), "after", "null")
+}

@@ -1,0 +1,112 @@
+//! A page of the runs of a table, newest first.
+
+ghost use Rattle.std.specs.Prelude.{◌≡◌, ◌<◌, ◌≤◌, ◌++◌, ◌^◌, IfOk, List, OnOk, length, string_bytes};
+ghost use Rattle.run_states.specs.RunState.{RunState};
+ghost use Rattle.wf_value.specs.Gives.{ErrsOnlyByMemory};
+ghost use Rattle.stated_limits.specs.Limits.{max_runs};
+ghost use Rattle.table_views.specs.RunPages.{IsRunsPage, newest_rows, next_below, runs_below, shown_row};
+
+use crate::members::number_or_null;
+use crate::pages::{Source, page_of, page_text};
+use crate::run_filter::RunFilter;
+use crate::run_rows::run_row;
+use run_plan::Number;
+use run_table::Table;
+use std::alloc::Global;
+use wf_value::{Chars, Refusal};
+
+/// The newest runs of a table, those at its first `top` places, from the last one down.
+#[derive(Drop)]
+struct Newest<'a> {
+    table: &'a Table,
+    filter: &'a RunFilter,
+    top: usize,
+    ghost within: { top ≤ length table.now.runs },
+}
+
+impl Source for Newest<'_> {
+    ghost size = { λ s. s.top };
+
+    ghost rows = { λ s index. newest_rows s.filter.now s.table.now.runs s.top index };
+
+    ghost weigh = { λ s index. length (newest_rows s.filter.now s.table.now.runs s.top index) };
+
+    fn push_rows(
+        &self,
+        alloc: Global,
+        index: usize,
+        out: &mut Vec<Chars>,
+    ) -> Result<usize, Refusal> {
+        let id = self.top - index;
+        push_shown(alloc, self.table, self.filter, id, out)
+    }
+}
+
+/// Adds the row of the run with an id, if there is one and the list shows it. Returns how many rows that are.
+fn push_shown(
+    alloc: Global,
+    table: &Table,
+    filter: &RunFilter,
+    id: usize,
+    rows: &mut Vec<Chars>,
+) -> Result<usize, Refusal>
+    requires least { 0 < id }
+    requires most { id ≤ length table.now.runs }
+    ensures err { ErrsOnlyByMemory result }
+    ensures rows { OnOk result (rows.new.items ≡ rows.old.items ++ shown_row filter.now table.now.runs id) }
+    ensures count { IfOk result (λ n. n ≡ length (shown_row filter.now table.now.runs id)) }
+    ensures bound { IfOk result (λ n. n < 2 ^ 63) }
+{
+    let runs = table.kept_runs();
+    let _count = runs.len();
+    let Some(view) = table.look(Number::new(id as u32)) else {
+        return Ok(0);
+    };
+    if !filter.shows(alloc, runs, &view)? {
+        return Ok(0);
+    }
+    let row = run_row(alloc, runs, &view)?;
+    rows.push(Chars::new(row))?;
+    Ok(1)
+}
+
+/// How many runs are below an id, or all.
+fn runs_below(count: usize, before: Option<Number>) -> usize
+    ensures { (runs : List RunState) → length runs ≡ count → result ≡ runs_below runs before }
+{
+    match before {
+        Some(before) => count.min(before.get() as usize - 1),
+        None => count,
+    }
+}
+
+/// The id below which the list goes on after `count` of `top` runs.
+fn next_below(top: usize, count: usize) -> Option<u64>
+    requires { top ≤ max_runs }
+    ensures { result ≡ next_below top count }
+{
+    if count < top {
+        Some((top - count) as u64 + 1)
+    } else {
+        None
+    }
+}
+
+/// A page of the runs that the filter lets through, with ids below `before`, newest first.
+pub fn runs_page(
+    alloc: Global,
+    table: &Table,
+    filter: &RunFilter,
+    before: Option<Number>,
+    limit: usize,
+) -> Result<String, Refusal>
+    requires { limit < 2 ^ 32 }
+    ensures err { ErrsOnlyByMemory result }
+    ensures page { IfOk result (λ text. IsRunsPage filter.now before limit table.now (string_bytes text)) }
+{
+    let top = runs_below(table.kept_runs().len(), before);
+    let newest = Newest { table, filter, top };
+    let page = page_of(alloc, &newest, 0, top, limit)?;
+    let next = number_or_null(alloc, next_below(top, page.count))?;
+    page_text(alloc, "runs", page.rows.as_slice(), "before", next.as_str())
+}

@@ -1,0 +1,43 @@
+//! The legs of one run of a table.
+
+ghost use Rattle.std.specs.Prelude.{◌≡◌, ◌<◌, ◌≤◌, IfOk, length};
+ghost use Rattle.std.specs.List.{All};
+ghost use Rattle.table_views.specs.Placed.{IsWithin};
+ghost use Rattle.table_views.specs.ReadyPages.{legs_at, next_run, start_at};
+
+use crate::places::push_legs_of_run;
+use run_plan::Number;
+use run_states::LegPlace;
+use std::alloc::{AllocError, Global};
+use workflow_runs::runs::Runs;
+
+/// The places of the legs of the run at an index.
+pub(crate) fn legs_at(alloc: Global, runs: &Runs, r: usize) -> Result<Vec<LegPlace>, AllocError>
+    requires { r < length runs.now }
+    ensures places { IfOk result (λ places. places.items ≡ legs_at runs.now r) }
+    ensures within { IfOk result (λ places. All IsWithin places.items) }
+{
+    let mut places = Vec::new(alloc);
+    let run = &runs.as_slice()[r];
+    push_legs_of_run(&mut places, r, run)?;
+    Ok(places)
+}
+
+/// The index of the run with an id, or the end of the runs.
+pub(crate) fn start_at(runs: &Runs, from: Number) -> usize
+    ensures start { result ≡ start_at runs.now from }
+    ensures within { result ≤ length runs.now }
+{
+    runs.len().min(from.get() as usize - 1)
+}
+
+/// The id of the run at an index, if there is one.
+pub(crate) fn next_run(runs: usize, index: usize) -> Option<u64>
+    ensures { result ≡ next_run runs index }
+{
+    if index < runs {
+        Some(index as u64 + 1)
+    } else {
+        None
+    }
+}

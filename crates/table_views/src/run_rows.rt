@@ -1,0 +1,123 @@
+//! A run as a row of a list.
+
+ghost use Rattle.std.specs.Prelude.{◌≡◌, ◌++◌, ◌≤◌, IfOk, Ok, OnOk, codes, option_map, string_bytes};
+ghost use Rattle.wf_value.specs.Gives.{Gives};
+ghost use Rattle.run_states.specs.Cells.{states};
+ghost use Rattle.table_views.specs.RunRows.{conclusion_at, event_members, number_members, origin_members, own_group, ref_of, run_members, run_row, state_members};
+
+use crate::members::{push_number, push_text, push_text_or_null};
+use run_plan::{Number, Prepared};
+use run_states::{Holder, Job, Run, RunPhase};
+use run_table::{RunView, conclusion_word, status_word};
+use std::alloc::{AllocError, Global};
+use wf_expr::{Context, ScalarView};
+use wf_value::{Chars, Refusal};
+use workflow_runs::runs::Runs;
+
+// ---- what a row shows
+
+/// `github.ref` of an event, if it is a text.
+pub(crate) fn ref_of(alloc: Global, event: &Prepared) -> Result<Option<Chars>, Refusal>
+    ensures { Gives (λ text. text) result (Ok (ref_of event.now)) }
+{
+    let path = [
+        Chars::from_str(alloc, "github")?,
+        Chars::from_str(alloc, "ref")?,
+    ];
+    match event.contexts().value_of(path.as_slice()) {
+        Some(ScalarView::Text(text)) => Ok(Some(Chars::from_str(alloc, text)?)),
+        _ => Ok(None),
+    }
+}
+
+/// The conclusion of a completed run.
+pub(crate) fn conclusion_at(phase: RunPhase, jobs: &[Job]) -> Option<&'static str>
+    ensures { option_map (λ word. word.now) result ≡ conclusion_at phase (states jobs.now) }
+{
+    match phase {
+        RunPhase::Waiting | RunPhase::Live => None,
+        RunPhase::Ended => Some(conclusion_word(phase, jobs)),
+    }
+}
+
+/// The case-folded name of the group that a run asks for.
+pub(crate) fn own_group(alloc: Global, runs: &Runs, id: Number) -> Result<Option<Chars>, Refusal>
+    ensures { Gives (λ name. name) result (Ok (own_group runs.now id)) }
+{
+    let place = id.get() as usize - 1;
+    match runs.group(alloc, &Holder::Run(place))? {
+        Some(group) => Ok(Some(Chars::from_str(alloc, group.name())?)),
+        None => Ok(None),
+    }
+}
+
+/// A text that may be missing, borrowed.
+pub(crate) fn as_text(text: &Option<Chars>) -> Option<&str>
+    ensures { option_map (λ t. t.now) result ≡ text.now }
+{
+    match text {
+        Some(text) => Some(text.as_str()),
+        None => None,
+    }
+}
+
+// ---- its members
+
+fn number_members(alloc: Global, view: &RunView<'_>) -> Result<String, AllocError>
+    ensures { IfOk result (λ s. string_bytes s ≡ number_members view.now) }
+{
+    let id = view.id().get();
+    let mut text = format!(in alloc; "\"run\":{id}")?;
+    push_number(&mut text, "number", view.number() as u64)?;
+    push_number(&mut text, "attempt", u64::from(view.run().attempt().get()))?;
+    Ok(text)
+}
+
+fn push_origin(alloc: Global, text: &mut String, event: &Prepared) -> Result<(), Refusal>
+    ensures { Gives (λ _. string_bytes text.new) result (Ok (string_bytes text.old ++ origin_members event.now)) }
+{
+    push_text(alloc, text, "repository", event.repo().as_str())?;
+    push_text(alloc, text, "path", event.path().as_str())?;
+    push_text(alloc, text, "workflow", event.workflow_name().as_str())?;
+    Ok(())
+}
+
+fn push_event(alloc: Global, text: &mut String, event: &Prepared) -> Result<(), Refusal>
+    ensures { Gives (λ _. string_bytes text.new) result (Ok (string_bytes text.old ++ event_members event.now)) }
+{
+    let reference = ref_of(alloc, event)?;
+    push_text(alloc, text, "event", event.event().as_str())?;
+    push_text(alloc, text, "delivery", event.delivery().as_str())?;
+    push_text_or_null(alloc, text, "ref", as_text(&reference))?;
+    Ok(())
+}
+
+pub(crate) fn push_state(alloc: Global, text: &mut String, run: &Run) -> Result<(), Refusal>
+    ensures { Gives (λ _. string_bytes text.new) result (Ok (string_bytes text.old ++ state_members run.now)) }
+{
+    let status = status_word(run.phase(), run.jobs());
+    push_text(alloc, text, "status", status)?;
+    let conclusion = conclusion_at(run.phase(), run.jobs());
+    push_text_or_null(alloc, text, "conclusion", conclusion)?;
+    Ok(())
+}
+
+/// The members of a run in a list.
+pub(crate) fn run_members(alloc: Global, runs: &Runs, view: &RunView<'_>) -> Result<String, Refusal>
+    ensures { Gives string_bytes result (Ok (run_members runs.now view.now)) }
+{
+    let group = own_group(alloc, runs, view.id())?;
+    let mut text = number_members(alloc, view)?;
+    push_origin(alloc, &mut text, view.run().prepared())?;
+    push_event(alloc, &mut text, view.run().prepared())?;
+    push_state(alloc, &mut text, view.run())?;
+    push_text_or_null(alloc, &mut text, "group", as_text(&group))?;
+    Ok(text)
+}
+
+pub(crate) fn run_row(alloc: Global, runs: &Runs, view: &RunView<'_>) -> Result<String, Refusal>
+    ensures { Gives string_bytes result (Ok (run_row runs.now view.now)) }
+{
+    let members = run_members(alloc, runs, view)?;
+    Ok(format!(in alloc; "{{{members}}}")?)
+}

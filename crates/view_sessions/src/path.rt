@@ -1,0 +1,70 @@
+ghost use Rattle.std.specs.Prelude.{◌≡◌, option_map};
+ghost use Rattle.view_sessions.specs.Paths.{after_runs, path_of, plain_path};
+
+use run_plan::Number;
+
+/// What the path of a target names.
+#[derive(Clone, Copy, PartialEq, Eq)]
+pub(crate) enum Path {
+    /// `/runs`
+    Runs,
+    /// `/runs/RUN`
+    Run(Number),
+    /// `/queue`
+    Queue,
+    /// `/runners`
+    Runners,
+    /// `/groups`
+    Groups,
+    /// `/healthz`
+    Health,
+    /// `/metrics`
+    Metrics,
+    /// `/changes`
+    Changes,
+    /// `/backup`
+    Backup,
+}
+
+/// The bytes after `/runs/`, if they begin with that.
+fn after_runs(path: &[u8]) -> Option<&[u8]>
+    ensures { option_map (λ rest. rest.now) result ≡ after_runs path.now }
+{
+    path.strip_prefix(b"/runs/")
+}
+
+/// The path of bytes that do not begin with `/runs/`.
+fn plain_path(path: &[u8]) -> Option<Path>
+    ensures { result ≡ plain_path path.now }
+{
+    if path == b"/runs".as_slice() {
+        Some(Path::Runs)
+    } else if path == b"/queue".as_slice() {
+        Some(Path::Queue)
+    } else if path == b"/runners".as_slice() {
+        Some(Path::Runners)
+    } else if path == b"/groups".as_slice() {
+        Some(Path::Groups)
+    } else if path == b"/healthz".as_slice() {
+        Some(Path::Health)
+    } else if path == b"/metrics".as_slice() {
+        Some(Path::Metrics)
+    } else if path == b"/changes".as_slice() {
+        Some(Path::Changes)
+    } else if path == b"/backup".as_slice() {
+        Some(Path::Backup)
+    } else {
+        None
+    }
+}
+
+impl Path {
+    pub(crate) fn of(path: &[u8]) -> Option<Path>
+        ensures { result ≡ path_of path.now }
+    {
+        match after_runs(path) {
+            Some(run) => Number::of(run).map(Path::Run),
+            None => plain_path(path),
+        }
+    }
+}

@@ -1,0 +1,194 @@
+"""The views of docs/VIEWS.md, as the plain model of `sweeps/compared/plain.py` has them: what each path answers for a table."""
+
+import json
+
+FULL = 1_000
+LOOKED = 10_000
+STATES = ('waiting', 'ready', 'running', 'stopping', 'success', 'failure', 'cancelled')
+ENTRIES_REFUSED = (40, 41, 42, 43, 44, 45, 48, 49)
+
+
+def text(value):
+    """A JSON object as the service writes it."""
+    return json.dumps(value, ensure_ascii=False, separators=(',', ':')) + '\n'
+
+
+def status(run):
+    return run.view().split(' ')[3]
+
+
+def conclusion(run):
+    return None if run.conclusion() == '-' else run.conclusion()
+
+
+def name_of(group):
+    return None if group is None else group[1]
+
+
+def ref_of(run):
+    value = run.event.sent_value(('github', 'ref'))
+    return value[1] if value and value[0] == 'str' else None
+
+
+def row(run):
+    event = run.event
+    return {'run': run.place, 'number': run.number, 'attempt': run.attempt, 'repository': event.repo, 'path': event.path,
+            'workflow': event.workflow.name or '', 'event': event.name.decode(), 'delivery': event.delivery.decode(), 'ref': ref_of(run),
+            'status': status(run), 'conclusion': conclusion(run), 'group': name_of(run.group)}
+
+
+def runs(table, before=None, limit=100, **wanted):
+    """A page of `/runs`."""
+    top = len(table.runs) if before is None else min(before - 1, len(table.runs))
+    names = {'repo': 'repository'}
+    rows, looked = [], 0
+    while looked < min(top, LOOKED) and len(rows) < limit:
+        made = row(table.runs[top - 1 - looked])
+        if all(made[names.get(name, name)] == value for name, value in wanted.items()):
+            rows.append(made)
+        looked += 1
+    return text({'runs': rows, 'before': top - looked + 1 if looked < top else None})
+
+
+def for_group(group):
+    return {'for': 'group', 'group': name_of(group)}
+
+
+def leg_waits_for(run, job, leg, group):
+    planned, state = run.plan[job], run.jobs[job]
+    if leg.phase == 'waiting':
+        return for_group(group)
+    if leg.phase != 'ready':
+        return None
+    at_work = sum(other.phase in ('running', 'stopping') for other in state.legs)
+    if planned.most is not None and at_work >= planned.most:
+        return {'for': 'max_parallel', 'max_parallel': planned.most}
+    return {'for': 'runner'}
+
+
+def runner_of(table, leg):
+    if leg.phase in ('running', 'stopping'):
+        for name, runner in table.runners.items():
+            if runner.holds and runner.holds[0] == leg.lease:
+                return name.decode()
+    return None
+
+
+def labels_of(plain, run, job, place):
+    context = run.context(job, place)
+    return [plain.text_of(label.value(context)) for label in run.plan[job].labels]
+
+
+def combination(plain, run, job, place):
+    return json.loads(plain.combination_text(run.plan[job].legs[place]))
+
+
+def leg_row(plain, table, run, job, place):
+    leg = run.jobs[job].legs[place]
+    group, _ = run.asks(run.plan[job].concurrency, run.context(job, place))
+    return {'leg': place, 'combination': combination(plain, run, job, place), 'state': leg.phase, 'lease': leg.lease or None,
+            'runner': runner_of(table, leg), 'labels': labels_of(plain, run, job, place), 'group': name_of(group),
+            'waits_for': leg_waits_for(run, job, leg, group)}
+
+
+def job_row(plain, table, run, job):
+    planned, state = run.plan[job], run.jobs[job]
+    return {'id': planned.name, 'state': state.state, 'needs': planned.needs, 'max_parallel': planned.most,
+            'legs': [leg_row(plain, table, run, job, place) for place in range(len(state.legs))]}
+
+
+def one_run(plain, table, place, first=0):
+    """`/runs/RUN`, or None."""
+    if place > len(table.runs):
+        return None
+    run = table.runs[place - 1]
+    jobs, legs, looked = [], 0, min(first, len(run.jobs))
+    while looked < len(run.jobs) and legs < FULL:
+        jobs.append(job_row(plain, table, run, looked))
+        legs += len(run.jobs[looked].legs)
+        looked += 1
+    return text({**row(run), 'stopping': run.stops, 'waits_for': for_group(run.group) if run.phase == 'waiting' else None,
+                 'jobs': jobs, 'from': looked if looked < len(run.jobs) else None})
+
+
+def by_runs(name, table, rows_of, first, limit):
+    """A page that goes run by run."""
+    rows, looked, start = [], 0, first - 1
+    left = max(0, len(table.runs) - start)
+    while looked < min(left, LOOKED) and len(rows) < limit:
+        rows += rows_of(table.runs[start + looked])
+        looked += 1
+    return text({name: rows, 'from': first + looked if looked < left else None})
+
+
+def legs_of(run):
+    for job, state in enumerate(run.jobs):
+        for place, leg in enumerate(state.legs):
+            yield job, place, leg
+
+
+def queue(plain, table, first=1, limit=100):
+    def rows_of(run):
+        return [{'run': run.place, 'job': run.plan[job].name, 'leg': place, 'labels': labels_of(plain, run, job, place)}
+                for job, place, leg in legs_of(run) if leg.phase == 'ready']
+    return by_runs('queue', table, rows_of, first, limit)
+
+
+def groups(table, first=1, limit=100, repo=None, group=None):
+    def holder(run, its, phase, job, place):
+        if its is None or (repo is not None and its[0] != repo) or (group is not None and its[1] != group):
+            return []
+        return [{'repository': its[0], 'group': its[1], 'state': 'pending' if phase == 'waiting' else 'in_progress', 'run': run.place, 'job': job, 'leg': place}]
+
+    def rows_of(run):
+        made = [] if run.phase == 'ended' else holder(run, run.group, run.phase, None, None)
+        for job, place, leg in legs_of(run):
+            if leg.phase in ('waiting', 'ready', 'running', 'stopping'):
+                made += holder(run, leg.group, leg.phase, run.plan[job].name, place)
+        return made
+    return by_runs('groups', table, rows_of, first, limit)
+
+
+def runner_row(name, runner):
+    lease = None
+    if runner.holds:
+        number, run, job, place = runner.holds
+        lease = {'lease': number, 'run': run.place, 'job': run.plan[job].name, 'leg': place}
+    return {'runner': name.decode(), 'number': runner.number, 'lease': lease}
+
+
+def runners(table, after=None, limit=100, name=None):
+    """A page of `/runners`, without the seconds."""
+    names = sorted(table.runners)
+    if name is not None:
+        return {'runners': [runner_row(it, table.runners[it]) for it in names if it.decode() == name], 'after': None}
+    left = [it for it in names if after is None or it > after.encode()]
+    page = left[:limit]
+    return {'runners': [runner_row(it, table.runners[it]) for it in page], 'after': page[-1].decode() if len(left) > len(page) else None}
+
+
+def metrics(plain, table, refused):
+    """The values of the metrics that a table and the refused entries decide."""
+    made = {}
+    for name in ('pending', 'queued', 'in_progress'):
+        made[f'acts_runs{{status="{name}",conclusion=""}}'] = sum(status(run) == name for run in table.runs)
+    for name in ('success', 'failure', 'cancelled'):
+        made[f'acts_runs{{status="completed",conclusion="{name}"}}'] = sum(conclusion(run) == name for run in table.runs)
+    legs = [(run, job, place, leg) for run in table.runs for job, place, leg in legs_of(run)]
+    for name in STATES:
+        made[f'acts_legs{{state="{name}"}}'] = sum(leg.phase == name for *_, leg in legs)
+    lists = {}
+    for run, job, place, leg in legs:
+        if leg.phase == 'ready':
+            wanted = text(labels_of(plain, run, job, place))[:-1]
+            lists[wanted] = lists.get(wanted, 0) + 1
+    for wanted, count in list(lists.items())[:50]:
+        escaped = wanted.replace('\\', '\\\\').replace('"', '\\"')
+        made[f'acts_ready_legs{{labels="{escaped}"}}'] = count
+    made['acts_ready_legs{labels="other"}'] = sum(list(lists.values())[50:])
+    made['acts_runners'] = len(table.runners)
+    made['acts_leases'] = sum(1 for it in table.runners.values() if it.holds)
+    for number in ENTRIES_REFUSED:
+        if refused.get(number):
+            made[f'acts_refusals_total{{number="{number}"}}'] = refused[number]
+    return made
