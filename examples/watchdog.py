@@ -1,7 +1,7 @@
 #!/usr/bin/env python3
-"""A proxy of runner lines that watches the runners. It calls one lost that was silent for too long, once a command has fenced its host, and asks one to stop whose
-leg takes longer than its `timeout-minutes`. Behind HAProxy it passes on only the runner names that belong to a client's certificate. docs/OPERATING.md says how it
-is set up, and what makes it safe."""
+"""Watches the runners, by the view port of the service, or as a proxy of their lines. It calls one lost that was silent for too long, once a command has fenced its
+host; as a proxy it asks one to stop whose leg takes longer than its `timeout-minutes`, and behind HAProxy it passes on only the runner names that belong to a
+client's certificate. docs/OPERATING.md says how it is set up, and what makes it safe."""
 import argparse, asyncio, contextlib, json, os, pathlib, re, shlex, signal, struct, sys, time
 
 LONGEST_LINE = 512  # of a runner, in bytes: the service ends the session after a longer one
@@ -9,6 +9,8 @@ LONGEST_ANSWER = 1 << 20
 LINE = re.compile(rb'(CLAIM|DONE|BEAT) ([A-Za-z0-9_.-]{1,64}) ([0-9]{1,9})(?: ([0-9]{1,9}))?[ \r\n]')
 WARN_AGAIN = 60
 STALL = 5  # seconds: if this process stood still for longer, it may not have read what runners said
+ROUNDED = 2  # seconds by which a view may be off: it has whole ones
+VIEW_LIMIT = 10  # seconds that a view may take
 
 
 PROXY_HEADER = b'\r\n\r\n\0\r\nQUIT\n'  # version 2: then a command, a family, a length, addresses, and fields
@@ -58,6 +60,47 @@ async def line_of(stream):
         return b''
 
 
+async def answer_of(port, text):
+    """The status and the body of the answer to a request, whose stream ends then."""
+    service, to_service = await asyncio.open_connection(*port, limit=LONGEST_ANSWER)
+    try:
+        to_service.write(text.encode())
+        head, _, body = (await service.read()).decode().partition('\r\n\r\n')
+    finally:
+        to_service.close()
+    found = re.match(r'HTTP/1\.1 ([0-9]{3}) ', head)
+    return int(found[1]) if found else 0, body
+
+
+class Views:
+    """The runners of the service, as its view port shows them: all that it knows, however their lines come."""
+
+    def __init__(self, port):
+        self.port = port
+
+    async def page(self, query):
+        request = f'GET /runners?{query} HTTP/1.1\r\nHost: acts\r\nConnection: close\r\n\r\n'
+        status, body = await asyncio.wait_for(answer_of(self.port, request), VIEW_LIMIT)
+        if status != 200:
+            raise OSError(f'the view port answers {status}')
+        return json.loads(body)
+
+    async def runners(self):
+        """The rows of all runners."""
+        rows, after = [], None
+        while not rows or after is not None:
+            page = await self.page('limit=100' + (f'&after={after}' if after is not None else ''))
+            rows, after = rows + page['runners'], page['after']
+            if not page['runners']:
+                break
+        return rows
+
+    async def lease(self, name):
+        """The number of the lease that a runner holds, or 0."""
+        rows = (await self.page(f'name={name}'))['runners']
+        return rows[0]['lease']['lease'] if rows and rows[0]['lease'] else 0
+
+
 class Runner:
     """What is known of a runner. `lease` is 0 if it holds none, and -1 if it may hold one that is not known. Of its `lines` that were not answered yet, `in_flight`
     went to the service; while `may_speak` is not set, the others are held back."""
@@ -85,7 +128,8 @@ class Runner:
 
 class Watchdog:
     def __init__(self, options):
-        self.options, self.runners, self.warned, self.tasks = options, {}, 0.0, set()
+        self.options, self.runners, self.warned, self.tasks = options, {}, -WARN_AGAIN, set()
+        self.views = Views(options.view_port) if options.view_port else None
         with contextlib.suppress(FileNotFoundError):
             self.runners = {name: Runner(name, **kept) for name, kept in json.loads(options.state.read_text()).items()}
 
@@ -216,11 +260,42 @@ class Watchdog:
         while True:
             await asyncio.sleep(self.options.pause)
             now = time.monotonic()
-            if now - before > self.options.pause + STALL:
+            if now - before > self.options.pause + STALL or self.views and not await self.take_views():
                 for runner in self.runners.values():
                     runner.heard = now
-            before = now
-            self.look(now)
+            before = time.monotonic()
+            self.look(before)
+
+    async def take_views(self):
+        """Notes what the view port shows. Whether it has answered: if not, the service may be away, and nobody is silent."""
+        try:
+            rows = await self.views.runners()
+        except (OSError, ValueError, asyncio.TimeoutError) as fault:
+            if time.monotonic() > self.warned + WARN_AGAIN:
+                self.warned = time.monotonic()
+                log('the view port:', fault or repr(fault))
+            return False
+        before = {name: runner.kept() for name, runner in self.runners.items()}
+        for row in rows:
+            self.note_view(row)
+        for name, runner in list(self.runners.items()):
+            if not runner.lease and not runner.lines:
+                del self.runners[name]
+        if {name: runner.kept() for name, runner in self.runners.items()} != before:
+            self.keep()
+        return True
+
+    def note_view(self, row):
+        """Notes a row, unless the runner has a line under way, whose answer says more, or is being called lost."""
+        name, lease = row['runner'], row['lease'] or {'lease': 0}
+        runner = self.runners.get(name) or (self.runners.setdefault(name, Runner(name)) if lease['lease'] else None)
+        if not runner or runner.in_flight or runner.is_losing:
+            return
+        if runner.takes(lease['lease'], [lease['run'], lease['job'], lease['leg']] if lease['lease'] else None) and lease['lease']:
+            runner.heard = time.monotonic()
+            self.begin(self.find_limit(runner, runner.lease, *runner.leg[:2]))
+        if row['heard_seconds_ago'] is not None:
+            runner.heard = max(runner.heard, time.monotonic() - row['heard_seconds_ago'] - 1)
 
     def look(self, now):
         """Begins to end the leases of runners that are silent, or do not stop at their time limit."""
@@ -240,11 +315,11 @@ class Watchdog:
     async def end(self, runner, is_silent):
         """Has the host of a runner fenced, and then calls the runner lost, unless it was heard or has another lease."""
         heard, lease, why = runner.heard, runner.lease, 'silent' if is_silent else 'over its time limit'
-        is_fenced = await self.is_fenced(runner, why)
+        is_fenced = await self.is_fenced(runner, why) and (not self.views or await self.take_views())
         runner.is_tried, runner.again = False, time.monotonic() + self.options.again
         if not is_fenced:
             log(f'{runner.name} is {why}, and not lost: its host was not fenced')
-        elif is_silent and runner.heard != heard or runner.lease != lease or runner.in_flight:
+        elif is_silent and runner.heard > heard + (ROUNDED if self.views else 0) or runner.lease != lease or runner.in_flight:
             log(f'{runner.name} was {why}, and is not lost: it was heard meanwhile')
         else:
             await self.lose(runner)
@@ -266,7 +341,8 @@ class Watchdog:
             return False
 
     async def lose(self, runner):
-        """Calls a runner lost. Until the service has answered, the runner's lines are held back, so it gets no other lease, and the call can be repeated."""
+        """Calls a runner lost. Until the service has answered, the runner's lines are held back, so it gets no other lease, and the call can be repeated; by the
+        view port it is repeated only while the runner holds this lease."""
         runner.may_speak.clear()
         runner.is_losing = True
         try:
@@ -275,26 +351,32 @@ class Watchdog:
             log(f'{runner.name} is not lost: {fault}')
             runner.is_losing = False
             return runner.may_speak.set()
-        while (answer := await self.call_lost(runner.name)) is None:
+        answer = None
+        while await self.still_holds(runner) and (answer := await self.call_lost(runner.name)) is None:
             await asyncio.sleep(1)
-        log(f'{runner.name} is lost, with lease {runner.lease}: {answer}')
+        log(f'{runner.name} is lost, with lease {runner.lease}: {answer or "it has ended"}')
         runner.takes(0, None)
         runner.is_losing = False
         self.keep()
         runner.may_speak.set()
 
+    async def still_holds(self, runner):
+        """Whether a runner holds the lease that is to be ended. As a proxy it is known to; else the view port says it, which is asked until it answers."""
+        while self.views:
+            try:
+                return await self.views.lease(runner.name) == runner.lease
+            except (OSError, ValueError, asyncio.TimeoutError):
+                await asyncio.sleep(1)
+        return True
+
     async def call_lost(self, name):
         """The answer to `POST /runners/NAME/lost`; None if there is none, or the service asks for another try. It waits for the end of the stream without a limit:
         a request that it left behind could be carried out later."""
         try:
-            service, to_service = await asyncio.open_connection(*self.options.hook_port)
-            to_service.write(f'POST /runners/{name}/lost HTTP/1.1\r\nHost: acts\r\nConnection: close\r\n\r\n'.encode())
-            text = (await service.read()).decode()
-            to_service.close()
+            status, text = await answer_of(self.options.hook_port, f'POST /runners/{name}/lost HTTP/1.1\r\nHost: acts\r\nConnection: close\r\n\r\n')
         except OSError:
             return None
-        found = re.match(r'HTTP/1\.1 (202|404|409) .*\r\n\r\n(.+)\n', text, re.S)
-        return found and found[2]
+        return text.strip() if status in (202, 404, 409) and text.endswith('\n') else None
 
 
 def address(text):
@@ -303,8 +385,9 @@ def address(text):
 
 
 def parser():
-    made = argparse.ArgumentParser(description='Passes on runner lines, and watches the runners.')
-    made.add_argument('--port', type=int, default=8082, help='the port for runners, on 127.0.0.1 (8082)')
+    made = argparse.ArgumentParser(description='Watches the runners, by the view port, or as a proxy of their lines.')
+    made.add_argument('--view-port', type=address, metavar='HOST:PORT', help='the view port of acts: then there is a proxy only with --port')
+    made.add_argument('--port', type=int, help='the port for runners, on 127.0.0.1 (8082 without --view-port)')
     made.add_argument('--runner-port', type=address, default=('127.0.0.1', 8081), metavar='HOST:PORT', help='the runner port of acts (127.0.0.1:8081)')
     made.add_argument('--hook-port', type=address, default=('127.0.0.1', 8080), metavar='HOST:PORT', help='the hook port of acts (127.0.0.1:8080)')
     made.add_argument('--state', type=pathlib.Path, required=True, help='a file that keeps who holds a lease')
@@ -325,8 +408,15 @@ async def main():
     options = made.parse_args()
     if (options.after is None) != (options.fence is None):
         made.error('--after and --fence belong together')
+    if options.view_port and options.after is None:
+        made.error('--view-port is for --after')
+    if options.certificates and options.view_port and not options.port:
+        made.error('--certificates is for a proxy: --port is missing')
     watchdog = Watchdog(options)
-    server = await asyncio.start_server(watchdog.pass_on, '127.0.0.1', watchdog.options.port, limit=LONGEST_LINE)
+    if options.view_port and not options.port:
+        log('looks at {}:{}'.format(*options.view_port))
+        return await watchdog.watch()
+    server = await asyncio.start_server(watchdog.pass_on, '127.0.0.1', options.port or 8082, limit=LONGEST_LINE)
     log(f'listens on 127.0.0.1:{server.sockets[0].getsockname()[1]}')
     await asyncio.gather(server.serve_forever(), watchdog.watch())
 
