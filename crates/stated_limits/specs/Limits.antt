@@ -31,6 +31,10 @@ max_legs = 256
 abbrev pub max_parallel : ℕ
 max_parallel = 256
 
+-- references of a template, in all pieces together
+abbrev pub max_references : ℕ
+max_references = 32
+
 -- ---- fields of a line
 
 -- bytes of a small text: a delivery, an event's name, a runner's name, a label of a runner

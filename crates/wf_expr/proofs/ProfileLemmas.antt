@@ -5,6 +5,7 @@ use Rattle.std.specs.List.{list_all}
 use Rattle.std.specs.Bool.{Decides}
 use Rattle.std.proofs.lemmas.Bool.Decides.{Decides-and, Decides-or, Decides-by_and}
 use Rattle.std.proofs.lemmas.Slice.Eq.{bytes_eq-Decides}
+use Rattle.stated_limits.specs.Limits.{max_references}
 use Rattle.wf_expr.specs.Profile.{IsShared, IsInContext, InProfile, IsAllowed, OfReference, OfReferences, IsInProfile, AllowedIn}
 use Rattle.wf_expr.specs.Profile.{reference_count}
 use Rattle.wf_expr.specs.Parsing.{is_result, is_shared, is_in_context, is_path, is_allowed, of_reference, of_references, is_in_profile}
@@ -68,7 +69,7 @@ Decides-references p P t (Braced os) = Decides-all (of_reference p) (OfReference
 pub Decides-profile : (ts : List Piece) → Decides (is_in_profile ts) (IsInProfile ts)
 Decides-profile ts =
     let each = Decides-all (of_references is_path) (OfReferences InProfile) (Decides-references is_path InProfile Decides-in_profile) ts in
-    let few : Decides _ (sum_by reference_count ts ≤ 32) = (λ e. leb-true _ _ e, λ h. le-leb _ _ h) in
+    let few : Decides _ (sum_by reference_count ts ≤ max_references) = (λ e. leb-true _ _ e, λ h. le-leb _ _ h) in
     let both = Decides-and _ _ each few in
     (λ e. let h = both.0 e in record { each = h.0; few = h.1 }, λ h. both.1 (h.each, h.few))
 

@@ -3,6 +3,7 @@ use Rattle.std.specs.Prelude.{ℕ, List, [], ◌∷◌, Bool, true, false, ◌&&
 use Rattle.std.specs.Prelude.{codes, sum_by, nat_le, if◌then◌else◌}
 use Rattle.std.specs.List.{list_all}
 use Rattle.std.specs.Str.{bytes_eq}
+use Rattle.stated_limits.specs.Limits.{max_references}
 use Rattle.wf_value.specs.declared.refusal.Refusal.{Refusal}
 use Rattle.wf_expr.specs.Faults.{wrong_expression, wrong_place}
 use Rattle.wf_expr.specs.Profile.{reference_count}
@@ -48,7 +49,7 @@ of_references p (Plain text) = true
 of_references p (Braced operands) = list_all (of_reference p) operands
 
 abbrev pub is_in_profile : List Piece → Bool
-is_in_profile pieces = list_all (of_references is_path) pieces && nat_le (sum_by reference_count pieces) 32
+is_in_profile pieces = list_all (of_references is_path) pieces && nat_le (sum_by reference_count pieces) max_references
 
 abbrev pub is_allowed_in : ContextSite → List Piece → Bool
 is_allowed_in place = list_all (of_references (is_allowed place))

@@ -1,6 +1,7 @@
 -- The contexts and paths that a template may use. GitHub Docs, "Contexts reference" (About contexts, Context availability).
 use Rattle.std.specs.Prelude.{◌≡◌, ◌⊎◌, ◌≤◌, ℕ, List, [], ◌∷◌, Bool, true, false, codes, All, sum_by, count_by}
 use Rattle.std.specs.Str.{chars}
+use Rattle.stated_limits.specs.Limits.{max_references}
 use Rattle.wf_expr.specs.Grammar.{EncodesPieces}
 use Rattle.wf_expr.specs.declared.place.ContextSite.{ContextSite}
 use Rattle.wf_expr.specs.declared.place.ContextSite.TheVariants.{Workflow, Job}
@@ -51,10 +52,10 @@ abbrev pub reference_count : Piece → ℕ
 reference_count (Plain text) = 0
 reference_count (Braced operands) = count_by is_reference operands
 
--- each reference is in the profile, and there are at most 32
+-- each reference is in the profile, and there are at most `max_references`
 pub record IsInProfile (pieces : List Piece) : Type 0 where
   pub each : All (OfReferences InProfile) pieces
-  pub few : sum_by reference_count pieces ≤ 32
+  pub few : sum_by reference_count pieces ≤ max_references
 
 -- the text is the source of the template
 pub record Encodes (text : List ℕ) (pieces : List Piece) : Type 0 where

@@ -1,4 +1,5 @@
 ghost use Rattle.std.specs.Prelude.{◌≡◌, ◌↔◌, ◌≤◌, [], ◌∷◌, IsTrue, All, codes, count_by, sum_by};
+ghost use Rattle.stated_limits.specs.Limits.{max_references};
 ghost use Rattle.wf_expr.specs.Profile.{IsShared, IsInContext, InProfile, IsAllowed, OfReference, OfReferences, AllowedIn};
 ghost use Rattle.wf_expr.specs.Profile.{IsInProfile, is_reference, reference_count};
 
@@ -149,7 +150,7 @@ fn references(piece: &Piece) -> usize
 
 /// Whether the number of references is within the limit.
 fn are_few(pieces: &[Piece]) -> bool
-    ensures { IsTrue result ↔ (sum_by reference_count pieces.now ≤ 32) }
+    ensures { IsTrue result ↔ (sum_by reference_count pieces.now ≤ max_references) }
 {
     let mut left = MAX_REFERENCES;
     for piece in pieces {
