@@ -1,6 +1,8 @@
 //! Upgrades a store that an earlier program wrote to the current layout before it is served.
 
-ghost use Rattle.std.specs.Prelude.{◌≡◌, [], IfOk, OnOk};
+ghost use Rattle.std.specs.Prelude.{◌≡◌, ◌⊎◌, IfErr, IfOk, None, OnErr, OnOk, Some, is_some, if◌then◌else◌};
+ghost use Rattle.act_store.specs.Checkpoints.{last_counter, refusal_of_begin, refusal_of_head};
+ghost use Rattle.act_store.specs.Plain.{area_full};
 ghost use Rattle.act_store.specs.declared.layout.Layout.TheVariants as layouts;
 
 use act_disk::Disk;
@@ -12,6 +14,9 @@ use wf_value::{Code, Refusal};
 fn make_checkpoint<D: Disk>(alloc: Global, store: &mut Store<D>) -> Result<(), Refusal>
     ensures history { (store.new.history ≡ store.old.history) × (store.new.base ≡ store.old.base) }
     ensures layout { OnOk result (store.new.layout ≡ layouts.Second) }
+    ensures kept { OnErr result (store.new.layout ≡ store.old.layout) }
+    ensures allowed { OnOk result (refusal_of_begin store.old ≡ None) }
+    ensures cause { IfErr result (λ e. (e ≡ area_full) ⊎ (e ≡ last_counter) → refusal_of_head store.old ≡ Some e) }
 {
     let mut left = store.check_begin(alloc)?;
     while left > 0 {
@@ -21,11 +26,13 @@ fn make_checkpoint<D: Disk>(alloc: Global, store: &mut Store<D>) -> Result<(), R
     Ok(())
 }
 
-/// Upgrades a store in the first layout to the second, by one checkpoint. If a checkpoint has no room in an area (47)
-/// or no generation is left for one (48), the store stays in the first layout. There it accepts every command except
+/// Upgrades a store in the first layout to the second, by one checkpoint. The store stays in the first layout exactly if
+/// a checkpoint has no room in an area (47) or no generation is left for one (48). There it accepts every command except
 /// the one that asks for an attempt. Any other refusal of the checkpoint is returned.
 pub fn brought_up<D: Disk + Drop>(alloc: Global, store: Store<D>) -> Result<Store<D>, Refusal>
-    ensures { IfOk result (λ up. (up.history ≡ store.history) × (up.base ≡ store.base)) }
+    ensures same { IfOk result (λ up. (up.history ≡ store.history) × (up.base ≡ store.base)) }
+    ensures layout { IfOk result (λ up. up.layout ≡ (if is_some (refusal_of_head store) then store.layout else layouts.Second)) }
+    ensures passed { IfErr result (λ e. (e ≡ area_full) ⊎ (e ≡ last_counter) → ⊥) }
 {
     let mut store = store;
     match store.layout() {

@@ -1,0 +1,2 @@
+-- Lemmas of a checkpoint that upgrades a store.
+pub mod Upgrading
