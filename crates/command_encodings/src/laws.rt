@@ -26,6 +26,7 @@ pub fn each_batch_has_one_encoding()
     ensures { HasOneEncoding batch }
 {}
 
+/// The encoding of a command has one byte for its kind, four for each number, one for a result, and four plus its
 /// length for each text.
 pub fn a_command_has_the_bytes_of_its_fields()
     ensures { (c : Command) → length_of command c ≡ command_length c }

@@ -10,7 +10,6 @@ ghost use Rattle.table_text.specs.FirstLayout.{first_batch};
 ghost use Rattle.table_text.specs.WholeFirstTables.{whole_first_table};
 ghost use Rattle.table_text.specs.WholeTables.{whole_table};
 
-/// The encoding of a command has one byte for its kind, four for each number, one for a result, and four plus its
 /// No encoding of a table is a proper prefix of another.
 pub fn no_table_begins_another()
     ensures { NoneBeginsAnother table }
