@@ -3,6 +3,7 @@
 
 mod command_reader;
 mod decode_error;
+mod extend;
 mod fields;
 pub mod laws;
 mod lengths;
@@ -15,6 +16,7 @@ mod write;
 
 pub use command_reader::{admit_at, command_at};
 pub use decode_error::DecodeError;
+pub use extend::extend_batch;
 pub use fields::{is_within, number_at, small_text_at};
 pub use lengths::{
     WORD, admit_length, batch_length, claim_length, command_length, done_length, small_text_length,

@@ -1,7 +1,7 @@
 //! Appends consecutive values.
 #![tactic(auto, using(crate::proofs::Keeping::unchanged, crate::proofs::Keeping::longer))]
 
-ghost use Rattle.std.specs.Prelude.{◌≡◌, ◌++◌, ℕ, List, flat_map, OnErr, OnOk};
+ghost use Rattle.std.specs.Prelude.{◌≡◌, ◌++◌, ◌≤◌, ℕ, List, flat_map, vec_capacity, OnErr, OnOk};
 ghost use Rattle.std.specs.List.{AllByRecursion};
 ghost use Rattle.command_encodings.specs.Writing.{Keeps};
 
@@ -20,7 +20,8 @@ pub(crate) trait Push {
         requires { can_push self.now }
         ensures takes { OnOk result (takes self.now) }
         ensures bytes { OnOk result (out.new.items ≡ out.old.items ++ encoding self.now) }
-        ensures kept { OnErr result (Keeps out.old.items out.new.items) };
+        ensures kept { OnErr result (Keeps out.old.items out.new.items) }
+        ensures room { vec_capacity out.old ≤ vec_capacity out.new };
 }
 
 /// Appends the values, one after another.
@@ -29,6 +30,7 @@ pub(crate) fn push_list<T: Push>(out: &mut Vec<u8>, list: &[T]) -> Result<(), Al
     ensures takes { OnOk result (AllByRecursion T.takes list.now) }
     ensures bytes { OnOk result (out.new.items ≡ out.old.items ++ flat_map T.encoding list.now) }
     ensures kept { OnErr result (Keeps out.old.items out.new.items) }
+    ensures room { vec_capacity out.old ≤ vec_capacity out.new }
 {
     for value in list {
         value.push_to(out)?;

@@ -1,6 +1,6 @@
 #![tactic(auto, using(crate::proofs::Keeping::unchanged, crate::proofs::Keeping::longer))]
 
-ghost use Rattle.std.specs.Prelude.{◌≡◌, [], ◌∷◌, ◌++◌, ◌<◌, ◌^◌, length, OnErr, OnOk};
+ghost use Rattle.std.specs.Prelude.{◌≡◌, [], ◌∷◌, ◌++◌, ◌<◌, ◌≤◌, ◌^◌, length, vec_capacity, OnErr, OnOk};
 ghost use Rattle.command_encodings.specs.Commands.{IsEncoded, admit, beat, body, claim, command_bytes, done, fields_of, kind_of, labels};
 ghost use Rattle.command_encodings.specs.Commands.{number, outcome_byte, rerun, small_text};
 ghost use Rattle.command_encodings.specs.Format.{text_bytes, word_bytes};
@@ -16,6 +16,7 @@ use wf_value::Outcome;
 pub fn push_word(out: &mut Vec<u8>, value: u32) -> Result<(), AllocError>
     ensures bytes { OnOk result (out.new.items ≡ out.old.items ++ word_bytes value) }
     ensures kept { OnErr result (Keeps out.old.items out.new.items) }
+    ensures room { vec_capacity out.old ≤ vec_capacity out.new }
 {
     out.extend_from_slice(&value.to_be_bytes())
 }
@@ -26,6 +27,7 @@ fn push_text(out: &mut Vec<u8>, text: &[u8]) -> Result<(), AllocError>
     requires { length text.now < 2 ^ 32 }
     ensures bytes { OnOk result (out.new.items ≡ out.old.items ++ text_bytes text.now) }
     ensures kept { OnErr result (Keeps out.old.items out.new.items) }
+    ensures room { vec_capacity out.old ≤ vec_capacity out.new }
 {
     push_word(out, text.len() as u32)?;
     out.extend_from_slice(text)
@@ -35,6 +37,7 @@ pub fn push_number(out: &mut Vec<u8>, value: Number) -> Result<(), AllocError>
     ensures takes { number.Takes value }
     ensures bytes { OnOk result (out.new.items ≡ out.old.items ++ word_bytes value) }
     ensures kept { OnErr result (Keeps out.old.items out.new.items) }
+    ensures room { vec_capacity out.old ≤ vec_capacity out.new }
 {
     push_word(out, value.get())
 }
@@ -43,6 +46,7 @@ pub fn push_small_text<F: Form>(out: &mut Vec<u8>, text: &SmallText<F>) -> Resul
     ensures takes { (small_text F.allows).Takes text.now }
     ensures bytes { OnOk result (out.new.items ≡ out.old.items ++ text_bytes text.now) }
     ensures kept { OnErr result (Keeps out.old.items out.new.items) }
+    ensures room { vec_capacity out.old ≤ vec_capacity out.new }
 {
     push_text(out, text.as_str().as_bytes())
 }
@@ -63,6 +67,7 @@ fn push_labels(out: &mut Vec<u8>, value: &Labels) -> Result<(), AllocError>
     ensures takes { labels.Takes value.now }
     ensures bytes { OnOk result (out.new.items ≡ out.old.items ++ labels.encoding value.now) }
     ensures kept { OnErr result (Keeps out.old.items out.new.items) }
+    ensures room { vec_capacity out.old ≤ vec_capacity out.new }
 {
     let list = value.as_slice();
     push_word(out, list.len() as u32)?;
@@ -73,6 +78,7 @@ fn push_labels(out: &mut Vec<u8>, value: &Labels) -> Result<(), AllocError>
 fn push_outcome(out: &mut Vec<u8>, value: Outcome) -> Result<(), AllocError>
     ensures bytes { OnOk result (out.new.items ≡ out.old.items ++ outcome_byte value ∷ []) }
     ensures kept { OnErr result (Keeps out.old.items out.new.items) }
+    ensures room { vec_capacity out.old ≤ vec_capacity out.new }
 {
     match value {
         Outcome::Success => out.extend_from_slice(&[1]),
@@ -86,6 +92,7 @@ fn push_body(out: &mut Vec<u8>, event: &Prepared) -> Result<(), AllocError>
     ensures takes { body.Takes event.now.body }
     ensures bytes { OnOk result (out.new.items ≡ out.old.items ++ text_bytes event.now.body) }
     ensures kept { OnErr result (Keeps out.old.items out.new.items) }
+    ensures room { vec_capacity out.old ≤ vec_capacity out.new }
 {
     push_text(out, event.body())
 }
@@ -94,6 +101,7 @@ pub fn push_admit(out: &mut Vec<u8>, event: &Prepared) -> Result<(), AllocError>
     ensures takes { OnOk result (admit.Takes event.now) }
     ensures bytes { OnOk result (out.new.items ≡ out.old.items ++ admit.encoding event.now) }
     ensures kept { OnErr result (Keeps out.old.items out.new.items) }
+    ensures room { vec_capacity out.old ≤ vec_capacity out.new }
 {
     push_small_text(out, event.delivery())?;
     push_small_text(out, event.event())?;
@@ -105,6 +113,7 @@ pub fn push_claim(out: &mut Vec<u8>, requests: &Claim) -> Result<(), AllocError>
     ensures takes { OnOk result (claim.Takes requests.now) }
     ensures bytes { OnOk result (out.new.items ≡ out.old.items ++ claim.encoding requests.now) }
     ensures kept { OnErr result (Keeps out.old.items out.new.items) }
+    ensures room { vec_capacity out.old ≤ vec_capacity out.new }
 {
     push_small_text(out, &requests.runner)?;
     push_number(out, requests.number)?;
@@ -116,6 +125,7 @@ pub fn push_done(out: &mut Vec<u8>, report: &Done) -> Result<(), AllocError>
     ensures takes { OnOk result (done.Takes report.now) }
     ensures bytes { OnOk result (out.new.items ≡ out.old.items ++ done.encoding report.now) }
     ensures kept { OnErr result (Keeps out.old.items out.new.items) }
+    ensures room { vec_capacity out.old ≤ vec_capacity out.new }
 {
     push_small_text(out, &report.runner)?;
     push_number(out, report.number)?;
@@ -128,6 +138,7 @@ fn push_beat(out: &mut Vec<u8>, requests: &Beat) -> Result<(), AllocError>
     ensures takes { OnOk result (beat.Takes requests.now) }
     ensures bytes { OnOk result (out.new.items ≡ out.old.items ++ beat.encoding requests.now) }
     ensures kept { OnErr result (Keeps out.old.items out.new.items) }
+    ensures room { vec_capacity out.old ≤ vec_capacity out.new }
 {
     push_small_text(out, &requests.runner)?;
     push_number(out, requests.lease)?;
@@ -138,6 +149,7 @@ fn push_rerun(out: &mut Vec<u8>, requests: Attempt) -> Result<(), AllocError>
     ensures takes { OnOk result (rerun.Takes requests) }
     ensures bytes { OnOk result (out.new.items ≡ out.old.items ++ rerun.encoding requests) }
     ensures kept { OnErr result (Keeps out.old.items out.new.items) }
+    ensures room { vec_capacity out.old ≤ vec_capacity out.new }
 {
     push_number(out, requests.run)?;
     push_number(out, requests.attempt)?;
@@ -148,6 +160,7 @@ fn push_rerun(out: &mut Vec<u8>, requests: Attempt) -> Result<(), AllocError>
 fn push_kind(out: &mut Vec<u8>, requested: &Command) -> Result<(), AllocError>
     ensures bytes { OnOk result (out.new.items ≡ out.old.items ++ kind_of requested.now ∷ []) }
     ensures kept { OnErr result (Keeps out.old.items out.new.items) }
+    ensures room { vec_capacity out.old ≤ vec_capacity out.new }
 {
     match requested {
         Command::Admit(_) => out.extend_from_slice(&[1]),
@@ -167,6 +180,7 @@ fn push_fields(out: &mut Vec<u8>, requested: &Command) -> Result<(), AllocError>
     ensures takes { OnOk result (IsEncoded requested.now) }
     ensures bytes { OnOk result (out.new.items ≡ out.old.items ++ fields_of requested.now) }
     ensures kept { OnErr result (Keeps out.old.items out.new.items) }
+    ensures room { vec_capacity out.old ≤ vec_capacity out.new }
 {
     match requested {
         Command::Admit(event) => push_admit(out, event),
@@ -184,6 +198,7 @@ pub(crate) fn push_command(out: &mut Vec<u8>, requested: &Command) -> Result<(),
     ensures takes { OnOk result (IsEncoded requested.now) }
     ensures bytes { OnOk result (out.new.items ≡ out.old.items ++ command_bytes requested.now) }
     ensures kept { OnErr result (Keeps out.old.items out.new.items) }
+    ensures room { vec_capacity out.old ≤ vec_capacity out.new }
 {
     push_kind(out, requested)?;
     push_fields(out, requested)

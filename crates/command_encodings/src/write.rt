@@ -1,6 +1,6 @@
 #![tactic(auto, using(crate::proofs::Keeping::unchanged, crate::proofs::Keeping::longer))]
 
-ghost use Rattle.std.specs.Prelude.{◌≡◌, ◌≤◌, ◌++◌, IfErr, IsOk, OnErr, OnOk, length, take};
+ghost use Rattle.std.specs.Prelude.{◌≡◌, ◌≤◌, ◌++◌, IfErr, IsOk, OnErr, OnOk, length, take, vec_capacity};
 ghost use Rattle.std.specs.List.{AllByRecursion};
 ghost use Rattle.wf_value.specs.Gives.{no_memory};
 ghost use Rattle.command_encodings.specs.Commands.{IsEncoded, batch, command};
@@ -18,6 +18,7 @@ pub fn write_command(out: &mut Vec<u8>, requested: &Command) -> Result<(), Refus
     ensures ok { OnOk result (Appends command out.old.items requested.now out.new.items) }
     ensures err { OnErr result (out.new.items ≡ out.old.items) }
     ensures refused { IfErr result (λ e. e ≡ no_memory) }
+    ensures room { vec_capacity out.old ≤ vec_capacity out.new }
 {
     let before = out.len();
     let written = push_command(out, requested);
@@ -31,6 +32,7 @@ pub fn write_batch(out: &mut Vec<u8>, commands: &[Command]) -> Result<(), Refusa
     ensures ok { OnOk result (Appends batch out.old.items commands.now out.new.items) }
     ensures err { OnErr result (out.new.items ≡ out.old.items) }
     ensures refused { IfErr result (λ e. e ≡ no_memory) }
+    ensures room { vec_capacity out.old ≤ vec_capacity out.new }
 {
     let before = out.len();
     let written = push_batch(out, commands);
@@ -43,6 +45,7 @@ fn push_batch(out: &mut Vec<u8>, commands: &[Command]) -> Result<(), AllocError>
     ensures takes { OnOk result (AllByRecursion IsEncoded commands.now) }
     ensures bytes { OnOk result (out.new.items ≡ out.old.items ++ batch.encoding commands.now) }
     ensures kept { OnErr result (Keeps out.old.items out.new.items) }
+    ensures room { vec_capacity out.old ≤ vec_capacity out.new }
 {
     push_word(out, commands.len() as u32)?;
     push_list(out, commands)?;
@@ -58,6 +61,7 @@ pub fn all_or_none(
     ensures ok { OnOk result (IsOk written × (out.new.items ≡ out.old.items)) }
     ensures err { OnErr result (out.new.items ≡ take before out.old.items) }
     ensures refused { IfErr result (λ e. e ≡ no_memory) }
+    ensures room { vec_capacity out.old ≤ vec_capacity out.new }
 {
     if written.is_err() {
         out.truncate(before);

@@ -1,4 +1,4 @@
-use Rattle.std.proofs.Common.{subst, sym}
+use Rattle.std.proofs.Common.{arith, subst, sym}
 use Rattle.command_encodings.proofs.Known.{all_get, all_more, bytes_more}
 use Rattle.command_encodings.proofs.list_writer.push_list.Goals as goal
 
@@ -13,4 +13,5 @@ loop-value-preserved g c = record {
       (subst g.T.Push.takes c.value-item.is c.in_ok-push_to.ensures.takes);
   bytes = bytes_more g.T.Push.encoding _ _ _ c.args.list.now c.loop-value.value-index _ _ c.loop-value-test.true c.value-item.is
       c.loop-value.invariant.bytes c.in_ok-push_to.ensures.bytes;
+  room = omega (arith, c.loop-value.invariant.room, c.push_to.ensures.room);
 }
