@@ -34,11 +34,6 @@ abbrev pub IsRecordOf : ℕ → Option (List ℕ) → Type 0
 IsRecordOf count None = count ≡ 0
 IsRecordOf count (Some body) = body ≡ to_be_bytes w32 count ++ drop COUNT body
 
--- the body of a record, or of one without commands if there is none
-abbrev pub body_held : Option (List ℕ) → List ℕ
-body_held None = to_be_bytes w32 0
-body_held (Some body) = body
-
 -- The bytes of a record between its length with the count and its gate.
 abbrev pub encoded_between : List ℕ → List ℕ
 encoded_between bytes = take (length bytes - (FRAME + COUNT)) (drop (LENGTH + COUNT) bytes)
