@@ -131,6 +131,7 @@ impl Table {
     pub fn runners(&self) -> &[Runner]
         ensures runners { result.now ≡ self.now.runners }
         ensures rise { names_rise self.now.runners ≡ true }
+        ensures sound { IsSound self.now }
     {
         self.table_data.runners()
     }
