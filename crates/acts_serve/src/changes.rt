@@ -1,20 +1,14 @@
-//! The changes of a service: its covered entries, and the runs that they have changed, as lines. The last ones are kept.
+//! The changes of a service: its covered entries, and the runs that they have changed, as lines.
 
-use act_store::Entry;
+use act_disk::Disk;
+use act_store::{Entry, Store};
+use covered_log::{CoveredLog, Page};
 use run_plan::{Command, Number, Reply};
 use run_states::Run;
 use run_table::{Table, conclusion_word, status_word};
 use std::alloc::{AllocError, Global};
-use std::collections::VecDeque;
-use table_views::{entry_line, run_change_line};
+use std::mem;
 use view_sessions::Cursor;
-use wf_value::{Code, Refusal};
-
-/// The most lines that are kept.
-const KEPT: usize = 20_000;
-
-/// The most lines of an answer.
-const PAGE: usize = 1_000;
 
 /// How a run stands.
 #[derive(Clone, Copy, PartialEq, Eq)]
@@ -92,14 +86,11 @@ impl Standings {
 /// The changes of a service.
 #[derive(Drop)]
 pub(crate) struct Changes {
-    /// What tells the cursors of this process from those of others.
-    process: u64,
-    lines: VecDeque<String>,
-    /// The index of the first of these lines, among all since the service began.
-    first: u64,
-    /// The number of entries that were taken up since the service began.
-    place: u64,
-    standings: Standings,
+    log: CoveredLog,
+    /// How the runs stood; `None` if there was no memory to know it.
+    standings: Option<Standings>,
+    /// How many entries of the present history were taken up.
+    taken: u64,
 }
 
 /// What became of a wish for changes.
@@ -116,130 +107,153 @@ pub(crate) enum Found {
 impl Changes {
     pub(crate) fn new(alloc: Global, process: u64, table: &Table) -> Result<Changes, AllocError> {
         Ok(Changes {
-            process,
-            lines: VecDeque::new(alloc),
-            first: 0,
-            place: 0,
-            standings: Standings::of(alloc, table)?,
+            log: CoveredLog::new(alloc, process),
+            standings: Some(Standings::of(alloc, table)?),
+            taken: 0,
         })
     }
 
-    /// The index of the next line.
-    fn end(&self) -> u64 {
-        self.first.saturating_add(self.lines.len() as u64)
+    /// How many entries of the present history were taken up.
+    pub(crate) fn taken(&self) -> u64 {
+        self.taken
     }
 
-    fn push(&mut self, line: String) -> Result<(), Refusal> {
-        if self.lines.len() >= KEPT {
-            let _dropped = self.lines.pop_front();
-            self.first = self.first.saturating_add(1);
-        }
-        if self.lines.push_back(line).is_err() {
-            return Err(Refusal::Numbered(Code::NoMemory));
-        }
-        Ok(())
-    }
+    // ---- what is taken up
 
     /// Takes up an entry that was made durable.
-    pub(crate) fn enter(&mut self, alloc: Global, entry: &Entry) -> Result<(), Refusal> {
-        self.place = self.place.saturating_add(1);
-        let line = entry_line(alloc, self.place, &entry.command, &entry.reply)?;
-        self.push(line)?;
-        if let (Command::Rerun(again), Reply::Again(_)) = (&entry.command, &entry.reply) {
-            self.standings.again(again.run)?;
+    fn enter(&mut self, alloc: Global, entry: &Entry) {
+        if self.log.has_room() {
+            let _ = self.log.enter(alloc, &entry.command, &entry.reply);
         }
-        Ok(())
+        if let (Command::Rerun(again), Reply::Again(_)) = (&entry.command, &entry.reply) {
+            self.stands_again(again.run);
+        }
     }
 
-    /// Takes up how a run stands, if it stands differently. Returns whether it may change again.
-    fn look_at(&mut self, alloc: Global, table: &Table, r: usize) -> Result<bool, Refusal> {
+    /// A run was run again.
+    fn stands_again(&mut self, run: Number) {
+        let noted = match &mut self.standings {
+            Some(standings) => standings.again(run),
+            None => Ok(()),
+        };
+        if noted.is_err() {
+            self.standings = None;
+        }
+    }
+
+    /// Takes up the entries of a store that were made durable since the last time.
+    fn enter_new<D: Disk>(&mut self, alloc: Global, store: &Store<D>) {
+        for place in self.taken..store.covered() {
+            if let Some(entry) = store.entry(place.saturating_add(1)) {
+                self.enter(alloc, entry);
+            }
+        }
+        self.taken = store.covered();
+    }
+
+    /// Takes up how a run stands, if it stands differently than it did. Returns whether it may change again.
+    fn look_at(
+        &mut self,
+        alloc: Global,
+        table: &Table,
+        standings: &mut Standings,
+        r: usize,
+    ) -> bool {
         let runs = table.kept_runs();
         if r >= runs.len() {
-            return Ok(false);
+            return false;
         }
         let run = &runs.as_slice()[r];
         let standing = Standing::of(run);
-        let Some(known) = self.standings.runs.get_mut(r) else {
-            return Ok(false);
+        let Some(known) = standings.runs.get_mut(r) else {
+            return false;
         };
         if *known != standing {
             *known = standing;
-            let id = Number::new(r as u32 + 1);
-            let line = run_change_line(alloc, self.place, id, run)?;
-            self.push(line)?;
+            if self.log.has_room() {
+                let _ = self.log.stand(alloc, Number::new(r as u32 + 1), run);
+            }
         }
-        Ok(!standing.is_completed())
+        !standing.is_completed()
     }
 
-    /// Takes up the runs that the entries have changed.
-    pub(crate) fn look(&mut self, alloc: Global, table: &Table) -> Result<(), Refusal> {
-        self.standings.grow(table.runs().len())?;
+    /// Takes up the runs that stand differently than they did. Returns how the runs stand.
+    fn look(
+        &mut self,
+        alloc: Global,
+        table: &Table,
+        known: Option<Standings>,
+    ) -> Result<Standings, AllocError> {
+        let Some(mut standings) = known else {
+            return Err(AllocError);
+        };
+        standings.grow(table.runs().len())?;
         let mut kept: usize = 0;
-        for index in 0..self.standings.active.len() {
-            let Some(r) = self.standings.active.get(index) else {
+        for index in 0..standings.active.len() {
+            let Some(r) = standings.active.get(index) else {
                 break;
             };
             let r = *r;
-            if self.look_at(alloc, table, r)? {
-                if let Some(place) = self.standings.active.get_mut(kept) {
+            if self.look_at(alloc, table, &mut standings, r) {
+                if let Some(place) = standings.active.get_mut(kept) {
                     *place = r;
                 }
                 kept = kept.saturating_add(1);
             }
         }
-        self.standings.active.truncate(kept);
-        Ok(())
+        standings.active.truncate(kept);
+        Ok(standings)
     }
 
-    /// Forgets all lines, since one was lost for lack of memory.
-    pub(crate) fn lose(&mut self, alloc: Global, table: &Table) {
-        self.first = self.end().saturating_add(1);
-        self.lines.clear();
-        if let Ok(standings) = Standings::of(alloc, table) {
-            self.standings = standings;
-        }
+    /// Takes up the runs that the entries have changed. Without memory for that no lines are kept.
+    fn look_new(&mut self, alloc: Global, table: &Table) {
+        let mut known = None;
+        mem::swap(&mut known, &mut self.standings);
+        self.standings = match self.look(alloc, table, known) {
+            Ok(standings) => Some(standings),
+            Err(AllocError) => {
+                if self.log.has_room() {
+                    self.log.miss();
+                }
+                Standings::of(alloc, table).ok()
+            }
+        };
     }
 
-    fn cursor(&self, line: u64) -> Cursor {
-        Cursor {
-            process: self.process,
-            line,
-        }
+    /// Takes up the entries of a store that were made durable since the last time, and the runs that they have changed.
+    pub(crate) fn take_up<D: Disk>(&mut self, alloc: Global, store: &Store<D>) {
+        self.enter_new(alloc, store);
+        self.look_new(alloc, store.table());
     }
+
+    /// A new history has begun. Places and cursors go on.
+    pub(crate) fn turn_over(&mut self) {
+        self.taken = 0;
+    }
+
+    // ---- what is shown
 
     fn cursor_line(&self, alloc: Global, line: u64) -> Result<String, AllocError> {
-        let cursor = self.cursor(line).text(alloc)?;
+        let process = self.log.process();
+        let cursor = Cursor { process, line }.text(alloc)?;
         format!(in alloc; "{{\"cursor\":\"{cursor}\"}}\n")
     }
 
     /// The line of the cursor of the present.
     pub(crate) fn present(&self, alloc: Global) -> Result<String, AllocError> {
-        self.cursor_line(alloc, self.end())
-    }
-
-    /// How many of the lines that are kept come before a cursor, if the lines after it are known.
-    fn skipped(&self, cursor: Cursor) -> Option<usize> {
-        if cursor.process != self.process || cursor.line > self.end() {
-            return None;
-        }
-        Some(cursor.line.checked_sub(self.first)? as usize)
+        self.cursor_line(alloc, self.log.end())
     }
 
     /// What came after a cursor.
     pub(crate) fn after(&self, alloc: Global, cursor: Cursor) -> Result<Found, AllocError> {
-        let Some(skipped) = self.skipped(cursor) else {
+        let Some(page) = self.log.after(alloc, cursor.process, cursor.line)? else {
             return Ok(Found::Unknown);
         };
-        if skipped >= self.lines.len() {
+        let Page { mut text, next } = page;
+        if next == cursor.line {
             return Ok(Found::None);
         }
-        let mut text = String::new(alloc);
-        let mut count: u64 = 0;
-        for line in self.lines.iter().skip(skipped).take(PAGE) {
-            text.push_str(line.as_str())?;
-            count = count.saturating_add(1);
-        }
-        let end = self.cursor_line(alloc, cursor.line.saturating_add(count))?;
+        let end = self.cursor_line(alloc, next)?;
         text.push_str(end.as_str())?;
         Ok(Found::Lines(text))
     }

@@ -6,7 +6,7 @@ use crate::counters::{Counters, Gauges};
 use crate::port::{MAX_CLIENTS, Port};
 use crate::viewer::{Viewer, Waiting};
 use act_disk::Disk;
-use act_store::{Entry, Store};
+use act_store::Store;
 use mio::event::Event;
 use mio::unix::SourceFd;
 use mio::{Interest, Registry, Token};
@@ -69,8 +69,6 @@ pub(crate) struct Views<'a> {
     pub(crate) counters: Counters,
     /// When each runner was last heard.
     heard: HashMap<String, Instant>,
-    /// How many entries of the present history were taken up.
-    taken: u64,
 }
 
 /// What becomes of a request.
@@ -155,7 +153,6 @@ impl<'a> Views<'a> {
             changes: Changes::new(alloc, process, table)?,
             counters: Counters::new(now),
             heard: HashMap::new(alloc),
-            taken: 0,
         })
     }
 
@@ -259,47 +256,39 @@ impl<'a> Views<'a> {
 
     // ---- what they are shown
 
-    /// Takes up an entry that was made durable.
-    fn enter(&mut self, alloc: Global, entry: &Entry, now: Instant) -> Result<(), Refusal> {
-        self.counters.entered(&entry.reply);
-        if let Some(runner) = runner_of(&entry.command) {
-            match self.heard.get_mut(runner.as_str()) {
-                Some(heard) => *heard = now,
-                None => {
-                    let name = String::from_str(alloc, runner.as_str())?;
-                    if self.heard.insert(name, now).is_err() {
-                        return Err(Refusal::Numbered(Code::NoMemory));
-                    }
-                }
-            }
+    /// Notes when the runner that a command came from was heard.
+    fn hear(&mut self, alloc: Global, command: &Command, now: Instant) -> Result<(), AllocError> {
+        let Some(runner) = runner_of(command) else {
+            return Ok(());
+        };
+        if let Some(heard) = self.heard.get_mut(runner.as_str()) {
+            *heard = now;
+            return Ok(());
         }
-        self.changes.enter(alloc, entry)
+        let name = String::from_str(alloc, runner.as_str())?;
+        match self.heard.insert(name, now) {
+            Ok(_) => Ok(()),
+            Err(_) => Err(AllocError),
+        }
     }
 
-    /// Takes up the entries of a store that were made durable since the last time.
-    fn enter_new<D: Disk>(
-        &mut self,
-        alloc: Global,
-        store: &Store<D>,
-        now: Instant,
-    ) -> Result<(), Refusal> {
-        for place in self.taken..store.covered() {
+    /// Counts the entries of a store that were made durable since the last time.
+    fn count_new<D: Disk>(&mut self, alloc: Global, store: &Store<D>, now: Instant) {
+        for place in self.changes.taken()..store.covered() {
             if let Some(entry) = store.entry(place.saturating_add(1)) {
-                self.enter(alloc, entry, now)?;
+                self.counters.entered(&entry.reply);
+                let _ = self.hear(alloc, &entry.command, now);
             }
         }
-        self.changes.look(alloc, store.table())
     }
 
     /// Takes up what was made durable since the last time, and queues those that wait for it.
     pub(crate) fn take_up<D: Disk>(&mut self, alloc: Global, store: &Store<D>, now: Instant) {
-        if store.covered() == self.taken {
+        if store.covered() == self.changes.taken() {
             return;
         }
-        if self.enter_new(alloc, store, now).is_err() {
-            self.changes.lose(alloc, store.table());
-        }
-        self.taken = store.covered();
+        self.count_new(alloc, store, now);
+        self.changes.take_up(alloc, store);
         let mut waiting = Vec::new(alloc);
         mem::swap(&mut waiting, &mut self.waiting);
         for place in &waiting {
@@ -309,7 +298,7 @@ impl<'a> Views<'a> {
 
     /// A new history has begun.
     pub(crate) fn turn_over(&mut self) {
-        self.taken = 0;
+        self.changes.turn_over();
     }
 
     fn seconds_since(&self, name: &str, now: Instant) -> Option<u64> {

@@ -1,0 +1,29 @@
+-- The last lines of a log.
+use Rattle.std.specs.Prelude.{ℕ, ◌+◌, ◌<◌, ◌≤◌, ◌^◌, List, [], ◌∷◌, ◌++◌, drop, length, nat_lt, if◌then◌else◌}
+use Rattle.covered_log.specs.declared.kept.TheConstants.{KEPT}
+
+-- the texts of the last lines, and how many lines came before them
+pub record KeptState : Type 0 where
+  pub first : ℕ
+  pub lines : List (List ℕ)
+
+abbrev pub new_kept : KeptState
+new_kept = record { first = 0; lines = [] }
+
+-- how many lines there were
+abbrev pub end_of : KeptState → ℕ
+end_of k = k.first + length k.lines
+
+-- one more line; the oldest goes if as many are kept as may be
+abbrev pub with_text : KeptState → List ℕ → KeptState
+with_text k text =
+    if nat_lt (length k.lines) KEPT then record { first = k.first; lines = k.lines ++ text ∷ [] }
+    else record { first = k.first + 1; lines = drop 1 k.lines ++ text ∷ [] }
+
+-- one more line, which is lost: none is kept
+abbrev pub without_text : KeptState → KeptState
+without_text k = record { first = end_of k + 1; lines = [] }
+
+pub record AreKept (k : KeptState) : Type 0 where
+  pub few : length k.lines ≤ KEPT
+  pub counted : end_of k < 2 ^ 64

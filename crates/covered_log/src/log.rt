@@ -1,0 +1,142 @@
+ghost use Rattle.std.specs.Prelude.{◌≡◌, ◌+◌, ◌↔◌, ◌≤◌, IfNone, IfOk, IfSome, IsTrue, OnErr, OnOk, false, length, true};
+ghost use Rattle.covered_log.specs.Lines.{Entered, Missed, Stands};
+ghost use Rattle.covered_log.specs.LogState.{HasRoom, IsPage, is_known, losing_line, new_log, place_of, with_change};
+
+use crate::kept::KeptLines;
+use crate::page::{Page, page_end, text_between};
+use crate::told::ToldChanges;
+use run_plan::{Command, Number, Reply};
+use run_states::Run;
+use std::alloc::{AllocError, Global};
+use std::marker::Model;
+use table_views::{entry_line, run_change_line};
+
+/// The changes of a service: its covered entries, in the order of the history, and the runs that they have changed. The lines of the last
+/// changes are kept; all changes are counted. Places and cursors go on when the history of the store turns over.
+#[derive(Drop)]
+pub struct CoveredLog {
+    /// What tells the cursors of this process from those of others.
+    process: u64,
+    kept: KeptLines,
+    /// How many entries there were.
+    entries: u64,
+    /// All changes, for contracts only.
+    told: ToldChanges,
+}
+
+impl Model for CoveredLog {
+    ghost use Rattle.covered_log.specs.LogState.{IsLog, LogState};
+
+    ghost Value = { LogState };
+
+    ghost view = { λ l. record { process = l.process; changes = l.told; first = l.kept.first } };
+
+    ghost invariant = { λ l. IsLog l.kept l.entries l.told };
+}
+
+impl CoveredLog {
+    /// The log of a service that begins now.
+    pub fn new(alloc: Global, process: u64) -> CoveredLog
+        ensures { result ≡ new_log process }
+    {
+        CoveredLog {
+            process,
+            kept: KeptLines::new(alloc),
+            entries: 0,
+            told: ToldChanges::new(),
+        }
+    }
+
+    /// Whether there may be one more change. A log has fewer than 2^64.
+    pub fn has_room(&self) -> bool
+        ensures { IsTrue result ↔ HasRoom self.now }
+    {
+        self.kept.end() < u64::MAX
+    }
+
+    /// How many entries there were, which is the place of the last.
+    pub fn place(&self) -> u64
+        ensures { result ≡ place_of self.now }
+    {
+        self.entries
+    }
+
+    /// The number of the process.
+    pub fn process(&self) -> u64
+        ensures { result ≡ self.now.process }
+    {
+        self.process
+    }
+
+    /// The cursor of the present: how many changes there were.
+    pub fn end(&self) -> u64
+        ensures { result ≡ length self.now.changes }
+    {
+        self.kept.end()
+    }
+
+    /// Takes up the next entry. Without memory for its line all lines are forgotten, and the counts go on.
+    pub fn enter(
+        &mut self,
+        alloc: Global,
+        command: &Command,
+        reply: &Reply,
+    ) -> Result<(), AllocError>
+        requires { HasRoom self.old }
+        ensures ok { OnOk result (self.new ≡ with_change self.old (Entered command.now reply.now)) }
+        ensures err { OnErr result (self.new ≡ losing_line self.old (Entered command.now reply.now)) }
+    {
+        self.entries += 1;
+        let line = entry_line(alloc, self.entries, command, reply);
+        self.told.enter(command, reply);
+        self.kept.keep(line)
+    }
+
+    /// Takes up how a run stands after the entries so far. Without memory for its line all lines are forgotten, and the counts go on.
+    pub fn stand(&mut self, alloc: Global, id: Number, run: &Run) -> Result<(), AllocError>
+        requires { HasRoom self.old }
+        ensures ok { OnOk result (self.new ≡ with_change self.old (Stands id run.now)) }
+        ensures err { OnErr result (self.new ≡ losing_line self.old (Stands id run.now)) }
+    {
+        let line = run_change_line(alloc, self.entries, id, run);
+        self.told.stand(id, run);
+        self.kept.keep(line)
+    }
+
+    /// There was no memory to tell how runs stand. All lines are forgotten, and the counts go on.
+    pub fn miss(&mut self)
+        requires { HasRoom self.old }
+        ensures { self.new ≡ losing_line self.old Missed }
+    {
+        self.told.miss();
+        self.kept.lose();
+    }
+
+    /// The index of the line behind a cursor among those that are kept, or where they end; `None` if the cursor is not known.
+    fn index_of(&self, process: u64, line: u64) -> Option<usize>
+        ensures none { IfNone result (is_known self.now process line ≡ false) }
+        ensures known { IfSome result (λ index. is_known self.now process line ≡ true) }
+        ensures index { IfSome result (λ index. line ≡ self.now.first + index) }
+        ensures within { IfSome result (λ index. line ≤ length self.now.changes) }
+    {
+        if process != self.process || line > self.kept.end() || line < self.kept.first() {
+            return None;
+        }
+        Some((line - self.kept.first()) as usize)
+    }
+
+    /// The lines behind a cursor, which names a process and says how many lines come before it; `None` if it is not known.
+    pub fn after(&self, alloc: Global, process: u64, line: u64) -> Result<Option<Page>, AllocError>
+        ensures unknown { IfOk result (λ page. IfNone page (is_known self.now process line ≡ false)) }
+        ensures known { IfOk result (λ page. IfSome page (λ p. is_known self.now process line ≡ true)) }
+        ensures page { IfOk result (λ page. IfSome page (IsPage self.now line)) }
+    {
+        let Some(from) = self.index_of(process, line) else {
+            return Ok(None);
+        };
+        let end = page_end(&self.kept, from);
+        let text = text_between(alloc, &self.kept, from, end)?;
+        let next = self.kept.first() + end as u64;
+        Ok(Some(Page { text, next }))
+    }
+}
