@@ -14,11 +14,16 @@ new_kept = record { first = 0; lines = [] }
 abbrev pub end_of : KeptState → ℕ
 end_of k = k.first + length k.lines
 
--- one more line; the oldest goes if as many are kept as may be
+-- how many lines are not kept once there is room for one more: the oldest goes if as many are kept as may be
+abbrev pub first_after : ℕ → ℕ → ℕ
+first_after first count = if nat_lt count KEPT then first else first + 1
+
+abbrev pub with_room : KeptState → KeptState
+with_room k = record { first = first_after k.first (length k.lines); lines = if nat_lt (length k.lines) KEPT then k.lines else drop 1 k.lines }
+
+-- one more line, which is kept
 abbrev pub with_text : KeptState → List ℕ → KeptState
-with_text k text =
-    if nat_lt (length k.lines) KEPT then record { first = k.first; lines = k.lines ++ text ∷ [] }
-    else record { first = k.first + 1; lines = drop 1 k.lines ++ text ∷ [] }
+with_text k text = record { first = (with_room k).first; lines = (with_room k).lines ++ text ∷ [] }
 
 -- one more line, which is lost: none is kept
 abbrev pub without_text : KeptState → KeptState

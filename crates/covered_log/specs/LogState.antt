@@ -1,9 +1,8 @@
 -- A log of changes, as its callers see it.
-use Rattle.std.specs.Prelude.{◌≡◌, ℕ, ◌+◌, ◌-◌, ◌<◌, ◌^◌, ◌==◌, ◌&&◌, List, [], ◌∷◌, ◌++◌, Bool, drop, length, min, nat_le, nat_lt, string_bytes, take, if◌then◌else◌}
+use Rattle.std.specs.Prelude.{◌≡◌, ℕ, ◌+◌, ◌-◌, ◌<◌, ◌^◌, ◌==◌, ◌&&◌, List, [], ◌∷◌, ◌++◌, Bool, drop, length, min, nat_le, string_bytes, take}
 use Rattle.std.specs.List.{flat_map}
-use Rattle.covered_log.specs.KeptState.{KeptState, end_of}
+use Rattle.covered_log.specs.KeptState.{KeptState, end_of, first_after}
 use Rattle.covered_log.specs.Lines.{Change, entries_of, lines_of}
-use Rattle.covered_log.specs.declared.kept.TheConstants.{KEPT}
 use Rattle.covered_log.specs.declared.page.Page.{Page}
 use Rattle.covered_log.specs.declared.page.TheConstants.{PAGE}
 
@@ -24,10 +23,9 @@ place_of s = length (entries_of s.changes)
 abbrev pub HasRoom : LogState → Type 0
 HasRoom s = length s.changes + 1 < 2 ^ 64
 
--- one more change, whose line is kept; the oldest line goes if as many are kept as may be
+-- one more change, whose line is kept
 abbrev pub with_change : LogState → Change → LogState
-with_change s c =
-    record { process = s.process; changes = s.changes ++ c ∷ []; first = if nat_lt (length s.changes - s.first) KEPT then s.first else s.first + 1 }
+with_change s c = record { process = s.process; changes = s.changes ++ c ∷ []; first = first_after s.first (length s.changes - s.first) }
 
 -- one more change, whose line is lost for lack of memory, and with it all that were kept
 abbrev pub losing_line : LogState → Change → LogState

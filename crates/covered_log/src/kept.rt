@@ -1,5 +1,5 @@
-ghost use Rattle.std.specs.Prelude.{◌≡◌, ◌+◌, ◌<◌, ◌^◌, IsOkAnd, OnErr, OnOk, Some, length, slice_get, string_bytes};
-ghost use Rattle.covered_log.specs.KeptState.{end_of, new_kept, with_text, without_text};
+ghost use Rattle.std.specs.Prelude.{◌≡◌, ◌+◌, ◌++◌, ◌∷◌, [], ◌<◌, ◌^◌, IsOkAnd, OnErr, OnOk, Some, length, slice_get, string_bytes};
+ghost use Rattle.covered_log.specs.KeptState.{end_of, new_kept, with_room, with_text, without_text};
 
 use std::alloc::{AllocError, Global};
 use std::collections::VecDeque;
@@ -66,17 +66,26 @@ impl KeptLines {
         &self.lines[index]
     }
 
-    /// Adds a line. The oldest goes if as many are kept as may be. Without memory the count stays.
-    pub(crate) fn push(&mut self, line: Chars) -> Result<(), AllocError>
-        requires { end_of self.old + 1 < 2 ^ 64 }
-        ensures ok { OnOk result (self.new ≡ with_text self.old line) }
-        ensures err { OnErr result (end_of self.new ≡ end_of self.old) }
+    /// Makes room for one more line: the oldest goes if as many are kept as may be.
+    fn make_room(&mut self)
+        ensures made { self.new ≡ with_room self.old }
+        ensures room { length self.new.lines < KEPT }
     {
         if self.lines.len() >= KEPT {
             let _oldest = self.lines.pop_front();
             self.first += 1;
         }
+    }
+
+    /// Adds a line, for which there is room. Without memory it is lost.
+    fn push(&mut self, line: Chars) -> Result<(), AllocError>
+        requires room { length self.old.lines < KEPT }
+        requires counted { end_of self.old + 1 < 2 ^ 64 }
+        ensures ok { OnOk result (self.new ≡ record { first = self.old.first; lines = self.old.lines ++ line ∷ [] }) }
+        ensures err { OnErr result (self.new ≡ without_text self.old) }
+    {
         if self.lines.push_back(line).is_err() {
+            self.lose();
             return Err(AllocError);
         }
         Ok(())
@@ -97,13 +106,15 @@ impl KeptLines {
         ensures ok { OnOk result (IsOkAnd line (λ text. self.new ≡ with_text self.old (string_bytes text))) }
         ensures err { OnErr result (self.new ≡ without_text self.old) }
     {
-        let kept = match line {
-            Ok(text) => self.push(Chars::new(text)),
-            Err(_) => Err(AllocError),
-        };
-        if kept.is_err() {
-            self.lose();
+        match line {
+            Ok(text) => {
+                self.make_room();
+                self.push(Chars::new(text))
+            }
+            Err(_) => {
+                self.lose();
+                Err(AllocError)
+            }
         }
-        kept
     }
 }

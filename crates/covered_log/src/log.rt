@@ -89,7 +89,8 @@ impl CoveredLog {
         self.entries += 1;
         let line = entry_line(alloc, self.entries, command, reply);
         self.told.enter(command, reply);
-        self.kept.keep(line)
+        self.kept.keep(line)?;
+        Ok(())
     }
 
     /// Takes up how a run stands after the entries so far. Without memory for its line all lines are forgotten, and the counts go on.
@@ -100,7 +101,8 @@ impl CoveredLog {
     {
         let line = run_change_line(alloc, self.entries, id, run);
         self.told.stand(id, run);
-        self.kept.keep(line)
+        self.kept.keep(line)?;
+        Ok(())
     }
 
     /// There was no memory to tell how runs stand. All lines are forgotten, and the counts go on.
