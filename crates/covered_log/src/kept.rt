@@ -38,22 +38,22 @@ impl KeptLines {
 
     /// How many lines came before those that are kept.
     pub(crate) fn first(&self) -> u64
-        ensures { result ≡ self.now.first }
+        ensures value { result ≡ self.now.first }
+        ensures counted { end_of self.now < 2 ^ 64 }
     {
         self.first
     }
 
     /// How many lines are kept.
     pub(crate) fn len(&self) -> usize
-        ensures value { result ≡ length self.now.lines }
-        ensures few { end_of self.now < 2 ^ 64 }
+        ensures { result ≡ length self.now.lines }
     {
         self.lines.len()
     }
 
     /// How many lines there were.
     pub(crate) fn end(&self) -> u64
-        ensures value { result ≡ end_of self.now }
+        ensures { result ≡ end_of self.now }
     {
         self.first + self.lines.len() as u64
     }
