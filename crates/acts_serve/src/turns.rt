@@ -326,7 +326,7 @@ impl<'a, D: Disk> Turns<'a, D> {
     /// A commit took so long.
     pub(crate) fn has_committed(&mut self, took: Duration) {
         if let Some(views) = &mut self.views {
-            views.counters.committed(took);
+            views.kept.counters.committed(took);
         }
     }
 
@@ -354,10 +354,12 @@ impl<'a, D: Disk> Turns<'a, D> {
         };
         let seen = Seen {
             table,
+            version: views.version,
             area: store.area(),
             room: store.room(),
             hooks,
             runners,
+            viewers: views.clients(),
             checkpoints: self.checkpoints.finished(),
             now: self.now,
         };
@@ -419,7 +421,7 @@ impl<'a, D: Disk> Turns<'a, D> {
             Ok(()) => {
                 self.checkpoints.turn_over();
                 if let Some(views) = &mut self.views {
-                    views.turn_over();
+                    views.kept.turn_over();
                 }
                 self.bytes = 0;
                 tell_settled(entries, out)
