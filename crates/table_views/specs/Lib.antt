@@ -13,5 +13,4 @@ pub mod RunRows
 pub mod RunViews
 pub mod RunnerLines
 pub mod RunnerPages
-pub mod TableMetrics
 pub mod Texts
