@@ -1,3 +1,4 @@
+pub mod ChangeLines
 pub mod Claims
 pub mod GroupLines
 pub mod HolderPages

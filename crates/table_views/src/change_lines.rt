@@ -1,20 +1,30 @@
 //! The lines of changes: entries of the history, and runs whose state has changed.
 
+ghost use Rattle.std.specs.Prelude.{◌≡◌, IfOk, Ok, codes, decimal, length, map, string_bytes};
+ghost use Rattle.wf_value.specs.Gives.{Gives};
+ghost use Rattle.table_views.specs.ChangeLines.{admit_json, beat_json, claim_json, command_json, done_json, entry_line, json_of_run, lost_json, named, rerun_json, run_change_line, short_reply, short_view};
+ghost use Rattle.table_views.specs.Texts.{quoted};
+
 use crate::members::{push_member, push_number, push_text};
-use crate::queue::quoted_each;
 use crate::run_rows::push_state;
 use crate::texts::{listed, quoted};
-use run_plan::{Claim, Command, Done, Label, Number, Prepared, Reply};
+use run_plan::{Attempt, Beat, Claim, Command, Done, Label, Number, Prepared, Reply, RunnerName};
 use run_states::Run;
 use std::alloc::{AllocError, Global};
-use wf_value::{Chars, Refusal};
+use wf_value::{Chars, Refusal, TryCopy};
+
+// ---- commands, without a body
 
 /// The start of a command: its name.
-fn named(alloc: Global, name: &str) -> Result<String, AllocError> {
+fn named(alloc: Global, name: &str) -> Result<String, AllocError>
+    ensures { IfOk result (λ s. string_bytes s ≡ named name.now) }
+{
     format!(in alloc; "{{\"name\":\"{name}\"")
 }
 
-fn admit_json(alloc: Global, event: &Prepared) -> Result<String, Refusal> {
+fn admit_json(alloc: Global, event: &Prepared) -> Result<String, Refusal>
+    ensures { Gives string_bytes result (Ok (admit_json event.now)) }
+{
     let mut text = named(alloc, "admit")?;
     push_text(alloc, &mut text, "delivery", event.delivery().as_str())?;
     push_text(alloc, &mut text, "event", event.event().as_str())?;
@@ -24,17 +34,23 @@ fn admit_json(alloc: Global, event: &Prepared) -> Result<String, Refusal> {
     Ok(text)
 }
 
-/// The labels of a runner, as JSON.
-fn labels_of(alloc: Global, labels: &[Label]) -> Result<String, Refusal> {
+/// Each label of a runner, as JSON.
+fn quoted_labels(alloc: Global, labels: &[Label]) -> Result<Vec<Chars>, Refusal>
+    ensures { Gives (λ texts. texts.items) result (Ok (map quoted labels.now)) }
+{
     let mut texts = Vec::with_capacity(alloc, labels.len())?;
     for label in labels {
-        texts.push(Chars::new(quoted(alloc, label.as_str())?))?;
+        let one = quoted(alloc, label.as_str())?;
+        texts.push(Chars::new(one))?;
     }
-    listed(alloc, texts.as_slice())
+    Ok(texts)
 }
 
-fn claim_json(alloc: Global, claim: &Claim) -> Result<String, Refusal> {
-    let labels = labels_of(alloc, claim.labels.as_slice())?;
+fn claim_json(alloc: Global, claim: &Claim) -> Result<String, Refusal>
+    ensures { Gives string_bytes result (Ok (claim_json claim.now)) }
+{
+    let labels = quoted_labels(alloc, claim.labels.as_slice())?;
+    let labels = listed(alloc, labels.as_slice())?;
     let mut text = named(alloc, "claim")?;
     push_text(alloc, &mut text, "runner", claim.runner.as_str())?;
     push_number(&mut text, "number", u64::from(claim.number.get()))?;
@@ -43,7 +59,9 @@ fn claim_json(alloc: Global, claim: &Claim) -> Result<String, Refusal> {
     Ok(text)
 }
 
-fn done_json(alloc: Global, done: &Done) -> Result<String, Refusal> {
+fn done_json(alloc: Global, done: &Done) -> Result<String, Refusal>
+    ensures { Gives string_bytes result (Ok (done_json done.now)) }
+{
     let mut text = named(alloc, "done")?;
     push_text(alloc, &mut text, "runner", done.runner.as_str())?;
     push_number(&mut text, "number", u64::from(done.number.get()))?;
@@ -53,53 +71,83 @@ fn done_json(alloc: Global, done: &Done) -> Result<String, Refusal> {
     Ok(text)
 }
 
-fn of_run(alloc: Global, name: &str, run: Number) -> Result<String, Refusal> {
+fn beat_json(alloc: Global, beat: &Beat) -> Result<String, Refusal>
+    ensures { Gives string_bytes result (Ok (beat_json beat.now)) }
+{
+    let mut text = named(alloc, "beat")?;
+    push_text(alloc, &mut text, "runner", beat.runner.as_str())?;
+    push_number(&mut text, "lease", u64::from(beat.lease.get()))?;
+    text.push_str("}")?;
+    Ok(text)
+}
+
+fn lost_json(alloc: Global, runner: &RunnerName) -> Result<String, Refusal>
+    ensures { Gives string_bytes result (Ok (lost_json runner.now)) }
+{
+    let mut text = named(alloc, "lost")?;
+    push_text(alloc, &mut text, "runner", runner.as_str())?;
+    text.push_str("}")?;
+    Ok(text)
+}
+
+/// A command that has a run alone.
+fn json_of_run(alloc: Global, name: &str, run: Number) -> Result<String, Refusal>
+    ensures { Gives string_bytes result (Ok (json_of_run name.now run)) }
+{
     let mut text = named(alloc, name)?;
     push_number(&mut text, "run", u64::from(run.get()))?;
     text.push_str("}")?;
     Ok(text)
 }
 
+fn rerun_json(alloc: Global, again: &Attempt) -> Result<String, Refusal>
+    ensures { Gives string_bytes result (Ok (rerun_json again.now)) }
+{
+    let mut text = named(alloc, "rerun")?;
+    push_number(&mut text, "run", u64::from(again.run.get()))?;
+    push_number(&mut text, "attempt", u64::from(again.attempt.get()))?;
+    text.push_str("}")?;
+    Ok(text)
+}
+
 /// A command without its body, as JSON.
-fn command_json(alloc: Global, command: &Command) -> Result<String, Refusal> {
+fn command_json(alloc: Global, command: &Command) -> Result<String, Refusal>
+    ensures { Gives string_bytes result (Ok (command_json command.now)) }
+{
     match command {
         Command::Admit(event) => admit_json(alloc, event),
         Command::Claim(claim) => claim_json(alloc, claim),
         Command::Done(done) => done_json(alloc, done),
-        Command::Beat(beat) => {
-            let mut text = named(alloc, "beat")?;
-            push_text(alloc, &mut text, "runner", beat.runner.as_str())?;
-            push_number(&mut text, "lease", u64::from(beat.lease.get()))?;
-            text.push_str("}")?;
-            Ok(text)
-        }
-        Command::Cancel(run) => of_run(alloc, "cancel", *run),
-        Command::Lost(runner) => {
-            let mut text = named(alloc, "lost")?;
-            push_text(alloc, &mut text, "runner", runner.as_str())?;
-            text.push_str("}")?;
-            Ok(text)
-        }
-        Command::Look(run) => of_run(alloc, "look", *run),
-        Command::Fetch(run) => of_run(alloc, "fetch", *run),
-        Command::Rerun(again) => {
-            let mut text = named(alloc, "rerun")?;
-            push_number(&mut text, "run", u64::from(again.run.get()))?;
-            push_number(&mut text, "attempt", u64::from(again.attempt.get()))?;
-            text.push_str("}")?;
-            Ok(text)
-        }
+        Command::Beat(beat) => beat_json(alloc, beat),
+        Command::Cancel(run) => json_of_run(alloc, "cancel", *run),
+        Command::Lost(runner) => lost_json(alloc, runner),
+        Command::Look(run) => json_of_run(alloc, "look", *run),
+        Command::Fetch(run) => json_of_run(alloc, "fetch", *run),
+        Command::Rerun(again) => rerun_json(alloc, again),
     }
 }
 
-/// A reply without a run's view and without a body.
-fn short_reply(alloc: Global, command: &Command, reply: &Reply) -> Result<Chars, Refusal> {
-    match (reply, command) {
-        (Reply::Run(_), Command::Look(run)) => {
+// ---- replies, without the view of a run and without a body
+
+/// The view of a run: of a look its id alone.
+fn short_view(alloc: Global, command: &Command, view: &Chars) -> Result<Chars, Refusal>
+    ensures { Gives (λ text. text) result (Ok (short_view command.now view.now)) }
+{
+    match command {
+        Command::Look(run) => {
             let run = run.get();
             Ok(Chars::new(format!(in alloc; "run {run}")?))
         }
-        (Reply::Body(body), _) => {
+        _ => view.copy(alloc),
+    }
+}
+
+fn short_reply(alloc: Global, command: &Command, reply: &Reply) -> Result<Chars, Refusal>
+    ensures { Gives (λ text. text) result (Ok (short_reply command.now reply.now)) }
+{
+    match reply {
+        Reply::Run(view) => short_view(alloc, command, view),
+        Reply::Body(body) => {
             let length = body.as_str().len();
             Ok(Chars::new(format!(in alloc; "body {length}")?))
         }
@@ -107,13 +155,18 @@ fn short_reply(alloc: Global, command: &Command, reply: &Reply) -> Result<Chars,
     }
 }
 
+// ---- lines
+
 /// The line of an entry at a place of the history.
+#[tactic(auto, unfolding(crate::specs::ChangeLines::entry_line))]
 pub fn entry_line(
     alloc: Global,
     place: u64,
     command: &Command,
     reply: &Reply,
-) -> Result<String, Refusal> {
+) -> Result<String, Refusal>
+    ensures { Gives string_bytes result (Ok (entry_line place command.now reply.now)) }
+{
     let command_text = command_json(alloc, command)?;
     let reply = short_reply(alloc, command, reply)?;
     let mut text = format!(in alloc; "{{\"entry\":{place}")?;
@@ -124,12 +177,10 @@ pub fn entry_line(
 }
 
 /// The line of a run as it is after the entries up to a place.
-pub fn run_change_line(
-    alloc: Global,
-    place: u64,
-    id: Number,
-    run: &Run,
-) -> Result<String, Refusal> {
+#[tactic(auto, unfolding(crate::specs::ChangeLines::run_change_line))]
+pub fn run_change_line(alloc: Global, place: u64, id: Number, run: &Run) -> Result<String, Refusal>
+    ensures { Gives string_bytes result (Ok (run_change_line place id run.now)) }
+{
     let mut text = format!(in alloc; "{{\"after\":{place}")?;
     push_number(&mut text, "run", u64::from(id.get()))?;
     push_number(&mut text, "attempt", u64::from(run.attempt().get()))?;

@@ -1,0 +1,91 @@
+-- The lines of changes: entries of the history, and runs as they are after a commit. The format is defined by this project.
+use Rattle.std.specs.Prelude.{ℕ, List, ◌++◌, codes, decimal, length, map}
+use Rattle.wf_value.specs.Words.{outcome_word}
+use Rattle.wf_reader.specs.Event.{event_of}
+use Rattle.run_plan.specs.Admitted.{Admitted}
+use Rattle.run_plan.specs.ReplyText.{reply_text}
+use Rattle.run_plan.specs.declared.command.Attempt.{Attempt}
+use Rattle.run_plan.specs.declared.command.Beat.{Beat}
+use Rattle.run_plan.specs.declared.command.Claim.{Claim}
+use Rattle.run_plan.specs.declared.command.Command.{Command}
+use Rattle.run_plan.specs.declared.command.Command.TheVariants as command
+use Rattle.run_plan.specs.declared.command.Done.{Done}
+use Rattle.run_plan.specs.declared.reply.Reply.{Reply}
+use Rattle.run_plan.specs.declared.reply.Reply.TheVariants as reply
+use Rattle.run_states.specs.RunState.{RunState}
+use Rattle.table_views.specs.Members.{member}
+use Rattle.table_views.specs.RunRows.{state_members}
+use Rattle.table_views.specs.Texts.{line, listed, quoted}
+
+-- ---- commands, without a body
+
+-- the start of a command: its name
+abbrev pub named : List ℕ → List ℕ
+named name = codes "{\"name\":\"" ++ name ++ codes "\""
+
+abbrev pub admit_json : Admitted → List ℕ
+admit_json event =
+    named (codes "admit") ++ member (codes "delivery") (quoted event.delivery) ++ member (codes "event") (quoted event.event)
+    ++ member (codes "repository") (quoted (event_of event.body).repo) ++ member (codes "path") (quoted (event_of event.body).path) ++ codes "}"
+
+abbrev pub claim_json : Claim → List ℕ
+claim_json claim =
+    named (codes "claim") ++ member (codes "runner") (quoted claim.runner) ++ member (codes "number") (decimal claim.number)
+    ++ member (codes "labels") (listed (map quoted claim.labels)) ++ codes "}"
+
+abbrev pub done_json : Done → List ℕ
+done_json done =
+    named (codes "done") ++ member (codes "runner") (quoted done.runner) ++ member (codes "number") (decimal done.number)
+    ++ member (codes "lease") (decimal done.lease) ++ member (codes "result") (quoted (outcome_word done.result)) ++ codes "}"
+
+abbrev pub beat_json : Beat → List ℕ
+beat_json beat =
+    named (codes "beat") ++ member (codes "runner") (quoted beat.runner) ++ member (codes "lease") (decimal beat.lease) ++ codes "}"
+
+abbrev pub lost_json : List ℕ → List ℕ
+lost_json runner = named (codes "lost") ++ member (codes "runner") (quoted runner) ++ codes "}"
+
+-- a command that has a run alone
+abbrev pub json_of_run : List ℕ → ℕ → List ℕ
+json_of_run name run = named name ++ member (codes "run") (decimal run) ++ codes "}"
+
+abbrev pub rerun_json : Attempt → List ℕ
+rerun_json again =
+    named (codes "rerun") ++ member (codes "run") (decimal again.run) ++ member (codes "attempt") (decimal again.attempt) ++ codes "}"
+
+abbrev pub command_json : Command → List ℕ
+command_json (command.Admit event) = admit_json event
+command_json (command.Claim claim) = claim_json claim
+command_json (command.Done done) = done_json done
+command_json (command.Beat beat) = beat_json beat
+command_json (command.Cancel run) = json_of_run (codes "cancel") run
+command_json (command.Lost runner) = lost_json runner
+command_json (command.Look run) = json_of_run (codes "look") run
+command_json (command.Fetch run) = json_of_run (codes "fetch") run
+command_json (command.Rerun again) = rerun_json again
+
+-- ---- replies, without the view of a run and without a body
+
+-- the view of a run: of a look its id alone
+abbrev pub short_view : Command → List ℕ → List ℕ
+short_view (command.Look run) view = codes "run " ++ decimal run
+short_view _ view = view
+
+abbrev pub short_reply : Command → Reply → List ℕ
+short_reply c (reply.Run view) = short_view c view
+short_reply c (reply.Body body) = codes "body " ++ decimal (length body)
+short_reply c r = reply_text r
+
+-- ---- lines
+
+-- an entry with its place
+unfoldable pub entry_line : ℕ → Command → Reply → List ℕ
+entry_line place c r =
+    line (codes "{\"entry\":" ++ decimal place ++ member (codes "command") (command_json c)
+    ++ member (codes "reply") (quoted (short_reply c r)) ++ codes "}")
+
+-- a run with its id, as it is after the entries up to a place
+unfoldable pub run_change_line : ℕ → ℕ → RunState → List ℕ
+run_change_line place id run =
+    line (codes "{\"after\":" ++ decimal place ++ member (codes "run") (decimal id) ++ member (codes "attempt") (decimal run.attempt)
+    ++ state_members run ++ codes "}")
