@@ -1,6 +1,7 @@
 pub mod Claims
 pub mod GroupLines
 pub mod HolderPages
+pub mod Limits
 pub mod Members
 pub mod Pages
 pub mod Placed
