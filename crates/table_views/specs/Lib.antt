@@ -2,6 +2,7 @@ pub mod ChangeLines
 pub mod Claims
 pub mod GroupLines
 pub mod HolderPages
+pub mod Limits
 pub mod Members
 pub mod Pages
 pub mod Placed

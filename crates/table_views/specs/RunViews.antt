@@ -27,7 +27,7 @@ use Rattle.table_views.specs.QueueLines.{labels_json}
 use Rattle.table_views.specs.RunLines.{state_text}
 use Rattle.table_views.specs.RunRows.{own_group, run_members}
 use Rattle.table_views.specs.Texts.{line, listed, quoted}
-use Rattle.table_views.specs.declared.pages.TheConstants.{MOST_LOOKED}
+use Rattle.table_views.specs.Limits.{most_looked}
 
 -- ---- what is waited for
 
@@ -130,5 +130,5 @@ run_view_text t seen jobs next =
 -- the text of a run with its jobs from an index on
 pub record IsRunView (from : ℕ) (t : TableState) (seen : Seen) (text : List ℕ) : Type 0 where
   pub count : ℕ
-  pub page : IsPage (legs_of_job seen.run) from (length seen.run.jobs - from) full_run MOST_LOOKED count
+  pub page : IsPage (legs_of_job seen.run) from (length seen.run.jobs - from) full_run most_looked count
   pub is : text ≡ run_view_text t seen (rows_from (job_rows t (seen.id - 1) seen.run) from count) (next_job (length seen.run.jobs) (from + count))

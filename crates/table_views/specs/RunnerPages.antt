@@ -10,7 +10,7 @@ use Rattle.run_table.specs.TableState.{RunnerState, TableState}
 use Rattle.table_views.specs.Members.{member, number_or_null, text_or_null}
 use Rattle.table_views.specs.Pages.{IsPage, page_text, rows_from}
 use Rattle.table_views.specs.Texts.{quoted}
-use Rattle.table_views.specs.declared.pages.TheConstants.{MOST_LOOKED}
+use Rattle.table_views.specs.Limits.{most_looked}
 
 abbrev pub lease_of_reply : ClaimReply → Option Lease
 lease_of_reply claim_reply.Nothing = None
@@ -53,6 +53,6 @@ next_name runners from count =
 -- a page of the runners from an index on
 pub record IsRunnerPage (heard : List (Option ℕ)) (from limit : ℕ) (t : TableState) (text : List ℕ) : Type 0 where
   pub count : ℕ
-  pub page : IsPage (λ index. length (runner_rows heard from t.runners index)) from (length t.runners - from) limit MOST_LOOKED count
+  pub page : IsPage (λ index. length (runner_rows heard from t.runners index)) from (length t.runners - from) limit most_looked count
   pub is : text ≡ page_text (codes "runners") (rows_from (runner_rows heard from t.runners) from count)
       (codes "after") (text_or_null (next_name t.runners from count))
