@@ -91,7 +91,7 @@ fn board_file<'a, R: Files<File = File> + AllocGlobal>(
 /// The board of a service, without a file if none is asked for.
 fn board<'a, R: Files<File = File> + AllocGlobal>(
     rt: &R,
-    span: &Span<'a>,
+    span: Span<'a>,
 ) -> Result<Board, Failure<'a>> {
     let Span::Forever {
         board: Some(folder),
@@ -165,7 +165,7 @@ pub(crate) fn serve<
 >(rt: &R, system: &S, serving: &Serving<'a>) -> Result<(), Failure<'a>> {
     let store = open_store::<B, R, S>(rt, system, serving.file)?;
     let listeners = bound_listeners(system, serving)?;
-    let board = board(rt, &serving.span)?;
+    let board = board(rt, serving.span)?;
     let mut out = output(rt)?;
     let ports = ports(&listeners, &board);
     let served = serve_on(system, rt.alloc(), store, ports, serving, &mut out);
