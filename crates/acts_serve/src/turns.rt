@@ -355,6 +355,7 @@ impl<'a, D: Disk> Turns<'a, D> {
         let seen = Seen {
             table,
             version: views.version,
+            board: views.board,
             area: store.area(),
             room: store.room(),
             hooks,
@@ -384,6 +385,13 @@ impl<'a, D: Disk> Turns<'a, D> {
             }
         }
         Ok(())
+    }
+
+    /// Ends the sessions of the view port, since the device has failed.
+    pub(crate) fn part_with_viewers(&mut self) {
+        if let Some(views) = &mut self.views {
+            views.part_with_all(self.alloc, &mut self.buffer, self.now);
+        }
     }
 
     /// How long after the begin of a turn its views may end: a tenth more than has passed.

@@ -1,6 +1,8 @@
 //! The clients of the view port, and what they are shown.
 
+mod board;
 mod kept;
+mod parting;
 mod shown;
 
 use crate::client::Next;
@@ -9,6 +11,7 @@ use crate::viewer::{Viewer, Waiting};
 use crate::views::shown::Made;
 use act_disk::Disk;
 use act_store::Store;
+pub use board::Board;
 pub(crate) use kept::Kept;
 use mio::event::Event;
 use mio::unix::SourceFd;
@@ -25,11 +28,12 @@ use wf_value::{Code, Refusal};
 /// The token of the listener. Those of the clients follow it.
 pub(crate) const FIRST_TOKEN: usize = 2 + 2 * MAX_CLIENTS;
 
-/// The port to look at a service, and the version of the program that it shows.
+/// The port to look at a service, and the version of the program and the board that it shows.
 #[derive(Clone, Copy)]
 pub struct ViewPort<'a> {
     pub listener: &'a TcpListener,
     pub version: &'a str,
+    pub board: &'a Board,
 }
 
 /// The clients of the view port, with what is kept for them.
@@ -37,6 +41,7 @@ pub struct ViewPort<'a> {
 pub(crate) struct Views<'a> {
     port: Port<'a>,
     pub(crate) version: &'a str,
+    pub(crate) board: &'a Board,
     registry: Registry,
     slots: Vec<Option<Viewer>>,
     /// The places of those that are served next.
@@ -73,6 +78,7 @@ impl<'a> Views<'a> {
         Ok(Views {
             port: Port::new(alloc, port.listener, 0)?,
             version: port.version,
+            board: port.board,
             registry,
             slots: empty_slots(alloc)?,
             queue: VecDeque::with_capacity(alloc, MAX_CLIENTS)?,

@@ -3,17 +3,18 @@
 use crate::changes::Found;
 use crate::counters::Gauges;
 use crate::viewer::Waiting;
+use crate::views::board::Board;
 use crate::views::kept::Kept;
 use run_table::Table;
 use std::alloc::Global;
 use std::time::Instant;
-use store_copies::{StoreCopy, copy_of};
+use store_copies::copy_of;
 use table_views::{
     holder_page, index_after, index_of, one_runner, push_table_metrics, ready_page, run_view,
     runner_page, runs_page,
 };
 use view_sessions::{
-    Answer, ChangesQuery, Content, FileBytes, GroupsQuery, RunnersQuery, View, ViewFault,
+    Answer, BoardFile, ChangesQuery, Content, GroupsQuery, RunnersQuery, View, ViewFault,
     ViewRequest,
 };
 use wf_value::Refusal;
@@ -21,12 +22,13 @@ use wf_value::Refusal;
 /// The most rows of a page.
 const MAX_ROWS: usize = 100;
 
-/// What is shown: the table, the version of the program, the length of an area and its room, how many clients each port
+/// What is shown: the table, the version of the program, its board, the length of an area and its room, how many clients each port
 /// has, and how many checkpoints were finished.
 #[derive(Clone, Copy)]
 pub(crate) struct Seen<'t> {
     pub(crate) table: &'t Table,
     pub(crate) version: &'t str,
+    pub(crate) board: &'t Board,
     pub(crate) area: u64,
     pub(crate) room: u64,
     pub(crate) hooks: usize,
@@ -65,13 +67,19 @@ fn groups(alloc: Global, table: &Table, query: &GroupsQuery) -> Result<Made, Ref
 /// A store file with the table.
 fn backup(alloc: Global, seen: Seen<'_>) -> Result<Made, Refusal> {
     match copy_of(alloc, seen.area, seen.table)? {
-        Some(copy) => {
-            let StoreCopy { bytes, zeros } = copy;
-            let file = FileBytes { bytes, zeros };
-            Ok(Made::Answer(Ok(Content::Store(file))))
-        }
+        Some(copy) => Ok(Made::Answer(Ok(Content::Store(copy)))),
         None => fault(ViewFault::AreaFull),
     }
+}
+
+/// A file of the board.
+fn board_file(alloc: Global, board: &Board, file: BoardFile) -> Result<Made, Refusal> {
+    let Some(bytes) = board.bytes(file) else {
+        return fault(ViewFault::UnknownPath);
+    };
+    let mut copy = Vec::new(alloc);
+    copy.extend_from_slice(bytes)?;
+    Ok(Made::Answer(Ok(Content::Board(file, copy))))
 }
 
 impl Kept {
@@ -162,6 +170,7 @@ impl Kept {
             View::Metrics => self.metrics(alloc, seen),
             View::Changes(query) => self.changes(alloc, *query),
             View::Backup => backup(alloc, seen),
+            View::Board(file) => board_file(alloc, seen.board, *file),
         }
     }
 
