@@ -24,16 +24,16 @@ def free_port():
 class Service:
     all = []
 
-    def __init__(self, acts, folder, area=4 << 20):
+    def __init__(self, acts, folder, area=4 << 20, options=()):
         Service.all.append(self)
-        self.acts, self.store, self.numbers = acts, folder / f'store{len(Service.all)}', {}
+        self.acts, self.store, self.options, self.numbers = acts, folder / f'store{len(Service.all)}', options, {}
         self.hooks, self.lines, self.views = free_port(), free_port(), free_port()
         subprocess.run([self.acts, 'init', self.store, str(area)], check=True, stdout=subprocess.DEVNULL)
         self.begin()
 
     def begin(self):
         words = ['--hook-port', str(self.hooks), '--runner-port', str(self.lines), '--view-port', str(self.views), '--sessions', '8', '--forever']
-        self.process = subprocess.Popen([self.acts, 'serve', self.store, *words], stdout=subprocess.PIPE)
+        self.process = subprocess.Popen([self.acts, 'serve', self.store, *words, *self.options], stdout=subprocess.PIPE)
         self.process.stdout.readline()  # ready
         self.stream = socket.create_connection(('127.0.0.1', self.lines)).makefile('rwb')
 

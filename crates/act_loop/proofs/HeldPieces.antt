@@ -9,8 +9,7 @@ use Rattle.act_loop.specs.declared.pause.Pause.TheVariants as pause
 use Rattle.act_loop.specs.declared.pause.Pause.{Pause}
 use Rattle.act_loop.specs.Conversation.{AreAnswers, AreFew, Conversation, IsInMemory, IsLastText, answer_bytes}
 use Rattle.act_loop.specs.Hearing.{Hears}
-use Rattle.act_loop.specs.declared.session.TheConstants.{MAX_REQUESTS}
-use Rattle.act_loop.specs.declared.turns.TheConstants.{MAX_WITHHELD}
+use Rattle.act_loop.specs.Limits.{max_taken, max_withheld}
 use Rattle.act_loop.specs.Turns.{Moment, TakesTurns}
 
 module _ {F : Type 0} (p : Rules F) where
@@ -54,7 +53,7 @@ module _ {F : Type 0} (p : Rules F) where
     count = old.requests
 
     abbrev Took : Pause → Type 0
-    Took why = TakesTurns p number count MAX_REQUESTS (held ++ piece) begin end k h why
+    Took why = TakesTurns p number count max_taken (held ++ piece) begin end k h why
 
     unended : IsOpen p 0 us × (answer_bytes old ≡ texts p 0 us)
     unended = subst (λ (b : Bool). AreAnswers p b us (answer_bytes old)) live at.follows.answers_are
@@ -178,12 +177,12 @@ module _ {F : Type 0} (p : Rules F) where
     grew pause.Memory took = (texts p count took.paused.0, took.paused.2)
 
     -- as many turns were taken as may be, or many bytes are withheld
-    pub full_of : Took pause.More → (k ≡ count + MAX_REQUESTS) ⊎ (MAX_WITHHELD ≤ length end.out)
+    pub full_of : Took pause.More → (k ≡ count + max_taken) ⊎ (max_withheld ≤ length end.out)
     full_of took = ⊎_elim (λ all. inl (let e = took.paused.3 in omega (arith, all))) (λ many. inr many) took.paused.2
 
     -- the piece was heard, and then a last text was appended
     pub hears_after : (more over : Bool) (last out : List ℕ) → out ≡ end.out ++ last
-        → (over ≡ false → more ≡ true → (k ≡ count + MAX_REQUESTS) ⊎ (MAX_WITHHELD ≤ length out)) → (why : Pause) → Took why
+        → (over ≡ false → more ≡ true → (k ≡ count + max_taken) ⊎ (max_withheld ≤ length out)) → (why : Pause) → Took why
         → Hears number piece begin.store old end.store (after more over out)
     hears_after more over last out is full why took =
         let text = grew why took in
@@ -191,7 +190,7 @@ module _ {F : Type 0} (p : Rules F) where
           received_is = received_is;
           sent_is = refl;
           exchanges = exchanges_of took.turns;
-          few = few_exchanges took.turns MAX_REQUESTS took.few;
+          few = few_exchanges took.turns max_taken took.few;
           full = full;
           exchanges_are = took.exchanges_are ∙ ap (λ (l : List Exchange). l ++ exchanges_of took.turns) exchanges_were;
           enters = took.enters;
@@ -214,7 +213,7 @@ module _ {F : Type 0} (p : Rules F) where
       exchanges_are = no_exchanges;
       answers_are = (tt, ap (λ (l : List ℕ). l ++ withheld) no_sent ∙ no_withheld);
       waits = λ still none. (inl no_received, subst (λ (l : List ℕ). length l ≤ p.limit) (sym no_held) (omega arith));
-      few_withheld = ([], [], inl refl, inl refl, λ live. refl, subst (λ (l : List ℕ). length l < MAX_WITHHELD + (length {A = ℕ} [] + length {A = ℕ} [])) (sym no_withheld) (omega arith));
+      few_withheld = ([], [], inl refl, inl refl, λ live. refl, subst (λ (l : List ℕ). length l < max_withheld + (length {A = ℕ} [] + length {A = ℕ} [])) (sym no_withheld) (omega arith));
     };
     held_is = λ still. refl;
     room = λ still. some;

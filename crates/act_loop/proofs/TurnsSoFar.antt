@@ -15,7 +15,7 @@ use Rattle.act_loop.specs.Authors.{IsEntered}
 use Rattle.act_loop.specs.Conversation.{AreFew}
 use Rattle.act_loop.specs.Entering.{Enters}
 use Rattle.act_loop.specs.declared.author.Author.{Author}
-use Rattle.act_loop.specs.declared.turns.TheConstants.{MAX_WITHHELD}
+use Rattle.act_loop.specs.Limits.{max_withheld}
 use Rattle.act_loop.specs.Turns.{Appended, EndsRound, Goes, Moment, TakesTurn, TakesTurns, Writes, pause_after}
 use Rattle.act_sessions.proofs.Listing.{Reads_snoc, IsOpen_snoc, IsEnded_snoc, texts_snoc, exchanges_snoc}
 
@@ -42,7 +42,7 @@ still_room : {F : Type 0} (p : Rules F) (n : ℕ) (t : Turn F) → n < p.most �
 still_room p n t room h = grind (arith, nat_tests)
 
 module _ {F D : Type 0} (p : Rules F) (number n most : ℕ) (bytes : List ℕ) (old mid new : Moment D) (count : ℕ) (held left : List ℕ) (r : Request F)
-    (below : count < n + most) (short : length mid.out < MAX_WITHHELD) (goes : Goes p number n bytes old mid count held) (reads : p.reads held r left) where
+    (below : count < n + most) (short : length mid.out < max_withheld) (goes : Goes p number n bytes old mid count held) (reads : p.reads held r left) where
   few_more : (t : Turn F) → length (goes.turns ++ t ∷ []) ≤ most
   few_more t = let e = length-append goes.turns (t ∷ []) in let f = goes.count_is in omega arith
 
@@ -137,7 +137,7 @@ module _ {F D : Type 0} (p : Rules F) (number n most : ℕ) (bytes : List ℕ) (
   }
 
   -- as many turns as may be taken, or many bytes are withheld
-  pub goes_pauses : (count ≡ n + most) ⊎ (MAX_WITHHELD ≤ length new.out) → TakesTurns p number n most bytes old new count held pause.More
+  pub goes_pauses : (count ≡ n + most) ⊎ (max_withheld ≤ length new.out) → TakesTurns p number n most bytes old new count held pause.More
   goes_pauses full = record {
     turns = goes.turns;
     few = few;
@@ -215,7 +215,7 @@ turn_appended p n (demand.Fault f) closes old new store store_new out out_new No
 }
 
 pub round_ends : {F D : Type 0} (p : Rules F) (number n most : ℕ) (bytes : List ℕ) (old mid new : Moment D) (count : ℕ) (held left : List ℕ) (r : Request F)
-    → count < n + most → length mid.out < MAX_WITHHELD → Goes p number n bytes old mid count held → p.reads held r left → (last : Option Bool) → TakesTurn p number count r mid new last
+    → count < n + most → length mid.out < max_withheld → Goes p number n bytes old mid count held → p.reads held r left → (last : Option Bool) → TakesTurn p number count r mid new last
     → EndsRound p number n most bytes old new count left (pause_after last)
 round_ends p number n most bytes old mid new count held left r below short goes reads (Some true) took = goes_over p number n most bytes old mid new count held left r below short goes reads count took
 round_ends p number n most bytes old mid new count held left r below short goes reads (Some false) took = goes_on p number n most bytes old mid new count held left r below short goes reads took

@@ -3,7 +3,7 @@ use Rattle.std.specs.Prelude.{◌≡◌, ◌⊎◌, ℕ, ◌+◌, ◌≤◌, ◌
 use Rattle.act_sessions.specs.Exchange.{Exchange}
 use Rattle.act_sessions.specs.Rules.{Rules, Turn, Reads, IsEnded, IsOpen, exchanges_of, texts, turn_text}
 use Rattle.act_sessions.specs.Session.{ArePassed}
-use Rattle.act_loop.specs.declared.turns.TheConstants.{MAX_WITHHELD}
+use Rattle.act_loop.specs.Limits.{max_withheld}
 
 -- The bytes that were received from a client, its commands with their answers, the bytes that were sent to it, and those that are withheld.
 pub record Conversation : Type 0 where
@@ -39,11 +39,11 @@ IsCutShort {F} p turns bytes =
 abbrev pub IsAnswer : {F : Type 0} → Rules F → List ℕ → Type 0
 IsAnswer {F} p bytes = (bytes ≡ []) ⊎ ((t : Turn F) × (last : Bool) × (bytes ≡ turn_text p last t))
 
--- Beside those of one answer these are fewer bytes than `MAX_WITHHELD`, and beside the last text of a session that is over.
+-- Beside those of one answer these are fewer bytes than `max_withheld`, and beside the last text of a session that is over.
 abbrev pub AreFew : {F : Type 0} → Rules F → Bool → List ℕ → Type 0
 AreFew p over bytes =
     (answer : List ℕ) × (last : List ℕ) × IsAnswer p answer × IsLastText p last × (over ≡ false → last ≡ [])
-    × (length bytes < MAX_WITHHELD + (length answer + length last))
+    × (length bytes < max_withheld + (length answer + length last))
 
 -- These bytes answer these turns, in a session that goes on or in one that is over.
 abbrev pub AreAnswers : {F : Type 0} → Rules F → Bool → List (Turn F) → List ℕ → Type 0

@@ -10,7 +10,7 @@ use Rattle.act_loop.specs.declared.pause.Pause.{Pause}
 use Rattle.act_loop.specs.declared.pause.Pause.TheVariants.{Memory, More, Over, Waits}
 use Rattle.act_loop.specs.Conversation.{AreFew}
 use Rattle.act_loop.specs.Entering.{Enters}
-use Rattle.act_loop.specs.declared.turns.TheConstants.{MAX_WITHHELD}
+use Rattle.act_loop.specs.Limits.{max_withheld}
 
 -- a store, the commands of a client, and the bytes of its answers that are withheld
 pub record Moment (D : Type 0) : Type 0 where
@@ -50,7 +50,7 @@ abbrev pub IsPaused : {F : Type 0} → Rules F → ℕ → ℕ → List (Turn F)
 IsPaused p n most turns rest count held out out_new Waits =
     IsOpen p n turns × (rest ≡ held) × p.waits held × (length held < p.limit) × (count ≡ n + length turns) × (count < p.most) × (out_new ≡ out ++ texts p n turns)
 IsPaused p n most turns rest count held out out_new More =
-    IsOpen p n turns × (rest ≡ held) × ((length turns ≡ most) ⊎ (MAX_WITHHELD ≤ length out_new)) × (count ≡ n + length turns) × (count < p.most)
+    IsOpen p n turns × (rest ≡ held) × ((length turns ≡ most) ⊎ (max_withheld ≤ length out_new)) × (count ≡ n + length turns) × (count < p.most)
     × (out_new ≡ out ++ texts p n turns)
 IsPaused p n most turns rest count held out out_new Over = IsEnded p n turns × (out_new ≡ out ++ texts p n turns)
 IsPaused {F} p n most turns rest count held out out_new Memory =

@@ -2,6 +2,7 @@ ghost use Rattle.std.specs.Prelude.{◌≡◌, ◌≤◌, ◌<◌, ◌++◌, ℕ
 ghost use Rattle.act_loop.specs.Clients.{sent_of};
 ghost use Rattle.act_loop.specs.Conversation.{Follows, IsLastText, no_conversation};
 ghost use Rattle.act_loop.specs.Hearing.{Hears};
+ghost use Rattle.act_loop.specs.Limits.{max_taken};
 ghost use Rattle.act_loop.specs.Turns.{TakesTurns};
 
 use crate::byte_history::ByteHistory;
@@ -66,7 +67,7 @@ fn take_piece<P: Protocol, D: Disk>(
 ) -> Pause
     requires room { count.old < P.rules.most }
     requires within { n ≤ vec_len bytes.now }
-    ensures { TakesTurns P.rules number count.old MAX_REQUESTS (held.old.items ++ take n bytes.now.items)
+    ensures { TakesTurns P.rules number count.old max_taken (held.old.items ++ take n bytes.now.items)
         (record { store = store.old; exchanges = exchanges.old; out = out.old.items })
         (record { store = store.new; exchanges = exchanges.new; out = out.new.items }) count.new held.new.items result }
 {

@@ -1,4 +1,5 @@
 ghost use Rattle.std.specs.Prelude.{◌≡◌, ◌<◌, ◌+◌, ℕ, List, length, min};
+ghost use Rattle.act_loop.specs.Limits.{max_withheld};
 ghost use Rattle.act_loop.specs.Turns.{Appended, EndsRound, Goes, Moment, TakesTurn, TakesTurns, pause_after};
 
 use crate::author::Author;
@@ -69,7 +70,7 @@ fn take_round<P: Protocol, D: Disk>(
     out: &mut Vec<u8>,
 ) -> Option<Pause>
     requires { count < P.rules.most }
-    ensures { (n most : ℕ) (bytes : List ℕ) (begin : Moment D) → count < n + most → length out.old.items < MAX_WITHHELD
+    ensures { (n most : ℕ) (bytes : List ℕ) (begin : Moment D) → count < n + most → length out.old.items < max_withheld
         → Goes P.rules number n bytes begin (record { store = store.old; exchanges = exchanges.old; out = out.old.items }) count held.old.items
         → EndsRound P.rules number n most bytes begin (record { store = store.new; exchanges = exchanges.new; out = out.new.items }) count held.new.items result }
 {

@@ -1,5 +1,5 @@
 -- The entries that are pending until a commit, and the record that a commit writes of them.
-use Rattle.std.specs.Prelude.{◌≡◌, ℕ, ◌+◌, ◌-◌, List, [], ◌++◌, length, take, drop, flat_map, Option, Some, None}
+use Rattle.std.specs.Prelude.{◌≡◌, ℕ, ◌+◌, ◌-◌, ◌<◌, List, [], ◌++◌, length, take, drop, flat_map, Option, Some, None}
 use Rattle.std.specs.Int.{to_be_bytes, w32}
 use Rattle.gated_journal.specs.declared.lengths.TheConstants.{FRAME, LENGTH}
 use Rattle.run_plan.specs.declared.command.Command.{Command}
@@ -33,6 +33,20 @@ encoded_in (Some body) = drop COUNT body
 abbrev pub IsRecordOf : ℕ → Option (List ℕ) → Type 0
 IsRecordOf count None = count ≡ 0
 IsRecordOf count (Some body) = body ≡ to_be_bytes w32 count ++ drop COUNT body
+
+-- the body of a record, or of one without commands if there is none
+abbrev pub body_held : Option (List ℕ) → List ℕ
+body_held None = to_be_bytes w32 0
+body_held (Some body) = body
+
+-- The body begins with a count that can grow by one.
+abbrev pub CountsFew : List ℕ → Type 0
+CountsFew body = (count : ℕ) × (count < 4294967295) × (body ≡ to_be_bytes w32 count ++ drop COUNT body)
+
+-- the body with one more command
+abbrev pub IsWithCommand : List ℕ → Command → List ℕ → Type 0
+IsWithCommand body command longer = (count : ℕ) → count < 4294967295 → body ≡ to_be_bytes w32 count ++ drop COUNT body
+    → longer ≡ to_be_bytes w32 (count + 1) ++ (drop COUNT body ++ command_bytes command)
 
 -- The bytes of a record between its length with the count and its gate.
 abbrev pub encoded_between : List ℕ → List ℕ

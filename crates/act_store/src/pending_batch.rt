@@ -1,19 +1,19 @@
-ghost use Rattle.std.specs.Prelude.{◌≡◌, ◌+◌, ◌<◌, ◌≤◌, ◌^◌, ◌==◌, List, [], ◌∷◌, ◌++◌, length, take, drop, slice_index, vec_len, IfErr};
+ghost use Rattle.std.specs.Prelude.{◌≡◌, ◌+◌, ◌<◌, ◌≤◌, ◌^◌, ◌==◌, List, [], ◌∷◌, ◌++◌, length, take, drop, vec_len, IfErr};
 ghost use Rattle.std.specs.Prelude.{IfOk, IfSome, OnErr, OnOk, None};
 ghost use Rattle.std.specs.Int.{to_be_bytes, w32};
 ghost use Rattle.wf_value.specs.Gives.{no_memory};
-ghost use Rattle.gated_journal.specs.Appends.{record_of};
+ghost use Rattle.gated_journal.specs.Appends.{body_in, record_of};
 ghost use Rattle.run_plan.specs.declared.command.Command.{Command};
 ghost use Rattle.command_encodings.specs.Commands.{IsEncoded, command_bytes};
 ghost use Rattle.act_store.specs.Plain.{batch_length};
-ghost use Rattle.act_store.specs.PendingBatch.{body_of, encoded_between, encoded_in, batch_state_of, with_command};
+ghost use Rattle.act_store.specs.PendingBatch.{CountsFew, IsWithCommand, body_held, body_of, encoded_between, encoded_in, batch_state_of, with_command};
 
 use gated_journal::Record;
 use gated_journal::lengths::{FRAME, LENGTH};
 use run_plan::Command;
 use std::alloc::{AllocError, Global};
 use std::marker::Model;
-use table_text::{command_length, write_command};
+use table_text::{command_length, extend_batch};
 use wf_value::Refusal;
 
 /// The length of the number that counts a record's commands. It stands before their encodings.
@@ -111,12 +111,10 @@ impl PendingBatch {
         ensures refused { IfErr result (λ e. e ≡ no_memory) }
     {
         let mut bytes = bytes_of(alloc, self.record.take())?;
-        if let Err(refusal) = append(&mut bytes, command) {
-            self.record = Some(record_with(bytes, self.count));
-            return Err(refusal);
-        }
+        let added = append(&mut bytes, command);
+        self.record = Some(Record::of(bytes));
+        added?;
         self.count += 1;
-        self.record = Some(record_with(bytes, self.count));
         Ok(())
     }
 
@@ -141,7 +139,7 @@ impl PendingBatch {
 fn bytes_of(alloc: Global, held: Option<Record>) -> Result<Vec<u8>, AllocError>
     requires { IfSome held (λ body. COUNT ≤ length body) }
     ensures long { IfOk result (λ bytes. vec_len bytes ≡ FRAME + COUNT + length (encoded_in held)) }
-    ensures encoded { IfOk result (λ bytes. encoded_between bytes.items ≡ encoded_in held) }
+    ensures body { IfOk result (λ bytes. body_in bytes.items ≡ body_held held) }
     ensures none { OnErr result (held ≡ None) }
 {
     match held {
@@ -150,27 +148,23 @@ fn bytes_of(alloc: Global, held: Option<Record>) -> Result<Vec<u8>, AllocError>
     }
 }
 
-/// Appends the encoding of a command, and moves the last byte after it.
+/// Adds a command to the batch between a record's length and its gate. Running out of memory changes nothing.
 fn append(bytes: &mut Vec<u8>, command: &Command) -> Result<(), Refusal>
-    requires { FRAME + COUNT ≤ vec_len bytes.old }
-    ensures long { OnOk result (vec_len bytes.new ≡ vec_len bytes.old + length (command_bytes command.now)) }
-    ensures appended { OnOk result (encoded_between bytes.new.items ≡ encoded_between bytes.old.items ++ command_bytes command.now) }
+    requires long { FRAME + COUNT ≤ vec_len bytes.old }
+    requires counted { CountsFew (body_in bytes.old.items) }
+    ensures longer { OnOk result (vec_len bytes.new ≡ vec_len bytes.old + length (command_bytes command.now)) }
+    ensures added { OnOk result (IsWithCommand (body_in bytes.old.items) command.now (body_in bytes.new.items)) }
     ensures encoded { OnOk result (IsEncoded command.now) }
-    ensures unchanged { OnErr result (bytes.new.items ≡ bytes.old.items) }
+    ensures same_length { OnErr result (vec_len bytes.new ≡ vec_len bytes.old) }
+    ensures unchanged { OnErr result (body_in bytes.new.items ≡ body_in bytes.old.items) }
     ensures refused { IfErr result (λ e. e ≡ no_memory) }
 {
-    let gate = bytes.len() - 1;
-    write_command(bytes, command)?;
-    move_to_end(bytes.as_mut_slice(), gate);
-    Ok(())
-}
-
-/// Moves a byte after those that follow it.
-fn move_to_end(bytes: &mut [u8], place: usize)
-    requires { place < length bytes.old }
-    ensures { bytes.new ≡ take place bytes.old ++ (drop (place + 1) bytes.old ++ slice_index bytes.old place ∷ []) }
-{
-    bytes[place..].rotate_left(1);
+    bytes.reserve(command_length(command) as usize)?;
+    // The gate leaves its place to the command, and a new one follows.
+    bytes.truncate(bytes.len() - 1);
+    let added = extend_batch(bytes, COUNT_AT, command);
+    bytes.push_reserved(0);
+    added
 }
 
 /// The record with this count whose encodings are the bytes between the count and the gate.

@@ -102,6 +102,13 @@ impl<D: Disk> Store<D> {
         self.areas.len
     }
 
+    /// The generation of the active area: 1 in a new store, and one more with each finished checkpoint.
+    pub fn generation(&self) -> u64
+        ensures { result ≡ self.now.generation }
+    {
+        self.generation
+    }
+
     /// The layout of the active area.
     pub fn layout(&self) -> Layout
         ensures { result ≡ self.now.layout }

@@ -5,18 +5,21 @@ ghost use Rattle.std.specs.Prelude.{◌≡◌, [], IfOk};
 use act_disk::Start;
 use act_store::Store;
 use acts_rounds::serve_rounds;
-use acts_serve::{Limits, Ports, ViewPort, serve_forever};
+use acts_serve::{Board, Limits, Ports, ViewPort, serve_forever};
 use command_words::{Serving, Span, VERSION};
 use local_commands::{Failure, ended, output};
-use process_io::{Fault, HeldStreams, RealDisk, listener};
+use process_io::{Fault, HeldStreams, RealDisk, file_in, listener};
 use std::alloc::Global;
 use std::fs::{File, Files};
-use std::io::Write;
+use std::io::{ErrorKind, Write};
 use std::net::{Net, TcpListener, TcpStream};
 use std::sync::Wait;
 use std::thread::Threads;
 use std::time::{Clock, Duration};
 use wf_value::Refusal;
+
+/// The longest file of a board, in bytes.
+const MAX_BOARD_FILE: u64 = 1_048_576;
 
 /// Opens the store in a file. No other server may use it.
 fn open_store<
@@ -44,7 +47,7 @@ struct Listeners {
 }
 
 /// The port to look at a service, if one is asked for.
-fn view_port(span: &Span) -> Option<u16> {
+fn view_port(span: &Span<'_>) -> Option<u16> {
     match span {
         Span::Rounds(_) => None,
         Span::Forever { view_port, .. } => *view_port,
@@ -72,12 +75,45 @@ fn bound_listeners<'a, S: Net<Listener = TcpListener, Stream = TcpStream>>(
     })
 }
 
-/// The ports of a service without end.
-fn ports(listeners: &Listeners) -> Ports<'_> {
+/// A file of the board in a folder, if it is there.
+fn board_file<'a, R: Files<File = File> + AllocGlobal>(
+    rt: &R,
+    folder: &'a str,
+    name: &str,
+) -> Result<Option<Vec<u8>>, Failure<'a>> {
+    match file_in(rt, folder, name, MAX_BOARD_FILE) {
+        Ok(bytes) => Ok(bytes),
+        Err(error) if error.kind() == ErrorKind::OutOfMemory => Err(Failure::no_memory()),
+        Err(error) => Err(Failure::from(Fault::File(folder, error))),
+    }
+}
+
+/// The board of a service, without a file if none is asked for.
+fn board<'a, R: Files<File = File> + AllocGlobal>(
+    rt: &R,
+    span: Span<'a>,
+) -> Result<Board, Failure<'a>> {
+    let Span::Forever {
+        board: Some(folder),
+        ..
+    } = span
+    else {
+        return Ok(Board::none());
+    };
+    Ok(Board {
+        page: board_file(rt, folder, "board.html")?,
+        script: board_file(rt, folder, "board.js")?,
+        style: board_file(rt, folder, "board.css")?,
+    })
+}
+
+/// The ports of a service.
+fn ports<'a>(listeners: &'a Listeners, board: &'a Board) -> Ports<'a> {
     let views = match &listeners.views {
         Some(listener) => Some(ViewPort {
             listener,
             version: VERSION,
+            board,
         }),
         None => None,
     };
@@ -97,7 +133,7 @@ fn serve_on<
     system: &S,
     alloc: Global,
     store: Store<RealDisk<B>>,
-    listeners: &Listeners,
+    ports: Ports<'_>,
     serving: &Serving<'_>,
     out: &mut O,
 ) -> Result<(), Refusal>
@@ -106,7 +142,7 @@ fn serve_on<
     match serving.span {
         Span::Rounds(rounds) => {
             let sessions = serving.sessions.count;
-            let (hooks, runners) = (&listeners.hooks, &listeners.runners);
+            let (hooks, runners) = (ports.hooks, ports.runners);
             serve_rounds(system, alloc, store, hooks, runners, sessions, rounds, out)?;
             Ok(())
         }
@@ -115,7 +151,7 @@ fn serve_on<
                 commands,
                 idle: Duration::from_secs(idle),
             };
-            serve_forever(system, alloc, store, ports(listeners), limits, out)
+            serve_forever(system, alloc, store, ports, limits, out)
         }
     }
 }
@@ -129,7 +165,9 @@ pub(crate) fn serve<
 >(rt: &R, system: &S, serving: &Serving<'a>) -> Result<(), Failure<'a>> {
     let store = open_store::<B, R, S>(rt, system, serving.file)?;
     let listeners = bound_listeners(system, serving)?;
+    let board = board(rt, serving.span)?;
     let mut out = output(rt)?;
-    let served = serve_on(system, rt.alloc(), store, &listeners, serving, &mut out);
+    let ports = ports(&listeners, &board);
+    let served = serve_on(system, rt.alloc(), store, ports, serving, &mut out);
     ended(served, out.into_fault(), None)
 }

@@ -258,14 +258,6 @@ impl Counters {
             "counter",
             "Checkpoints that were finished.",
             gauges.checkpoints,
-        )?;
-        push_metric(
-            alloc,
-            text,
-            "acts_device_failed",
-            "gauge",
-            "1 once the device has failed.",
-            0,
         )
     }
 

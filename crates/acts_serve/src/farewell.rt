@@ -87,4 +87,5 @@ pub(crate) fn part_with_all<D: Disk>(turns: &mut Turns<'_, D>) {
             turns.part_with(place);
         }
     }
+    turns.part_with_viewers();
 }

@@ -18,4 +18,4 @@ mod views;
 
 pub use forever::{Ports, serve_forever};
 pub use limits::Limits;
-pub use views::ViewPort;
+pub use views::{Board, ViewPort};

@@ -326,7 +326,7 @@ impl<'a, D: Disk> Turns<'a, D> {
     /// A commit took so long.
     pub(crate) fn has_committed(&mut self, took: Duration) {
         if let Some(views) = &mut self.views {
-            views.counters.committed(took);
+            views.kept.counters.committed(took);
         }
     }
 
@@ -354,10 +354,13 @@ impl<'a, D: Disk> Turns<'a, D> {
         };
         let seen = Seen {
             table,
+            version: views.version,
+            board: views.board,
             area: store.area(),
             room: store.room(),
             hooks,
             runners,
+            viewers: views.clients(),
             checkpoints: self.checkpoints.finished(),
             now: self.now,
         };
@@ -382,6 +385,13 @@ impl<'a, D: Disk> Turns<'a, D> {
             }
         }
         Ok(())
+    }
+
+    /// Ends the sessions of the view port, since the device has failed.
+    pub(crate) fn part_with_viewers(&mut self) {
+        if let Some(views) = &mut self.views {
+            views.part_with_all(self.alloc, &mut self.buffer, self.now);
+        }
     }
 
     /// How long after the begin of a turn its views may end: a tenth more than has passed.
@@ -419,7 +429,7 @@ impl<'a, D: Disk> Turns<'a, D> {
             Ok(()) => {
                 self.checkpoints.turn_over();
                 if let Some(views) = &mut self.views {
-                    views.turn_over();
+                    views.kept.turn_over();
                 }
                 self.bytes = 0;
                 tell_settled(entries, out)

@@ -9,7 +9,7 @@ use std::io::Read;
 use std::net::{Shutdown, TcpStream};
 use std::os::fd::{AsRawFd, RawFd};
 use std::time::{Duration, Instant};
-use view_sessions::{Answer, ChangesQuery, ViewRequest, ViewSession, Writable};
+use view_sessions::{Answer, ChangesQuery, ViewFault, ViewRequest, ViewSession, Writable};
 
 /// How long a client whose session is over may stay silent before its stream is closed, in milliseconds.
 const LEAVING: u64 = 250;
@@ -198,6 +198,30 @@ impl Viewer {
             return Next::Waits;
         }
         self.after_sending(owed)
+    }
+
+    /// Whether only the head of an answer to what it asks is wanted, if it asks for something.
+    fn asks(&mut self, alloc: Global, buffer: &mut Vec<u8>, now: Instant) -> Option<bool> {
+        if self.waiting.take().is_some() {
+            return Some(false);
+        }
+        if self.input == Input::Drained {
+            self.input = Input::More;
+        }
+        Some(self.next(alloc, buffer, now)?.head_only)
+    }
+
+    /// Answers what it asks with the failure of the device, and has it take the answer as far as it does so at once.
+    pub(crate) fn part(&mut self, alloc: Global, buffer: &mut Vec<u8>, now: Instant) {
+        if let Some(head_only) = self.asks(alloc, buffer, now) {
+            let failed = Err(ViewFault::DeviceFailed);
+            self.answer(alloc, &failed, head_only, true);
+        }
+        for _ in 0..READS {
+            if self.go_on(buffer, now) != Next::Again {
+                return;
+            }
+        }
     }
 
     /// What it does next, once it has taken its answer.

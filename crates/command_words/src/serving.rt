@@ -43,7 +43,7 @@ impl Sessions {
 
 /// How long a store is served.
 #[derive(Clone, Copy)]
-pub enum Span {
+pub enum Span<'a> {
     /// For this number of rounds.
     Rounds(u64),
     /// Without end.
@@ -54,6 +54,8 @@ pub enum Span {
         idle: u64,
         /// The port to look at the service, if there is one.
         view_port: Option<u16>,
+        /// The folder of the board that this port shows, if it shows one.
+        board: Option<&'a str>,
     },
 }
 
@@ -65,7 +67,7 @@ pub struct Serving<'a> {
     pub hook_port: u16,
     pub runner_port: u16,
     pub sessions: Sessions,
-    pub span: Span,
+    pub span: Span<'a>,
 }
 
 /// A port of this machine, from 1 to 65,535.
@@ -118,6 +120,17 @@ fn view_port_option<'a>(alloc: Global) -> Result<Arg<'a>, AllocError> {
         .requires_arg("forever")
 }
 
+/// The folder of the board of a service without end.
+fn board_option<'a>(alloc: Global) -> Result<Arg<'a>, AllocError> {
+    Arg::new(alloc, "board")
+        .long("board")
+        .value_name("FOLDER")
+        .help(
+            "With --view-port: shows the board in FOLDER there, its files board.html, board.js and board.css, each of at most 1048576 bytes",
+        )
+        .requires_arg("view-port")
+}
+
 /// The number of commands after which the history of a service without end turns over.
 fn turn_over_option<'a>(alloc: Global) -> Result<Arg<'a>, AllocError> {
     Arg::new(alloc, "turn-over")
@@ -163,7 +176,8 @@ fn with_span<'a>(alloc: Global, serve: Made<'a>) -> Made<'a> {
     let serve = with_arg(serve, forever_option(alloc));
     let serve = with_arg(serve, idle_option(alloc));
     let serve = with_arg(serve, turn_over_option(alloc));
-    with_arg(serve, view_port_option(alloc))
+    let serve = with_arg(serve, view_port_option(alloc));
+    with_arg(serve, board_option(alloc))
 }
 
 /// The port that an option names.
@@ -172,7 +186,7 @@ fn port_of(matches: &ArgMatches<'_>, name: &str) -> Option<u16> {
 }
 
 /// How long `acts serve` is to serve.
-fn span_of(matches: &ArgMatches<'_>) -> Option<Span> {
+fn span_of<'a>(matches: &ArgMatches<'a>) -> Option<Span<'a>> {
     if !matches.get_flag("forever") {
         return Some(Span::Rounds(matches.get_one::<u64>("rounds")?));
     }
@@ -180,6 +194,7 @@ fn span_of(matches: &ArgMatches<'_>) -> Option<Span> {
         commands: matches.get_one::<u64>("turn-over")?,
         idle: matches.get_one::<u64>("idle")?,
         view_port: port_of(matches, "view-port"),
+        board: matches.get_str("board"),
     })
 }
 

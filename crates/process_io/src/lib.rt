@@ -1,8 +1,9 @@
-//! What a command uses of the system, with the errors of the system: the standard streams, the file of a store, and ports. No
+//! What a command uses of the system, with the errors of the system: the standard streams, the file of a store, other files, and ports. No
 //! contract describes these.
 #![tactic(auto)]
 
 mod fault;
+mod files;
 mod length_limit;
 mod noted;
 mod opening;
@@ -11,6 +12,7 @@ mod streams;
 mod waiting;
 
 pub use fault::Fault;
+pub use files::file_in;
 pub use noted::Noted;
 pub use opening::RealDisk;
 pub use ports::listener;

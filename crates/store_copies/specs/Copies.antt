@@ -2,7 +2,7 @@
 use Rattle.std.specs.Prelude.{ℕ, List, ◌∷◌, ◌++◌, replicate}
 use Rattle.gated_journal.specs.Layout.{Head, head_bytes}
 use Rattle.act_store.specs.Layouts.{current_version}
-use Rattle.store_copies.specs.declared.store_copy.StoreCopy.{StoreCopy}
+use Rattle.view_sessions.specs.declared.file_bytes.FileBytes.{FileBytes}
 
 -- the head of the active area, of the first generation
 abbrev pub copy_head : List ℕ → Head
@@ -13,5 +13,5 @@ abbrev pub copy_front : List ℕ → List ℕ
 copy_front text = 0xA5 ∷ head_bytes (copy_head text)
 
 -- the whole file
-abbrev pub file_of : StoreCopy → List ℕ
+abbrev pub file_of : FileBytes → List ℕ
 file_of copy = copy.bytes.items ++ replicate copy.zeros 0

@@ -7,13 +7,13 @@ ghost use Rattle.act_store.specs.TableText.{EncodesTable};
 ghost use Rattle.act_store.specs.declared.layout.Layout.TheVariants as layouts;
 ghost use Rattle.store_copies.specs.Copies.{copy_front, file_of};
 
-use crate::store_copy::StoreCopy;
 use act_store::{MAX_AREA, MIN_AREA};
 use gated_journal::OPEN;
 use gated_journal::lengths::{GATE, HEAD};
 use run_table::Table;
 use std::alloc::Global;
 use table_text::{table_length, write_table};
+use view_sessions::FileBytes;
 use wf_value::Refusal;
 
 /// The version of the second layout.
@@ -24,6 +24,7 @@ const GENERATION: u64 = 1;
 
 /// Whether the text of a table fits an area of this length, with a head, its own gate and one for the first record.
 fn fits(area: u64, table: &Table) -> bool
+    ensures sound { IsSound table.now }
     ensures few { result ≡ true → length table.now.runners ≤ 4294967295 }
     ensures area { result ≡ true → IsAreaLength area }
     ensures room { result ≡ true → length (whole_table.encoding table.now) + 19 ≤ area }
@@ -54,7 +55,7 @@ fn front(alloc: Global, table: &Table) -> Result<Vec<u8>, Refusal>
 
 /// A store file of two areas of this length, of which the first has the table, in the second layout, and no record. `None` if the text of
 /// the table does not fit, or no store has areas of this length.
-pub fn copy_of(alloc: Global, area: u64, table: &Table) -> Result<Option<StoreCopy>, Refusal>
+pub fn copy_of(alloc: Global, area: u64, table: &Table) -> Result<Option<FileBytes>, Refusal>
     ensures err { ErrsOnlyByMemory result }
     ensures recovers { IfOk result (λ found. IfSome found (λ copy. RecoversTo table.now (file_of copy))) }
     ensures size { IfOk result (λ found. IfSome found (λ copy. length (file_of copy) ≡ area + area)) }
@@ -62,9 +63,7 @@ pub fn copy_of(alloc: Global, area: u64, table: &Table) -> Result<Option<StoreCo
     if !fits(area, table) {
         return Ok(None);
     }
-    // This call says that the table is sound, as one that is encoded has to be.
-    let _ = table.last_lease();
     let bytes = front(alloc, table)?;
     let zeros = area + area - bytes.len() as u64;
-    Ok(Some(StoreCopy { bytes, zeros }))
+    Ok(Some(FileBytes { bytes, zeros }))
 }

@@ -2,7 +2,5 @@
 #![tactic(auto)]
 
 mod copy;
-mod store_copy;
 
 pub use copy::copy_of;
-pub use store_copy::StoreCopy;

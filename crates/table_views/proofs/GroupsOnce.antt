@@ -1,15 +1,14 @@
 -- The lines of groups, each once, claim by claim.
 use Rattle.std.proofs.Common.{◌≡◌, ◌∙◌, ℕ, zero, suc, ◌+◌, ◌<◌, ◌≤◌, List, [], ◌∷◌, ◌++◌, length, map, take, get_or, refl, sym, ap, arith, append-nil}
-use Rattle.std.specs.Prelude.{Bool, true, false, cond, ◌||◌, filter_map, Option, Some, None, option_map, slice_get, if◌then◌else◌}
+use Rattle.std.specs.Prelude.{Bool, true, false, ◌||◌, filter_map, Option, Some, None, option_map, slice_get, if◌then◌else◌}
 use Rattle.std.specs.List.{cons_option, flat_map, list_any}
 use Rattle.std.specs.Option.{option_map_or}
 use Rattle.std.proofs.lemmas.Grind.{flat_map-append}
-use Rattle.std.proofs.lemmas.List.{take_all}
 use Rattle.group_name.specs.Group.{Group, same_group}
 use Rattle.run_states.specs.Groups.{all_holders}
 use Rattle.run_states.specs.RunState.{RunState}
 use Rattle.table_views.specs.Claims.{claim_of, claims_of, line_once, said}
-use Rattle.table_views.specs.GroupLines.{distinct, group_in_use, group_line, group_lines}
+use Rattle.table_views.specs.GroupLines.{distinct, group_in_use}
 use Rattle.table_views.specs.declared.claim.GroupClaim.{GroupClaim}
 use Rattle.table_views.proofs.Distinct.{distinct_more, one_unless}
 use Rattle.run_states.specs.declared.holder.Holder.{Holder}

@@ -1,7 +1,7 @@
 -- The concurrency groups that a run or a leg holds or waits for, as an operator sees them: which holder of each is in
 -- progress, and which is pending. GitHub Docs, "Control the concurrency of workflows and jobs". The format is defined
 -- by this project.
-use Rattle.std.specs.Prelude.{ℕ, ◌+◌, List, [], ◌∷◌, ◌++◌, ◌||◌, filter_map, flat_map, codes, decimal, not, Bool, if◌then◌else◌, Option, Some, None}
+use Rattle.std.specs.Prelude.{ℕ, ◌+◌, List, [], ◌∷◌, ◌++◌, ◌||◌, filter_map, flat_map, codes, decimal, not, if◌then◌else◌, Option, Some, None}
 use Rattle.std.specs.List.{filter}
 use Rattle.group_name.specs.Group.{Group, same_group}
 use Rattle.group_name.specs.Order.{name_bytes, repository_bytes}

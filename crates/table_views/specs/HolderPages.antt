@@ -1,6 +1,6 @@
 -- A page of the runs and legs that hold concurrency groups or wait for them, run by run. GitHub Docs, "Control the concurrency of workflows and
 -- jobs". The format is defined by this project.
-use Rattle.std.specs.Prelude.{◌≡◌, ℕ, ◌+◌, ◌-◌, List, [], ◌∷◌, ◌++◌, ◌&&◌, codes, decimal, filter_map, length, map, Bool, Option, Some, None, option_map, if◌then◌else◌}
+use Rattle.std.specs.Prelude.{◌≡◌, ℕ, ◌+◌, ◌-◌, List, [], ◌∷◌, ◌++◌, ◌&&◌, codes, decimal, filter_map, length, map, Bool, Option, Some, None, if◌then◌else◌}
 use Rattle.std.specs.Option.{option_and_then}
 use Rattle.group_name.specs.Group.{Group}
 use Rattle.group_name.specs.Order.{name_bytes, repository_bytes}
@@ -16,7 +16,7 @@ use Rattle.table_views.specs.ReadyPages.{legs_at, next_run, start_at}
 use Rattle.table_views.specs.RunFilters.{is_wanted}
 use Rattle.table_views.specs.Texts.{leg_members, quoted}
 use Rattle.table_views.specs.declared.group_filter.GroupFilter.{GroupFilter}
-use Rattle.table_views.specs.declared.pages.TheConstants.{MOST_LOOKED}
+use Rattle.table_views.specs.Limits.{most_looked}
 
 -- whether a group is one that the filter lets through
 abbrev pub is_group_shown : GroupFilter → Group → Bool
@@ -48,6 +48,6 @@ holder_rows f runs r = filter_map (row_of_holder f runs) (Run r ∷ map Leg (leg
 
 pub record IsHolderPage (f : GroupFilter) (from limit : ℕ) (t : TableState) (text : List ℕ) : Type 0 where
   pub count : ℕ
-  pub page : IsPage (λ r. length (holder_rows f t.runs r)) (start_at t.runs from) (length t.runs - start_at t.runs from) limit MOST_LOOKED count
+  pub page : IsPage (λ r. length (holder_rows f t.runs r)) (start_at t.runs from) (length t.runs - start_at t.runs from) limit most_looked count
   pub is : text ≡ page_text (codes "groups") (rows_from (holder_rows f t.runs) (start_at t.runs from) count)
       (codes "from") (number_or_null (next_run (length t.runs) (start_at t.runs from + count)))

@@ -2,6 +2,7 @@ pub mod ChangeLines
 pub mod Claims
 pub mod GroupLines
 pub mod HolderPages
+pub mod Limits
 pub mod Members
 pub mod Pages
 pub mod Placed
@@ -14,5 +15,4 @@ pub mod RunRows
 pub mod RunViews
 pub mod RunnerLines
 pub mod RunnerPages
-pub mod TableMetrics
 pub mod Texts

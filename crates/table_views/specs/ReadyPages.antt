@@ -9,7 +9,7 @@ use Rattle.run_table.specs.TableState.{TableState}
 use Rattle.table_views.specs.Members.{number_or_null}
 use Rattle.table_views.specs.Pages.{IsPage, page_text, rows_from}
 use Rattle.table_views.specs.QueueLines.{is_ready_at, ready_row}
-use Rattle.table_views.specs.declared.pages.TheConstants.{MOST_LOOKED}
+use Rattle.table_views.specs.Limits.{most_looked}
 
 -- the places of the legs of the run at an index
 abbrev pub legs_at : List RunState → ℕ → List LegPlace
@@ -29,6 +29,6 @@ next_run runs index = if nat_lt index runs then Some (index + 1) else None
 
 pub record IsReadyPage (from limit : ℕ) (t : TableState) (text : List ℕ) : Type 0 where
   pub count : ℕ
-  pub page : IsPage (λ r. length (ready_rows t.runs r)) (start_at t.runs from) (length t.runs - start_at t.runs from) limit MOST_LOOKED count
+  pub page : IsPage (λ r. length (ready_rows t.runs r)) (start_at t.runs from) (length t.runs - start_at t.runs from) limit most_looked count
   pub is : text ≡ page_text (codes "queue") (rows_from (ready_rows t.runs) (start_at t.runs from) count)
       (codes "from") (number_or_null (next_run (length t.runs) (start_at t.runs from + count)))

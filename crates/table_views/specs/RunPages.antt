@@ -1,5 +1,5 @@
 -- A page of the runs of a table, newest first.
-use Rattle.std.specs.Prelude.{◌≡◌, ℕ, ◌+◌, ◌-◌, List, [], ◌∷◌, codes, decimal, length, min, nat_lt, Bool, Option, Some, None, if◌then◌else◌}
+use Rattle.std.specs.Prelude.{◌≡◌, ℕ, ◌+◌, ◌-◌, List, [], ◌∷◌, codes, length, min, nat_lt, Option, Some, None, if◌then◌else◌}
 use Rattle.std.specs.Option.{option_map_or}
 use Rattle.run_states.specs.RunState.{RunState}
 use Rattle.run_table.specs.TableState.{TableState}
@@ -8,7 +8,7 @@ use Rattle.table_views.specs.Members.{number_or_null}
 use Rattle.table_views.specs.Pages.{IsPage, page_text, rows_from}
 use Rattle.table_views.specs.RunFilters.{is_shown}
 use Rattle.table_views.specs.RunRows.{run_row}
-use Rattle.table_views.specs.declared.pages.TheConstants.{MOST_LOOKED}
+use Rattle.table_views.specs.Limits.{most_looked}
 use Rattle.table_views.specs.declared.run_filter.RunFilter.{RunFilter}
 
 -- the runs below an id, or all
@@ -32,6 +32,6 @@ next_below top count = if nat_lt count top then Some (top - count + 1) else None
 -- the text of a page that has looked at `count` of the `top` runs below the asked id
 pub record IsRunsPage (f : RunFilter) (before : Option ℕ) (limit : ℕ) (t : TableState) (text : List ℕ) : Type 0 where
   pub count : ℕ
-  pub page : IsPage (λ index. length (newest_rows f t.runs (runs_below t.runs before) index)) 0 (runs_below t.runs before) limit MOST_LOOKED count
+  pub page : IsPage (λ index. length (newest_rows f t.runs (runs_below t.runs before) index)) 0 (runs_below t.runs before) limit most_looked count
   pub is : text ≡ page_text (codes "runs") (rows_from (newest_rows f t.runs (runs_below t.runs before)) 0 count)
       (codes "before") (number_or_null (next_below (runs_below t.runs before) count))

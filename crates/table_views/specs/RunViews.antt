@@ -1,6 +1,6 @@
 -- One run with its jobs and legs, and what each waits for. The format is defined by this project. GitHub Docs, "Workflow syntax for GitHub
 -- Actions": jobs.<job_id>.needs, .runs-on, .strategy.max-parallel, .concurrency.
-use Rattle.std.specs.Prelude.{◌≡◌, ℕ, ◌+◌, ◌-◌, List, [], ◌∷◌, ◌++◌, codes, decimal, find, length, map, nat_eq, nat_lt, slice_get, unwrap_or, Bool, false, Option, Some, None, option_map, option_and_then, if◌then◌else◌}
+use Rattle.std.specs.Prelude.{◌≡◌, ℕ, ◌+◌, ◌-◌, List, [], ◌∷◌, ◌++◌, codes, decimal, find, length, map, nat_eq, nat_lt, slice_get, Bool, false, Option, Some, None, option_map, option_and_then, if◌then◌else◌}
 use Rattle.std.specs.Option.{option_map_or}
 use Rattle.group_name.specs.Order.{name_bytes}
 use Rattle.run_plan.specs.PlanOf.{plan_of}
@@ -10,7 +10,7 @@ use Rattle.run_states.specs.Fitting.{may_run_too}
 use Rattle.run_states.specs.GroupOf.{group_at}
 use Rattle.run_states.specs.Parallel.{is_at_work, most_at_work}
 use Rattle.run_states.specs.FirstOf.{placed}
-use Rattle.run_states.specs.Places.{job_at, leg_place}
+use Rattle.run_states.specs.Places.{leg_place}
 use Rattle.run_states.specs.RunState.{JobState, LegState, RunState}
 use Rattle.run_states.specs.Words.{combo_at}
 use Rattle.run_states.specs.declared.holder.Holder.TheVariants.{Leg}
@@ -20,14 +20,14 @@ use Rattle.run_states.specs.declared.phases.RunPhase.{RunPhase}
 use Rattle.run_states.specs.declared.phases.RunPhase.TheVariants as phase
 use Rattle.run_states.specs.declared.place.LegPlace.{LegPlace}
 use Rattle.run_table.specs.TableState.{RunnerState, TableState}
-use Rattle.run_table.specs.ViewText.{Seen, leg_text, seen_of}
+use Rattle.run_table.specs.ViewText.{Seen, leg_text}
 use Rattle.table_views.specs.Members.{member, number_or_null, text_or_null}
 use Rattle.table_views.specs.Pages.{IsPage, rows_from}
 use Rattle.table_views.specs.QueueLines.{labels_json}
 use Rattle.table_views.specs.RunLines.{state_text}
 use Rattle.table_views.specs.RunRows.{own_group, run_members}
 use Rattle.table_views.specs.Texts.{line, listed, quoted}
-use Rattle.table_views.specs.declared.pages.TheConstants.{MOST_LOOKED}
+use Rattle.table_views.specs.Limits.{most_looked}
 
 -- ---- what is waited for
 
@@ -130,5 +130,5 @@ run_view_text t seen jobs next =
 -- the text of a run with its jobs from an index on
 pub record IsRunView (from : ℕ) (t : TableState) (seen : Seen) (text : List ℕ) : Type 0 where
   pub count : ℕ
-  pub page : IsPage (legs_of_job seen.run) from (length seen.run.jobs - from) full_run MOST_LOOKED count
+  pub page : IsPage (legs_of_job seen.run) from (length seen.run.jobs - from) full_run most_looked count
   pub is : text ≡ run_view_text t seen (rows_from (job_rows t (seen.id - 1) seen.run) from count) (next_job (length seen.run.jobs) (from + count))

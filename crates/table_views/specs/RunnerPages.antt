@@ -1,7 +1,6 @@
 -- A page of the runners of a table, in the order of their names. The format is defined by this project.
-use Rattle.std.specs.Prelude.{◌≡◌, ℕ, ◌+◌, ◌-◌, List, [], ◌∷◌, ◌++◌, codes, decimal, length, nat_lt, slice_get, Bool, Option, Some, None, option_map, if◌then◌else◌}
+use Rattle.std.specs.Prelude.{◌≡◌, ℕ, ◌+◌, ◌-◌, List, [], ◌∷◌, ◌++◌, codes, decimal, length, nat_lt, slice_get, Option, Some, None, option_map, if◌then◌else◌}
 use Rattle.std.specs.Option.{option_map_or}
-use Rattle.std.specs.List.{count_by}
 use Rattle.run_plan.specs.declared.last_command.ClaimReply.TheVariants as claim_reply
 use Rattle.run_plan.specs.declared.last_command.LastCommand.{LastCommand}
 use Rattle.run_plan.specs.declared.last_command.LastCommand.TheVariants.{Claim, Done}
@@ -11,7 +10,7 @@ use Rattle.run_table.specs.TableState.{RunnerState, TableState}
 use Rattle.table_views.specs.Members.{member, number_or_null, text_or_null}
 use Rattle.table_views.specs.Pages.{IsPage, page_text, rows_from}
 use Rattle.table_views.specs.Texts.{quoted}
-use Rattle.table_views.specs.declared.pages.TheConstants.{MOST_LOOKED}
+use Rattle.table_views.specs.Limits.{most_looked}
 
 abbrev pub lease_of_reply : ClaimReply → Option Lease
 lease_of_reply claim_reply.Nothing = None
@@ -54,6 +53,6 @@ next_name runners from count =
 -- a page of the runners from an index on
 pub record IsRunnerPage (heard : List (Option ℕ)) (from limit : ℕ) (t : TableState) (text : List ℕ) : Type 0 where
   pub count : ℕ
-  pub page : IsPage (λ index. length (runner_rows heard from t.runners index)) from (length t.runners - from) limit MOST_LOOKED count
+  pub page : IsPage (λ index. length (runner_rows heard from t.runners index)) from (length t.runners - from) limit most_looked count
   pub is : text ≡ page_text (codes "runners") (rows_from (runner_rows heard from t.runners) from count)
       (codes "after") (text_or_null (next_name t.runners from count))

@@ -1,6 +1,6 @@
 //! A page of the runners of a table, in the order of their names.
 
-ghost use Rattle.std.specs.Prelude.{◌≡◌, ◌≤◌, ◌<◌, ◌^◌, ◌++◌, ◌+◌, IfOk, OnOk, Ok, length, option_map, slice_get, string_bytes};
+ghost use Rattle.std.specs.Prelude.{◌≡◌, ◌≤◌, ◌<◌, ◌^◌, ◌++◌, ◌+◌, IfOk, Ok, length, option_map, slice_get, string_bytes};
 ghost use Rattle.wf_value.specs.Gives.{ErrsOnlyByMemory, Gives};
 ghost use Rattle.table_views.specs.RunnerPages.{IsRunnerPage, heard_at, held_lease, lease_json, lease_of_last, next_name, runner_row, runner_rows};
 

@@ -1,10 +1,8 @@
 //! One run with its jobs and legs, and what each waits for.
 
-ghost use Rattle.std.specs.Prelude.{◌≡◌, ◌++◌, ◌+◌, ◌-◌, ◌<◌, ◌≤◌, ◌^◌, IfOk, MatchOption, None, OnOk, Ok, Some, find, length, map, min, option_map, slice_get, string_bytes};
-ghost use Rattle.stated_limits.specs.Limits.{max_runs};
+ghost use Rattle.std.specs.Prelude.{◌≡◌, ◌++◌, ◌+◌, ◌-◌, ◌<◌, ◌≤◌, ◌^◌, IfOk, MatchOption, None, Ok, Some, find, length, min, option_map, slice_get, string_bytes};
 ghost use Rattle.wf_value.specs.Gives.{ErrsOnlyByMemory, Gives};
 ghost use Rattle.run_plan.specs.PlanOf.{plan_of};
-ghost use Rattle.run_states.specs.Cells.{states};
 ghost use Rattle.run_table.specs.ViewText.{Seen, seen_of};
 ghost use Rattle.table_views.specs.RunViews.{IsRunView, holds_lease, job_row, job_rows, leg_row, leg_rows, legs_of_job, next_job, plan_members, run_view_text, runner_of, standing_members, truth, wish_members};
 

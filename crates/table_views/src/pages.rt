@@ -1,7 +1,8 @@
 //! Pages of long lists.
 
-ghost use Rattle.std.specs.Prelude.{◌≡◌, ◌++◌, ◌+◌, ◌-◌, ◌<◌, ◌≤◌, ◌^◌, IfOk, OnOk, Ok, codes, string_bytes};
+ghost use Rattle.std.specs.Prelude.{◌≡◌, ◌++◌, ◌+◌, ◌-◌, ◌<◌, ◌≤◌, ◌^◌, IfOk, OnOk, Ok, string_bytes};
 ghost use Rattle.wf_value.specs.Gives.{ErrsOnlyByMemory, Gives};
+ghost use Rattle.table_views.specs.Limits.{most_looked};
 ghost use Rattle.table_views.specs.Pages.{IsPage, page_text, rows_from};
 
 use crate::members::push_member;
@@ -53,7 +54,7 @@ pub(crate) fn page_of<S: Source>(
     requires full { full < 2 ^ 32 }
     ensures err { ErrsOnlyByMemory result }
     ensures rows { IfOk result (λ page. page.rows.items ≡ rows_from (S.rows source.now) from page.count) }
-    ensures page { IfOk result (λ page. IsPage (S.weigh source.now) from left full MOST_LOOKED page.count) }
+    ensures page { IfOk result (λ page. IsPage (S.weigh source.now) from left full most_looked page.count) }
 {
     let most = left.min(MOST_LOOKED);
     let mut rows = Vec::new(alloc);

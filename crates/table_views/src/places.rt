@@ -1,13 +1,8 @@
 //! All legs of a table, and all runs and legs that may hold a concurrency group.
 
-ghost use Rattle.std.specs.Prelude.{◌≡◌, ◌++◌, ◌<◌, ◌≤◌, ◌^◌, IfOk, OnOk, false, length, map};
+ghost use Rattle.std.specs.Prelude.{◌≡◌, ◌++◌, ◌<◌, ◌≤◌, ◌^◌, IfOk, OnOk};
 ghost use Rattle.std.specs.List.{All};
-ghost use Rattle.std.specs.Option.{option_map_or};
 ghost use Rattle.stated_limits.specs.Limits.{max_runs};
-ghost use Rattle.wf_value.specs.Gives.{Gives};
-ghost use Rattle.run_states.specs.Cells.{states};
-ghost use Rattle.run_states.specs.Fitting.{place_of_lease};
-ghost use Rattle.run_states.specs.Groups.{all_holders};
 ghost use Rattle.run_states.specs.Places.{leg_places, leg_places_of_job, leg_places_of_run};
 ghost use Rattle.table_views.specs.Placed.{IsWithin};
 

@@ -3,10 +3,17 @@ use Rattle.std.specs.Prelude.{ℕ, ◌+◌, ◌==◌, List, [], ◌++◌, codes,
 use Rattle.http.specs.StatusCode.{status_text}
 use Rattle.view_sessions.specs.Faults.{fault_content, fault_status}
 use Rattle.view_sessions.specs.declared.answer.Content.{Content}
-use Rattle.view_sessions.specs.declared.answer.Content.TheVariants.{Json, Lines, Plain, Metrics, Store}
+use Rattle.view_sessions.specs.declared.answer.Content.TheVariants.{Json, Lines, Plain, Metrics, Store, Board}
+use Rattle.view_sessions.specs.declared.board_file.BoardFile.{BoardFile}
+use Rattle.view_sessions.specs.declared.board_file.BoardFile.TheVariants.{Page, Script, Style}
 use Rattle.view_sessions.specs.declared.fault.ViewFault.{ViewFault}
 
 -- ---- the parts of an answer
+
+abbrev pub board_kind : BoardFile → List ℕ
+board_kind Page = codes "text/html; charset=utf-8"
+board_kind Script = codes "text/javascript; charset=utf-8"
+board_kind Style = codes "text/css; charset=utf-8"
 
 abbrev pub content_kind : Content → List ℕ
 content_kind (Json text) = codes "application/json"
@@ -14,6 +21,7 @@ content_kind (Lines text) = codes "application/x-ndjson"
 content_kind (Plain text) = codes "text/plain"
 content_kind (Metrics text) = codes "text/plain; version=0.0.4; charset=utf-8"
 content_kind (Store file) = codes "application/octet-stream"
+content_kind (Board file bytes) = board_kind file
 
 -- the bytes of a content, and how many zeros follow them
 abbrev pub content_bytes : Content → List ℕ
@@ -22,6 +30,7 @@ content_bytes (Lines text) = string_bytes text
 content_bytes (Plain text) = string_bytes text
 content_bytes (Metrics text) = string_bytes text
 content_bytes (Store file) = file.bytes.items
+content_bytes (Board file bytes) = bytes.items
 
 abbrev pub content_zeros : Content → ℕ
 content_zeros (Json text) = 0
@@ -29,6 +38,7 @@ content_zeros (Lines text) = 0
 content_zeros (Plain text) = 0
 content_zeros (Metrics text) = 0
 content_zeros (Store file) = file.zeros
+content_zeros (Board file bytes) = 0
 
 abbrev pub kind_of : Result Content ViewFault → List ℕ
 kind_of (Ok content) = content_kind content

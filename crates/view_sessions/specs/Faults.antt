@@ -16,10 +16,11 @@ fault_status DeviceFailed = 503
 fault_status AreaFull = 503
 fault_status NoMemory = 503
 
--- Whether the session ends with the answer: the next bytes cannot be framed, or there is no memory.
+-- Whether the session ends with the answer: the next bytes cannot be framed, the service ends, or there is no memory.
 abbrev pub fault_ends : ViewFault → Bool
 fault_ends BadRequest = true
 fault_ends BodyNotAllowed = true
+fault_ends DeviceFailed = true
 fault_ends NoMemory = true
 fault_ends _ = false
 
@@ -33,6 +34,6 @@ fault_content UnknownParameter = codes "{\"code\":\"unknown_parameter\",\"messag
 fault_content BadParameter = codes "{\"code\":\"bad_parameter\",\"message\":\"A parameter has no value, occurs twice, or has a value of another form.\"}\n"
 fault_content UnknownRun = codes "{\"code\":\"unknown_run\",\"message\":\"There is no run with this id.\"}\n"
 fault_content UnknownCursor = codes "{\"code\":\"unknown_cursor\",\"message\":\"The changes after this cursor are not known any more: list again.\"}\n"
-fault_content DeviceFailed = codes "{\"code\":\"device_failed\",\"message\":\"The disk has failed: the service has to be restarted.\"}\n"
+fault_content DeviceFailed = codes "{\"code\":\"device_failed\",\"message\":\"The disk has failed, and the service ends.\"}\n"
 fault_content AreaFull = codes "{\"code\":\"area_full\",\"message\":\"The table does not fit an area of the file: make a store with larger areas.\"}\n"
 fault_content NoMemory = codes "{\"code\":\"no_memory\",\"message\":\"The service has run out of memory.\"}\n"

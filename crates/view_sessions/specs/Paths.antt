@@ -3,14 +3,23 @@ use Rattle.std.specs.Prelude.{ℕ, List, drop, take, codes, Bool, true, false, O
 use Rattle.std.specs.Option.{option_map_or}
 use Rattle.std.specs.Str.{bytes_eq}
 use Rattle.run_plan.specs.SmallText.{found_if, number_of}
+use Rattle.view_sessions.specs.declared.board_file.BoardFile.TheVariants.{Page, Script, Style}
 use Rattle.view_sessions.specs.declared.parameter.Parameter.{Parameter}
 use Rattle.view_sessions.specs.declared.parameter.Parameter.TheVariants as parameter
 use Rattle.view_sessions.specs.declared.path.Path.{Path}
-use Rattle.view_sessions.specs.declared.path.Path.TheVariants.{Runs, Run, Queue, Runners, Groups, Health, Metrics, Changes, Backup}
+use Rattle.view_sessions.specs.declared.path.Path.TheVariants.{Runs, Run, Queue, Runners, Groups, Health, Metrics, Changes, Backup, Board}
 
 -- the bytes after `/runs/`, if they begin with that
 abbrev pub after_runs : List ℕ → Option (List ℕ)
 after_runs path = found_if (bytes_eq (take 6 path) (codes "/runs/")) (drop 6 path)
+
+-- the files of the board
+abbrev pub board_path : List ℕ → Option Path
+board_path path =
+    if bytes_eq path (codes "/") then Some (Board Page)
+    else if bytes_eq path (codes "/board.js") then Some (Board Script)
+    else if bytes_eq path (codes "/board.css") then Some (Board Style)
+    else None
 
 abbrev pub plain_path : List ℕ → Option Path
 plain_path path =
@@ -22,7 +31,7 @@ plain_path path =
     else if bytes_eq path (codes "/metrics") then Some Metrics
     else if bytes_eq path (codes "/changes") then Some Changes
     else if bytes_eq path (codes "/backup") then Some Backup
-    else None
+    else board_path path
 
 abbrev pub path_of : List ℕ → Option Path
 path_of path = option_map_or (λ run. option_map Run (number_of run)) (after_runs path) (plain_path path)
@@ -74,6 +83,7 @@ is_of Health p = false
 is_of Metrics p = false
 is_of Changes p = is_of_changes p
 is_of Backup p = false
+is_of (Board file) p = false
 
 -- ---- the names of parameters
 

@@ -39,6 +39,7 @@ view_at path.Health q = view.Health
 view_at path.Metrics q = view.Metrics
 view_at path.Changes q = view.Changes (record { after = cursor_in q; wait = wait_in q })
 view_at path.Backup q = view.Backup
+view_at (path.Board file) q = view.Board file
 
 abbrev pub view_if : Path → Result Query ViewFault → Result View ViewFault
 view_if at (Ok q) = Ok (view_at at q)

@@ -4,6 +4,7 @@ ghost use Rattle.std.specs.Prelude.{◌≡◌, ◌+◌, ◌<◌, ◌^◌, IfOk, 
 ghost use Rattle.wf_value.specs.Gives.{Gives};
 ghost use Rattle.view_sessions.specs.Answers.{allow_line, answer_bytes, answer_zeros, bytes_of, close_line, head_text, kind_of, status_of, zeros_of};
 
+use crate::board_file::BoardFile;
 use crate::fault::ViewFault;
 use crate::file_bytes::FileBytes;
 use http::StatusCode;
@@ -22,6 +23,8 @@ pub enum Content {
     Metrics(String),
     /// A store file.
     Store(FileBytes),
+    /// The bytes of a file of the board.
+    Board(BoardFile, Vec<u8>),
 }
 
 /// An answer: a content, or an error.
@@ -43,6 +46,7 @@ fn kind_of(answer: &Answer) -> &'static str
         Ok(Content::Plain(_)) => "text/plain",
         Ok(Content::Metrics(_)) => "text/plain; version=0.0.4; charset=utf-8",
         Ok(Content::Store(_)) => "application/octet-stream",
+        Ok(Content::Board(file, _)) => file.kind(),
         Err(_) => "application/json",
     }
 }
@@ -64,6 +68,7 @@ fn bytes_of(answer: &Answer) -> &[u8]
         Ok(Content::Json(text) | Content::Lines(text)) => text.as_bytes(),
         Ok(Content::Plain(text) | Content::Metrics(text)) => text.as_bytes(),
         Ok(Content::Store(file)) => file.bytes.as_slice(),
+        Ok(Content::Board(_, bytes)) => bytes.as_slice(),
         Err(fault) => fault.content().as_bytes(),
     }
 }

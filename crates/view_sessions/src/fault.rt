@@ -17,6 +17,7 @@ pub enum ViewFault {
     UnknownRun,
     /// The cursor is not known any more.
     UnknownCursor,
+    /// The device has failed, and the service ends.
     DeviceFailed,
     /// The text of the table does not fit an area of the file.
     AreaFull,
@@ -43,11 +44,11 @@ impl ViewFault {
         ensures { result ≡ fault_ends self }
     {
         match self {
-            ViewFault::BadRequest | ViewFault::BodyNotAllowed | ViewFault::NoMemory => true,
+            ViewFault::BadRequest | ViewFault::BodyNotAllowed => true,
+            ViewFault::DeviceFailed | ViewFault::NoMemory => true,
             ViewFault::UnknownPath | ViewFault::MethodNotAllowed => false,
             ViewFault::UnknownParameter | ViewFault::BadParameter => false,
-            ViewFault::UnknownRun | ViewFault::UnknownCursor => false,
-            ViewFault::DeviceFailed | ViewFault::AreaFull => false,
+            ViewFault::UnknownRun | ViewFault::UnknownCursor | ViewFault::AreaFull => false,
         }
     }
 
@@ -81,7 +82,7 @@ impl ViewFault {
                 "{\"code\":\"unknown_cursor\",\"message\":\"The changes after this cursor are not known any more: list again.\"}\n"
             }
             ViewFault::DeviceFailed => {
-                "{\"code\":\"device_failed\",\"message\":\"The disk has failed: the service has to be restarted.\"}\n"
+                "{\"code\":\"device_failed\",\"message\":\"The disk has failed, and the service ends.\"}\n"
             }
             ViewFault::AreaFull => {
                 "{\"code\":\"area_full\",\"message\":\"The table does not fit an area of the file: make a store with larger areas.\"}\n"

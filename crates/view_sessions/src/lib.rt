@@ -2,6 +2,7 @@
 #![tactic(auto)]
 
 mod answer;
+mod board_file;
 mod cursor;
 mod fault;
 mod file_bytes;
@@ -14,6 +15,7 @@ mod target;
 mod view;
 
 pub use answer::{Answer, Content};
+pub use board_file::BoardFile;
 pub use cursor::Cursor;
 pub use fault::ViewFault;
 pub use file_bytes::FileBytes;

@@ -69,7 +69,7 @@ impl Parameter {
             }
             Path::Groups => self.is_of_groups(),
             Path::Changes => matches!(self, Parameter::After | Parameter::Wait),
-            Path::Health | Path::Metrics | Path::Backup => false,
+            Path::Health | Path::Metrics | Path::Backup | Path::Board(_) => false,
         }
     }
 

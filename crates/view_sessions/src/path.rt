@@ -1,6 +1,7 @@
 ghost use Rattle.std.specs.Prelude.{◌≡◌, option_map};
-ghost use Rattle.view_sessions.specs.Paths.{after_runs, path_of, plain_path};
+ghost use Rattle.view_sessions.specs.Paths.{after_runs, board_path, path_of, plain_path};
 
+use crate::board_file::BoardFile;
 use run_plan::Number;
 
 /// What the path of a target names.
@@ -24,6 +25,8 @@ pub(crate) enum Path {
     Changes,
     /// `/backup`
     Backup,
+    /// `/`, `/board.js` and `/board.css`
+    Board(BoardFile),
 }
 
 /// The bytes after `/runs/`, if they begin with that.
@@ -31,6 +34,21 @@ fn after_runs(path: &[u8]) -> Option<&[u8]>
     ensures { option_map (λ rest. rest.now) result ≡ after_runs path.now }
 {
     path.strip_prefix(b"/runs/")
+}
+
+/// The path of bytes that name a file of the board.
+fn board_path(path: &[u8]) -> Option<Path>
+    ensures { result ≡ board_path path.now }
+{
+    if path == b"/".as_slice() {
+        Some(Path::Board(BoardFile::Page))
+    } else if path == b"/board.js".as_slice() {
+        Some(Path::Board(BoardFile::Script))
+    } else if path == b"/board.css".as_slice() {
+        Some(Path::Board(BoardFile::Style))
+    } else {
+        None
+    }
 }
 
 /// The path of bytes that do not begin with `/runs/`.
@@ -54,7 +72,7 @@ fn plain_path(path: &[u8]) -> Option<Path>
     } else if path == b"/backup".as_slice() {
         Some(Path::Backup)
     } else {
-        None
+        board_path(path)
     }
 }
 

@@ -93,6 +93,7 @@ fn view_at(path: Path, query: Query) -> View
             wait: query.wait(),
         }),
         Path::Backup => View::Backup,
+        Path::Board(file) => View::Board(file),
     }
 }
 

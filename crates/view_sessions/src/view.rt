@@ -1,3 +1,4 @@
+use crate::board_file::BoardFile;
 use crate::cursor::Cursor;
 use run_plan::Number;
 use table_views::{GroupFilter, RunFilter};
@@ -60,4 +61,5 @@ pub enum View {
     Metrics,
     Changes(ChangesQuery),
     Backup,
+    Board(BoardFile),
 }

@@ -1,6 +1,6 @@
 use Rattle.std.proofs.Common.{arith, inr, min, length, ℕ, ◌+◌, ◌<◌, ◌≡◌}
 use Rattle.std.specs.Prelude.{None}
-use Rattle.act_loop.specs.declared.turns.TheConstants.{MAX_WITHHELD}
+use Rattle.act_loop.specs.Limits.{max_withheld}
 use Rattle.act_loop.specs.Turns.{EndsRound, Moment}
 use Rattle.act_loop.proofs.TurnsSoFar.{goes_pauses}
 use Rattle.act_loop.proofs.turns.take_turns.Goals as goal
@@ -21,7 +21,7 @@ returns-then-len-ge-MAX_WITHHELD g c =
 pub returns-in-Some : goal.returns-in-Some
 returns-in-Some g c =
     let l = c.rounds in
-    let short : length l.out.items < MAX_WITHHELD = omega (arith, c.if-len-ge-MAX_WITHHELD.false) in
+    let short : length l.out.items < max_withheld = omega (arith, c.if-len-ge-MAX_WITHHELD.false) in
     c.in-Some.ensures c.args.count.now c.args.most c.args.held.now.items
     (record { store = c.args.store.now; exchanges = c.args.exchanges.now; out = c.args.out.now.items })
     (below_end l.turns c.args.count.now c.args.most c.most.result c.last_turn-end.result c.rounds-test.true c.last_turn-end.ensures) short l.invariant
@@ -32,7 +32,7 @@ rounds-preserved g c =
     let p = g.P.Protocol.rules in
     let begin : Moment g.row.D.Denot = record { store = c.args.store.now; exchanges = c.args.exchanges.now; out = c.args.out.now.items } in
     let new : Moment g.row.D.Denot = record { store = c.take_round.new.store; exchanges = c.take_round.new.exchanges; out = c.take_round.new.out.items } in
-    let short : length l.out.items < MAX_WITHHELD = omega (arith, c.if-len-ge-MAX_WITHHELD.false) in
+    let short : length l.out.items < max_withheld = omega (arith, c.if-len-ge-MAX_WITHHELD.false) in
     let round : EndsRound p c.args.number c.args.count.now c.args.most c.args.held.now.items begin new l.turns c.take_round.new.held.items None =
     rw c.in_default.is at (c.take_round.ensures c.args.count.now c.args.most c.args.held.now.items begin
     (below_end l.turns c.args.count.now c.args.most c.most.result c.last_turn-end.result c.rounds-test.true c.last_turn-end.ensures) short l.invariant) in

@@ -1,4 +1,4 @@
-use Rattle.std.proofs.Common.{◌≡◌, ◌∙◌, ℕ, List, [], map, take, Result, Ok, ap, sym, subst}
+use Rattle.std.proofs.Common.{◌≡◌, ◌∙◌, ℕ, List, [], take, Result, Ok, ap, sym, subst}
 use Rattle.std.specs.Prelude.{true, false, string_bytes}
 use Rattle.std.specs.List.{list_any}
 use Rattle.wf_value.specs.Gives.{Gives}

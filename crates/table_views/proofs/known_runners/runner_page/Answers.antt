@@ -4,7 +4,7 @@ use Rattle.run_table.specs.TableState.{RunnerState}
 use Rattle.table_views.specs.Members.{text_or_null}
 use Rattle.table_views.specs.Pages.{IsPage, page_text, rows_from}
 use Rattle.table_views.specs.RunnerPages.{IsRunnerPage, next_name, runner_rows}
-use Rattle.table_views.specs.declared.pages.TheConstants.{MOST_LOOKED}
+use Rattle.table_views.specs.Limits.{most_looked}
 use Rattle.table_views.proofs.Paging.{gives_ok, if_gives}
 use Rattle.table_views.proofs.known_runners.runner_page.Goals as goal
 
@@ -20,7 +20,7 @@ returns-clause-page c =
     if_gives string_bytes (IsRunnerPage heard from c.args.limit c.args.table.now) c.page_text.result _ c.page_text.ensures
     (record {
       count = count;
-      page = subst (λ (rs : List RunnerState). IsPage (λ index. length (runner_rows heard from rs index)) from (length rs - from) c.args.limit MOST_LOOKED count)
+      page = subst (λ (rs : List RunnerState). IsPage (λ index. length (runner_rows heard from rs index)) from (length rs - from) c.args.limit most_looked count)
           same c.in_ok-page.ensures.page;
       is = ap₂ (λ (rs : List (List ℕ)) (v : List ℕ). page_text (codes "runners") rs (codes "after") v) rows next;
     })

@@ -1,10 +1,9 @@
 use Rattle.std.proofs.Common.{◌∙◌, ◌+◌, ◌-◌, ℕ, List, length, ap, ap₂, subst, sym}
 use Rattle.std.specs.Prelude.{codes, string_bytes}
-use Rattle.run_states.specs.RunState.{RunState}
 use Rattle.table_views.specs.Members.{number_or_null}
 use Rattle.table_views.specs.Pages.{IsPage, page_text, rows_from}
 use Rattle.table_views.specs.RunPages.{IsRunsPage, newest_rows, next_below, runs_below}
-use Rattle.table_views.specs.declared.pages.TheConstants.{MOST_LOOKED}
+use Rattle.table_views.specs.Limits.{most_looked}
 use Rattle.table_views.proofs.Paging.{gives_ok, if_gives}
 use Rattle.table_views.proofs.newest_runs.runs_page.Goals as goal
 
@@ -20,6 +19,6 @@ returns-clause-page c =
     if_gives string_bytes (IsRunsPage f c.args.before c.args.limit c.args.table.now) c.page_text.result _ c.page_text.ensures
     (record {
       count = count;
-      page = subst (λ (t : ℕ). IsPage (λ index. length (newest_rows f runs t index)) 0 t c.args.limit MOST_LOOKED count) top c.in_ok-page.ensures.page;
+      page = subst (λ (t : ℕ). IsPage (λ index. length (newest_rows f runs t index)) 0 t c.args.limit most_looked count) top c.in_ok-page.ensures.page;
       is = ap₂ (λ (rs : List (List ℕ)) (v : List ℕ). page_text (codes "runs") rs (codes "before") v) rows next;
     })

@@ -4,7 +4,7 @@ use Rattle.run_states.specs.RunState.{RunState}
 use Rattle.table_views.specs.Members.{number_or_null}
 use Rattle.table_views.specs.Pages.{IsPage, page_text, rows_from}
 use Rattle.table_views.specs.ReadyPages.{IsReadyPage, next_run, ready_rows, start_at}
-use Rattle.table_views.specs.declared.pages.TheConstants.{MOST_LOOKED}
+use Rattle.table_views.specs.Limits.{most_looked}
 use Rattle.table_views.proofs.Paging.{gives_ok, if_gives}
 use Rattle.table_views.proofs.ready_legs.ready_page.Goals as goal
 
@@ -21,9 +21,9 @@ returns-clause-page c =
     if_gives string_bytes (IsReadyPage from c.args.limit c.args.table.now) c.page_text.result _ c.page_text.ensures
     (record {
       count = count;
-      page = subst (λ (s : ℕ). IsPage (λ r. length (ready_rows c.args.table.now.runs r)) s (length c.args.table.now.runs - s) c.args.limit MOST_LOOKED count) start
-          (subst (λ (rs : List RunState). IsPage (λ r. length (ready_rows rs r)) c.start_at-start.result (length rs - c.start_at-start.result) c.args.limit MOST_LOOKED count) same
-          (subst (λ (n : ℕ). IsPage (λ r. length (ready_rows c.kept_runs-runs.result.now r)) c.start_at-start.result (n - c.start_at-start.result) c.args.limit MOST_LOOKED count)
+      page = subst (λ (s : ℕ). IsPage (λ r. length (ready_rows c.args.table.now.runs r)) s (length c.args.table.now.runs - s) c.args.limit most_looked count) start
+          (subst (λ (rs : List RunState). IsPage (λ r. length (ready_rows rs r)) c.start_at-start.result (length rs - c.start_at-start.result) c.args.limit most_looked count) same
+          (subst (λ (n : ℕ). IsPage (λ r. length (ready_rows c.kept_runs-runs.result.now r)) c.start_at-start.result (n - c.start_at-start.result) c.args.limit most_looked count)
           c.len.ensures.len c.in_ok-page.ensures.page));
       is = ap₂ (λ (rs : List (List ℕ)) (v : List ℕ). page_text (codes "queue") rs (codes "from") v) rows next;
     })

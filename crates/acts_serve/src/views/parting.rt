@@ -1,0 +1,30 @@
+//! Ends the sessions of the view port after a device failure: what clients have asked by then is answered with that.
+
+use crate::port::MAX_CLIENTS;
+use crate::views::Views;
+use std::alloc::Global;
+use std::time::Instant;
+
+impl Views<'_> {
+    /// Accepts all connections that have come.
+    fn accept_all(&mut self, alloc: Global, now: Instant) {
+        self.port.reports();
+        for _ in 0..MAX_CLIENTS {
+            match self.accept(alloc, now) {
+                Ok(true) => {}
+                _ => return,
+            }
+        }
+    }
+
+    /// Answers what clients have asked, and closes their streams.
+    pub(crate) fn part_with_all(&mut self, alloc: Global, buffer: &mut Vec<u8>, now: Instant) {
+        self.accept_all(alloc, now);
+        for place in 0..self.slots.len() {
+            if let Some(viewer) = self.get(place) {
+                viewer.part(alloc, buffer, now);
+                self.close(place);
+            }
+        }
+    }
+}

@@ -1,0 +1,207 @@
+//! What a request is shown.
+
+use crate::changes::Found;
+use crate::counters::Gauges;
+use crate::viewer::Waiting;
+use crate::views::board::Board;
+use crate::views::kept::Kept;
+use run_table::Table;
+use std::alloc::Global;
+use std::time::Instant;
+use store_copies::copy_of;
+use table_views::{
+    holder_page, index_after, index_of, one_runner, push_table_metrics, ready_page, run_view,
+    runner_page, runs_page,
+};
+use view_sessions::{
+    Answer, BoardFile, ChangesQuery, Content, GroupsQuery, RunnersQuery, View, ViewFault,
+    ViewRequest,
+};
+use wf_value::Refusal;
+
+/// The most rows of a page.
+const MAX_ROWS: usize = 100;
+
+/// What is shown: the table, the version of the program, its board, the length of an area and its room, how many clients each port
+/// has, and how many checkpoints were finished.
+#[derive(Clone, Copy)]
+pub(crate) struct Seen<'t> {
+    pub(crate) table: &'t Table,
+    pub(crate) version: &'t str,
+    pub(crate) board: &'t Board,
+    pub(crate) area: u64,
+    pub(crate) room: u64,
+    pub(crate) hooks: usize,
+    pub(crate) runners: usize,
+    pub(crate) viewers: usize,
+    pub(crate) checkpoints: u64,
+    pub(crate) now: Instant,
+}
+
+/// What becomes of a request.
+#[derive(Drop)]
+pub(crate) enum Made {
+    Answer(Answer),
+    Waits(ChangesQuery),
+}
+
+/// A JSON answer.
+fn json(text: String) -> Result<Made, Refusal> {
+    Ok(Made::Answer(Ok(Content::Json(text))))
+}
+
+fn fault(fault: ViewFault) -> Result<Made, Refusal> {
+    Ok(Made::Answer(Err(fault)))
+}
+
+fn groups(alloc: Global, table: &Table, query: &GroupsQuery) -> Result<Made, Refusal> {
+    json(holder_page(
+        alloc,
+        table,
+        &query.filter,
+        query.from,
+        query.limit.min(MAX_ROWS),
+    )?)
+}
+
+/// A store file with the table.
+fn backup(alloc: Global, seen: Seen<'_>) -> Result<Made, Refusal> {
+    match copy_of(alloc, seen.area, seen.table)? {
+        Some(copy) => Ok(Made::Answer(Ok(Content::Store(copy)))),
+        None => fault(ViewFault::AreaFull),
+    }
+}
+
+/// A file of the board.
+fn board_file(alloc: Global, board: &Board, file: BoardFile) -> Result<Made, Refusal> {
+    let Some(bytes) = board.bytes(file) else {
+        return fault(ViewFault::UnknownPath);
+    };
+    let mut copy = Vec::new(alloc);
+    copy.extend_from_slice(bytes)?;
+    Ok(Made::Answer(Ok(Content::Board(file, copy))))
+}
+
+impl Kept {
+    fn runners(
+        &self,
+        alloc: Global,
+        seen: Seen<'_>,
+        query: &RunnersQuery,
+    ) -> Result<Made, Refusal> {
+        let (table, now) = (seen.table, seen.now);
+        if let Some(name) = &query.name {
+            let seconds = self.seconds_since(name.as_str(), now);
+            let index = index_of(table, name.as_str());
+            return json(one_runner(alloc, table, seconds, index)?);
+        }
+        let from = match &query.after {
+            Some(name) => index_after(table, name.as_str()),
+            None => 0,
+        };
+        let mut heard = Vec::new(alloc);
+        let limit = query.limit.min(MAX_ROWS);
+        for runner in table.runners().iter().skip(from).take(limit) {
+            heard.push(self.seconds_since(runner.name.as_str(), now))?;
+        }
+        json(runner_page(alloc, table, heard.as_slice(), from, limit)?)
+    }
+
+    fn metrics(&self, alloc: Global, seen: Seen<'_>) -> Result<Made, Refusal> {
+        let gauges = Gauges {
+            version: seen.version,
+            now: seen.now,
+            hooks: seen.hooks as u64,
+            runners: seen.runners as u64,
+            views: seen.viewers as u64,
+            area: seen.area,
+            room: seen.room,
+            checkpoints: seen.checkpoints,
+        };
+        let mut text = String::new(alloc);
+        self.counters.push(alloc, &mut text, &gauges)?;
+        push_table_metrics(alloc, &mut text, seen.table)?;
+        Ok(Made::Answer(Ok(Content::Metrics(text))))
+    }
+
+    fn changes(&self, alloc: Global, query: ChangesQuery) -> Result<Made, Refusal> {
+        let Some(after) = query.after else {
+            let text = self.changes.present(alloc)?;
+            return Ok(Made::Answer(Ok(Content::Lines(text))));
+        };
+        match self.changes.after(alloc, after)? {
+            Found::Lines(text) => Ok(Made::Answer(Ok(Content::Lines(text)))),
+            Found::None if query.wait > 0 => Ok(Made::Waits(query)),
+            Found::None => {
+                let text = self.changes.present(alloc)?;
+                Ok(Made::Answer(Ok(Content::Lines(text))))
+            }
+            Found::Unknown => fault(ViewFault::UnknownCursor),
+        }
+    }
+
+    /// The answer to a view.
+    fn show(&self, alloc: Global, seen: Seen<'_>, view: &View) -> Result<Made, Refusal> {
+        let table = seen.table;
+        match view {
+            View::Runs(query) => json(runs_page(
+                alloc,
+                table,
+                &query.filter,
+                query.before,
+                query.limit.min(MAX_ROWS),
+            )?),
+            View::Run(query) => match run_view(alloc, table, query.run, query.from)? {
+                Some(text) => json(text),
+                None => fault(ViewFault::UnknownRun),
+            },
+            View::Queue(query) => json(ready_page(
+                alloc,
+                table,
+                query.from,
+                query.limit.min(MAX_ROWS),
+            )?),
+            View::Runners(query) => self.runners(alloc, seen, query),
+            View::Groups(query) => groups(alloc, table, query),
+            View::Health => {
+                let text = String::from_str(alloc, "ok\n")?;
+                Ok(Made::Answer(Ok(Content::Plain(text))))
+            }
+            View::Metrics => self.metrics(alloc, seen),
+            View::Changes(query) => self.changes(alloc, *query),
+            View::Backup => backup(alloc, seen),
+            View::Board(file) => board_file(alloc, seen.board, *file),
+        }
+    }
+
+    /// What becomes of a request. Without memory the answer is that there is none.
+    pub(crate) fn made(&self, alloc: Global, seen: Seen<'_>, request: &ViewRequest) -> Made {
+        let shown = match &request.asked {
+            Ok(view) => self.show(alloc, seen, view),
+            Err(fault) => return Made::Answer(Err(*fault)),
+        };
+        match shown {
+            Ok(Made::Waits(query)) if request.head_only => {
+                let query = ChangesQuery {
+                    after: query.after,
+                    wait: 0,
+                };
+                self.changes(alloc, query)
+                    .unwrap_or(Made::Answer(Err(ViewFault::NoMemory)))
+            }
+            Ok(made) => made,
+            Err(_) => Made::Answer(Err(ViewFault::NoMemory)),
+        }
+    }
+
+    /// The answer for a client that has waited, if there is one by now.
+    pub(crate) fn made_later(&self, alloc: Global, waiting: &Waiting, now: Instant) -> Made {
+        let wait = if waiting.until <= now { 0 } else { 1 };
+        let query = ChangesQuery {
+            after: waiting.query.after,
+            wait,
+        };
+        self.changes(alloc, query)
+            .unwrap_or(Made::Answer(Err(ViewFault::NoMemory)))
+    }
+}
