@@ -105,6 +105,7 @@ pub(crate) struct Gauges<'a> {
     pub(crate) views: u64,
     pub(crate) area: u64,
     pub(crate) room: u64,
+    pub(crate) generation: u64,
     pub(crate) checkpoints: u64,
 }
 
@@ -250,6 +251,14 @@ impl Counters {
             "gauge",
             "What is left for records in the active area.",
             gauges.room,
+        )?;
+        push_metric(
+            alloc,
+            text,
+            "acts_store_generation",
+            "gauge",
+            "The generation of the active area.",
+            gauges.generation,
         )?;
         push_metric(
             alloc,

@@ -358,6 +358,7 @@ impl<'a, D: Disk> Turns<'a, D> {
             board: views.board,
             area: store.area(),
             room: store.room(),
+            generation: store.generation(),
             hooks,
             runners,
             viewers: views.clients(),

@@ -22,7 +22,7 @@ use wf_value::Refusal;
 /// The most rows of a page.
 const MAX_ROWS: usize = 100;
 
-/// What is shown: the table, the version of the program, its board, the length of an area and its room, how many clients each port
+/// What is shown: the table, the version of the program, its board, the length of an area and its room, its generation, how many clients each port
 /// has, and how many checkpoints were finished.
 #[derive(Clone, Copy)]
 pub(crate) struct Seen<'t> {
@@ -31,6 +31,7 @@ pub(crate) struct Seen<'t> {
     pub(crate) board: &'t Board,
     pub(crate) area: u64,
     pub(crate) room: u64,
+    pub(crate) generation: u64,
     pub(crate) hooks: usize,
     pub(crate) runners: usize,
     pub(crate) viewers: usize,
@@ -116,6 +117,7 @@ impl Kept {
             views: seen.viewers as u64,
             area: seen.area,
             room: seen.room,
+            generation: seen.generation,
             checkpoints: seen.checkpoints,
         };
         let mut text = String::new(alloc);
