@@ -50,7 +50,7 @@ lines_of-push : (cs : List Change) (c : Change) → lines_of (cs ++ c ∷ []) �
 lines_of-push cs c =
     let same : 0 + length (entries_of cs) ≡ length (entries_of cs) = omega arith in
     let pushed : lines_of (cs ++ c ∷ []) ≡ lines_of cs ++ line_of (0 + length (entries_of cs)) c ∷ [] = lines_after-push 0 cs c in
-    rw ← same pushed
+    rw (← same) pushed
 
 -- one more line behind those that are left
 pub dropped_more : (first : ℕ) (cs : List Change) (c : Change) → first ≤ length cs

@@ -14,6 +14,6 @@ returns-clause-page c =
     let within : c.args.line ≤ length c.self.inside.told = omega (arith, count, c.in-Some.ensures.within) in
     let next : c.first.result + c.page_end-end.result ≡ c.self.inside.kept.first + c.page_end-end.result =
     ap (λ n. n + c.page_end-end.result) c.first.ensures.value in
-    rw ← c.self.view_is
+    rw (← c.self.view_is)
     (page_is c.self.inside.kept c.self.inside.entries c.self.inside.process c.self.inside.told c.in-Some.from c.args.line c.page_end-end.result
     _ c.self.invariant at within c.page_end-end.ensures c.in_ok-text.ensures next)
