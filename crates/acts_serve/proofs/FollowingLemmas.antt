@@ -1,0 +1,36 @@
+-- One more entry of a history is taken up.
+use Rattle.std.proofs.Common.{◌≡◌, ◌≤◌, ◌<◌, ◌+◌, ◌^◌, ℕ, List, [], ◌∷◌, ◌++◌, length, take, drop, map, refl, sym, arith, append_assoc, length-append, length-take}
+use Rattle.std.proofs.lemmas.List.{append-nil, drop-append-le, drop_all, map-append, take_more}
+use Rattle.std.proofs.lemmas.Option.{get_or_from_slice_get, slice_get_within}
+use Rattle.std.specs.Prelude.{Some, slice_get}
+use Rattle.act_store.specs.declared.entry.Entry.{Entry}
+use Rattle.covered_log.specs.LogState.{LogState}
+use Rattle.acts_serve.specs.Following.{Gains, told_of}
+
+-- no entries
+pub gains_none : (s : LogState) → Gains [] s s
+gains_none s = record { few = omega arith; takes_up = λ room. sym (append-nil _) }
+
+-- entries, and then another
+gains_more : (xs : List Entry) (e : Entry) (old mid new : LogState) → Gains xs old mid → Gains (e ∷ []) mid new → Gains (xs ++ e ∷ []) old new
+gains_more xs e old mid new first then = record {
+  few = omega (arith, first.few, then.few, length-append xs (e ∷ []));
+  takes_up = λ room.
+      let count : length (xs ++ e ∷ []) ≡ length xs + 1 = length-append xs (e ∷ []) in
+      let room_of_first : length old.changes + length xs < 2 ^ 64 = omega (arith, room, count) in
+      let room_of_then : length mid.changes + 1 < 2 ^ 64 = omega (arith, room, count, first.few) in
+      rw (then.takes_up room_of_then, first.takes_up room_of_first, map-append told_of xs (e ∷ [])) (append_assoc _ _ _);
+}
+
+-- the next entry of a history
+pub gains_next : (history : List Entry) (from place : ℕ) (e : Entry) (old mid new : LogState) → from ≤ place
+    → slice_get history place ≡ Some e → Gains (drop from (take place history)) old mid → Gains (e ∷ []) mid new
+    → Gains (drop from (take (place + 1) history)) old new
+gains_next history from place e old mid new order is first then =
+    let within : from ≤ length (take place history) = grind (arith, length-take place history, slice_get_within history place e is) in
+    rw (
+      take_more history place e (slice_get_within history place e is),
+      get_or_from_slice_get history place e e is,
+      drop-append-le from (take place history) (e ∷ []) within,
+    )
+    (gains_more (drop from (take place history)) e old mid new first then)
