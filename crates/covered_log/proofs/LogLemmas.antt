@@ -5,9 +5,9 @@ use Rattle.std.specs.Prelude.{Bool, true, false, nat_lt, Result, Ok, Err, IsOkAn
 use Rattle.wf_value.specs.Gives.{Gives}
 use Rattle.wf_value.specs.declared.refusal.Refusal.{Refusal}
 use Rattle.covered_log.specs.KeptState.{KeptState, end_of, first_after, with_text, without_text}
+use Rattle.covered_log.specs.Limits.{most_kept}
 use Rattle.covered_log.specs.Lines.{Change, Entered, Stands, Missed, entries_in, entries_of, line_of, lines_after, lines_of}
 use Rattle.covered_log.specs.LogState.{IsLog}
-use Rattle.covered_log.specs.declared.kept.TheConstants.{KEPT}
 
 -- each change has a line
 pub length-lines_after : (place : ℕ) (cs : List Change) → length (lines_after place cs) ≡ length cs
@@ -76,16 +76,16 @@ kept_ends true first lines text n ends some = omega (arith, ends, length-append 
 kept_ends false first lines text n ends some =
     omega (arith, ends, some refl, length-append (drop 1 lines) (text ∷ []), length-drop 1 lines)
 
-is_full : (k : KeptState) → nat_lt (length k.lines) KEPT ≡ false → 1 ≤ length k.lines
+is_full : (k : KeptState) → nat_lt (length k.lines) most_kept ≡ false → 1 ≤ length k.lines
 is_full k is = grind arith
 
 -- a line that is kept
 pub log_keeps : (kept : KeptState) (entries after : ℕ) (cs : List Change) (c : Change) → IsLog kept entries cs
     → after ≡ entries + length (entries_in c) → IsLog (with_text kept (line_of entries c)) after (cs ++ c ∷ [])
 log_keeps kept entries after cs c log is = record {
-  lines = rw log.counted (kept_more (nat_lt (length kept.lines) KEPT) kept.first kept.lines cs c log.lines log.ends (is_full kept));
+  lines = rw log.counted (kept_more (nat_lt (length kept.lines) most_kept) kept.first kept.lines cs c log.lines log.ends (is_full kept));
   ends = rw (length-push cs c)
-      (kept_ends (nat_lt (length kept.lines) KEPT) kept.first kept.lines (line_of entries c) (length cs) log.ends (is_full kept));
+      (kept_ends (nat_lt (length kept.lines) most_kept) kept.first kept.lines (line_of entries c) (length cs) log.ends (is_full kept));
   counted = rw (is, log.counted, entries_of-push cs c) refl;
 }
 

@@ -5,10 +5,10 @@ use Rattle.std.proofs.lemmas.Option.{get_or_from_slice_get, slice_get_within}
 use Rattle.std.specs.Prelude.{Some, slice_get, string_bytes}
 use Rattle.std.specs.List.{flat_map}
 use Rattle.covered_log.specs.KeptState.{KeptState}
+use Rattle.covered_log.specs.Limits.{page_lines}
 use Rattle.covered_log.specs.Lines.{Change, lines_of}
 use Rattle.covered_log.specs.LogState.{IsLog, IsPage}
 use Rattle.covered_log.specs.declared.page.Page.{Page}
-use Rattle.covered_log.specs.declared.page.TheConstants.{PAGE}
 
 take_one : {A : Type 0} (xs : List A) (i : ℕ) (x : A) → slice_get xs i ≡ Some x → take (i + 1) xs ≡ take i xs ++ x ∷ []
 take_one xs i x is = rw (take_more xs i x (slice_get_within xs i x is), get_or_from_slice_get xs i x x is) refl
@@ -22,21 +22,21 @@ one_more_line lines from index line order is =
     (sym (flat_map_more (λ l. l) [] (drop from (take index lines)) line))
 
 -- The lines of a page of those that are kept are the lines behind a cursor.
-page_lines : (all : List (List ℕ)) (first from : ℕ)
-    → drop from (take (min (from + PAGE) (length (drop first all))) (drop first all)) ≡ take PAGE (drop (first + from) all)
-page_lines all first from =
-    rw (take_min (from + PAGE) (drop first all), drop-take from PAGE (drop first all), drop-drop from first all) refl
+lines_of_page : (all : List (List ℕ)) (first from : ℕ)
+    → drop from (take (min (from + page_lines) (length (drop first all))) (drop first all)) ≡ take page_lines (drop (first + from) all)
+lines_of_page all first from =
+    rw (take_min (from + page_lines) (drop first all), drop-take from page_lines (drop first all), drop-drop from first all) refl
 
 page_next : (first from count total most : ℕ) → first + count ≡ total → from ≤ count
     → first + min (from + most) count ≡ first + from + min most (total - (first + from))
 page_next first from count total most ends within = omega arith
 
 pub page_is : (kept : KeptState) (entries process : ℕ) (cs : List Change) (from line end : ℕ) (page : Page) → IsLog kept entries cs
-    → line ≡ kept.first + from → line ≤ length cs → end ≡ min (from + PAGE) (length kept.lines)
+    → line ≡ kept.first + from → line ≤ length cs → end ≡ min (from + page_lines) (length kept.lines)
     → string_bytes page.text ≡ flat_map (λ l. l) (drop from (take end kept.lines)) → page.next ≡ kept.first + end
     → IsPage (record { process = process; changes = cs; first = kept.first }) line page
 page_is kept entries process cs from line end page log at within ends text next = record {
-  text = rw (text, ends, log.lines, page_lines (lines_of cs) kept.first from, at) refl;
+  text = rw (text, ends, log.lines, lines_of_page (lines_of cs) kept.first from, at) refl;
   next = rw (next, ends, at)
-      (page_next kept.first from (length kept.lines) (length cs) PAGE log.ends (omega (arith, at, within, log.ends)));
+      (page_next kept.first from (length kept.lines) (length cs) page_lines log.ends (omega (arith, at, within, log.ends)));
 }

@@ -2,9 +2,9 @@
 use Rattle.std.specs.Prelude.{◌≡◌, ℕ, ◌+◌, ◌-◌, ◌<◌, ◌^◌, ◌==◌, ◌&&◌, List, [], ◌∷◌, ◌++◌, Bool, drop, length, min, nat_le, string_bytes, take}
 use Rattle.std.specs.List.{flat_map}
 use Rattle.covered_log.specs.KeptState.{KeptState, end_of, first_after}
+use Rattle.covered_log.specs.Limits.{page_lines}
 use Rattle.covered_log.specs.Lines.{Change, entries_of, lines_of}
 use Rattle.covered_log.specs.declared.page.Page.{Page}
-use Rattle.covered_log.specs.declared.page.TheConstants.{PAGE}
 
 -- the number of the process, all changes since the service began, and of how many of the first the lines are not kept
 pub record LogState : Type 0 where
@@ -35,10 +35,10 @@ losing_line s c = record { process = s.process; changes = s.changes ++ c ∷ [];
 abbrev pub is_known : LogState → ℕ → ℕ → Bool
 is_known s process line = process == s.process && (nat_le s.first line && nat_le line (length s.changes))
 
--- the lines behind a cursor, at most `PAGE`, and the cursor to go on from
+-- the lines behind a cursor, at most `page_lines`, and the cursor to go on from
 pub record IsPage (s : LogState) (line : ℕ) (page : Page) : Type 0 where
-  pub text : string_bytes page.text ≡ flat_map (λ text. text) (take PAGE (drop line (lines_of s.changes)))
-  pub next : page.next ≡ line + min PAGE (length s.changes - line)
+  pub text : string_bytes page.text ≡ flat_map (λ text. text) (take page_lines (drop line (lines_of s.changes)))
+  pub next : page.next ≡ line + min page_lines (length s.changes - line)
 
 -- the lines that are kept are the last ones, and all are counted
 pub record IsLog (kept : KeptState) (entries : ℕ) (changes : List Change) : Type 0 where

@@ -1,5 +1,6 @@
 ghost use Rattle.std.specs.Prelude.{◌≡◌, ◌+◌, ◌++◌, ◌∷◌, [], ◌<◌, ◌^◌, IsOkAnd, OnErr, OnOk, Some, length, slice_get, string_bytes};
 ghost use Rattle.covered_log.specs.KeptState.{end_of, new_kept, with_room, with_text, without_text};
+ghost use Rattle.covered_log.specs.Limits.{most_kept};
 
 use std::alloc::{AllocError, Global};
 use std::collections::VecDeque;
@@ -69,7 +70,7 @@ impl KeptLines {
     /// Makes room for one more line: the oldest goes if as many are kept as may be.
     fn make_room(&mut self)
         ensures made { self.new ≡ with_room self.old }
-        ensures room { length self.new.lines < KEPT }
+        ensures room { length self.new.lines < most_kept }
     {
         if self.lines.len() >= KEPT {
             let _oldest = self.lines.pop_front();
@@ -79,7 +80,7 @@ impl KeptLines {
 
     /// Adds a line, for which there is room. Without memory it is lost.
     fn push(&mut self, line: Chars) -> Result<(), AllocError>
-        requires room { length self.old.lines < KEPT }
+        requires room { length self.old.lines < most_kept }
         requires counted { end_of self.old + 1 < 2 ^ 64 }
         ensures ok { OnOk result (self.new ≡ record { first = self.old.first; lines = self.old.lines ++ line ∷ [] }) }
         ensures err { OnErr result (self.new ≡ without_text self.old) }

@@ -1,5 +1,6 @@
 ghost use Rattle.std.specs.Prelude.{◌≡◌, ◌+◌, ◌≤◌, IfOk, drop, length, min, string_bytes, take};
 ghost use Rattle.std.specs.List.{flat_map};
+ghost use Rattle.covered_log.specs.Limits.{page_lines};
 
 use crate::kept::KeptLines;
 use std::alloc::{AllocError, Global};
@@ -17,7 +18,7 @@ pub struct Page {
 /// Where a page ends that begins at an index of the lines that are kept.
 pub(crate) fn page_end(kept: &KeptLines, from: usize) -> usize
     requires { from ≤ length kept.now.lines }
-    ensures { result ≡ min (from + PAGE) (length kept.now.lines) }
+    ensures { result ≡ min (from + page_lines) (length kept.now.lines) }
 {
     let left = kept.len() - from;
     if left > PAGE { from + PAGE } else { kept.len() }
