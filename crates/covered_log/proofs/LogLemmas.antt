@@ -1,10 +1,10 @@
 -- One more change of a log.
-use Rattle.std.proofs.Common.{◌≡◌, ◌∙◌, ◌≤◌, ◌+◌, ◌-◌, ℕ, List, [], ◌∷◌, ◌++◌, length, drop, ap, refl, sym, subst, arith, length-append}
+use Rattle.std.proofs.Common.{◌≡◌, ◌≤◌, ◌+◌, ◌-◌, ℕ, List, [], ◌∷◌, ◌++◌, length, drop, refl, sym, subst, arith, length-append}
 use Rattle.std.proofs.lemmas.List.{drop-append-le, drop-drop, drop_all, length-drop}
 use Rattle.std.specs.Prelude.{Bool, true, false, nat_lt, Result, Ok, Err, IsOkAnd, if◌then◌else◌}
 use Rattle.wf_value.specs.Gives.{Gives}
 use Rattle.wf_value.specs.declared.refusal.Refusal.{Refusal}
-use Rattle.covered_log.specs.KeptState.{KeptState, end_of, first_after, with_text, without_text}
+use Rattle.covered_log.specs.KeptState.{KeptState, end_of, with_text, without_text}
 use Rattle.covered_log.specs.Limits.{most_kept}
 use Rattle.covered_log.specs.Lines.{Change, Entered, Stands, Missed, entries_in, entries_of, line_of, lines_after, lines_of}
 use Rattle.covered_log.specs.LogState.{IsLog}

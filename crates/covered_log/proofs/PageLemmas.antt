@@ -1,5 +1,5 @@
 -- The lines of a page.
-use Rattle.std.proofs.Common.{◌≡◌, ◌∙◌, ◌≤◌, ◌+◌, ◌-◌, ℕ, List, [], ◌∷◌, ◌++◌, length, drop, take, min, ap, refl, sym, arith, length-take}
+use Rattle.std.proofs.Common.{◌≡◌, ◌≤◌, ◌+◌, ◌-◌, ℕ, List, [], ◌∷◌, ◌++◌, length, drop, take, min, refl, sym, arith, length-take}
 use Rattle.std.proofs.lemmas.List.{drop-append-le, drop-drop, drop-take, flat_map_more, take_min, take_more}
 use Rattle.std.proofs.lemmas.Option.{get_or_from_slice_get, slice_get_within}
 use Rattle.std.specs.Prelude.{Some, slice_get, string_bytes}
