@@ -11,3 +11,4 @@ pub mod Parts
 pub mod Sending
 pub mod EnteredLater
 pub mod Unfailed
+pub mod Following

@@ -48,6 +48,7 @@ impl<D: Disk, E: Named, T: Ledger> Desk<D, E, T> {
     /// over these. Takes no memory.
     pub fn new(store: Store<D>, ledgers: Ledgers) -> Desk<D, E, T>
         requires empty { store.history ≡ [] }
+        requires base { store.base ≡ E.base }
         requires entries { (ledgers.entries.name ≡ E.name) × (E.parts ≡ 64) }
         requires replies { (ledgers.replies.name ≡ T.name) × (T.parts ≡ 64) }
         requires history { ledgers.history.seen.book ≡ E.book }
@@ -73,7 +74,9 @@ impl<D: Disk, E: Named, T: Ledger> Desk<D, E, T> {
     }
 
     /// The store, with all its entries.
-    pub fn into_store(self) -> Store<D> {
+    pub fn into_store(self) -> Store<D>
+        ensures { result.base ≡ E.base }
+    {
         let (store, _whole) = self.into_parts();
         store
     }
@@ -81,7 +84,8 @@ impl<D: Disk, E: Named, T: Ledger> Desk<D, E, T> {
     /// The store and its whole history, of which each seat's history is a prefix (`HistoryPrefix::begins`). The history is `None` if another party
     /// wrote its book, which no seat does.
     pub fn into_parts(self) -> (Store<D>, Option<HistoryPrefix<E>>)
-        ensures { IfSome result.1 (λ prefix. prefix ≡ result.0.history) }
+        ensures base { result.0.base ≡ E.base }
+        ensures whole { IfSome result.1 (λ prefix. prefix ≡ result.0.history) }
     {
         let Desk { desk_state, .. } = self;
         let DeskState { locked, .. } = desk_state.into_inner();

@@ -52,7 +52,7 @@ impl<D: Disk, E: Named, T: Ledger> Model for LockedStore<D, E, T> {
     ghost view = { λ d. record { store = d.store; entered = d.entries.total; answered = d.replies.total; released = d.released; lost = d.lost } };
 
     ghost invariant = { λ d. (d.entries.total ≡ length d.store.history) × (d.replies.total ≡ d.released) × (d.released ≤ d.store.covered)
-        × (length d.store.history ≤ max_entries) × (d.lost ≡ false → d.prefix ≡ d.store.history) };
+        × (length d.store.history ≤ max_entries) × (d.store.base ≡ E.base) × (d.lost ≡ false → d.prefix ≡ d.store.history) };
 }
 
 impl<D: Disk, E: Named, T: Ledger> LockedStore<D, E, T> {
@@ -62,7 +62,7 @@ impl<D: Disk, E: Named, T: Ledger> LockedStore<D, E, T> {
         replies: Book<T>,
         prefix: HistoryPrefix<E>,
     ) -> LockedStore<D, E, T>
-        requires store { store.history ≡ [] }
+        requires store { (store.history ≡ []) × (store.base ≡ E.base) }
         requires books { (entries.total ≡ 0) × (replies.total ≡ 0) }
         requires prefix { prefix ≡ [] }
         ensures { result ≡ record { store = store; entered = 0; answered = 0; released = 0; lost = false } }
@@ -80,6 +80,7 @@ impl<D: Disk, E: Named, T: Ledger> LockedStore<D, E, T> {
     /// The store, and its history as a prefix, unless `lost` is set.
     pub fn into_parts(self) -> (Store<D>, Option<HistoryPrefix<E>>)
         ensures store { result.0 ≡ self.store }
+        ensures base { result.0.base ≡ E.base }
         ensures prefix { IfSome result.1 (λ prefix. prefix ≡ self.store.history) }
     {
         let LockedStore {
@@ -96,6 +97,7 @@ impl<D: Disk, E: Named, T: Ledger> LockedStore<D, E, T> {
     pub fn covered(&self) -> u64
         ensures value { result ≡ self.now.store.covered }
         ensures within { self.now.store.covered ≤ length self.now.store.history }
+        ensures base { self.now.store.base ≡ E.base }
         ensures legal { IsLegal self.now.store.base self.now.store.history }
         ensures groups { KeepsGroups self.now.store.base self.now.store.history }
         ensures promise { D.honest self.now.store.disk → (c : List ℕ) → D.images self.now.store.disk c → RecoversToEither self.now.store c }

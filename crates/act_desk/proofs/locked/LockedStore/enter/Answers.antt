@@ -21,7 +21,7 @@ invariant_of-result g c = (
 pub returns-clause-lost : goal.returns-clause-lost
 returns-clause-lost g c =
     let longer : c.show-shown.result ≡ false → c.self.inside.lost ≡ false → IsLonger c.self.inside.store.history c.show-shown.new.prefix =
-    λ no kept. subst (λ (h : List Entry). IsLonger h c.show-shown.new.prefix) (c.self.invariant.4 kept) (c.show-shown.ensures.longer no kept) in
+    λ no kept. subst (λ (h : List Entry). IsLonger h c.show-shown.new.prefix) (c.self.invariant.5 kept) (c.show-shown.ensures.longer no kept) in
     rw (← c.self.view_is)
     (given_up c.show-shown.result c.self.inside.lost c.show-shown.new.lost c.self.inside.store.history c.show-shown.new.prefix c.see.new.self.seen
     c.show-shown.ensures.kept longer c.see.ensures.prefix)
