@@ -90,7 +90,7 @@ fn hold_named<
     requires base { store.base ≡ E.base }
     requires entries { (ledgers.entries.name ≡ E.name) × (E.parts ≡ 64) }
     requires replies { (ledgers.replies.name ≡ T.name) × (T.parts ≡ 64) }
-    requires history { ledgers.history.seen.book ≡ E.book }
+    requires history { (ledgers.history.seen.book ≡ E.book) × (ledgers.history.token.nib.key ≡ E.first) }
     requires running { (running.items ≡ []) × (vec_len works ≤ vec_capacity running) }
     requires transcripts { (transcripts.items ≡ []) × (vec_len works ≤ vec_capacity transcripts) }
     ensures ended { HaveEnded W.ends works.items result.transcripts.items }

@@ -48,7 +48,7 @@ fn submit_all<E: Named, T: Ledger, R: Wait + Clock + Abort>(
     requires store { (store.history ≡ []) × (store.base ≡ E.base) }
     requires entries { (ledgers.entries.name ≡ E.name) × (E.parts ≡ 64) }
     requires replies { (ledgers.replies.name ≡ T.name) × (T.parts ≡ 64) }
-    requires history { ledgers.history.seen.book ≡ E.book }
+    requires history { (ledgers.history.seen.book ≡ E.book) × (ledgers.history.token.nib.key ≡ E.first) }
 {
     let desk: Desk<MemoryDisk, E, T> = Desk::new(store, ledgers);
     let mut seat = seat_of(rt, &desk, 0);

@@ -68,7 +68,7 @@ fn finish_one_checkpoint<E: Named, T: Ledger, R: Wait + Clock + Abort>(
     requires store { (store.history ≡ []) × (store.base ≡ E.base) }
     requires entries { (ledgers.entries.name ≡ E.name) × (E.parts ≡ 64) }
     requires replies { (ledgers.replies.name ≡ T.name) × (T.parts ≡ 64) }
-    requires history { ledgers.history.seen.book ≡ E.book }
+    requires history { (ledgers.history.seen.book ≡ E.book) × (ledgers.history.token.nib.key ≡ E.first) }
 {
     let desk: Desk<MemoryDisk, E, T> = Desk::new(store, ledgers);
     let seat = seat_after_looks(rt, alloc, &desk, 282);
@@ -98,7 +98,7 @@ fn start_at_half<E: Named, T: Ledger, R: Wait + Clock + Abort>(
     requires store { (store.history ≡ []) × (store.base ≡ E.base) }
     requires entries { (ledgers.entries.name ≡ E.name) × (E.parts ≡ 64) }
     requires replies { (ledgers.replies.name ≡ T.name) × (T.parts ≡ 64) }
-    requires history { ledgers.history.seen.book ≡ E.book }
+    requires history { (ledgers.history.seen.book ≡ E.book) × (ledgers.history.token.nib.key ≡ E.first) }
 {
     let desk: Desk<MemoryDisk, E, T> = Desk::new(store, ledgers);
     let mut seat = seat_after_looks(rt, alloc, &desk, 143);
@@ -126,7 +126,7 @@ fn cover_pending<E: Named, T: Ledger, R: Wait + Clock + Abort>(
     requires store { (store.history ≡ []) × (store.base ≡ E.base) }
     requires entries { (ledgers.entries.name ≡ E.name) × (E.parts ≡ 64) }
     requires replies { (ledgers.replies.name ≡ T.name) × (T.parts ≡ 64) }
-    requires history { ledgers.history.seen.book ≡ E.book }
+    requires history { (ledgers.history.seen.book ≡ E.book) × (ledgers.history.token.nib.key ≡ E.first) }
 {
     let desk: Desk<MemoryDisk, E, T> = Desk::new(store, ledgers);
     let mut seat = seat_after_looks(rt, alloc, &desk, 150);

@@ -58,7 +58,7 @@ fn submit_alternately<E: Named, T: Ledger, R: Wait + Clock + Abort>(
     requires store { (store.history ≡ []) × (store.base ≡ E.base) }
     requires entries { (ledgers.entries.name ≡ E.name) × (E.parts ≡ 64) }
     requires replies { (ledgers.replies.name ≡ T.name) × (T.parts ≡ 64) }
-    requires history { ledgers.history.seen.book ≡ E.book }
+    requires history { (ledgers.history.seen.book ≡ E.book) × (ledgers.history.token.nib.key ≡ E.first) }
 {
     let desk: Desk<MemoryDisk, E, T> = Desk::new(store, ledgers);
     let mut first = seat_of(rt, &desk, 0);
@@ -75,7 +75,6 @@ fn submit_alternately<E: Named, T: Ledger, R: Wait + Clock + Abort>(
     holds!(rt; desk.give_back(first) == (2, 2));
     holds!(rt; desk.give_back(second) == (2, 2));
     let (store, whole) = desk.into_parts();
-    let whole = whole.expect(rt, "the history");
     holds!(rt; prefix.begins(&whole) && last.begins(&whole));
     expect_entries(rt, alloc, &store);
 }
@@ -106,7 +105,7 @@ fn all_seats<E: Named, T: Ledger, R: Wait + Clock + Abort>(
     requires store { (store.history ≡ []) × (store.base ≡ E.base) }
     requires entries { (ledgers.entries.name ≡ E.name) × (E.parts ≡ 64) }
     requires replies { (ledgers.replies.name ≡ T.name) × (T.parts ≡ 64) }
-    requires history { ledgers.history.seen.book ≡ E.book }
+    requires history { (ledgers.history.seen.book ≡ E.book) × (ledgers.history.token.nib.key ≡ E.first) }
 {
     let desk: Desk<MemoryDisk, E, T> = Desk::new(store, ledgers);
     for number in 0..64 {
@@ -169,7 +168,7 @@ fn commit_three<E: Named, T: Ledger, R: Wait + Clock + Abort>(
     requires store { (store.history ≡ []) × (store.base ≡ E.base) }
     requires entries { (ledgers.entries.name ≡ E.name) × (E.parts ≡ 64) }
     requires replies { (ledgers.replies.name ≡ T.name) × (T.parts ≡ 64) }
-    requires history { ledgers.history.seen.book ≡ E.book }
+    requires history { (ledgers.history.seen.book ≡ E.book) × (ledgers.history.token.nib.key ≡ E.first) }
 {
     let desk: Desk<MemoryDisk, E, T> = Desk::new(store, ledgers);
     let mut first = seat_of(rt, &desk, 0);
@@ -246,7 +245,7 @@ fn long_history<E: Named, T: Ledger, R: Wait + Clock + Abort>(
     requires store { (store.history ≡ []) × (store.base ≡ E.base) }
     requires entries { (ledgers.entries.name ≡ E.name) × (E.parts ≡ 64) }
     requires replies { (ledgers.replies.name ≡ T.name) × (T.parts ≡ 64) }
-    requires history { ledgers.history.seen.book ≡ E.book }
+    requires history { (ledgers.history.seen.book ≡ E.book) × (ledgers.history.token.nib.key ≡ E.first) }
 {
     let desk: Desk<MemoryDisk, E, T> = Desk::new(store, ledgers);
     let mut seat = seat_of(rt, &desk, 0);
@@ -256,7 +255,7 @@ fn long_history<E: Named, T: Ledger, R: Wait + Clock + Abort>(
     holds!(rt; desk.give_back(seat) == (ENTRIES, ENTRIES));
     let (store, whole) = desk.into_parts();
     holds!(rt; store.entries() == ENTRIES && store.covered() == ENTRIES);
-    holds!(rt; whole.is_some());
+    holds!(rt; whole.entries() == ENTRIES);
     let _disk = store.into_disk();
 }
 
