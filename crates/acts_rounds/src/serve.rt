@@ -197,8 +197,10 @@ pub fn serve_rounds<D: Disk + Drop + Send, R: Threads + Wait + Clock + Sync, O: 
 ) -> Result<Store<D>, Refusal>
     requires fresh { store.history ≡ [] }
     requires sessions { (0 < sessions) × (sessions ≤ 32) }
-    // On success no stream failed in any round, and the store has the history of the last one.
-    ensures served { IfOk result (λ store. HasServed hooks.now runners.now sessions rounds (O.contents out.old) (O.contents out.new) store.history) }
+    // On success no stream failed in any round, and the store has the history of the last one. Each history begins at the table where the
+    // one before ended, and the first one at the table of the given store.
+    ensures served { IfOk result (λ last. HasServed hooks.now runners.now sessions rounds (O.contents out.old) (O.contents out.new)
+        store.base last.base last.history) }
 {
     let first = connections(alloc, hooks, runners, sessions)?;
     let store = brought_up(alloc, store)?;
