@@ -35,9 +35,9 @@ module _ (D E T : RattleType) (d : Ghosts D.Denot) (n : Names E.Denot) (e : Coun
       declared_send (desk_state_type D E T d n e t)
       (search (sendable, locked_send) depth 6, (search (sendable, seats.the_send) depth 6, (search sendable depth 6, (search sendable depth 6, (search sendable depth 6, (search sendable depth 6, (search (sendable, linger.the_send) depth 6, tt)))))))
 
-  pub desk_sync : IsSync (desk D E T n e d t)
+  pub desk_sync : IsSync (desk D E T d n e t)
   desk_sync =
-      declared_sync (desk_type D E T n e d t) (
+      declared_sync (desk_type D E T d n e t) (
         search (sendable, mutex.the_sync, desk_state_send) depth 6,
         (search (sendable, condvar.the_sync) depth 6, (search (sendable, condvar.the_sync) depth 6, (search (sendable, mutex.the_sync) depth 6, (search (sendable, condvar.the_sync) depth 6, tt)))),
       )

@@ -117,7 +117,7 @@ impl<D: Disk, E: Named, T: Ledger> Desk<D, E, T> {
         seat: &mut Seat<E, T>,
         command: Command,
     ) -> Result<Pending<E>, Refusal>
-        ensures pending { IfOk result (λ p. (p.seat ≡ seat.old.number) × (p.command ≡ command) × IsPrefix p.seen seat.new.seen) }
+        ensures pending { IfOk result (λ p. (p.seat ≡ seat.old.number) × (p.command ≡ command) × (p.seen ≡ seat.new.seen)) }
         ensures after { IfOk result (λ p. length (entries_in seat.old.seen) < p.place) }
         ensures entered { OnOk result (seat.new.entered ≡ seat.old.entered + 1) }
         ensures unchanged { OnErr result (seat.new ≡ seat.old) }
