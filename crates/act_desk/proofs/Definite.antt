@@ -1,5 +1,5 @@
 -- Answers that settle whether their commands were entered.
-use Rattle.std.proofs.Common.{◌≡◌, ℕ, zero, suc, ◌<◌, ◌||◌, true, List, [], ◌∷◌, ◌++◌, length, get_or, arith, ap, sym, subst, ◌∙◌}
+use Rattle.std.proofs.Common.{◌≡◌, ℕ, zero, suc, ◌<◌, ◌||◌, true, List, [], ◌∷◌, ◌++◌, length, get_or, arith}
 use Rattle.act_sessions.specs.declared.transcript.LoggedExchange.{LoggedExchange}
 use Rattle.act_sessions.specs.Exchange.{Exchange, leaves_open, exchanges_in}
 use Rattle.act_desk.specs.Settled.{AreDefinite, is_definite}

@@ -1,5 +1,5 @@
 -- The entry of a reply is in every later view of the history.
-use Rattle.std.proofs.Common.{◌≡◌, ℕ, ◌+◌, ◌-◌, ◌<◌, ◌≤◌, List, Some, Result, Ok, Err, length, slice_get, arith}
+use Rattle.std.proofs.Common.{◌≡◌, ℕ, ◌-◌, ◌<◌, ◌≤◌, List, Some, Result, Ok, Err, length, slice_get, arith}
 use Rattle.std.specs.Prelude.{IfOk}
 use mathlib.Core.List.{IsPrefix}
 use Rattle.wf_value.specs.declared.refusal.Refusal.{Refusal}

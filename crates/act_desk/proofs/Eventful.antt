@@ -1,9 +1,8 @@
 -- A history with more events.
-use Rattle.std.proofs.Common.{◌≡◌, ℕ, ◌+◌, ◌≤◌, List, [], ◌∷◌, ◌++◌, length, append_assoc, length-append, refl, ap, sym, ◌∙◌, arith, subst}
+use Rattle.std.proofs.Common.{◌≡◌, ◌+◌, ◌≤◌, List, [], ◌∷◌, ◌++◌, length, append_assoc, length-append, refl, ap, sym, ◌∙◌, arith}
 use Rattle.std.proofs.lemmas.List.{append-nil}
 use Rattle.std.proofs.lemmas.List.Sums.{sum_by-append}
 use mathlib.Core.List.{IsPrefix}
-use Rattle.act_store.specs.declared.entry.Entry.{Entry}
 use Rattle.act_desk.specs.Events.{covered_by, covered_in, entries_in, entry_of_event, told_by, told_in}
 use Rattle.act_desk.specs.declared.event.Event.{Event}
 use Rattle.act_desk.specs.declared.event.Event.TheVariants.{Covered, Entered, Told}

@@ -2,9 +2,8 @@
 use Rattle.std.proofs.Common.{◌≡◌, ℕ, zero, suc, ◌<◌, ◌==◌, true, false, List, [], ◌∷◌, ◌++◌, length, refl, ap, sym, subst, arith, inl, length-append, None}
 use Rattle.std.specs.Prelude.{slice_set}
 use Rattle.std.proofs.lemmas.List.{append-nil, get_or-set_same, length-set}
-use mathlib.Core.List.{IsPrefix}
 use prog.Atomic.{either}
-use Rattle.logbook.specs.Pages.{Cell, Nib, cell, adds, gives, keeps, may_make, may_write, nib, no_nib, step, Moves}
+use Rattle.logbook.specs.Pages.{Cell, Nib, cell, adds, gives, keeps, may_write, no_nib, step, Moves}
 use Rattle.act_desk.specs.declared.event.Note.{Note}
 use Rattle.act_desk.specs.Lines.{IsKept, AreUsed, IsUnused, Adds, Looks, Reserves}
 

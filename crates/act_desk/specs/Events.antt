@@ -1,5 +1,5 @@
 -- What happens at a desk, in order: an entry is made, more entries are covered, or a reply is released.
-use Rattle.std.specs.Prelude.{ℕ, ◌+◌, List, [], ◌∷◌, ◌++◌, flat_map, sum_by}
+use Rattle.std.specs.Prelude.{ℕ, List, [], ◌∷◌, flat_map, sum_by}
 use Rattle.act_store.specs.declared.entry.Entry.{Entry}
 use Rattle.act_desk.specs.declared.event.Event.{Event}
 use Rattle.act_desk.specs.declared.event.Event.TheVariants.{Covered, Entered, Told}

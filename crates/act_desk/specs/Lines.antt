@@ -2,7 +2,7 @@
 -- note. So the notes that follow one another from a first key, each under the key that the last one names, are a line that has one writer.
 use Rattle.std.specs.Prelude.{ℕ, ◌≡◌, ◌≢◌, ◌<◌, ◌==◌, true, List, [], ◌∷◌, ◌++◌, length, if◌then◌else◌, ⊤}
 use mathlib.Core.List.{IsPrefix}
-use Rattle.logbook.specs.Pages.{Cell, Step, View, Book, Named, cell, may_make, may_write}
+use Rattle.logbook.specs.Pages.{Cell, Step, View, Book, Named, cell, may_make}
 use Rattle.act_desk.specs.declared.event.Event.{Event}
 use Rattle.act_desk.specs.declared.event.Note.{Note}
 

@@ -1,5 +1,5 @@
 -- What the sessions submitted, compared with the history of the store.
-use Rattle.std.specs.Prelude.{◌≡◌, ◌≢◌, ◌⊎◌, ◌==◌, ◌||◌, ◌<◌, ℕ, Bool, true, false, List, [], ◌∷◌, ◌++◌, filter, flat_map, length, get_or, Ok, Err, ⊤, Option, Some, None, IfSome, All}
+use Rattle.std.specs.Prelude.{◌≡◌, ◌≢◌, ◌⊎◌, ◌==◌, ◌||◌, ◌<◌, ℕ, Bool, true, List, [], ◌∷◌, ◌++◌, filter, flat_map, length, get_or, Ok, Err, ⊤, Option, Some, None, IfSome, All}
 use mathlib.Core.List.{IsPrefix}
 use Rattle.wf_value.specs.RefusalText.{refusal_number}
 use Rattle.act_sessions.specs.declared.transcript.Ending.TheVariants.{Broken, Memory}

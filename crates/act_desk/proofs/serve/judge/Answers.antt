@@ -1,4 +1,4 @@
-use Rattle.std.proofs.Common.{◌≡◌, List, refl, rules, subst, sym, take}
+use Rattle.std.proofs.Common.{◌≡◌, List, refl, rules, subst, take}
 use Rattle.act_sessions.specs.declared.transcript.Transcript.{Transcript}
 use Rattle.act_desk.specs.Settled.{AreCovered, IsSettled, NoneBroken}
 use Rattle.act_desk.proofs.serve.judge.Goals as goal

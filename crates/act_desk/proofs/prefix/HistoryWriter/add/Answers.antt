@@ -1,6 +1,5 @@
-use Rattle.std.proofs.Common.{◌≡◌, ◌∙◌, ◌≤◌, ◌++◌, ◌∷◌, [], List, length, ap, arith, length-append, subst, sym}
+use Rattle.std.proofs.Common.{◌≡◌, ◌∙◌, ◌++◌, ◌∷◌, [], List, length, ap, arith, length-append, subst, sym}
 use mathlib.Core.List.{IsPrefix}
-use Rattle.logbook.specs.Pages.{Nib}
 use Rattle.act_desk.specs.Events.{entries_in, entry_of_event}
 use Rattle.act_desk.specs.Lines.{IsUnused, line, next_of}
 use Rattle.act_desk.specs.declared.event.Event.{Event}
