@@ -1,4 +1,4 @@
-use Rattle.std.proofs.Common.{◌≡◌, ◌∙◌, ◌+◌, ◌≤◌, sym, ap, arith}
+use Rattle.std.proofs.Common.{◌≡◌, ◌∙◌, ◌≤◌, sym, ap, arith}
 use Rattle.std.specs.Prelude.{None, Some, length, slice_get}
 use Rattle.std.specs.Option.{option_copied}
 use Rattle.acts_serve.proofs.FollowingLemmas.{found_at, gains_next, none_is_past}
