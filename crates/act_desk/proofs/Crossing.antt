@@ -8,8 +8,7 @@ use Rattle.std.proofs.sync.Mutex.TheSendSync as mutex
 use Rattle.std.specs.declared.sync.ledger.Ledger.{Ghosts as Counts}
 use Rattle.act_disk.specs.declared.disk.Disk.{Ghosts}
 use Rattle.act_desk.specs.declared.named.Named.{Ghosts as Names}
-use Rattle.act_desk.proofs.prefix.HistoryPrefix.TheSendSync as prefix
-use Rattle.act_desk.proofs.prefix.Head.TheSendSync as head
+use Rattle.act_desk.proofs.prefix.HistoryWriter.TheSendSync as history
 use Rattle.act_desk.proofs.linger.Linger.TheSendSync as linger
 use Rattle.act_desk.proofs.seats.Seats.TheSendSync as seats
 use Rattle.act_desk.specs.contracts.desk.Desk.{the_row as desk, the_type as desk_type}
@@ -28,7 +27,7 @@ module _ (D E T : RattleType) (d : Ghosts D.Denot) (n : Names E.Denot) (e : Coun
       view_send (locked_inside D E T d n e t) _ _ _ _
       (declared_send (locked_type D E T d n e t) (
         search (sendable, store_send, disk) depth 8,
-        (search sendable depth 6, (search (sendable, book.the_send) depth 6, (search (sendable, book.the_send) depth 6, (search (sendable, prefix.the_send) depth 6, (search sendable depth 6, tt))))),
+        (search sendable depth 6, (search (sendable, book.the_send) depth 6, (search (sendable, book.the_send) depth 6, (search (sendable, history.the_send) depth 6, (search sendable depth 6, tt))))),
       ))
 
   desk_state_send : IsSend (desk_state D E T d n e t)
@@ -36,9 +35,9 @@ module _ (D E T : RattleType) (d : Ghosts D.Denot) (n : Names E.Denot) (e : Coun
       declared_send (desk_state_type D E T d n e t)
       (search (sendable, locked_send) depth 6, (search (sendable, seats.the_send) depth 6, (search sendable depth 6, (search sendable depth 6, (search sendable depth 6, (search sendable depth 6, (search (sendable, linger.the_send) depth 6, tt)))))))
 
-  pub desk_sync : IsSync (desk D E T n e d t)
+  pub desk_sync : IsSync (desk D E T d n e t)
   desk_sync =
-      declared_sync (desk_type D E T n e d t) (
-        search (sendable, head.the_sync) depth 6,
-        (search (sendable, mutex.the_sync, desk_state_send) depth 6, (search (sendable, condvar.the_sync) depth 6, (search (sendable, condvar.the_sync) depth 6, (search (sendable, mutex.the_sync) depth 6, (search (sendable, condvar.the_sync) depth 6, tt))))),
+      declared_sync (desk_type D E T d n e t) (
+        search (sendable, mutex.the_sync, desk_state_send) depth 6,
+        (search (sendable, condvar.the_sync) depth 6, (search (sendable, condvar.the_sync) depth 6, (search (sendable, mutex.the_sync) depth 6, (search (sendable, condvar.the_sync) depth 6, tt)))),
       )

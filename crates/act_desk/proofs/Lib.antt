@@ -1,13 +1,15 @@
-pub mod Adding
 pub mod Causes
 pub mod EnteredAt
 pub mod Crossing
 pub mod Definite
 pub mod Flushes
 pub mod Prefixes
-pub mod GivenUp
+pub mod Lines
 pub mod Lists
+pub mod Moving
+pub mod Eventful
 pub mod Parts
 pub mod Sending
 pub mod EnteredLater
 pub mod Unfailed
+pub mod Following

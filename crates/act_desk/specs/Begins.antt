@@ -1,16 +1,16 @@
--- Lists of entries where one is a prefix of the other, and the entries in them.
-use Rattle.std.specs.Prelude.{◌≡◌, ℕ, ◌<◌, List, [], ◌∷◌, ◌++◌, length, slice_get, Some}
-use mathlib.Core.List.{IsPrefix}
+-- The entries in a list of entries or events.
+use Rattle.std.specs.Prelude.{◌≡◌, ℕ, ◌<◌, ◌≤◌, List, length, slice_get, Some}
 use Rattle.act_store.specs.declared.entry.Entry.{Entry}
-
--- the longer one has the other as a proper prefix
-abbrev pub IsLonger : List Entry → List Entry → Type 0
-IsLonger prefix history = IsPrefix prefix history × (length prefix < length history)
+use Rattle.act_desk.specs.Events.{covered_in, entries_in}
+use Rattle.act_desk.specs.declared.event.Event.{Event}
 
 -- the entry is at some position of the history
 abbrev pub IsEntered : List Entry → Entry → Type 0
 IsEntered history entry = (place : ℕ) × (slice_get history place ≡ Some entry)
 
--- the entry is the last one
-abbrev pub EndsWith : List Entry → Entry → Type 0
-EndsWith history entry = (before : List Entry) × (history ≡ before ++ entry ∷ [])
+-- The entry is in what was seen, after every entry that had been seen before, and it is covered.
+pub record IsCoveredAfter (before seen : List Event) (entry : Entry) : Type 0 where
+  pub place : ℕ
+  pub at : slice_get (entries_in seen) place ≡ Some entry
+  pub later : length (entries_in before) ≤ place
+  pub covers : place < covered_in seen

@@ -1,6 +1,5 @@
 -- One step of a flusher, which makes checkpoints of a store beside the seats.
 use Rattle.std.specs.Prelude.{◌≡◌, ◌≢◌, ◌⊎◌, ℕ, ◌+◌, ◌-◌, ◌*◌, ◌^◌, ◌<◌, min, true, false, Bool, Option, Some, None, Result, Ok, Err}
-use Rattle.wf_value.specs.Gives.{no_memory}
 use Rattle.wf_value.specs.declared.refusal.Refusal.{Refusal}
 use Rattle.act_disk.specs.Failed.{device_failed}
 use Rattle.act_store.specs.Checkpoints.{IsFinished, begun_at, left_of, refusal_of_begin, refusal_of_finish, refusal_of_slice, sliced, text_length}

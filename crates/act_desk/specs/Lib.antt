@@ -1,8 +1,9 @@
 pub mod Answered
 pub mod Begins
+pub mod Events
 pub mod Faults
 pub mod Flushing
+pub mod Lines
 pub mod Lone
-pub mod Rules
 pub mod Settled
 pub mod Shown

@@ -1,5 +1,6 @@
 -- What the sessions submitted, compared with the history of the store.
-use Rattle.std.specs.Prelude.{◌≡◌, ◌≢◌, ◌⊎◌, ◌==◌, ◌||◌, ◌<◌, ℕ, Bool, true, false, List, [], ◌∷◌, ◌++◌, filter, flat_map, length, get_or, Ok, Err, ⊤, Option, Some, None, IfSome, All}
+use Rattle.std.specs.Prelude.{◌≡◌, ◌≢◌, ◌⊎◌, ◌==◌, ◌||◌, ◌<◌, ℕ, Bool, true, List, [], ◌∷◌, ◌++◌, filter, flat_map, length, get_or, Ok, Err, ⊤, Option, Some, None, IfSome, All}
+use mathlib.Core.List.{IsPrefix}
 use Rattle.wf_value.specs.RefusalText.{refusal_number}
 use Rattle.act_sessions.specs.declared.transcript.Ending.TheVariants.{Broken, Memory}
 use Rattle.act_sessions.specs.declared.transcript.Transcript.{Transcript}
@@ -51,6 +52,12 @@ pub record Agrees (seat : ℕ) (exchanges : List Exchange) (history : List Entry
   pub part_is : part_of seat history ≡ entries_of seat exchanges ++ if_any over
   pub of_last : IfSome over (IsOfLast seat exchanges)
 
+-- The entries may be the first ones of the seat's part: of the commands that got a reply, and after all of these perhaps the last one.
+pub record MayBegin (seat : ℕ) (exchanges : List Exchange) (part : List Entry) : Type 0 where
+  pub over : Option Entry
+  pub of_last : IfSome over (IsOfLast seat exchanges)
+  pub begins : IsPrefix part (entries_of seat exchanges ++ if_any over)
+
 -- how far a list of submitted commands was found: `asked` first ones, and perhaps the entry of the last one after them
 pub record Progress : Type 0 where
   pub asked : ℕ
@@ -75,6 +82,11 @@ pub record HaveEnded {W : Type 0} (ends : W → Transcript → Type 0) (works : 
 pub record IsSettled (transcripts : List Transcript) (history : List Entry) : Type 0 where
   pub agree : (i : ℕ) (t : Transcript) → i < length transcripts → Agrees i (exchanges_by (get_or transcripts i t)) history
   pub no_other : All (λ (e : Entry). e.seat < length transcripts) history
+
+-- The commands that got a reply are among these entries, which are the covered ones: those of each seat are the first ones of its part.
+abbrev pub AreCovered : List Transcript → List Entry → Type 0
+AreCovered transcripts covered =
+    (i : ℕ) (t : Transcript) → i < length transcripts → IsPrefix (entries_of i (exchanges_by (get_or transcripts i t))) (part_of i covered)
 
 -- no session was ended by its reader or writer
 abbrev pub NoneBroken : List Transcript → Type 0

@@ -1,11 +1,14 @@
 -- What contracts see of the desk: the value under its lock, a seat, and an entered command with its withheld reply.
-use Rattle.std.specs.Prelude.{◌≡◌, ℕ, ◌-◌, ◌≤◌, Bool, true, false, List, length, Some, slice_get}
+use Rattle.std.specs.Prelude.{◌≡◌, ℕ, ◌-◌, List, Some, slice_get}
 use Rattle.run_plan.specs.declared.command.Command.{Command}
 use Rattle.run_plan.specs.declared.reply.Reply.{Reply}
 use Rattle.run_table.specs.Step.{stepped}
 use Rattle.run_table.specs.TableState.{TableState}
+use Rattle.act_sessions.specs.Exchange.{Exchange}
 use Rattle.act_store.specs.StoreState.{StoreState}
 use Rattle.act_store.specs.declared.entry.Entry.{Entry}
+use Rattle.act_desk.specs.Events.{covered_in, entries_in, told_in}
+use Rattle.act_desk.specs.declared.event.Event.{Event}
 
 -- The value under the lock.
 pub record Shown (D : Type 0) : Type 0 where
@@ -16,25 +19,31 @@ pub record Shown (D : Type 0) : Type 0 where
   pub answered : ℕ
   -- the number of released replies
   pub released : ℕ
-  -- whether another party wrote the book of the history, so that it no longer shows where entries are
-  pub lost : Bool
 
--- A seat: its number, its two shares, and the prefix of the history that it has seen.
+-- A seat: its number, its two shares, and what it has seen of the history.
 pub record SeatView : Type 0 where
   pub number : ℕ
   pub entered : ℕ
   pub released : ℕ
-  pub seen : List Entry
+  pub seen : List Event
 
--- An entered command: the seat that submitted it, the command, and the position of its entry, counted from 1, in the prefix of the history
--- seen at that time. The reply is hidden.
+-- A seat that a session uses, and the commands submitted from it.
+pub record Seated : Type 0 where
+  pub seat : SeatView
+  -- the commands submitted so far, each with its answer
+  pub asked : List Exchange
+
+-- An entered command: the seat that submitted it, the command, and the position of its entry, counted from 1, in what was seen of the
+-- history at that time. The reply is hidden.
 pub record Awaited : Type 0 where
   pub seat : ℕ
   pub command : Command
   pub place : ℕ
-  pub seen : List Entry
-  -- whether the entry is known to be there
-  pub shown : Bool
+  pub seen : List Event
+
+-- The events show this store as it is: its entries, how many of them are covered, and how many replies are released.
+abbrev pub Shows : {D : Type 0} → List Event → StoreState D → ℕ → Type 0
+Shows events store released = (entries_in events ≡ store.history) × (covered_in events ≡ store.covered) × (told_in events ≡ released)
 
 -- The reply is the one of the command's step, from some table.
 abbrev pub IsReplyTo : Command → Reply → Type 0
@@ -44,10 +53,3 @@ IsReplyTo command reply = (table : TableState) × (reply ≡ (stepped table comm
 abbrev pub IsAnsweredBy : List Entry → Awaited → Reply → Type 0
 IsAnsweredBy history pending reply =
     slice_get history (pending.place - 1) ≡ Some (record { seat = pending.seat; command = pending.command; reply = reply })
-
--- The prefix seen at entry is known to be a prefix of the history under the lock. This holds for each pending command of a desk unless
--- another party wrote the book of its history. No seat does that, but no clause of a lock can say so.
-pub record IsKnown {D : Type 0} (desk : Shown D) (pending : Awaited) : Type 0 where
-  pub shown : pending.shown ≡ true
-  pub kept : desk.lost ≡ false
-  pub within : length pending.seen ≤ length desk.store.history

@@ -1,10 +1,11 @@
-ghost use Rattle.std.specs.Prelude.{◌≡◌, ◌⊎◌, ◌+◌, ◌<◌, ◌≤◌, [], IfErr, IfOk, IfSome, OnErr, OnOk};
+ghost use Rattle.std.specs.Prelude.{◌≡◌, ◌⊎◌, ◌+◌, ◌<◌, ◌≤◌, [], length, IfErr, IfOk, IfSome, OnErr, OnOk};
 ghost use mathlib.Core.List.{IsPrefix};
 ghost use Rattle.wf_value.specs.Gives.{no_memory};
 ghost use Rattle.act_disk.specs.Failed.{device_failed};
 ghost use Rattle.act_store.specs.Plain.{area_full, failed_earlier, history_full, old_layout};
 ghost use Rattle.act_desk.specs.Answered.{unsettled};
-ghost use Rattle.act_desk.specs.Begins.{IsEntered};
+ghost use Rattle.act_desk.specs.Begins.{IsCoveredAfter};
+ghost use Rattle.act_desk.specs.Events.{covered_in, entries_in, told_in};
 ghost use Rattle.act_desk.specs.Shown.{IsReplyTo, IsAnsweredBy};
 
 use crate::desk_state::{DeskState, WakeReason};
@@ -13,7 +14,7 @@ use crate::ledgers::Ledgers;
 use crate::locked::LockedStore;
 use crate::named::Named;
 use crate::pending::Pending;
-use crate::prefix::{Head, HistoryPrefix};
+use crate::prefix::HistoryPrefix;
 use crate::seat::Seat;
 use crate::seats::Seats;
 use act_disk::Disk;
@@ -31,7 +32,6 @@ use wf_value::Refusal;
 /// waits until no seat is entering a command or leaving with a covered reply, and then commits for all. The others sleep until then.
 #[derive(Drop)]
 pub struct Desk<D: Disk, E: Named, T: Ledger> {
-    head: Head<E>,
     desk_state: Mutex<DeskState<D, E, T>>,
     /// A leader is done.
     signal: Condvar,
@@ -48,9 +48,10 @@ impl<D: Disk, E: Named, T: Ledger> Desk<D, E, T> {
     /// over these. Takes no memory.
     pub fn new(store: Store<D>, ledgers: Ledgers) -> Desk<D, E, T>
         requires empty { store.history ≡ [] }
+        requires base { store.base ≡ E.base }
         requires entries { (ledgers.entries.name ≡ E.name) × (E.parts ≡ 64) }
         requires replies { (ledgers.replies.name ≡ T.name) × (T.parts ≡ 64) }
-        requires history { ledgers.history.seen.book ≡ E.book }
+        requires history { (ledgers.history.seen.book ≡ E.book) × (ledgers.history.token.nib.key ≡ E.first) }
     {
         let Ledgers {
             entries,
@@ -59,11 +60,10 @@ impl<D: Disk, E: Named, T: Ledger> Desk<D, E, T> {
         } = ledgers;
         let (entry_book, entry_shares) = entries.open::<E>();
         let (reply_book, reply_shares) = replies.open::<T>();
-        let (head, prefix) = history.named::<E>();
-        let seats = Seats::new(entry_shares, reply_shares, prefix.again());
-        let locked = LockedStore::new(store, entry_book, reply_book, prefix);
+        let history = history.named::<E>();
+        let seats = Seats::new(entry_shares, reply_shares, history.so_far());
+        let locked = LockedStore::new(store, entry_book, reply_book, history);
         Desk {
-            head,
             desk_state: Mutex::new(DeskState::new(locked, seats)),
             signal: Condvar::new(),
             gathered: Condvar::new(),
@@ -73,15 +73,18 @@ impl<D: Disk, E: Named, T: Ledger> Desk<D, E, T> {
     }
 
     /// The store, with all its entries.
-    pub fn into_store(self) -> Store<D> {
+    pub fn into_store(self) -> Store<D>
+        ensures { result.base ≡ E.base }
+    {
         let (store, _whole) = self.into_parts();
         store
     }
 
-    /// The store and its whole history, of which each seat's history is a prefix (`HistoryPrefix::begins`). The history is `None` if another party
-    /// wrote its book, which no seat does.
-    pub fn into_parts(self) -> (Store<D>, Option<HistoryPrefix<E>>)
-        ensures { IfSome result.1 (λ prefix. prefix ≡ result.0.history) }
+    /// The store and the whole history, of which each seat's history is a prefix (`HistoryPrefix::begins`).
+    pub fn into_parts(self) -> (Store<D>, HistoryPrefix<E>)
+        ensures base { result.0.base ≡ E.base }
+        ensures entries { entries_in result.1 ≡ result.0.history }
+        ensures covered { covered_in result.1 ≤ result.0.covered }
     {
         let Desk { desk_state, .. } = self;
         let DeskState { locked, .. } = desk_state.into_inner();
@@ -104,6 +107,9 @@ impl<D: Disk, E: Named, T: Ledger> Desk<D, E, T> {
     }
 
     /// Enters a command and withholds its reply. It is refused with 46, 47, 50, 52 or 57, as by `Store::apply`; then nothing was entered.
+    ///
+    /// The entry comes after every one that the seat had seen. To let it come after those that another seat was told of, call `Seat::learn`
+    /// first.
     pub fn enter(
         &self,
         rt: &impl Wait,
@@ -111,7 +117,8 @@ impl<D: Disk, E: Named, T: Ledger> Desk<D, E, T> {
         seat: &mut Seat<E, T>,
         command: Command,
     ) -> Result<Pending<E>, Refusal>
-        ensures pending { IfOk result (λ p. (p.seat ≡ seat.old.number) × (p.command ≡ command) × IsPrefix p.seen seat.new.seen) }
+        ensures pending { IfOk result (λ p. (p.seat ≡ seat.old.number) × (p.command ≡ command) × (p.seen ≡ seat.new.seen)) }
+        ensures after { IfOk result (λ p. length (entries_in seat.old.seen) < p.place) }
         ensures entered { OnOk result (seat.new.entered ≡ seat.old.entered + 1) }
         ensures unchanged { OnErr result (seat.new ≡ seat.old) }
         ensures cause { IfErr result (λ e. (e ≡ no_memory) ⊎ (e ≡ history_full) ⊎ (e ≡ old_layout) ⊎ (e ≡ area_full) ⊎ (e ≡ failed_earlier)) }
@@ -120,7 +127,7 @@ impl<D: Disk, E: Named, T: Ledger> Desk<D, E, T> {
         let _ = self.moves(rt, 1);
         let mut guard = self.desk_state.lock(rt);
         let desk_state = &mut *guard;
-        let entered = desk_state.locked.enter(alloc, &self.head, seat, command);
+        let entered = desk_state.locked.enter(alloc, seat, command);
         drop(guard);
         self.moved(rt);
         entered
@@ -132,17 +139,23 @@ impl<D: Disk, E: Named, T: Ledger> Desk<D, E, T> {
     /// It is refused with 51 if this seat led and the device failed in its commit; with 52 if the device had failed before, as it had for
     /// each seat that slept while a leader failed with 51; and with 60 if as many replies are released as entries are covered. It is then
     /// unknown whether the entry exists, and no reply is released.
+    ///
+    /// What the seat has seen then says how many entries are covered and how many replies are released (`HistoryPrefix`). Only the value
+    /// under the lock adds to that history, and what was seen of it holds of that value at any later moment (`LockedStore::recall`).
     pub fn cover<R: Wait + Clock>(
         &self,
         rt: &R,
         seat: &mut Seat<E, T>,
         pending: Pending<E>,
     ) -> Result<Reply, Refusal>
-        ensures reply { IfOk result (λ reply. IsReplyTo pending.command reply × IsAnsweredBy pending.seen pending reply) }
+        ensures reply { IfOk result (λ reply. IsReplyTo pending.command reply × IsAnsweredBy (entries_in pending.seen) pending reply) }
+        ensures covered { OnOk result (pending.place ≤ covered_in seat.new.seen) }
+        ensures later { OnOk result (IsPrefix pending.seen seat.new.seen) }
         ensures released { OnOk result (seat.new.released ≡ seat.old.released + 1) }
         ensures unreleased { OnErr result (seat.new.released ≡ seat.old.released) }
         ensures cause { IfErr result (λ e. (e ≡ failed_earlier) ⊎ (e ≡ device_failed) ⊎ (e ≡ unsettled)) }
-        ensures same { (seat.new.entered ≡ seat.old.entered) × (seat.new.number ≡ seat.old.number) × (seat.new.seen ≡ seat.old.seen) }
+        ensures excess { IfErr result (λ e. e ≡ unsettled → covered_in seat.new.seen ≤ told_in seat.new.seen) }
+        ensures same { (seat.new.entered ≡ seat.old.entered) × (seat.new.number ≡ seat.old.number) × IsPrefix seat.old.seen seat.new.seen }
     {
         let (mut guard, turn) = self.turn(rt, pending.place());
         let desk_state = &mut *guard;
@@ -271,7 +284,7 @@ impl<D: Disk, E: Named, T: Ledger> Desk<D, E, T> {
     /// Enters a command, and returns its reply once its entry is covered.
     ///
     /// A refusal with 46, 47, 50 or 57 has entered nothing. After 51, 52 or 60 it is unknown whether the entry exists, and no reply was
-    /// released.
+    /// released. A reply means that the entry is covered, and that it comes after every one that the seat had seen before.
     pub fn submit<R: Wait + Clock>(
         &self,
         rt: &R,
@@ -280,13 +293,14 @@ impl<D: Disk, E: Named, T: Ledger> Desk<D, E, T> {
         command: Command,
     ) -> Result<Reply, Refusal>
         ensures reply { IfOk result (λ reply. IsReplyTo command reply) }
-        ensures in_history { IfOk result (λ reply. IsEntered seat.new.seen (record { seat = seat.old.number; command = command; reply = reply })) }
+        ensures in_history { IfOk result (λ reply. IsCoveredAfter seat.old.seen seat.new.seen (record { seat = seat.old.number; command = command; reply = reply })) }
         ensures entered { OnOk result (seat.new.entered ≡ seat.old.entered + 1) }
         ensures released { OnOk result (seat.new.released ≡ seat.old.released + 1) }
         ensures unreleased { OnErr result (seat.new.released ≡ seat.old.released) }
         ensures may_enter { OnErr result ((seat.new.entered ≡ seat.old.entered) ⊎ (seat.new.entered ≡ seat.old.entered + 1)) }
         ensures refused { IfErr result (λ e. (e ≡ no_memory) ⊎ (e ≡ history_full) ⊎ (e ≡ old_layout) ⊎ (e ≡ area_full) → seat.new ≡ seat.old) }
         ensures cause { IfErr result (λ e. (e ≡ no_memory) ⊎ (e ≡ history_full) ⊎ (e ≡ old_layout) ⊎ (e ≡ area_full) ⊎ (e ≡ failed_earlier) ⊎ (e ≡ device_failed) ⊎ (e ≡ unsettled)) }
+        ensures excess { IfErr result (λ e. e ≡ unsettled → covered_in seat.new.seen ≤ told_in seat.new.seen) }
         ensures seen { (seat.new.number ≡ seat.old.number) × IsPrefix seat.old.seen seat.new.seen }
     {
         let pending = self.enter(rt, alloc, seat, command)?;

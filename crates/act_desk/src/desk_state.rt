@@ -1,7 +1,9 @@
-ghost use Rattle.std.specs.Prelude.{◌≡◌, ◌⊎◌, ◌+◌, IfErr, IfOk, OnErr, OnOk};
+ghost use Rattle.std.specs.Prelude.{◌≡◌, ◌⊎◌, ◌+◌, ◌≤◌, IfErr, IfOk, OnErr, OnOk};
+ghost use mathlib.Core.List.{IsPrefix};
 ghost use Rattle.act_disk.specs.Failed.{device_failed};
 ghost use Rattle.act_store.specs.Plain.{failed_earlier};
 ghost use Rattle.act_desk.specs.Answered.{unsettled};
+ghost use Rattle.act_desk.specs.Events.{covered_in, entries_in, told_in};
 ghost use Rattle.act_desk.specs.Shown.{IsReplyTo, IsAnsweredBy};
 
 use crate::linger::Linger;
@@ -94,11 +96,14 @@ impl<D: Disk, E: Named, T: Ledger> DeskState<D, E, T> {
         pending: Pending<E>,
         turn: WakeReason,
     ) -> (Result<Reply, Refusal>, u64)
-        ensures reply { IfOk result.0 (λ reply. IsReplyTo pending.command reply × IsAnsweredBy pending.seen pending reply) }
+        ensures reply { IfOk result.0 (λ reply. IsReplyTo pending.command reply × IsAnsweredBy (entries_in pending.seen) pending reply) }
+        ensures covered { OnOk result.0 (pending.place ≤ covered_in seat.new.seen) }
+        ensures later { OnOk result.0 (IsPrefix pending.seen seat.new.seen) }
         ensures released { OnOk result.0 (seat.new.released ≡ seat.old.released + 1) }
         ensures unreleased { OnErr result.0 (seat.new.released ≡ seat.old.released) }
         ensures cause { IfErr result.0 (λ e. (e ≡ failed_earlier) ⊎ (e ≡ device_failed) ⊎ (e ≡ unsettled)) }
-        ensures same { (seat.new.entered ≡ seat.old.entered) × (seat.new.number ≡ seat.old.number) × (seat.new.seen ≡ seat.old.seen) }
+        ensures excess { IfErr result.0 (λ e. e ≡ unsettled → covered_in seat.new.seen ≤ told_in seat.new.seen) }
+        ensures same { (seat.new.entered ≡ seat.old.entered) × (seat.new.number ≡ seat.old.number) × IsPrefix seat.old.seen seat.new.seen }
     {
         let answer = self.locked.cover(seat, pending);
         if turn != WakeReason::Leads {

@@ -3,17 +3,20 @@
 #![tactic(auto)]
 
 mod alone;
+mod book;
 mod book_rules;
 mod checkpoints;
 mod desk;
 mod desk_state;
 mod ended;
+mod event;
 mod flush;
 mod gate;
 mod host;
 mod ledgers;
 mod linger;
 mod locked;
+mod marks;
 mod named;
 mod pending;
 mod prefix;
@@ -29,12 +32,13 @@ mod starting;
 pub use alone::Alone;
 pub use checkpoints::flusher;
 pub use desk::Desk;
+pub use event::{Event, Note};
 pub use gate::{Free, Gate};
 pub use ledgers::{Ledgers, MAX_SEATS};
 pub use locked::LockedStore;
 pub use named::Named;
 pub use pending::Pending;
-pub use prefix::{Head, HistoryPrefix, Unnamed};
+pub use prefix::{HistoryPrefix, HistoryWriter, Unnamed};
 pub use seat::Seat;
 pub use serve::serve_all;
 pub use settled::{Fault, Settled};

@@ -1,4 +1,4 @@
-ghost use Rattle.std.specs.Prelude.{◌≡◌, ◌⊎◌, ◌+◌, ◌-◌, ◌*◌, ◌<◌, ◌≤◌, ◌^◌, ℕ, List, [], ◌∷◌, ◌++◌, length, true, false, Err, IfErr, IfOk, IfSome, OnErr, OnOk, Some};
+ghost use Rattle.std.specs.Prelude.{◌≡◌, ◌⊎◌, ◌+◌, ◌-◌, ◌*◌, ◌<◌, ◌≤◌, ◌^◌, ℕ, List, [], ◌∷◌, ◌++◌, length, true, false, Err, IfErr, IfOk, IfSome, OnErr, OnOk};
 ghost use mathlib.Core.List.{IsPrefix};
 ghost use Rattle.wf_value.specs.Gives.{no_memory};
 ghost use Rattle.act_disk.specs.Failed.{device_failed};
@@ -10,14 +10,16 @@ ghost use Rattle.act_store.specs.Images.{RecoversTo};
 ghost use Rattle.act_store.specs.StoreState.{RecoversToEither, table_of};
 ghost use Rattle.act_store.specs.declared.entry.Entry.{Entry};
 ghost use Rattle.act_desk.specs.Answered.{unsettled};
-ghost use Rattle.act_store.specs.Plain.{area_full, broken, entered, failed_earlier, history_full, old_layout, refusal_of_apply};
+ghost use Rattle.act_store.specs.Plain.{area_full, broken, committed, entered, failed_earlier, history_full, old_layout, refusal_of_apply};
 ghost use Rattle.act_store.specs.FaultCauses.{TellsFault};
-ghost use Rattle.act_desk.specs.Begins.{IsLonger};
-ghost use Rattle.act_desk.specs.Shown.{IsKnown, IsReplyTo, IsAnsweredBy};
+ghost use Rattle.act_desk.specs.Events.{covered_in, entries_in, told_in};
+ghost use Rattle.act_desk.specs.Shown.{IsReplyTo, IsAnsweredBy, Shows};
 
+use crate::event::Event;
+use crate::marks::{mark, tell_one};
 use crate::named::Named;
 use crate::pending::Pending;
-use crate::prefix::{Head, HistoryPrefix};
+use crate::prefix::{HistoryPrefix, HistoryWriter};
 use crate::seat::Seat;
 use act_disk::Disk;
 use act_store::{Receipt, Store};
@@ -28,31 +30,34 @@ use std::snapshot::Snapshot;
 use std::sync::ledger::{Book, Ledger};
 use wf_value::{Code, Refusal};
 
-/// The value under the lock of a desk: the store, the number of released replies, and the books of two ledgers. The seats' shares of
-/// entries add up to the length of the history. Their shares of replies add up to the number of released replies, which is at most the
-/// number of covered entries.
+/// The value under the lock of a desk: the store, the number of released replies, the books of two ledgers, and the history that seats see.
+/// The seats' shares of entries add up to the length of the store's history. Their shares of replies add up to the number of released
+/// replies, which is at most the number of covered entries.
 #[derive(Drop)]
 pub struct LockedStore<D: Disk, E: Named, T: Ledger> {
     store: Store<D>,
     released: u64,
     entries: Book<E>,
     replies: Book<T>,
-    /// The whole history, unless `lost` is set.
-    prefix: HistoryPrefix<E>,
-    lost: bool,
+    history: HistoryWriter<E>,
+    /// How many covered entries the history knows of.
+    marked: u64,
 }
 
 impl<D: Disk, E: Named, T: Ledger> Model for LockedStore<D, E, T> {
-    ghost use Rattle.std.specs.Prelude.{◌≡◌, ◌≤◌, false, length};
+    ghost use Rattle.std.specs.Prelude.{◌≡◌, ◌+◌, ◌≤◌, length};
     ghost use Rattle.stated_limits.specs.Limits.{max_entries};
+    ghost use Rattle.act_desk.specs.Events.{covered_in, entries_in, told_in};
     ghost use Rattle.act_desk.specs.Shown.{Shown};
 
     ghost Value = { Shown D };
 
-    ghost view = { λ d. record { store = d.store; entered = d.entries.total; answered = d.replies.total; released = d.released; lost = d.lost } };
+    ghost view = { λ d. record { store = d.store; entered = d.entries.total; answered = d.replies.total; released = d.released } };
 
     ghost invariant = { λ d. (d.entries.total ≡ length d.store.history) × (d.replies.total ≡ d.released) × (d.released ≤ d.store.covered)
-        × (length d.store.history ≤ max_entries) × (d.lost ≡ false → d.prefix ≡ d.store.history) };
+        × (length d.store.history ≤ max_entries) × (d.store.base ≡ E.base)
+        × (entries_in d.history ≡ d.store.history) × (covered_in d.history ≡ d.marked) × (d.marked ≤ d.store.covered) × (told_in d.history ≡ d.released)
+        × (length d.history ≤ length d.store.history + d.marked + d.released) };
 }
 
 impl<D: Disk, E: Named, T: Ledger> LockedStore<D, E, T> {
@@ -60,35 +65,33 @@ impl<D: Disk, E: Named, T: Ledger> LockedStore<D, E, T> {
         store: Store<D>,
         entries: Book<E>,
         replies: Book<T>,
-        prefix: HistoryPrefix<E>,
+        history: HistoryWriter<E>,
     ) -> LockedStore<D, E, T>
-        requires store { store.history ≡ [] }
+        requires store { (store.history ≡ []) × (store.base ≡ E.base) }
         requires books { (entries.total ≡ 0) × (replies.total ≡ 0) }
-        requires prefix { prefix ≡ [] }
-        ensures { result ≡ record { store = store; entered = 0; answered = 0; released = 0; lost = false } }
+        requires history { history ≡ [] }
+        ensures { result ≡ record { store = store; entered = 0; answered = 0; released = 0 } }
     {
         LockedStore {
             store,
             released: 0,
             entries,
             replies,
-            prefix,
-            lost: false,
+            history,
+            marked: 0,
         }
     }
 
-    /// The store, and its history as a prefix, unless `lost` is set.
-    pub fn into_parts(self) -> (Store<D>, Option<HistoryPrefix<E>>)
+    /// The store, and the whole history.
+    pub fn into_parts(self) -> (Store<D>, HistoryPrefix<E>)
         ensures store { result.0 ≡ self.store }
-        ensures prefix { IfSome result.1 (λ prefix. prefix ≡ self.store.history) }
+        ensures base { result.0.base ≡ E.base }
+        ensures entries { entries_in result.1 ≡ self.store.history }
+        ensures covered { covered_in result.1 ≤ self.store.covered }
+        ensures told { told_in result.1 ≡ self.released }
     {
-        let LockedStore {
-            store,
-            prefix,
-            lost,
-            ..
-        } = self;
-        let whole = if lost { None } else { Some(prefix) };
+        let LockedStore { store, history, .. } = self;
+        let whole = history.so_far();
         (store, whole)
     }
 
@@ -96,6 +99,7 @@ impl<D: Disk, E: Named, T: Ledger> LockedStore<D, E, T> {
     pub fn covered(&self) -> u64
         ensures value { result ≡ self.now.store.covered }
         ensures within { self.now.store.covered ≤ length self.now.store.history }
+        ensures base { self.now.store.base ≡ E.base }
         ensures legal { IsLegal self.now.store.base self.now.store.history }
         ensures groups { KeepsGroups self.now.store.base self.now.store.history }
         ensures promise { D.honest self.now.store.disk → (c : List ℕ) → D.images self.now.store.disk c → RecoversToEither self.now.store c }
@@ -168,20 +172,22 @@ impl<D: Disk, E: Named, T: Ledger> LockedStore<D, E, T> {
         self.store.check_finish(alloc)
     }
 
-    /// Enters a command for a seat and withholds its reply. It makes no device call.
+    /// Enters a command for a seat and withholds its reply. It makes no device call. The seat sees the whole history, which ends with the
+    /// entry.
     ///
     /// It is refused as by `Store::apply`, with 52, 46, 57, 47 or 50; then nothing changes.
     #[tactic(auto, using(crate::proofs::Causes::causes))]
     pub fn enter(
         &mut self,
         alloc: Global,
-        head: &Head<E>,
         seat: &mut Seat<E, T>,
         command: Command,
     ) -> Result<Pending<E>, Refusal>
         ensures entered { OnOk result (self.new.store ≡ entered self.old.store seat.old.number command) }
         ensures pending { IfOk result (λ p. (p.seat ≡ seat.old.number) × (p.command ≡ command) × (p.place ≡ length self.new.store.history)) }
-        ensures seen { IfOk result (λ p. IsPrefix p.seen seat.new.seen) }
+        ensures seen { IfOk result (λ p. p.seen ≡ seat.new.seen) }
+        ensures after { IfOk result (λ p. length (entries_in seat.old.seen) < p.place) }
+        ensures whole { OnOk result (Shows seat.new.seen self.new.store self.new.released) }
         ensures counted { OnOk result (seat.new.entered ≡ seat.old.entered + 1) }
         ensures same { (seat.new.released ≡ seat.old.released) × (seat.new.number ≡ seat.old.number) × IsPrefix seat.old.seen seat.new.seen }
         ensures released { self.new.released ≡ self.old.released }
@@ -189,142 +195,167 @@ impl<D: Disk, E: Named, T: Ledger> LockedStore<D, E, T> {
         ensures cause { IfErr result (λ e. (e ≡ no_memory) ⊎ (refusal_of_apply self.old.store command ≡ Some e)) }
         ensures kind { IfErr result (λ e. (e ≡ no_memory) ⊎ (e ≡ history_full) ⊎ (e ≡ old_layout) ⊎ (e ≡ area_full) ⊎ (e ≡ failed_earlier)) }
         ensures unchanged { OnErr result ((self.new ≡ self.old) × (seat.new ≡ seat.old)) }
-        // The history is given up only if a longer one was seen, and only then the entry is not shown.
-        ensures lost { self.new.lost ≡ true → (self.old.lost ≡ true) ⊎ IsLonger self.old.store.history seat.new.seen }
-        ensures shown { IfOk result (λ p. p.shown ≡ false → self.new.lost ≡ true) }
     {
         let asked = Snapshot::of(&command);
         let number = seat.number();
+        let covered = self.store.covered();
         let LockedStore {
             store,
             entries,
-            prefix,
-            lost,
+            history,
+            marked,
             ..
         } = self;
         let receipt = store.apply(alloc, number, command)?;
         seat.count_entry(entries);
-        let shown = show(lost, prefix, head, store);
-        seat.see(prefix);
+        history.recall(seat.prefix());
+        mark(history, marked, covered);
+        note_last(history, store);
+        seat.see(history);
         Ok(Pending {
             seat: number,
             command: asked,
             receipt,
-            prefix: prefix.again(),
-            shown,
+            prefix: history.so_far(),
         })
     }
 
     /// Makes the entry of a pending command durable, unless it is covered, and releases its reply. For a covered entry it makes no device
-    /// call.
+    /// call. At each moment of the call the disk recovers to the entries that were covered, or to all.
     ///
     /// The result is 52 if the device failed earlier and the entry is not covered, 51 if it fails in this call, and 60 if as many replies
     /// are released as entries are covered, which no history of this desk reaches. A refusal counts no reply.
     pub fn cover(&mut self, seat: &mut Seat<E, T>, pending: Pending<E>) -> Result<Reply, Refusal>
-        ensures reply { IfOk result (λ reply. IsReplyTo pending.command reply × IsAnsweredBy pending.seen pending reply) }
+        ensures any_moment { D.honest self.old.store.disk
+            → EachSince D.moment D.images_since self.old.store.disk self.new.store.disk (RecoversToEither self.old.store) }
+        ensures reply { IfOk result (λ reply. IsReplyTo pending.command reply × IsAnsweredBy (entries_in pending.seen) pending reply) }
         ensures stands { IfOk result (λ reply. IsAnsweredBy self.new.store.history pending reply) }
         ensures covered { OnOk result (pending.place ≤ self.new.store.covered) }
         ensures released { OnOk result ((seat.new.released ≡ seat.old.released + 1) × (self.new.released ≡ self.old.released + 1)) }
         ensures unreleased { OnErr result ((seat.new.released ≡ seat.old.released) × (self.new.released ≡ self.old.released)) }
-        ensures same { (seat.new.entered ≡ seat.old.entered) × (seat.new.number ≡ seat.old.number) × (seat.new.seen ≡ seat.old.seen) }
+        ensures same { (seat.new.entered ≡ seat.old.entered) × (seat.new.number ≡ seat.old.number) × IsPrefix seat.old.seen seat.new.seen }
+        ensures whole { OnOk result (Shows seat.new.seen self.new.store self.new.released) }
+        ensures later { OnOk result (IsPrefix pending.seen seat.new.seen) }
         ensures history { (self.new.store.history ≡ self.old.store.history) × (self.new.store.base ≡ self.old.store.base) }
-        ensures kept { self.new.lost ≡ self.old.lost }
         ensures no_call { pending.place ≤ self.old.store.covered → self.new.store ≡ self.old.store }
+        ensures committed { OnOk result (self.old.store.covered < pending.place → self.new.store ≡ committed self.old.store self.new.store.disk) }
+        ensures broken { result ≡ Err device_failed → self.new.store ≡ broken self.old.store self.new.store.disk }
         ensures cause { IfErr result (λ e. (e ≡ failed_earlier) ⊎ (e ≡ device_failed) ⊎ (e ≡ unsettled)) }
-        ensures failed { IfErr result (λ e. e ≡ failed_earlier → self.old.store.failed ≡ true) }
+        ensures failed { IfErr result (λ e. e ≡ failed_earlier → (self.old.store.failed ≡ true) × (self.new.store ≡ self.old.store)) }
         ensures fault { IfErr result (λ e. e ≡ device_failed → D.fault_count self.new.store.disk ≡ D.fault_count self.old.store.disk + 1) }
-        ensures excess { IfErr result (λ e. e ≡ unsettled → IsKnown self.old pending → self.new.store.covered ≤ self.new.released) }
+        ensures shown { OnOk result (pending.place ≤ covered_in seat.new.seen) }
+        ensures excess { IfErr result (λ e. e ≡ unsettled → self.new.store.covered ≤ self.new.released) }
+        ensures excess_shown { IfErr result (λ e. e ≡ unsettled → covered_in seat.new.seen ≤ told_in seat.new.seen) }
     {
-        if let Err(refusal) = self.reach(pending.place()) {
+        let place = pending.place();
+        self.recall(&pending.prefix);
+        if let Err(refusal) = self.reach(place) {
             pending.spend();
             return Err(refusal);
         }
         self.tell(seat, pending)
     }
 
+    /// Whatever was seen of the history still holds: its entries are the first ones of the store, as many as were covered are covered, and
+    /// as many replies as were released are released.
+    pub fn recall(&mut self, seen: &HistoryPrefix<E>)
+        ensures same { self.new ≡ self.old }
+        ensures entries { IsPrefix (entries_in seen.now) self.old.store.history }
+        ensures len { length (entries_in seen.now) ≤ length self.old.store.history }
+        ensures covered { covered_in seen.now ≤ self.old.store.covered }
+        ensures released { told_in seen.now ≤ self.old.released }
+    {
+        self.history.recall(seen);
+    }
+
     /// Makes all entries durable, unless those up to a position are covered.
     fn reach(&mut self, place: u64) -> Result<(), Refusal>
-        ensures covered { OnOk result (place ≤ length self.old.store.history → place ≤ self.new.store.covered) }
+        requires { place ≤ length self.old.store.history }
+        ensures any_moment { D.honest self.old.store.disk
+            → EachSince D.moment D.images_since self.old.store.disk self.new.store.disk (RecoversToEither self.old.store) }
+        ensures covered { OnOk result (place ≤ self.new.store.covered) }
         ensures same { self.new ≡ record self.old { store = self.new.store } }
         ensures history { (self.new.store.history ≡ self.old.store.history) × (self.new.store.base ≡ self.old.store.base) }
         ensures no_call { place ≤ self.old.store.covered → self.new.store ≡ self.old.store }
-        ensures failed { self.old.store.failed ≡ true → self.new.store ≡ self.old.store }
-        ensures cause { IfErr result (λ e. ((e ≡ failed_earlier) × (self.old.store.failed ≡ true))
+        ensures committed { OnOk result (self.old.store.covered < place → self.new.store ≡ committed self.old.store self.new.store.disk) }
+        ensures broken { result ≡ Err device_failed → self.new.store ≡ broken self.old.store self.new.store.disk }
+        ensures cause { IfErr result (λ e. ((e ≡ failed_earlier) × (self.old.store.failed ≡ true) × (self.new.store ≡ self.old.store))
             ⊎ ((e ≡ device_failed) × (D.fault_count self.new.store.disk ≡ D.fault_count self.old.store.disk + 1))) }
     {
         if self.store.covered() < place {
             self.store.commit()?;
+        } else {
+            stays(&self.store);
         }
         Ok(())
     }
 
-    /// Releases the reply of a pending command. It is refused with 60 if as many replies are released as entries are covered, if its entry
-    /// is not covered, or if the entry is not known to be in this history.
+    /// Releases the reply of a pending command whose entry is covered. It is refused with 60 if as many replies are released as entries are
+    /// covered. The seat sees the whole history.
     #[tactic(auto, using(crate::proofs::Prefixes::prefix_get))]
     fn tell(&mut self, seat: &mut Seat<E, T>, pending: Pending<E>) -> Result<Reply, Refusal>
-        ensures reply { IfOk result (λ reply. IsReplyTo pending.command reply × IsAnsweredBy pending.seen pending reply) }
+        requires { pending.place ≤ self.old.store.covered }
+        ensures reply { IfOk result (λ reply. IsReplyTo pending.command reply × IsAnsweredBy (entries_in pending.seen) pending reply) }
         ensures stands { IfOk result (λ reply. IsAnsweredBy self.old.store.history pending reply) }
-        ensures covered { OnOk result (pending.place ≤ self.old.store.covered) }
-        ensures released { OnOk result ((seat.new ≡ record seat.old { released = seat.old.released + 1 })
+        ensures released { OnOk result ((seat.new.released ≡ seat.old.released + 1)
             × (self.new ≡ record self.old { released = self.old.released + 1; answered = self.old.answered + 1 })) }
-        ensures unreleased { OnErr result ((seat.new ≡ seat.old) × (self.new ≡ self.old)) }
+        ensures unreleased { OnErr result ((seat.new.released ≡ seat.old.released) × (self.new ≡ self.old)) }
+        ensures same { (seat.new.entered ≡ seat.old.entered) × (seat.new.number ≡ seat.old.number) × IsPrefix seat.old.seen seat.new.seen }
+        ensures whole { Shows seat.new.seen self.new.store self.new.released }
+        ensures later { OnOk result (IsPrefix pending.seen seat.new.seen) }
         ensures refused { IfErr result (λ e. e ≡ unsettled) }
-        ensures excess { OnErr result (IsKnown self.old pending → pending.place ≤ self.old.store.covered → self.old.store.covered ≤ self.old.released) }
+        ensures shown { OnOk result (pending.place ≤ covered_in seat.new.seen) }
+        ensures excess { OnErr result (self.old.store.covered ≤ self.old.released) }
+        ensures excess_shown { OnErr result (covered_in seat.new.seen ≤ told_in seat.new.seen) }
     {
-        let known = pending.shown && self.knows(&pending.prefix);
-        let excess = self.released >= self.store.covered();
-        let Pending {
-            seat: _,
-            command: _,
-            receipt: Receipt { reply, place },
-            prefix: _,
-            shown: _,
-        } = pending;
-        if !known || excess || self.store.covered() < place {
-            return Err(Refusal::Numbered(Code::Unsettled));
-        }
+        let covered = self.store.covered();
+        let is_excess = self.released >= covered;
         let LockedStore {
             released,
             replies,
+            history,
+            marked,
             ..
         } = self;
+        mark(history, marked, covered);
+        if is_excess {
+            pending.spend();
+            seat.see(history);
+            return Err(Refusal::Numbered(Code::Unsettled));
+        }
         seat.count_reply(replies);
         *released += 1;
+        tell_one(history);
+        history.recall(&pending.prefix);
+        seat.see(history);
+        let Pending {
+            seat: _,
+            command: _,
+            receipt: Receipt { reply, .. },
+            prefix: _,
+        } = pending;
         Ok(reply)
-    }
-
-    /// Whether a list is known to be a prefix of the history.
-    fn knows(&self, prefix: &HistoryPrefix<E>) -> bool
-        ensures known { result ≡ true → IsPrefix prefix.now self.now.store.history }
-        ensures unknown { result ≡ false → self.now.lost ≡ false → length self.now.store.history < length prefix.now }
-    {
-        !self.lost && prefix.begins(&self.prefix)
     }
 }
 
-/// Appends the last entry of the history to the prefix that has all entries before it, and returns whether it did. If not, the history is
-/// lost.
-fn show<D: Disk, E: Named>(
-    lost: &mut bool,
-    prefix: &mut HistoryPrefix<E>,
-    head: &Head<E>,
-    store: &Store<D>,
-) -> bool
-    requires last { lost.old ≡ false → ((e : Entry) × (store.now.history ≡ prefix.old ++ e ∷ [])) }
-    requires few { lost.old ≡ false → length prefix.old < 2 ^ 62 }
-    ensures shown { result ≡ true → prefix.new ≡ store.now.history }
-    ensures lost { lost.new ≡ false → result ≡ true }
-    ensures given_up { result ≡ false → lost.new ≡ true }
-    ensures kept { result ≡ true → lost.new ≡ false }
-    ensures longer { result ≡ false → lost.old ≡ false → IsLonger prefix.old prefix.new }
+/// Between two calls of the device the images are those of this moment.
+fn stays<D: Disk>(store: &Store<D>)
+    ensures { D.honest store.now.disk → EachSince D.moment D.images_since store.now.disk store.now.disk (RecoversToEither store.now) }
 {
-    if *lost {
-        return false;
+    store.covered();
+}
+
+/// Notes the last entry of a store in the history that has all entries before it.
+#[tactic(auto, using(crate::proofs::Eventful::entries_more, crate::proofs::Eventful::covered_more, crate::proofs::Eventful::told_more))]
+fn note_last<D: Disk, E: Named>(history: &mut HistoryWriter<E>, store: &Store<D>)
+    requires last { (e : Entry) × (store.now.history ≡ entries_in history.old ++ e ∷ []) }
+    requires few { length history.old < 2 ^ 62 }
+    ensures entries { entries_in history.new ≡ store.now.history }
+    ensures covered { covered_in history.new ≡ covered_in history.old }
+    ensures told { told_in history.new ≡ told_in history.old }
+    ensures len { length history.new ≡ length history.old + 1 }
+{
+    if let Some(entry) = store.entry(store.entries()) {
+        history.add(Event::Entered(Snapshot::of(entry)));
     }
-    let shown = match store.entry(store.entries()) {
-        Some(entry) => prefix.add(head, entry),
-        None => false,
-    };
-    *lost = !shown;
-    shown
 }

@@ -1,4 +1,5 @@
-ghost use Rattle.std.specs.Prelude.{◌≡◌};
+ghost use Rattle.std.specs.Prelude.{◌≡◌, ◌≤◌, length};
+ghost use Rattle.act_desk.specs.Events.{entries_in};
 
 use crate::named::Named;
 use crate::prefix::HistoryPrefix;
@@ -15,26 +16,26 @@ pub struct Pending<E: Named> {
     pub(crate) receipt: Receipt,
     /// The prefix of the history that ends with the entry.
     pub(crate) prefix: HistoryPrefix<E>,
-    /// Whether the prefix shows the entry.
-    pub(crate) shown: bool,
 }
 
 impl<E: Named> Model for Pending<E> {
-    ghost use Rattle.std.specs.Prelude.{◌≡◌, ◌-◌, true, Some, slice_get};
+    ghost use Rattle.std.specs.Prelude.{◌≡◌, ◌-◌, Some, slice_get};
+    ghost use Rattle.act_desk.specs.Events.{entries_in};
     ghost use Rattle.act_desk.specs.Shown.{Awaited, IsReplyTo};
 
     ghost Value = { Awaited };
 
-    ghost view = { λ p. record { seat = p.seat; command = p.command.value; place = p.receipt.place; seen = p.prefix; shown = p.shown } };
+    ghost view = { λ p. record { seat = p.seat; command = p.command.value; place = p.receipt.place; seen = p.prefix } };
 
     ghost invariant = { λ p. IsReplyTo p.command.value p.receipt.reply
-        × (p.shown ≡ true → slice_get p.prefix (p.receipt.place - 1) ≡ Some (record { seat = p.seat; command = p.command.value; reply = p.receipt.reply })) };
+        × (slice_get (entries_in p.prefix) (p.receipt.place - 1) ≡ Some (record { seat = p.seat; command = p.command.value; reply = p.receipt.reply })) };
 }
 
 impl<E: Named> Pending<E> {
     /// The position of its entry, counted from 1.
     pub(crate) fn place(&self) -> u64
-        ensures { result ≡ self.now.place }
+        ensures place { result ≡ self.now.place }
+        ensures within { self.now.place ≤ length (entries_in self.now.seen) }
     {
         self.receipt.place
     }
@@ -46,7 +47,6 @@ impl<E: Named> Pending<E> {
             command: _,
             receipt: _,
             prefix: _,
-            shown: _,
         } = self;
     }
 }

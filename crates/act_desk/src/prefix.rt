@@ -1,85 +1,182 @@
-ghost use Rattle.std.specs.Prelude.{◌≡◌, ◌+◌, ◌<◌, ◌≤◌, ◌^◌, ◌++◌, ◌∷◌, ◌⊎◌, [], length, false, true, MatchBool};
+ghost use Rattle.std.specs.Prelude.{◌≡◌, ◌+◌, ◌<◌, ◌≤◌, ◌^◌, ◌++◌, ◌∷◌, ◌⊎◌, [], length, false, true};
 ghost use mathlib.Core.List.{IsPrefix};
-ghost use Rattle.act_desk.specs.Begins.{IsLonger};
-ghost use Rattle.act_desk.specs.Rules.{head_of};
+ghost use Rattle.logbook.specs.Pages.{may_write};
+ghost use Rattle.act_desk.specs.Events.{covered_in, entries_in, entry_of_event, told_in};
+ghost use Rattle.act_desk.specs.Lines.{head_of, line, next_of};
 
-use crate::book_rules::{Append, HistoryRule, NoResource};
+use crate::book::{BookWord, SeenBook, look, reserve};
+use crate::book_rules::{Append, BookRule, Next, NoResource};
+use crate::event::{Event, Note};
 use crate::named::Named;
-use act_store::Entry;
-use logbook::{Offer, Seen, Start, Word};
+use logbook::{Offer, Pen, Seen, Start, Word};
 use std::marker::{Model, PhantomData};
 
 /// An empty history without a name.
 #[derive(Drop)]
 pub struct Unnamed {
-    head: Word<Entry, u64, HistoryRule>,
-    seen: Seen<Entry, u64, HistoryRule>,
-    pub ghost empty: { seen.log ≡ [] },
-    pub ghost head_is: { head ≡ head_of seen.book },
+    word: BookWord,
+    token: Pen,
+    seen: SeenBook,
+    pub ghost word_is: { word ≡ head_of seen.book },
+    pub ghost token_is: { (token.book ≡ seen.book) × (token.nib.right ≡ may_write) },
+    pub ghost empty: { line token.nib.key seen.log ≡ [] },
+    pub ghost next: { next_of token.nib.key seen.log ≡ token.nib.key },
 }
 
 impl Unnamed {
     pub fn new() -> Unnamed {
-        let (seen, mut first, _second) = Seen::open(Start::alone(), 0, 0);
-        Unnamed {
-            head: Word::tracked(0, &mut first),
+        let (mut seen, mut first, _second) = Seen::open(Start::alone(), 0, 0);
+        let word: BookWord = Word::tracked(0, &mut first);
+        let token = reserve(&word, &mut seen);
+        Unnamed { word, token, seen }
+    }
+
+    /// Gives the history a name. Only the writer adds to it.
+    pub fn named<E: Named>(self) -> HistoryWriter<E>
+        requires { (self.seen.book ≡ E.book) × (self.token.nib.key ≡ E.first) }
+        ensures { result ≡ [] }
+    {
+        let Unnamed { word, token, seen } = self;
+        HistoryWriter {
+            word,
+            token,
+            events: 0,
+            entries: 0,
             seen,
+            of: PhantomData,
+        }
+    }
+}
+
+/// The right to write a history, and the whole history. Contracts see its events.
+#[derive(Drop)]
+pub struct HistoryWriter<E: Named> {
+    word: BookWord,
+    token: Pen,
+    events: u64,
+    entries: u64,
+    seen: SeenBook,
+    of: PhantomData<E>,
+}
+
+impl<E: Named> Model for HistoryWriter<E> {
+    ghost use Rattle.std.specs.Prelude.{◌≡◌, List, length};
+    ghost use Rattle.logbook.specs.Pages.{may_write};
+    ghost use Rattle.act_desk.specs.Events.{entries_in};
+    ghost use Rattle.act_desk.specs.Lines.{head_of, line, next_of};
+    ghost use Rattle.act_desk.specs.declared.event.Event.{Event};
+
+    ghost Value = { List Event };
+
+    ghost view = { λ a. line E.first a.seen.log };
+
+    ghost invariant = { λ a. (a.events ≡ length (line E.first a.seen.log)) × (a.entries ≡ length (entries_in (line E.first a.seen.log)))
+        × (a.seen.book ≡ E.book) × (a.word ≡ head_of E.book)
+        × (a.token.book ≡ E.book) × (a.token.nib.right ≡ may_write) × (next_of E.first a.seen.log ≡ a.token.nib.key) };
+}
+
+impl<E: Named> HistoryWriter<E> {
+    /// What was written so far.
+    pub fn so_far(&self) -> HistoryPrefix<E>
+        ensures { result ≡ self.now }
+    {
+        HistoryPrefix {
+            events: self.events,
+            entries: self.entries,
+            seen: self.seen.again(),
+            of: PhantomData,
         }
     }
 
-    /// Gives the history a name: its shared length, and the prefix that has seen nothing.
-    pub fn named<E: Named>(self) -> (Head<E>, HistoryPrefix<E>)
-        requires { self.seen.book ≡ E.book }
-        ensures { result.1 ≡ [] }
+    /// The whole history, of which each one that was seen is a prefix.
+    pub(crate) fn whole(&mut self, seen: &HistoryPrefix<E>) -> HistoryPrefix<E>
+        ensures whole { result ≡ self.old }
+        ensures same { self.new ≡ self.old }
+        ensures prefix { IsPrefix seen.now self.old }
     {
-        let Unnamed { head, seen } = self;
-        (
-            Head {
-                head,
-                of: PhantomData,
-            },
-            HistoryPrefix {
-                len: 0,
-                seen,
-                of: PhantomData,
-            },
-        )
+        self.seen.learn(&seen.seen);
+        look(&self.word, &mut self.seen, &mut self.token);
+        self.so_far()
+    }
+
+    /// Whatever was seen is still so: the entries are the first ones, as many are covered, and as many replies are released.
+    pub(crate) fn recall(&mut self, seen: &HistoryPrefix<E>)
+        ensures same { self.new ≡ self.old }
+        ensures prefix { IsPrefix seen.now self.old }
+        ensures entries { IsPrefix (entries_in seen.now) (entries_in self.old) }
+        ensures len { length (entries_in seen.now) ≤ length (entries_in self.old) }
+        ensures covered { covered_in seen.now ≤ covered_in self.old }
+        ensures told { told_in seen.now ≤ told_in self.old }
+    {
+        drop(self.whole(seen));
+    }
+
+    /// Appends an event to the history.
+    pub(crate) fn add(&mut self, event: Event)
+        requires { length self.old < 2 ^ 62 }
+        ensures { self.new ≡ self.old ++ event ∷ [] }
+    {
+        let entries = count(&event);
+        let next = Next {
+            event,
+            token: reserve(&self.word, &mut self.seen),
+        };
+        let mut offer: Offer<Note, u64, BookRule, NoResource> = self
+            .seen
+            .plain::<NoResource, Next, Append>(&next);
+        self.word
+            .compare_exchange::<Append, NoResource>(
+                0,
+                0,
+                &mut self.seen,
+                &mut offer,
+                &mut self.token,
+            );
+        let Next { event: _, token } = next;
+        self.token = token;
+        self.events += 1;
+        self.entries += entries;
     }
 }
 
-/// The length of a history, shared by all threads.
-#[derive(Drop)]
-pub struct Head<E: Named> {
-    head: Word<Entry, u64, HistoryRule>,
-    of: PhantomData<E>,
-    ghost head_is: { head ≡ head_of E.book },
+/// How many entries an event makes.
+fn count(event: &Event) -> u64
+    ensures { result ≡ length (entry_of_event event.now) }
+{
+    match event {
+        Event::Entered(_) => 1,
+        Event::Covered(_) | Event::Told => 0,
+    }
 }
 
-/// A prefix of a history that was seen. Contracts see its entries.
+/// A prefix of a history that was seen. Contracts see its events.
 #[derive(Drop)]
 pub struct HistoryPrefix<E: Named> {
-    len: u64,
-    seen: Seen<Entry, u64, HistoryRule>,
+    events: u64,
+    entries: u64,
+    seen: SeenBook,
     of: PhantomData<E>,
 }
 
 impl<E: Named> Model for HistoryPrefix<E> {
     ghost use Rattle.std.specs.Prelude.{◌≡◌, List, length};
-    ghost use Rattle.act_store.specs.declared.entry.Entry.{Entry};
+    ghost use Rattle.act_desk.specs.Events.{entries_in};
+    ghost use Rattle.act_desk.specs.Lines.{line};
+    ghost use Rattle.act_desk.specs.declared.event.Event.{Event};
 
-    ghost Value = { List Entry };
+    ghost Value = { List Event };
 
-    ghost view = { λ f. f.seen.log };
+    ghost view = { λ f. line E.first f.seen.log };
 
-    ghost invariant = { λ f. (f.len ≡ length f.seen.log) × (f.seen.book ≡ E.book) };
+    ghost invariant = { λ f. (f.events ≡ length (line E.first f.seen.log)) × (f.entries ≡ length (entries_in (line E.first f.seen.log))) × (f.seen.book ≡ E.book) };
 }
 
 impl<E: Named> HistoryPrefix<E> {
     /// The number of its entries.
     pub fn entries(&self) -> u64
-        ensures { result ≡ length self.now }
+        ensures { result ≡ length (entries_in self.now) }
     {
-        self.len
+        self.entries
     }
 
     /// A copy of the prefix.
@@ -87,7 +184,8 @@ impl<E: Named> HistoryPrefix<E> {
         ensures { result ≡ self.now }
     {
         HistoryPrefix {
-            len: self.len,
+            events: self.events,
+            entries: self.entries,
             seen: self.seen.again(),
             of: PhantomData,
         }
@@ -101,7 +199,7 @@ impl<E: Named> HistoryPrefix<E> {
     {
         let mut both = self.seen.again();
         both.learn(&other.seen);
-        if self.len < other.len {
+        if self.events < other.events {
             other.again()
         } else {
             self.again()
@@ -114,29 +212,6 @@ impl<E: Named> HistoryPrefix<E> {
         ensures longer { result ≡ false → length other.now < length self.now }
     {
         let longer = self.longer(other);
-        longer.entries() == other.entries()
-    }
-
-    /// Appends an entry to everything seen, and returns whether it did. It does not if the history is longer than what was seen.
-    pub(crate) fn add(&mut self, head: &Head<E>, entry: &Entry) -> bool
-        requires { length self.old < 2 ^ 62 }
-        ensures { MatchBool result (self.new ≡ self.old ++ entry.now ∷ []) (IsLonger self.old self.new) }
-    {
-        let mut offer: Offer<Entry, u64, HistoryRule, NoResource> = self
-            .seen
-            .plain::<NoResource, Entry, Append>(entry);
-        let mut pen = self.seen.no_pen();
-        let len = self.len;
-        let found = head
-            .head
-            .compare_exchange::<Append, NoResource>(
-                len,
-                len + 1,
-                &mut self.seen,
-                &mut offer,
-                &mut pen,
-            );
-        self.len = if found == len { len + 1 } else { found };
-        found == len
+        longer.events == other.events
     }
 }

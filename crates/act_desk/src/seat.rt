@@ -2,7 +2,7 @@ ghost use Rattle.std.specs.Prelude.{◌≡◌, ◌+◌, ◌<◌, ◌^◌, []};
 ghost use mathlib.Core.List.{IsPrefix};
 
 use crate::named::Named;
-use crate::prefix::HistoryPrefix;
+use crate::prefix::{HistoryPrefix, HistoryWriter};
 use std::marker::Model;
 use std::sync::ledger::{Book, Ledger, Share};
 
@@ -78,13 +78,23 @@ impl<E: Named, T: Ledger> Seat<E, T> {
         &self.prefix
     }
 
-    /// Sees another prefix of the same history.
-    pub(crate) fn see(&mut self, prefix: &HistoryPrefix<E>)
+    /// Sees the whole history.
+    pub(crate) fn see(&mut self, history: &mut HistoryWriter<E>)
         ensures before { IsPrefix self.old.seen self.new.seen }
-        ensures prefix { IsPrefix prefix.now self.new.seen }
+        ensures whole { self.new.seen ≡ history.old }
+        ensures history { history.new ≡ history.old }
         ensures same { (self.new.number ≡ self.old.number) × (self.new.entered ≡ self.old.entered) × (self.new.released ≡ self.old.released) }
     {
-        self.prefix = self.prefix.longer(prefix);
+        self.prefix = history.whole(&self.prefix);
+    }
+
+    /// Sees what another seat of the same history has seen.
+    pub fn learn(&mut self, other: &HistoryPrefix<E>)
+        ensures before { IsPrefix self.old.seen self.new.seen }
+        ensures other { IsPrefix other.now self.new.seen }
+        ensures same { (self.new.number ≡ self.old.number) × (self.new.entered ≡ self.old.entered) × (self.new.released ≡ self.old.released) }
+    {
+        self.prefix = self.prefix.longer(other);
     }
 
     /// Counts an entry of this seat.

@@ -1,4 +1,11 @@
+ghost use Rattle.std.specs.Prelude.{◌≡◌, ◌≤◌, IfErr, IfOk};
+ghost use mathlib.Core.List.{IsPrefix};
+ghost use Rattle.act_sessions.specs.Exchange.{Submits};
+ghost use Rattle.act_desk.specs.Answered.{unsettled};
+ghost use Rattle.act_desk.specs.Begins.{IsCoveredAfter};
+ghost use Rattle.act_desk.specs.Events.{covered_in, told_in};
 ghost use Rattle.act_desk.specs.Settled.{HasEnded};
+ghost use Rattle.act_desk.specs.Shown.{IsReplyTo};
 
 use crate::desk::Desk;
 use crate::gate::Gate;
@@ -8,6 +15,7 @@ use act_disk::Disk;
 use act_sessions::{Answer, Transcript, Work};
 use run_plan::{Command, Reply};
 use std::alloc::Global;
+use std::marker::Model;
 use std::snapshot::Snapshot;
 use std::sync::Wait;
 use std::sync::ledger::Ledger;
@@ -32,14 +40,30 @@ pub(crate) struct SeatAnswerer<'a, D: Disk, E: Named, T: Ledger, G: Gate, R: Wai
     noted: Vec<Noted>,
 }
 
-impl<'a, D: Disk, E: Named, T: Ledger, G: Gate, R: Wait + Clock> Answer
+impl<'a, D: Disk, E: Named, T: Ledger, G: Gate, R: Wait + Clock> Model
     for SeatAnswerer<'a, D, E, T, G, R> {
     ghost use Rattle.std.specs.Prelude.{map};
+    ghost use Rattle.act_desk.specs.Shown.{Seated};
     ghost use Rattle.act_desk.specs.declared.seat_answerer.Noted.{Noted};
 
-    ghost asked = { λ s. map (λ (n : Noted). (n.command.value, n.answer.value)) s.noted.items };
+    ghost Value = { Seated };
 
-    fn ask(&mut self, command: Command) -> Result<Reply, Refusal> {
+    ghost view = { λ s. record { seat = s.seat; asked = map (λ (n : Noted). (n.command.value, n.answer.value)) s.noted.items } };
+}
+
+impl<'a, D: Disk, E: Named, T: Ledger, G: Gate, R: Wait + Clock> Answer
+    for SeatAnswerer<'a, D, E, T, G, R> {
+    ghost asked = { λ a. a.asked };
+
+    /// Submits the command at the desk. A reply means what it means there (`Desk::submit`).
+    fn ask(&mut self, command: Command) -> Result<Reply, Refusal>
+        ensures asks { Submits self.old.asked self.new.asked command result }
+        ensures reply { IfOk result (λ reply. IsReplyTo command reply) }
+        ensures covered { IfOk result (λ reply. IsCoveredAfter self.old.seat.seen self.new.seat.seen
+            (record { seat = self.old.seat.number; command = command; reply = reply })) }
+        ensures excess { IfErr result (λ e. e ≡ unsettled → covered_in self.new.seat.seen ≤ told_in self.new.seat.seen) }
+        ensures seen { (self.new.seat.number ≡ self.old.seat.number) × IsPrefix self.old.seat.seen self.new.seat.seen }
+    {
         self.noted.reserve(1)?;
         let session = self.seat.number();
         let call = self.noted.len() as u64;

@@ -1,6 +1,7 @@
-ghost use Rattle.std.specs.Prelude.{◌≡◌, ◌<◌, ◌≤◌, [], IfErr, IfOk, vec_capacity, vec_len};
+ghost use Rattle.std.specs.Prelude.{◌≡◌, ◌<◌, ◌≤◌, ℕ, List, [], IfErr, IfOk, take, vec_capacity, vec_len};
+ghost use Rattle.act_store.specs.StoreState.{RecoversToEither};
 ghost use Rattle.act_desk.specs.Faults.{IsCause, IsServed, IsUnsettledOrBroken};
-ghost use Rattle.act_desk.specs.Settled.{HaveEnded, IsSettled, NoneBroken};
+ghost use Rattle.act_desk.specs.Settled.{AreCovered, HaveEnded, IsSettled, NoneBroken};
 
 use crate::desk::Desk;
 use crate::gate::Gate;
@@ -28,9 +29,10 @@ use std::time::Clock;
 /// After `Ok` each session has ended as its bytes say, or, if no thread could be started for it, with `Ending::Memory` and nothing read.
 /// The part of each seat in the history is what the session of that number submitted, in order, each command once, with the replies; there
 /// is no other part. A command refused with 46, 47 or 57 is not in the history. It is unknown whether the last command of a session is, if
-/// its answer was 50, 51, 52 or 60. There were no other answers.
+/// its answer was 50, 51, 52 or 60. There were no other answers. The history begins at the same table as before, and each command with a
+/// reply is among the covered entries, to which, or to all of them, each image of an honest disk recovers.
 ///
-/// It is refused with 50 only before a session is started, and then returns everything; with 60 if that comparison fails; and with 61 if
+/// It is refused with 50 only before a session is started, and then returns everything; with 60 exactly if that comparison fails; and with 61 if
 /// all sessions have ended, the comparison holds, and a session was ended by its reader or writer.
 pub fn serve_all<D: Disk + Send, W: Work + Send, G: Gate + Sync, R: Threads + Wait + Clock + Sync>(
     rt: &R,
@@ -42,7 +44,8 @@ pub fn serve_all<D: Disk + Send, W: Work + Send, G: Gate + Sync, R: Threads + Wa
     requires empty { store.history ≡ [] }
     requires some { 0 < vec_len works }
     requires most { vec_len works ≤ 64 }
-    ensures served { IfOk result (λ settled. IsServed W.ends works.items settled) }
+    ensures served { IfOk result (λ settled. IsServed W.ends store works.items settled) }
+    ensures recovers { IfOk result (λ settled. D.honest settled.store.disk → (c : List ℕ) → D.images settled.store.disk c → RecoversToEither settled.store c) }
     ensures cause { IfErr result (IsCause W.ends store works.items) }
 {
     let count = works.len();
@@ -84,12 +87,14 @@ fn hold_named<
     transcripts: Vec<Transcript>,
 ) -> Settled<D>
     requires empty { store.history ≡ [] }
+    requires base { store.base ≡ E.base }
     requires entries { (ledgers.entries.name ≡ E.name) × (E.parts ≡ 64) }
     requires replies { (ledgers.replies.name ≡ T.name) × (T.parts ≡ 64) }
-    requires history { ledgers.history.seen.book ≡ E.book }
+    requires history { (ledgers.history.seen.book ≡ E.book) × (ledgers.history.token.nib.key ≡ E.first) }
     requires running { (running.items ≡ []) × (vec_len works ≤ vec_capacity running) }
     requires transcripts { (transcripts.items ≡ []) × (vec_len works ≤ vec_capacity transcripts) }
-    ensures { HaveEnded W.ends works.items result.transcripts.items }
+    ensures ended { HaveEnded W.ends works.items result.transcripts.items }
+    ensures base { result.store.base ≡ E.base }
 {
     let desk: Desk<D, E, T> = Desk::new(store, ledgers);
     let table = DeskHost {
@@ -107,10 +112,13 @@ fn hold_named<
 
 /// Compares the history with what the sessions submitted.
 fn judge<D: Disk, W: Work>(settled: Settled<D>) -> Result<Settled<D>, Fault<D, W>>
-    ensures served { IfOk result (λ s. (s ≡ settled) × IsSettled s.transcripts.items s.store.history × NoneBroken s.transcripts.items) }
+    ensures served { IfOk result (λ s. (s ≡ settled) × IsSettled s.transcripts.items s.store.history
+        × AreCovered s.transcripts.items (take s.store.covered s.store.history) × NoneBroken s.transcripts.items) }
+    ensures recovers { IfOk result (λ s. D.honest s.store.disk → (c : List ℕ) → D.images s.store.disk c → RecoversToEither s.store c) }
     ensures cause { IfErr result (IsUnsettledOrBroken settled) }
 {
-    if !is_settled(&settled.store, settled.transcripts.as_slice()) {
+    let covered = settled.store.covered();
+    if !is_settled(&settled.store, covered, settled.transcripts.as_slice()) {
         return Err(Fault::Unsettled(settled));
     }
     if any_broken(settled.transcripts.as_slice()) {

@@ -1,9 +1,10 @@
 //! The comparison of the history with what the sessions submitted. It takes no memory.
 
-ghost use Rattle.std.specs.Prelude.{◌≡◌, ◌≢◌, ◌<◌, ◌≤◌, ◌+◌, ℕ, List, [], ◌∷◌, ◌++◌, ◌==◌, ◌||◌, All, get_or, length, take, false, true, IfSome, None, Some};
+ghost use Rattle.std.specs.Prelude.{◌≡◌, ◌≢◌, ◌<◌, ◌≤◌, ◌+◌, ℕ, List, [], ◌∷◌, ◌++◌, ◌==◌, ◌||◌, All, get_or, is_ok, length, take, false, true, IfNone, IfSome, None, Some};
+ghost use mathlib.Core.List.{IsPrefix};
 ghost use Rattle.act_sessions.specs.Exchange.{leaves_open as leaves, exchanges_in};
 ghost use Rattle.act_sessions.specs.declared.transcript.LoggedExchange.{LoggedExchange as AskedOne};
-ghost use Rattle.act_desk.specs.Settled.{Agrees, AreDefinite, IsOfLast, IsSettled, NoneBroken, entries_of, if_any, is_definite as definite, part_of};
+ghost use Rattle.act_desk.specs.Settled.{Agrees, AreCovered, AreDefinite, IsOfLast, IsSettled, MayBegin, NoneBroken, entries_of, if_any, is_definite as definite, part_of};
 
 use act_disk::Disk;
 use act_sessions::{Ending, LoggedExchange, Transcript, leaves_open};
@@ -66,7 +67,8 @@ fn is_of_a_full_store(number: u64) -> bool
 
 /// Whether each answer settles if its command was entered.
 fn are_definite(asked: &[LoggedExchange]) -> bool
-    ensures { result ≡ true → ((k : ℕ) (one : AskedOne) → k < length asked.now → definite (get_or asked.now k one).answer ≡ true) }
+    ensures each { result ≡ true → ((k : ℕ) (one : AskedOne) → k < length asked.now → definite (get_or asked.now k one).answer ≡ true) }
+    ensures not_each { result ≡ false → ((k : ℕ) (one : AskedOne) → k < length asked.now → definite (get_or asked.now k one).answer ≡ true) → ⊥ }
 {
     for one in asked {
         if !is_definite(&one.answer) {
@@ -85,7 +87,8 @@ fn may_be_last(answer: &Result<Reply, Refusal>) -> bool
 
 /// Whether each answer settles if its command was entered, except perhaps the last one, which may leave that unknown.
 fn may_be_answered(asked: &[LoggedExchange]) -> bool
-    ensures { result ≡ true → AreDefinite (exchanges_in asked.now) }
+    ensures definite { result ≡ true → AreDefinite (exchanges_in asked.now) }
+    ensures other { result ≡ false → AreDefinite (exchanges_in asked.now) → ⊥ }
 {
     match asked.split_last() {
         None => true,
@@ -103,6 +106,7 @@ fn skip(asked: &[LoggedExchange], at: usize) -> usize
     requires { at ≤ length asked.now }
     ensures within { result ≤ length asked.now }
     ensures none { (seat : ℕ) → entries_of seat (exchanges_in (take result asked.now)) ≡ entries_of seat (exchanges_in (take at asked.now)) }
+    ensures reply { result < length asked.now → (one : AskedOne) → is_ok (get_or asked.now result one).answer ≡ true }
 {
     for i in at..asked.len() {
         if asked[i].answer.is_ok() {
@@ -115,7 +119,8 @@ fn skip(asked: &[LoggedExchange], at: usize) -> usize
 /// Whether an entry of the seat may be that of the last command.
 fn is_of_last(asked: &[LoggedExchange], seat: u64, entry: &Entry) -> bool
     requires { entry.now.seat ≡ seat }
-    ensures { result ≡ true → IsOfLast seat (exchanges_in asked.now) entry.now }
+    ensures last { result ≡ true → IsOfLast seat (exchanges_in asked.now) entry.now }
+    ensures other { result ≡ false → IsOfLast seat (exchanges_in asked.now) entry.now → ⊥ }
 {
     let Some(last) = asked.last() else {
         return false;
@@ -132,10 +137,14 @@ fn find(
 ) -> Option<HistoryMatch>
     requires within { found.asked ≤ length asked.now }
     requires over { IfSome found.over (IsOfLast seat (exchanges_in asked.now)) }
+    requires all { IfSome found.over (λ e. found.asked ≡ length asked.now) }
     ensures within { IfSome result (λ f. f.asked ≤ length asked.now) }
     ensures more { IfSome result (λ f. entries_of seat (exchanges_in (take f.asked asked.now)) ++ if_any f.over
         ≡ (entries_of seat (exchanges_in (take found.asked asked.now)) ++ if_any found.over) ++ part_of seat (entry.now ∷ [])) }
     ensures over { IfSome result (λ f. IfSome f.over (IsOfLast seat (exchanges_in asked.now))) }
+    ensures all { IfSome result (λ f. IfSome f.over (λ e. f.asked ≡ length asked.now)) }
+    ensures other { IfNone result (MayBegin seat (exchanges_in asked.now)
+        ((entries_of seat (exchanges_in (take found.asked asked.now)) ++ if_any found.over) ++ part_of seat (entry.now ∷ [])) → ⊥) }
 {
     if entry.seat != seat {
         return Some(found);
@@ -152,10 +161,14 @@ fn find_next(
 ) -> Option<HistoryMatch>
     requires seat { entry.now.seat ≡ seat }
     requires within { found.asked ≤ length asked.now }
+    requires all { IfSome found.over (λ e. found.asked ≡ length asked.now) }
     ensures within { IfSome result (λ f. f.asked ≤ length asked.now) }
     ensures more { IfSome result (λ f. entries_of seat (exchanges_in (take f.asked asked.now)) ++ if_any f.over
         ≡ (entries_of seat (exchanges_in (take found.asked asked.now)) ++ if_any found.over) ++ entry.now ∷ []) }
     ensures over { IfSome result (λ f. IfSome f.over (IsOfLast seat (exchanges_in asked.now))) }
+    ensures all { IfSome result (λ f. IfSome f.over (λ e. f.asked ≡ length asked.now)) }
+    ensures other { IfNone result (MayBegin seat (exchanges_in asked.now)
+        ((entries_of seat (exchanges_in (take found.asked asked.now)) ++ if_any found.over) ++ entry.now ∷ []) → ⊥) }
 {
     if found.over.is_some() {
         return None;
@@ -174,10 +187,12 @@ fn find_next(
 fn find_reply(asked: &[LoggedExchange], seat: u64, entry: &Entry, at: usize) -> Option<HistoryMatch>
     requires seat { entry.now.seat ≡ seat }
     requires within { at < length asked.now }
+    requires reply { (one : AskedOne) → is_ok (get_or asked.now at one).answer ≡ true }
     ensures within { IfSome result (λ f. f.asked ≤ length asked.now) }
     ensures more { IfSome result (λ f. entries_of seat (exchanges_in (take f.asked asked.now)) ++ if_any f.over
         ≡ entries_of seat (exchanges_in (take at asked.now)) ++ entry.now ∷ []) }
     ensures over { IfSome result (λ f. f.over ≡ None) }
+    ensures other { IfNone result (MayBegin seat (exchanges_in asked.now) (entries_of seat (exchanges_in (take at asked.now)) ++ entry.now ∷ []) → ⊥) }
 {
     let one = &asked[at];
     let Ok(reply) = &one.answer else {
@@ -189,29 +204,63 @@ fn find_reply(asked: &[LoggedExchange], seat: u64, entry: &Entry, at: usize) -> 
     Some(HistoryMatch::first(at + 1))
 }
 
-/// Whether the entries of a seat are what its session submitted, and its answers leave nothing else unknown.
-fn agrees<D: Disk>(store: &Store<D>, seat: u64, asked: &[LoggedExchange]) -> bool
-    ensures { result ≡ true → Agrees seat (exchanges_in asked.now) store.now.history }
+/// Finds the entries from one position to another one, or skips those of other seats.
+fn follow<D: Disk>(
+    store: &Store<D>,
+    seat: u64,
+    asked: &[LoggedExchange],
+    found: HistoryMatch,
+    from: u64,
+    to: u64,
+) -> Option<HistoryMatch>
+    requires range { (from ≤ to) × (to ≤ length store.now.history) }
+    requires within { found.asked ≤ length asked.now }
+    requires part { part_of seat (take from store.now.history) ≡ entries_of seat (exchanges_in (take found.asked asked.now)) ++ if_any found.over }
+    requires over { IfSome found.over (IsOfLast seat (exchanges_in asked.now)) }
+    requires all { IfSome found.over (λ e. found.asked ≡ length asked.now) }
+    ensures within { IfSome result (λ f. f.asked ≤ length asked.now) }
+    ensures part { IfSome result (λ f. part_of seat (take to store.now.history)
+        ≡ entries_of seat (exchanges_in (take f.asked asked.now)) ++ if_any f.over) }
+    ensures over { IfSome result (λ f. IfSome f.over (IsOfLast seat (exchanges_in asked.now))) }
+    ensures all { IfSome result (λ f. IfSome f.over (λ e. f.asked ≡ length asked.now)) }
+    ensures other { IfNone result (MayBegin seat (exchanges_in asked.now) (part_of seat (take to store.now.history)) → ⊥) }
+{
+    let mut found = found;
+    for index in from..to {
+        let entry = store.entry(index + 1)?;
+        found = find(asked, seat, entry, found)?;
+    }
+    Some(found)
+}
+
+/// Whether the entries of a seat are what its session submitted, and its answers leave nothing else unknown. Each command that got a reply
+/// has to be among the covered entries.
+fn agrees<D: Disk>(store: &Store<D>, covered: u64, seat: u64, asked: &[LoggedExchange]) -> bool
+    requires { covered ≤ length store.now.history }
+    ensures agrees { result ≡ true → Agrees seat (exchanges_in asked.now) store.now.history }
+    ensures covered { result ≡ true → IsPrefix (entries_of seat (exchanges_in asked.now)) (part_of seat (take covered store.now.history)) }
+    ensures other { result ≡ false → Agrees seat (exchanges_in asked.now) store.now.history
+        → IsPrefix (entries_of seat (exchanges_in asked.now)) (part_of seat (take covered store.now.history)) → ⊥ }
 {
     if !may_be_answered(asked) {
         return false;
     }
-    let mut found = HistoryMatch::first(0);
-    for index in 0..store.entries() {
-        let Some(entry) = store.entry(index + 1) else {
-            return false;
-        };
-        match find(asked, seat, entry, found) {
-            Some(more) => found = more,
-            None => return false,
-        }
+    let Some(first) = follow(store, seat, asked, HistoryMatch::first(0), 0, covered) else {
+        return false;
+    };
+    if skip(asked, first.asked) != asked.len() {
+        return false;
     }
-    skip(asked, found.asked) == asked.len()
+    match follow(store, seat, asked, first, covered, store.entries()) {
+        Some(found) => skip(asked, found.asked) == asked.len(),
+        None => false,
+    }
 }
 
 /// Whether all entries belong to the first `seats` seats.
 fn are_of_first<D: Disk>(store: &Store<D>, seats: u64) -> bool
-    ensures { result ≡ true → All (λ e. e.seat < seats) store.now.history }
+    ensures of_first { result ≡ true → All (λ e. e.seat < seats) store.now.history }
+    ensures other { result ≡ false → All (λ e. e.seat < seats) store.now.history → ⊥ }
 {
     for index in 0..store.entries() {
         match store.entry(index + 1) {
@@ -222,12 +271,20 @@ fn are_of_first<D: Disk>(store: &Store<D>, seats: u64) -> bool
     true
 }
 
-/// Whether each seat's part of the history is what its session submitted, and there is no other part.
-pub(crate) fn is_settled<D: Disk>(store: &Store<D>, transcripts: &[Transcript]) -> bool
-    ensures { result ≡ true → IsSettled transcripts.now store.now.history }
+/// Whether each seat's part of the history is what its session submitted, with all its replies among the covered entries, and there is no
+/// other part.
+pub(crate) fn is_settled<D: Disk>(
+    store: &Store<D>,
+    covered: u64,
+    transcripts: &[Transcript],
+) -> bool
+    requires { covered ≤ length store.now.history }
+    ensures settled { result ≡ true → IsSettled transcripts.now store.now.history }
+    ensures covered { result ≡ true → AreCovered transcripts.now (take covered store.now.history) }
+    ensures other { result ≡ false → IsSettled transcripts.now store.now.history → AreCovered transcripts.now (take covered store.now.history) → ⊥ }
 {
     for k in 0..transcripts.len() {
-        if !agrees(store, k as u64, transcripts[k].asked.as_slice()) {
+        if !agrees(store, covered, k as u64, transcripts[k].asked.as_slice()) {
             return false;
         }
     }

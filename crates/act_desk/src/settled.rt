@@ -17,7 +17,7 @@ pub struct Settled<D: Disk> {
 pub enum Fault<D: Disk, W: Work> {
     /// 50: out of memory before a session was started. The store and the sessions are unchanged.
     Memory(Store<D>, Vec<W>),
-    /// 60: all sessions have ended, and the history is not what they submitted.
+    /// 60: all sessions have ended, and the history is not what they submitted, or a reply is not among the covered entries.
     Unsettled(Settled<D>),
     /// 61: all sessions have ended, the history is what they submitted, and one was ended by its reader or writer.
     Broken(Settled<D>),

@@ -5,6 +5,8 @@ use Rattle.std.specs.List.{All}
 use Rattle.std.specs.declared.net.tcp.TcpListener.{TcpListener}
 use Rattle.act_desk.specs.Settled.{HaveEnded, IsSettled, NoneBroken}
 use Rattle.act_sessions.specs.declared.transcript.Transcript.{Transcript}
+use Rattle.run_table.specs.TableState.{TableState}
+use Rattle.act_store.specs.Entries.{table_after}
 use Rattle.act_store.specs.declared.entry.Entry.{Entry}
 use Rattle.service_startup.specs.Reports.{service_lines}
 use Rattle.acts_rounds.specs.Connections.{Alternate, IsHeard}
@@ -29,18 +31,27 @@ pub record IsRound (hooks runners : TcpListener) (sessions : ℕ) (broken : Bool
 abbrev pub AreGood : TcpListener → TcpListener → ℕ → List (List Entry) → Type 0
 AreGood hooks runners sessions histories = All (IsRound hooks runners sessions false) histories
 
--- So many rounds have ended, the last one with this history, and a line is written for each. If `broken` is false, no
--- stream failed in any of them.
-pub record RoundsEnded (hooks runners : TcpListener) (sessions rounds : ℕ) (broken : Bool) (old new : Option (List ℕ)) (history : List Entry) : Type 0 where
+-- the table after these histories, the first of which begins at the given table, and each other one at the table where the one before ended
+abbrev pub table_after_all : TableState → List (List Entry) → TableState
+table_after_all base [] = base
+table_after_all base (history ∷ histories) = table_after_all (table_after base history) histories
+
+-- So many rounds of a service that was given this table have ended, the last one with this history, which begins at `base`. A line is
+-- written for each. If `broken` is false, no stream failed in any of them.
+pub record RoundsEnded (hooks runners : TcpListener) (sessions rounds : ℕ) (broken : Bool) (old new : Option (List ℕ)) (given base : TableState)
+    (history : List Entry) : Type 0 where
   pub before : List (List Entry)
   pub count : length before + 1 ≡ rounds
+  pub begins : base ≡ table_after_all given before
   pub announced : Appends old new (service_lines (before ++ history ∷ []))
   pub good : broken ≡ false → AreGood hooks runners sessions (before ++ history ∷ [])
 
--- All rounds of a service have ended, at least one, the last one with this history. A line is written for each, and no
--- stream failed in any of them.
-pub record HasServed (hooks runners : TcpListener) (sessions rounds : ℕ) (old new : Option (List ℕ)) (history : List Entry) : Type 0 where
+-- All rounds of a service that was given this table have ended, at least one, the last one with this history, which begins at `base`, the
+-- table after the histories of all other rounds. A line is written for each, and no stream failed in any of them.
+pub record HasServed (hooks runners : TcpListener) (sessions rounds : ℕ) (old new : Option (List ℕ)) (given base : TableState)
+    (history : List Entry) : Type 0 where
   pub before : List (List Entry)
   pub count : length before ≡ rounds - 1
+  pub begins : base ≡ table_after_all given before
   pub announced : Appends old new (service_lines (before ++ history ∷ []))
   pub good : AreGood hooks runners sessions (before ++ history ∷ [])

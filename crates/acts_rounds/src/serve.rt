@@ -1,5 +1,6 @@
 ghost use Rattle.std.specs.Prelude.{◌≡◌, ◌⊎◌, ◌<◌, ◌≤◌, ◌+◌, ◌∷◌, List, [], length, true, false, IfErr, IfOk};
 ghost use Rattle.std.specs.Io.KnownBytes.{Appends};
+ghost use Rattle.act_store.specs.StoreState.{table_of};
 ghost use Rattle.act_store.specs.declared.entry.Entry.{Entry};
 ghost use Rattle.acts_rounds.specs.Rounds.{AreHeld, HasServed, IsRound};
 ghost use Rattle.service_startup.specs.Reports.{line_of_history, service_lines};
@@ -64,7 +65,8 @@ fn serve_connections<'a, D: Disk + Drop + Send, R: Threads + Wait + Clock + Sync
 ) -> Result<(Settled<D>, bool), Refusal>
     requires fresh { store.history ≡ [] }
     requires connections { (0 < length connections.items) × (length connections.items ≤ 64) }
-    ensures { IfOk result (λ held. AreHeld connections.entry.items held.1 held.0.store.history) }
+    ensures held { IfOk result (λ held. AreHeld connections.entry.items held.1 held.0.store.history) }
+    ensures base { IfOk result (λ held. held.0.store.base ≡ store.base) }
 {
     match serve_all(rt, alloc, store, connections, &Free) {
         Ok(settled) => Ok((settled, false)),
@@ -86,6 +88,7 @@ fn serve_round<'a, D: Disk + Drop + Send, R: Threads + Wait + Clock + Sync, O: W
     requires connections { (0 < length connections.items) × (length connections.items ≤ 64) }
     ensures announced { IfOk result (λ round. Appends (O.contents out.old) (O.contents out.new) (line_of_history round.store.history)) }
     ensures held { IfOk result (λ round. AreHeld connections.entry.items round.broken round.store.history) }
+    ensures base { IfOk result (λ round. round.store.base ≡ store.base) }
 {
     let (settled, broken) = serve_connections(rt, alloc, store, connections)?;
     tell_settled(settled.store.entries(), out)?;
@@ -97,9 +100,10 @@ fn serve_round<'a, D: Disk + Drop + Send, R: Threads + Wait + Clock + Sync, O: W
     })
 }
 
-/// A reconciled store with a new history.
+/// A reconciled store with a new history, which begins at the table of the last one.
 fn turned_over<D: Disk + Drop>(store: Store<D>) -> Result<Store<D>, Refusal>
-    ensures { IfOk result (λ restarted. restarted.history ≡ []) }
+    ensures empty { IfOk result (λ restarted. restarted.history ≡ []) }
+    ensures base { IfOk result (λ restarted. restarted.base ≡ table_of store) }
 {
     let mut store = store;
     store.turn_over()?;
@@ -119,6 +123,7 @@ fn serve_next<D: Disk + Drop + Send, R: Threads + Wait + Clock + Sync, O: Write>
     requires { (0 < sessions) × (sessions ≤ 32) }
     ensures announced { IfOk result (λ round. Appends (O.contents out.old) (O.contents out.new) (line_of_history round.store.history)) }
     ensures ended { IfOk result (λ round. IsRound hooks.now runners.now sessions round.broken round.store.history) }
+    ensures base { IfOk result (λ round. round.store.base ≡ table_of last.store) }
 {
     if last.unserved {
         return Err(Refusal::Numbered(Code::NoMemory));
@@ -192,8 +197,10 @@ pub fn serve_rounds<D: Disk + Drop + Send, R: Threads + Wait + Clock + Sync, O: 
 ) -> Result<Store<D>, Refusal>
     requires fresh { store.history ≡ [] }
     requires sessions { (0 < sessions) × (sessions ≤ 32) }
-    // On success no stream failed in any round, and the store has the history of the last one.
-    ensures served { IfOk result (λ store. HasServed hooks.now runners.now sessions rounds (O.contents out.old) (O.contents out.new) store.history) }
+    // On success no stream failed in any round, and the store has the history of the last one. Each history begins at the table where the
+    // one before ended, and the first one at the table of the given store.
+    ensures served { IfOk result (λ last. HasServed hooks.now runners.now sessions rounds (O.contents out.old) (O.contents out.new)
+        store.base last.base last.history) }
 {
     let first = connections(alloc, hooks, runners, sessions)?;
     let store = brought_up(alloc, store)?;

@@ -1,5 +1,10 @@
 //! The changes of a service: its covered entries, and the runs that they have changed, as lines.
 
+ghost use Rattle.std.specs.Prelude.{◌≡◌, [], ◌∷◌, IfOk, IfSome, drop, take};
+ghost use Rattle.covered_log.specs.Lines.{entries_of};
+ghost use Rattle.covered_log.specs.LogState.{new_log};
+ghost use Rattle.acts_serve.specs.Following.{Gains, TakesUp};
+
 use act_disk::Disk;
 use act_store::{Entry, Store};
 use covered_log::{CoveredLog, Page};
@@ -105,7 +110,10 @@ pub(crate) enum Found {
 }
 
 impl Changes {
-    pub(crate) fn new(alloc: Global, process: u64, table: &Table) -> Result<Changes, AllocError> {
+    pub(crate) fn new(alloc: Global, process: u64, table: &Table) -> Result<Changes, AllocError>
+        ensures log { IfOk result (λ changes. changes.log ≡ new_log process) }
+        ensures taken { IfOk result (λ changes. changes.taken ≡ 0) }
+    {
         Ok(Changes {
             log: CoveredLog::new(alloc, process),
             standings: Some(Standings::of(alloc, table)?),
@@ -114,14 +122,19 @@ impl Changes {
     }
 
     /// How many entries of the present history were taken up.
-    pub(crate) fn taken(&self) -> u64 {
+    pub(crate) fn taken(&self) -> u64
+        ensures { result ≡ self.now.taken }
+    {
         self.taken
     }
 
     // ---- what is taken up
 
     /// A run was run again.
-    fn stands_again(&mut self, run: Number) {
+    fn stands_again(&mut self, run: Number)
+        ensures log { self.new.log ≡ self.old.log }
+        ensures taken { self.new.taken ≡ self.old.taken }
+    {
         let noted = match &mut self.standings {
             Some(standings) => standings.again(run),
             None => Ok(()),
@@ -132,28 +145,40 @@ impl Changes {
     }
 
     /// Takes up an entry, if there is room for it in the log.
-    fn tell_entry(&mut self, alloc: Global, entry: &Entry) {
+    fn tell_entry(&mut self, alloc: Global, entry: &Entry)
+        ensures gains { Gains (entry.now ∷ []) self.old.log self.new.log }
+        ensures taken { self.new.taken ≡ self.old.taken }
+    {
         if self.log.has_room() {
             let _ = self.log.enter(alloc, &entry.command, &entry.reply);
         }
     }
 
     /// Takes up how a run stands, if there is room for it in the log.
-    fn tell_run(&mut self, alloc: Global, id: Number, run: &Run) {
+    fn tell_run(&mut self, alloc: Global, id: Number, run: &Run)
+        ensures entries { entries_of self.new.log.changes ≡ entries_of self.old.log.changes }
+        ensures taken { self.new.taken ≡ self.old.taken }
+    {
         if self.log.has_room() {
             let _ = self.log.stand(alloc, id, run);
         }
     }
 
     /// How some runs stand is not known.
-    fn miss(&mut self) {
+    fn miss(&mut self)
+        ensures entries { entries_of self.new.log.changes ≡ entries_of self.old.log.changes }
+        ensures taken { self.new.taken ≡ self.old.taken }
+    {
         if self.log.has_room() {
             self.log.miss();
         }
     }
 
     /// Takes up an entry that was made durable.
-    fn enter(&mut self, alloc: Global, entry: &Entry) {
+    fn enter(&mut self, alloc: Global, entry: &Entry)
+        ensures gains { Gains (entry.now ∷ []) self.old.log self.new.log }
+        ensures taken { self.new.taken ≡ self.old.taken }
+    {
         self.tell_entry(alloc, entry);
         if let (Command::Rerun(again), Reply::Again(_)) = (&entry.command, &entry.reply) {
             self.stands_again(again.run);
@@ -161,9 +186,12 @@ impl Changes {
     }
 
     /// Takes up the entries of a store that were made durable since the last time.
-    fn enter_new<D: Disk>(&mut self, alloc: Global, store: &Store<D>) {
+    fn enter_new<D: Disk>(&mut self, alloc: Global, store: &Store<D>)
+        ensures gains { Gains (drop self.old.taken (take store.now.covered store.now.history)) self.old.log self.new.log }
+        ensures taken { self.new.taken ≡ store.now.covered }
+    {
         for place in self.taken..store.covered() {
-            if let Some(entry) = store.entry(place.saturating_add(1)) {
+            if let Some(entry) = store.entry(place + 1) {
                 self.enter(alloc, entry);
             }
         }
@@ -171,13 +199,10 @@ impl Changes {
     }
 
     /// Takes up how a run stands, if it stands differently than it did. Returns whether it may change again.
-    fn look_at(
-        &mut self,
-        alloc: Global,
-        table: &Table,
-        standings: &mut Standings,
-        r: usize,
-    ) -> bool {
+    fn look_at(&mut self, alloc: Global, table: &Table, standings: &mut Standings, r: usize) -> bool
+        ensures entries { entries_of self.new.log.changes ≡ entries_of self.old.log.changes }
+        ensures taken { self.new.taken ≡ self.old.taken }
+    {
         let runs = table.kept_runs();
         if r >= runs.len() {
             return false;
@@ -200,7 +225,10 @@ impl Changes {
         alloc: Global,
         table: &Table,
         known: Option<Standings>,
-    ) -> Result<Standings, AllocError> {
+    ) -> Result<Standings, AllocError>
+        ensures entries { entries_of self.new.log.changes ≡ entries_of self.old.log.changes }
+        ensures taken { self.new.taken ≡ self.old.taken }
+    {
         let Some(mut standings) = known else {
             return Err(AllocError);
         };
@@ -223,7 +251,10 @@ impl Changes {
     }
 
     /// Takes up the runs that the entries have changed. Without memory for that no lines are kept.
-    fn look_new(&mut self, alloc: Global, table: &Table) {
+    fn look_new(&mut self, alloc: Global, table: &Table)
+        ensures entries { entries_of self.new.log.changes ≡ entries_of self.old.log.changes }
+        ensures taken { self.new.taken ≡ self.old.taken }
+    {
         let mut known = None;
         mem::swap(&mut known, &mut self.standings);
         self.standings = match self.look(alloc, table, known) {
@@ -236,13 +267,19 @@ impl Changes {
     }
 
     /// Takes up the entries of a store that were made durable since the last time, and the runs that they have changed.
-    pub(crate) fn take_up<D: Disk>(&mut self, alloc: Global, store: &Store<D>) {
+    pub(crate) fn take_up<D: Disk>(&mut self, alloc: Global, store: &Store<D>)
+        ensures entered { TakesUp (drop self.old.taken (take store.now.covered store.now.history)) self.old.log self.new.log }
+        ensures taken { self.new.taken ≡ store.now.covered }
+    {
         self.enter_new(alloc, store);
         self.look_new(alloc, store.table());
     }
 
     /// A new history has begun. Places and cursors go on.
-    pub(crate) fn turn_over(&mut self) {
+    pub(crate) fn turn_over(&mut self)
+        ensures log { self.new.log ≡ self.old.log }
+        ensures taken { self.new.taken ≡ 0 }
+    {
         self.taken = 0;
     }
 

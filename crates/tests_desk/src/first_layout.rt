@@ -39,12 +39,18 @@ const SUBMITTED: &[(Words<'static>, &str)] = &[
     (Words::Look("1"), "run 1 1 queued - build:open(ready)"),
 ];
 
-fn submit_all<E: Named, T: Ledger, R: Wait + Clock + Abort>(rt: &R, alloc: Global, ledgers: Ledgers)
+fn submit_all<E: Named, T: Ledger, R: Wait + Clock + Abort>(
+    rt: &R,
+    alloc: Global,
+    store: Store<MemoryDisk>,
+    ledgers: Ledgers,
+)
+    requires store { (store.history ≡ []) × (store.base ≡ E.base) }
     requires entries { (ledgers.entries.name ≡ E.name) × (E.parts ≡ 64) }
     requires replies { (ledgers.replies.name ≡ T.name) × (T.parts ≡ 64) }
-    requires history { ledgers.history.seen.book ≡ E.book }
+    requires history { (ledgers.history.seen.book ≡ E.book) × (ledgers.history.token.nib.key ≡ E.first) }
 {
-    let desk: Desk<MemoryDisk, E, T> = Desk::new(store_of_the_first_layout(rt, alloc), ledgers);
+    let desk: Desk<MemoryDisk, E, T> = Desk::new(store, ledgers);
     let mut seat = seat_of(rt, &desk, 0);
     for row in SUBMITTED {
         submit(rt, alloc, &desk, &mut seat, row);
@@ -57,5 +63,7 @@ fn submit_all<E: Named, T: Ledger, R: Wait + Clock + Abort>(rt: &R, alloc: Globa
 
 #[test]
 fn a_rerun_is_refused_over_the_first_layout(rt: HostRuntime) {
-    submit_all::<Brand, Brand, HostRuntime>(&rt, rt.alloc(), Ledgers::new());
+    let alloc = rt.alloc();
+    let store = store_of_the_first_layout(&rt, alloc);
+    submit_all::<Brand, Brand, HostRuntime>(&rt, alloc, store, Ledgers::new());
 }

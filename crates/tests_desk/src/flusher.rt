@@ -62,13 +62,15 @@ fn expect_second(rt: &impl Abort, store: Store<MemoryDisk>, open: bool) {
 fn finish_one_checkpoint<E: Named, T: Ledger, R: Wait + Clock + Abort>(
     rt: &R,
     alloc: Global,
+    store: Store<MemoryDisk>,
     ledgers: Ledgers,
 )
+    requires store { (store.history ≡ []) × (store.base ≡ E.base) }
     requires entries { (ledgers.entries.name ≡ E.name) × (E.parts ≡ 64) }
     requires replies { (ledgers.replies.name ≡ T.name) × (T.parts ≡ 64) }
-    requires history { ledgers.history.seen.book ≡ E.book }
+    requires history { (ledgers.history.seen.book ≡ E.book) × (ledgers.history.token.nib.key ≡ E.first) }
 {
-    let desk: Desk<MemoryDisk, E, T> = Desk::new(store_in_memory(rt, alloc), ledgers);
+    let desk: Desk<MemoryDisk, E, T> = Desk::new(store, ledgers);
     let seat = seat_after_looks(rt, alloc, &desk, 282);
     holds!(rt; checkpoints_made(rt, alloc, &desk) == 1);
     holds!(rt; checkpoints_made(rt, alloc, &desk) == 0);
@@ -80,7 +82,9 @@ fn finish_one_checkpoint<E: Named, T: Ledger, R: Wait + Clock + Abort>(
 
 #[test]
 fn a_flusher_finishes_one_checkpoint_of_a_full_area(rt: HostRuntime) {
-    finish_one_checkpoint::<Brand, Brand, HostRuntime>(&rt, rt.alloc(), Ledgers::new());
+    let alloc = rt.alloc();
+    let store = store_in_memory(&rt, alloc);
+    finish_one_checkpoint::<Brand, Brand, HostRuntime>(&rt, alloc, store, Ledgers::new());
 }
 
 /// No checkpoint is begun while more than half of the area is left. 144 look-ups leave 2,044 bytes of 4,096 for the next record, 143 leave
@@ -88,13 +92,15 @@ fn a_flusher_finishes_one_checkpoint_of_a_full_area(rt: HostRuntime) {
 fn start_at_half<E: Named, T: Ledger, R: Wait + Clock + Abort>(
     rt: &R,
     alloc: Global,
+    store: Store<MemoryDisk>,
     ledgers: Ledgers,
 )
+    requires store { (store.history ≡ []) × (store.base ≡ E.base) }
     requires entries { (ledgers.entries.name ≡ E.name) × (E.parts ≡ 64) }
     requires replies { (ledgers.replies.name ≡ T.name) × (T.parts ≡ 64) }
-    requires history { ledgers.history.seen.book ≡ E.book }
+    requires history { (ledgers.history.seen.book ≡ E.book) × (ledgers.history.token.nib.key ≡ E.first) }
 {
-    let desk: Desk<MemoryDisk, E, T> = Desk::new(store_in_memory(rt, alloc), ledgers);
+    let desk: Desk<MemoryDisk, E, T> = Desk::new(store, ledgers);
     let mut seat = seat_after_looks(rt, alloc, &desk, 143);
     holds!(rt; checkpoints_made(rt, alloc, &desk) == 0);
     look(rt, alloc, &desk, &mut seat);
@@ -105,20 +111,24 @@ fn start_at_half<E: Named, T: Ledger, R: Wait + Clock + Abort>(
 
 #[test]
 fn a_flusher_starts_once_half_of_the_area_is_used(rt: HostRuntime) {
-    start_at_half::<Brand, Brand, HostRuntime>(&rt, rt.alloc(), Ledgers::new());
+    let alloc = rt.alloc();
+    let store = store_in_memory(&rt, alloc);
+    start_at_half::<Brand, Brand, HostRuntime>(&rt, alloc, store, Ledgers::new());
 }
 
 /// A checkpoint covers an entry whose reply is withheld. The reply is then released without a disk call.
 fn cover_pending<E: Named, T: Ledger, R: Wait + Clock + Abort>(
     rt: &R,
     alloc: Global,
+    store: Store<MemoryDisk>,
     ledgers: Ledgers,
 ) -> MemoryDisk
+    requires store { (store.history ≡ []) × (store.base ≡ E.base) }
     requires entries { (ledgers.entries.name ≡ E.name) × (E.parts ≡ 64) }
     requires replies { (ledgers.replies.name ≡ T.name) × (T.parts ≡ 64) }
-    requires history { ledgers.history.seen.book ≡ E.book }
+    requires history { (ledgers.history.seen.book ≡ E.book) × (ledgers.history.token.nib.key ≡ E.first) }
 {
-    let desk: Desk<MemoryDisk, E, T> = Desk::new(store_in_memory(rt, alloc), ledgers);
+    let desk: Desk<MemoryDisk, E, T> = Desk::new(store, ledgers);
     let mut seat = seat_after_looks(rt, alloc, &desk, 150);
     let pending = enter(rt, alloc, &desk, &mut seat);
     holds!(rt; checkpoints_made(rt, alloc, &desk) == 1);
@@ -135,7 +145,12 @@ fn cover_pending<E: Named, T: Ledger, R: Wait + Clock + Abort>(
 fn a_checkpoint_covers_pending_entries(rt: HostRuntime) {
     let alloc = rt.alloc();
     let init_calls = store_in_memory(&rt, alloc).into_disk().calls().len();
-    let disk = cover_pending::<Brand, Brand, HostRuntime>(&rt, alloc, Ledgers::new());
+    let disk = cover_pending::<Brand, Brand, HostRuntime>(
+        &rt,
+        alloc,
+        store_in_memory(&rt, alloc),
+        Ledgers::new(),
+    );
     let calls = disk.calls().len();
     holds!(rt; init_calls <= calls);
     holds!(rt; calls - init_calls == 150 * 4 + 1 + 4);

@@ -52,13 +52,15 @@ pub fn submit<E: Named, T: Ledger>(
 fn submit_alternately<E: Named, T: Ledger, R: Wait + Clock + Abort>(
     rt: &R,
     alloc: Global,
+    store: Store<MemoryDisk>,
     ledgers: Ledgers,
 )
+    requires store { (store.history ≡ []) × (store.base ≡ E.base) }
     requires entries { (ledgers.entries.name ≡ E.name) × (E.parts ≡ 64) }
     requires replies { (ledgers.replies.name ≡ T.name) × (T.parts ≡ 64) }
-    requires history { ledgers.history.seen.book ≡ E.book }
+    requires history { (ledgers.history.seen.book ≡ E.book) × (ledgers.history.token.nib.key ≡ E.first) }
 {
-    let desk: Desk<MemoryDisk, E, T> = Desk::new(store_in_memory(rt, alloc), ledgers);
+    let desk: Desk<MemoryDisk, E, T> = Desk::new(store, ledgers);
     let mut first = seat_of(rt, &desk, 0);
     let mut second = seat_of(rt, &desk, 1);
     for (index, row) in ALTERNATING.iter().enumerate() {
@@ -73,7 +75,6 @@ fn submit_alternately<E: Named, T: Ledger, R: Wait + Clock + Abort>(
     holds!(rt; desk.give_back(first) == (2, 2));
     holds!(rt; desk.give_back(second) == (2, 2));
     let (store, whole) = desk.into_parts();
-    let whole = whole.expect(rt, "the history");
     holds!(rt; prefix.begins(&whole) && last.begins(&whole));
     expect_entries(rt, alloc, &store);
 }
@@ -89,16 +90,24 @@ fn expect_entries(rt: &impl Abort, alloc: Global, store: &Store<MemoryDisk>) {
 
 #[test]
 fn two_seats_submit_alternately(rt: HostRuntime) {
-    submit_alternately::<Brand, Brand, HostRuntime>(&rt, rt.alloc(), Ledgers::new());
+    let alloc = rt.alloc();
+    let store = store_in_memory(&rt, alloc);
+    submit_alternately::<Brand, Brand, HostRuntime>(&rt, alloc, store, Ledgers::new());
 }
 
 /// 64 seats are given out, in the order of their numbers, and no more.
-fn all_seats<E: Named, T: Ledger, R: Wait + Clock + Abort>(rt: &R, alloc: Global, ledgers: Ledgers)
+fn all_seats<E: Named, T: Ledger, R: Wait + Clock + Abort>(
+    rt: &R,
+    alloc: Global,
+    store: Store<MemoryDisk>,
+    ledgers: Ledgers,
+)
+    requires store { (store.history ≡ []) × (store.base ≡ E.base) }
     requires entries { (ledgers.entries.name ≡ E.name) × (E.parts ≡ 64) }
     requires replies { (ledgers.replies.name ≡ T.name) × (T.parts ≡ 64) }
-    requires history { ledgers.history.seen.book ≡ E.book }
+    requires history { (ledgers.history.seen.book ≡ E.book) × (ledgers.history.token.nib.key ≡ E.first) }
 {
-    let desk: Desk<MemoryDisk, E, T> = Desk::new(store_in_memory(rt, alloc), ledgers);
+    let desk: Desk<MemoryDisk, E, T> = Desk::new(store, ledgers);
     for number in 0..64 {
         let seat = seat_of(rt, &desk, number);
         holds!(rt; desk.give_back(seat) == (0, 0));
@@ -109,7 +118,9 @@ fn all_seats<E: Named, T: Ledger, R: Wait + Clock + Abort>(rt: &R, alloc: Global
 
 #[test]
 fn a_desk_has_64_seats(rt: HostRuntime) {
-    all_seats::<Brand, Brand, HostRuntime>(&rt, rt.alloc(), Ledgers::new());
+    let alloc = rt.alloc();
+    let store = store_in_memory(&rt, alloc);
+    all_seats::<Brand, Brand, HostRuntime>(&rt, alloc, store, Ledgers::new());
 }
 
 /// Enters a look-up of a run that does not exist.
@@ -151,13 +162,15 @@ pub fn look<E: Named, T: Ledger>(
 fn commit_three<E: Named, T: Ledger, R: Wait + Clock + Abort>(
     rt: &R,
     alloc: Global,
+    store: Store<MemoryDisk>,
     ledgers: Ledgers,
 ) -> MemoryDisk
+    requires store { (store.history ≡ []) × (store.base ≡ E.base) }
     requires entries { (ledgers.entries.name ≡ E.name) × (E.parts ≡ 64) }
     requires replies { (ledgers.replies.name ≡ T.name) × (T.parts ≡ 64) }
-    requires history { ledgers.history.seen.book ≡ E.book }
+    requires history { (ledgers.history.seen.book ≡ E.book) × (ledgers.history.token.nib.key ≡ E.first) }
 {
-    let desk: Desk<MemoryDisk, E, T> = Desk::new(store_in_memory(rt, alloc), ledgers);
+    let desk: Desk<MemoryDisk, E, T> = Desk::new(store, ledgers);
     let mut first = seat_of(rt, &desk, 0);
     let mut second = seat_of(rt, &desk, 1);
     let mut third = seat_of(rt, &desk, 2);
@@ -206,7 +219,12 @@ fn expect_writes(rt: &impl Abort, calls: &[Call]) {
 fn one_commit_covers_many_entries(rt: HostRuntime) {
     let alloc = rt.alloc();
     let init_calls = store_in_memory(&rt, alloc).into_disk().calls().len();
-    let disk = commit_three::<Brand, Brand, HostRuntime>(&rt, alloc, Ledgers::new());
+    let disk = commit_three::<Brand, Brand, HostRuntime>(
+        &rt,
+        alloc,
+        store_in_memory(&rt, alloc),
+        Ledgers::new(),
+    );
     let calls = disk.calls();
     holds!(rt; init_calls <= calls.len());
     expect_writes(&rt, &calls[init_calls..]);
@@ -221,13 +239,14 @@ const AREA: u64 = 1_048_576;
 fn long_history<E: Named, T: Ledger, R: Wait + Clock + Abort>(
     rt: &R,
     alloc: Global,
+    store: Store<MemoryDisk>,
     ledgers: Ledgers,
 )
+    requires store { (store.history ≡ []) × (store.base ≡ E.base) }
     requires entries { (ledgers.entries.name ≡ E.name) × (E.parts ≡ 64) }
     requires replies { (ledgers.replies.name ≡ T.name) × (T.parts ≡ 64) }
-    requires history { ledgers.history.seen.book ≡ E.book }
+    requires history { (ledgers.history.seen.book ≡ E.book) × (ledgers.history.token.nib.key ≡ E.first) }
 {
-    let store = new_store_of(rt, alloc, MemoryDisk::new(alloc), AREA);
     let desk: Desk<MemoryDisk, E, T> = Desk::new(store, ledgers);
     let mut seat = seat_of(rt, &desk, 0);
     for _ in 0..ENTRIES {
@@ -236,11 +255,13 @@ fn long_history<E: Named, T: Ledger, R: Wait + Clock + Abort>(
     holds!(rt; desk.give_back(seat) == (ENTRIES, ENTRIES));
     let (store, whole) = desk.into_parts();
     holds!(rt; store.entries() == ENTRIES && store.covered() == ENTRIES);
-    holds!(rt; whole.is_some());
+    holds!(rt; whole.entries() == ENTRIES);
     let _disk = store.into_disk();
 }
 
 #[test]
 fn a_desk_keeps_a_history_of_20000_entries(rt: HostRuntime) {
-    long_history::<Brand, Brand, HostRuntime>(&rt, rt.alloc(), Ledgers::new());
+    let alloc = rt.alloc();
+    let store = new_store_of(&rt, alloc, MemoryDisk::new(alloc), AREA);
+    long_history::<Brand, Brand, HostRuntime>(&rt, alloc, store, Ledgers::new());
 }

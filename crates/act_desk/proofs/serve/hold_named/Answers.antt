@@ -8,4 +8,4 @@ hold_all-transcripts-requires-sync-H g c κs =
     let disk = c.type_bounds.send-D in
     let gate = c.type_bounds.sync-G in
     let runtime = c.type_bounds.sync-R in
-    search (sendable, desk_sync, heap.the_sync, heap.the_field_sync) depth 12
+    search (sendable, desk_sync, heap.the_field_sync) depth 12

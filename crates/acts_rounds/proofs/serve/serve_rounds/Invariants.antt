@@ -6,4 +6,5 @@ use Rattle.acts_rounds.proofs.serve.serve_rounds.Given as goal
 abbrev pub invariant-loop : goal.invariant-loop
 invariant-loop g l =
     (l.counter ≤ l.rounds - 1 + 1)
-    × RoundsEnded l.hooks l.runners l.sessions l.counter l.broken (g.O.Write.contents l.fn.out) (g.O.Write.contents l.out) l.round.store.history
+    × RoundsEnded l.hooks l.runners l.sessions l.counter l.broken (g.O.Write.contents l.fn.out) (g.O.Write.contents l.out)
+    l.fn.store.base l.round.store.base l.round.store.history

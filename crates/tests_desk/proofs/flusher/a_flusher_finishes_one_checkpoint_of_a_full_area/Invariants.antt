@@ -4,7 +4,7 @@ abbrev pub ghosts-finish_one_checkpoint-E-Ledger : goal.ghosts-finish_one_checkp
 ghosts-finish_one_checkpoint-E-Ledger g a = record { name = a.ledgers.entries.name; parts = a.ledgers.entries.parts }
 
 abbrev pub ghosts-finish_one_checkpoint-E-Named : goal.ghosts-finish_one_checkpoint-E-Named
-ghosts-finish_one_checkpoint-E-Named g a = record { book = a.ledgers.history.seen.book }
+ghosts-finish_one_checkpoint-E-Named g a = record { book = a.ledgers.history.seen.book; first = a.ledgers.history.token.nib.key; base = a.store.base }
 
 abbrev pub ghosts-finish_one_checkpoint-T-Ledger : goal.ghosts-finish_one_checkpoint-T-Ledger
 ghosts-finish_one_checkpoint-T-Ledger g a = record { name = a.ledgers.replies.name; parts = a.ledgers.replies.parts }

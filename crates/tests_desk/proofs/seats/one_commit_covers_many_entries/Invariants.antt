@@ -4,7 +4,7 @@ abbrev pub ghosts-commit_three-E-Ledger : goal.ghosts-commit_three-E-Ledger
 ghosts-commit_three-E-Ledger g a = record { name = a.ledgers.entries.name; parts = a.ledgers.entries.parts }
 
 abbrev pub ghosts-commit_three-E-Named : goal.ghosts-commit_three-E-Named
-ghosts-commit_three-E-Named g a = record { book = a.ledgers.history.seen.book }
+ghosts-commit_three-E-Named g a = record { book = a.ledgers.history.seen.book; first = a.ledgers.history.token.nib.key; base = a.store.base }
 
 abbrev pub ghosts-commit_three-T-Ledger : goal.ghosts-commit_three-T-Ledger
 ghosts-commit_three-T-Ledger g a = record { name = a.ledgers.replies.name; parts = a.ledgers.replies.parts }

@@ -1,4 +1,4 @@
-use Rattle.std.proofs.Common.{◌≡◌, Some, inl, inr, refl, rules}
+use Rattle.std.proofs.Common.{◌≡◌, Some, inl, inr, refl}
 use Rattle.act_store.specs.Checkpoints.{refusal_of_finish}
 use Rattle.act_desk.proofs.Flushes.{finish_left, only_due}
 use Rattle.act_desk.proofs.flush.Flush.finish.Goals as goal

@@ -1,0 +1,12 @@
+use Rattle.std.proofs.Common.{◌≡◌, ◌<◌, drop, take}
+use Rattle.acts_serve.specs.Following.{Gains}
+use Rattle.acts_serve.proofs.changes.Changes.enter_new.Given as goal
+
+-- the entries so far
+abbrev pub invariant-loop-place : goal.invariant-loop-place
+invariant-loop-place g l = record {
+  gains : Gains (drop l.fn.self.taken (take l.place l.store.history)) l.fn.self.log l.self.log;
+  taken : l.self.taken ≡ l.fn.self.taken;
+  -- where there is nothing new
+  stays : l.store.covered < l.fn.self.taken → l.place ≡ l.fn.self.taken;
+}

@@ -1,0 +1,2 @@
+-- The service without end.
+pub mod Following
