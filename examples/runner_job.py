@@ -205,13 +205,13 @@ class Job:
             return [f'jobs.{self.name}: not of the form of a job ({fault!r})']
 
     def run_all(self, steps, frame):
-        for number, step in enumerate(steps):
+        for step in steps:
             if self.clock.is_over():
                 self.log.note('the time for steps after a cancel is over')
                 break
-            self.run_step(step, frame, number)
+            self.run_step(step, frame)
 
-    def run_step(self, step, frame, number=0):
+    def run_step(self, step, frame):
         """Runs a step if it is due, and notes what it came to."""
         name = str(step.get('name') or step.get('uses') or str(step.get('run')).partition('\n')[0])
         result = {'outputs': {}, 'outcome': 'skipped', 'conclusion': 'skipped'}
@@ -251,7 +251,7 @@ class Job:
         if 'run' in step:
             return self.run_script(step, frame, env, outputs, folder)
         if 'node' in step:
-            return self.run_node(step, frame, env, outputs, folder)
+            return self.run_node(step, env, outputs, folder)
         builtin = runner_builtin.of(step['uses'], self.options)
         given = self.texts(step.get('with'), frame, env)
         if builtin:
@@ -315,7 +315,7 @@ class Job:
 
     # Actions.
 
-    def inputs_of(self, action, given, frame, env):
+    def inputs_of(self, action, given, env):
         """The inputs of an action: those that are given, else their defaults."""
         names = {name.lower(): value for name, value in given.items()}
         inner = Frame({}, action.folder)
@@ -328,7 +328,7 @@ class Job:
         return {**given, **defaults, **known}
 
     def run_action(self, action, given, step, frame, env, outputs):
-        inputs = self.inputs_of(action, given, frame, env)
+        inputs = self.inputs_of(action, given, env)
         if action.is_local:
             faults = Plan.of_one(self, action)
             if faults:
@@ -353,7 +353,7 @@ class Job:
         outputs.update({name: self.text(value.get('value', ''), inner, env) for name, value in said.items()})
         return self.status(inner)
 
-    def run_node(self, step, frame, env, outputs, folder):
+    def run_node(self, step, env, outputs, folder):
         node = step['node']
         action = node['action']
         inner = Frame({}, action.folder)

@@ -13,9 +13,9 @@ SECONDS = 300
 SETTINGS = {'ACTS_CEPH_USER': 'acts', 'ACTS_FS': 'acts'}
 
 
-def hosts_over(cluster, folder, acts):
+def hosts_over(cluster, folder, acts, names='ab'):
     settings = {**SETTINGS, 'CEPH_CONF': cluster.settings}
-    return [Host(cluster.network, name, 'cephfs', folder, acts, settings) for name in 'ab']
+    return [Host(cluster.network, name, 'cephfs', folder, acts, settings) for name in names]
 
 
 def mount_unfenced(host):

@@ -14,11 +14,11 @@ IMAGE, PLAIN, SIZE = 'images/acts', 'images/plain', '160M'
 MAP = os.path.join(HERE, 'map_by_nbd')
 
 
-def hosts_over(cluster, folder, acts):
+def hosts_over(cluster, folder, acts, names='ab'):
     """Two hosts over a new image."""
     cluster.do('rbd', 'create', '--size', SIZE, IMAGE)
     hosts = []
-    for name in 'ab':
+    for name in names:
         below = os.path.join(folder, f'at_{name}.nbd')
         settings = {'CEPH_CONF': cluster.settings, 'ACTS_IMAGE': IMAGE, 'ACTS_MAP': f'{MAP} map {below}', 'ACTS_UNMAP': f'{MAP} unmap {below}'}
         hosts.append(Host(cluster.network, name, 'rbd', folder, acts, settings))
