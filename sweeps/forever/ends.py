@@ -38,7 +38,8 @@ def before_it_is_ready(acts, folder, path):
     open(empty, 'wb').close()
     ended(acts, words_of(empty, one, other, '--forever'), refused(53), 'an empty file')
     wrong = (['--forever', '--rounds', 2], ['--idle', 5], ['--turn-over', 5], ['--forever', '--idle', 0], ['--forever', '--idle', 86_401],
-             ['--forever', '--turn-over', 0], ['--forever', '--turn-over', 50_001], ['--forever', 'more'])
+             ['--forever', '--turn-over', 0], ['--forever', '--turn-over', 50_001], ['--forever', 'more'], ['--view-port', one],
+             ['--forever', '--view-port', 0], ['--forever', '--board', folder])
     for words in wrong:
         ended(acts, words_of(path, one, other, *words), (2, '', ''), ' '.join(map(str, words)))
     return len(wrong)
