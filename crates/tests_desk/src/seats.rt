@@ -95,6 +95,38 @@ fn two_seats_submit_alternately(rt: HostRuntime) {
     submit_alternately::<Brand, Brand, HostRuntime>(&rt, alloc, store, Ledgers::new());
 }
 
+/// A seat learns what another one was told of: it then has seen the same entries, and its own next entry comes after these.
+fn learn_of_two_entries<E: Named, T: Ledger, R: Wait + Clock + Abort>(
+    rt: &R,
+    alloc: Global,
+    store: Store<MemoryDisk>,
+    ledgers: Ledgers,
+)
+    requires store { (store.history ≡ []) × (store.base ≡ E.base) }
+    requires entries { (ledgers.entries.name ≡ E.name) × (E.parts ≡ 64) }
+    requires replies { (ledgers.replies.name ≡ T.name) × (T.parts ≡ 64) }
+    requires history { (ledgers.history.seen.book ≡ E.book) × (ledgers.history.token.nib.key ≡ E.first) }
+{
+    let desk: Desk<MemoryDisk, E, T> = Desk::new(store, ledgers);
+    let mut first = seat_of(rt, &desk, 0);
+    let mut second = seat_of(rt, &desk, 1);
+    submit(rt, alloc, &desk, &mut first, &ALTERNATING[0]);
+    submit(rt, alloc, &desk, &mut first, &ALTERNATING[1]);
+    holds!(rt; second.prefix().entries() == 0);
+    second.learn(first.prefix());
+    holds!(rt; second.prefix().entries() == 2 && first.prefix().begins(second.prefix()));
+    submit(rt, alloc, &desk, &mut second, &ALTERNATING[2]);
+    holds!(rt; second.prefix().entries() == 3 && !second.prefix().begins(first.prefix()));
+    let _disk = desk.into_store().into_disk();
+}
+
+#[test]
+fn a_seat_learns_what_another_was_told(rt: HostRuntime) {
+    let alloc = rt.alloc();
+    let store = store_in_memory(&rt, alloc);
+    learn_of_two_entries::<Brand, Brand, HostRuntime>(&rt, alloc, store, Ledgers::new());
+}
+
 /// 64 seats are given out, in the order of their numbers, and no more.
 fn all_seats<E: Named, T: Ledger, R: Wait + Clock + Abort>(
     rt: &R,
