@@ -1,11 +1,9 @@
 -- The characters of a folded text, and when two groups are equal.
 use Rattle.std.proofs.Common.{◌≡◌, ℕ, List, [], ◌∷◌, Some, chars, encode_utf8_all, IsUtf8, refl, sym, ap, ap₂, subst, ◌∙◌}
-use Rattle.std.specs.Prelude.{◌≢◌, ◌&&◌, IsTrue, String, string_bytes}
-use Rattle.std.specs.Cmp.{first_so, second_so}
-use Rattle.std.proofs.lemmas.Slice.Eq.{bytes_eq-Decides}
+use Rattle.std.specs.Prelude.{◌≢◌, String, string_bytes}
 use Rattle.std.proofs.lemmas.Str.{IsUtf8-string_bytes, chars_from_encodes, encodes-chars}
 use Rattle.group_name.specs.Group.{Group, folded_name, group_of}
-use Rattle.group_name.specs.Order.{group_eq, name_bytes, repository_bytes}
+use Rattle.group_name.specs.KeyTexts.{name_bytes}
 
 -- the bytes of a `String` are UTF-8
 pub text_of_string : {Z : Type 0} (folding : String Z) (text : List ℕ) → text ≡ string_bytes folding → IsUtf8 text
@@ -57,15 +55,3 @@ kept_name {g} {repository} {text} is utf8 = sym (encodes-chars text utf8) ∙ ap
 pub spelled_name : {g : Group} {repository text : List ℕ} → record { repository = repository; folded = chars text } ≡ g → IsUtf8 text
     → chars (name_bytes g) ≡ g.folded
 spelled_name {g} {repository} {text} is utf8 = ap chars (sym (kept_name is utf8)) ∙ ap (λ (h : Group). h.folded) is
-
--- stored groups are equal as map keys if and only if they are the same
-pub one_group : (g h : Group) → chars (name_bytes g) ≡ g.folded → chars (name_bytes h) ≡ h.folded
-    → (IsTrue (group_eq g h) → g ≡ h) × (g ≡ h → IsTrue (group_eq g h))
-one_group g h own other_own = (
-  (λ equal.
-      let same = (bytes_eq-Decides (repository_bytes g) (repository_bytes h)).0 (first_so _ _ equal) in
-      let names = (bytes_eq-Decides (name_bytes g) (name_bytes h)).0 (second_so _ _ equal) in
-      ap₂ (λ r f. record { repository = r; folded = f }) same (sym own ∙ ap chars names ∙ other_own)),
-  λ same. subst (λ k. IsTrue (group_eq g k)) same
-      (ap₂ (λ a b. a && b) ((bytes_eq-Decides (repository_bytes g) _).1 refl) ((bytes_eq-Decides (name_bytes g) _).1 refl)),
-)

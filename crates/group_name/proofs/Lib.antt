@@ -1,5 +1,5 @@
 mod BoundFolding
-mod FixedNames
 mod Folding
+pub mod KeyRooms
 pub mod OnLiterals
 pub mod SameGroups

@@ -1,7 +1,7 @@
 -- The group of a bound name in a repository. GitHub Docs, "Control the concurrency of workflows and jobs".
-use Rattle.std.specs.Prelude.{ℕ, List, [], ◌∷◌, length, nat_eq, Bool, Option, None, Some, chars, map, encode_utf8_all, if◌then◌else◌, refl}
+use Rattle.std.specs.Prelude.{◌≡◌, ◌≤◌, ℕ, List, [], ◌∷◌, length, max, sum_by, Option, None, Some, chars, map, encode_utf8_all, refl}
 use Rattle.std.specs.Coded.{Coded, code_by, coded_ℕ, coded_list, coded×}
-use Rattle.std.specs.List.{AllByRecursion, flat_map, list_all}
+use Rattle.std.specs.List.{AllByRecursion}
 use Rattle.std.specs.Str.{IsUtf8}
 use Rattle.wf_expr.specs.Bound.{Results, bound_text}
 use Rattle.wf_expr.specs.declared.bound.BoundPiece.{BoundPiece}
@@ -45,14 +45,25 @@ group_of_folded repository (b ∷ bs) = Some (record { repository = repository; 
 abbrev pub group_at : Results → BoundName → Option Group
 group_at results name = group_of_folded name.repository (bound_text results name.pieces)
 
--- ---- names that depend on no result
+-- ---- memory for a name
 
-abbrev pub needs_no_result : BoundPiece → Bool
-needs_no_result piece = nat_eq (length piece.needs) 0
+-- the most bytes that a piece gives, whatever the results: no word of a result is longer than `cancelled`
+abbrev pub most_bytes_of : BoundPiece → ℕ
+most_bytes_of piece = max (length piece.otherwise) 9
 
-abbrev pub own_text : List BoundPiece → List ℕ
-own_text = flat_map (λ piece. piece.otherwise)
+abbrev pub most_bytes : List BoundPiece → ℕ
+most_bytes pieces = sum_by most_bytes_of pieces
 
--- the group of a name whose pieces depend on no result: it is that of their own texts
-abbrev pub fixed_group : BoundName → Option Group
-fixed_group name = if list_all needs_no_result name.pieces then group_of_folded name.repository (own_text name.pieces) else None
+-- memory for a key: the bytes of its repository, and how many bytes of a name it has room for
+pub record Room : Type 0 where
+  pub repository : List ℕ
+  pub capacity : ℕ
+
+abbrev pub coded_room : Coded Room
+coded_room = code_by (List ℕ × ℕ) (coded× (coded_list coded_ℕ) coded_ℕ)
+    (λ r. (r.repository, r.capacity)) (λ t. record { repository = t.0; capacity = t.1 }) (λ _. refl)
+
+-- it is for each key that the name gives
+pub record HasRoomFor (name : BoundName) (room : Room) : Type 0 where
+  pub repository : room.repository ≡ name.repository
+  pub capacity : most_bytes name.pieces ≤ room.capacity

@@ -1,11 +1,11 @@
-ghost use Rattle.std.specs.Prelude.{◌≡◌, ◌↔◌, IsTrue, IsSome, IsUtf8, map, Ok, IfOk, IfSome, Some};
-ghost use Rattle.std.specs.List.{list_all};
-ghost use Rattle.group_name.specs.BoundGroup.{AreTexts, needs_no_result, bound_group, fixed_group, folded_piece, group_at, own_text};
+ghost use Rattle.std.specs.Prelude.{◌≡◌, ◌↔◌, IsTrue, IsSome, IsUtf8, map, Ok, IfOk};
+ghost use Rattle.group_name.specs.BoundGroup.{AreTexts, HasRoomFor, bound_group, folded_piece, group_at};
 ghost use Rattle.group_name.specs.Group.{group_of};
 ghost use Rattle.wf_expr.specs.Bound.{Results, bound_text};
-ghost use Rattle.wf_value.specs.Gives.{Gives};
+ghost use Rattle.wf_value.specs.Gives.{ErrsOnlyByMemory, Gives};
 
 use crate::group_key::{GroupKey, folded};
+use crate::key_room::KeyRoom;
 use std::alloc::Global;
 use std::marker::Model;
 use wf_expr::{BoundPiece, BoundTemplate, NeedResults};
@@ -53,24 +53,6 @@ fn folded_pieces(alloc: Global, pieces: &[BoundPiece]) -> Result<Vec<BoundPiece>
     Ok(folded)
 }
 
-fn ask_no_result(pieces: &[BoundPiece]) -> bool
-    ensures { result ≡ list_all needs_no_result pieces.now }
-{
-    pieces.iter().all(|piece| piece.needs.len() == 0)
-}
-
-/// The concatenated texts of the pieces, without any results.
-fn own_text(alloc: Global, pieces: &[BoundPiece]) -> Result<Chars, Refusal>
-    ensures gives { Gives (λ t. t) result (Ok (own_text pieces.now)) }
-    ensures utf8 { IfOk result IsUtf8 }
-{
-    let mut text = String::new(alloc);
-    for piece in pieces {
-        text.push_str(piece.otherwise.as_str())?;
-    }
-    Ok(Chars::new(text))
-}
-
 /// The concatenated texts of the pieces, given the results.
 fn text_by<R: NeedResults>(
     alloc: Global,
@@ -102,20 +84,6 @@ impl BoundGroup {
         })
     }
 
-    /// The group of a name that depends on no result, which is the same for any results; `None` if the name depends on a result or
-    /// is empty. Its only `Err` is 50 (out of memory).
-    pub fn fixed(&self, alloc: Global) -> Result<Option<GroupKey>, Refusal>
-        ensures gives { Gives (λ k. k) result (Ok (fixed_group self.now)) }
-        ensures always { IfOk result (λ k. IfSome k (λ g. (results : Results) → group_at results self.now ≡ Some g)) }
-    {
-        if !ask_no_result(self.name.pieces()) {
-            return Ok(None);
-        }
-        let repository = self.repository.copy(alloc)?;
-        let text = own_text(alloc, self.name.pieces())?;
-        Ok(GroupKey::of_folded(repository, text))
-    }
-
     /// The group of the name, given the results; `None` if the name is empty. Its only `Err` is 50 (out of memory).
     pub fn key<R: NeedResults>(
         &self,
@@ -127,6 +95,22 @@ impl BoundGroup {
         let repository = self.repository.copy(alloc)?;
         let text = text_by(alloc, self.name.pieces(), results)?;
         Ok(GroupKey::of_folded(repository, text))
+    }
+
+    /// Takes the memory for the key that the name gives, whatever the results. Its only `Err` is 50 (out of memory).
+    pub fn room(&self, alloc: Global) -> Result<KeyRoom, Refusal>
+        ensures err { ErrsOnlyByMemory result }
+        ensures room { IfOk result (HasRoomFor self.now) }
+    {
+        KeyRoom::take(alloc, &self.repository, self.name.pieces())
+    }
+
+    /// The group of the name, given the results, in memory that was taken for it; `None` if the name is empty.
+    pub fn key_in<R: NeedResults>(&self, room: KeyRoom, results: &R) -> Option<GroupKey>
+        requires { HasRoomFor self.now room }
+        ensures { result ≡ group_at (R.result_of results.now) self.now }
+    {
+        room.filled(self.name.pieces(), results)
     }
 
     /// Whether the name stands for a group, given the results, that is, whether it is not empty. It takes no memory.

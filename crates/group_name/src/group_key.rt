@@ -1,7 +1,7 @@
 ghost use Rattle.std.specs.Prelude.{◌≡◌, ◌↔◌, [], IsTrue, IsUtf8, chars, Ok, IfOk, None};
 ghost use Rattle.group_name.specs.BoundGroup.{group_of_folded};
 ghost use Rattle.group_name.specs.Group.{folded_name, group_of};
-ghost use Rattle.group_name.specs.Order.{name_bytes, repository_bytes};
+ghost use Rattle.group_name.specs.KeyTexts.{name_bytes, repository_bytes};
 ghost use Rattle.wf_value.specs.Gives.{Gives};
 
 use caseless::default_case_fold_str;

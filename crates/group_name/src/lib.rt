@@ -3,8 +3,10 @@
 
 mod bound_group;
 mod group_key;
+mod key_room;
+mod keys;
 pub mod laws;
-mod order;
 
 pub use bound_group::BoundGroup;
 pub use group_key::GroupKey;
+pub use key_room::KeyRoom;

@@ -1,21 +1,10 @@
-//! The groups of a book and their holders. Group names are case-insensitive, and each repository has its own groups.
+//! The holders of groups in a book. Group names are case-insensitive, and each repository has its own groups.
 
 use crate::holds::holds;
-use group_book::{Book, Slot};
+use group_book::Book;
 use group_name::GroupKey;
 use std::alloc::Global;
 use std::process::Abort;
-
-/// Repositories and names, and the number that each gets when they are entered in this order.
-const NAMES: &[(&str, &str, usize)] = &[
-    ("o/r", "Prod", 0),
-    ("o/r", "prod", 0),
-    ("o/s", "prod", 1),
-    ("o/r", "Straße", 2),
-    ("O/R", "PROD", 3),
-    ("o/r", "STRASSE", 2),
-    ("o/r", "PROD", 0),
-];
 
 fn group(rt: &impl Abort, alloc: Global, repository: &str, name: &str) -> GroupKey {
     match GroupKey::of(alloc, repository, name) {
@@ -24,75 +13,69 @@ fn group(rt: &impl Abort, alloc: Global, repository: &str, name: &str) -> GroupK
     }
 }
 
-fn enter_all(rt: &impl Abort, alloc: Global, book: &mut Book<usize>) {
-    for &(repository, name, want) in NAMES {
-        let number = book
-            .enter(group(rt, alloc, repository, name))
-            .expect(rt, "memory");
-        holds!(rt; number == want, name);
-    }
-}
-
-fn find_all(rt: &impl Abort, alloc: Global, book: &Book<usize>) {
-    for &(repository, name, want) in NAMES {
-        let found = book.find(&group(rt, alloc, repository, name));
-        holds!(rt; found == Some(want), name);
-    }
-    holds!(rt; book.find(&group(rt, alloc, "o/s", "test")).is_none());
-}
-
-#[test]
-fn names_of_one_group_have_one_number(rt: HostRuntime) {
-    let alloc = rt.alloc();
+/// A book in which holder 1 is in progress in the group `Straße`, and holder 2 is pending.
+fn book_of_two(rt: &impl Abort, alloc: Global) -> Book<usize> {
     let mut book = Book::new(alloc);
-    book.reserve(4).expect(&rt, "memory");
-    enter_all(&rt, alloc, &mut book);
-    holds!(rt; book.len() == 4);
-    find_all(&rt, alloc, &book);
-    find_all(&rt, alloc, &book.copy(alloc).expect(&rt, "memory"));
+    book.expect(3).expect(rt, "memory");
+    let first = book.arrive(group(rt, alloc, "o/r", "Straße"), 1, false);
+    holds!(rt; first.displaced.is_none() && first.to_stop.is_none());
+    book.start(&group(rt, alloc, "o/r", "STRASSE"));
+    let second = book.arrive(group(rt, alloc, "o/r", "strasse"), 2, false);
+    holds!(rt; second.displaced.is_none() && second.to_stop.is_none());
+    book
 }
 
-/// Whether the slot has exactly these holders in its places, in order.
-fn has_just(slot: &Slot<usize>, want: &[usize]) -> bool {
-    let mut count = 0;
-    for place in slot.places() {
-        if let Some(holder) = place {
-            if count >= want.len() || want[count] != holder {
-                return false;
-            }
-            count += 1;
-        }
-    }
-    count == want.len()
-}
-
-#[test]
-fn a_slot_has_three_places(rt: HostRuntime) {
-    let three = Slot::empty().with(7).with(8).with(7).with(9);
-    holds!(rt; has_just(&three, &[7, 8, 9]) && !three.is_crowded());
-    let crowded = three.with(10);
-    holds!(rt; has_just(&crowded, &[7, 8, 9]) && crowded.is_crowded());
-    let kept = crowded.kept(|holder| holder != 8);
-    holds!(rt; has_just(&kept, &[7, 9]) && kept.is_crowded());
-    let again = three.kept(|holder| holder != 8).with(10);
-    holds!(rt; has_just(&again, &[7, 10, 9]) && !again.is_crowded());
-}
-
-/// Whether the slot with this number has exactly these holders in its places, in order.
-fn lists_just(book: &Book<usize>, number: usize, want: &[usize]) -> bool {
-    number < book.len() && has_just(&book.slot(number), want)
+/// Whether the holders of the group are these.
+fn has(
+    book: &Book<usize>,
+    group: &GroupKey,
+    running: Option<usize>,
+    pending: Option<usize>,
+) -> bool {
+    book.running(group) == running && book.pending(group) == pending
 }
 
 #[test]
-fn putting_a_slot_changes_no_other_slot(rt: HostRuntime) {
+fn a_newcomer_takes_the_place_of_the_pending_holder(rt: HostRuntime) {
     let alloc = rt.alloc();
-    let mut book = Book::new(alloc);
-    enter_all(&rt, alloc, &mut book);
-    if book.len() < 2 {
-        panic!(rt; "too few groups");
+    let name = group(&rt, alloc, "o/r", "straSSe");
+    let mut book = book_of_two(&rt, alloc);
+    holds!(rt; has(&book, &name, Some(1), Some(2)));
+    let third = book.arrive(group(&rt, alloc, "o/r", "Straße"), 3, true);
+    holds!(rt; third.displaced == Some(2) && third.to_stop == Some(1));
+    holds!(rt; has(&book, &name, Some(1), Some(3)));
+    holds!(rt; book.leave(&name, &1) == Some(3));
+    holds!(rt; has(&book, &name, None, Some(3)));
+    book.start(&name);
+    holds!(rt; has(&book, &name, Some(3), None));
+    holds!(rt; book.leave(&name, &3).is_none());
+    holds!(rt; has(&book, &name, None, None));
+}
+
+#[test]
+fn a_pending_holder_leaves_and_nobody_may_begin(rt: HostRuntime) {
+    let alloc = rt.alloc();
+    let name = group(&rt, alloc, "o/r", "strasse");
+    let mut book = book_of_two(&rt, alloc);
+    holds!(rt; book.leave(&name, &2).is_none());
+    holds!(rt; has(&book, &name, Some(1), None));
+}
+
+#[test]
+fn each_repository_has_its_own_groups(rt: HostRuntime) {
+    let alloc = rt.alloc();
+    let book = book_of_two(&rt, alloc);
+    for repository in ["o/s", "O/R"] {
+        holds!(rt; has(&book, &group(&rt, alloc, repository, "strasse"), None, None), repository);
     }
-    book.put(1, book.slot(1).with(5));
-    holds!(rt; lists_just(&book, 0, &[]));
-    holds!(rt; lists_just(&book, 1, &[5]));
-    holds!(rt; lists_just(&book, 2, &[]));
+    let copy = book.copy(alloc).expect(&rt, "memory");
+    holds!(rt; has(&copy, &group(&rt, alloc, "o/r", "strasse"), Some(1), Some(2)));
+}
+
+#[test]
+fn memory_for_arrivals_is_taken_ahead(rt: HostRuntime) {
+    let mut book: Book<usize> = Book::new(rt.alloc());
+    book.expect(2).expect(&rt, "memory");
+    book.forgo(1);
+    holds!(rt; book.expect(usize::MAX).is_err());
 }
