@@ -1,3 +1,3 @@
-pub mod Entering
-pub mod Listing
-pub mod Numbers
+pub mod Exact
+pub mod Holders
+pub mod Slots

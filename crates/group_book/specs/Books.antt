@@ -1,44 +1,28 @@
--- Books of the possible holders of concurrency groups. GitHub Docs, "Control the concurrency of workflows and jobs".
-use Rattle.std.specs.Prelude.{◌≡◌, ℕ, List, [], ◌∷◌, ◌++◌, nat_eq, Bool, Option, Some, option_map, slice_get, if◌then◌else◌}
-use Rattle.std.specs.List.{list_any}
+-- Books of concurrency groups: the holders of each group.
+use Rattle.std.specs.Prelude.{◌≡◌, ℕ, List, Option, Some, if◌then◌else◌, option_map, slice_get, unwrap_or}
+use Rattle.std.specs.Map.{lookup}
 use Rattle.group_name.specs.Group.{Group, same_group}
-use Rattle.group_book.specs.Slots.{Lists, empty_slot}
+use Rattle.group_book.specs.Slots.{empty_slot}
 use Rattle.group_book.specs.declared.slot.Slot.{Slot}
 
--- a book: its groups with their slots, in the order of their numbers, and the number of groups for which memory is reserved
+-- a book: the groups that have holders, each with its slot, and for how many arrivals memory is taken
 pub record BookState (H : Type 0) : Type 0 where
   pub entries : List (Group × Slot H)
-  pub room : ℕ
+  pub expected : ℕ
 
 module _ {H : Type 0} where
   -- the group with this number
   abbrev pub group_at : List (Group × Slot H) → ℕ → Option Group
   group_at entries n = option_map (λ e. e.0) (slice_get entries n)
 
-  -- the slot with this number
-  abbrev pub slot_at : List (Group × Slot H) → ℕ → Option (Slot H)
-  slot_at entries n = option_map (λ e. e.1) (slice_get entries n)
+  -- the holders of a group; a group that is not in the book has none
+  abbrev pub slot_in : List (Group × Slot H) → Group → Slot H
+  slot_in entries g = unwrap_or (lookup (same_group g) entries) empty_slot
 
-  abbrev pub has_group : Group → List (Group × Slot H) → Bool
-  has_group g entries = list_any (λ e. same_group g e.0) entries
+  -- one group gets these holders, and all others keep theirs
+  abbrev pub Puts : Group → Slot H → List (Group × Slot H) → List (Group × Slot H) → Type 0
+  Puts g slot old new = (k : Group) → slot_in new k ≡ (if same_group g k then slot else slot_in old k)
 
-  -- entering a group gives it the next number and an empty slot, unless it has a number already
-  abbrev pub entered : Group → List (Group × Slot H) → List (Group × Slot H)
-  entered g entries = if has_group g entries then entries else entries ++ (g, empty_slot) ∷ []
-
-  -- one number gets this slot; all other slots and all groups keep their numbers
-  pub record Puts (number : ℕ) (slot : Slot H) (old new : List (Group × Slot H)) : Type 0 where
-    pub groups : (n : ℕ) → group_at new n ≡ group_at old n
-    pub slots : (n : ℕ) → slot_at new n ≡ (if nat_eq n number then Some slot else slot_at old n)
-
-  -- no group has two numbers
-  abbrev pub HasEachOnce : List (Group × Slot H) → Type 0
-  HasEachOnce entries = (m n : ℕ) (g : Group) → group_at entries m ≡ Some g → group_at entries n ≡ Some g → m ≡ n
-
-  -- the book lists the holder in the group
-  pub record ListsIn (entries : List (Group × Slot H)) (g : Group) (h : H) : Type 0 where
-    pub number : ℕ
-    pub slot : Slot H
-    pub of_group : group_at entries number ≡ Some g
-    pub there : slot_at entries number ≡ Some slot
-    pub listed : Lists slot h
+  -- a group that nobody holds is not there
+  abbrev pub AreHeld : List (Group × Slot H) → Type 0
+  AreHeld entries = (g : Group) (slot : Slot H) → lookup (same_group g) entries ≡ Some slot → slot ≡ empty_slot → ⊥

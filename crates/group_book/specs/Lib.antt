@@ -1,2 +1,3 @@
 pub mod Books
+pub mod Holders
 pub mod Slots

@@ -1,10 +1,8 @@
-//! The possible holders of concurrency groups, by the names of the groups. A group has a number, and a slot for its possible
-//! holders. Entries may be stale, never missing: every possible holder is listed, and a stale one is removed when it is checked.
+//! The holders of concurrency groups, by the names of the groups. GitHub Docs, "Control the concurrency of workflows and jobs".
 #![tactic(auto)]
 
 mod book;
-pub mod laws;
 mod slot;
 
-pub use book::Book;
+pub use book::{Arrival, Book};
 pub use slot::Slot;
