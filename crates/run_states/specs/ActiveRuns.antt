@@ -13,13 +13,6 @@ has_ready_leg job = list_any (λ l. is_ready l.phase) job.legs
 abbrev pub offers_legs : RunState → Bool
 offers_legs run = list_any has_ready_leg run.jobs
 
--- whether the run waits for its group, or one of its legs does
-abbrev pub has_waiting_leg : JobState → Bool
-has_waiting_leg job = list_any (λ l. leg_waits l.phase) job.legs
-
-abbrev pub someone_waits : RunState → Bool
-someone_waits run = run_waits run.phase || list_any has_waiting_leg run.jobs
-
 -- whether a leg waits for its group or holds it; a leg with a runner at work holds it
 abbrev pub is_active_leg : LegState → Bool
 is_active_leg leg = leg_waits leg.phase || leg_holds leg.phase

@@ -10,7 +10,6 @@ pub mod GroupState
 pub mod GroupWords
 pub mod Groups
 pub mod Holders
-pub mod HoldingLegs
 pub mod JobResults
 pub mod LegContext
 pub mod LegCounts

@@ -1,16 +1,14 @@
 //! The changes of a run.
 
 ghost use Rattle.std.specs.Prelude.{◌≡◌};
-ghost use Rattle.run_states.specs.Changes.{newcomer};
 ghost use Rattle.run_states.specs.Changes.{offered_by};
 
-use crate::holder::Holder;
 use crate::leg::Leg;
 use crate::phases::RunPhase;
 use crate::place::LegPlace;
 use wf_value::JobResult;
 
-/// One change of a run. Within an attempt, a table changes its runs only by these.
+/// One change of a run. Within an attempt, a table changes its runs only by these. Each changes at most one holder of a group.
 #[derive(Clone, Copy)]
 pub enum Change {
     /// The run enters a phase.
@@ -19,38 +17,15 @@ pub enum Change {
     Open(usize),
     /// A job finishes with a result.
     Settle(usize, JobResult),
-    /// The run is stopped.
-    Stop,
-    /// All legs of a job are stopped.
-    StopLegs(usize),
+    /// The run, which has not begun, ends, and all its jobs finish as cancelled.
+    Cancel,
+    /// The run is asked to stop.
+    RequestStop,
     /// A leg of a job is replaced.
     PutLeg(usize, usize, Leg),
 }
 
 impl Change {
-    /// The holder that waits for a group or holds one after the change of run `r`, and may not have done so before.
-    pub fn newcomer(&self, r: usize) -> Option<Holder>
-        ensures { result ≡ newcomer r self.now }
-    {
-        match self {
-            Change::Phase(phase) => {
-                if phase.waits() || phase.is_live() {
-                    Some(Holder::Run(r))
-                } else {
-                    None
-                }
-            }
-            Change::PutLeg(j, l, leg) => {
-                if leg.phase.waits() || leg.phase.holds() {
-                    Some(Holder::Leg(LegPlace::new(r, *j, *l)))
-                } else {
-                    None
-                }
-            }
-            Change::Open(_) | Change::Settle(_, _) | Change::Stop | Change::StopLegs(_) => None,
-        }
-    }
-
     /// The leg that the change of run `r` makes ready.
     pub fn offered(&self, r: usize) -> Option<LegPlace>
         ensures { result ≡ offered_by r self.now }

@@ -1,15 +1,13 @@
 ghost use Rattle.std.specs.Prelude.{◌≡◌, ◌≤◌, Ok, length, map};
 ghost use Rattle.std.specs.List.{list_all};
 ghost use Rattle.wf_value.specs.Gives.{Gives};
-ghost use Rattle.run_states.specs.ActiveRuns.{has_active_leg, has_ready_leg, has_waiting_leg};
+ghost use Rattle.run_states.specs.ActiveRuns.{has_active_leg, has_ready_leg};
 ghost use Rattle.run_states.specs.Cells.{in_state};
 ghost use Rattle.run_states.specs.FirstOf.{changed_at};
-ghost use Rattle.run_states.specs.HoldingLegs.{has_begun, has_holding_leg, has_legs};
 ghost use Rattle.run_states.specs.LegCounts.{AreCounted, has_unready_leg};
 ghost use Rattle.run_states.specs.NewRun.{blocked_job};
 ghost use Rattle.run_states.specs.Parallel.{legs_at_work};
 ghost use Rattle.run_states.specs.Rules.{leg_has_ended, is_done, is_settled, opened, settled_as};
-ghost use Rattle.run_states.specs.Stops.{stopped, with_stopped_legs};
 
 mod of;
 
@@ -106,13 +104,6 @@ impl Job {
         self.counts().ready > 0
     }
 
-    /// Whether one of its legs waits for its group.
-    pub(crate) fn has_waiting_leg(&self) -> bool
-        ensures { result ≡ has_waiting_leg self.now.state }
-    {
-        self.counts().waiting > 0
-    }
-
     /// Whether one of its legs waits for its group or holds it.
     pub(crate) fn has_active_leg(&self) -> bool
         ensures { result ≡ has_active_leg self.now.state }
@@ -120,31 +111,11 @@ impl Job {
         self.counts().has_active()
     }
 
-    /// Whether one of its legs holds its group.
-    pub(crate) fn has_holding_leg(&self) -> bool
-        ensures { result ≡ has_holding_leg self.now.state }
-    {
-        self.counts().has_holding()
-    }
-
     /// Whether one of its legs is new or waits. No rule applies to any other leg.
     pub fn has_unready_leg(&self) -> bool
         ensures { result ≡ has_unready_leg self.now.state }
     {
         self.counts().has_unready()
-    }
-
-    pub(crate) fn has_legs(&self) -> bool
-        ensures { result ≡ has_legs self.now.state }
-    {
-        !self.legs().is_empty()
-    }
-
-    /// Whether it has opened or finished, or has legs.
-    pub fn has_begun(&self) -> bool
-        ensures { result ≡ has_begun self.now.state }
-    {
-        !self.phase.is_blocked() || self.has_legs()
     }
 
     /// Opens the job with all its legs new.
@@ -172,14 +143,6 @@ impl Job {
             self.counts = self.counts.moved(&old, &leg);
             self.room[l] = leg;
         }
-    }
-
-    /// Stops all legs of the job.
-    pub(crate) fn stop_legs(&mut self)
-        ensures { self.new ≡ in_state (with_stopped_legs self.old.state) self.old }
-    {
-        stop_all(&mut self.room);
-        self.counts = self.counts.stopped();
     }
 
     /// How many of its legs have a runner at work.
@@ -228,14 +191,5 @@ impl TryCopy for Job {
             counts: self.counts,
             needs_left: self.needs_left,
         })
-    }
-}
-
-/// Stops each of the legs.
-fn stop_all(legs: &mut [Leg])
-    ensures { legs.new ≡ map stopped legs.old }
-{
-    for leg in legs.iter_mut() {
-        *leg = leg.stopped();
     }
 }

@@ -99,21 +99,6 @@ impl LegCounts {
             at_work: count_moved(self.at_work, from.is_at_work(), to.is_at_work()),
         }
     }
-
-    /// The counts after all legs are stopped: those at work are asked to stop, and all others have ended.
-    pub(crate) fn stopped(self) -> Self
-        ensures newcomers { result.newcomers ≡ 0 }
-        ensures waiting { result.waiting ≡ 0 }
-        ensures ready { result.ready ≡ 0 }
-        ensures at_work { result.at_work ≡ self.at_work }
-    {
-        LegCounts {
-            newcomers: 0,
-            waiting: 0,
-            ready: 0,
-            at_work: self.at_work,
-        }
-    }
 }
 
 /// The count after a change of one leg, which was counted before if `was`, and is counted after if `is`.

@@ -3,7 +3,6 @@
 
 mod change;
 pub mod direct_needs;
-mod frees;
 mod holder;
 mod job;
 mod leg;
@@ -15,7 +14,6 @@ mod run;
 mod run_parts;
 
 pub use change::Change;
-pub use frees::Frees;
 pub use holder::{Holder, HolderFilter};
 pub use job::Job;
 pub use leg::Leg;

@@ -3,18 +3,16 @@ ghost use Rattle.std.specs.List.{list_any, slice_index_or};
 ghost use Rattle.stated_limits.specs.Limits.{last_attempt};
 ghost use Rattle.wf_value.specs.Gives.{Gives};
 ghost use Rattle.run_plan.specs.PlanOf.{plan_of};
-ghost use Rattle.run_states.specs.ActiveRuns.{has_active_leg, has_ready_leg, has_waiting_leg, is_active, offers_legs, someone_waits};
+ghost use Rattle.run_states.specs.ActiveRuns.{has_active_leg, has_ready_leg, is_active, offers_legs};
 ghost use Rattle.run_states.specs.Cells.{blocked_cells, legs_planned, rooms, states};
 ghost use Rattle.run_states.specs.Changes.{changed};
 ghost use Rattle.run_states.specs.FirstOf.{changed_at};
-ghost use Rattle.run_states.specs.HoldingLegs.{has_legs_at, has_legs_downstream, holds_by_a_leg, holds_by_a_leg_of, job_requests_group};
 ghost use Rattle.run_states.specs.JobResults.{results_so_far};
 ghost use Rattle.run_states.specs.Resuming.{job_again};
 ghost use Rattle.run_states.specs.NewRun.{again, is_delivered_as, new_run, run_in_attempt};
 ghost use Rattle.run_states.specs.Rules.{opened, settled_as, run_in_phase};
 ghost use Rattle.run_states.specs.Settling.{legs_in_plan};
-ghost use Rattle.run_states.specs.Stops.{cancelled, is_open_at, stopped_run, with_stop_requested, with_job_stopped};
-ghost use Rattle.run_states.specs.Stops.{with_jobs_stopped, with_stopped_legs};
+ghost use Rattle.run_states.specs.Stops.{cancelled, is_open_at};
 ghost use Rattle.run_states.specs.WithinRun.{condition_in, may_run_in, needs_settled_in};
 
 mod needs;
@@ -198,73 +196,11 @@ impl Run {
         have_ready_leg(self.jobs())
     }
 
-    /// Whether it waits for its group, or one of its legs does.
-    pub fn someone_waits(&self) -> bool
-        ensures { result ≡ someone_waits self.now }
-    {
-        self.phase.waits() || have_waiting_leg(self.jobs())
-    }
-
     /// Whether it waits or is live, or one of its legs waits for its group or holds it.
     pub fn is_active(&self) -> bool
         ensures { result ≡ is_active self.now }
     {
         self.phase.waits() || self.phase.is_live() || have_active_leg(self.jobs())
-    }
-
-    /// Whether one of its legs holds the group that its job asks for.
-    pub fn holds_by_a_leg(&self) -> bool
-        ensures { result ≡ holds_by_a_leg self.now }
-    {
-        for j in 0..self.job_count() {
-            if self.holds_by_a_leg_of(j) {
-                return true;
-            }
-        }
-        false
-    }
-
-    fn holds_by_a_leg_of(&self, j: usize) -> bool
-        ensures { result ≡ holds_by_a_leg_of self.now j }
-    {
-        match self.job(j) {
-            Some(job) => self.job_requests_group(j) && job.has_holding_leg(),
-            None => false,
-        }
-    }
-
-    /// Whether job `j` asks for a group.
-    fn job_requests_group(&self, j: usize) -> bool
-        ensures { result ≡ job_requests_group self.now j }
-    {
-        match self.planned(j) {
-            Some(planned) => planned.concurrency.is_some(),
-            None => false,
-        }
-    }
-
-    /// Whether a job that needs job `j` directly has legs, or the plan has no job `j`.
-    pub fn has_legs_downstream(&self, j: usize) -> bool
-        ensures { result ≡ has_legs_downstream j self.now }
-    {
-        let graph = self.prepared.plan().graph();
-        j >= graph.job_count() || self.have_legs(graph.dependents(j))
-    }
-
-    /// Whether a job at one of these indices has legs.
-    fn have_legs(&self, places: &[usize]) -> bool
-        ensures { result ≡ list_any (has_legs_at self.now) places.now }
-    {
-        places.iter().any(|place| self.has_legs_at(*place))
-    }
-
-    fn has_legs_at(&self, j: usize) -> bool
-        ensures { result ≡ has_legs_at self.now j }
-    {
-        match self.job(j) {
-            Some(job) => job.has_legs(),
-            None => false,
-        }
     }
 
     // ---- changes
@@ -277,8 +213,8 @@ impl Run {
             Change::Phase(phase) => self.set_phase(phase),
             Change::Open(j) => self.open_job(j),
             Change::Settle(j, settled) => self.settle_job(j, settled),
-            Change::Stop => self.stop(),
-            Change::StopLegs(j) => self.stop_legs(j),
+            Change::Cancel => self.cancel(),
+            Change::RequestStop => self.set_stopping(),
             Change::PutLeg(j, l, leg) => self.set_leg(j, l, leg),
         }
     }
@@ -313,32 +249,6 @@ impl Run {
         settle_among(&mut self.jobs, self.prepared.plan().graph(), j, settled);
     }
 
-    /// Stops all legs of job `j`.
-    #[tactic(auto, using(crate::proofs::Doors::job_written))]
-    pub(crate) fn stop_legs(&mut self, j: usize)
-        ensures { self.new ≡ record self.old { jobs = changed_at j with_stopped_legs self.old.jobs } }
-    {
-        if j < self.jobs.len() {
-            let job = &mut self.jobs[j];
-            job.stop_legs();
-        }
-    }
-
-    /// Stops the run: a waiting run ends, and a live one is asked to stop.
-    pub(crate) fn stop(&mut self)
-        ensures { self.new ≡ stopped_run self.old }
-    {
-        match self.phase() {
-            RunPhase::Waiting => self.cancel(),
-            RunPhase::Live => {
-                if !self.is_stopping() {
-                    self.request_stop();
-                }
-            }
-            RunPhase::Ended => {}
-        }
-    }
-
     /// Ends a run that has not begun. All its jobs finish as cancelled.
     fn cancel(&mut self)
         ensures { self.new ≡ cancelled self.old }
@@ -356,39 +266,14 @@ impl Run {
         }
     }
 
-    fn request_stop(&mut self)
-        ensures { self.new ≡ with_stop_requested self.old }
-    {
-        self.set_stopping();
-        self.stop_jobs();
-    }
-
     fn set_stopping(&mut self)
         ensures { self.new ≡ record self.old { stopping = true } }
     {
         self.stopping = true;
     }
 
-    /// Stops the legs of each open job whose condition is false.
-    fn stop_jobs(&mut self)
-        ensures { self.new ≡ with_jobs_stopped self.old }
-    {
-        for j in 0..self.job_count() {
-            self.stop_job(j);
-        }
-    }
-
-    /// Stops the legs of job `j` if it is open and its condition is false.
-    fn stop_job(&mut self, j: usize)
-        ensures { self.new ≡ with_job_stopped j self.old }
-    {
-        if self.is_to_stop(j) {
-            self.stop_legs(j);
-        }
-    }
-
     /// Whether job `j` is open and its condition is false.
-    fn is_to_stop(&self, j: usize) -> bool
+    pub fn is_to_stop(&self, j: usize) -> bool
         ensures { result ≡ (is_open_at self.now j && not (may_run_in self.now j)) }
     {
         self.is_open_at(j) && !self.may_run(j)
@@ -445,12 +330,6 @@ fn have_ready_leg(jobs: &[Job]) -> bool
     ensures { result ≡ list_any (λ job. has_ready_leg job.state) jobs.now }
 {
     jobs.iter().any(|job| job.has_ready_leg())
-}
-
-fn have_waiting_leg(jobs: &[Job]) -> bool
-    ensures { result ≡ list_any (λ job. has_waiting_leg job.state) jobs.now }
-{
-    jobs.iter().any(|job| job.has_waiting_leg())
 }
 
 fn have_active_leg(jobs: &[Job]) -> bool
