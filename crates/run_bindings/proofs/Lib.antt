@@ -1,9 +1,10 @@
 pub mod Binding
 pub mod BoundSays
+pub mod DecidedKeys
+pub mod DecidedThere
 pub mod Digits
 pub mod FirstOffering
 pub mod FlagsSaid
-pub mod GroupNumbers
 pub mod KeptLabels
 pub mod KnownSays
 pub mod LabelNumbers
@@ -11,4 +12,5 @@ pub mod NumberOfRun
 mod PlainLabels
 pub mod PlannedLegs
 pub mod ShortLabels
+pub mod SpentKeys
 pub mod Under

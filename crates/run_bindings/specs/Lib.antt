@@ -1,7 +1,7 @@
 pub mod Bindings
 pub mod BoundFlags
 pub mod BoundGroups
-pub mod GroupNumbers
+pub mod GroupKeys
 pub mod KnownLabels
 pub mod LabelNumbers
 pub mod PlainLabels

@@ -1,9 +1,10 @@
 //! What a run and its legs ask of concurrency groups and of runners. When an attempt of the run begins, everything that their templates use
-//! is known, except the results of the jobs that a leg's job needs. The templates are therefore bound then. From then on comparing groups
-//! and labels takes no memory and looks nothing up.
+//! is known, except the results of the jobs that a leg's job needs. The templates are therefore bound then, and memory for the names of
+//! groups is taken. From then on deciding a group and comparing labels takes no memory and looks nothing up.
 
 ghost use Rattle.std.specs.Prelude.{◌≡◌, ℕ, IfOk, List, Some, length, option_map, slice_get};
 ghost use Rattle.std.specs.Fmt.{decimal};
+ghost use Rattle.std.specs.Option.{option_map_or};
 ghost use Rattle.wf_value.specs.Gives.{ErrsOnlyByMemory};
 ghost use Rattle.label_lists.specs.Lists.{HasPlace, OnlyGrows};
 ghost use Rattle.run_plan.specs.PlanOf.{plan_of};
@@ -11,18 +12,19 @@ ghost use Rattle.run_plan.specs.declared.planned.PlannedJob.{PlannedJob as Plann
 ghost use Rattle.run_states.specs.Fitting.{has_labels};
 ghost use Rattle.run_states.specs.GroupOf.{RunFacts};
 ghost use Rattle.run_bindings.specs.Bindings.{JobSays, KeepsLabels, KeepsLabelsAt, RunSays, group_request_of, flag_for};
-ghost use Rattle.run_bindings.specs.GroupNumbers.{Entries, OnlyEnters, SaysNumbers};
+ghost use Rattle.run_bindings.specs.BoundGroups.{results_by_place};
+ghost use Rattle.run_bindings.specs.GroupKeys.{AllAreLater, decided};
 ghost use Rattle.run_bindings.specs.LabelNumbers.{AreListsOf};
 ghost use Rattle.run_bindings.specs.declared.bindings.JobBindings.{JobBindings as RequestsOfJob};
+ghost use Rattle.run_bindings.specs.declared.group_keys.HolderKey.TheVariants.{NoGroup};
 
 use crate::flags::bind_flags;
-use crate::group_numbers::GroupNumbers;
+use crate::group_keys::GroupKeys;
 use crate::groups::{BoundFlag, GroupRequest, bind_groups, bind_own};
 use crate::label_numbers::{ListNumbers, enter_jobs};
 use crate::plain_labels::plain_texts;
 use crate::resolved_labels::{ResolvedLabels, bind_labels, has_texts};
 use crate::run_identity::RunIdentity;
-use group_book::Book;
 use itoa::Buffer;
 use label_lists::LabelLists;
 use run_plan::{Label, PlannedJob};
@@ -50,8 +52,8 @@ pub struct RunBindings {
     /// What the run itself asks of a concurrency group.
     pub own: Option<GroupRequest>,
     pub jobs: Sequence<JobBindings>,
-    /// The numbers of the groups that the run and its legs ask for, once the groups are entered in the book.
-    pub numbers: GroupNumbers,
+    /// The groups that the run and its legs ask for, once their names are known.
+    pub keys: GroupKeys,
     /// The numbers of the lists of labels that the legs ask for, job by job, once the lists are entered.
     pub lists: Sequence<ListNumbers>,
 }
@@ -119,6 +121,9 @@ impl RunBindings {
               run_number = decimal number;
               run_attempt = decimal run.now.attempt;
             })) }
+        ensures own { IfOk result (λ b. b.keys.own ≡ option_map_or (decided (results_by_place run.now)) b.own NoGroup) }
+        ensures as_many { IfOk result (λ b. length b.keys.jobs ≡ length b.jobs) }
+        ensures later { IfOk result (λ b. AllAreLater b.jobs b.keys.jobs) }
     {
         let mut id_digits = Buffer::new();
         let mut number_digits = Buffer::new();
@@ -129,30 +134,7 @@ impl RunBindings {
             run_number: number_digits.format(number),
             run_attempt: attempt_digits.format(run.attempt().get() as usize),
         };
-        bind_identity(alloc, &identity)
-    }
-
-    /// Enters the groups in the book and returns the bindings with their numbers. On an `Err` (50, out of memory) some groups may have been
-    /// entered.
-    pub fn numbered(self, alloc: Global, book: &mut Book<Holder>) -> Result<Self, Refusal>
-        ensures err { ErrsOnlyByMemory result }
-        ensures enters { OnlyEnters book.old.entries book.new.entries }
-        ensures says { IfOk result (λ bindings. (run : RunFacts) → RunSays run self → RunSays run bindings) }
-        ensures numbers { IfOk result (SaysNumbers book.new.entries) }
-    {
-        let numbers = GroupNumbers::enter(alloc, &self.own, self.jobs.as_slice(), book)?;
-        let RunBindings {
-            own,
-            jobs,
-            lists,
-            ..
-        } = self;
-        Ok(RunBindings {
-            own,
-            jobs,
-            numbers,
-            lists,
-        })
+        bind_identity(alloc, &identity, run)
     }
 
     /// Enters the lists of labels that the legs of run `r` ask for and returns the bindings with their numbers. On an `Err` (50, out of
@@ -167,35 +149,45 @@ impl RunBindings {
         ensures err { ErrsOnlyByMemory result }
         ensures grows { OnlyGrows lists.old lists.new }
         ensures says { IfOk result (λ bindings. (run : RunFacts) → RunSays run self → RunSays run bindings) }
-        ensures numbers { IfOk result (λ bindings. (entries : Entries) → SaysNumbers entries self → SaysNumbers entries bindings) }
+        ensures keys { IfOk result (λ bindings. bindings.keys ≡ self.keys) }
+        ensures own { IfOk result (λ bindings. bindings.own ≡ self.own) }
+        ensures jobs { IfOk result (λ bindings. bindings.jobs ≡ self.jobs) }
         ensures lists { IfOk result (λ bindings. AreListsOf lists.new r bindings.jobs bindings.lists) }
     {
         let entered = enter_jobs(alloc, self.jobs.as_slice(), lists, r)?;
         let RunBindings {
             own,
             jobs,
-            numbers,
+            keys,
             ..
         } = self;
         Ok(RunBindings {
             own,
             jobs,
-            numbers,
+            keys,
             lists: Sequence::new(entered),
         })
     }
 }
 
-fn bind_identity(alloc: Global, identity: &RunIdentity<'_>) -> Result<RunBindings, Refusal>
+fn bind_identity(
+    alloc: Global,
+    identity: &RunIdentity<'_>,
+    run: &Run,
+) -> Result<RunBindings, Refusal>
     ensures err { ErrsOnlyByMemory result }
     ensures says { IfOk result (RunSays identity.now) }
+    ensures own { IfOk result (λ b. b.keys.own ≡ option_map_or (decided (results_by_place run.now)) b.own NoGroup) }
+    ensures as_many { IfOk result (λ b. length b.keys.jobs ≡ length b.jobs) }
+    ensures later { IfOk result (λ b. AllAreLater b.jobs b.keys.jobs) }
 {
     let own = bind_own(alloc, identity)?;
     let jobs = bind_jobs(alloc, identity)?;
+    let keys = GroupKeys::take(alloc, &own, jobs.as_slice(), run)?;
     Ok(RunBindings {
         own,
         jobs: Sequence::new(jobs),
-        numbers: GroupNumbers::none(alloc),
+        keys,
         lists: Sequence::new(Vec::new(alloc)),
     })
 }
@@ -260,7 +252,7 @@ impl TryCopy for RunBindings {
         Ok(RunBindings {
             own,
             jobs: self.jobs.copy(alloc)?,
-            numbers: self.numbers.copy(alloc)?,
+            keys: self.keys.copy(alloc)?,
             lists: self.lists.copy(alloc)?,
         })
     }

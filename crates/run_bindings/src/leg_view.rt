@@ -43,34 +43,21 @@ impl<'a> Model for LegView<'a> {
     ghost invariant = { λ v. v.leg < 2 ^ 63 };
 }
 
-/// Buffers for the digits of a run's id, number and attempt.
-#[derive(Drop)]
-struct Digits {
-    run_id: Buffer,
-    run_number: Buffer,
-    run_attempt: Buffer,
-}
-
-impl Digits {
-    fn new() -> Self {
-        Digits {
-            run_id: Buffer::new(),
-            run_number: Buffer::new(),
-            run_attempt: Buffer::new(),
-        }
-    }
-}
-
 impl<'a> LegView<'a> {
-    /// The leg's context. The buffers hold the digits of the run's id, number and attempt.
-    fn context<'d>(&'d self, digits: &'d mut Digits) -> LegContext<'d>
+    /// The leg's context. The buffers take the digits of the run's id, number and attempt.
+    fn context<'d>(
+        &'d self,
+        id_digits: &'d mut Buffer,
+        number_digits: &'d mut Buffer,
+        attempt_digits: &'d mut Buffer,
+    ) -> LegContext<'d>
         ensures { result ≡ self.now }
     {
         LegContext {
             run: self.run,
-            run_id: digits.run_id.format(self.run_id),
-            run_number: digits.run_number.format(self.run_number),
-            run_attempt: digits.run_attempt.format(self.run.attempt().get() as usize),
+            run_id: id_digits.format(self.run_id),
+            run_number: number_digits.format(self.run_number),
+            run_attempt: attempt_digits.format(self.run.attempt().get() as usize),
             job: self.job,
             place: self.place,
             leg: self.leg,

@@ -5,7 +5,7 @@
 mod bindings;
 mod flags;
 mod github_context;
-pub mod group_numbers;
+mod group_keys;
 mod groups;
 pub mod label_numbers;
 mod leg_context;
@@ -17,6 +17,7 @@ mod run_context;
 mod run_identity;
 
 pub use bindings::{JobBindings, RunBindings};
+pub use group_keys::{GroupKeys, HolderKey, KnownGroup};
 pub use groups::{BoundFlag, GroupRequest};
 pub use label_numbers::ListNumbers;
 pub use leg_view::LegView;

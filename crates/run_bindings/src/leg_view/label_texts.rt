@@ -8,7 +8,8 @@ ghost use Rattle.run_states.specs.LegContext.{context_of};
 ghost use Rattle.run_states.specs.Words.{label_texts};
 
 use crate::leg_context::LegContext;
-use crate::leg_view::{Digits, LegView};
+use crate::leg_view::LegView;
+use itoa::Buffer;
 use std::alloc::Global;
 use wf_expr::Template;
 use wf_value::{Chars, Refusal, Sequence};
@@ -17,8 +18,10 @@ impl<'a> LegView<'a> {
     pub fn label_texts(&self, alloc: Global) -> Result<Sequence<Chars>, Refusal>
         ensures { Gives (λ texts. texts) result (Ok (label_texts (context_of self.now) self.now.job.labels)) }
     {
-        let mut digits = Digits::new();
-        let context = self.context(&mut digits);
+        let mut id_digits = Buffer::new();
+        let mut number_digits = Buffer::new();
+        let mut attempt_digits = Buffer::new();
+        let context = self.context(&mut id_digits, &mut number_digits, &mut attempt_digits);
         let texts = texts_of(alloc, self.job.labels.as_slice(), &context)?;
         Ok(Sequence::new(texts))
     }
