@@ -1,5 +1,5 @@
+pub mod HoldersOfRuns
 pub mod KeptBack
-pub mod LettingGo
 pub mod NoneActive
 pub mod QuietRules
 pub mod Resumed

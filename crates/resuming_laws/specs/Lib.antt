@@ -1,2 +1,2 @@
-pub mod LettingGo
+pub mod Releases
 pub mod RunFacts

@@ -6,7 +6,7 @@ use Rattle.std.specs.Option.{option_map_or}
 use Rattle.std.proofs.Common.{arith, ap, sym, ◌∙◌}
 use Rattle.std.proofs.lemmas.Option.{same_Some, slice_get-map}
 use Rattle.run_plan.specs.Admitted.{Admitted}
-use Rattle.run_states.specs.GroupOf.{RunFacts, cancels_in_progress, group_at, leg_cancels, leg_group, run_facts_at, run_group}
+use Rattle.run_states.specs.GroupOf.{RunFacts, cancels_in_progress, group_at, leg_cancels, leg_group, run_cancels, run_facts_at, run_group}
 use Rattle.run_states.specs.Holders.{run_of}
 use Rattle.run_states.specs.LegContext.{facts_at}
 use Rattle.run_states.specs.Places.{leg_at, run_at}
@@ -125,6 +125,14 @@ pub same_group : (runs next : List RunState) (h : Holder) → SameUpTo (run_of h
 same_group runs next (Run r) same at =
     run_group_stays runs next r same (ap (option_map (λ (run : RunState). run.attempt)) at)
 same_group runs next (Leg p) same at = leg_group_same runs next p (facts_of_same_run runs next p same at)
+
+-- and whether its arrival cancels what is in progress
+pub same_flag : (runs next : List RunState) (h : Holder) → SameUpTo (run_of h) (events next) (events runs)
+    → run_at next (run_of h) ≡ run_at runs (run_of h) → cancels_in_progress next h ≡ cancels_in_progress runs h
+unfolding cancels_in_progress
+same_flag runs next (Run r) same at =
+    ap (λ o. option_map_or run_cancels o false) (run_facts_stay runs next r same (ap (option_map (λ (run : RunState). run.attempt)) at))
+same_flag runs next (Leg p) same at = ap (λ o. option_map_or leg_cancels o false) (facts_of_same_run runs next p same at)
 
 -- the leg exists, if the holder is one
 abbrev pub IsThere : List RunState → Holder → Type 0

@@ -4,20 +4,19 @@ use Rattle.run_states.specs.Changes.{changed}
 use Rattle.run_states.specs.RunState.{RunState}
 use Rattle.run_states.specs.declared.change.Change.{Change}
 use Rattle.run_states.specs.declared.change.Change.TheVariants as change
-use Rattle.run_states.proofs.StoppedRuns.{stopped_admitted, stopped_attempt}
 
 pub changed_admitted : (c : Change) (run : RunState) → (changed c run).admitted ≡ run.admitted
 changed_admitted (change.Phase phase) run = refl
 changed_admitted (change.Open j) run = refl
 changed_admitted (change.Settle j settled) run = refl
-changed_admitted change.Stop run = stopped_admitted run
-changed_admitted (change.StopLegs j) run = refl
+changed_admitted change.Cancel run = refl
+changed_admitted change.RequestStop run = refl
 changed_admitted (change.PutLeg j l leg) run = refl
 
 pub changed_attempt : (c : Change) (run : RunState) → (changed c run).attempt ≡ run.attempt
 changed_attempt (change.Phase phase) run = refl
 changed_attempt (change.Open j) run = refl
 changed_attempt (change.Settle j settled) run = refl
-changed_attempt change.Stop run = stopped_attempt run
-changed_attempt (change.StopLegs j) run = refl
+changed_attempt change.Cancel run = refl
+changed_attempt change.RequestStop run = refl
 changed_attempt (change.PutLeg j l leg) run = refl
