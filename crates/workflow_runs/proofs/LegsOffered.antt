@@ -40,8 +40,8 @@ offered_here : (r : ℕ) (c : Change) (p : LegPlace) → offered_by r c ≡ Some
 offered_here r (change.Phase phase) p is = cc
 offered_here r (change.Open j) p is = cc
 offered_here r (change.Settle j settled) p is = cc
-offered_here r change.Stop p is = cc
-offered_here r (change.StopLegs j) p is = cc
+offered_here r change.Cancel p is = cc
+offered_here r change.RequestStop p is = cc
 offered_here r (change.PutLeg j l z) p is = by (is_ready z.phase) is
   where
     by : (b : Bool) → (if b then Some (leg_place r j l) else None) ≡ Some p → p.run ≡ r

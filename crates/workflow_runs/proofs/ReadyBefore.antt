@@ -2,6 +2,7 @@
 use Rattle.std.specs.Prelude.{◌≡◌, ◌⊎◌, ℕ, List, Bool, true, false, Option, Some, None, if◌then◌else◌, refl}
 use Rattle.std.proofs.Common.{ap, subst, sym, ◌∙◌, inl, inr}
 use Rattle.std.proofs.lemmas.Bool.{false≢true}
+use Rattle.wf_value.specs.declared.outcome.JobResult.TheVariants as result
 use Rattle.run_plan.specs.PlanOf.{plan_of}
 use Rattle.run_states.specs.Changes.{changed}
 use Rattle.run_states.specs.Changes.{offered_by}
@@ -11,30 +12,19 @@ use Rattle.run_states.specs.declared.place.LegPlace.{LegPlace}
 use Rattle.run_states.specs.RunState.{LegState, RunState}
 use Rattle.run_states.specs.Settling.{legs_in_plan}
 use Rattle.run_states.specs.StateWords.{opened, run_in_phase, settled_as}
-use Rattle.run_states.specs.Stops.{stopped_phase}
 use Rattle.run_states.specs.declared.change.Change.{Change}
 use Rattle.run_states.specs.declared.change.Change.TheVariants as change
-use Rattle.run_states.specs.declared.phases.LegPhase.{LegPhase}
-use Rattle.run_states.specs.declared.phases.LegPhase.TheVariants as leg
 use Rattle.run_states.proofs.JobKeeps.{leg_elsewhere, leg_in, with_job_of, with_leg_of}
 use Rattle.run_states.proofs.LeaseReads.{place_or_another}
 use Rattle.run_states.proofs.Transitions.{with_leg_none}
 use Rattle.run_bindings.specs.LabelNumbers.{IsReadyAt}
-use Rattle.settling_laws.proofs.HoldersFade.{Weakens, job_passes, leg_before, leg_change_weakens, leg_passes, legs_weaken, passed_changed}
-use Rattle.settling_laws.proofs.HoldersFade.{passes, stop_weakens}
+use Rattle.settling_laws.proofs.HoldersFade.{Weakens, job_passes, leg_before, leg_change_weakens, leg_passes, passed_changed, passed_map}
+use Rattle.settling_laws.proofs.HoldersFade.{passes}
 use Rattle.settling_laws.proofs.OneEachRules.{replicate_fails}
 
 -- the leg that becomes ready, or one that was ready before
 abbrev pub WasReady : List RunState → Option LegPlace → LegPlace → Type 0
 WasReady runs one p = (one ≡ Some p) ⊎ IsReadyAt runs p
-
-stopped_ready : (phase : LegPhase) → is_ready (stopped_phase phase) ≡ true → is_ready phase ≡ true
-stopped_ready leg.New e = cc
-stopped_ready leg.Waiting e = cc
-stopped_ready leg.Ready e = refl
-stopped_ready leg.Running e = cc
-stopped_ready leg.Stopping e = cc
-stopped_ready (leg.Ended r) e = cc
 
 -- ---- a leg is replaced
 
@@ -79,10 +69,8 @@ ready_before runs r (change.Open j) p ready =
 ready_before runs r (change.Settle j settled) p ready =
     inr (leg_before is_ready (changed (change.Settle j settled)) r runs p
     (λ x e. passed_changed (job_passes is_ready p.leg) (settled_as settled) (λ y now. now) j x.jobs p.job e) ready)
-ready_before runs r change.Stop p ready =
-    inr (leg_before is_ready (changed change.Stop) r runs p
-    (λ x e. stop_weakens is_ready (λ z. stopped_ready z.phase) p.job p.leg x.phase x e) ready)
-ready_before runs r (change.StopLegs j) p ready =
-    inr (leg_before is_ready (changed (change.StopLegs j)) r runs p
-    (λ x e. passed_changed (job_passes is_ready p.leg) _ (legs_weaken is_ready (λ z. stopped_ready z.phase) p.leg) j x.jobs p.job e) ready)
+ready_before runs r change.Cancel p ready =
+    inr (leg_before is_ready (changed change.Cancel) r runs p
+    (λ x e. passed_map (job_passes is_ready p.leg) (settled_as result.Cancelled) (λ y now. now) x.jobs p.job e) ready)
+ready_before runs r change.RequestStop p ready = inr (leg_before is_ready (changed change.RequestStop) r runs p (λ x e. e) ready)
 ready_before runs r (change.PutLeg j l z) p ready = put_by runs (leg_place r j l) z (is_ready z.phase) refl p ready

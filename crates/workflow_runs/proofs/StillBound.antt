@@ -7,32 +7,29 @@ use Rattle.std.proofs.lemmas.Bool.{cases_eq}
 use Rattle.std.proofs.lemmas.List.{length-append, length-map, length-set, map-append}
 use Rattle.std.proofs.lemmas.Option.{same_Some, slice_get_within}
 use Rattle.run_plan.specs.Admitted.{Admitted}
-use Rattle.run_bindings.specs.Bindings.{AreBound, RunSays}
-use Rattle.workflow_runs.specs.Counted.{AreCounted}
-use Rattle.workflow_runs.specs.Delivered.{FindsFirst}
-use Rattle.group_book.specs.Books.{group_at}
 use Rattle.label_lists.specs.Lists.{ListsState, OnlyGrows}
-use Rattle.run_marks.specs.Marked.{Covers, SameMarks}
+use Rattle.run_marks.specs.Bits.{Puts}
+use Rattle.run_marks.specs.Marked.{SameMarks}
+use Rattle.run_states.specs.ActiveRuns.{is_active}
+use Rattle.run_states.specs.FirstOf.{changed_at}
 use Rattle.run_states.specs.GroupOf.{RunFacts, run_facts_at}
 use Rattle.run_states.specs.RunNumber.{AreNumbered, events, number_of_next, numbers_after, run_number, same_workflow}
 use Rattle.run_states.specs.RunState.{RunState}
+use Rattle.run_states.proofs.Changed.{at_another, at_changed}
 use Rattle.run_states.proofs.LegFacts.{attempt_at}
-use Rattle.run_bindings.specs.GroupNumbers.{EachSaysNumbers, OnlyEnters, SaysNumbers}
-use Rattle.run_bindings.specs.LabelNumbers.{AreListsOf, JobsOffer, LegsAreOffered, OnlyPuts}
+use Rattle.run_states.proofs.Optional.{from_map}
+use Rattle.run_bindings.specs.Bindings.{AreBound, RunSays}
+use Rattle.run_bindings.specs.LabelNumbers.{AreListsOf, IsOffered, JobsOffer, LegsAreOffered, OnlyPuts}
 use Rattle.run_bindings.specs.declared.bindings.RunBindings.{RunBindings}
 use Rattle.run_bindings.proofs.Binding.{one_more as one_more_bound}
 use Rattle.run_bindings.proofs.BoundSays.{facts_of_run, run_told}
-use Rattle.run_bindings.proofs.GroupNumbers.{each_again, each_stays, each_still}
-use Rattle.workflow_runs.specs.FoundHolders.{AllAreFound, HoldersAreFound, OnlyLists}
-use Rattle.workflow_runs.specs.MarkedRuns.{RunsAreMarked, MarksDirty}
-use Rattle.workflow_runs.specs.RunsKept.{RunsAreKept}
-use Rattle.workflow_runs.specs.declared.runs.group_holders.GroupHolders.{GroupHolders}
-use Rattle.workflow_runs.specs.declared.runs.index.Index.{Index}
-use Rattle.workflow_runs.specs.declared.runs.marks.RunMarks.{RunMarks}
-use Rattle.workflow_runs.proofs.FoundHolders.{all_entered, all_roomier, found_with}
 use Rattle.settling_laws.proofs.GroupStays.{run_facts_stay}
+use Rattle.workflow_runs.specs.Counted.{AreCounted}
+use Rattle.workflow_runs.specs.Delivered.{FindsFirst}
+use Rattle.workflow_runs.specs.RowsKept.{RunsAreKept}
+use Rattle.workflow_runs.specs.declared.rows.index.Index.{Index}
 use Rattle.workflow_runs.proofs.LegsOffered.{offered_grown, offered_with}
-use Rattle.workflow_runs.proofs.MarkedRuns.{marks_after, set_other}
+use Rattle.workflow_runs.proofs.MarkedRuns.{roomier, set_other, written}
 use Rattle.workflow_runs.proofs.RunNumbers.{events_kept, length_kept, number_at, one_more, still_numbered}
 
 facts_same : (runs next : List RunState) (r : ℕ) → events next ≡ events runs → attempt_at next r ≡ attempt_at runs r
@@ -57,82 +54,116 @@ still_bound xs kept r x y lt is same attempt are = record {
 }
 
 -- a run is replaced by one with the same event and attempt
-pub still_kept : (xs : List RunState) (numbers : List ℕ) (kept : List RunBindings) (index : Index) (groups : GroupHolders)
-    (lists : ListsState) (marks marks' : RunMarks) (r : ℕ) (x y : RunState)
-    → ((n : ℕ) → group_at groups.book.entries n ≡ group_at index.groups.book.entries n)
-    → HoldersAreFound (slice_set xs r y) kept groups.book.entries groups.unlisted → LegsAreOffered (slice_set xs r y) kept lists
-    → r < length xs → x ≡ get_or xs r x → y.admitted ≡ x.admitted → y.attempt ≡ x.attempt
-    → (events (slice_set xs r y) ≡ events xs → RunsAreMarked (slice_set xs r y) marks') → RunsAreKept xs numbers kept index marks
-    → RunsAreKept (slice_set xs r y) numbers kept (record index { groups = groups; lists = lists }) marks'
-still_kept xs numbers kept index groups lists marks marks' r x y stay_groups found offered lt is same attempt marked are =
+pub still_kept : (xs : List RunState) (numbers : List ℕ) (kept : List RunBindings) (index : Index) (lists : ListsState) (active active' : List ℕ)
+    (r : ℕ) (x y : RunState) → LegsAreOffered (slice_set xs r y) kept lists
+    → r < length xs → x ≡ get_or xs r x → y.admitted ≡ x.admitted → y.attempt ≡ x.attempt → length active' ≡ length active
+    → Puts true r active active' → RunsAreKept xs numbers kept index active
+    → RunsAreKept (slice_set xs r y) numbers kept (record index { lists = lists }) active'
+still_kept xs numbers kept index lists active active' r x y offered lt is same attempt as_long puts are =
     let stay : events (slice_set xs r y) ≡ events xs = events_kept xs r x y lt is same in
     record {
       numbered = still_numbered xs numbers r x y lt is same are.numbered;
       bound = still_bound xs kept r x y lt is same attempt are.bound;
       found = subst (λ (es : List Admitted). FindsFirst es index.places.places) (sym stay) are.found;
       counted = subst (λ (es : List Admitted). AreCounted es index.counts.counts) (sym stay) are.counted;
-      marked = marked stay;
-      grouped = each_stays index.groups.book.entries groups.book.entries kept stay_groups are.grouped;
-      listed = found;
+      active = written is_active xs active active' r y as_long puts are.active;
       offered = offered;
     }
 
 -- the same runs, as the code sees them, with another index
-pub kept_in : (xs seen : List RunState) (numbers : List ℕ) (kept : List RunBindings) (old new : Index) (marks : RunMarks) → seen ≡ xs
-    → RunsAreKept xs numbers kept old marks → FindsFirst (events seen) new.places.places → AreCounted (events seen) new.counts.counts
-    → new.groups ≡ old.groups → new.lists ≡ old.lists → RunsAreKept xs numbers kept new marks
-kept_in xs seen numbers kept old new marks same are found counted groups lists = record {
+pub kept_in : (xs seen : List RunState) (numbers : List ℕ) (kept : List RunBindings) (old new : Index) (active : List ℕ) → seen ≡ xs
+    → RunsAreKept xs numbers kept old active → FindsFirst (events seen) new.places.places → AreCounted (events seen) new.counts.counts
+    → new.lists ≡ old.lists → RunsAreKept xs numbers kept new active
+kept_in xs seen numbers kept old new active same are found counted lists = record {
   numbered = are.numbered;
   bound = are.bound;
   found = subst (λ (rs : List RunState). FindsFirst (events rs) new.places.places) same found;
   counted = subst (λ (rs : List RunState). AreCounted (events rs) new.counts.counts) same counted;
-  marked = are.marked;
-  grouped = subst (λ (held : GroupHolders). EachSaysNumbers held.book.entries kept) (sym groups) are.grouped;
-  listed = subst (λ (held : GroupHolders). HoldersAreFound xs kept held.book.entries held.unlisted) (sym groups) are.listed;
+  active = are.active;
   offered = subst (LegsAreOffered xs kept) (sym lists) are.offered;
 }
 
--- the same runs, after groups are entered in the book
-pub kept_entered : (xs : List RunState) (numbers : List ℕ) (kept : List RunBindings) (index : Index) (marks : RunMarks)
-    (groups : GroupHolders) → OnlyEnters index.groups.book.entries groups.book.entries → SameMarks index.groups.unlisted groups.unlisted
-    → length index.groups.unlisted ≤ length groups.unlisted → RunsAreKept xs numbers kept index marks
-    → RunsAreKept xs numbers kept (record index { groups = groups }) marks
-kept_entered xs numbers kept index marks groups enters same room are = record {
+-- the same runs, with more room for marks
+pub kept_roomier : (xs : List RunState) (numbers : List ℕ) (kept : List RunBindings) (index : Index) (active active' : List ℕ)
+    → SameMarks active active' → length active ≤ length active' → RunsAreKept xs numbers kept index active
+    → RunsAreKept xs numbers kept index active'
+kept_roomier xs numbers kept index active active' same longer are = record {
   numbered = are.numbered;
   bound = are.bound;
   found = are.found;
   counted = are.counted;
-  marked = are.marked;
-  grouped = each_still index.groups.book.entries groups.book.entries enters kept are.grouped;
-  listed = all_roomier xs kept groups.book.entries index.groups.unlisted groups.unlisted same room
-      (all_entered xs kept index.groups.book.entries groups.book.entries index.groups.unlisted enters are.listed);
+  active = roomier (λ _ x. is_active x) xs active active' same longer are.active;
   offered = are.offered;
 }
 
 -- and after lists of labels are entered
-pub kept_grown : (xs : List RunState) (numbers : List ℕ) (kept : List RunBindings) (index : Index) (marks : RunMarks) (lists : ListsState)
-    → OnlyGrows index.lists lists → RunsAreKept xs numbers kept index marks
-    → RunsAreKept xs numbers kept (record index { lists = lists }) marks
-kept_grown xs numbers kept index marks lists grows are = record {
+pub kept_grown : (xs : List RunState) (numbers : List ℕ) (kept : List RunBindings) (index : Index) (active : List ℕ) (lists : ListsState)
+    → OnlyGrows index.lists lists → RunsAreKept xs numbers kept index active
+    → RunsAreKept xs numbers kept (record index { lists = lists }) active
+kept_grown xs numbers kept index active lists grows are = record {
   numbered = are.numbered;
   bound = are.bound;
   found = are.found;
   counted = are.counted;
-  marked = are.marked;
-  grouped = are.grouped;
-  listed = are.listed;
+  active = are.active;
   offered = offered_grown xs kept index.lists lists grows are.offered;
 }
 
--- the same runs, after room is made for lists, groups are entered, and then lists
-pub kept_taken : (xs : List RunState) (numbers : List ℕ) (kept : List RunBindings) (index : Index) (marks : RunMarks) (covered : ListsState)
-    (groups : GroupHolders) (lists : ListsState) → OnlyGrows index.lists covered → OnlyEnters index.groups.book.entries groups.book.entries
-    → SameMarks index.groups.unlisted groups.unlisted → length index.groups.unlisted ≤ length groups.unlisted → OnlyGrows covered lists
-    → RunsAreKept xs numbers kept index marks → RunsAreKept xs numbers kept (record index { groups = groups; lists = lists }) marks
-kept_taken xs numbers kept index marks covered groups lists covers enters same room grows are =
-    kept_grown xs numbers kept (record index { groups = groups; lists = covered }) marks lists grows
-    (kept_entered xs numbers kept (record index { lists = covered }) marks groups enters same room
-    (kept_grown xs numbers kept index marks covered covers are))
+-- ---- keys of groups are decided, or brought to their groups
+
+-- the same bindings with other keys
+pub record SameButKeys (was now : RunBindings) : Type 0 where
+  pub own : now.own ≡ was.own
+  pub jobs : now.jobs ≡ was.jobs
+  pub lists : now.lists ≡ was.lists
+
+with_keys : (was now : RunBindings) → SameButKeys was now → record was { keys = now.keys } ≡ now
+with_keys was now same =
+    ap (λ o. record was { own = o; keys = now.keys }) (sym same.own)
+    ∙ ap (λ js. record was { own = now.own; jobs = js; keys = now.keys }) (sym same.jobs)
+    ∙ ap (λ ls. record was { own = now.own; jobs = now.jobs; lists = ls; keys = now.keys }) (sym same.lists)
+
+pub says_still : (run : RunFacts) (was now : RunBindings) → SameButKeys was now → RunSays run was → RunSays run now
+says_still run was now same says =
+    subst (RunSays run) (with_keys was now same) (record { own = says.own; as_many = says.as_many; jobs = says.jobs })
+
+pub lists_still : (lists : ListsState) (r : ℕ) (was now : RunBindings) → SameButKeys was now → AreListsOf lists r was.jobs was.lists
+    → AreListsOf lists r now.jobs now.lists
+lists_still lists r was now same are = subst (λ (k : RunBindings). AreListsOf lists r k.jobs k.lists) (with_keys was now same) are
+
+module _ (xs : List RunState) (numbers : List ℕ) (kept now : List RunBindings) (index : Index) (active : List ℕ) (many : length now ≡ length kept)
+    (same : (r : ℕ) (b : RunBindings) → slice_get now r ≡ Some b → (was : RunBindings) × (slice_get kept r ≡ Some was) × SameButKeys was b)
+    (are : RunsAreKept xs numbers kept index active) where
+  pub kept_rekeyed : RunsAreKept xs numbers now index active
+  kept_rekeyed = record {
+    numbered = are.numbered;
+    bound = record {
+      as_many = many ∙ are.bound.as_many;
+      each = (λ r run b of_run at.
+          let was = same r b at in says_still run was.0 b was.2 (are.bound.each r run was.0 of_run was.1));
+    };
+    found = are.found;
+    counted = are.counted;
+    active = are.active;
+    offered = record {
+      numbers = (λ r b at.
+          let was = same r b at in lists_still index.lists r was.0 b was.2 (are.offered.numbers r was.0 was.1));
+      offered = (λ p b ready at.
+          let was = same p.run b at in
+          subst (λ (k : RunBindings). IsOffered index.lists k p) (with_keys was.0 b was.2) (are.offered.offered p was.0 ready was.1));
+    };
+  }
+
+-- one run's
+pub one_rekeyed : (r : ℕ) (f : RunBindings → RunBindings) (kept : List RunBindings) → ((b : RunBindings) → SameButKeys b (f b)) → (s : ℕ)
+    (b : RunBindings) → slice_get (changed_at r f kept) s ≡ Some b → (was : RunBindings) × (slice_get kept s ≡ Some was) × SameButKeys was b
+one_rekeyed r f kept same s b at =
+    elim (cases_eq s r) [
+      | inl here ↦
+          let from = from_map f (slice_get kept r) b (sym (at_changed r f kept) ∙ ap (slice_get (changed_at r f kept)) (sym here) ∙ at) in
+          (from.value, ap (slice_get kept) here ∙ from.is, subst (SameButKeys from.value) from.gives (same from.value))
+      | inr other ↦ (b, sym (at_another r f kept s other) ∙ at, record { own = refl; jobs = refl; lists = refl })
+    ]
 
 -- ---- one more run
 
@@ -211,17 +242,6 @@ beside_end [] x (suc s) other = refl
 beside_end (y ∷ xs) x zero other = refl
 beside_end (y ∷ xs) x (suc s) other = beside_end xs x s (λ e. other (ap (λ n. suc n) e))
 
--- each of its active holders is found, and each holder that was
-pub found_added : (runs : List RunState) (run : RunState) (kept : List RunBindings) (requested : RunBindings) (old new : GroupHolders) (r : ℕ)
-    → r ≡ length runs → length kept ≡ length runs → OnlyLists (runs ++ run ∷ []) old new
-    → AllAreFound (runs ++ run ∷ []) new.book.entries new.unlisted requested r → Covers old.unlisted (r + 1)
-    → HoldersAreFound runs kept old.book.entries old.unlisted
-    → HoldersAreFound (runs ++ run ∷ []) (kept ++ requested ∷ []) new.book.entries new.unlisted
-found_added runs run kept requested old new r end many lists all covers are =
-    found_with runs (runs ++ run ∷ []) kept (kept ++ requested ∷ []) old new r requested (at_end kept requested r (end ∙ sym many))
-    (λ s other. beside_end runs run s (λ e. other (e ∙ sym end))) (λ s other. beside_end kept requested s (λ e. other (e ∙ many ∙ sym end)))
-    lists all are (omega (arith, covers, lists.room, end, length-append runs (run ∷ [])))
-
 -- and it is marked for each of its ready legs
 pub offered_added : (runs : List RunState) (run : RunState) (kept : List RunBindings) (requested : RunBindings) (old new : ListsState) (r : ℕ)
     → r ≡ length runs → length kept ≡ length runs → AreListsOf old r requested.jobs requested.lists
@@ -250,13 +270,13 @@ all_added runs run numbers kept number requested room are is says =
 
 -- ---- a run in its next attempt
 
-set_here : {X : Type 0} (xs : List X) (r : ℕ) (y : X) → r < length xs → slice_get (slice_set xs r y) r ≡ Some y
+pub set_here : {X : Type 0} (xs : List X) (r : ℕ) (y : X) → r < length xs → slice_get (slice_set xs r y) r ≡ Some y
 set_here [] r y lt = absurd (omega arith)
 set_here (z ∷ xs) zero y lt = refl
 set_here (z ∷ xs) (suc r) y lt = set_here xs r y (omega arith)
 
 -- its bindings replace those of the attempt before
-bound_again : (xs : List RunState) (kept : List RunBindings) (r : ℕ) (x y : RunState) (requested : RunBindings) → r < length xs
+pub bound_again : (xs : List RunState) (kept : List RunBindings) (r : ℕ) (x y : RunState) (requested : RunBindings) → r < length xs
     → x ≡ get_or xs r x → y.admitted ≡ x.admitted → RunSays (facts_of_run xs r y) requested → AreBound xs kept
     → AreBound (slice_set xs r y) (slice_set kept r requested)
 bound_again xs kept r x y requested lt is same says are =
@@ -290,26 +310,18 @@ offered_again xs kept old new r y requested within many itself all puts are =
     (set_here kept r requested (omega (arith, within, many))) (λ s other. set_other xs r s y other)
     (λ s other. set_other kept r s requested other) itself all puts are
 
-pub kept_again : (xs : List RunState) (numbers : List ℕ) (kept : List RunBindings) (index : Index) (groups : GroupHolders)
-    (lists : ListsState) (marks marks' : RunMarks) (r : ℕ) (x y : RunState) (requested : RunBindings)
-    → OnlyLists (slice_set xs r y) index.groups groups → AllAreFound (slice_set xs r y) groups.book.entries groups.unlisted requested r
-    → LegsAreOffered (slice_set xs r y) (slice_set kept r requested) lists → r < length xs → x ≡ get_or xs r x
-    → y.admitted ≡ x.admitted → RunSays (facts_of_run xs r y) requested → SaysNumbers index.groups.book.entries requested
-    → MarksDirty r (length xs) marks marks' → RunsAreKept xs numbers kept index marks
-    → RunsAreKept (slice_set xs r y) numbers (slice_set kept r requested) (record index { groups = groups; lists = lists }) marks'
-kept_again xs numbers kept index groups lists marks marks' r x y requested lists_only all offered lt is same says grouped marks_dirty are =
+pub kept_again : (xs : List RunState) (numbers : List ℕ) (kept : List RunBindings) (index : Index) (lists : ListsState) (active active' : List ℕ)
+    (r : ℕ) (x y : RunState) (requested : RunBindings) → LegsAreOffered (slice_set xs r y) (slice_set kept r requested) lists → r < length xs
+    → x ≡ get_or xs r x → y.admitted ≡ x.admitted → RunSays (facts_of_run xs r y) requested → length active' ≡ length active
+    → Puts true r active active' → RunsAreKept xs numbers kept index active
+    → RunsAreKept (slice_set xs r y) numbers (slice_set kept r requested) (record index { lists = lists }) active'
+kept_again xs numbers kept index lists active active' r x y requested offered lt is same says as_long puts are =
     let stay : events (slice_set xs r y) ≡ events xs = events_kept xs r x y lt is same in
     record {
       numbered = still_numbered xs numbers r x y lt is same are.numbered;
       bound = bound_again xs kept r x y requested lt is same says are.bound;
       found = subst (λ (es : List Admitted). FindsFirst es index.places.places) (sym stay) are.found;
       counted = subst (λ (es : List Admitted). AreCounted es index.counts.counts) (sym stay) are.counted;
-      marked = marks_after xs y marks marks' r stay marks_dirty are.marked;
-      grouped = each_stays index.groups.book.entries groups.book.entries (slice_set kept r requested) lists_only.numbers
-          (each_again index.groups.book.entries kept r requested grouped are.grouped);
-      listed = found_with xs (slice_set xs r y) kept (slice_set kept r requested) index.groups groups r requested
-          (set_here kept r requested (omega (arith, lt, are.bound.as_many)))
-          (λ s other. set_other xs r s y other) (λ s other. set_other kept r s requested other) lists_only all are.listed
-          (omega (arith, are.listed.covers, lists_only.room, length-set xs r y));
+      active = written is_active xs active active' r y as_long puts are.active;
       offered = offered;
     }

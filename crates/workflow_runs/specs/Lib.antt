@@ -1,7 +1,10 @@
+pub mod Arriving
+pub mod Begun
+pub mod BookSteps
 pub mod Counted
 pub mod Delivered
-pub mod FoundHolders
+pub mod GroupsKept
+pub mod HolderChanges
 pub mod MarkedRuns
-pub mod RunsKept
-pub mod SlotHolders
-pub mod Invalidated
+pub mod RowsKept
+pub mod Seating

@@ -1,10 +1,10 @@
-//! Where settling finds the first rule that applies in a run. `tries` counts how often a rule is tried at a place; no contract mentions it.
+//! Where settling finds the first rule that applies in a run. `tries` counts how often a rule is tried at a place; no other contract mentions it.
 
-ghost use Rattle.std.specs.Prelude.{◌≡◌, Some};
+ghost use Rattle.std.specs.Prelude.{◌≡◌, ◌+◌, ◌<◌, ◌^◌, Some, option_map};
 ghost use Rattle.std.specs.List.{list_all};
 ghost use Rattle.run_states.specs.Cells.{states};
 ghost use Rattle.run_states.specs.Resuming.{JobsRestBefore, NoneBefore, apply_at};
-ghost use Rattle.run_states.specs.Places.{run_at};
+ghost use Rattle.run_states.specs.Places.{job_at, leg_at, run_at};
 ghost use Rattle.run_states.specs.RunState.{RunState};
 ghost use Rattle.run_states.specs.StateWords.{is_settled};
 ghost use Rattle.run_states.specs.WithinRun.{first_in_job, first_in_jobs, first_in_run, first_of_legs, first_of_open, first_of_whole};
@@ -14,12 +14,15 @@ use crate::runs::Runs;
 use crate::walk::Legs;
 use run_states::{Holder, Job, Leg, LegPhase, LegPlace, RuleSite, Run, RunPhase};
 
-fn count(tries: &mut u64) {
+fn count(tries: &mut u64)
+    ensures { tries.old + 1 < 2 ^ 64 → tries.new ≡ tries.old + 1 }
+{
     *tries = tries.saturating_add(1);
 }
 
 /// Whether a rule applies to the leg there.
 fn goes_on(runs: &Runs, place: LegPlace, leg: &Leg) -> bool
+    requires { leg_at runs.now place ≡ Some leg.now }
     ensures { result ≡ goes_on runs.now place leg.now }
 {
     match leg.phase {
@@ -30,6 +33,7 @@ fn goes_on(runs: &Runs, place: LegPlace, leg: &Leg) -> bool
 }
 
 fn first_of_legs(runs: &Runs, r: usize, j: usize, legs: &[Leg], tries: &mut u64) -> Option<RuleSite>
+    requires { option_map (λ job. job.legs) (job_at runs.now r j) ≡ Some legs.now }
     ensures { result ≡ first_of_legs runs.now r j legs.now }
 {
     for (place, leg) in Legs::of_job(r, j, legs) {
@@ -43,6 +47,7 @@ fn first_of_legs(runs: &Runs, r: usize, j: usize, legs: &[Leg], tries: &mut u64)
 
 /// The first leg of the job to which a rule applies. It is new or waits.
 fn first_leg(runs: &Runs, r: usize, j: usize, job: &Job, tries: &mut u64) -> Option<RuleSite>
+    requires { job_at runs.now r j ≡ Some job.now.state }
     ensures { result ≡ first_of_legs runs.now r j job.now.state.legs }
 {
     if job.has_unready_leg() {
@@ -54,6 +59,7 @@ fn first_leg(runs: &Runs, r: usize, j: usize, job: &Job, tries: &mut u64) -> Opt
 
 /// In a job that does not open: its first leg to which a rule applies, or else where it finishes.
 fn first_of_open(runs: &Runs, r: usize, j: usize, job: &Job, tries: &mut u64) -> Option<RuleSite>
+    requires { job_at runs.now r j ≡ Some job.now.state }
     ensures { result ≡ first_of_open runs.now r j job.now.state }
 {
     let place = first_leg(runs, r, j, job, tries);
@@ -78,6 +84,7 @@ fn first_in_job(
     job: &Job,
     tries: &mut u64,
 ) -> Option<RuleSite>
+    requires { job_at runs.now r j ≡ Some job.now.state }
     ensures { result ≡ first_in_job runs.now r run.now j job.now.state }
 {
     count(tries);
@@ -96,7 +103,9 @@ fn first_in_jobs(
     from: usize,
     tries: &mut u64,
 ) -> Option<RuleSite>
-    requires { NoneBefore (first_in_job runs.now r run.now) (states jobs.now) from }
+    requires there { run_at runs.now r ≡ Some run.now }
+    requires jobs { states jobs.now ≡ run.now.jobs }
+    requires rest { NoneBefore (first_in_job runs.now r run.now) (states jobs.now) from }
     ensures { result ≡ first_in_jobs runs.now r run.now (states jobs.now) }
 {
     for j in from..jobs.len() {
@@ -123,6 +132,7 @@ pub fn has_settled_jobs(run: &Run) -> bool
 
 /// The run itself as a place, if a rule applies to it: it waits and may start, or it is live and all its jobs have finished.
 fn first_of_whole(runs: &Runs, r: usize, run: &Run, tries: &mut u64) -> Option<RuleSite>
+    requires { run_at runs.now r ≡ Some run.now }
     ensures { result ≡ first_of_whole runs.now r run.now }
 {
     count(tries);
@@ -135,7 +145,8 @@ fn first_of_whole(runs: &Runs, r: usize, run: &Run, tries: &mut u64) -> Option<R
 
 /// The first place in a run where a rule applies. None applies before the job at index `from`.
 fn first_in_run(runs: &Runs, r: usize, run: &Run, from: usize, tries: &mut u64) -> Option<RuleSite>
-    requires { JobsRestBefore runs.now r run.now from }
+    requires there { run_at runs.now r ≡ Some run.now }
+    requires rest { JobsRestBefore runs.now r run.now from }
     ensures { result ≡ first_in_run runs.now r run.now }
 {
     if run.phase().is_live() {

@@ -1,9 +1,9 @@
 //! The runs of a table: how they settle, how each is found, which holders a concurrency group has, and which leg fits a runner.
 #![tactic(auto)]
 
-mod active_holders;
 pub mod first_place;
 pub mod fit;
+mod rows;
 pub mod runs;
 pub mod walk;
 

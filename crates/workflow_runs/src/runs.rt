@@ -10,48 +10,36 @@ ghost use Rattle.run_states.specs.Parallel.{most_at_work};
 ghost use Rattle.run_states.specs.Places.{job_at, leg_at, plan_at, run_at};
 ghost use Rattle.run_states.specs.RunNumber.{events, run_number};
 ghost use Rattle.run_states.specs.Words.{combo_at, job_id};
-ghost use Rattle.workflow_runs.specs.Counted.{IsOf};
 
+mod arrivals;
 mod changes;
-mod conflicts;
-mod counts;
 mod ending;
 mod flags;
-mod group_holders;
 mod groups;
-mod index;
-mod invalidation;
 mod label_texts;
 mod labels;
-mod letting_go;
-mod marks;
 mod of;
-mod offers;
-mod places;
 mod refreshing;
-mod rerun;
 mod settling;
+mod stops;
 
-use crate::runs::counts::{Workflow, workflow_of};
-use crate::runs::index::Index;
-use crate::runs::marks::RunMarks;
-use crate::runs::offers::offer_run;
-use run_bindings::{LegView, RunBindings};
+use crate::rows::Rows;
+use group_book::Book;
+use run_bindings::LegView;
+use run_marks::RunBitmap;
 use run_plan::{DeliveryId, PlannedJob};
-use run_states::{Job, Leg, LegPlace, Run};
+use run_states::{Holder, Job, Leg, LegPlace, Run};
 use std::alloc::Global;
 use std::marker::Model;
-use wf_value::{Chars, Combo, Refusal, TryCopy, copy_items};
+use wf_value::{Chars, Combo, Refusal, TryCopy};
 
 /// The runs of a table, in the order of their ids, which count from 1. A contract sees them as a list.
 pub struct Runs {
-    runs: Vec<Run>,
-    /// The number of each run, among the runs of its workflow.
-    numbers: Vec<usize>,
-    /// What each run and its legs ask of concurrency groups and of runners.
-    bindings: Vec<RunBindings>,
-    index: Index,
-    marks: RunMarks,
+    rows: Rows,
+    /// The holders of each concurrency group: exactly those that the table has.
+    book: Book<Holder>,
+    /// The runs in which a settling rule applies.
+    due: RunBitmap,
     /// How often settling has tried a rule at a place, since the count was last set to 0.
     tries: u64,
 }
@@ -59,13 +47,14 @@ pub struct Runs {
 impl Model for Runs {
     ghost use Rattle.std.specs.Prelude.{List};
     ghost use Rattle.run_states.specs.RunState.{RunState};
-    ghost use Rattle.workflow_runs.specs.RunsKept.{RunsAreKept};
+    ghost use Rattle.workflow_runs.specs.GroupsKept.{GroupsAreKept};
+    ghost use Rattle.workflow_runs.specs.MarkedRuns.{AreMarked, is_due};
 
     ghost Value = { List RunState };
 
-    ghost view = { λ r. r.runs.items };
+    ghost view = { λ r. r.rows.runs };
 
-    ghost invariant = { λ r. RunsAreKept r.runs.items r.numbers.items r.bindings.items r.index r.marks };
+    ghost invariant = { λ r. GroupsAreKept r.rows.runs r.rows.bindings r.book × AreMarked (is_due r.rows.runs) r.rows.runs r.due };
 }
 
 impl Runs {
@@ -73,11 +62,9 @@ impl Runs {
         ensures { result ≡ [] }
     {
         Runs {
-            runs: Vec::new(alloc),
-            numbers: Vec::new(alloc),
-            bindings: Vec::new(alloc),
-            index: Index::new(alloc),
-            marks: RunMarks::new(alloc),
+            rows: Rows::new(alloc),
+            book: Book::new(alloc),
+            due: RunBitmap::new(alloc),
             tries: 0,
         }
     }
@@ -86,7 +73,7 @@ impl Runs {
         ensures runs { result.now ≡ self.now }
         ensures most { length self.now ≤ max_runs }
     {
-        self.runs.as_slice()
+        self.rows.as_slice()
     }
 
     /// Run `r`.
@@ -94,21 +81,21 @@ impl Runs {
         ensures run { option_copied result ≡ run_at self.now r }
         ensures within { IfSome result (λ run. r < max_runs) }
     {
-        self.as_slice().get(r)
+        self.rows.run(r)
     }
 
     pub fn len(&self) -> usize
         ensures len { result ≡ length self.now }
         ensures most { result ≤ max_runs }
     {
-        self.runs.len()
+        self.rows.runs.len()
     }
 
     /// The plan of job `j` of run `r`.
     pub fn planned(&self, r: usize, j: usize) -> Option<&PlannedJob>
         ensures { option_map (λ p. p.now) result ≡ plan_at self.now r j }
     {
-        let run = self.runs.get(r)?;
+        let run = self.rows.runs.get(r)?;
         run.prepared().plan().as_slice().get(j)
     }
 
@@ -141,7 +128,7 @@ impl Runs {
     pub fn number(&self, r: usize) -> Option<usize>
         ensures { result ≡ option_map (run_number (events self.now) r) (slice_get (events self.now) r) }
     {
-        number_at(&self.numbers, r)
+        self.rows.number(r)
     }
 
     /// The planned leg at a place.
@@ -150,7 +137,7 @@ impl Runs {
         requires leg { place.leg < 2 ^ 63 }
         ensures { result ≡ facts_at self.now place }
     {
-        let run = self.runs.get(place.run)?;
+        let run = self.rows.runs.get(place.run)?;
         let run_number = self.number(place.run)?;
         let job = run.prepared().plan().as_slice().get(place.job)?;
         Some(LegView {
@@ -168,30 +155,14 @@ impl Runs {
         ensures found { result ≡ position (is_delivered_as delivery.now) self.now }
         ensures most { IfSome result (λ i. i < max_runs) }
     {
-        let place = self.index.places.place(delivery)?;
-        if self.is_delivered_at(place, delivery) {
-            Some(place)
-        } else {
-            None
-        }
-    }
-
-    /// Whether the run at index `place` is of the delivery.
-    fn is_delivered_at(&self, place: usize, delivery: &DeliveryId) -> bool
-        ensures is { result ≡ option_map_or (is_delivered_as delivery.now) (slice_get self.now place) false }
-        ensures within { result ≡ true → place < max_runs }
-    {
-        match self.as_slice().get(place) {
-            Some(run) => run.is_delivered_as(delivery),
-            None => false,
-        }
+        self.rows.position(delivery)
     }
 
     /// Job `j` of run `r`.
     fn job(&self, r: usize, j: usize) -> Option<&Job>
         ensures { option_map (λ job. job.now.state) result ≡ job_at self.now r j }
     {
-        let run = self.runs.get(r)?;
+        let run = self.rows.runs.get(r)?;
         run.job(j)
     }
 
@@ -202,66 +173,15 @@ impl Runs {
         let job = self.job(place.run, place.job)?;
         job.legs().get(place.leg)
     }
-
-    /// Adds a run at the end, with its number and its bindings. On an `Err` it is not added.
-    pub fn add(&mut self, alloc: Global, run: Run) -> Result<(), Refusal>
-        requires { length self.old < max_runs }
-        ensures added { Gives (λ _. self.new) result (Ok (self.old ++ run ∷ [])) }
-        ensures err { OnErr result (self.new ≡ self.old) }
-    {
-        let found = self.position(run.prepared().delivery());
-        let workflow = workflow_of(alloc, run.prepared())?;
-        self.add_counted(alloc, run, found, workflow)
-    }
-
-    /// Adds a run of this workflow. `found` is the index of an earlier run of its delivery, if there is one.
-    fn add_counted(
-        &mut self,
-        alloc: Global,
-        run: Run,
-        found: Option<usize>,
-        workflow: Workflow,
-    ) -> Result<(), Refusal>
-        requires room { length self.old < max_runs }
-        requires found { found ≡ position (is_delivered_as run.admitted.delivery) self.old }
-        requires workflow { IsOf workflow run.admitted }
-        ensures added { Gives (λ _. self.new) result (Ok (self.old ++ run ∷ [])) }
-        ensures err { OnErr result (self.new ≡ self.old) }
-    {
-        let runs = self.runs.as_slice();
-        let number = self
-            .index
-            .make_room(alloc, runs, run.prepared(), &workflow, found)?;
-        let requested = RunBindings::bind(alloc, &run, self.runs.len() + 1, number)?;
-        self.runs.reserve(1)?;
-        self.numbers.reserve(1)?;
-        self.bindings.reserve(1)?;
-        let r = self.runs.len();
-        self.marks.reserve_up_to(r + 1)?;
-        self.index.lists.reserve_up_to(r + 1)?;
-        let grouped = self.index.groups.enter(alloc, requested, r + 1)?;
-        let bindings = grouped.with_lists(alloc, &mut self.index.lists, r)?;
-        offer_run(&mut self.index.lists, &bindings, r, &run);
-        self.marks.mark_dirty(r, 0);
-        self.runs.push_reserved(run);
-        let runs = self.runs.as_slice();
-        self.index.groups.list_run(r, runs, &bindings);
-        self.numbers.push_reserved(number);
-        self.bindings.push_reserved(bindings);
-        self.index.counts.add(workflow, number);
-        Ok(())
-    }
 }
 
 /// Drops each part, as a derived `Drop` does. Written out, it is a single call in the proof of each caller that drops runs.
 impl Drop for Runs {
     fn drop(self) {
         let Self {
-            runs: _,
-            numbers: _,
-            bindings: _,
-            index: _,
-            marks: _,
+            rows: _,
+            book: _,
+            due: _,
             tries: _,
         } = self;
     }
@@ -270,11 +190,9 @@ impl Drop for Runs {
 impl TryCopy for Runs {
     fn copy(&self, alloc: Global) -> Result<Self, Refusal> {
         Ok(Runs {
-            runs: copy_items(alloc, &self.runs)?,
-            numbers: Vec::from_slice(alloc, self.numbers.as_slice())?,
-            bindings: copy_items(alloc, &self.bindings)?,
-            index: self.index.copy(alloc)?,
-            marks: self.marks.copy()?,
+            rows: self.rows.copy(alloc)?,
+            book: self.book.copy(alloc)?,
+            due: self.due.copy()?,
             tries: self.tries,
         })
     }
@@ -286,14 +204,5 @@ fn combo_of(alloc: Global, planned: &PlannedJob, l: usize) -> Result<Combo, Refu
     match planned.legs.as_slice().get(l) {
         Some(leg) => leg.combo.copy(alloc),
         None => Ok(Combo::new(alloc)),
-    }
-}
-
-fn number_at(numbers: &[usize], r: usize) -> Option<usize>
-    ensures { result ≡ slice_get numbers.now r }
-{
-    match numbers.get(r) {
-        Some(number) => Some(*number),
-        None => None,
     }
 }

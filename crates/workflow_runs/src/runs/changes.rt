@@ -1,137 +1,151 @@
-//! The changes of a table's runs.
-#![tactic(auto, using(run_states::proofs::Doors::written))]
+//! The changes of a table's runs. Each changes at most one holder of a group, and keeps the book of groups exact.
 
-ghost use Rattle.std.specs.Prelude.{◌≡◌};
+ghost use Rattle.std.specs.Prelude.{◌≡◌, ◌<◌, ◌+◌, ◌⊎◌, ℕ, None, Some, length, option_map, true};
+ghost use Rattle.group_book.specs.Books.{slot_in};
+ghost use Rattle.group_name.specs.Group.{Group};
+ghost use Rattle.run_marks.specs.Marked.{Covers, is_marked};
 ghost use Rattle.run_states.specs.Changes.{changed};
-ghost use Rattle.run_states.specs.Places.{with_job, with_leg, with_run};
-ghost use Rattle.run_states.specs.Rules.{opened, run_in_phase, settled_as, with_leg_in};
-ghost use Rattle.run_states.specs.Stops.{stopped_run, with_stopped_legs};
+ghost use Rattle.run_states.specs.Groups.{holds, may_start, waits};
+ghost use Rattle.run_states.specs.Holders.{run_of};
+ghost use Rattle.run_states.specs.Places.{with_job, with_run};
+ghost use Rattle.run_states.specs.Rules.{may_run, opened, run_in_phase, settled_as, with_leg_in};
+ghost use Rattle.run_states.specs.Settling.{first_place};
+ghost use Rattle.run_states.specs.SoundRuns.{RunsAreSound};
 ghost use Rattle.run_states.specs.Words.{planned_legs};
+ghost use Rattle.run_states.specs.declared.holder.Holder.{Holder as HolderInWords};
+ghost use Rattle.run_states.specs.declared.holder.Holder.TheVariants as held;
+ghost use Rattle.run_states.specs.declared.phases.LegPhase.TheVariants as leg;
+ghost use Rattle.run_states.specs.declared.phases.RunPhase.TheVariants as run;
+ghost use Rattle.run_states.specs.declared.place.RuleSite.TheVariants.{Opening};
+ghost use Rattle.workflow_runs.specs.BookSteps.{Begins, Leaves};
+ghost use Rattle.workflow_runs.specs.HolderChanges.{ChangesNobody, EndsOnly, StartsOnly};
+ghost use Rattle.workflow_runs.specs.RowsKept.{key_at};
 
+use crate::rows::Rows;
 use crate::runs::Runs;
-use crate::runs::offers::offer;
-use run_states::{Change, Leg, LegPhase, LegPlace, RunPhase};
+use group_book::Book;
+use run_marks::RunBitmap;
+use run_states::{Change, Holder, LegPhase, LegPlace, RunPhase};
 use wf_value::JobResult;
 
-/// Which ready legs of a run a change may take away.
-#[derive(Clone, Copy)]
-enum Taken {
-    Nothing,
-    One(LegPlace),
-    Any,
-}
-
-impl Taken {
-    fn any_if(may_take: bool) -> Self {
-        if may_take { Taken::Any } else { Taken::Nothing }
-    }
-}
-
 impl Runs {
-    /// Changes run `r`, if there is one. Every change of a run within an attempt goes through this function.
-    fn change(&mut self, r: usize, change: Change)
+    /// A change after which the same runs and legs wait for their groups and hold them.
+    pub(super) fn change_within(&mut self, r: usize, change: Change)
+        requires within { r < length self.old }
+        requires nobody { ChangesNobody self.old (with_run r (changed change) self.old) }
         ensures { self.new ≡ with_run r (changed change) self.old }
     {
-        let taken = self.taken(r, &change);
-        self.write(r, change);
-        self.refresh_after(r, taken);
+        self.rows.change(r, change);
+        self.due.mark(r);
     }
 
-    /// Which ready legs the change of run `r` may take away. This is a hint: the run is searched before a mark is removed.
-    fn taken(&self, r: usize, change: &Change) -> Taken {
-        match change {
-            Change::PutLeg(j, l, leg) => self.taken_leg(LegPlace::new(r, *j, *l), leg),
-            Change::Stop | Change::StopLegs(_) => Taken::any_if(self.offers_legs(r)),
-            Change::Phase(_) | Change::Open(_) | Change::Settle(_, _) => Taken::Nothing,
-        }
-    }
-
-    /// The leg at a place, if it is ready and its replacement is not.
-    fn taken_leg(&self, place: LegPlace, next: &Leg) -> Taken {
-        match self.leg(place) {
-            Some(leg) if leg.is_ready() && !next.is_ready() => Taken::One(place),
-            _ => Taken::Nothing,
-        }
-    }
-
-    /// Unmarks the run for the list of the leg taken, or for all lists, if it has no such ready leg any more. Claims then skip it.
-    fn refresh_after(&mut self, r: usize, taken: Taken)
-        ensures { self.new ≡ self.old }
+    /// A change by which a holder that waits begins. Nobody is in progress in its group.
+    fn change_starting(&mut self, holder: &Holder, change: Change)
+        requires { StartsOnly holder.now self.old (with_run (run_of holder.now) (changed change) self.old) }
+        ensures { self.new ≡ with_run (run_of holder.now) (changed change) self.old }
     {
-        match taken {
-            Taken::Nothing => {}
-            Taken::One(place) => self.refresh_list(place),
-            Taken::Any => self.refresh_offers(r),
-        }
+        begin_in_group(&self.rows, &mut self.book, holder);
+        let r = holder.run();
+        self.rows.change(r, change);
+        self.due.mark(r);
     }
 
-    /// Writes the change and sets the marks that it needs.
-    fn write(&mut self, r: usize, change: Change)
-        ensures { self.new ≡ with_run r (changed change) self.old }
+    /// A change by which a run or a leg ends. If it held a group, the pending holder of that group may begin, and nobody else.
+    pub(super) fn change_ending(&mut self, holder: &Holder, change: Change)
+        requires { EndsOnly holder.now self.old (with_run (run_of holder.now) (changed change) self.old) }
+        ensures { self.new ≡ with_run (run_of holder.now) (changed change) self.old }
     {
-        if r < self.runs.len() {
-            let freed = self.freed(r, &change);
-            let newcomer = change.newcomer(r);
-            let offered = change.offered(r);
-            let runs = self.runs.as_slice();
-            let bindings = &self.bindings[r];
-            self.marks
-                .invalidate_freed(&freed, &self.index.groups, bindings, runs.len());
-            self.index.groups.list_newcomer(newcomer, runs, bindings);
-            offer(&mut self.index.lists, offered, bindings);
-            self.marks.mark_dirty(r, 0);
-            let run = &mut self.runs[r];
-            run.change(change);
-        }
+        let next = leave_group(&self.rows, &mut self.book, holder);
+        mark_run_of(&mut self.due, next);
+        let r = holder.run();
+        self.rows.change(r, change);
+        self.due.mark(r);
     }
 
-    pub(crate) fn set_run_phase(&mut self, r: usize, phase: RunPhase)
-        ensures { self.new ≡ with_run r (run_in_phase phase) self.old }
+    /// The waiting run begins.
+    pub(super) fn start_run(&mut self, r: usize)
+        requires sound { RunsAreSound self.old }
+        requires waits { waits self.old (held.Run r) ≡ true }
+        requires may { may_start self.old (held.Run r) ≡ true }
+        ensures { self.new ≡ with_run r (run_in_phase run.Live) self.old }
     {
-        self.change(r, Change::Phase(phase));
+        self.change_starting(&Holder::Run(r), Change::Phase(RunPhase::Live));
     }
 
-    /// Opens job `j` of run `r` with all legs of its plan.
+    /// The live run, whose jobs have all finished, ends.
+    pub(super) fn end_run(&mut self, r: usize)
+        requires { EndsOnly (held.Run r) self.old (with_run r (run_in_phase run.Ended) self.old) }
+        ensures { self.new ≡ with_run r (run_in_phase run.Ended) self.old }
+    {
+        self.change_ending(&Holder::Run(r), Change::Phase(RunPhase::Ended));
+    }
+
+    /// Opens job `j` of run `r` with all legs of its plan, and decides their groups.
     pub(crate) fn open_job(&mut self, r: usize, j: usize)
+        requires sound { RunsAreSound self.old }
+        requires first { first_place self.old ≡ Some (Opening r j) }
+        requires may { may_run self.old r j ≡ true }
         ensures { self.new ≡ with_job r j (opened (planned_legs self.old r j)) self.old }
     {
-        self.change(r, Change::Open(j));
+        let without_group = self.rows.decide(r, j);
+        self.book.forgo(without_group);
+        self.rows.change(r, Change::Open(j));
+        self.due.mark(r);
     }
 
     pub(crate) fn settle_job(&mut self, r: usize, j: usize, settled: JobResult)
+        requires within { r < length self.old }
+        requires nobody { ChangesNobody self.old (with_job r j (settled_as settled) self.old) }
         ensures { self.new ≡ with_job r j (settled_as settled) self.old }
     {
-        self.change(r, Change::Settle(j, settled));
+        self.change_within(r, Change::Settle(j, settled));
     }
 
-    /// Stops run `r`, if there is one.
-    pub fn stop(&mut self, r: usize)
-        ensures { self.new ≡ with_run r stopped_run self.old }
-    {
-        self.change(r, Change::Stop);
-    }
-
-    /// Stops all legs of job `j` of run `r`.
-    pub(crate) fn stop_legs(&mut self, r: usize, j: usize)
-        ensures { self.new ≡ with_job r j with_stopped_legs self.old }
-    {
-        self.change(r, Change::StopLegs(j));
-    }
-
-    /// Replaces the leg at the place, if there is one.
-    pub fn set_leg(&mut self, place: LegPlace, leg: Leg)
-        ensures { self.new ≡ with_leg place (λ _. leg) self.old }
-    {
-        self.change(place.run, Change::PutLeg(place.job, place.leg, leg));
-    }
-
-    /// Sets the phase of the leg at the place, if there is one.
-    pub(crate) fn set_leg_phase(&mut self, place: LegPlace, phase: LegPhase)
-        ensures { self.new ≡ with_leg_in phase place self.old }
+    /// The waiting leg becomes ready.
+    pub(crate) fn start_leg(&mut self, place: LegPlace)
+        requires sound { RunsAreSound self.old }
+        requires waits { waits self.old (held.Leg place) ≡ true }
+        requires may { may_start self.old (held.Leg place) ≡ true }
+        ensures { self.new ≡ with_leg_in leg.Ready place self.old }
     {
         if let Some(leg) = self.leg(place) {
-            let leg = leg.in_phase(phase);
-            self.set_leg(place, leg);
+            let change = Change::PutLeg(place.job, place.leg, leg.in_phase(LegPhase::Ready));
+            self.change_starting(&Holder::Leg(place), change);
         }
+    }
+}
+
+/// The holder begins in its group, if it has one.
+pub(super) fn begin_in_group(rows: &Rows, book: &mut Book<Holder>, holder: &Holder)
+    requires { (g : Group) → key_at rows.now.bindings holder.now ≡ Some g → (slot_in book.old.entries g).in_progress ≡ None }
+    ensures begins { Begins (key_at rows.now.bindings holder.now) book.old.entries book.new.entries }
+    ensures expected { book.new.expected ≡ book.old.expected }
+{
+    if let Some(group) = rows.key(holder) {
+        book.start(group);
+    }
+}
+
+/// The holder leaves its group, if it has one. Returns the pending holder, which may begin now.
+fn leave_group(rows: &Rows, book: &mut Book<Holder>, holder: &Holder) -> Option<Holder>
+    ensures leaves { Leaves (key_at rows.now.bindings holder.now) holder.now book.old.entries book.new.entries result }
+    ensures expected { book.new.expected ≡ book.old.expected }
+{
+    match rows.key(holder) {
+        Some(group) => book.leave(group, holder),
+        None => None,
+    }
+}
+
+/// Marks the run of a holder, if there is one.
+fn mark_run_of(marks: &mut RunBitmap, holder: Option<Holder>)
+    requires { (h : HolderInWords) → holder ≡ Some h → Covers marks.old (run_of h + 1) }
+    ensures marked { (h : HolderInWords) → holder ≡ Some h → is_marked marks.new (run_of h) ≡ true }
+    ensures kept { (i : ℕ) → is_marked marks.old i ≡ true → is_marked marks.new i ≡ true }
+    ensures others { (i : ℕ) → is_marked marks.new i ≡ true → (is_marked marks.old i ≡ true) ⊎ (option_map run_of holder ≡ Some i) }
+    ensures len { length marks.new ≡ length marks.old }
+{
+    if let Some(one) = holder {
+        marks.mark(one.run());
     }
 }

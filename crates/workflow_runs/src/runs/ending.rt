@@ -1,17 +1,28 @@
-//! The end of a leg.
+//! The lease of a leg, and its end.
 
-ghost use Rattle.std.specs.Prelude.{◌≡◌, ◌<◌, ◌^◌, IfSome};
+ghost use Rattle.std.specs.Prelude.{◌≡◌, ◌<◌, ◌^◌, IfSome, true};
 ghost use Rattle.std.specs.Option.{option_map_or};
+ghost use Rattle.run_states.specs.Groups.{holds};
+ghost use Rattle.run_states.specs.NewRun.{leased_leg};
+ghost use Rattle.run_states.specs.declared.holder.Holder.TheVariants as held;
+ghost use Rattle.run_states.specs.Parallel.{is_at_work};
+ghost use Rattle.run_states.specs.Places.{leg_at, with_leg};
+ghost use Rattle.run_states.specs.Rules.{with_leg_in};
+ghost use Rattle.run_states.specs.SoundRuns.{RunsAreSound};
 ghost use Rattle.run_states.specs.Stops.{after_end, fails_fast, stops_others};
+ghost use Rattle.run_states.specs.declared.phases.LegPhase.TheVariants.{Ended};
 
 use crate::runs::Runs;
-use run_states::{LegPhase, LegPlace};
+use run_plan::Number;
+use run_states::{Change, Holder, Leg, LegPhase, LegPlace};
 use wf_value::Outcome;
 
 impl Runs {
     /// Ends the leg, if there is one.
     pub fn end(&mut self, leg: Option<LegPlace>, outcome: Outcome)
         requires leg { IfSome leg (λ p. p.leg < 2 ^ 63) }
+        requires sound { RunsAreSound self.old }
+        requires work { IfSome leg (λ p. IfSome (leg_at self.old p) (λ leg. is_at_work leg.phase ≡ true)) }
         ensures { self.new ≡ option_map_or (λ p. after_end p outcome self.old) leg self.old }
     {
         if let Some(place) = leg {
@@ -41,12 +52,38 @@ impl Runs {
     /// Ends the leg at the place, and stops the other legs of its job if its end stops them.
     fn end_at(&mut self, place: LegPlace, outcome: Outcome)
         requires leg { place.leg < 2 ^ 63 }
+        requires sound { RunsAreSound self.old }
+        requires work { IfSome (leg_at self.old place) (λ leg. is_at_work leg.phase ≡ true) }
         ensures { self.new ≡ after_end place outcome self.old }
     {
         let stops_others = self.stops_others(place, outcome);
-        self.set_leg_phase(place, LegPhase::Ended(outcome));
+        self.end_leg(place, outcome);
         if stops_others {
             self.stop_legs(place.run, place.job);
         }
+    }
+
+    fn end_leg(&mut self, place: LegPlace, outcome: Outcome)
+        requires sound { RunsAreSound self.old }
+        requires work { IfSome (leg_at self.old place) (λ leg. is_at_work leg.phase ≡ true) }
+        ensures ended { self.new ≡ with_leg_in (Ended outcome) place self.old }
+        ensures sound { RunsAreSound self.new }
+    {
+        if let Some(leg) = self.leg(place) {
+            let ended = leg.in_phase(LegPhase::Ended(outcome));
+            let change = Change::PutLeg(place.job, place.leg, ended);
+            self.change_ending(&Holder::Leg(place), change);
+        }
+    }
+
+    /// Gives a ready leg to a runner.
+    pub fn lease(&mut self, place: LegPlace, lease: Number)
+        requires sound { RunsAreSound self.old }
+        requires holds { holds self.old (held.Leg place) ≡ true }
+        ensures { self.new ≡ with_leg place (λ _. leased_leg lease) self.old }
+    {
+        let change = Change::PutLeg(place.job, place.leg, Leg::leased(lease));
+        self.change_within(place.run, change);
+        self.rows.refresh_list(place);
     }
 }

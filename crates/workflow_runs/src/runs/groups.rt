@@ -1,28 +1,27 @@
-//! The group of a run or a leg, whether it waits for the group or holds it, and the effect of its arrival. Only `group` takes memory.
+//! The group of a run or a leg, whether it waits for the group or holds it, and the holders of a group. Only `group` takes memory.
 
-ghost use Rattle.std.specs.Prelude.{◌≡◌, IfSome, Ok, Some, false, true, is_some, option_and_then, option_map};
+ghost use Rattle.std.specs.Prelude.{◌≡◌, Some, ◌<◌, IfSome, Ok, false, true, find, is_some, option_and_then, option_map};
 ghost use Rattle.std.specs.Option.{option_map_or};
+ghost use Rattle.stated_limits.specs.Limits.{max_runs};
 ghost use Rattle.wf_value.specs.Gives.{Gives};
 ghost use Rattle.group_name.specs.BoundGroup.{group_at as bound_group_at};
-ghost use Rattle.run_states.specs.Arrivals.{arrived, is_in_group_of_run};
-ghost use Rattle.run_states.specs.GroupOf.{RunFacts, cancels_in_progress, group_at, run_facts_at};
-ghost use Rattle.run_states.specs.Groups.{HasOneBeside, holds, is_in, may_start, waits};
-ghost use Rattle.run_states.specs.Holders.{first_conflicting, is_conflicting};
-ghost use Rattle.run_states.specs.Resuming.{finds_others, makes_room};
-ghost use Rattle.run_states.specs.Places.{run_at, with_leg};
-ghost use Rattle.run_states.specs.SoundRuns.{RunsAreSound};
-ghost use Rattle.run_states.specs.StopMoves.{stop_holder};
-ghost use Rattle.run_states.specs.Stops.{stopped};
+ghost use Rattle.run_states.specs.Arrivals.{is_in_group_of_run};
+ghost use Rattle.run_states.specs.GroupOf.{RunFacts, group_at, run_facts_at};
+ghost use Rattle.run_states.specs.Groups.{all_holders, holds, is_in_progress_in, is_pending_in, may_start, waits};
+ghost use Rattle.run_states.specs.Holders.{run_of};
+ghost use Rattle.run_states.specs.Places.{run_at};
+ghost use Rattle.run_states.specs.Resuming.{makes_room};
+ghost use Rattle.run_states.specs.declared.holder.Holder.TheVariants as held;
 ghost use Rattle.run_bindings.specs.Bindings.{RunSays};
-ghost use Rattle.run_bindings.specs.BoundGroups.{is_set_by, results_by_place};
+ghost use Rattle.run_bindings.specs.BoundGroups.{results_by_place};
+ghost use Rattle.workflow_runs.specs.GroupsKept.{is_there};
 
-use crate::active_holders::{is_holding, is_waiting};
 use crate::runs::Runs;
 use group_name::GroupKey;
 use run_bindings::{GroupRequest, RunBindings};
-use run_states::{Holder, HolderFilter, LegPlace, Run};
+use run_states::{Holder, LegPlace, Run};
 use std::alloc::Global;
-use wf_value::Refusal;
+use wf_value::{Refusal, Same};
 
 impl Runs {
     /// Run `r` with its bindings.
@@ -31,8 +30,8 @@ impl Runs {
         ensures says { IfSome result
             (λ it. (facts : RunFacts) → run_facts_at self.now r ≡ Some facts → RunSays facts it.1.now) }
     {
-        let run = self.runs.get(r)?;
-        let bindings = self.bindings.get(r)?;
+        let run = self.rows.runs.get(r)?;
+        let bindings = self.rows.bindings.get(r)?;
         Some((run, bindings))
     }
 
@@ -40,8 +39,6 @@ impl Runs {
     fn requested(&self, holder: &Holder) -> Option<(&GroupRequest, &Run)>
         ensures group { option_and_then (λ a. bound_group_at (results_by_place a.1.now) a.0.now.group) result
             ≡ group_at self.now holder.now }
-        ensures cancels { option_map_or (λ a. is_set_by (results_by_place a.1.now) a.0.now.cancels) result false
-            ≡ cancels_in_progress self.now holder.now }
     {
         let (run, bindings) = self.with_bindings(holder.run())?;
         Some((bindings.requested(holder)?, run))
@@ -57,153 +54,81 @@ impl Runs {
         }
     }
 
-    /// Whether the holder has a group.
-    pub(crate) fn has_group(&self, holder: &Holder) -> bool
-        ensures { result ≡ is_some (group_at self.now holder.now) }
-    {
-        match self.requested(holder) {
-            Some((requested, run)) => requested.group.has_group(run),
-            None => false,
-        }
-    }
-
-    /// Whether `other` is in the group of `holder`.
-    fn is_in_group_of(&self, holder: &Holder, other: &Holder) -> bool
-        ensures { result ≡ option_map_or (λ g. is_in self.now g other.now)
-            (group_at self.now holder.now) false }
-    {
-        match (self.requested(holder), self.requested(other)) {
-            (Some((one, run)), Some((another, other_run))) => {
-                one.group.same(run, &another.group, other_run)
-            }
-            _ => false,
-        }
-    }
-
-    /// Whether the arrival of the holder cancels what is in progress.
-    fn cancels_in_progress(&self, holder: &Holder) -> bool
-        ensures { result ≡ cancels_in_progress self.now holder.now }
-    {
-        match self.requested(holder) {
-            Some((requested, run)) => requested.cancels.is_set(run),
-            None => false,
-        }
-    }
-
     pub fn waits(&self, holder: &Holder) -> bool
         ensures { result ≡ waits self.now holder.now }
     {
-        is_waiting(&self.runs, holder)
+        self.rows.waits(holder)
     }
 
     pub fn holds(&self, holder: &Holder) -> bool
         ensures { result ≡ holds self.now holder.now }
     {
-        is_holding(&self.runs, holder)
+        self.rows.holds(holder)
+    }
+
+    /// The holder of a group that is in progress.
+    pub fn running(&self, group: &GroupKey) -> Option<Holder>
+        ensures holder { result ≡ find (is_in_progress_in self.now group.now) (all_holders self.now) }
+        ensures within { IfSome result (λ h. run_of h < max_runs) }
+    {
+        let _ = &self.rows.runs;
+        self.book.running(group)
+    }
+
+    /// The holder of a group that is pending.
+    pub fn pending(&self, group: &GroupKey) -> Option<Holder>
+        ensures holder { result ≡ find (is_pending_in self.now group.now) (all_holders self.now) }
+        ensures within { IfSome result (λ h. run_of h < max_runs) }
+    {
+        let _ = &self.rows.runs;
+        self.book.pending(group)
+    }
+
+    /// Whether the run or the leg has a group.
+    pub(crate) fn has_group(&self, holder: &Holder) -> bool
+        requires { is_there self.now holder.now ≡ true }
+        ensures { result ≡ is_some (group_at self.now holder.now) }
+    {
+        self.rows.key(holder).is_some()
     }
 
     /// Whether the leg's group is the group of its own run.
     pub(crate) fn is_in_group_of_run(&self, leg: LegPlace) -> bool
+        requires { is_there self.now (held.Leg leg) ≡ true }
         ensures { result ≡ is_in_group_of_run self.now leg }
     {
-        self.is_in_group_of(&Holder::Run(leg.run), &Holder::Leg(leg))
+        match (
+            self.rows.key(&Holder::Run(leg.run)),
+            self.rows.key(&Holder::Leg(leg)),
+        ) {
+            (Some(group), Some(other)) => group.same(other),
+            _ => false,
+        }
     }
 
-    /// Whether no holder runs in the group of `holder`. A holder without a group may always start.
+    /// Whether nobody is in progress in the group of a holder. A holder without a group may always start.
     pub(crate) fn may_start(&self, holder: &Holder) -> bool
+        requires { is_there self.now holder.now ≡ true }
         ensures { result ≡ may_start self.now holder.now }
     {
-        !self.has_group(holder)
-            || self
-                .first_conflicting(holder, HolderFilter::InProgress)
-                .is_none()
-    }
-
-    /// Whether `other` is in the group of `holder` and pending or running there, as `holder_filter` asks.
-    pub(crate) fn is_conflicting(
-        &self,
-        holder: &Holder,
-        holder_filter: HolderFilter,
-        other: &Holder,
-    ) -> bool
-        ensures { result ≡ is_conflicting self.now holder.now holder_filter other.now }
-    {
-        match holder_filter {
-            HolderFilter::OthersPending => {
-                self.waits(other) && !other.is(holder) && self.is_in_group_of(holder, other)
-            }
-            HolderFilter::InProgress => self.holds(other) && self.is_in_group_of(holder, other),
+        match self.rows.key(holder) {
+            Some(group) => self.book.running(group).is_none(),
+            None => true,
         }
     }
 
-    // ---- an arrival
-
-    /// Whether an arrival affects others in the newcomer's group: another pending holder ends, or the holder in progress is stopped.
+    /// Whether the arrival of a leg, which is new, affects others in its group: the pending holder ends, or the one in progress is stopped.
     pub(crate) fn makes_room(&self, newcomer: &Holder) -> bool
+        requires there { is_there self.now newcomer.now ≡ true }
+        requires waits_not { waits self.now newcomer.now ≡ false }
         ensures { result ≡ makes_room self.now newcomer.now }
     {
-        self.has_group(newcomer) && self.finds_others(newcomer)
-    }
-
-    fn finds_others(&self, newcomer: &Holder) -> bool
-        ensures { result ≡ finds_others self.now newcomer.now }
-    {
-        self.finds(newcomer, HolderFilter::OthersPending)
-            || (self.cancels_in_progress(newcomer)
-                && self.finds(newcomer, HolderFilter::InProgress))
-    }
-
-    fn finds(&self, newcomer: &Holder, holder_filter: HolderFilter) -> bool
-        ensures { result ≡ is_some (first_conflicting self.now newcomer.now holder_filter) }
-    {
-        self.first_conflicting(newcomer, holder_filter).is_some()
-    }
-
-    /// The arrival of a run or a leg, which already waits, in its group. Another holder that is pending there ends as cancelled, and with
-    /// cancel-in-progress the one in progress is stopped. Takes no memory.
-    pub fn arrive(&mut self, newcomer: &Holder)
-        requires waits { waits self.old newcomer.now ≡ true }
-        requires sound { RunsAreSound self.old }
-        requires one_beside { HasOneBeside self.old newcomer.now }
-        ensures { self.new ≡ (arrived newcomer.now self.old).runs }
-    {
-        if !self.has_group(newcomer) {
-            return;
-        }
-        let cancels = self.cancels_in_progress(newcomer);
-        self.stop_conflicting(newcomer, HolderFilter::OthersPending);
-        if cancels {
-            self.stop_conflicting(newcomer, HolderFilter::InProgress);
-        }
-    }
-
-    /// Stops the first conflicting holder, if there is one.
-    fn stop_conflicting(&mut self, newcomer: &Holder, holder_filter: HolderFilter)
-        ensures { self.new ≡ option_map_or (λ h. (stop_holder h self.old).runs)
-            (first_conflicting self.old newcomer.now holder_filter) self.old }
-    {
-        if let Some(other) = self.first_conflicting(newcomer, holder_filter) {
-            self.stop_holder(&other);
-        }
-    }
-
-    /// Stops the run or the leg.
-    fn stop_holder(&mut self, holder: &Holder)
-        ensures { self.new ≡ (stop_holder holder.now self.old).runs }
-    {
-        match holder {
-            Holder::Run(r) => self.stop(*r),
-            Holder::Leg(place) => self.stop_leg(*place),
-        }
-    }
-
-    /// Stops the leg, if there is one at the place.
-    fn stop_leg(&mut self, place: LegPlace)
-        ensures { self.new ≡ with_leg place stopped self.old }
-    {
-        if let Some(leg) = self.leg(place) {
-            let leg = leg.stopped();
-            self.set_leg(place, leg);
+        match self.rows.key(newcomer) {
+            Some(group) => {
+                self.book.pending(group).is_some()
+                    || (self.rows.cancels(newcomer) && self.book.running(group).is_some())
+            }
+            None => false,
         }
     }
 }

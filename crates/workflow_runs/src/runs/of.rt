@@ -1,32 +1,223 @@
-//! Builds the runs of a table from the parts in which they are stored.
+//! Builds the runs of a table from the parts in which they are stored, and the book of groups from the table.
 
-ghost use Rattle.std.specs.Prelude.{◌≡◌, IfOk, MatchOption};
+ghost use Rattle.std.specs.Prelude.{◌≡◌, ◌≤◌, ◌<◌, ℕ, [], IfOk, IfSome, MatchOption, None, Some, length, option_and_then, true};
+ghost use Rattle.stated_limits.specs.Limits.{max_runs};
 ghost use Rattle.wf_value.specs.Gives.{ErrsOnlyByMemory};
+ghost use Rattle.group_name.specs.Group.{Group as GroupInWords};
+ghost use Rattle.group_book.specs.Books.{slot_in};
+ghost use Rattle.run_marks.specs.Marked.{Covers, is_marked};
 ghost use Rattle.run_states.specs.AsPlanned.{AreAsPlanned};
+ghost use Rattle.run_states.specs.GroupOf.{group_at};
+ghost use Rattle.run_states.specs.GroupWords.{same_holder};
+ghost use Rattle.run_states.specs.Groups.{HasOneEach};
+ghost use Rattle.run_states.specs.declared.holder.Holder.{Holder as HolderInWords};
+ghost use Rattle.run_bindings.specs.GroupKeys.{ticket_in};
+ghost use Rattle.workflow_runs.specs.RowsKept.{holder_key_at, key_at};
+ghost use Rattle.workflow_runs.specs.declared.runs.of.Place.TheVariants.{InProgress};
+ghost use Rattle.workflow_runs.specs.Seating.{AreSeatedOrTaken, AreStored, BeginsIf, HasSeats, HaveKeys, SitsDown, in_job, in_place, is_of, legs_of_run};
 
+use crate::rows::Rows;
 use crate::runs::Runs;
-use run_states::{MAX_RUNS, Run, RunParts};
+use crate::runs::changes::begin_in_group;
+use group_book::Book;
+use group_name::GroupKey;
+use run_marks::RunBitmap;
+use run_states::{Holder, LegPlace, MAX_RUNS, Run, RunParts};
 use std::alloc::Global;
 use wf_value::Refusal;
 
+/// One of the two places of a group.
+#[derive(Clone, Copy)]
+enum Place {
+    InProgress,
+    Pending,
+}
+
 impl Runs {
-    /// The runs of these parts. `None` if there are more than 100,000, or if a run does not have the jobs and legs of its plan.
+    /// The runs of these parts. `None` if there are more than 100,000, if a run does not have the jobs and legs of its plan, or if a group
+    /// has two holders in progress or two pending ones.
     pub fn of_parts(alloc: Global, parts: &[RunParts]) -> Result<Option<Self>, Refusal>
         ensures err { ErrsOnlyByMemory result }
-        ensures of { IfOk result (λ found. MatchOption found (AreAsPlanned parts.now → ⊥)
-            (λ runs. (runs ≡ parts.now) × AreAsPlanned parts.now)) }
+        ensures of { IfOk result (λ found. MatchOption found (AreAsPlanned parts.now → HasOneEach parts.now → ⊥)
+            (λ runs. (runs ≡ parts.now) × AreAsPlanned parts.now × HasOneEach parts.now)) }
     {
         if parts.len() > MAX_RUNS as usize {
             return Ok(None);
         }
-        let mut runs = Runs::new(alloc);
-        for r in 0..parts.len() {
-            let part = &parts[r];
-            match Run::of_parts(alloc, part)? {
-                Some(run) => runs.add(alloc, run)?,
-                None => return Ok(None),
-            }
+        let mut book = Book::new(alloc);
+        let Some(mut rows) = rows_of(alloc, parts, &mut book)? else {
+            return Ok(None);
+        };
+        if !seat_all(&mut rows, &mut book, Place::InProgress) {
+            return Ok(None);
         }
-        Ok(Some(runs))
+        if !seat_all(&mut rows, &mut book, Place::Pending) {
+            return Ok(None);
+        }
+        Ok(Some(Runs {
+            rows,
+            book,
+            due: all_marked(alloc, parts.len())?,
+            tries: 0,
+        }))
+    }
+}
+
+/// The runs with what is kept of each. Nobody has arrived in a group yet.
+fn rows_of(
+    alloc: Global,
+    parts: &[RunParts],
+    book: &mut Book<Holder>,
+) -> Result<Option<Rows>, Refusal>
+    requires few { length parts.now ≤ max_runs }
+    requires empty { book.old.entries ≡ [] }
+    ensures err { ErrsOnlyByMemory result }
+    ensures entries { book.new.entries ≡ [] }
+    ensures planned { IfOk result (λ found. MatchOption found (AreAsPlanned parts.now → ⊥) (λ rows. AreAsPlanned parts.now)) }
+    ensures stored { IfOk result (λ found. IfSome found (λ rows. AreStored parts.now rows book.new)) }
+{
+    let mut rows = Rows::new(alloc);
+    for r in 0..parts.len() {
+        let Some(run) = Run::of_parts(alloc, &parts[r])? else {
+            return Ok(None);
+        };
+        rows.add(alloc, run, book)?;
+    }
+    Ok(Some(rows))
+}
+
+fn all_marked(alloc: Global, count: usize) -> Result<RunBitmap, Refusal>
+    ensures err { ErrsOnlyByMemory result }
+    ensures covers { IfOk result (λ marks. Covers marks count) }
+    ensures marks { IfOk result (λ marks. (i : ℕ) → i < count → is_marked marks i ≡ true) }
+{
+    let mut marks = RunBitmap::new(alloc);
+    marks.reserve_up_to(count)?;
+    for r in 0..count {
+        marks.mark(r);
+    }
+    Ok(marks)
+}
+
+// ---- the places of groups. Each function returns whether no place was taken already.
+
+fn seat_all(rows: &mut Rows, book: &mut Book<Holder>, place: Place) -> bool
+    requires seats { HasSeats place rows.old.runs rows.old.bindings book.old }
+    requires keys { HaveKeys place (λ h. true) rows.old.runs rows.old.bindings }
+    ensures runs { rows.new.runs ≡ rows.old.runs }
+    ensures seats { HasSeats place rows.new.runs rows.new.bindings book.new }
+    ensures taken { AreSeatedOrTaken result place (λ h. true) rows.old.runs rows.old.bindings rows.new.bindings book.old.entries book.new.entries }
+{
+    for r in 0..rows.runs.len() {
+        if !seat(rows, book, place, &Holder::Run(r)) {
+            return false;
+        }
+        if !seat_jobs(rows, book, place, r) {
+            return false;
+        }
+    }
+    true
+}
+
+fn seat_jobs(rows: &mut Rows, book: &mut Book<Holder>, place: Place, r: usize) -> bool
+    requires seats { HasSeats place rows.old.runs rows.old.bindings book.old }
+    requires keys { HaveKeys place (legs_of_run r) rows.old.runs rows.old.bindings }
+    ensures runs { rows.new.runs ≡ rows.old.runs }
+    ensures seats { HasSeats place rows.new.runs rows.new.bindings book.new }
+    ensures taken { AreSeatedOrTaken result place (legs_of_run r) rows.old.runs rows.old.bindings rows.new.bindings book.old.entries book.new.entries }
+{
+    for j in 0..rows.job_count(r) {
+        if !seat_legs(rows, book, place, r, j) {
+            return false;
+        }
+    }
+    true
+}
+
+fn seat_legs(rows: &mut Rows, book: &mut Book<Holder>, place: Place, r: usize, j: usize) -> bool
+    requires seats { HasSeats place rows.old.runs rows.old.bindings book.old }
+    requires keys { HaveKeys place (in_job r j) rows.old.runs rows.old.bindings }
+    ensures runs { rows.new.runs ≡ rows.old.runs }
+    ensures seats { HasSeats place rows.new.runs rows.new.bindings book.new }
+    ensures taken { AreSeatedOrTaken result place (in_job r j) rows.old.runs rows.old.bindings rows.new.bindings book.old.entries book.new.entries }
+{
+    for l in 0..rows.leg_count(r, j) {
+        if !seat(rows, book, place, &Holder::Leg(LegPlace::new(r, j, l))) {
+            return false;
+        }
+    }
+    true
+}
+
+/// Enters a holder in the book if it has the place.
+fn seat(rows: &mut Rows, book: &mut Book<Holder>, place: Place, holder: &Holder) -> bool
+    requires seats { HasSeats place rows.old.runs rows.old.bindings book.old }
+    requires keys { HaveKeys place (λ h. same_holder h holder.now) rows.old.runs rows.old.bindings }
+    ensures runs { rows.new.runs ≡ rows.old.runs }
+    ensures seats { HasSeats place rows.new.runs rows.new.bindings book.new }
+    ensures taken { AreSeatedOrTaken result place (λ h. same_holder h holder.now) rows.old.runs rows.old.bindings rows.new.bindings book.old.entries book.new.entries }
+{
+    if !is_of(rows, place, holder) {
+        return true;
+    }
+    let Some(group) = rows.key(holder) else {
+        return true;
+    };
+    if in_place(book, place, group).is_some() {
+        return false;
+    }
+    arrive(rows, book, place, holder);
+    true
+}
+
+/// Whether the holder has this place of its group, by the table.
+fn is_of(rows: &Rows, place: Place, holder: &Holder) -> bool
+    ensures { result ≡ is_of place rows.now.runs holder.now }
+{
+    match place {
+        Place::InProgress => rows.holds(holder),
+        Place::Pending => rows.waits(holder),
+    }
+}
+
+/// The holder that has this place of a group, by the book.
+fn in_place(book: &Book<Holder>, place: Place, group: &GroupKey) -> Option<Holder>
+    ensures { result ≡ in_place place (slot_in book.now.entries group.now) }
+{
+    match place {
+        Place::InProgress => book.running(group),
+        Place::Pending => book.pending(group),
+    }
+}
+
+/// A holder takes its place, which is free.
+fn arrive(rows: &mut Rows, book: &mut Book<Holder>, place: Place, holder: &Holder)
+    requires seats { HasSeats place rows.old.runs rows.old.bindings book.old }
+    requires has { is_of place rows.old.runs holder.now ≡ true }
+    requires key { option_and_then ticket_in (holder_key_at rows.old.bindings holder.now) ≡ group_at rows.old.runs holder.now }
+    requires free { (g : GroupInWords) → group_at rows.old.runs holder.now ≡ Some g → in_place place (slot_in book.old.entries g) ≡ None }
+    ensures runs { rows.new.runs ≡ rows.old.runs }
+    ensures seats { HasSeats place rows.new.runs rows.new.bindings book.new }
+    ensures keys { (h : HolderInWords) → (h ≡ holder.now → ⊥) → holder_key_at rows.new.bindings h ≡ holder_key_at rows.old.bindings h }
+    ensures sits { (g : GroupInWords) → group_at rows.old.runs holder.now ≡ Some g
+        → SitsDown place holder.now g book.old.entries book.new.entries }
+{
+    let Some(group) = rows.spend(holder) else {
+        return;
+    };
+    book.arrive(group, *holder, false);
+    begin_at_once(rows, book, place, holder);
+}
+
+/// A holder that is in progress begins as soon as it has arrived.
+fn begin_at_once(rows: &Rows, book: &mut Book<Holder>, place: Place, holder: &Holder)
+    requires { (g : GroupInWords) → place ≡ InProgress → key_at rows.now.bindings holder.now ≡ Some g
+        → (slot_in book.old.entries g).in_progress ≡ None }
+    ensures begins { BeginsIf place (key_at rows.now.bindings holder.now) book.old.entries book.new.entries }
+    ensures expected { book.new.expected ≡ book.old.expected }
+{
+    match place {
+        Place::InProgress => begin_in_group(rows, book, holder),
+        Place::Pending => {}
     }
 }

@@ -1,8 +1,10 @@
 //! Where commands and settling search: in the runs that are marked for them. A search that finds nothing in a run removes the mark.
 
-ghost use Rattle.std.specs.Prelude.{◌≡◌, ℕ, ◌<◌, ◌≤◌, IfNone, IfSome, None, Some, false, length};
+ghost use Rattle.std.specs.Prelude.{◌≡◌, ℕ, ◌<◌, ◌≤◌, IfNone, IfSome, None, Some, false, length, true};
+ghost use Rattle.std.specs.Bool.{Decides};
 ghost use Rattle.stated_limits.specs.Limits.{max_runs};
-ghost use Rattle.run_states.specs.ActiveRuns.{is_active, offers_legs, someone_waits};
+ghost use Rattle.run_marks.specs.Marked.{is_marked};
+ghost use Rattle.run_states.specs.ActiveRuns.{is_active};
 ghost use Rattle.run_states.specs.Resuming.{JobsRestBefore, RestBefore, apply_at};
 ghost use Rattle.run_states.specs.Places.{run_at};
 ghost use Rattle.run_states.specs.RunState.{RunState};
@@ -11,12 +13,11 @@ ghost use Rattle.run_states.specs.WithinRun.{first_in_run, fit_in_run};
 ghost use Rattle.resuming_laws.specs.RunFacts.{is_so_at};
 
 use crate::first_place::first_in_run_at;
+use crate::rows::offers::{below, first_offering};
 use crate::runs::Runs;
-use crate::runs::marks::next_below;
-use crate::runs::offers::{below, first_offering, offers_list, put_run};
-use run_bindings::label_numbers::list_number;
+use run_marks::RunBitmap;
 use run_plan::Label;
-use run_states::{JobPlace, LegPlace, RuleSite};
+use run_states::{JobPlace, RuleSite};
 
 impl Runs {
     /// The next run that may have a ready leg whose labels are all among `labels`.
@@ -27,7 +28,7 @@ impl Runs {
         ensures between { IfSome result (λ r. (i : ℕ) → from ≤ i → i < r → apply_at (fit_in_run labels.now self.now) self.now i ≡ None) }
         ensures none { IfNone result ((i : ℕ) → from ≤ i → apply_at (fit_in_run labels.now self.now) self.now i ≡ None) }
     {
-        let found = first_offering(&self.index.lists, labels, from);
+        let found = first_offering(&self.rows.index.lists, labels, from);
         below(found, self.len())
     }
 
@@ -39,7 +40,7 @@ impl Runs {
         ensures between { IfSome result (λ r. (i : ℕ) → from ≤ i → i < r → apply_at (first_in_run self.now) self.now i ≡ None) }
         ensures none { IfNone result ((i : ℕ) → from ≤ i → apply_at (first_in_run self.now) self.now i ≡ None) }
     {
-        next_below(&self.marks.due, from, self.len())
+        next_below(&self.due, from, self.len())
     }
 
     /// The next run that may be active: one that waits or is live, or has a leg that waits for its group or holds it.
@@ -50,102 +51,18 @@ impl Runs {
         ensures between { IfSome result (λ r. (i : ℕ) → from ≤ i → i < r → is_so_at is_active self.now i ≡ false) }
         ensures none { IfNone result ((i : ℕ) → from ≤ i → is_so_at is_active self.now i ≡ false) }
     {
-        next_below(&self.marks.active, from, self.len())
+        next_below(&self.rows.active, from, self.len())
     }
 
-    pub(crate) fn offers_legs(&self, r: usize) -> bool
-        ensures { result ≡ is_so_at offers_legs self.now r }
-    {
-        match self.runs.get(r) {
-            Some(run) => run.offers_legs(),
-            None => false,
-        }
-    }
-
-    fn someone_waits(&self, r: usize) -> bool
-        ensures { result ≡ is_so_at someone_waits self.now r }
-    {
-        match self.runs.get(r) {
-            Some(run) => run.someone_waits(),
-            None => false,
-        }
-    }
-
-    fn is_active(&self, r: usize) -> bool
-        ensures { result ≡ is_so_at is_active self.now r }
-    {
-        match self.runs.get(r) {
-            Some(run) => run.is_active(),
-            None => false,
-        }
-    }
-
-    /// Removes stale marks of run `r`: the waiting mark if no holder in it waits, and if it is not active, also the marks by which searches
-    /// for leases, for holders of groups and for ready legs find it. An inactive run has no holder that would have to be listed.
-    fn refresh_marks(&mut self, r: usize)
-        requires { r < length self.old }
-        ensures { self.new ≡ self.old }
-    {
-        self.refresh_waiting(r);
-        if !self.is_active(r) {
-            self.pass(r);
-            self.refresh_offers(r);
-        }
-    }
-
-    /// Unmarks the run for all lists of labels if it has no ready leg, so that claims skip it.
-    pub(crate) fn refresh_offers(&mut self, r: usize)
-        ensures { self.new ≡ self.old }
-    {
-        if r < self.runs.len() && !self.offers_legs(r) {
-            let bindings = &self.bindings[r];
-            put_run(&mut self.index.lists, bindings.lists.as_slice(), r, false);
-        }
-    }
-
-    /// Unmarks the run for the list of a leg if no ready leg of the run asks for that list, so that claims for the list skip the run.
-    pub(crate) fn refresh_list(&mut self, place: LegPlace)
-        ensures { self.new ≡ self.old }
-    {
-        let r = place.run;
-        if r < self.runs.len() {
-            let run = &self.runs[r];
-            let numbers = self.bindings[r].lists.as_slice();
-            let number = list_number(numbers, place.job, place.leg);
-            if !offers_list(run, numbers, number) {
-                self.index.lists.unmark(number, r);
-            }
-        }
-    }
-
-    fn refresh_waiting(&mut self, r: usize)
-        requires { r < length self.old }
-        ensures { self.new ≡ self.old }
-    {
-        if !self.someone_waits(r) {
-            self.marks.waiting.unmark(r);
-        }
-    }
-
-    /// Unmarks run `r`, which is not active, so that searches for active runs and for unlisted holders skip it.
-    fn pass(&mut self, r: usize)
-        requires within { r < length self.old }
-        requires rests { is_so_at is_active self.old r ≡ false }
-        ensures { self.new ≡ self.old }
-    {
-        self.marks.active.unmark(r);
-        self.index.groups.unlisted.unmark(r);
-    }
-
-    /// Unmarks run `r`, in which no rule applies, as due, until it changes or may advance. Its changes have marked it as waiting and as
-    /// active too. These marks are checked here, once however many of its legs changed.
+    /// Unmarks run `r`, in which no rule applies, as due, until it changes or may advance. Its changes have marked it as active too. That
+    /// mark is checked here, once however many of its legs changed.
     pub(crate) fn rest(&mut self, r: usize)
         requires within { r < length self.old }
         requires rests { apply_at (first_in_run self.old) self.old r ≡ None }
         ensures { self.new ≡ self.old }
     {
-        self.marks.due.unmark(r);
-        self.refresh_marks(r);
+        self.due.unmark(r);
+        self.rows.refresh_marks(r);
     }
 
     /// The first place in run `r` where a rule applies. None applies before the job at index `from`.
@@ -179,6 +96,14 @@ impl Runs {
         None
     }
 
+    /// Whether no rule applies to the runs.
+    pub fn are_at_rest(&mut self) -> bool
+        ensures rest { Decides result (first_place self.old ≡ None) }
+        ensures kept { self.new ≡ self.old }
+    {
+        self.first_place(JobPlace { run: 0, job: 0 }).is_none()
+    }
+
     /// How often settling has tried a rule at a place, since the last `forget_tries`. No contract depends on it.
     pub fn tries(&self) -> u64 {
         self.tries
@@ -188,5 +113,19 @@ impl Runs {
         ensures { self.new ≡ self.old }
     {
         self.tries = 0;
+    }
+}
+
+/// The first marked run at or after `from`, below `bound`.
+fn next_below(marks: &RunBitmap, from: usize, bound: usize) -> Option<usize>
+    ensures within { IfSome result (λ r. r < bound) }
+    ensures from { IfSome result (λ r. from ≤ r) }
+    ensures itself { IfSome result (λ r. is_marked marks.now r ≡ true) }
+    ensures between { IfSome result (λ r. (i : ℕ) → from ≤ i → i < r → is_marked marks.now i ≡ false) }
+    ensures none { IfNone result ((i : ℕ) → from ≤ i → i < bound → is_marked marks.now i ≡ false) }
+{
+    match marks.first_from(from) {
+        Some(r) if r < bound => Some(r),
+        _ => None,
     }
 }

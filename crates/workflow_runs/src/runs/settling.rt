@@ -6,26 +6,25 @@ ghost use Rattle.std.specs.List.{list_any};
 ghost use Rattle.std.specs.Option.{option_map_or};
 ghost use Rattle.needs_graph.specs.Results.{fails_job, gathered, is_cancelled};
 ghost use Rattle.run_states.specs.FirstOf.{first_some, placed};
-ghost use Rattle.run_states.specs.Groups.{HasOneEach};
-ghost use Rattle.run_states.specs.Resuming.{RestBefore, at_job_again, may_invalidate_others, is_new_at, resume_point, resume_at_arrival};
+ghost use Rattle.run_states.specs.Resuming.{RestBefore, at_job_again, may_invalidate_others, is_new_at, resume_point};
 ghost use Rattle.run_states.specs.Places.{job_at, leg_at, run_at, with_job};
-ghost use Rattle.run_states.specs.Rules.{closing_rule, decided, leg_end, leg_rule, may_run, newcomer_rule, rule_at, whole_rule};
+ghost use Rattle.run_states.specs.Rules.{closing_rule, decided, leg_end, leg_rule, may_run, rule_at, whole_rule};
 ghost use Rattle.run_states.specs.Settling.{first_place, first_rule, settled};
 ghost use Rattle.run_states.specs.SoundRuns.{RunsAreSound};
 ghost use Rattle.run_states.specs.StateWords.{outcome_of};
+ghost use Rattle.run_states.specs.declared.place.RuleSite.TheVariants.{AtLeg, Closing, Opening, Whole};
 ghost use Rattle.run_states.specs.WithinRun.{failing};
 ghost use Rattle.run_states.specs.Words.{is_stopping};
 
 use crate::runs::Runs;
 use crate::walk::Legs;
 use run_states::{Holder, JobPlace, Leg, LegPhase, LegPlace, RuleSite, RunPhase};
-use wf_value::{JobResult, Outcome};
+use wf_value::JobResult;
 
 impl Runs {
     /// Applies one rule after another, until none applies.
     pub fn settle(&mut self)
-        requires sound { RunsAreSound self.old }
-        requires one_each { HasOneEach self.old }
+        requires { RunsAreSound self.old }
         ensures { self.new ≡ settled self.old }
     {
         self.settle_from(JobPlace { run: 0, job: 0 });
@@ -34,7 +33,6 @@ impl Runs {
     /// Settles. The search for rules begins at `start`, and no rule applies before it.
     pub fn settle_from(&mut self, start: JobPlace)
         requires sound { RunsAreSound self.old }
-        requires one_each { HasOneEach self.old }
         requires rest { RestBefore self.old start }
         ensures { self.new ≡ settled self.old }
     {
@@ -47,7 +45,6 @@ impl Runs {
     /// Applies the rule at the first place where one applies, and returns where to search for the next.
     fn take_first_rule(&mut self, from: JobPlace) -> Option<JobPlace>
         requires sound { RunsAreSound self.old }
-        requires one_each { HasOneEach self.old }
         requires rest { RestBefore self.old from }
         ensures took { option_map (λ next. next.runs) (first_rule self.old) ≡ (if is_some result then Some self.new else None) }
         ensures kept { is_some result ≡ false → self.new ≡ self.old }
@@ -62,7 +59,6 @@ impl Runs {
     /// Applies the rule at `place`, which is the first place where one applies, and returns where to search for the next.
     fn take_first_rule_at(&mut self, place: RuleSite) -> JobPlace
         requires sound { RunsAreSound self.old }
-        requires one_each { HasOneEach self.old }
         requires first { first_place self.old ≡ Some place }
         ensures took { option_map (λ next. next.runs) (first_rule self.old) ≡ Some self.new }
         ensures rest { RestBefore self.new result }
@@ -85,18 +81,6 @@ impl Runs {
             RuleSite::Closing(r, j) => self.at_job_again(*r, *j),
             RuleSite::Whole(r) => JobPlace { run: *r, job: 0 },
         }
-    }
-
-    /// Where settling begins to search after the arrival of a new run.
-    pub fn resume_at_arrival(&self, newcomer: usize) -> JobPlace
-        ensures { result ≡ resume_at_arrival self.now newcomer }
-    {
-        let run = if self.has_group(&Holder::Run(newcomer)) {
-            0
-        } else {
-            newcomer
-        };
-        JobPlace { run, job: 0 }
     }
 
     /// Whether the rule there may let a holder of another run go on: a leg arrives there and another holder ends or is stopped, or a live
@@ -123,7 +107,7 @@ impl Runs {
     fn at_job_again(&self, r: usize, j: usize) -> JobPlace
         ensures { result ≡ at_job_again self.now r j }
     {
-        match self.runs.get(r) {
+        match self.rows.runs.get(r) {
             Some(run) => JobPlace {
                 run: r,
                 job: run.job_again(j),
@@ -135,7 +119,7 @@ impl Runs {
     /// Applies the rule at a place, if one applies.
     fn take_rule(&mut self, place: RuleSite)
         requires sound { RunsAreSound self.old }
-        requires one_each { HasOneEach self.old }
+        requires first { first_place self.old ≡ Some place }
         ensures { IfSome (rule_at self.old place) (λ next. self.new ≡ next.runs) }
     {
         match place {
@@ -148,6 +132,8 @@ impl Runs {
 
     /// Opens the job if its condition holds, and finishes it otherwise.
     fn decide(&mut self, r: usize, j: usize)
+        requires sound { RunsAreSound self.old }
+        requires first { first_place self.old ≡ Some (Opening r j) }
         ensures { self.new ≡ with_job r j (decided self.old r j) self.old }
     {
         let stopping = self.is_stopping(r);
@@ -164,7 +150,7 @@ impl Runs {
     fn may_run(&self, r: usize, j: usize) -> bool
         ensures { result ≡ may_run self.now r j }
     {
-        match self.runs.get(r) {
+        match self.rows.runs.get(r) {
             Some(run) => run.may_run(j),
             None => false,
         }
@@ -173,7 +159,7 @@ impl Runs {
     fn is_stopping(&self, r: usize) -> bool
         ensures { result ≡ is_stopping self.now r }
     {
-        match self.runs.get(r) {
+        match self.rows.runs.get(r) {
             Some(run) => run.is_stopping(),
             None => false,
         }
@@ -182,12 +168,12 @@ impl Runs {
     /// A new leg arrives, and a waiting leg becomes ready.
     fn move_leg(&mut self, place: LegPlace)
         requires sound { RunsAreSound self.old }
-        requires one_each { HasOneEach self.old }
+        requires first { first_place self.old ≡ Some (AtLeg place) }
         ensures { IfSome (option_and_then (leg_rule self.old place) (leg_at self.old place)) (λ next. self.new ≡ next.runs) }
     {
         match self.leg_phase(place) {
             Some(LegPhase::New) => self.begin_leg(place),
-            Some(LegPhase::Waiting) => self.set_leg_phase(place, LegPhase::Ready),
+            Some(LegPhase::Waiting) => self.start_leg(place),
             _ => {}
         }
     }
@@ -198,23 +184,10 @@ impl Runs {
         Some(self.leg(place)?.phase)
     }
 
-    /// The leg arrives in its group and waits. If its group is its own run's, it is cancelled instead.
-    fn begin_leg(&mut self, place: LegPlace)
-        requires new { is_new_at self.old place ≡ true }
-        requires sound { RunsAreSound self.old }
-        requires one_each { HasOneEach self.old }
-        ensures { self.new ≡ (newcomer_rule self.old place).runs }
-    {
-        if self.is_in_group_of_run(place) {
-            self.set_leg_phase(place, LegPhase::Ended(Outcome::Cancelled));
-        } else {
-            self.set_leg_phase(place, LegPhase::Waiting);
-            self.arrive(&Holder::Leg(place));
-        }
-    }
-
     /// Finishes job `j` with the result of its legs.
     fn close(&mut self, r: usize, j: usize)
+        requires sound { RunsAreSound self.old }
+        requires first { first_place self.old ≡ Some (Closing r j) }
         ensures { IfSome (option_and_then (closing_rule self.old r j) (job_at self.old r j)) (λ next. self.new ≡ next.runs) }
     {
         if let Some(job) = self.job(r, j) {
@@ -258,12 +231,14 @@ impl Runs {
 
     /// A waiting run becomes live, and a live run ends.
     fn move_run(&mut self, r: usize)
+        requires sound { RunsAreSound self.old }
+        requires first { first_place self.old ≡ Some (Whole r) }
         ensures { IfSome (option_and_then (whole_rule self.old r) (run_at self.old r)) (λ next. self.new ≡ next.runs) }
     {
-        if let Some(run) = self.runs.get(r) {
+        if let Some(run) = self.run(r) {
             match run.phase() {
-                RunPhase::Waiting => self.set_run_phase(r, RunPhase::Live),
-                RunPhase::Live => self.set_run_phase(r, RunPhase::Ended),
+                RunPhase::Waiting => self.start_run(r),
+                RunPhase::Live => self.end_run(r),
                 RunPhase::Ended => {}
             }
         }

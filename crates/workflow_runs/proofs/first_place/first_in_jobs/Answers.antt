@@ -6,7 +6,7 @@ use Rattle.workflow_runs.proofs.first_place.first_in_jobs.Goals as goal
 
 pub loop-j-init : goal.loop-j-init
 loop-j-init c = none_before-map (first_in_job c.args.runs.now c.args.r c.args.run.now) (λ (x : JobCells). x.state) c.args.jobs.now
-    c.args.from c.requires
+    c.args.from c.requires.rest
 
 pub returns-then-is_some : goal.returns-then-is_some
 returns-then-is_some c =

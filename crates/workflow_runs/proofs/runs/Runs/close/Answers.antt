@@ -5,6 +5,7 @@ use Rattle.run_states.specs.FirstOf.{placed}
 use Rattle.run_states.specs.Places.{with_job}
 use Rattle.run_states.specs.Rules.{leg_end, settled_as}
 use Rattle.run_states.proofs.Transitions.{job_closed}
+use Rattle.workflow_runs.proofs.JobFinishes.{closes_nobody}
 use Rattle.workflow_runs.proofs.runs.Runs.close.Goals as goal
 
 pub returns-in-Some : goal.returns-in-Some
@@ -12,4 +13,11 @@ returns-in-Some c =
     job_closed c.args.self.now c.settle_job.new.self c.args.r c.args.j c.in-Some.job.now.state (sym c.in-Some.ensures)
     (c.settle_job.ensures ∙ ap (λ s. with_job c.args.r c.args.j (settled_as s) c.args.self.now)
     (c.result-settled.ensures
+    ∙ ap (λ legs. gathered (filter_map (leg_end c.args.self.now c.args.r c.args.j) (placed legs))) c.legs.ensures))
+
+pub settle_job-requires-clause-nobody : goal.settle_job-requires-clause-nobody
+settle_job-requires-clause-nobody c =
+    closes_nobody c.args.self.now c.args.r c.args.j c.in-Some.job.now.state c.result-settled.result c.requires.sound c.requires.first
+    (sym c.in-Some.ensures)
+    (sym (c.result-settled.ensures
     ∙ ap (λ legs. gathered (filter_map (leg_end c.args.self.now c.args.r c.args.j) (placed legs))) c.legs.ensures))

@@ -1,12 +1,14 @@
-use Rattle.std.specs.Prelude.{◌≡◌, true, is_none, is_some}
-use Rattle.std.proofs.Common.{rules}
-use Rattle.run_states.specs.GroupOf.{group_at}
-use Rattle.settling_laws.proofs.Meant.{starts_where}
+use Rattle.std.specs.Prelude.{◌≡◌, is_some, not, true}
+use Rattle.std.proofs.Common.{ap, sym, ◌∙◌}
+use Rattle.run_states.specs.Groups.{may_start}
+use Rattle.workflow_runs.specs.GroupsKept.{is_there}
+use Rattle.workflow_runs.proofs.KnownGroups.{may_start_in, the_other}
 use Rattle.workflow_runs.proofs.runs.Runs.may_start.Goals as goal
 
-pub returns-else-not-has_group : goal.returns-else-not-has_group
-returns-else-not-has_group c =
+pub returns-in-Some : goal.returns-in-Some
+returns-in-Some c =
     let h = c.args.holder.now in
-    let grouped : is_some (group_at c.args.self.now h) ≡ true = search rules in
-    let none : c.is_none.result ≡ is_none c.first_conflicting.result = search rules in
-    starts_where c.args.self.now h c.first_conflicting.result c.is_none.result grouped c.first_conflicting.ensures none
+    let there : is_there c.self.inside.rows.runs h ≡ true = ap (λ rs. is_there rs h) c.self.view_is ∙ c.requires in
+    the_other (is_some c.running.result) c.is_none.result c.is_none.ensures ∙ ap (λ o. not (is_some o)) c.running.ensures.slot
+    ∙ may_start_in c.self.inside.rows.runs c.self.inside.rows.bindings c.self.inside.book c.self.invariant.0 h there c.in-Some.group.now
+    c.in-Some.ensures ∙ ap (λ rs. may_start rs h) c.self.view_is

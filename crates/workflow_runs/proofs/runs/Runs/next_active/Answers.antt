@@ -4,6 +4,7 @@ use Rattle.std.proofs.lemmas.Bool.{cases_lt}
 use Rattle.run_states.specs.ActiveRuns.{is_active}
 use Rattle.run_states.specs.RunState.{RunState}
 use Rattle.resuming_laws.specs.RunFacts.{is_so_at}
+use Rattle.workflow_runs.specs.declared.runs.Runs.TheInside.{Inside}
 use Rattle.workflow_runs.proofs.MarkedRuns.{if_none, if_some, past_is_not_so, unmarked_is_not_so}
 use Rattle.workflow_runs.proofs.runs.Runs.next_active.Goals as goal
 
@@ -12,7 +13,8 @@ returns-clause-between c =
     if_some c.next_below.result _ _
     (λ r unmarked i from to.
     ap (λ (xs : List RunState). is_so_at is_active xs i) (sym c.self.view_is)
-    ∙ unmarked_is_not_so is_active c.self.inside.runs.items _ c.self.invariant.marked.active i (unmarked i from to))
+    ∙ sym (ap (λ (w : Inside). is_so_at is_active w.rows.runs i) c.self-inside.view_is)
+    ∙ unmarked_is_not_so is_active (c.self-inside.inside.0.0).runs.items _ c.self-inside.invariant.active i (unmarked i from to))
     c.next_below.ensures.between
 
 pub returns-clause-none : goal.returns-clause-none
@@ -22,7 +24,8 @@ returns-clause-none c =
     elim (cases_lt i c.len.result) [
       | inl within ↦
           ap (λ (xs : List RunState). is_so_at is_active xs i) (sym c.self.view_is)
-          ∙ unmarked_is_not_so is_active c.self.inside.runs.items _ c.self.invariant.marked.active i (unmarked i from within)
+          ∙ sym (ap (λ (w : Inside). is_so_at is_active w.rows.runs i) c.self-inside.view_is)
+          ∙ unmarked_is_not_so is_active (c.self-inside.inside.0.0).runs.items _ c.self-inside.invariant.active i (unmarked i from within)
       | inr past ↦ past_is_not_so is_active c.args.self.now i (omega (arith, past, c.len.ensures.len))
     ])
     c.next_below.ensures.none

@@ -12,7 +12,7 @@ returns-clause-between c =
     if_some c.next_below.result _ _
     (λ r unmarked i from to.
     ap (λ (xs : List RunState). apply_at (first_in_run xs) xs i) (sym c.self.view_is)
-    ∙ unmarked_rests c.self.inside.runs.items _ c.self.invariant.marked.due i (unmarked i from to))
+    ∙ unmarked_rests c.self.inside.rows.runs _ c.self.invariant.1 i (unmarked i from to))
     c.next_below.ensures.between
 
 pub returns-clause-none : goal.returns-clause-none
@@ -22,7 +22,7 @@ returns-clause-none c =
     elim (cases_lt i c.len.result) [
       | inl within ↦
           ap (λ (xs : List RunState). apply_at (first_in_run xs) xs i) (sym c.self.view_is)
-          ∙ unmarked_rests c.self.inside.runs.items _ c.self.invariant.marked.due i (unmarked i from within)
+          ∙ unmarked_rests c.self.inside.rows.runs _ c.self.invariant.1 i (unmarked i from within)
       | inr past ↦ past_rests c.args.self.now i (omega (arith, past, c.len.ensures.len))
     ])
     c.next_below.ensures.none

@@ -2,7 +2,7 @@ use Rattle.std.specs.Prelude.{◌≡◌, None}
 use Rattle.std.proofs.Common.{ap, sym, ◌∙◌, rules}
 use Rattle.run_states.specs.Holders.{run_of}
 use Rattle.run_states.specs.Places.{run_at}
-use Rattle.run_bindings.proofs.BoundSays.{SaysBoth, flag_by, group_by, no_flag, no_group, said_there}
+use Rattle.run_bindings.proofs.BoundSays.{SaysBoth, group_by, no_group, said_there}
 use Rattle.workflow_runs.proofs.runs.Runs.requested.Goals as goal
 use Rattle.workflow_runs.proofs.runs.Runs.requested.Goals.{In_ok-run}
 
@@ -11,7 +11,7 @@ returns-in_err-run c =
     let h = c.args.holder.now in
     let nothing : run_at c.args.self.now (run_of h) ≡ None = search rules in
     let gone : c.from_residual.result ≡ None = search rules in
-    record { group = rw gone (sym (no_group c.args.self.now h nothing)); cancels = rw gone (sym (no_flag c.args.self.now h nothing)) }
+    record { group = rw gone (sym (no_group c.args.self.now h nothing)) }
 
 -- the bindings there give the group and the flag
 said : (c : In_ok-run) → SaysBoth c.args.self.now c.args.holder.now c.in_ok-run.run'.now c.in_ok-run.bindings.now
@@ -24,13 +24,10 @@ returns-in_err-requested c =
     let x = c.in_ok-run.run'.now in
     let both = said (goal.at.returns-in_err-requested c).In_ok-run in
     let gone : c.from_residual-in_err-requested.result ≡ None = search rules in
-    record {
-      group = rw gone (ap (group_by x) c.in_err-requested.ensures ∙ both.0);
-      cancels = rw gone (ap (flag_by x) c.in_err-requested.ensures ∙ both.1);
-    }
+    record { group = rw gone (ap (group_by x) c.in_err-requested.ensures ∙ both.0) }
 
 pub returns : goal.returns
 returns c =
     let x = c.in_ok-run.run'.now in
     let both = said (goal.at.returns c).In_ok-run in
-    record { group = ap (group_by x) c.in_ok-requested.ensures ∙ both.0; cancels = ap (flag_by x) c.in_ok-requested.ensures ∙ both.1 }
+    record { group = ap (group_by x) c.in_ok-requested.ensures ∙ both.0 }

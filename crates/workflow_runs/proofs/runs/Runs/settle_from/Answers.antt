@@ -1,6 +1,5 @@
 use Rattle.std.specs.Prelude.{◌≡◌, ◌<◌, List, Option, Some, None, IfSome, is_some, option_map, if◌then◌else◌}
 use Rattle.std.proofs.Common.{ap, subst, sym, refl, ◌∙◌}
-use Rattle.run_states.specs.Groups.{HasOneEach}
 use Rattle.run_states.specs.Resuming.{RestBefore}
 use Rattle.run_states.specs.Moves.{Transition}
 use Rattle.run_states.specs.RunState.{RunState}
@@ -9,7 +8,6 @@ use Rattle.run_states.specs.SoundRuns.{RunsAreSound}
 use Rattle.run_states.specs.declared.place.JobPlace.{JobPlace}
 use Rattle.run_states.proofs.Optional.{from_map}
 use Rattle.settling_laws.proofs.Lowered.{first_rule_lowers}
-use Rattle.settling_laws.proofs.OneEachRules.{first_rule_one_each}
 use Rattle.settling_laws.proofs.Rests.{settled_after_rule, settled_at_rest}
 use Rattle.settling_laws.proofs.SettlingKeeps.{first_rule_settles}
 use Rattle.settling_laws.proofs.SoundRuns.{runs_that_fit, sound_runs}
@@ -29,7 +27,6 @@ taken_goes_on start runs new from again so_far took rest =
     record {
       same_end = ap settled (sym rule.gives) ∙ sym (settled_after_rule runs rule.value rule.is) ∙ so_far.same_end;
       sound = subst RunsAreSound rule.gives (sound_runs rule.value.runs (first_rule_settles runs rule.value fit rule.is).stay.fit);
-      one_each = subst HasOneEach rule.gives (first_rule_one_each runs rule.value fit rule.is so_far.one_each);
       rest = rest;
     }
 
@@ -45,7 +42,6 @@ pub loop-next-init : goal.loop-next-init
 loop-next-init c = record {
   same_end = refl;
   sound = c.requires.sound;
-  one_each = c.requires.one_each;
   rest = c.requires.rest;
 }
 

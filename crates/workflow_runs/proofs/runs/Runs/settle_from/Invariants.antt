@@ -1,5 +1,4 @@
 use Rattle.std.proofs.Common.{◌≡◌, List}
-use Rattle.run_states.specs.Groups.{HasOneEach}
 use Rattle.run_states.specs.Resuming.{RestBefore}
 use Rattle.run_states.specs.RunState.{RunState}
 use Rattle.run_states.specs.Settling.{settled, remaining_phases}
@@ -11,7 +10,6 @@ use Rattle.workflow_runs.proofs.runs.Runs.settle_from.Given as goal
 pub record Settling (start runs : List RunState) (from : JobPlace) : Type 0 where
   pub same_end : settled runs ≡ settled start
   pub sound : RunsAreSound runs
-  pub one_each : HasOneEach runs
   pub rest : RestBefore runs from
 
 abbrev pub invariant-loop-next : goal.invariant-loop-next

@@ -1,6 +1,5 @@
 use Rattle.std.specs.Prelude.{List, option_map}
 use Rattle.std.proofs.Common.{ap, subst, sym, ◌∙◌}
-use Rattle.run_states.specs.Groups.{HasOneEach}
 use Rattle.run_states.specs.Moves.{Transition}
 use Rattle.run_states.specs.RunState.{RunState}
 use Rattle.run_states.specs.Settling.{first_place, first_rule}
@@ -9,9 +8,6 @@ use Rattle.workflow_runs.proofs.runs.Runs.take_first_rule.Goals as goal
 
 pub take_first_rule_at-requires-clause-sound : goal.take_first_rule_at-requires-clause-sound
 take_first_rule_at-requires-clause-sound c = subst RunsAreSound (sym c.first_place.ensures.kept) c.requires.sound
-
-pub take_first_rule_at-requires-clause-one_each : goal.take_first_rule_at-requires-clause-one_each
-take_first_rule_at-requires-clause-one_each c = subst HasOneEach (sym c.first_place.ensures.kept) c.requires.one_each
 
 pub take_first_rule_at-requires-clause-first : goal.take_first_rule_at-requires-clause-first
 take_first_rule_at-requires-clause-first c = ap first_place c.first_place.ensures.kept ∙ sym c.first_place.ensures.found ∙ c.in-Some.is

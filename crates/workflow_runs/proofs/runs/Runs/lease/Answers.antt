@@ -1,0 +1,20 @@
+use Rattle.std.specs.Prelude.{List}
+use Rattle.std.proofs.Common.{ap, subst, sym, ◌∙◌}
+use Rattle.run_states.specs.Places.{with_leg}
+use Rattle.run_states.specs.RunState.{LegState}
+use Rattle.workflow_runs.specs.HolderChanges.{ChangesNobody}
+use Rattle.workflow_runs.specs.RowsKept.{RowState}
+use Rattle.workflow_runs.proofs.LegEnds.{leased_within, leg_is_leased}
+use Rattle.workflow_runs.proofs.runs.Runs.lease.Goals as goal
+
+pub change_within-requires : goal.change_within-requires
+change_within-requires c = record {
+  within = leased_within c.args.self.now c.args.place c.args.lease c.requires.sound c.requires.holds;
+  nobody = subst (λ (z : LegState). ChangesNobody c.args.self.now (with_leg c.args.place (λ _. z) c.args.self.now)) (sym c.leased.ensures)
+      (leg_is_leased c.args.self.now c.args.place c.args.lease c.requires.sound c.requires.holds);
+}
+
+pub returns : goal.returns
+returns c =
+    ap (λ (r : RowState). r.runs) c.refresh_list.ensures ∙ c.self.view_is ∙ c.change_within.ensures
+    ∙ ap (λ (z : LegState). with_leg c.args.place (λ _. z) c.args.self.now) c.leased.ensures

@@ -1,0 +1,14 @@
+use Rattle.std.specs.Prelude.{◌≡◌, Some, option_map}
+use Rattle.std.proofs.Common.{rules}
+use Rattle.run_states.specs.Places.{leg_at}
+use Rattle.run_states.specs.RunState.{LegState}
+use Rattle.run_states.specs.declared.phases.LegPhase.TheVariants as leg
+use Rattle.run_states.proofs.Optional.{from_map}
+use Rattle.workflow_runs.proofs.FirstRules.{leg_may_start}
+use Rattle.workflow_runs.proofs.runs.Runs.move_leg.Goals as goal
+
+pub start_leg-requires-clause-may : goal.start_leg-requires-clause-may
+start_leg-requires-clause-may c =
+    let is : option_map (λ (z : LegState). z.phase) (leg_at c.args.self.now c.args.place) ≡ Some leg.Waiting = search rules in
+    let at = from_map (λ (z : LegState). z.phase) (leg_at c.args.self.now c.args.place) leg.Waiting is in
+    leg_may_start c.args.self.now c.args.place at.value c.requires.first at.is at.gives

@@ -1,0 +1,23 @@
+use Rattle.std.proofs.Common.{◌≡◌, ap, subst, sym, ◌∙◌}
+use Rattle.run_states.specs.Places.{with_leg}
+use Rattle.run_states.specs.RunState.{LegState, RunState}
+use Rattle.run_states.specs.StateWords.{leg_in_phase}
+use Rattle.run_states.specs.declared.holder.Holder.TheVariants.{Leg}
+use Rattle.run_states.specs.declared.phases.LegPhase.TheVariants as leg
+use Rattle.workflow_runs.specs.HolderChanges.{StartsOnly}
+use Rattle.workflow_runs.proofs.OneHolder.{leg_starts}
+use Rattle.workflow_runs.proofs.OneChange.{leg_written}
+use Rattle.workflow_runs.proofs.runs.Runs.start_leg.Goals as goal
+
+pub change_starting-requires : goal.change_starting-requires
+change_starting-requires c =
+    subst (StartsOnly (Leg c.args.place) c.args.self.now)
+    (sym (leg_written c.args.self.now c.args.place c.in-Some.leg.now c.in_phase.result (leg_in_phase leg.Ready) (sym c.in-Some.ensures)
+    c.in_phase.ensures))
+    (leg_starts c.args.self.now c.args.place c.requires.sound c.requires.waits c.requires.may)
+
+pub returns-in-Some : goal.returns-in-Some
+returns-in-Some c =
+    c.change_starting.ensures
+    ∙ leg_written c.args.self.now c.args.place c.in-Some.leg.now c.in_phase.result (leg_in_phase leg.Ready) (sym c.in-Some.ensures)
+    c.in_phase.ensures

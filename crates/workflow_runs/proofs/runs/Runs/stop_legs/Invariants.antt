@@ -1,0 +1,12 @@
+use Rattle.std.proofs.Common.{◌≡◌}
+use Rattle.run_states.specs.Places.{with_job}
+use Rattle.run_states.specs.SoundRuns.{RunsAreSound}
+use Rattle.workflow_runs.proofs.Stopping.{legs_upto}
+use Rattle.workflow_runs.proofs.runs.Runs.stop_legs.Given as goal
+
+-- the legs before `l` are stopped
+abbrev pub invariant-loop-l : goal.invariant-loop-l
+invariant-loop-l l = record {
+  stopped : l.self ≡ with_job l.r l.j (legs_upto l.l) l.fn.self;
+  sound : RunsAreSound l.self;
+}

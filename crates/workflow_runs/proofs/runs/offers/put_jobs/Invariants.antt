@@ -1,9 +1,0 @@
-use Rattle.std.proofs.Common.{◌≡◌, ◌<◌, ℕ}
-use Rattle.label_lists.specs.Lists.{may_offer}
-use Rattle.run_bindings.specs.LabelNumbers.{OnlyPuts, list_number}
-use Rattle.workflow_runs.proofs.runs.offers.put_jobs.Given as goal
-
--- the run is marked or unmarked for the legs of the jobs so far
-abbrev pub invariant-loop-j : goal.invariant-loop-j
-invariant-loop-j l =
-    ((k i : ℕ) → k < l.j → may_offer l.lists (list_number l.numbers k i) l.r ≡ l.to) × OnlyPuts l.r l.to l.fn.lists l.lists

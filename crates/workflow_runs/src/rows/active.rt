@@ -1,0 +1,45 @@
+//! Marks that are stale: they are removed once a run has no ready leg that asks for a list of labels, or is not active any more.
+
+ghost use Rattle.std.specs.Prelude.{◌≡◌};
+
+use crate::rows::Rows;
+use crate::rows::offers::{offers_list, put_run};
+use run_bindings::label_numbers::list_number;
+use run_states::LegPlace;
+
+impl Rows {
+    /// Unmarks the run of a leg for the leg's list, if no ready leg of the run asks for that list. Claims for the list then skip the run.
+    pub(crate) fn refresh_list(&mut self, place: LegPlace)
+        ensures { self.new ≡ self.old }
+    {
+        let r = place.run;
+        if r < self.runs.len() {
+            let run = &self.runs[r];
+            let numbers = self.bindings[r].lists.as_slice();
+            let number = list_number(numbers, place.job, place.leg);
+            if !offers_list(run, numbers, number) {
+                self.index.lists.unmark(number, r);
+            }
+        }
+    }
+
+    /// Unmarks run `r` for all lists of labels if it has no ready leg, so that claims skip it.
+    pub(crate) fn refresh_offers(&mut self, r: usize)
+        ensures { self.new ≡ self.old }
+    {
+        if r < self.runs.len() && !self.runs[r].offers_legs() {
+            let bindings = &self.bindings[r];
+            put_run(&mut self.index.lists, bindings.lists.as_slice(), r, false);
+        }
+    }
+
+    /// Removes the marks of run `r` if it is not active, so that searches for leases and for ready legs skip it.
+    pub(crate) fn refresh_marks(&mut self, r: usize)
+        ensures { self.new ≡ self.old }
+    {
+        if r < self.runs.len() && !self.runs[r].is_active() {
+            self.active.unmark(r);
+            self.refresh_offers(r);
+        }
+    }
+}

@@ -1,0 +1,126 @@
+//! Re-runs: a run begins again in its next attempt. GitHub Docs, "Re-running workflows and jobs".
+
+ghost use Rattle.std.specs.Prelude.{◌≡◌, ◌≤◌, ◌+◌, ◌<◌, IfOk, IfSome, Ok, OnErr, OnOk, Some, option_map, slice_set, vec_len};
+ghost use Rattle.std.specs.Fmt.{decimal};
+ghost use Rattle.stated_limits.specs.Limits.{last_attempt};
+ghost use Rattle.wf_value.specs.Gives.{ErrsOnlyByMemory, Gives};
+ghost use Rattle.run_states.specs.NewRun.{again};
+ghost use Rattle.run_states.specs.Places.{run_at, with_run};
+ghost use Rattle.run_states.specs.RunNumber.{events, run_number};
+ghost use Rattle.run_bindings.specs.Bindings.{RunSays};
+ghost use Rattle.run_bindings.specs.GroupKeys.{arrivals_of};
+ghost use Rattle.workflow_runs.specs.Begun.{HaveTickets, IsBegunBelow};
+ghost use Rattle.workflow_runs.specs.GroupsKept.{AreTold, arrivals_to_come};
+
+use crate::rows::offers::offer_run;
+use crate::rows::{Rows, expect};
+use group_book::Book;
+use run_bindings::RunBindings;
+use run_states::{Holder, Run};
+use std::alloc::Global;
+use wf_value::Refusal;
+
+impl Rows {
+    /// Puts run `r`, if there is one, into its next attempt: it waits, all its jobs are blocked, and its templates are bound again. All
+    /// memory is taken first, so on an `Err` nothing has changed. What was taken for arrivals of the attempt before is let go of.
+    pub(crate) fn rerun(
+        &mut self,
+        alloc: Global,
+        r: usize,
+        book: &mut Book<Holder>,
+    ) -> Result<(), Refusal>
+        requires attempt { IfSome (run_at self.old.runs r) (λ run. run.attempt < last_attempt) }
+        requires expected { arrivals_to_come self.old.bindings ≤ book.old.expected }
+        ensures again { Gives (λ _. self.new.runs) result (Ok (with_run r again self.old.runs)) }
+        ensures err { OnErr result (self.new ≡ self.old) }
+        ensures entries { book.new.entries ≡ book.old.entries }
+        ensures told { OnOk result (AreTold self.old.runs self.old.bindings → AreTold self.new.runs self.new.bindings) }
+        ensures tickets { OnOk result (HaveTickets r self.new.runs self.new.bindings) }
+        ensures expected { arrivals_to_come self.new.bindings ≤ book.new.expected }
+    {
+        match self.next_attempt(alloc, r)? {
+            Some((next, requested)) => self.put_again(alloc, r, next, requested, book),
+            None => Ok(()),
+        }
+    }
+
+    /// Replaces run `r` by its next attempt, with these bindings.
+    fn put_again(
+        &mut self,
+        alloc: Global,
+        r: usize,
+        next: Run,
+        requested: RunBindings,
+        book: &mut Book<Holder>,
+    ) -> Result<(), Refusal>
+        requires expected { arrivals_to_come self.old.bindings ≤ book.old.expected }
+        requires next { Some next ≡ option_map again (run_at self.old.runs r) }
+        requires says { RunSays (record {
+          event = next.admitted;
+          run_id = decimal (r + 1);
+          run_number = decimal (run_number (events self.old.runs) r next.admitted);
+          run_attempt = decimal next.attempt;
+        }) requested }
+        requires begun { IsBegunBelow 0 next requested }
+        ensures again { Gives (λ _. self.new.runs) result (Ok (with_run r again self.old.runs)) }
+        ensures err { OnErr result (self.new ≡ self.old) }
+        ensures entries { book.new.entries ≡ book.old.entries }
+        ensures told { OnOk result (AreTold self.old.runs self.old.bindings → AreTold self.new.runs self.new.bindings) }
+        ensures tickets { OnOk result (HaveTickets r self.new.runs self.new.bindings) }
+        ensures expected { arrivals_to_come self.new.bindings ≤ book.new.expected }
+    {
+        self.index.lists.reserve_up_to(r + 1)?;
+        let bindings = requested.with_lists(alloc, &mut self.index.lists, r)?;
+        expect(book, &bindings)?;
+        forgo(book, &self.bindings[r]);
+        offer_run(&mut self.index.lists, &bindings, r, &next);
+        self.active.mark(r);
+        put_at(&mut self.runs, r, next);
+        put_at(&mut self.bindings, r, bindings);
+        Ok(())
+    }
+
+    /// The next attempt of run `r`, with its bindings.
+    fn next_attempt(&self, alloc: Global, r: usize) -> Result<Option<(Run, RunBindings)>, Refusal>
+        requires { IfSome (run_at self.now.runs r) (λ run. run.attempt < last_attempt) }
+        ensures err { ErrsOnlyByMemory result }
+        ensures next { IfOk result (λ found. option_map (λ it. it.0) found ≡ option_map again (run_at self.now.runs r)) }
+        ensures says { IfOk result (λ found. IfSome found (λ it. RunSays (record {
+          event = it.0.admitted;
+          run_id = decimal (r + 1);
+          run_number = decimal (run_number (events self.now.runs) r it.0.admitted);
+          run_attempt = decimal it.0.attempt;
+        }) it.1)) }
+        ensures begun { IfOk result (λ found. IfSome found (λ it. IsBegunBelow 0 it.0 it.1)) }
+    {
+        let Some(run) = self.run(r) else {
+            return Ok(None);
+        };
+        let Some(number) = self.number(r) else {
+            return Ok(None);
+        };
+        let next = run.again(alloc)?;
+        let requested = RunBindings::bind(alloc, &next, r + 1, number)?;
+        Ok(Some((next, requested)))
+    }
+}
+
+/// Replaces the item at index `i`.
+fn put_at<T: Drop>(items: &mut Vec<T>, i: usize, item: T)
+    requires { i < vec_len items.old }
+    ensures items { items.new.items ≡ slice_set items.old.items i item }
+    ensures len { vec_len items.new ≡ vec_len items.old }
+{
+    items[i] = item;
+}
+
+/// Lets go of the memory for arrivals that will not come.
+fn forgo(book: &mut Book<Holder>, bindings: &RunBindings)
+    requires { arrivals_of bindings.now.keys ≤ book.old.expected }
+    ensures entries { book.new.entries ≡ book.old.entries }
+    ensures expected { book.old.expected ≤ book.new.expected + arrivals_of bindings.now.keys }
+{
+    if let Some(arrivals) = bindings.keys.arrivals() {
+        book.forgo(arrivals);
+    }
+}
