@@ -2,6 +2,7 @@
 -- of each kind.
 use Rattle.std.specs.Prelude.{◌≡◌, ℕ, ◌-◌, ◌<◌, List, [], ◌∷◌, ◌++◌, true, false, length, Option, Some, None, IfSome, refl}
 use Rattle.std.proofs.Common.{ap, sym, ◌∙◌, subst}
+use Rattle.std.proofs.lemmas.Option.{slice_get_within}
 use Rattle.run_plan.specs.Admitted.{Admitted}
 use Rattle.run_plan.specs.declared.command.Attempt.{Attempt}
 use Rattle.run_plan.specs.declared.command.Done.{Done as Reported}
@@ -17,6 +18,7 @@ use Rattle.run_table.specs.Step.{entered, entered_again, report_answer, rerun_an
 use Rattle.run_states.specs.NewRun.{again, leased_leg, new_run}
 use Rattle.run_states.specs.StopMoves.{with_ended}
 use Rattle.run_states.specs.Stops.{outcome_of_loss, stopped_run}
+use Rattle.run_states.specs.declared.phases.RunPhase.TheVariants as run
 use Rattle.run_table.specs.TableState.{RunnerState, TableState}
 use Rattle.run_states.specs.RunState.{RunState}
 use Rattle.run_table.specs.SequenceNumbers.{runner_named}
@@ -125,6 +127,24 @@ may_begin t requested runs place due runs_are place_is =
     let begins = begins_again t requested due in
     subst (λ (o : Option RunState). IfSome o (λ x. x.attempt < 1000))
     (sym (ap (run_at runs) place_is ∙ ap (λ (rs : List RunState). run_at rs (requested.run - 1)) runs_are ∙ begins.there)) begins.below
+
+-- it has ended, and all runs are sound
+pub may_begin_again : (t : TableState) (requested : Attempt) (runs : List RunState) (place : ℕ) → rerun_answer t requested ≡ None → runs ≡ t.runs
+    → place ≡ requested.run - 1 → IfSome (run_at runs place) (λ x. x.phase ≡ run.Ended)
+may_begin_again t requested runs place due runs_are place_is =
+    let begins = begins_again t requested due in
+    subst (λ (o : Option RunState). IfSome o (λ x. x.phase ≡ run.Ended))
+    (sym (ap (run_at runs) place_is ∙ ap (λ (rs : List RunState). run_at rs (requested.run - 1)) runs_are ∙ begins.there)) begins.ended
+
+pub begins_within : (t : TableState) (requested : Attempt) (runs : List RunState) (place : ℕ) → rerun_answer t requested ≡ None → runs ≡ t.runs
+    → place ≡ requested.run - 1 → place < length runs
+begins_within t requested runs place due runs_are place_is =
+    let begins = begins_again t requested due in
+    slice_get_within runs place begins.was
+    (ap (run_at runs) place_is ∙ ap (λ (rs : List RunState). run_at rs (requested.run - 1)) runs_are ∙ begins.there)
+
+pub sound_as_they_are : (t : TableState) (runs : List RunState) → IsSound t → runs ≡ t.runs → RunsAreSound runs
+sound_as_they_are t runs s runs_are = subst RunsAreSound (sym runs_are) (sound_runs t.runs (table_fits t s))
 
 -- runs among which it has begun again
 pub record Begun (t : TableState) (requested : Attempt) (begun : List RunState) (place : ℕ) : Type 0 where

@@ -1,11 +1,12 @@
 -- The leg of a lease in a sound table: a leg that has the lease is the only one, and its index is small.
-use Rattle.std.specs.Prelude.{◌≡◌, ℕ, ◌<◌, ◌^◌, List, Bool, true, false, Option, Some, None, refl}
+use Rattle.std.specs.Prelude.{◌≡◌, ℕ, ◌<◌, ◌^◌, IfSome, List, Bool, true, false, Option, Some, None, refl}
 use Rattle.std.specs.Option.{option_map_or}
 use Rattle.std.proofs.Common.{arith, ap, sym, ◌∙◌}
 use Rattle.std.proofs.lemmas.Bool.{true≢false}
-use Rattle.std.proofs.lemmas.Option.{slice_get_within}
+use Rattle.std.proofs.lemmas.Option.{same_Some, slice_get_within}
 use Rattle.wf_value.specs.declared.outcome.Outcome.{Outcome}
-use Rattle.run_states.specs.Fitting.{has_lease, place_of_lease}
+use Rattle.run_states.specs.Fitting.{OnlyAtWork, has_lease, place_of_lease}
+use Rattle.run_states.specs.Parallel.{is_at_work}
 use Rattle.run_states.specs.Places.{leg_at, leg_places}
 use Rattle.run_states.specs.declared.place.LegPlace.{LegPlace}
 use Rattle.run_states.specs.RunState.{LegState, RunState}
@@ -50,6 +51,21 @@ leg_below t lease p s has =
     let few = legs_few t s p.run p.job at.job (job_in_run t.runs p.run p.job at.place.run at.place.run_is ∙ at.place.job_is) in
     let within = slice_get_within at.job.legs p.leg this.value at.leg_is in
     omega (arith, few, within)
+
+-- a runner is at work on it
+pub held_is_at_work : (runs : List RunState) (lease : ℕ) → OnlyAtWork runs lease
+    → IfSome (place_of_lease runs lease) (λ p. IfSome (leg_at runs p) (λ z. is_at_work z.phase ≡ true))
+held_is_at_work runs lease work = by (place_of_lease runs lease) refl
+  where
+    at_it : (p : LegPlace) (this : From (λ (y : LegState). y.lease) (leg_at runs p) lease) → (o : Option LegState) → leg_at runs p ≡ o
+        → IfSome o (λ z. is_at_work z.phase ≡ true)
+    at_it p this None at = tt
+    at_it p this (Some z) at =
+        work p z at (ap (λ (y : LegState). y.lease) (same_Some z this.value (sym at ∙ this.is)) ∙ this.gives)
+
+    by : (o : Option LegPlace) → place_of_lease runs lease ≡ o → IfSome o (λ p. IfSome (leg_at runs p) (λ z. is_at_work z.phase ≡ true))
+    by None none = tt
+    by (Some p) found = at_it p (with_it runs lease p (find_passes (has_lease_at runs lease) (leg_places runs) p found)) (leg_at runs p) refl
 
 -- ---- the leg ends
 

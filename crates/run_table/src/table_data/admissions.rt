@@ -8,7 +8,7 @@ ghost use Rattle.run_table.specs.Step.{admission_answer, admitted, admitting, is
 
 use crate::table_data::{TableData, id_of, refused};
 use run_plan::{Prepared, Reply};
-use run_states::{Holder, MAX_RUNS, Run};
+use run_states::{MAX_RUNS, Run};
 use std::alloc::Global;
 use wf_value::{Code, Refusal};
 
@@ -37,9 +37,7 @@ impl TableData {
     {
         let place = self.runs.len();
         let run = Run::of_event(alloc, prepared)?;
-        self.runs.add(alloc, run)?;
-        let start = self.runs.resume_at_arrival(place);
-        self.runs.arrive(&Holder::Run(place));
+        let start = self.runs.admit(alloc, run)?;
         self.runs.settle_from(start);
         Ok(Reply::Created(id_of(place)))
     }

@@ -17,7 +17,7 @@ use crate::runner::{Runner, holds_lease};
 use crate::sequence_numbers::answer_to_claim;
 use crate::table_data::{TableData, refused, with_copy};
 use run_plan::{BoxedLease, Claim, ClaimReply, LAST_NUMBER, Number, Reply};
-use run_states::{Leg, LegPlace};
+use run_states::LegPlace;
 use std::alloc::Global;
 use wf_value::{Code, Refusal, TryCopy};
 use workflow_runs::fit::first_fit;
@@ -107,7 +107,7 @@ impl TableData {
         let (runner, lease_reply, copy) = runner_and_replies(alloc, claim, &self.runs, leg, lease)?;
         self.runners.put(place, runner)?;
         self.last_lease = lease.get();
-        self.runs.set_leg(leg, Leg::leased(lease));
+        self.runs.lease(leg, lease);
         self.runs.settle();
         Ok((Reply::Lease(lease_reply), Reply::Lease(copy)))
     }

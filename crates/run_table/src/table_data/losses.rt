@@ -3,7 +3,6 @@
 ghost use Rattle.std.specs.Prelude.{◌≡◌, true, Ok, OnErr, IsOk};
 ghost use Rattle.wf_value.specs.Gives.{Gives};
 ghost use Rattle.run_states.specs.Fitting.{OnlyAtWork};
-ghost use Rattle.run_states.specs.Groups.{HasOneEach};
 ghost use Rattle.run_table.specs.Sound.{IsSound};
 ghost use Rattle.run_states.specs.SoundRuns.{RunsAreSound};
 ghost use Rattle.run_table.specs.Step.{is_allocation_free, losing, loss_answer, lost, outcome};
@@ -43,7 +42,6 @@ impl TableData {
         requires place { place ≡ place_named self.old.runners runner.name }
         requires work { OnlyAtWork self.old.runs lease }
         requires ends { RunsAreSound (with_ended lease (outcome_of_loss self.old.runs lease) self.old.runs) }
-        requires one_each { HasOneEach (with_ended lease (outcome_of_loss self.old.runs lease) self.old.runs) }
         ensures step { Gives (λ reply. (self.new, reply)) result (Ok (outcome (losing self.old runner lease))) }
         ensures err { OnErr result (self.new ≡ self.old) }
     {

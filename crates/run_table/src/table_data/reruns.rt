@@ -7,7 +7,7 @@ ghost use Rattle.run_table.specs.Step.{answer_of_attempt, answer_of_next, is_all
 
 use crate::table_data::{TableData, place_of, refused};
 use run_plan::{Attempt, Reply};
-use run_states::{Holder, LAST_ATTEMPT, Run, RunPhase};
+use run_states::{LAST_ATTEMPT, Run, RunPhase};
 use std::alloc::Global;
 use wf_value::{Code, Refusal};
 
@@ -25,7 +25,6 @@ impl TableData {
         }
         let place = place_of(requested.run);
         self.runs.rerun(alloc, place)?;
-        self.runs.arrive(&Holder::Run(place));
         self.runs.settle();
         Ok(Reply::Again(*requested))
     }

@@ -3,8 +3,12 @@ use Rattle.std.proofs.Common.{ap, ◌∙◌}
 use Rattle.run_table.specs.TableState.{TableState}
 use Rattle.run_states.specs.Places.{with_run}
 use Rattle.run_states.specs.Stops.{stopped_run}
-use Rattle.run_table.proofs.BeforeSettling.{so_settles, stopped_may_settle}
+use Rattle.run_table.proofs.BeforeSettling.{so_settles, sound_as_they_are, stopped_may_settle}
 use Rattle.run_table.proofs.table_data.TableData.cancel.Goals as goal
+
+pub stop-requires : goal.stop-requires
+stop-requires c =
+    sound_as_they_are c.args.self.now c.self.inside.runs c.requires (ap (λ (s : TableState). s.runs) c.self.view_is)
 
 pub settle-requires : goal.settle-requires
 settle-requires c =
@@ -14,4 +18,4 @@ settle-requires c =
     (c.stop.ensures ∙ ap (λ n. with_run n stopped_run c.self.inside.runs) c.place_of.ensures
     ∙ ap (λ (s : TableState). with_run (c.args.id - 1) stopped_run s.runs) c.self.view_is)
     (stopped_may_settle t (c.args.id - 1) c.requires) in
-    record { sound = may.sound; one_each = may.one_each }
+    may.sound

@@ -1,13 +1,16 @@
-use Rattle.std.specs.Prelude.{◌≡◌, List}
+use Rattle.std.specs.Prelude.{◌≡◌, IfSome, List, Option, true}
 use Rattle.std.proofs.Common.{ap, sym, subst, ◌∙◌}
-use Rattle.run_states.specs.Groups.{HasOneEach}
+use Rattle.run_states.specs.Parallel.{is_at_work}
+use Rattle.run_states.specs.Places.{leg_at}
 use Rattle.run_states.specs.SoundRuns.{RunsAreSound}
 use Rattle.run_states.specs.StopMoves.{with_ended}
 use Rattle.run_states.specs.Stops.{outcome_of_loss}
+use Rattle.run_states.specs.declared.place.LegPlace.{LegPlace}
 use Rattle.run_table.specs.TableState.{TableState}
 use Rattle.run_table.specs.PlaceNamed.{place_named}
 use Rattle.run_states.specs.RunState.{RunState}
-use Rattle.run_table.proofs.LegHeld.{ended_at}
+use Rattle.run_table.proofs.BeforeSettling.{sound_as_they_are}
+use Rattle.run_table.proofs.LegHeld.{ended_at, held_is_at_work}
 use Rattle.run_table.proofs.table_data.TableData.end_lost.Goals as goal
 use Rattle.run_table.proofs.table_data.TableData.end_lost.Goals.{After-end}
 
@@ -22,10 +25,17 @@ ended c =
     (ap (λ (s : TableState). s.runs) c.self.view_is) c.leg_held-leg.ensures.found c.end.ensures
     ∙ ap (λ o. with_ended c.args.lease o c.args.self.now.runs) c.outcome_of_loss-outcome.ensures
 
-pub settle-requires-clause-sound : goal.settle-requires-clause-sound
-settle-requires-clause-sound c =
-    subst (λ (xs : List RunState). RunsAreSound xs) (sym (ended (goal.at.settle-requires-clause-sound c).After-end)) c.requires.ends
+pub end-requires-clause-sound : goal.end-requires-clause-sound
+end-requires-clause-sound c =
+    sound_as_they_are c.args.self.now c.self.inside.runs c.requires.sound (ap (λ (t : TableState). t.runs) c.self.view_is)
 
-pub settle-requires-clause-one_each : goal.settle-requires-clause-one_each
-settle-requires-clause-one_each c =
-    subst (λ (xs : List RunState). HasOneEach xs) (sym (ended (goal.at.settle-requires-clause-one_each c).After-end)) c.requires.one_each
+pub end-requires-clause-work : goal.end-requires-clause-work
+end-requires-clause-work c =
+    let t = c.args.self.now in
+    subst (λ (runs : List RunState). IfSome c.leg_held-leg.result (λ p. IfSome (leg_at runs p) (λ z. is_at_work z.phase ≡ true)))
+    (sym (ap (λ (s : TableState). s.runs) c.self.view_is))
+    (subst (λ (o : Option LegPlace). IfSome o (λ p. IfSome (leg_at t.runs p) (λ z. is_at_work z.phase ≡ true)))
+    (sym c.leg_held-leg.ensures.found) (held_is_at_work t.runs c.args.lease c.requires.work))
+
+pub settle-requires : goal.settle-requires
+settle-requires c = subst (λ (xs : List RunState). RunsAreSound xs) (sym (ended (goal.at.settle-requires c).After-end)) c.requires.ends

@@ -1,29 +1,35 @@
-use Rattle.std.proofs.Common.{ap, sym}
+use Rattle.std.proofs.Common.{◌≡◌, [], ◌∷◌, ◌++◌, true, ap, refl, subst, sym, ◌∙◌}
+use Rattle.run_states.specs.Arrivals.{arrived}
+use Rattle.run_states.specs.Groups.{run_waits}
+use Rattle.run_states.specs.Resuming.{resume_at_arrival}
+use Rattle.run_states.specs.RunState.{RunState}
+use Rattle.run_states.specs.declared.holder.Holder.TheVariants.{Run}
 use Rattle.run_table.specs.TableState.{TableState}
-use Rattle.run_table.proofs.BeforeSettling.{Enters, entering_arrives, entering_settles, enters}
+use Rattle.run_table.proofs.BeforeSettling.{entering_arrives, entering_settles, enters}
 use Rattle.run_table.proofs.EnteredRests.{entering_rests}
 use Rattle.run_table.proofs.table_data.TableData.enter.Goals as goal
-use Rattle.run_table.proofs.table_data.TableData.enter.Goals.{In_ok-add}
 use Rattle.wf_value.proofs.PassedOn.{same_Ok}
 
 -- the run comes after those of the table
-entered : (c : In_ok-add) → Enters c.args.self.now c.args.prepared.now c.add.new.self c.len-place.result
-entered c =
-    enters c.args.self.now c.args.prepared.now c.self.inside.runs c.add.new.self c.in_ok-run.run' c.len-place.result c.requires.sound
-    (ap (λ (t : TableState). t.runs) c.self.view_is) (sym (same_Ok _ _ c.in_ok-add.ensures.added)) (sym (same_Ok _ _ c.in_ok-run.ensures))
-    c.len-place.ensures.len
+pub admit-requires-clause-sound : goal.admit-requires-clause-sound
+admit-requires-clause-sound c =
+    let so = enters c.args.self.now c.args.prepared.now c.self.inside.runs (c.self.inside.runs ++ c.in_ok-run.run' ∷ []) c.in_ok-run.run'
+    c.len-place.result c.requires.sound (ap (λ (t : TableState). t.runs) c.self.view_is) refl (sym (same_Ok _ _ c.in_ok-run.ensures))
+    c.len-place.ensures.len in
+    (entering_arrives so).sound
 
-pub arrive-requires : goal.arrive-requires
-arrive-requires c =
-    let may = entering_arrives (entered (goal.at.arrive-requires c).In_ok-add) in
-    record { waits = may.is_pending; sound = may.sound; one_beside = may.one_beside }
+-- it is new, so it waits
+pub admit-requires-clause-waits : goal.admit-requires-clause-waits
+admit-requires-clause-waits c = subst (λ (x : RunState). run_waits x.phase ≡ true) (same_Ok _ _ c.in_ok-run.ensures) refl
 
 pub settle_from-requires : goal.settle_from-requires
 settle_from-requires c =
-    let so = entered (goal.at.settle_from-requires c).In_ok-add in
-    let may = entering_settles so c.arrive.new.self c.arrive.ensures in
+    let added = c.self.inside.runs ++ c.in_ok-run.run' ∷ [] in
+    let so = enters c.args.self.now c.args.prepared.now c.self.inside.runs added c.in_ok-run.run' c.len-place.result c.requires.sound
+    (ap (λ (t : TableState). t.runs) c.self.view_is) refl (sym (same_Ok _ _ c.in_ok-run.ensures)) c.len-place.ensures.len in
+    let has_arrived = sym (same_Ok _ _ c.in_ok-start.ensures.admitted) ∙ ap (λ n. (arrived (Run n) added).runs) (sym c.len-place.ensures.len) in
     record {
-      sound = may.sound;
-      one_each = may.one_each;
-      rest = entering_rests so c.arrive.new.self c.resume_at_arrival-start.result c.arrive.ensures c.resume_at_arrival-start.ensures;
+      sound = (entering_settles so c.admit.new.self has_arrived).sound;
+      rest = entering_rests so c.admit.new.self c.in_ok-start.start has_arrived
+          (c.in_ok-start.ensures.start ∙ ap (resume_at_arrival added) (sym c.len-place.ensures.len));
     }

@@ -1,18 +1,22 @@
-use Rattle.std.proofs.Common.{◌≡◌, ◌<◌, ap, length, refl, subst, sym, ◌∙◌, Ok}
+use Rattle.std.specs.Option.{option_map_or}
+use Rattle.std.proofs.Common.{◌≡◌, ◌<◌, List, false, ap, length, refl, subst, sym, ◌∙◌, Ok}
 use Rattle.std.proofs.lemmas.Option.{slice_get_within}
 use Rattle.run_plan.specs.declared.reply.Lease.{Lease as Leased}
 use Rattle.run_plan.specs.declared.reply.Reply.TheVariants as reply
 use Rattle.run_states.specs.Places.{with_leg}
 use Rattle.run_table.specs.Step.{lease_at}
+use Rattle.run_states.specs.Groups.{holds, leg_holds}
 use Rattle.run_states.specs.NewRun.{leased_leg}
+use Rattle.run_states.specs.RunState.{LegState, RunState}
+use Rattle.run_states.specs.declared.holder.Holder.TheVariants.{Leg}
 use Rattle.run_table.specs.TableState.{RunnerState, TableState}
 use Rattle.run_table.specs.PlaceNamed.{place_named}
 use Rattle.run_states.proofs.JobKeeps.{leg_in}
 use Rattle.run_table.proofs.ClaimKeeps.{fitting_leg}
 use Rattle.run_table.proofs.Leased.{leased_table}
-use Rattle.run_table.proofs.BeforeSettling.{leased_may_settle, so_settles}
+use Rattle.run_table.proofs.BeforeSettling.{leased_may_settle, so_settles, sound_as_they_are}
 use Rattle.run_table.proofs.table_data.TableData.lease.Goals as goal
-use Rattle.run_table.proofs.table_data.TableData.lease.Goals.{After-set_leg}
+use Rattle.run_table.proofs.table_data.TableData.lease.Goals.{After-lease}
 use Rattle.wf_value.proofs.PassedOn.{same_Ok}
 
 pub put-requires : goal.put-requires
@@ -28,12 +32,23 @@ runner_and_replies-requires-clause-there c =
     let place = (leg_in t.runs p ready.leg_of ready.is).place in
     subst (λ (s : TableState). p.run < length s.runs) (sym c.self.view_is) (slice_get_within t.runs p.run place.run place.run_is)
 
+-- it is ready, so it holds its group
+pub lease-requires : goal.lease-requires
+lease-requires c =
+    let t = c.args.self.now in
+    let runs_are : c.self.inside.runs ≡ t.runs = ap (λ (s : TableState). s.runs) c.self.view_is in
+    let ready = fitting_leg c.args.claim.now.labels t.runs c.args.leg c.requires.fits in
+    record {
+      sound = sound_as_they_are t c.self.inside.runs c.requires.sound runs_are;
+      holds = ap (λ (runs : List RunState). holds runs (Leg c.args.leg)) runs_are
+          ∙ ap (λ o. option_map_or (λ (x : LegState). leg_holds x.phase) o false) ready.is ∙ ap leg_holds ready.ready;
+    }
+
 -- the leg has the new lease
-moved : (c : After-set_leg)
-    → c.set_leg.new.self ≡ with_leg c.args.leg (λ _. leased_leg c.new-lease.result) c.self.inside.runs
+moved : (c : After-lease)
+    → c.lease.new.self ≡ with_leg c.args.leg (λ _. leased_leg c.new-lease.result) c.self.inside.runs
 moved c =
-    c.set_leg.ensures
-    ∙ ap (λ x. with_leg c.args.leg (λ _. x) c.self.inside.runs) c.leased.ensures
+    c.lease.ensures
 
 pub returns-clause-step : goal.returns-clause-step
 returns-clause-step c =
@@ -41,9 +56,9 @@ returns-clause-step c =
     ap Ok
     (leased_table c.self.inside.last_lease c.self.inside.runs c.self.inside.runners c.args.self.now c.args.claim.now c.args.leg
     c.new-lease.result c.get-self-inside.result lease_reply c.in_ok-runner.runner
-    c.put.new.self c.set_leg.new.self c.settle.new.self c.self.view_is c.new-lease.ensures
+    c.put.new.self c.lease.new.self c.settle.new.self c.self.view_is c.new-lease.ensures
     c.get-self-inside.ensures.value refl (sym c.in_ok-runner.ensures.runner) (same_Ok _ _ c.in_ok-put.ensures.put)
-    (moved (goal.at.returns-clause-step c).After-set_leg) c.settle.ensures
+    (moved (goal.at.returns-clause-step c).After-lease) c.settle.ensures
     ∙ ap (λ (l : Leased). (
       record { last_lease = c.get-self-inside.result; runs = c.settle.new.self; runners = c.put.new.self },
       reply.Lease l,
@@ -53,7 +68,7 @@ pub settle-requires : goal.settle-requires
 settle-requires c =
     let leased = λ (t : TableState). with_leg c.args.leg (λ _. leased_leg c.new-lease.result) t.runs in
     let may =
-    so_settles (leased c.args.self.now) c.set_leg.new.self
-    (moved (goal.at.settle-requires c).After-set_leg ∙ ap leased c.self.view_is)
+    so_settles (leased c.args.self.now) c.lease.new.self
+    (moved (goal.at.settle-requires c).After-lease ∙ ap leased c.self.view_is)
     (leased_may_settle c.args.self.now c.args.claim.now.labels c.args.leg c.new-lease.result c.requires.sound c.requires.fits) in
-    record { sound = may.sound; one_each = may.one_each }
+    may.sound

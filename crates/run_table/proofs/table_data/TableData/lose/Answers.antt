@@ -26,5 +26,4 @@ end_lost-requires c =
           ∙ ap (λ (n : List ℕ). place_named c.args.self.now.runners n) same;
       work = held_at_work c.args.self.now name c.in-Some.runner.now c.in-Some-holds.lease c.requires named holds;
       ends = may.sound;
-      one_each = may.one_each;
     }
