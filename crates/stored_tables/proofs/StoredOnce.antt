@@ -24,6 +24,7 @@ use Rattle.stored_tables.specs.Stored.{StoredRunner, StoredTable, stored_place}
 use Rattle.stored_tables.specs.TableOf.{AreRunnersAs, IsLastAs, IsLeaseAs, IsNoTable, IsPlacedAs, IsReplyAs, IsRunnerAs, IsStoredAs}
 use Rattle.run_states.specs.AsPlanned.{AreAsPlanned, HasRoom}
 use Rattle.run_table.specs.TableState.{RunnerState, TableState}
+use Rattle.run_states.specs.Groups.{HasOneEach}
 use Rattle.run_states.specs.RunState.{LegState, RunState}
 use Rattle.run_table.specs.SequenceNumbers.{names_rise}
 use Rattle.stored_tables.specs.declared.parts.LastParts.{LastParts}
@@ -191,9 +192,10 @@ as_planned t s = record {
 -- ---- the table of the parts
 
 module _ (parts : StoredTable) where
-  -- there is none if the runs are not as planned
-  pub none_planned : (AreAsPlanned parts.runs → ⊥) → IsNoTable parts
-  none_planned not_planned t is = not_planned (subst AreAsPlanned is.runs (as_planned t is.is_sound))
+  -- there is none if the runs are not as planned, or two wait or are in progress in a group
+  pub none_planned : (AreAsPlanned parts.runs → HasOneEach parts.runs → ⊥) → IsNoTable parts
+  none_planned not_planned t is =
+      not_planned (subst AreAsPlanned is.runs (as_planned t is.is_sound)) (subst HasOneEach is.runs is.is_sound.one_of_each_group)
 
   module _ (last : ℕ) (runs : List RunState) (last_is : last ≡ parts.last_lease) (runs_are : runs ≡ parts.runs) where
     -- the runners of a table of the parts are those of its last lease and its runs
@@ -220,3 +222,19 @@ module _ (parts : StoredTable) where
     pub none_listed : ((runners : List RunnerState) → AreRunnersAs last runs parts.runners runners → names_rise runners ≡ true → ⊥)
         → IsNoTable parts
     none_listed none t is = none t.runners (runners_are t is) is.is_sound.runners_in_order
+
+-- ---- the table that is made
+
+pub stored_as : (parts : StoredTable) (last : ℕ) (runs next : List RunState) (runners seen : List RunnerState) (t : TableState)
+    → t ≡ record { last_lease = last; runs = next; runners = runners } → next ≡ runs → seen ≡ runners
+    → IsSound (record { last_lease = last; runs = runs; runners = seen }) → last ≡ parts.last_lease → runs ≡ parts.runs
+    → AreRunnersAs last runs parts.runners runners → IsStoredAs parts t
+stored_as parts last runs next runners seen t is same_runs same_runners sound of_last of_runs its =
+    let made : TableState = record { last_lease = last; runs = runs; runners = runners } in
+    let here : IsStoredAs parts made = record {
+      is_sound = subst (λ (rs : List RunnerState). IsSound (record { last_lease = last; runs = runs; runners = rs })) same_runners sound;
+      last_lease = of_last;
+      runs = of_runs;
+      runners = its;
+    } in
+    subst (IsStoredAs parts) (sym (is ∙ ap (λ (rs : List RunState). record { last_lease = last; runs = rs; runners = runners }) same_runs)) here

@@ -20,7 +20,7 @@ impl TableParts {
         ensures err { ErrsOnlyByMemory result }
         ensures of { IfOk result (λ found. MatchOption found (IsNoTable self.now) (λ table. IsStoredAs self.now table)) }
     {
-        let Some(runs) = Runs::of_parts(alloc, self.runs.as_slice())? else {
+        let Some(mut runs) = Runs::of_parts(alloc, self.runs.as_slice())? else {
             return Ok(None);
         };
         let legs = legs_by_lease(alloc, &runs)?;
@@ -31,7 +31,7 @@ impl TableParts {
         };
         let held = runners_by_lease(alloc, runners.as_slice())?;
         let leases = Leases { last, legs, held };
-        if !is_sound(alloc, &leases, &runs, runners.as_slice())? {
+        if !is_sound(&leases, &mut runs, runners.as_slice()) {
             return Ok(None);
         }
         Ok(Some(Table::of_sound(last, runs, runners)))
