@@ -1,50 +1,15 @@
--- The holders of a group and the runs and legs that wait for it, among the claims; and adding one claim.
-use Rattle.std.proofs.Common.{◌≡◌, ◌∙◌, ℕ, zero, suc, ◌+◌, ◌<◌, List, [], ◌∷◌, ◌++◌, length, map, take, get_or, refl, sym, ap, arith, append_assoc}
-use Rattle.std.specs.Prelude.{Bool, true, ◌&&◌, ◌||◌, find, filter_map, Option, Some, None, option_map}
+-- Adding the claim of one more run or leg.
+use Rattle.std.proofs.Common.{◌≡◌, ◌∙◌, ℕ, zero, suc, ◌+◌, ◌<◌, List, [], ◌∷◌, ◌++◌, length, map, take, get_or, sym, ap, arith, append_assoc}
+use Rattle.std.specs.Prelude.{filter_map, Option}
 use Rattle.std.proofs.lemmas.List.Elements.{filter_map-append}
-use Rattle.group_name.specs.Group.{Group, same_group}
+use Rattle.group_name.specs.Group.{Group}
 use Rattle.run_states.specs.FirstOf.{placed}
-use Rattle.run_states.specs.Groups.{all_holders, holds, is_in, is_pending_in, is_in_progress_in, waits}
 use Rattle.run_states.specs.declared.place.LegPlace.{LegPlace}
 use Rattle.run_states.specs.RunState.{RunState}
-use Rattle.table_views.specs.Claims.{claim_of, claims_of, said}
-use Rattle.table_views.specs.declared.claim.GroupClaim.{GroupClaim}
-use Rattle.table_views.proofs.Found.{find_seen, found_of_claims, holds_in_use, waits_in_use}
+use Rattle.table_views.specs.Claims.{claim_of}
 use Rattle.table_views.proofs.Placing.{one_place_more}
 use Rattle.run_states.specs.declared.holder.Holder.{Holder}
 use Rattle.run_states.specs.declared.holder.Holder.TheVariants.{Run, Leg}
-
--- ---- the holder that is found
-
-seen_twice : (o : Option GroupClaim)
-    → option_map (λ (c : GroupClaim). c.holder) o ≡ option_map (λ (p : Group × Holder). p.1) (option_map said o)
-seen_twice None = refl
-seen_twice (Some c) = refl
-
-found_said : (runs : List RunState) (g : Group) (test : Holder → Bool) (claims : List GroupClaim) (o : Option GroupClaim)
-    → ((h : Holder) → test h ≡ true → (waits runs h || holds runs h) ≡ true) → map said claims ≡ claims_of runs
-    → o ≡ find (λ c. same_group g c.group && test c.holder) claims
-    → option_map (λ (c : GroupClaim). c.holder) o ≡ find (λ h. is_in runs g h && test h) (all_holders runs)
-found_said runs g test claims o means is found =
-    let requested : Group × Holder → Bool = λ c. same_group g c.0 && test c.1 in
-    seen_twice o
-    ∙ ap (λ x. option_map (λ (p : Group × Holder). p.1) (option_map said x)) found
-    ∙ ap (option_map (λ (p : Group × Holder). p.1)) (sym (find_seen requested said claims) ∙ ap (find requested) is)
-    ∙ found_of_claims runs g test (all_holders runs) means
-
-pub in_progress_said : (runs : List RunState) (g : Group) (claims : List GroupClaim) (o : Option GroupClaim) → map said claims ≡ claims_of runs
-    → o ≡ find (λ c. same_group g c.group && holds runs c.holder) claims
-    → option_map (λ (c : GroupClaim). c.holder) o ≡ find (is_in_progress_in runs g) (all_holders runs)
-in_progress_said runs g claims o is found =
-    found_said runs g (holds runs) claims o (λ h e. holds_in_use (waits runs h) (holds runs h) e) is found
-
-pub pending_said : (runs : List RunState) (g : Group) (claims : List GroupClaim) (o : Option GroupClaim) → map said claims ≡ claims_of runs
-    → o ≡ find (λ c. same_group g c.group && waits runs c.holder) claims
-    → option_map (λ (c : GroupClaim). c.holder) o ≡ find (is_pending_in runs g) (all_holders runs)
-pending_said runs g claims o is found =
-    found_said runs g (waits runs) claims o (λ h e. waits_in_use (waits runs h) (holds runs h) e) is found
-
--- ---- adding one claim
 
 pub run_claimed : (runs : List RunState) (r : ℕ) (old new : List (Group × Holder)) → r < length runs
     → old ≡ filter_map (claim_of runs) (map (λ (x : ℕ × RunState). Run x.0) (placed (take r runs)))

@@ -1,6 +1,7 @@
+pub mod Ascending
 pub mod Claimed
 pub mod Distinct
-pub mod Found
+pub mod FirstOfGroup
 pub mod GroupsOnce
 pub mod JobsLeft
 pub mod Joined

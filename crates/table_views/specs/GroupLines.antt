@@ -4,7 +4,7 @@
 use Rattle.std.specs.Prelude.{ℕ, ◌+◌, List, [], ◌∷◌, ◌++◌, ◌||◌, filter_map, flat_map, codes, decimal, not, if◌then◌else◌, Option, Some, None}
 use Rattle.std.specs.List.{filter}
 use Rattle.group_name.specs.Group.{Group, same_group}
-use Rattle.group_name.specs.Order.{name_bytes, repository_bytes}
+use Rattle.group_name.specs.KeyTexts.{name_bytes, repository_bytes}
 use Rattle.run_states.specs.GroupOf.{group_at}
 use Rattle.run_states.specs.Groups.{all_holders, group_state, holds, waits}
 use Rattle.run_states.specs.RunState.{RunState}

@@ -3,7 +3,7 @@
 use Rattle.std.specs.Prelude.{◌≡◌, ℕ, ◌+◌, ◌-◌, List, [], ◌∷◌, ◌++◌, ◌&&◌, codes, decimal, filter_map, length, map, Bool, Option, Some, None, if◌then◌else◌}
 use Rattle.std.specs.Option.{option_and_then}
 use Rattle.group_name.specs.Group.{Group}
-use Rattle.group_name.specs.Order.{name_bytes, repository_bytes}
+use Rattle.group_name.specs.KeyTexts.{name_bytes, repository_bytes}
 use Rattle.run_states.specs.Groups.{holds}
 use Rattle.run_states.specs.RunState.{RunState}
 use Rattle.run_states.specs.declared.holder.Holder.{Holder}

@@ -1,6 +1,7 @@
 pub mod ChangeLines
 pub mod Claims
 pub mod GroupLines
+pub mod HolderOrder
 pub mod HolderPages
 pub mod Limits
 pub mod Members

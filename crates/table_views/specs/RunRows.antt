@@ -7,7 +7,7 @@ use Rattle.needs_graph.specs.Results.{conclusion_of}
 use Rattle.wf_reader.specs.Contexts.{sent_value}
 use Rattle.wf_reader.specs.Event.{event_of}
 use Rattle.run_plan.specs.Admitted.{Admitted}
-use Rattle.group_name.specs.Order.{name_bytes}
+use Rattle.group_name.specs.KeyTexts.{name_bytes}
 use Rattle.run_states.specs.GroupOf.{group_at}
 use Rattle.run_states.specs.RunState.{JobState, RunState}
 use Rattle.run_states.specs.declared.holder.Holder.TheVariants.{Run}

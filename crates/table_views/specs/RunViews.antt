@@ -2,7 +2,7 @@
 -- Actions": jobs.<job_id>.needs, .runs-on, .strategy.max-parallel, .concurrency.
 use Rattle.std.specs.Prelude.{◌≡◌, ℕ, ◌+◌, ◌-◌, List, [], ◌∷◌, ◌++◌, codes, decimal, find, length, map, nat_eq, nat_lt, slice_get, Bool, false, Option, Some, None, option_map, option_and_then, if◌then◌else◌}
 use Rattle.std.specs.Option.{option_map_or}
-use Rattle.group_name.specs.Order.{name_bytes}
+use Rattle.group_name.specs.KeyTexts.{name_bytes}
 use Rattle.run_plan.specs.PlanOf.{plan_of}
 use Rattle.run_plan.specs.ReplyText.{combo_text}
 use Rattle.run_plan.specs.declared.planned.PlannedJob.{PlannedJob}

@@ -1,16 +1,16 @@
 //! The lines of concurrency groups: which holder of each is in progress, and which is pending. GitHub Docs, "Control
 //! the concurrency of workflows and jobs".
 
-ghost use Rattle.std.specs.Prelude.{◌≡◌, ◌&&◌, ◌++◌, ◌<◌, ◌≤◌, [], ◌∷◌, IfOk, IfSome, None, Ok, OnOk, Some, codes, filter_map, find, length, map, option_copied, string_bytes, take};
-ghost use Rattle.std.specs.List.{All, list_any};
+ghost use Rattle.std.specs.Prelude.{◌≡◌, ◌||◌, ◌++◌, ◌<◌, [], ◌∷◌, IfOk, IfSome, None, Ok, OnOk, Some, codes, filter_map, find, length, map, string_bytes};
+ghost use Rattle.std.specs.List.{All};
 ghost use Rattle.stated_limits.specs.Limits.{max_runs};
 ghost use Rattle.wf_value.specs.Gives.{ErrsOnlyByMemory, Gives};
-ghost use Rattle.group_name.specs.Group.{same_group};
-ghost use Rattle.run_states.specs.Groups.{all_holders, holds, is_pending_in, is_in_progress_in, waits};
+ghost use Rattle.run_states.specs.Groups.{all_holders, is_in_progress_in, is_pending_in};
 ghost use Rattle.run_states.specs.Holders.{run_of};
 ghost use Rattle.run_states.specs.Places.{leg_places};
 ghost use Rattle.table_views.specs.Claims.{claim_of, claims_of, line_once, said};
 ghost use Rattle.table_views.specs.GroupLines.{group_in_use, group_line, group_lines, holder_text};
+ghost use Rattle.table_views.specs.HolderOrder.{is_before, is_earlier, is_place_before};
 ghost use Rattle.table_views.specs.Placed.{IsWithin};
 ghost use Rattle.table_views.specs.Texts.{line};
 ghost use Rattle.run_states.specs.declared.holder.Holder.TheVariants as held;
@@ -21,7 +21,7 @@ use crate::texts::{leg_members, leg_words, quoted};
 use group_name::GroupKey;
 use run_states::{Holder, LegPlace};
 use std::alloc::{AllocError, Global};
-use wf_value::{Refusal, Same};
+use wf_value::Refusal;
 use workflow_runs::runs::Runs;
 
 // ---- runs and legs that hold groups or wait for them
@@ -73,65 +73,6 @@ fn claims_of(alloc: Global, runs: &Runs, places: &[LegPlace]) -> Result<Vec<Grou
         push_claim(alloc, runs, &mut claims, Holder::Leg(*place))?;
     }
     Ok(claims)
-}
-
-// ---- the claims of a group
-
-/// Whether the claim is one of the group.
-fn is_of(claim: &GroupClaim, group: &GroupKey) -> bool
-    ensures { result ≡ same_group group.now claim.now.group }
-{
-    group.same(&claim.group)
-}
-
-fn claim_in_progress<'c>(
-    runs: &Runs,
-    claims: &'c [GroupClaim],
-    group: &GroupKey,
-) -> Option<&'c GroupClaim>
-    ensures { option_copied result
-        ≡ find (λ c. same_group group.now c.group && holds runs.now c.holder) claims.now }
-{
-    claims
-        .iter()
-        .find(|claim| is_of(claim, group) && runs.holds(&claim.holder))
-}
-
-fn pending_claim<'c>(
-    runs: &Runs,
-    claims: &'c [GroupClaim],
-    group: &GroupKey,
-) -> Option<&'c GroupClaim>
-    ensures { option_copied result
-        ≡ find (λ c. same_group group.now c.group && waits runs.now c.holder) claims.now }
-{
-    claims
-        .iter()
-        .find(|claim| is_of(claim, group) && runs.waits(&claim.holder))
-}
-
-/// The holder of a group that is in progress.
-fn in_progress(runs: &Runs, claims: &[GroupClaim], group: &GroupKey) -> Option<Holder>
-    requires { map said claims.now ≡ claims_of runs.now }
-    ensures holder { result ≡ find (is_in_progress_in runs.now group.now) (all_holders runs.now) }
-    ensures within { IfSome result (λ h. run_of h < max_runs) }
-{
-    match claim_in_progress(runs, claims, group) {
-        Some(claim) => Some(claim.holder),
-        None => None,
-    }
-}
-
-/// The holder of a group that is pending.
-fn pending(runs: &Runs, claims: &[GroupClaim], group: &GroupKey) -> Option<Holder>
-    requires { map said claims.now ≡ claims_of runs.now }
-    ensures holder { result ≡ find (is_pending_in runs.now group.now) (all_holders runs.now) }
-    ensures within { IfSome result (λ h. run_of h < max_runs) }
-{
-    match pending_claim(runs, claims, group) {
-        Some(claim) => Some(claim.holder),
-        None => None,
-    }
 }
 
 // ---- lines
@@ -232,20 +173,13 @@ fn group_object(
 }
 
 /// The line of a group: its repository, its case-folded name, the holder in progress, and the pending one.
-fn group_line(
-    alloc: Global,
-    form: Form,
-    runs: &Runs,
-    claims: &[GroupClaim],
-    group: &GroupKey,
-) -> Result<String, Refusal>
-    requires { map said claims.now ≡ claims_of runs.now }
+fn group_line(alloc: Global, form: Form, runs: &Runs, group: &GroupKey) -> Result<String, Refusal>
     ensures { Gives string_bytes result (Ok (group_line form runs.now group.now)) }
 {
     let repository = quoted(alloc, group.repository())?;
     let name = quoted(alloc, group.name())?;
-    let in_progress = holder_text(alloc, form, runs, in_progress(runs, claims, group))?;
-    let pending = holder_text(alloc, form, runs, pending(runs, claims, group))?;
+    let in_progress = holder_text(alloc, form, runs, runs.running(group))?;
+    let pending = holder_text(alloc, form, runs, runs.pending(group))?;
     let (repository, name) = (repository.as_str(), name.as_str());
     let (in_progress, pending) = (in_progress.as_str(), pending.as_str());
     match form {
@@ -254,12 +188,42 @@ fn group_line(
     }
 }
 
-/// Whether one of the first `count` claims is of the group.
-fn has_group(claims: &[GroupClaim], count: usize, group: &GroupKey) -> bool
-    requires { count ≤ length claims.now }
-    ensures { result ≡ list_any (λ c. same_group c.group group.now) (take count claims.now) }
+/// Whether a leg comes before another in the table.
+fn is_place_before(p: LegPlace, q: LegPlace) -> bool
+    ensures { result ≡ is_place_before p q }
 {
-    claims[..count].iter().any(|claim| claim.group.same(group))
+    p.run < q.run || (p.run == q.run && (p.job < q.job || (p.job == q.job && p.leg < q.leg)))
+}
+
+/// Whether a run or a leg comes before another in the table: all runs come before the legs.
+fn is_before(holder: &Holder, other: &Holder) -> bool
+    ensures { result ≡ is_before holder.now other.now }
+{
+    match (holder, other) {
+        (Holder::Run(r), Holder::Run(s)) => *r < *s,
+        (Holder::Run(_), Holder::Leg(_)) => true,
+        (Holder::Leg(_), Holder::Run(_)) => false,
+        (Holder::Leg(p), Holder::Leg(q)) => is_place_before(*p, *q),
+    }
+}
+
+/// Whether another holder, if there is one, comes before a run or a leg.
+fn is_earlier(holder: &Holder, other: Option<Holder>) -> bool
+    ensures { result ≡ is_earlier holder.now other }
+{
+    match other {
+        Some(other) => is_before(&other, holder),
+        None => false,
+    }
+}
+
+/// Whether an earlier claim has the same group: that of the holder in progress, or of the pending one.
+fn has_earlier_claim(runs: &Runs, claim: &GroupClaim) -> bool
+    ensures { result ≡ (is_earlier claim.now.holder (find (is_in_progress_in runs.now claim.now.group) (all_holders runs.now))
+        || is_earlier claim.now.holder (find (is_pending_in runs.now claim.now.group) (all_holders runs.now))) }
+{
+    is_earlier(&claim.holder, runs.running(&claim.group))
+        || is_earlier(&claim.holder, runs.pending(&claim.group))
 }
 
 /// The line of the group of a claim, or nothing if an earlier claim has the same group.
@@ -274,11 +238,11 @@ fn line_at(
     requires claims { map said claims.now ≡ claims_of runs.now }
     ensures { Gives string_bytes result (Ok (line_once (group_line form runs.now) (map (λ c. c.group) claims.now) i)) }
 {
-    let group = &claims[i].group;
-    if has_group(claims, i, group) {
+    let claim = &claims[i];
+    if has_earlier_claim(runs, claim) {
         return Ok(String::new(alloc));
     }
-    group_line(alloc, form, runs, claims, group)
+    group_line(alloc, form, runs, &claim.group)
 }
 
 fn lines_of(
