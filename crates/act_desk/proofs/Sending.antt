@@ -33,8 +33,10 @@ use Rattle.act_sessions.proofs.transcript.Ending.TheSendSync as ending
 use Rattle.run_states.proofs.job.Job.TheSendSync as job
 use Rattle.run_states.proofs.phases.RunPhase.TheSendSync as phase
 use Rattle.run_bindings.proofs.bindings.RunBindings.TheSendSync as bindings
-use Rattle.workflow_runs.proofs.runs.index.Index.TheSendSync as index
-use Rattle.workflow_runs.proofs.runs.marks.RunMarks.TheSendSync as marks
+use Rattle.group_book.proofs.book.Book.TheSendSync as book
+use Rattle.run_marks.proofs.marks.RunBitmap.TheSendSync as bitmap
+use Rattle.run_states.proofs.holder.Holder.TheSendSync as holder
+use Rattle.workflow_runs.proofs.rows.index.Index.TheSendSync as index
 use Rattle.run_table.proofs.runners.Runners.TheSendSync as runners
 use Rattle.run_plan.specs.contracts.command.Command.{the_row as command, enum as command_variants}
 use Rattle.run_plan.specs.contracts.reply.Reply.{the_row as reply, enum as reply_variants}
@@ -45,6 +47,8 @@ use Rattle.act_sessions.specs.contracts.transcript.LoggedExchange.{the_row as as
 use Rattle.act_sessions.specs.contracts.transcript.Transcript.{the_row as transcript, the_type as transcript_type}
 use Rattle.run_states.specs.contracts.run.Run.{the_row as run}
 use Rattle.run_states.specs.contracts.run.Run.TheInside.{the_row as run_inside, the_type as run_type}
+use Rattle.workflow_runs.specs.contracts.rows.Rows.{the_row as rows}
+use Rattle.workflow_runs.specs.contracts.rows.Rows.TheInside.{the_row as rows_inside, the_type as rows_type}
 use Rattle.workflow_runs.specs.contracts.runs.Runs.{the_row as runs}
 use Rattle.workflow_runs.specs.contracts.runs.Runs.TheInside.{the_row as runs_inside, the_type as runs_type}
 use Rattle.run_table.specs.contracts.table_data.TableData.{the_row as table_data}
@@ -157,8 +161,21 @@ transcript_send = declared_send transcript_type (search (parts, asked_send) dept
 run_send : IsSend run
 run_send = view_send run_inside _ _ _ _ (declared_send run_type (search (parts, prepared_send) depth 6, (search (parts, number.the_send) depth 6, (search (parts, phase.the_send) depth 6, (search parts depth 6, (search (parts, job.the_send) depth 10, tt))))))
 
+rows_send : IsSend rows
+rows_send =
+    view_send rows_inside _ _ _ _
+    (declared_send rows_type (
+      search (parts, run_send) depth 10,
+      (search parts depth 10, (search (parts, bindings.the_send) depth 10, (search (parts, index.the_send) depth 6, (search (parts, bitmap.the_send) depth 6, tt)))),
+    ))
+
 runs_send : IsSend runs
-runs_send = view_send runs_inside _ _ _ _ (declared_send runs_type (search (parts, run_send) depth 10, (search parts depth 10, (search (parts, bindings.the_send) depth 10, (search (parts, index.the_send) depth 6, (search (parts, marks.the_send) depth 6, (search parts depth 6, tt)))))))
+runs_send =
+    view_send runs_inside _ _ _ _
+    (declared_send runs_type (
+      search (parts, rows_send) depth 6,
+      (search (parts, book.the_send, holder.the_send) depth 10, (search (parts, bitmap.the_send) depth 6, (search parts depth 6, tt))),
+    ))
 
 table_data_send : IsSend table_data
 table_data_send = view_send table_data_inside _ _ _ _ (declared_send table_data_type (search parts depth 6, (search (parts, runs_send) depth 6, (search (parts, runners.the_send) depth 6, tt))))
