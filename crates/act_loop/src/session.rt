@@ -10,10 +10,10 @@ use crate::exchange_history::ExchangeHistory;
 use crate::pause::Pause;
 use crate::turns::take_turns;
 use act_disk::Disk;
-use act_sessions::Protocol;
+use act_sessions::{HeldBytes, Protocol};
 use act_store::Store;
 use std::alloc::Global;
-use std::marker::{Model, PhantomData};
+use std::marker::Model;
 
 /// How many requests of a client are taken at a time. The next ones wait, so that other clients are heard between.
 pub const MAX_REQUESTS: u64 = 16;
@@ -22,14 +22,13 @@ pub const MAX_REQUESTS: u64 = 16;
 #[derive(Drop)]
 pub(crate) struct Session<P: Protocol> {
     count: u64,
-    held: Vec<u8>,
+    held: HeldBytes<P>,
     out: Vec<u8>,
     more: bool,
     over: bool,
     received: ByteHistory,
     exchanges: ExchangeHistory,
     sent: ByteHistory,
-    protocol: PhantomData<P>,
 }
 
 impl<P: Protocol> Model for Session<P> {
@@ -41,7 +40,7 @@ impl<P: Protocol> Model for Session<P> {
 
     ghost invariant = { λ s. IsInMemory P.Protocol.rules
         (record { received = s.received; requests = s.count; exchanges = s.exchanges; sent = s.sent; withheld = s.out.items; more = s.more; over = s.over })
-        s.held.items };
+        s.held };
 }
 
 /// Appends the protocol's response to an out-of-memory condition, or nothing.
@@ -60,18 +59,18 @@ fn take_piece<P: Protocol, D: Disk>(
     number: u64,
     bytes: &Vec<u8>,
     n: usize,
-    held: &mut Vec<u8>,
+    held: &mut HeldBytes<P>,
     count: &mut u64,
     exchanges: &mut ExchangeHistory,
     out: &mut Vec<u8>,
 ) -> Pause
     requires room { count.old < P.rules.most }
     requires within { n ≤ vec_len bytes.now }
-    ensures { TakesTurns P.rules number count.old max_taken (held.old.items ++ take n bytes.now.items)
+    ensures { TakesTurns P.rules number count.old max_taken (held.old ++ take n bytes.now.items)
         (record { store = store.old; exchanges = exchanges.old; out = out.old.items })
-        (record { store = store.new; exchanges = exchanges.new; out = out.new.items }) count.new held.new.items result }
+        (record { store = store.new; exchanges = exchanges.new; out = out.new.items }) count.new held.new result }
 {
-    if held.extend_from_slice(&bytes[..n]).is_err() {
+    if held.append(&bytes[..n]).is_err() {
         return Pause::Memory;
     }
     take_turns::<P, D>(
@@ -93,14 +92,13 @@ impl<P: Protocol> Session<P> {
     {
         Session {
             count: 0,
-            held: Vec::new(alloc),
+            held: HeldBytes::new(alloc),
             out: Vec::new(alloc),
             more: false,
             over: false,
             received: ByteHistory::new(),
             exchanges: ExchangeHistory::new(),
             sent: ByteHistory::new(),
-            protocol: PhantomData,
         }
     }
 

@@ -6,7 +6,7 @@ use crate::author::Author;
 use crate::exchange_history::ExchangeHistory;
 use crate::pause::Pause;
 use act_disk::Disk;
-use act_sessions::{Protocol, Request, TurnText, next_request, take_turn};
+use act_sessions::{HeldBytes, Protocol, Request, TurnText, take_turn};
 use act_store::Store;
 use std::alloc::Global;
 use std::mem;
@@ -64,17 +64,17 @@ fn take_round<P: Protocol, D: Disk>(
     alloc: Global,
     store: &mut Store<D>,
     number: u64,
-    held: &mut Vec<u8>,
+    held: &mut HeldBytes<P>,
     count: u64,
     exchanges: &mut ExchangeHistory,
     out: &mut Vec<u8>,
 ) -> Option<Pause>
     requires { count < P.rules.most }
     ensures { (n most : ℕ) (bytes : List ℕ) (begin : Moment D) → count < n + most → length out.old.items < max_withheld
-        → Goes P.rules number n bytes begin (record { store = store.old; exchanges = exchanges.old; out = out.old.items }) count held.old.items
-        → EndsRound P.rules number n most bytes begin (record { store = store.new; exchanges = exchanges.new; out = out.new.items }) count held.new.items result }
+        → Goes P.rules number n bytes begin (record { store = store.old; exchanges = exchanges.old; out = out.old.items }) count held.old
+        → EndsRound P.rules number n most bytes begin (record { store = store.new; exchanges = exchanges.new; out = out.new.items }) count held.new result }
 {
-    match next_request::<P>(alloc, held) {
+    match held.next_request(alloc) {
         Err(_) => Some(Pause::Memory),
         Ok(None) => Some(Pause::Waits),
         Ok(Some(request)) => {
@@ -90,15 +90,15 @@ pub(crate) fn take_turns<P: Protocol, D: Disk>(
     store: &mut Store<D>,
     number: u64,
     most: u64,
-    held: &mut Vec<u8>,
+    held: &mut HeldBytes<P>,
     count: &mut u64,
     exchanges: &mut ExchangeHistory,
     out: &mut Vec<u8>,
 ) -> Pause
     requires { count.old < P.rules.most }
-    ensures { TakesTurns P.rules number count.old most held.old.items
+    ensures { TakesTurns P.rules number count.old most held.old
         (record { store = store.old; exchanges = exchanges.old; out = out.old.items })
-        (record { store = store.new; exchanges = exchanges.new; out = out.new.items }) count.new held.new.items result }
+        (record { store = store.new; exchanges = exchanges.new; out = out.new.items }) count.new held.new result }
 {
     let end = last_turn(*count, most, P::most());
     'rounds: for turns in *count..end {

@@ -9,3 +9,4 @@ mod Rounds
 mod Shut
 pub mod Taken
 mod Turning
+pub mod Waiting

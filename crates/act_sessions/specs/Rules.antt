@@ -1,10 +1,11 @@
 -- How bytes are read as requests and turns under the rules of a protocol. Nothing here depends on the pieces in which the bytes arrive.
-use Rattle.std.specs.Prelude.{◌≡◌, ◌⊎◌, ℕ, ◌+◌, ◌≤◌, ◌<◌, Bool, true, false, ◌||◌, ◌==◌, List, [], ◌∷◌, ◌++◌, length, drop, Option, Some, None, Result, Ok, Err, ⊤}
+use Rattle.std.specs.Prelude.{◌≡◌, ◌⊎◌, ℕ, ◌+◌, ◌≤◌, ◌<◌, Bool, true, false, ◌||◌, ◌==◌, List, [], ◌∷◌, ◌++◌, length, drop, Option, Result, Ok, Err, ⊤}
 use Rattle.wf_value.specs.Gives.{no_memory}
 use Rattle.wf_value.specs.declared.refusal.Refusal.{Refusal}
 use Rattle.run_plan.specs.declared.command.Command.{Command}
 use Rattle.act_sessions.specs.declared.request.Demand.TheVariants as demand
-use Rattle.act_sessions.specs.declared.request.FoundRequest.{FoundRequest}
+use Rattle.act_sessions.specs.declared.request.Next.{Next}
+use Rattle.act_sessions.specs.declared.request.Next.TheVariants.{Waits, Whole}
 use Rattle.act_sessions.specs.declared.request.Request.{Request}
 use Rattle.act_sessions.specs.Last.{ends_session}
 use Rattle.act_sessions.specs.Exchange.{Response, Exchange}
@@ -35,10 +36,14 @@ pub record Rules (F : Type 0) : Type 1 where
   -- how many bytes may wait
   pub limit : ℕ
 
--- the whole request at the start of the bytes, and its length
-abbrev pub IsNext : {F : Type 0} → Rules F → List ℕ → Result (Option (FoundRequest F)) Refusal → Type 0
-IsNext p bytes (Ok None) = p.waits bytes × (length bytes < p.limit)
-IsNext p bytes (Ok (Some found)) = (found.length ≤ length bytes) × p.reads bytes found.request (drop found.length bytes)
+-- as long as there are fewer bytes than `until`, these bytes and those after them are less than a request
+abbrev pub WaitUntil : {F : Type 0} → Rules F → List ℕ → ℕ → Type 0
+WaitUntil p bytes until = (more : List ℕ) → length (bytes ++ more) < until → p.waits (bytes ++ more)
+
+-- the whole request at the start of the bytes, and its length; or how many bytes there have to be before one can be whole
+abbrev pub IsNext : {F : Type 0} → Rules F → List ℕ → Result (Next F) Refusal → Type 0
+IsNext p bytes (Ok (Waits until progress)) = p.waits bytes × (length bytes < p.limit) × (until ≤ p.limit) × WaitUntil p bytes until
+IsNext p bytes (Ok (Whole found)) = (found.length ≤ length bytes) × p.reads bytes found.request (drop found.length bytes)
 IsNext p bytes (Err e) = e ≡ no_memory
 
 -- whether a turn ends a session by itself: its request closes it, or its answer ends it

@@ -4,6 +4,7 @@
 
 mod answer;
 mod error;
+mod held_bytes;
 mod input;
 mod last;
 mod laws;
@@ -20,14 +21,15 @@ mod turn_text;
 mod work;
 
 pub use answer::Answer;
+pub use held_bytes::HeldBytes;
 pub use last::{ends_by, leaves_open};
 pub use laws::{first_part, one_session, one_session_to_its_end, two_parts};
 pub use protocol::Protocol;
-pub use request::{Demand, FoundRequest, Request};
+pub use request::{Demand, FoundRequest, Next, Progress, Request};
 pub use session::run;
 pub use session_state::SessionState;
 pub use submit::Submit;
 pub use transcript::{Ending, LoggedExchange, Part, SessionFault, Transcript};
-pub use turn::{next_request, take_turn, text_of_answer};
+pub use turn::{take_turn, text_of_answer};
 pub use turn_text::TurnText;
 pub use work::Work;

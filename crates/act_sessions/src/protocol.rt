@@ -1,8 +1,11 @@
-ghost use Rattle.std.specs.Prelude.{◌≡◌, ◌<◌, Ok, option_map};
+ghost use Rattle.std.specs.Prelude.{◌≡◌, ◌<◌, Ok, option_map, ℕ, List, ◌++◌};
 ghost use Rattle.wf_value.specs.Gives.{Gives};
+ghost use Rattle.act_sessions.specs.declared.request.Progress.{Progress as Reading};
+ghost use Rattle.act_sessions.specs.Held.{Keeps};
+ghost use Rattle.act_sessions.specs.Progress.{nothing_read};
 ghost use Rattle.act_sessions.specs.Rules.{IsNext, IsOne, IsSteady, Rules};
 
-use crate::request::FoundRequest;
+use crate::request::{Next, Progress};
 use run_plan::Reply;
 use std::alloc::Global;
 use wf_value::Refusal;
@@ -14,6 +17,9 @@ pub trait Protocol {
 
     ghost rules: { Rules Self.Fault };
 
+    /// What is known of bytes that were read so far.
+    ghost known: { List ℕ → Reading → Type 0 };
+
     /// How many requests a session takes.
     fn most() -> u64
         ensures { result ≡ rules.most };
@@ -22,9 +28,11 @@ pub trait Protocol {
     fn limit() -> usize
         ensures { result ≡ rules.limit };
 
-    /// The whole request at the start of the bytes. Returns `None` if more bytes are needed.
-    fn next(alloc: Global, bytes: &[u8]) -> Result<Option<FoundRequest<Self::Fault>>, Refusal>
-        ensures { IsNext rules bytes.now result };
+    /// What the bytes begin with, if they were read so far before. If they wait, it says how far they were read now.
+    fn next(alloc: Global, bytes: &[u8], progress: Progress) -> Result<Next<Self::Fault>, Refusal>
+        requires { known bytes.now progress }
+        ensures found { IsNext rules bytes.now result }
+        ensures kept { Keeps (known bytes.now) result };
 
     /// The bytes that answer a command. `last` says whether this is the last answer of the session.
     fn answer_text(
@@ -47,4 +55,8 @@ pub trait Protocol {
     ghost one: { IsOne rules };
 
     ghost some: { 0 < rules.most };
+
+    ghost fresh: { (bytes : List ℕ) → known bytes nothing_read };
+
+    ghost lasts: { (bytes more : List ℕ) (progress : Reading) → known bytes progress → known (bytes ++ more) progress };
 }

@@ -1,4 +1,4 @@
-ghost use Rattle.std.specs.Prelude.{Option, ◌≡◌, ◌<◌, ◌≤◌, ◌++◌, ℕ, List, IfOk, IfErr, vec_len};
+ghost use Rattle.std.specs.Prelude.{Option, ◌≡◌, ◌<◌, ◌≤◌, ◌++◌, ℕ, List, IfOk, IfErr, length};
 ghost use Rattle.act_sessions.specs.Ends.{HasFailed, HasFinished};
 ghost use Rattle.act_sessions.specs.Session.{moment, Goes, IsPart, Moment, Place};
 ghost use Rattle.act_sessions.specs.Exchange.{AreAsked, OnlyLastOpen, Exchange, exchanges_by};
@@ -6,6 +6,7 @@ ghost use Rattle.act_sessions.specs.Turns.{EndsRound, Aborts, Says, TakesTurn};
 
 use crate::answer::Answer;
 use crate::error::SessionError;
+use crate::held_bytes::HeldBytes;
 use crate::input::await_request;
 use crate::output::respond;
 use crate::protocol::Protocol;
@@ -76,19 +77,19 @@ fn take_round<P: Protocol, R: Read, W: Write, A: Answer>(
     reader: &mut R,
     writer: &mut W,
     answerer: &mut A,
-    buffer: &mut Vec<u8>,
+    held: &mut HeldBytes<P>,
     transcript: &mut Transcript,
     count: u64,
 ) -> Result<Option<bool>, SessionError>
     requires room { count < P.rules.most }
-    requires held { vec_len buffer.old ≤ P.rules.limit }
+    requires held { length held.old ≤ P.rules.limit }
     ensures { (from : Place) (input : Option (List ℕ)) (begin : Moment)
         → Goes P.rules from input (R.remaining reader.old) begin (moment (W.contents writer.old) (A.asked answerer.old) transcript.old)
-        (record { turns = count; held = buffer.old.items })
+        (record { turns = count; held = held.old })
         → EndsRound P.rules from input (R.remaining reader.new) begin (moment (W.contents writer.new) (A.asked answerer.new) transcript.new)
-        buffer.new.items count result }
+        held.new count result }
 {
-    match await_request::<P, R>(alloc, reader, buffer)? {
+    match await_request::<P, R>(alloc, reader, held)? {
         Some(request) => {
             let last = write_turn::<P, W, A>(alloc, writer, answerer, transcript, request, count)?;
             Ok(Some(last))
@@ -97,33 +98,33 @@ fn take_round<P: Protocol, R: Read, W: Write, A: Answer>(
     }
 }
 
-/// Continues a session, after `count` turns and with the bytes in the buffer, to the end of the input or of the session. What it submits
+/// Continues a session, after `count` turns and with the bytes that are held, to the end of the input or of the session. What it submits
 /// is appended to the transcript. The transcript's ending does not change.
 ///
-/// If it waits, the count and the buffer are the place to continue from once there are more bytes.
+/// If it waits, the count and the bytes that are held are the place to continue from once there are more bytes.
 pub fn run_part<P: Protocol, R: Read, W: Write, A: Answer>(
     alloc: Global,
     reader: &mut R,
     writer: &mut W,
     answerer: &mut A,
-    buffer: &mut Vec<u8>,
+    held: &mut HeldBytes<P>,
     count: &mut u64,
     transcript: &mut Transcript,
 ) -> Part
     requires room { count.old < P.rules.most }
-    requires held { vec_len buffer.old ≤ P.rules.limit }
-    ensures part { IsPart P.rules (record { turns = count.old; held = buffer.old.items }) (R.remaining reader.old) (R.remaining reader.new)
+    requires held { length held.old ≤ P.rules.limit }
+    ensures part { IsPart P.rules (record { turns = count.old; held = held.old }) (R.remaining reader.old) (R.remaining reader.new)
         (moment (W.contents writer.old) (A.asked answerer.old) transcript.old)
         (moment (W.contents writer.new) (A.asked answerer.new) transcript.new)
-        (record { turns = count.new; held = buffer.new.items }) result }
+        (record { turns = count.new; held = held.new }) result }
     // What follows for an observer who knows nothing of the bytes.
     ensures exchanges { (exchanges : List Exchange) × AreAsked (A.asked answerer.old) (A.asked answerer.new) exchanges
         × (exchanges_by transcript.new ≡ exchanges_by transcript.old ++ exchanges) × OnlyLastOpen exchanges }
-    ensures waits { result ≡ Part.AwaitsInput → (count.new < P.rules.most) × (vec_len buffer.new ≤ P.rules.limit) }
+    ensures waits { result ≡ Part.AwaitsInput → (count.new < P.rules.most) × (length held.new ≤ P.rules.limit) }
 {
     let _written = transcript.written;
     'rounds: for turns in *count..P::most() {
-        match take_round::<P, R, W, A>(alloc, reader, writer, answerer, buffer, transcript, turns) {
+        match take_round::<P, R, W, A>(alloc, reader, writer, answerer, held, transcript, turns) {
             Ok(Some(true)) => return Part::Over(Ending::Done),
             Ok(Some(false)) => {}
             Ok(None) => {
@@ -149,7 +150,7 @@ pub fn run<P: Protocol, R: Read, W: Write, A: Answer>(
     ensures err { IfErr result (λ f. HasFailed P.rules (R.remaining reader.old) (R.remaining reader.new) (W.contents writer.old) (W.contents writer.new)
         (A.asked answerer.old) (A.asked answerer.new) f.transcript) }
 {
-    let mut buffer = Vec::new(alloc);
+    let mut held = HeldBytes::<P>::new(alloc);
     let mut count = 0;
     let mut transcript = Transcript::new(alloc);
     let end = run_part::<P, R, W, A>(
@@ -157,7 +158,7 @@ pub fn run<P: Protocol, R: Read, W: Write, A: Answer>(
         reader,
         writer,
         answerer,
-        &mut buffer,
+        &mut held,
         &mut count,
         &mut transcript,
     );

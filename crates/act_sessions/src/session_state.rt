@@ -3,12 +3,13 @@ ghost use Rattle.act_sessions.specs.Session.{first, moment, IsPart};
 ghost use Rattle.act_sessions.specs.Exchange.{AreAsked, OnlyLastOpen, Exchange, exchanges_by};
 
 use crate::answer::Answer;
+use crate::held_bytes::HeldBytes;
 use crate::protocol::Protocol;
 use crate::session::run_part;
 use crate::transcript::{Part, Transcript};
 use std::alloc::Global;
 use std::io::{Read, Write};
-use std::marker::{Model, PhantomData};
+use std::marker::Model;
 use std::mem;
 
 /// The state of a session between two requests: how many it has had, and the bytes it holds, which are not yet a request. It never holds
@@ -16,19 +17,18 @@ use std::mem;
 #[derive(Drop)]
 pub struct SessionState<P: Protocol> {
     turns: u64,
-    held: Vec<u8>,
-    protocol: PhantomData<P>,
+    held: HeldBytes<P>,
 }
 
 impl<P: Protocol> Model for SessionState<P> {
-    ghost use Rattle.std.specs.Prelude.{◌<◌, ◌≤◌, vec_len};
+    ghost use Rattle.std.specs.Prelude.{◌<◌, ◌≤◌, length};
     ghost use Rattle.act_sessions.specs.Session.{Place};
 
     ghost Value = { Place };
 
-    ghost view = { λ s. record { turns = s.turns; held = s.held.items } };
+    ghost view = { λ s. record { turns = s.turns; held = s.held } };
 
-    ghost invariant = { λ s. (s.turns < P.Protocol.rules.most) × (vec_len s.held ≤ P.Protocol.rules.limit) };
+    ghost invariant = { λ s. (s.turns < P.Protocol.rules.most) × (length s.held ≤ P.Protocol.rules.limit) };
 }
 
 impl<P: Protocol> SessionState<P> {
@@ -38,8 +38,7 @@ impl<P: Protocol> SessionState<P> {
     {
         SessionState {
             turns: 0,
-            held: Vec::new(alloc),
-            protocol: PhantomData,
+            held: HeldBytes::new(alloc),
         }
     }
 
@@ -61,19 +60,13 @@ impl<P: Protocol> SessionState<P> {
             × (exchanges_by transcript.new ≡ exchanges_by transcript.old ++ exchanges) × OnlyLastOpen exchanges }
     {
         let mut count = self.turns;
-        let mut buffer = mem::replace(&mut self.held, Vec::new(alloc));
+        let mut held = mem::replace(&mut self.held, HeldBytes::new(alloc));
         match run_part::<P, R, W, A>(
-            alloc,
-            reader,
-            writer,
-            answerer,
-            &mut buffer,
-            &mut count,
-            transcript,
+            alloc, reader, writer, answerer, &mut held, &mut count, transcript,
         ) {
             Part::AwaitsInput => {
                 self.turns = count;
-                self.held = buffer;
+                self.held = held;
                 Part::AwaitsInput
             }
             Part::Over(ending) => Part::Over(ending),

@@ -1,10 +1,10 @@
-//! One turn of a session: the next request of its bytes, whether its turn is the last, and the bytes that answer it. Sessions over streams
-//! and sessions in memory take their turns here.
+//! One turn of a session: whether it is the last, and the bytes that answer its request. Sessions over streams and sessions in memory take
+//! their turns here.
 
 ghost use Rattle.std.specs.Prelude.{◌≡◌, ◌<◌, ◌+◌, ◌==◌, ◌||◌, ℕ, List, Ok, IfSome};
 ghost use Rattle.wf_value.specs.Gives.{Gives};
 ghost use Rattle.act_sessions.specs.Rules.{Answered, Refused};
-ghost use Rattle.act_sessions.specs.Taking.{Finds, IsText, Takes};
+ghost use Rattle.act_sessions.specs.Taking.{IsText, Takes};
 
 use crate::last::ends_session;
 use crate::protocol::Protocol;
@@ -14,22 +14,6 @@ use crate::turn_text::TurnText;
 use run_plan::Reply;
 use std::alloc::Global;
 use wf_value::Refusal;
-
-/// Takes the whole request at the start of the bytes. Returns `None` if more bytes are needed.
-pub fn next_request<P: Protocol>(
-    alloc: Global,
-    held: &mut Vec<u8>,
-) -> Result<Option<Request<P::Fault>>, Refusal>
-    ensures { Finds P.rules held.old.items held.new.items result }
-{
-    match P::next(alloc, held)? {
-        Some(found) => {
-            held.drain(..found.length);
-            Ok(Some(found.request))
-        }
-        None => Ok(None),
-    }
-}
 
 /// Whether a turn after `count` others is the last.
 fn is_last(ends: bool, count: u64, most: u64) -> bool

@@ -1,10 +1,12 @@
--- The lines of a session's bytes are determined, whatever follows them, and an unfinished line is not a line.
+-- The lines of a session's bytes are determined, whatever follows them, and an unfinished line is not a line. What was read stays read.
 use Rattle.std.specs.Prelude.{◌≡◌, ℕ, ◌<◌, List, [], ◌∷◌, ◌++◌, length, take, drop, slice_index_or, refl}
-use Rattle.std.proofs.Common.{sym, ap, ◌∙◌, inl, inr, append_assoc, length-append, arith}
-use Rattle.std.proofs.lemmas.List.{get_or_append_left}
+use Rattle.std.proofs.Common.{sym, ap, subst, ◌∙◌, inl, inr, append_assoc, length-append, length-take, arith}
+use Rattle.std.proofs.lemmas.List.{get_or_append_left, take-append-le}
 use lib.Seq.{take-append_seam, drop-append_seam}
+use Rattle.act_sessions.specs.declared.request.Progress.{Progress}
+use Rattle.act_sessions.specs.Progress.{nothing_read}
 use Rattle.act_sessions.specs.Rules.{IsApart, IsOne, IsSteady}
-use Rattle.runner_sessions.specs.Line.{HasNoFeed, request_in, runner_rules}
+use Rattle.runner_sessions.specs.Line.{HasNoFeed, LineKnown, request_in, runner_rules}
 
 pub lines_steady : IsSteady runner_rules
 lines_steady bytes more rest r (line, none, inl (short, is, asks)) =
@@ -55,3 +57,14 @@ lines_apart bytes rest r (none, few) (line, never, inl (short, is, asks)) =
     none (length line) 0 (omega arith) (ap (λ (b : List ℕ). slice_index_or b (length line) 0) is ∙ feed_after line rest)
 lines_apart bytes rest r (none, few) (line, never, inr (long, is, asks)) =
     let e = ap length is ∙ length-append line rest in omega arith
+
+-- bytes that were read stay read as more come
+pub line_fresh : (bytes : List ℕ) → LineKnown bytes nothing_read
+line_fresh bytes = (omega arith, omega arith, λ k d h. absurd (let l = length-take 0 bytes in omega (arith, h, l)))
+
+pub line_lasts : (bytes more : List ℕ) (p : Progress) → LineKnown bytes p → LineKnown (bytes ++ more) p
+line_lasts bytes more p (within, few, none) = (
+  let l = length-append bytes more in omega arith,
+  few,
+  subst HasNoFeed (sym (take-append-le p.read bytes more within)) none,
+)

@@ -1,5 +1,5 @@
 -- The lines of a runner: what each demands, and how lines are found in the bytes of a session. This is defined by this project.
-use Rattle.std.specs.Prelude.{◌≡◌, ◌≢◌, ◌⊎◌, ℕ, ◌<◌, true, false, List, ◌∷◌, ◌++◌, [], length, codes, None, ok_or, Result, Ok, Err, if◌then◌else◌}
+use Rattle.std.specs.Prelude.{◌≡◌, ◌≢◌, ◌⊎◌, ℕ, ◌≤◌, ◌<◌, true, false, List, ◌∷◌, ◌++◌, [], length, take, codes, None, ok_or, Result, Ok, Err, if◌then◌else◌}
 use Rattle.std.specs.List.{All}
 use Rattle.std.specs.Option.{option_map_or}
 use Rattle.std.specs.Str.{bytes_eq}
@@ -13,6 +13,7 @@ use Rattle.command_lines.specs.Commands.{not_a_line, claim_of, done_of, beat_of,
 use Rattle.command_lines.specs.Fields.{at_space}
 use Rattle.act_sessions.specs.declared.request.Demand.{Demand}
 use Rattle.act_sessions.specs.declared.request.Demand.TheVariants as demand
+use Rattle.act_sessions.specs.declared.request.Progress.{Progress}
 use Rattle.act_sessions.specs.declared.request.Request.{Request}
 use Rattle.act_sessions.specs.Rules.{Rules}
 use Rattle.act_sessions.specs.Exchange.{Response}
@@ -47,6 +48,10 @@ HasNoFeed line = All (λ b. b ≢ 10) line
 -- less than a line: the bytes contain no line feed, and are fewer than the longest line has
 abbrev pub IsUnfinished : List ℕ → Type 0
 IsUnfinished bytes = HasNoFeed bytes × (length bytes < max_line)
+
+-- so many of the bytes contain no line feed, and are fewer than the longest line has
+abbrev pub LineKnown : List ℕ → Progress → Type 0
+LineKnown bytes p = (p.read ≤ length bytes) × (p.read < max_line) × HasNoFeed (take p.read bytes)
 
 -- The bytes begin with a line and its line feed, or with as many bytes as the longest line has and no line feed. A rest follows.
 abbrev pub LineReads : List ℕ → Request Refusal → List ℕ → Type 0

@@ -1,10 +1,11 @@
-ghost use Rattle.std.specs.Prelude.{◌≡◌, Ok};
+ghost use Rattle.std.specs.Prelude.{◌≡◌, ◌≤◌, ◌==◌, Ok, length, position, take};
 ghost use Rattle.wf_value.specs.Gives.{Gives};
+ghost use Rattle.act_sessions.specs.Held.{Keeps};
 ghost use Rattle.act_sessions.specs.Rules.{IsNext};
 ghost use Rattle.command_lines.specs.Commands.{not_a_line};
-ghost use Rattle.runner_sessions.specs.Line.{command_by, command_of, demand_by, request_in, runner_rules};
+ghost use Rattle.runner_sessions.specs.Line.{HasNoFeed, LineKnown, command_by, command_of, demand_by, request_in, runner_rules};
 
-use act_sessions::{Demand, FoundRequest, Request};
+use act_sessions::{Demand, FoundRequest, Next, Progress, Request};
 use command_lines::{
     at_space, beat_of, claim_of, done_of, fetch_of, line_feed_index, spelled, strip_carriage_return,
 };
@@ -54,18 +55,39 @@ fn request_in(alloc: Global, line: &[u8]) -> Result<Request<Refusal>, Refusal>
     })
 }
 
-/// The whole line at the start of the bytes: a line with its line feed, or as many bytes as the longest line has without one.
-pub fn next_line(alloc: Global, bytes: &[u8]) -> Result<Option<FoundRequest<Refusal>>, Refusal>
-    ensures { IsNext runner_rules bytes.now result }
+/// The index of the first line feed, if the first `read` bytes contain none.
+fn feed_index(bytes: &[u8], read: usize) -> Option<usize>
+    requires within { read ≤ length bytes.now }
+    requires none { HasNoFeed (take read bytes.now) }
+    ensures { result ≡ position (λ b. b == 10) bytes.now }
+{
+    match line_feed_index(&bytes[read..]) {
+        Some(place) => Some(read + place),
+        None => None,
+    }
+}
+
+/// The whole line at the start of the bytes: a line with its line feed, or as many bytes as the longest line has without one. Bytes that
+/// were read before, and contain no line feed, are not read again.
+pub fn next_line(alloc: Global, bytes: &[u8], progress: Progress) -> Result<Next<Refusal>, Refusal>
+    requires { LineKnown bytes.now progress }
+    ensures found { IsNext runner_rules bytes.now result }
+    ensures kept { Keeps (LineKnown bytes.now) result }
 {
     let prefix = &bytes[..bytes.len().min(MAX_LINE)];
-    match line_feed_index(prefix) {
-        Some(place) => Ok(Some(FoundRequest {
+    match feed_index(prefix, progress.read) {
+        Some(place) => Ok(Next::Whole(FoundRequest {
             request: request_in(alloc, &bytes[..place])?,
             length: place + 1,
         })),
-        None if prefix.len() < MAX_LINE => Ok(None),
-        None => Ok(Some(FoundRequest {
+        None if prefix.len() < MAX_LINE => Ok(Next::Waits {
+            until: prefix.len() + 1,
+            progress: Progress {
+                read: prefix.len(),
+                lines: 0,
+            },
+        }),
+        None => Ok(Next::Whole(FoundRequest {
             request: Request {
                 demand: Demand::Fault(Refusal::Numbered(Code::Line)),
                 closes: true,

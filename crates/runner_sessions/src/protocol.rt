@@ -5,7 +5,7 @@ ghost use Rattle.wf_value.specs.RefusalText.{refusal_text};
 ghost use Rattle.runner_sessions.specs.Line.{response_text};
 
 use crate::line::{MAX_LINE, next_line};
-use act_sessions::{FoundRequest, Protocol};
+use act_sessions::{Next, Progress, Protocol};
 use run_plan::Reply;
 use std::alloc::Global;
 use wf_value::{Chars, Refusal};
@@ -36,12 +36,14 @@ fn response_text(alloc: Global, answer: &Result<Reply, Refusal>) -> Result<Vec<u
 }
 
 impl Protocol for RunnerLines {
-    ghost use Rattle.runner_sessions.specs.Laws.{lines_one, lines_steady};
-    ghost use Rattle.runner_sessions.specs.Line.{runner_rules};
+    ghost use Rattle.runner_sessions.specs.Laws.{line_fresh, line_lasts, lines_one, lines_steady};
+    ghost use Rattle.runner_sessions.specs.Line.{LineKnown, runner_rules};
 
     type Fault = Refusal;
 
     ghost rules = { runner_rules };
+
+    ghost known = { LineKnown };
 
     fn most() -> u64 {
         MAX_LINES
@@ -51,8 +53,8 @@ impl Protocol for RunnerLines {
         MAX_LINE
     }
 
-    fn next(alloc: Global, bytes: &[u8]) -> Result<Option<FoundRequest<Refusal>>, Refusal> {
-        next_line(alloc, bytes)
+    fn next(alloc: Global, bytes: &[u8], progress: Progress) -> Result<Next<Refusal>, Refusal> {
+        next_line(alloc, bytes, progress)
     }
 
     fn answer_text(
@@ -76,4 +78,8 @@ impl Protocol for RunnerLines {
     ghost one = { lines_one };
 
     ghost some = { Prim.search common };
+
+    ghost fresh = { line_fresh };
+
+    ghost lasts = { line_lasts };
 }

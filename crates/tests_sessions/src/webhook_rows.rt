@@ -4,6 +4,7 @@ use crate::outcomes::expect_done;
 use crate::service_fake::Service;
 use std::alloc::Global;
 use std::process::Abort;
+use tests_common::long_texts::repeated;
 use tests_common::streams::Pieces;
 use webhook_sessions::Session;
 
@@ -75,6 +76,9 @@ pub const NO_RUN: &str = refused!("404 Not Found", "40");
 pub const GET_ALONE: &str = refused!("405 Method Not Allowed", "73", "Allow: GET");
 
 const CONFLICT: &str = refused!("409 Conflict", "41");
+
+/// The answer to the start of a head that no bytes complete within the limits.
+const NO_HEAD: &str = refused!("400 Bad Request", "70", "Connection: close");
 
 pub const TOO_LONG: &str = refused!("413 Payload Too Large", "24", "Connection: close");
 
@@ -171,5 +175,15 @@ fn an_event_in_two_pieces_is_answered(rt: HostRuntime) {
     for cut in 1..=EVENT.len() {
         let reader = Pieces::cut(EVENT.as_bytes(), cut);
         expect_answered(&rt, rt.alloc(), reader, CREATED.as_bytes(), 1);
+    }
+}
+
+#[test]
+fn a_field_too_many_is_refused_before_its_head_ends(rt: HostRuntime) {
+    let lines = [("GET /runs/1 HTTP/1.1\r\n", 1), ("A: b\r\n", 65)];
+    let input = repeated(rt.alloc(), &lines).expect(&rt, "memory");
+    for piece in PIECES {
+        let reader = Pieces::new(input.as_bytes(), piece);
+        expect_answered(&rt, rt.alloc(), reader, NO_HEAD.as_bytes(), 0);
     }
 }

@@ -1,5 +1,5 @@
 -- What the code finds at the start of some bytes is a request of the definition.
-use Rattle.std.proofs.Common.{◌≡◌, ◌⊎◌, ℕ, ◌<◌, ◌≤◌, Bool, true, false, List, [], ◌∷◌, ◌++◌, length, take, drop, map, refl, sym, ap, subst, ◌∙◌, inl, inr, append_assoc, length-take, length-drop, arith}
+use Rattle.std.proofs.Common.{◌≡◌, ◌⊎◌, ℕ, ◌+◌, ◌<◌, ◌≤◌, Bool, true, false, List, [], ◌∷◌, ◌++◌, length, take, drop, map, refl, sym, ap, subst, ◌∙◌, inl, inr, append_assoc, length-append, length-take, length-drop, arith}
 use Rattle.std.specs.Prelude.{min, codes, cond, nat_le, Option, Some, None, Result, Ok, Err, ⊤}
 use Rattle.std.proofs.lemmas.Bool.Decides.{nat_tests}
 use Rattle.std.proofs.lemmas.List.{drop-drop, length-map}
@@ -13,15 +13,21 @@ use Rattle.httparse.proofs.GrammarLemmas.{ReadsRequest-append}
 use Rattle.http1.specs.Fields.{values_named}
 use Rattle.wf_value.specs.declared.refusal.Refusal.{Refusal}
 use Rattle.run_plan.specs.Decimal.{is_decimal}
-use Rattle.act_sessions.specs.declared.request.FoundRequest.{FoundRequest}
+use Rattle.act_sessions.specs.declared.request.Next.{Next}
+use Rattle.act_sessions.specs.declared.request.Next.TheVariants.{Waits, Whole}
+use Rattle.act_sessions.specs.declared.request.Progress.{Progress}
 use Rattle.act_sessions.specs.Rules.{IsNext}
+use Rattle.act_sessions.specs.Held.{Keeps}
+use Rattle.act_sessions.specs.Progress.{nothing_read}
 use Rattle.webhook_sessions.specs.declared.fault.Fault.{Fault}
 use Rattle.webhook_sessions.specs.declared.fault.Fault.TheVariants.{BadHead}
-use Rattle.webhook_sessions.specs.Asking.{body_length, length_wanted, request_after, unread, with_body, posts_event}
+use Rattle.webhook_sessions.specs.Asking.{body_length, length_wanted, unread, with_body, posts_event}
 use Rattle.webhook_sessions.specs.EventHeaders.{event_headers}
 use Rattle.webhook_sessions.specs.FoundRequest.{IsFound}
 use Rattle.webhook_sessions.specs.Heading.{Heading, heading_of}
+use Rattle.webhook_sessions.specs.HeadLines.{HeadKnown}
 use Rattle.webhook_sessions.specs.Hooks.{BeginsWith, HookReads, hooks}
+use Rattle.webhook_sessions.specs.Laws.{begins_still}
 use Rattle.webhook_sessions.specs.Length.{just, stated_by, stated_length, unless_coded}
 
 -- ---- no head
@@ -100,21 +106,55 @@ short_by head after (Ok n) small e =
       | inr h ↦ let o = over n (length after) h.0 in omega arith
     ]
 
+too_few : (m n : ℕ) → n < m → nat_le m n ≡ false
+too_few m n h = grind (arith, nat_tests)
+
+without_body : (head : Heading) (size : ℕ) (after : List ℕ) → length after < size → with_body head after (Ok size) ≡ None
+without_body head size after short = rw (too_few size (length after) short) refl
+
+-- a body of this size is incomplete until so many bytes have come
+pub body_missing : (head : Heading) (n size : ℕ) (after : List ℕ) → body_length head ≡ Ok size → length after < size
+    → IsFound head n after (Ok (Waits (n + size) nothing_read))
+body_missing head n size after is less =
+    let small : size ≤ max_body = subst IsSmall is (body_small head) in (
+      ap (with_body head after) is ∙ without_body head size after less,
+      omega arith,
+      λ more below. ap (with_body head (after ++ more)) is ∙ without_body head size (after ++ more) (omega arith),
+      refl,
+    )
+
+pub body_fits : (head : Heading) (size : ℕ) → body_length head ≡ Ok size → size ≤ max_body
+body_fits head size is = subst IsSmall is (body_small head)
+
 -- ---- a whole head
 
 -- what the code finds after a head of n bytes
 pub next_by : (bytes : List ℕ) (h : RequestHead) (n : ℕ) → n ≤ 8192 → n ≤ length bytes → BeginsWith bytes h (drop n bytes)
-    → (found : Result (Option (FoundRequest Fault)) Refusal) → IsFound (request_after (heading_of h) (drop n bytes)) n (drop n bytes) found → IsNext hooks bytes found
-next_by bytes h n most within head (Ok None) none =
+    → (found : Result (Next Fault) Refusal) → IsFound (heading_of h) n (drop n bytes) found → IsNext hooks bytes found
+next_by bytes h n most within head (Ok (Waits until progress)) (none, few, stays, same) =
     let after = drop n bytes in
     let short = short_by (heading_of h) after (body_length (heading_of h)) (body_small (heading_of h)) none in
-    let rest = length-drop n bytes in
-    (inr (h, after, head, none), omega arith)
-next_by bytes h n most within head (Ok (Some found)) (k, long, fits, is) =
+    let rest = length-drop n bytes in (
+      inr (h, after, head, none),
+      omega arith,
+      omega arith,
+      λ more below.
+          let e = length-append after more in
+          let f = length-append bytes more in
+          inr (h, after ++ more, begins_still bytes more h after head, stays more (omega arith)),
+    )
+next_by bytes h n most within head (Ok (Whole found)) (k, long, fits, is) =
     let rest = length-drop n bytes in
     let suffix : drop k (drop n bytes) ≡ drop found.length bytes = drop-drop k n bytes ∙ ap (λ m. drop m bytes) (sym long) in
     (omega arith, inr (h, drop n bytes, head, is ∙ ap (λ r. Some (found.request, r)) suffix))
 next_by bytes h n most within head (Err e) memory = memory
+
+-- of a head that is whole nothing is kept
+pub keeps_nothing : (bytes : List ℕ) (head : Heading) (n : ℕ) (after : List ℕ) (found : Result (Next Fault) Refusal) → IsFound head n after found
+    → Keeps (HeadKnown bytes) found
+keeps_nothing bytes head n after (Ok (Waits until progress)) (none, few, stays, same) = inl (ap (λ (p : Progress). p.lines) same)
+keeps_nothing bytes head n after (Ok (Whole found)) is = tt
+keeps_nothing bytes head n after (Err e) is = tt
 
 -- a head that the code finds in the first bytes
 pub head_found : (bytes prefix rest : List ℕ) (headers : List HeaderSpan) (s : RequestSpans) (h : RequestHead) → bytes ≡ prefix ++ rest → length prefix ≤ 8192

@@ -1,4 +1,5 @@
 -- Lemmas.
 pub mod NamedValues
+pub mod HeadLines
 pub mod Heads
 pub mod Targets

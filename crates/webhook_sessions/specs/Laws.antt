@@ -1,5 +1,5 @@
--- Bytes after a request do not change it, and bytes are read as at most one request.
-use Rattle.std.specs.Prelude.{◌≡◌, ◌⊎◌, ℕ, ◌+◌, ◌-◌, ◌≤◌, ◌<◌, Bool, true, false, List, [], ◌++◌, length, take, cond, nat_le, Option, Some, None, Result, Ok, Err, refl}
+-- Bytes after a request do not change it, and bytes are read as at most one request. What was read of a head stays true.
+use Rattle.std.specs.Prelude.{◌≡◌, ◌⊎◌, ℕ, ◌+◌, ◌-◌, ◌≤◌, ◌<◌, Bool, true, false, List, [], ◌++◌, length, take, drop, cond, nat_le, Option, Some, None, Result, Ok, Err, refl}
 use Rattle.std.proofs.Common.{sym, ap, subst, ◌∙◌, inl, inr, append_assoc, append-nil, length-append, arith}
 use Rattle.std.proofs.lemmas.List.{take-append-le}
 use Rattle.std.proofs.lemmas.Bool.Decides.{nat_tests}
@@ -7,13 +7,18 @@ use lib.Seq.{drop-append-le}
 use Rattle.stated_limits.specs.Limits.{max_head}
 use Rattle.std.proofs.Math.Seq.{take-append-add}
 use Rattle.httparse.specs.Grammar.{RequestHead, ReadsRequest, HasNoRequest, print_request}
+use Rattle.httparse.specs.Pieces.{FieldLines}
 use Rattle.httparse.proofs.GrammarLemmas.{ReadsRequest-append, request_unique}
+use Rattle.httparse.proofs.PieceLemmas.{FieldLines-append, RequestStart_deterministic}
 use Rattle.act_sessions.specs.declared.request.Request.{Request}
+use Rattle.act_sessions.specs.declared.request.Progress.{Progress}
+use Rattle.act_sessions.specs.Progress.{nothing_read}
 use Rattle.act_sessions.specs.Rules.{IsOne, IsSteady}
 use Rattle.webhook_sessions.specs.declared.fault.Fault.{Fault}
 use Rattle.webhook_sessions.specs.declared.fault.Fault.TheVariants.{BadHead}
 use Rattle.webhook_sessions.specs.Asking.{body_length, request_after, unread, with_body}
 use Rattle.webhook_sessions.specs.Heading.{Heading, heading_of}
+use Rattle.webhook_sessions.specs.HeadLines.{HeadKnown}
 use Rattle.webhook_sessions.specs.Hooks.{BeginsWith, HasBadHead, HookReads, HookWaits, IsInExcessField, IsInLostTarget, hooks}
 
 bad_head_stays : (bytes more : List ℕ) → HasBadHead bytes → HasBadHead (bytes ++ more)
@@ -53,7 +58,7 @@ with_body_stays head after more (Ok n) x e =
       | inr h ↦ absurd (none_is_some x h.1)
     ]
 
-begins_still : (bytes more : List ℕ) (h : RequestHead) (after : List ℕ) → BeginsWith bytes h after → BeginsWith (bytes ++ more) h (after ++ more)
+pub begins_still : (bytes more : List ℕ) (h : RequestHead) (after : List ℕ) → BeginsWith bytes h after → BeginsWith (bytes ++ more) h (after ++ more)
 begins_still bytes more h after head = record { reads = ReadsRequest-append bytes h after more head.reads; fields = head.fields; short = head.short }
 
 reads_still : (bytes more rest : List ℕ) (r : Request Fault) → HookReads bytes r rest → HookReads (bytes ++ more) r (rest ++ more)
@@ -115,3 +120,27 @@ pub hooks_may_do_both : (bytes : List ℕ) → HasNoRequest bytes → length byt
     → hooks.waits bytes × hooks.reads bytes (unread BadHead) bytes
 hooks_may_do_both bytes none short (inl (target, never)) = (inl (none, inr target, short), inl (inl never, refl, refl))
 hooks_may_do_both bytes none short (inr (may, never)) = (inl (none, inl may, short), inl (inl never, refl, refl))
+
+-- ---- lines of a head stay lines of it as more bytes come
+
+pub head_fresh : (bytes : List ℕ) → HeadKnown bytes nothing_read
+head_fresh bytes = inl refl
+
+pub head_lasts : (bytes more : List ℕ) (p : Progress) → HeadKnown bytes p → HeadKnown (bytes ++ more) p
+head_lasts bytes more p (inl none) = inl none
+head_lasts bytes more p (inr (within, few, begins)) =
+    let rest = drop-append-le p.read bytes more within in
+    let long = length-append bytes more in
+    inr (
+      omega arith,
+      few,
+      record {
+        start = begins.start;
+        fields = begins.fields;
+        middle = begins.middle ++ more;
+        first = RequestStart_deterministic.append begins.start bytes begins.middle more begins.first;
+        others = subst (FieldLines begins.fields (begins.middle ++ more)) (sym rest)
+            (FieldLines-append begins.fields begins.middle (drop p.read bytes) more begins.others);
+        count = begins.count;
+      },
+    )

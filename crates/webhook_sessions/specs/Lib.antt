@@ -6,6 +6,7 @@ pub mod Paths
 pub mod Asking
 pub mod Statuses
 pub mod Answers
+pub mod HeadLines
 pub mod Hooks
 pub mod FoundRequest
 pub mod Laws

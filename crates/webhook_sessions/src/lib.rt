@@ -7,6 +7,7 @@ mod event_headers;
 mod fault;
 mod fields;
 mod head;
+mod head_lines;
 mod hook;
 pub mod laws;
 mod length;

@@ -3,7 +3,7 @@ ghost use Rattle.std.proofs.Common.{rules};
 use crate::answers::{answer_text, fault_text, out_of_memory_text};
 use crate::fault::Fault;
 use crate::request::{MAX_HEAD, next_request};
-use act_sessions::{FoundRequest, Protocol};
+use act_sessions::{Next, Progress, Protocol};
 use run_plan::Reply;
 use std::alloc::Global;
 use wf_reader::MAX_BODY;
@@ -16,12 +16,15 @@ const MAX_REQUESTS: u64 = 64;
 pub struct Hooks;
 
 impl Protocol for Hooks {
+    ghost use Rattle.webhook_sessions.specs.HeadLines.{HeadKnown};
     ghost use Rattle.webhook_sessions.specs.Hooks.{hooks};
-    ghost use Rattle.webhook_sessions.specs.Laws.{hooks_steady, hooks_one};
+    ghost use Rattle.webhook_sessions.specs.Laws.{head_fresh, head_lasts, hooks_steady, hooks_one};
 
     type Fault = Fault;
 
     ghost rules = { hooks };
+
+    ghost known = { HeadKnown };
 
     fn most() -> u64 {
         MAX_REQUESTS
@@ -31,8 +34,8 @@ impl Protocol for Hooks {
         MAX_HEAD + MAX_BODY
     }
 
-    fn next(alloc: Global, bytes: &[u8]) -> Result<Option<FoundRequest<Fault>>, Refusal> {
-        next_request(alloc, bytes)
+    fn next(alloc: Global, bytes: &[u8], progress: Progress) -> Result<Next<Fault>, Refusal> {
+        next_request(alloc, bytes, progress)
     }
 
     fn answer_text(
@@ -56,4 +59,8 @@ impl Protocol for Hooks {
     ghost one = { hooks_one };
 
     ghost some = { Prim.search rules };
+
+    ghost fresh = { head_fresh };
+
+    ghost lasts = { head_lasts };
 }

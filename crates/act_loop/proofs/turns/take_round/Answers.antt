@@ -12,8 +12,8 @@ returns g c n most bytes begin below short goes =
     let mid : Moment g.row.D.Denot = record { store = c.args.store.now; exchanges = c.args.exchanges.now; out = c.args.out.now.items } in
     let new : Moment g.row.D.Denot =
     record { store = c.append_turn-last.new.store; exchanges = c.append_turn-last.new.exchanges; out = c.append_turn-last.new.out.items } in
-    let left = c.next_request.new.held.items in
-    let found : Finds p c.args.held.now.items left (Ok (Some c.in-Ok-Some.request)) = rw c.in-Ok-Some.field-0-is at c.in-Ok-Some.ensures in
+    let left = c.next_request.new.self in
+    let found : Finds p c.args.held.now left (Ok (Some c.in-Ok-Some.request)) = rw c.in-Ok-Some.field-0-is at c.in-Ok-Some.ensures in
     subst (λ (r : Option Pause). EndsRound p c.args.number n most bytes begin new c.args.count left r) (sym c.pause_after.ensures)
-    (round_ends p c.args.number n most bytes begin mid new c.args.count c.args.held.now.items left c.in-Ok-Some.request below short goes found.0
+    (round_ends p c.args.number n most bytes begin mid new c.args.count c.args.held.now left c.in-Ok-Some.request below short goes found.0
     c.append_turn-last.result c.append_turn-last.ensures)

@@ -15,14 +15,14 @@ returns-then-len-ge-MAX_WITHHELD g c =
     let begin : Moment g.row.D.Denot = record { store = c.args.store.now; exchanges = c.args.exchanges.now; out = c.args.out.now.items } in
     let now : Moment g.row.D.Denot = record { store = l.store; exchanges = l.exchanges; out = l.out.items } in
     let below = below_end l.turns c.args.count.now c.args.most c.most.result c.last_turn-end.result c.rounds-test.true c.last_turn-end.ensures in
-    goes_pauses p c.args.number c.args.count.now c.args.most c.args.held.now.items begin now l.turns l.held.items (omega (arith, below)) l.invariant
+    goes_pauses p c.args.number c.args.count.now c.args.most c.args.held.now begin now l.turns l.held (omega (arith, below)) l.invariant
     (inr (omega (arith, c.if-len-ge-MAX_WITHHELD.true)))
 
 pub returns-in-Some : goal.returns-in-Some
 returns-in-Some g c =
     let l = c.rounds in
     let short : length l.out.items < max_withheld = omega (arith, c.if-len-ge-MAX_WITHHELD.false) in
-    c.in-Some.ensures c.args.count.now c.args.most c.args.held.now.items
+    c.in-Some.ensures c.args.count.now c.args.most c.args.held.now
     (record { store = c.args.store.now; exchanges = c.args.exchanges.now; out = c.args.out.now.items })
     (below_end l.turns c.args.count.now c.args.most c.most.result c.last_turn-end.result c.rounds-test.true c.last_turn-end.ensures) short l.invariant
 
@@ -33,7 +33,7 @@ rounds-preserved g c =
     let begin : Moment g.row.D.Denot = record { store = c.args.store.now; exchanges = c.args.exchanges.now; out = c.args.out.now.items } in
     let new : Moment g.row.D.Denot = record { store = c.take_round.new.store; exchanges = c.take_round.new.exchanges; out = c.take_round.new.out.items } in
     let short : length l.out.items < max_withheld = omega (arith, c.if-len-ge-MAX_WITHHELD.false) in
-    let round : EndsRound p c.args.number c.args.count.now c.args.most c.args.held.now.items begin new l.turns c.take_round.new.held.items None =
-    rw c.in_default.is at (c.take_round.ensures c.args.count.now c.args.most c.args.held.now.items begin
+    let round : EndsRound p c.args.number c.args.count.now c.args.most c.args.held.now begin new l.turns c.take_round.new.held None =
+    rw c.in_default.is at (c.take_round.ensures c.args.count.now c.args.most c.args.held.now begin
     (below_end l.turns c.args.count.now c.args.most c.most.result c.last_turn-end.result c.rounds-test.true c.last_turn-end.ensures) short l.invariant) in
     round

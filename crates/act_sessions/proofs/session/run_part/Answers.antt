@@ -13,36 +13,36 @@ rounds-init g c =
     let p = g.P.Protocol.rules in
     let i = g.R.Read.remaining c.args.reader.now in
     let now = moment (g.W.Write.contents c.args.writer.now) (g.A.Answer.asked c.args.answerer.now) c.args.transcript.now in
-    goes_start p i now (at c.args.count.now c.args.buffer.now.items) c.requires.room (search rules) (search rules)
+    goes_start p i now (at c.args.count.now c.args.held.now) c.requires.room (search rules) (search rules)
 
 pub returns-in-Ok-Some-true-clause-part : goal.returns-in-Ok-Some-true-clause-part
 returns-in-Ok-Some-true-clause-part g c =
     let p = g.P.Protocol.rules in
-    let from = at c.args.count.now c.args.buffer.now.items in
+    let from = at c.args.count.now c.args.held.now in
     let i = g.R.Read.remaining c.args.reader.now in
     let i2 = g.R.Read.remaining c.take_round.new.reader in
     let old = moment (g.W.Write.contents c.args.writer.now) (g.A.Answer.asked c.args.answerer.now) c.args.transcript.now in
     let new = moment (g.W.Write.contents c.take_round.new.writer) (g.A.Answer.asked c.take_round.new.answerer) c.take_round.new.transcript in
-    let round : EndsRound p from i i2 old new c.take_round.new.buffer.items c.rounds.turns (Ok (Some true)) =
+    let round : EndsRound p from i i2 old new c.take_round.new.held c.rounds.turns (Ok (Some true)) =
     rw (c.in-Ok-Some-true.field-0-is, c.in-Ok-Some-true.field-0-0-test) at (c.in-Ok-Some-true.ensures from i old c.rounds.invariant) in
     round
 
 pub returns-in-Ok-None-clause-part : goal.returns-in-Ok-None-clause-part
 returns-in-Ok-None-clause-part g c =
     let p = g.P.Protocol.rules in
-    let from = at c.args.count.now c.args.buffer.now.items in
+    let from = at c.args.count.now c.args.held.now in
     let i = g.R.Read.remaining c.args.reader.now in
     let i2 = g.R.Read.remaining c.take_round.new.reader in
     let old = moment (g.W.Write.contents c.args.writer.now) (g.A.Answer.asked c.args.answerer.now) c.args.transcript.now in
     let new = moment (g.W.Write.contents c.take_round.new.writer) (g.A.Answer.asked c.take_round.new.answerer) c.take_round.new.transcript in
-    let round : EndsRound p from i i2 old new c.take_round.new.buffer.items c.rounds.turns (Ok None) =
+    let round : EndsRound p from i i2 old new c.take_round.new.held c.rounds.turns (Ok None) =
     rw c.in-Ok-None.field-0-is at (c.in-Ok-None.ensures from i old c.rounds.invariant) in
     round
 
 pub returns-in-Err-clause-part : goal.returns-in-Err-clause-part
 returns-in-Err-clause-part g c =
     let p = g.P.Protocol.rules in
-    let from = at c.args.count.now c.args.buffer.now.items in
+    let from = at c.args.count.now c.args.held.now in
     let i = g.R.Read.remaining c.args.reader.now in
     let i2 = g.R.Read.remaining c.take_round.new.reader in
     let old = moment (g.W.Write.contents c.args.writer.now) (g.A.Answer.asked c.args.answerer.now) c.args.transcript.now in
@@ -50,12 +50,12 @@ returns-in-Err-clause-part g c =
     let mid = moment (g.W.Write.contents c.take_round.new.writer) asked c.take_round.new.transcript in
     let new = moment (g.W.Write.contents c.abort.new.writer) asked c.abort.new.transcript in
     let paused : HasPaused p c.in-Err.error from i i2 old mid = c.in-Err.ensures from i old c.rounds.invariant in
-    gave_up p c.in-Err.error from (at c.args.count.now c.take_round.new.buffer.items) i i2 old mid new c.abort.result paused refl (c.abort.ensures asked)
+    gave_up p c.in-Err.error from (at c.args.count.now c.take_round.new.held) i i2 old mid new c.abort.result paused refl (c.abort.ensures asked)
 
 pub returns-in-Ok-Some-true-clause-exchanges : goal.returns-in-Ok-Some-true-clause-exchanges
 returns-in-Ok-Some-true-clause-exchanges g c =
     let p = g.P.Protocol.rules in
-    let from = at c.args.count.now c.args.buffer.now.items in
+    let from = at c.args.count.now c.args.held.now in
     let i = g.R.Read.remaining c.args.reader.now in
     let i2 = g.R.Read.remaining c.take_round.new.reader in
     let out = g.W.Write.contents c.args.writer.now in
@@ -64,15 +64,15 @@ returns-in-Ok-Some-true-clause-exchanges g c =
     let now = g.A.Answer.asked c.take_round.new.answerer in
     let old = moment out asked c.args.transcript.now in
     let new = moment written now c.take_round.new.transcript in
-    let round : EndsRound p from i i2 old new c.take_round.new.buffer.items c.rounds.turns (Ok (Some true)) =
+    let round : EndsRound p from i i2 old new c.take_round.new.held c.rounds.turns (Ok (Some true)) =
     rw (c.in-Ok-Some-true.field-0-is, c.in-Ok-Some-true.field-0-0-test) at (c.in-Ok-Some-true.ensures from i old c.rounds.invariant) in
     part_told p from first i i2 out written asked now c.args.transcript.now c.take_round.new.transcript (Over Done) round
 
 pub returns-in-Ok-None-clause-exchanges : goal.returns-in-Ok-None-clause-exchanges
 returns-in-Ok-None-clause-exchanges g c =
     let p = g.P.Protocol.rules in
-    let from = at c.args.count.now c.args.buffer.now.items in
-    let to = at c.rounds.turns c.take_round.new.buffer.items in
+    let from = at c.args.count.now c.args.held.now in
+    let to = at c.rounds.turns c.take_round.new.held in
     let i = g.R.Read.remaining c.args.reader.now in
     let i2 = g.R.Read.remaining c.take_round.new.reader in
     let out = g.W.Write.contents c.args.writer.now in
@@ -81,15 +81,15 @@ returns-in-Ok-None-clause-exchanges g c =
     let now = g.A.Answer.asked c.take_round.new.answerer in
     let old = moment out asked c.args.transcript.now in
     let new = moment written now c.take_round.new.transcript in
-    let round : EndsRound p from i i2 old new c.take_round.new.buffer.items c.rounds.turns (Ok None) =
+    let round : EndsRound p from i i2 old new c.take_round.new.held c.rounds.turns (Ok None) =
     rw c.in-Ok-None.field-0-is at (c.in-Ok-None.ensures from i old c.rounds.invariant) in
     part_told p from to i i2 out written asked now c.args.transcript.now c.take_round.new.transcript AwaitsInput round
 
 pub returns-in-Ok-None-clause-waits : goal.returns-in-Ok-None-clause-waits
 returns-in-Ok-None-clause-waits g c same =
     let p = g.P.Protocol.rules in
-    let from = at c.args.count.now c.args.buffer.now.items in
-    let to = at c.rounds.turns c.take_round.new.buffer.items in
+    let from = at c.args.count.now c.args.held.now in
+    let to = at c.rounds.turns c.take_round.new.held in
     let i = g.R.Read.remaining c.args.reader.now in
     let i2 = g.R.Read.remaining c.take_round.new.reader in
     let old = moment (g.W.Write.contents c.args.writer.now) (g.A.Answer.asked c.args.answerer.now) c.args.transcript.now in
@@ -103,8 +103,8 @@ returns-in-Ok-None-clause-waits g c same =
 pub returns-in-Err-clause-exchanges : goal.returns-in-Err-clause-exchanges
 returns-in-Err-clause-exchanges g c =
     let p = g.P.Protocol.rules in
-    let from = at c.args.count.now c.args.buffer.now.items in
-    let to = at c.args.count.now c.take_round.new.buffer.items in
+    let from = at c.args.count.now c.args.held.now in
+    let to = at c.args.count.now c.take_round.new.held in
     let i = g.R.Read.remaining c.args.reader.now in
     let i2 = g.R.Read.remaining c.take_round.new.reader in
     let out = g.W.Write.contents c.args.writer.now in

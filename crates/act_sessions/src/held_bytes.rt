@@ -1,0 +1,81 @@
+ghost use Rattle.std.specs.Prelude.{◌≡◌, ◌++◌, [], length, IfErr, IfOk};
+ghost use Rattle.act_sessions.specs.Taking.{Finds};
+
+use crate::protocol::Protocol;
+use crate::request::{Next, Progress, Request};
+use std::alloc::{AllocError, Global};
+use std::marker::{Model, PhantomData};
+use wf_value::Refusal;
+
+/// The bytes that a session holds: those that it has received, without the requests that were taken. How far they were read is kept,
+/// and they are not looked at again before they can be a request.
+#[derive(Drop)]
+pub struct HeldBytes<P: Protocol> {
+    bytes: Vec<u8>,
+    progress: Progress,
+    /// How many bytes there have to be before they can be a request.
+    until: usize,
+    protocol: PhantomData<P>,
+}
+
+impl<P: Protocol> Model for HeldBytes<P> {
+    ghost use Rattle.std.specs.Prelude.{ℕ, List};
+    ghost use Rattle.act_sessions.specs.Held.{IsHeld};
+
+    ghost Value = { List ℕ };
+
+    ghost view = { λ h. h.bytes.items };
+
+    ghost invariant = { λ h. IsHeld P.Protocol.rules P.Protocol.known h.bytes.items h.progress h.until };
+}
+
+impl<P: Protocol> HeldBytes<P> {
+    /// No bytes. Takes no memory.
+    pub fn new(alloc: Global) -> HeldBytes<P>
+        ensures { result ≡ [] }
+    {
+        HeldBytes {
+            bytes: Vec::new(alloc),
+            progress: Progress::none(),
+            until: 0,
+            protocol: PhantomData,
+        }
+    }
+
+    /// How many bytes there are.
+    pub fn len(&self) -> usize
+        ensures { result ≡ length self.now }
+    {
+        self.bytes.len()
+    }
+
+    /// Appends bytes.
+    pub fn append(&mut self, bytes: &[u8]) -> Result<(), AllocError>
+        ensures ok { IfOk result (λ _. self.new ≡ self.old ++ bytes.now) }
+        ensures err { IfErr result (λ _. self.new ≡ self.old) }
+    {
+        self.bytes.extend_from_slice(bytes)
+    }
+
+    /// Takes the whole request at the start of the bytes. Returns `None` if more bytes are needed.
+    pub fn next_request(&mut self, alloc: Global) -> Result<Option<Request<P::Fault>>, Refusal>
+        ensures { Finds P.rules self.old self.new result }
+    {
+        if self.bytes.len() < self.until {
+            return Ok(None);
+        }
+        match P::next(alloc, &self.bytes, self.progress)? {
+            Next::Whole(found) => {
+                self.bytes.drain(..found.length);
+                self.progress = Progress::none();
+                self.until = 0;
+                Ok(Some(found.request))
+            }
+            Next::Waits { until, progress } => {
+                self.progress = progress;
+                self.until = until;
+                Ok(None)
+            }
+        }
+    }
+}
