@@ -1,6 +1,9 @@
 -- The bytes of a store file that has a table and no record.
-use Rattle.std.specs.Prelude.{ℕ, List, ◌∷◌, ◌++◌, replicate}
+use Rattle.std.specs.Prelude.{ℕ, ◌-◌, List, ◌∷◌, ◌++◌, length, nat_le, replicate, Bool, ◌&&◌}
+use Rattle.stated_limits.specs.Limits.{max_area, min_area}
 use Rattle.gated_journal.specs.Layout.{Head, head_bytes}
+use Rattle.run_table.specs.TableState.{TableState}
+use Rattle.table_text.specs.WholeTables.{whole_table}
 use Rattle.act_store.specs.Layouts.{current_version}
 use Rattle.view_sessions.specs.declared.file_bytes.FileBytes.{FileBytes}
 
@@ -11,6 +14,12 @@ copy_head text = record { version = current_version; generation = 1; text = text
 -- an open gate, and the head with the text of the table
 abbrev pub copy_front : List ℕ → List ℕ
 copy_front text = 0xA5 ∷ head_bytes (copy_head text)
+
+-- whether there is such a file of two areas of this length: the text leaves room for a head, its gate, and the gate of the first record
+abbrev pub fits : ℕ → TableState → Bool
+fits area t =
+    nat_le (length t.runners) 4294967295
+    && (nat_le min_area area && (nat_le area max_area && nat_le (length (whole_table.encoding t)) (area - 19)))
 
 -- the whole file
 abbrev pub file_of : FileBytes → List ℕ

@@ -1,11 +1,11 @@
-ghost use Rattle.std.specs.Prelude.{◌≡◌, ◌+◌, ◌<◌, ◌≤◌, ◌^◌, IfOk, IfSome, OnOk, length, true};
+ghost use Rattle.std.specs.Prelude.{◌≡◌, ◌+◌, ◌<◌, ◌≤◌, ◌^◌, IfOk, IfSome, OnOk, is_some, length, true};
 ghost use Rattle.run_table.specs.Sound.{IsSound};
 ghost use Rattle.table_text.specs.WholeTables.{whole_table};
 ghost use Rattle.wf_value.specs.Gives.{ErrsOnlyByMemory};
 ghost use Rattle.act_store.specs.Images.{IsAreaLength, RecoversTo};
 ghost use Rattle.act_store.specs.TableText.{EncodesTable};
 ghost use Rattle.act_store.specs.declared.layout.Layout.TheVariants as layouts;
-ghost use Rattle.store_copies.specs.Copies.{copy_front, file_of};
+ghost use Rattle.store_copies.specs.Copies.{copy_front, file_of, fits};
 
 use act_store::{MAX_AREA, MIN_AREA};
 use gated_journal::OPEN;
@@ -25,6 +25,7 @@ const GENERATION: u64 = 1;
 /// Whether the text of a table fits an area of this length, with a head, its own gate and one for the first record.
 fn fits(area: u64, table: &Table) -> bool
     ensures sound { IsSound table.now }
+    ensures exact { result ≡ fits area table.now }
     ensures few { result ≡ true → length table.now.runners ≤ 4294967295 }
     ensures area { result ≡ true → IsAreaLength area }
     ensures room { result ≡ true → length (whole_table.encoding table.now) + 19 ≤ area }
@@ -58,6 +59,7 @@ fn front(alloc: Global, table: &Table) -> Result<Vec<u8>, Refusal>
 pub fn copy_of(alloc: Global, area: u64, table: &Table) -> Result<Option<FileBytes>, Refusal>
     ensures err { ErrsOnlyByMemory result }
     ensures recovers { IfOk result (λ found. IfSome found (λ copy. RecoversTo table.now (file_of copy))) }
+    ensures none { IfOk result (λ found. is_some found ≡ fits area table.now) }
     ensures size { IfOk result (λ found. IfSome found (λ copy. length (file_of copy) ≡ area + area)) }
 {
     if !fits(area, table) {
