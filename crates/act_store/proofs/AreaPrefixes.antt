@@ -9,7 +9,7 @@ use Rattle.gated_journal.specs.Choice.{part}
 use Rattle.gated_journal.specs.Layout.{Head, IsClosed, Reads, ReadsNothing, opened}
 use Rattle.gated_journal.proofs.OneReading.{one_reading}
 use Rattle.act_store.specs.AreaPrefix.{IsPrefixOf, IsShort, ReadsAlike, ReadsSomething}
-use Rattle.act_store.specs.declared.area_prefix.TheConstants.{FIRST_READ}
+use Rattle.act_store.specs.Limits.{first_read}
 
 cut_there : (start n len : ℕ) (disk : List ℕ) → n ≤ len → take n (part start len disk) ≡ part start n disk
 cut_there start n len disk within = take-take n len (drop start disk) within
@@ -94,6 +94,6 @@ alike start len bytes disk prefix within enough =
 
 -- The bytes stay few: twice as many are read only if the earlier ones read as nothing.
 pub still_short : (old new : List ℕ) (n : ℕ) → length old ≡ n → take n new ≡ old → ReadsNothing old
-    → (length new ≤ FIRST_READ) ⊎ (length new ≤ 2 * n) → IsShort new
+    → (length new ≤ first_read) ⊎ (length new ≤ 2 * n) → IsShort new
 still_short old new n long prefix nothing at_most =
     ⊎_elim inl (λ half. inr (n, half, subst ReadsNothing (sym prefix) nothing)) at_most

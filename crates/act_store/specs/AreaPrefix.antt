@@ -2,7 +2,7 @@
 use Rattle.std.specs.Prelude.{◌≡◌, ◌⊎◌, ◌↔◌, ℕ, ◌*◌, ◌≤◌, List, length, take}
 use Rattle.gated_journal.specs.Choice.{part}
 use Rattle.gated_journal.specs.Layout.{Head, Reads, ReadsNothing}
-use Rattle.act_store.specs.declared.area_prefix.TheConstants.{FIRST_READ}
+use Rattle.act_store.specs.Limits.{first_read}
 
 -- The bytes are those of the disk from there on.
 abbrev pub IsPrefixOf : ℕ → List ℕ → List ℕ → Type 0
@@ -17,4 +17,4 @@ ReadsSomething bytes = (head : Head) × (bodies : List (List ℕ)) × Reads byte
 
 -- The bytes are at most 65,536, or at least half of them are needed: a prefix of half their length or more reads as nothing.
 abbrev pub IsShort : List ℕ → Type 0
-IsShort bytes = (length bytes ≤ FIRST_READ) ⊎ ((n : ℕ) × (length bytes ≤ 2 * n) × ReadsNothing (take n bytes))
+IsShort bytes = (length bytes ≤ first_read) ⊎ ((n : ℕ) × (length bytes ≤ 2 * n) × ReadsNothing (take n bytes))

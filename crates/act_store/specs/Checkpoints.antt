@@ -13,7 +13,7 @@ use Rattle.act_store.specs.Entries.{commands_of}
 use Rattle.act_store.specs.StoreState.{Checkpoint, StoreState, table_of}
 use Rattle.act_store.specs.declared.layout.Layout.TheVariants as layouts
 use Rattle.act_store.specs.Plain.{area_full, batch_length, checkpoint_order, failed_earlier}
-use Rattle.act_store.specs.declared.check_slice.TheConstants.{SLICE}
+use Rattle.act_store.specs.Limits.{max_slice}
 
 abbrev pub last_counter : Refusal
 last_counter = Numbered LastCounter
@@ -58,9 +58,9 @@ is_written (Some checkpoint) = checkpoint.left == 0
 abbrev pub refusal_of_slice : {D : Type 0} → StoreState D → Option Refusal
 refusal_of_slice s = if s.failed then Some failed_earlier else (if is_written s.begun then Some checkpoint_order else None)
 
--- up to `SLICE` bytes are written
+-- up to `max_slice` bytes are written
 abbrev pub with_slice : Checkpoint → Checkpoint
-with_slice checkpoint = record checkpoint { left = checkpoint.left - SLICE }
+with_slice checkpoint = record checkpoint { left = checkpoint.left - max_slice }
 
 abbrev pub sliced : {D : Type 0} → StoreState D → D → StoreState D
 sliced s disk = record s { disk = disk; begun = option_map with_slice s.begun }

@@ -5,6 +5,7 @@ pub mod GroupsOfHistory
 pub mod Images
 pub mod LastPart
 pub mod Layouts
+pub mod Limits
 pub mod Meaning
 pub mod Opened
 pub mod OtherGate

@@ -9,6 +9,7 @@ ghost use Rattle.gated_journal.specs.Layout.{ReadsNothing};
 ghost use Rattle.gated_journal.specs.Reading.{OnlyRead};
 ghost use Rattle.act_store.specs.AreaPrefix.{IsPrefixOf, IsShort, ReadsAlike, ReadsSomething};
 ghost use Rattle.act_store.specs.FaultCauses.{TellsFault};
+ghost use Rattle.act_store.specs.Limits.{first_read};
 
 use act_disk::{Disk, DiskFault};
 use gated_journal::{Area, scan};
@@ -63,7 +64,7 @@ fn read_on<D: Disk>(disk: &mut D, area: Area, bytes: &mut Vec<u8>) -> Result<(),
     ensures prefix { OnOk result (take (vec_len bytes.old) bytes.new.items ≡ bytes.old.items) }
     ensures longer { OnOk result (vec_len bytes.old < vec_len bytes.new) }
     ensures within { OnOk result (vec_len bytes.new ≤ area.len) }
-    ensures at_most { OnOk result ((vec_len bytes.new ≤ FIRST_READ) ⊎ (vec_len bytes.new ≤ 2 * vec_len bytes.old)) }
+    ensures at_most { OnOk result ((vec_len bytes.new ≤ first_read) ⊎ (vec_len bytes.new ≤ 2 * vec_len bytes.old)) }
     ensures images { D.honest disk.new → SameImages (D.images disk.old) (D.images disk.new) }
     ensures only_read { OnlyRead D.honest D.seen D.size D.moment D.images D.images_since disk.old disk.new }
     ensures faults { TellsFault result (D.fault_count disk.old) (D.fault_count disk.new) }
@@ -81,7 +82,7 @@ fn next_length(read: usize, most: usize) -> usize
     requires { (read < most) × (most < 2 ^ 62) }
     ensures longer { read < result }
     ensures within { result ≤ most }
-    ensures at_most { (result ≤ FIRST_READ) ⊎ (result ≤ 2 * read) }
+    ensures at_most { (result ≤ first_read) ⊎ (result ≤ 2 * read) }
 {
     (2 * read).max(FIRST_READ).min(most)
 }

@@ -9,6 +9,7 @@ ghost use Rattle.act_store.specs.Checkpoints.{left_of, refusal_of_slice, sliced}
 ghost use Rattle.act_store.specs.StoreState.{RecoversToEither};
 ghost use Rattle.act_store.specs.Plain.{broken};
 ghost use Rattle.act_store.specs.FaultCauses.{TellsFault};
+ghost use Rattle.act_store.specs.Limits.{max_slice};
 
 use crate::begun::Begun;
 use crate::store::Store;
@@ -87,7 +88,7 @@ fn put_slice<D: Disk>(areas: AreaPair, disk: &mut D, begun: &mut Begun) -> Resul
         → Holds (D.seen disk.new) (start_of areas.len (other areas.side) + 1) (take begun.new.put begun.old.prefix.items)) }
     ensures same_prefix { begun.new.prefix.items ≡ begun.old.prefix.items }
     ensures same_place { begun.new.place ≡ begun.old.place }
-    ensures put { OnOk result (begun.new.put ≡ min (begun.old.put + SLICE) (length begun.old.prefix.items)) }
+    ensures put { OnOk result (begun.new.put ≡ min (begun.old.put + max_slice) (length begun.old.prefix.items)) }
     ensures same { OnErr result (begun.new ≡ begun.old) }
     ensures calls { D.calls disk.new ≡ D.calls disk.old + 1 }
     ensures faults { CountsFault result (D.fault_count disk.old) (D.fault_count disk.new) }

@@ -1,7 +1,7 @@
 use Rattle.std.proofs.Common.{rules, ◌≡◌, ◌⊎◌, ◌≤◌, ◌*◌, ℕ, List, length, refl, subst}
 use Rattle.gated_journal.specs.Layout.{ReadsNothing}
 use Rattle.act_store.specs.AreaPrefix.{IsPrefixOf, ReadsSomething}
-use Rattle.act_store.specs.declared.area_prefix.TheConstants.{FIRST_READ}
+use Rattle.act_store.specs.Limits.{first_read}
 use Rattle.act_store.proofs.AreaPrefixes.{alike, still_short}
 use Rattle.act_store.proofs.ReadTwice.{read_twice}
 use Rattle.act_store.proofs.area_prefix.read_prefix.Goals as goal
@@ -14,7 +14,7 @@ loop-area-preserved g c =
     let old = c.loop-area.bytes.items in
     let new = c.read_on.new.bytes.items in
     let nothing : ReadsNothing old = subst ReadsNothing c.as_slice.ensures.value (c.is_enough.ensures.nothing (search rules)) in
-    let at_most : (length new ≤ FIRST_READ) ⊎ (length new ≤ 2 * length old) = search rules in
+    let at_most : (length new ≤ first_read) ⊎ (length new ≤ 2 * length old) = search rules in
     record {
       prefix = λ honest.
           let before = c.read_on.ensures.only_read.was_honest honest in
