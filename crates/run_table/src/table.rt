@@ -67,7 +67,6 @@ impl Table {
         ensures err { OnErr result (self.new ≡ self.old) }
         ensures answers { is_allocation_free (read_only_reply self.old command.now) ≡ true → IsOk result }
     {
-        self.table_data.runs.forget_tries();
         self.table_data.step(alloc, command)
     }
 
@@ -84,13 +83,15 @@ impl Table {
         ensures err { OnErr result (self.new ≡ self.old) }
         ensures answers { is_allocation_free (read_only_reply self.old command.now) ≡ true → IsOk result }
     {
-        self.table_data.runs.forget_tries();
         self.table_data.step_with_copy(alloc, command)
     }
 
-    /// How many times the last step tried a settling rule at a place. No contract mentions it.
-    pub fn looked(&self) -> u64 {
-        self.table_data.runs.tries()
+    /// How many times steps tried a settling rule at a place, and how many runs claims looked at, since the last call. The table stays as it
+    /// is.
+    pub fn take_tries(&mut self) -> u64
+        ensures { self.new ≡ self.old }
+    {
+        self.table_data.runs.take_tries()
     }
 
     /// The view of the run with this id, or `None` if there is no such run. It takes no memory.

@@ -27,6 +27,13 @@ fn step(alloc: Global, table: &mut Table, words: &Words<'_>) -> Result<Reply, Re
     table.step(alloc, &command)
 }
 
+/// How many times the step tries a rule.
+fn tries_of_step(alloc: Global, table: &mut Table, words: &Words<'_>) -> Result<u64, Refusal> {
+    let _earlier = table.take_tries();
+    step(alloc, table, words)?;
+    Ok(table.take_tries())
+}
+
 /// Admits, claims and finishes the run that follows `before` others of its table. The runner has sent two commands for
 /// each.
 fn finish_run(alloc: Global, table: &mut Table, before: u32) -> Result<(), Refusal> {
@@ -53,8 +60,8 @@ fn tries_after(alloc: Global, runs: u32) -> Result<(usize, u64), Refusal> {
         .iter()
         .filter(|run| matches!(run.phase(), RunPhase::Ended))
         .count();
-    step(alloc, &mut table, &Words::Admit("another", BUILD))?;
-    Ok((ended, table.looked()))
+    let tries = tries_of_step(alloc, &mut table, &Words::Admit("another", BUILD))?;
+    Ok((ended, tries))
 }
 
 #[test]
@@ -98,10 +105,9 @@ const GROUPS: u32 = 800;
 /// How many times a claim, and then an admission into another group, tries a rule beside so many groups.
 fn tries_beside_groups(alloc: Global, groups: u32) -> Result<(u64, u64), Refusal> {
     let mut table = with_groups(alloc, groups)?;
-    step(alloc, &mut table, &Words::Claim("r1", "1", "linux"))?;
-    let by_claim = table.looked();
+    let by_claim = tries_of_step(alloc, &mut table, &Words::Claim("r1", "1", "linux"))?;
     admit_in_group(alloc, &mut table, groups, "a")?;
-    Ok((by_claim, table.looked()))
+    Ok((by_claim, table.take_tries()))
 }
 
 #[test]
@@ -117,10 +123,10 @@ fn tries_of_a_report_beside_groups(alloc: Global, groups: u32) -> Result<(u64, b
     let mut table = with_groups(alloc, groups)?;
     step(alloc, &mut table, &Words::Claim("r1", "1", "linux"))?;
     let done = Words::Done("r1", "2", "1", Outcome::Success);
-    step(alloc, &mut table, &done)?;
+    let tries = tries_of_step(alloc, &mut table, &done)?;
     let pending = table.runs().get(1);
     let is_next = pending.is_some_and(|run| matches!(run.phase(), RunPhase::Live));
-    Ok((table.looked(), is_next))
+    Ok((tries, is_next))
 }
 
 #[test]
@@ -136,8 +142,8 @@ fn a_look_tries_no_rule(rt: HostRuntime) {
     let alloc = rt.alloc();
     let mut table = Table::new(alloc);
     finish_run(alloc, &mut table, 0).expect(&rt, "memory");
-    step(alloc, &mut table, &Words::Look("1")).expect(&rt, "memory");
-    holds!(rt; table.looked() == 0);
+    let tries = tries_of_step(alloc, &mut table, &Words::Look("1")).expect(&rt, "memory");
+    holds!(rt; tries == 0);
 }
 
 /// The number of jobs of the event whose admission applies many rules.
@@ -163,8 +169,7 @@ fn body_of(alloc: Global, jobs: u64) -> Result<String, Refusal> {
 fn tries_of(alloc: Global, jobs: u64) -> Result<u64, Refusal> {
     let mut table = Table::new(alloc);
     let body = body_of(alloc, jobs)?;
-    step(alloc, &mut table, &Words::Admit("d1", body.as_str()))?;
-    Ok(table.looked())
+    tries_of_step(alloc, &mut table, &Words::Admit("d1", body.as_str()))
 }
 
 /// Each rule that is applied was tried: the run goes live, and the rules of each job follow.

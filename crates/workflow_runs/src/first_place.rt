@@ -14,7 +14,7 @@ use crate::runs::Runs;
 use crate::walk::Legs;
 use run_states::{Holder, Job, Leg, LegPhase, LegPlace, RuleSite, Run, RunPhase};
 
-fn count(tries: &mut u64)
+pub(crate) fn count(tries: &mut u64)
     ensures { tries.old + 1 < 2 ^ 64 → tries.new ≡ tries.old + 1 }
 {
     *tries = tries.saturating_add(1);

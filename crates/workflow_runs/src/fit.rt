@@ -11,6 +11,7 @@ ghost use Rattle.run_states.specs.Places.{leg_at, run_at};
 ghost use Rattle.run_states.specs.WithinRun.{fit_in_job, fit_in_jobs, lease_in_run, served_in_job};
 ghost use Rattle.run_states.specs.Words.{planned_legs};
 
+use crate::first_place::count;
 use crate::runs::Runs;
 use crate::walk::Legs;
 use run_plan::{Label, Number};
@@ -86,14 +87,16 @@ fn fit_in_run(labels: &[Label], runs: &Runs, r: usize, run: &Run) -> Option<LegP
     fit_in_jobs(labels, runs, r, run.planned_jobs())
 }
 
-/// The first ready leg such that `labels` has all labels that it asks for and one more leg of its job may run. Takes no memory.
-pub fn first_fit(labels: &[Label], runs: &Runs) -> Option<LegPlace>
+/// The first ready leg such that `labels` has all labels that it asks for and one more leg of its job may run. Takes no memory. `tries` counts
+/// the runs that are looked at.
+pub(crate) fn first_fit(labels: &[Label], runs: &Runs, tries: &mut u64) -> Option<LegPlace>
     ensures found { result ≡ first_fit labels.now runs.now }
     ensures run { IfSome result (λ p. p.run < max_runs) }
 {
     let all = runs.as_slice();
     let mut from = 0;
     while let Some(r) = runs.next_offering(labels, from) {
+        count(tries);
         let run = &all[r];
         let place = fit_in_run(labels, runs, r, run);
         if place.is_some() {

@@ -20,7 +20,6 @@ use run_plan::{BoxedLease, Claim, ClaimReply, LAST_NUMBER, Number, Reply};
 use run_states::LegPlace;
 use std::alloc::Global;
 use wf_value::{Code, Refusal, TryCopy};
-use workflow_runs::fit::first_fit;
 use workflow_runs::runs::Runs;
 
 impl TableData {
@@ -58,7 +57,7 @@ impl TableData {
         ensures err { OnErr result (self.new ≡ self.old) }
         ensures answers { is_some (lease_answer self.old claim.now) ≡ true → IsOk result }
     {
-        match first_fit(claim.labels.as_slice(), &self.runs) {
+        match self.runs.first_fit(claim.labels.as_slice()) {
             None => self.serve_nothing(alloc, claim, place),
             Some(_) if self.last_lease >= LAST_NUMBER => {
                 Ok((refused(Code::LastCounter), refused(Code::LastCounter)))

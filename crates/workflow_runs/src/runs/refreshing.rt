@@ -5,6 +5,7 @@ ghost use Rattle.std.specs.Bool.{Decides};
 ghost use Rattle.stated_limits.specs.Limits.{max_runs};
 ghost use Rattle.run_marks.specs.Marked.{is_marked};
 ghost use Rattle.run_states.specs.ActiveRuns.{is_active};
+ghost use Rattle.run_states.specs.Fitting.{first_fit};
 ghost use Rattle.run_states.specs.Resuming.{JobsRestBefore, RestBefore, apply_at};
 ghost use Rattle.run_states.specs.Places.{run_at};
 ghost use Rattle.run_states.specs.RunState.{RunState};
@@ -13,11 +14,12 @@ ghost use Rattle.run_states.specs.WithinRun.{first_in_run, fit_in_run};
 ghost use Rattle.resuming_laws.specs.RunFacts.{is_so_at};
 
 use crate::first_place::first_in_run_at;
+use crate::fit::first_fit;
 use crate::rows::offers::{below, first_offering};
 use crate::runs::Runs;
 use run_marks::RunBitmap;
 use run_plan::Label;
-use run_states::{JobPlace, RuleSite};
+use run_states::{JobPlace, LegPlace, RuleSite};
 
 impl Runs {
     /// The next run that may have a ready leg whose labels are all among `labels`.
@@ -104,15 +106,25 @@ impl Runs {
         self.first_place(JobPlace { run: 0, job: 0 }).is_none()
     }
 
-    /// How often settling has tried a rule at a place, since the last `forget_tries`. No contract depends on it.
-    pub fn tries(&self) -> u64 {
-        self.tries
+    /// The first ready leg such that `labels` has all labels that it asks for and one more leg of its job may run. Takes no memory.
+    pub fn first_fit(&mut self, labels: &[Label]) -> Option<LegPlace>
+        ensures found { result ≡ first_fit labels.now self.old }
+        ensures run { IfSome result (λ p. p.run < max_runs) }
+        ensures kept { self.new ≡ self.old }
+    {
+        let mut tries = self.tries;
+        let place = first_fit(labels, self, &mut tries);
+        self.tries = tries;
+        place
     }
 
-    pub fn forget_tries(&mut self)
+    /// How often a settling rule was tried at a place, and how many runs claims looked at, since the last call. The runs stay as they are.
+    pub fn take_tries(&mut self) -> u64
         ensures { self.new ≡ self.old }
     {
+        let tries = self.tries;
         self.tries = 0;
+        tries
     }
 }
 
