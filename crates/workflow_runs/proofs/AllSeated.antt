@@ -1,22 +1,20 @@
 -- The runs of a table that was stored: those in progress take their places, then those that are pending, and the book has exactly the
 -- holders of the table.
-use Rattle.std.specs.Prelude.{◌≡◌, ◌↔◌, ◌<◌, ◌&&◌, ◌||◌, ℕ, List, [], length, Bool, true, false, Option, None, Some, option_and_then, slice_get, refl}
+use Rattle.std.specs.Prelude.{◌≡◌, ◌<◌, ◌&&◌, ℕ, List, [], length, Bool, true, false, None, Some, option_and_then, refl}
 use Rattle.std.proofs.Common.{ap, subst, sym, ◌∙◌}
 use Rattle.std.proofs.lemmas.Bool.{and_parts, true≢false}
 use Rattle.std.proofs.lemmas.Option.{slice_get_within}
 use Rattle.group_book.specs.Books.{BookState, slot_in}
-use Rattle.group_book.specs.declared.slot.Slot.{Slot}
 use Rattle.group_name.specs.Group.{Group}
 use Rattle.run_marks.specs.Marked.{Covers, is_marked}
-use Rattle.run_states.specs.GroupOf.{group_at}
 use Rattle.run_states.specs.Groups.{HasOneEach, holds, is_in, waits}
 use Rattle.run_states.specs.RunState.{RunState}
 use Rattle.run_states.specs.declared.holder.Holder.{Holder}
 use Rattle.run_bindings.specs.GroupKeys.{ticket_in}
 use Rattle.run_bindings.specs.declared.bindings.RunBindings.{RunBindings}
-use Rattle.workflow_runs.specs.GroupsKept.{AreExact, AreTold, GroupsAreKept, arrivals_to_come, is_there}
+use Rattle.workflow_runs.specs.GroupsKept.{AreExact, GroupsAreKept}
 use Rattle.workflow_runs.specs.MarkedRuns.{AreMarked, is_due}
-use Rattle.workflow_runs.specs.RowsKept.{RowState, holder_key_at}
+use Rattle.workflow_runs.specs.RowsKept.{RowState}
 use Rattle.workflow_runs.specs.Seating.{AreApart, AreSeated, AreStored, HasSeats, HaveKeys, OneIsTaken, TakeSeats, in_place, is_of}
 use Rattle.workflow_runs.specs.declared.runs.of.Place.{Place}
 use Rattle.workflow_runs.specs.declared.runs.of.Place.TheVariants.{InProgress, Pending}

@@ -1,10 +1,9 @@
 -- What an arrival has done once the newcomer is entered in the book.
-use Rattle.std.specs.Prelude.{◌≡◌, ◌<◌, ◌+◌, List, Bool, true, false, Option, None, Some, if◌then◌else◌, is_some, not, option_and_then, refl}
+use Rattle.std.specs.Prelude.{◌≡◌, ◌<◌, List, Bool, true, false, Option, None, Some, if◌then◌else◌, is_some, not, option_and_then, refl}
 use Rattle.std.specs.Option.{option_map_or}
 use Rattle.std.proofs.Common.{arith, ap, sym, ◌∙◌}
 use Rattle.std.proofs.lemmas.Bool.{and_parts}
-use Rattle.group_book.specs.Books.{BookState, Puts, slot_in}
-use Rattle.group_book.specs.Slots.{with_newcomer}
+use Rattle.group_book.specs.Books.{BookState, slot_in}
 use Rattle.group_book.proofs.Exact.{it_is_in}
 use Rattle.group_name.specs.Group.{Group}
 use Rattle.run_states.specs.Arrivals.{arrived, room_made}
@@ -24,11 +23,10 @@ use Rattle.run_bindings.specs.declared.group_keys.HolderKey.TheVariants.{Known, 
 use Rattle.run_bindings.specs.declared.group_keys.KnownGroup.{KnownGroup}
 use Rattle.run_bindings.proofs.SpentKeys.{one_each}
 use Rattle.settling_laws.proofs.Arrives.{arrived_by_stops}
-use Rattle.workflow_runs.specs.Arriving.{ExactBeside, KeptBeside, stopped_if, waits_beside, with_first_stopped}
-use Rattle.workflow_runs.specs.GroupsKept.{AreTold, Knows, arrivals_to_come, is_there}
+use Rattle.workflow_runs.specs.Arriving.{KeptBeside, stopped_if, waits_beside, with_first_stopped}
+use Rattle.workflow_runs.specs.GroupsKept.{Knows}
 use Rattle.workflow_runs.specs.RowsKept.{holder_key_at}
-use Rattle.workflow_runs.proofs.Arriving.{has_one_beside, nobody_conflicts, pending_conflicts}
-use Rattle.workflow_runs.proofs.HoldersThere.{there_if_waits}
+use Rattle.workflow_runs.proofs.Arriving.{has_one_beside, nobody_conflicts}
 use Rattle.workflow_runs.proofs.SpentThere.{one_arrival_fewer}
 
 -- ---- a holder with a group has a key that is known, with its flag

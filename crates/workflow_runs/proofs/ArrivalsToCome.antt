@@ -1,6 +1,6 @@
 -- How many arrivals are to come once a run is added, or begins its next attempt.
-use Rattle.std.specs.Prelude.{◌≡◌, ◌≤◌, ◌<◌, ◌+◌, ◌++◌, ◌∷◌, ℕ, zero, suc, List, [], length, sum_by, Some, slice_get, slice_set, refl}
-use Rattle.std.proofs.Common.{arith, ap, sym, ◌∙◌}
+use Rattle.std.specs.Prelude.{◌≡◌, ◌≤◌, ◌+◌, ◌++◌, ◌∷◌, ℕ, zero, suc, List, [], sum_by, Some, slice_get, slice_set}
+use Rattle.std.proofs.Common.{arith, ap}
 use Rattle.std.proofs.lemmas.List.Sums.{sum_by-append, sum_by-cons}
 use Rattle.std.proofs.lemmas.Option.{same_Some}
 use Rattle.run_bindings.specs.GroupKeys.{arrivals_of}

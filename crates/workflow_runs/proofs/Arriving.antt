@@ -1,7 +1,7 @@
 -- An arrival in the book of groups: the newcomer takes the place of the holder that was pending in its group, which ends.
-use Rattle.std.specs.Prelude.{◌≡◌, ◌↔◌, ◌≤◌, ◌+◌, ◌&&◌, List, [], ◌∷◌, find, not, Bool, true, false, Option, None, Some, if◌then◌else◌, option_and_then, refl}
+use Rattle.std.specs.Prelude.{◌≡◌, ◌≤◌, ◌+◌, ◌&&◌, List, [], ◌∷◌, find, not, Bool, true, false, Option, None, Some, if◌then◌else◌, option_and_then, refl}
 use Rattle.std.specs.Option.{option_map_or}
-use Rattle.std.proofs.Common.{arith, ap, ap₂, subst, sym, ◌∙◌}
+use Rattle.std.proofs.Common.{arith, ap, subst, sym, ◌∙◌}
 use Rattle.std.proofs.lemmas.Bool.{and_parts, true≢false}
 use Rattle.group_book.specs.Books.{BookState, Puts, slot_in}
 use Rattle.group_book.specs.Slots.{with_newcomer}

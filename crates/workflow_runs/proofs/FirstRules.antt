@@ -1,5 +1,5 @@
 -- What the rule at the first place where one applies says of the run, the job or the leg there.
-use Rattle.std.specs.Prelude.{◌≡◌, ◌&&◌, ℕ, List, Bool, true, false, IfSome, None, Some, option_and_then, if◌then◌else◌, refl}
+use Rattle.std.specs.Prelude.{◌≡◌, ◌&&◌, ℕ, List, Bool, true, false, IfSome, None, Some, option_and_then, if◌then◌else◌}
 use Rattle.std.specs.List.{list_all}
 use Rattle.std.proofs.Common.{ap, sym, subst, ◌∙◌}
 use Rattle.std.proofs.lemmas.Bool.{and_parts}
@@ -8,7 +8,7 @@ use Rattle.wf_value.specs.declared.outcome.JobResult.TheVariants as result
 use Rattle.run_states.specs.Groups.{may_start}
 use Rattle.run_states.specs.Moves.{Transition, without_moves}
 use Rattle.run_states.specs.Places.{job_at, leg_at, run_at, with_job, with_run}
-use Rattle.run_states.specs.Rules.{closing_rule, decided, leg_rule, leg_rule_in, may_run, newcomer_rule, opening_rule, places, result_at, rule_at, whole_rule, whole_rule_in, with_leg_in}
+use Rattle.run_states.specs.Rules.{closing_rule, decided, leg_rule, leg_rule_in, may_run, opening_rule, places, result_at, rule_at, whole_rule, whole_rule_in}
 use Rattle.run_states.specs.RunState.{JobState, LegState, RunState}
 use Rattle.run_states.specs.Settling.{applies, first_place}
 use Rattle.run_states.specs.StateWords.{is_blocked, is_done, is_settled, opened, run_in_phase, settled_as}
@@ -146,17 +146,3 @@ run_has_ended runs new r x at ended =
 pub no_run_there : (runs new : List RunState) (r : ℕ) → run_at runs r ≡ None
     → IfSome (option_and_then (whole_rule runs r) (run_at runs r)) (λ next. new ≡ next.runs)
 no_run_there runs new r none = subst (λ o. IfSome (option_and_then (whole_rule runs r) o) (λ next. new ≡ next.runs)) (sym none) tt
-
--- a leg is new, or waits
-pub leg_arrived : (runs new : List RunState) (p : LegPlace) (z : LegState) → leg_at runs p ≡ Some z → z.phase ≡ leg.New
-    → new ≡ (newcomer_rule runs p).runs → IfSome (option_and_then (leg_rule runs p) (leg_at runs p)) (λ next. new ≡ next.runs)
-leg_arrived runs new p z at is_new is =
-    subst (λ o. IfSome (option_and_then (leg_rule runs p) o) (λ next. new ≡ next.runs)) (sym at)
-    (subst (λ (phase : LegPhase). IfSome (leg_rule_in phase runs p) (λ next. new ≡ next.runs)) (sym is_new) is)
-
-pub leg_started : (runs new : List RunState) (p : LegPlace) (z : LegState) → leg_at runs p ≡ Some z → z.phase ≡ leg.Waiting
-    → new ≡ with_leg_in leg.Ready p runs → IfSome (option_and_then (leg_rule runs p) (leg_at runs p)) (λ next. new ≡ next.runs)
-leg_started runs new p z at waiting is =
-    subst (λ o. IfSome (option_and_then (leg_rule runs p) o) (λ next. new ≡ next.runs)) (sym at)
-    (subst (λ (phase : LegPhase). IfSome (leg_rule_in phase runs p) (λ next. new ≡ next.runs)) (sym waiting)
-    (taken_if new (may_start runs (Leg p)) _ is))

@@ -2,24 +2,20 @@
 use Rattle.std.specs.Prelude.{◌≡◌, ◌↔◌, ◌<◌, ◌≤◌, ◌&&◌, ◌||◌, List, [], ◌∷◌, length, find, not, Bool, true, false, Option, None, Some, IfSome, is_some, if◌then◌else◌, refl}
 use Rattle.std.specs.List.{AllByRecursion, list_any}
 use Rattle.std.specs.Option.{option_map_or}
-use Rattle.std.proofs.Common.{arith, ap, ap₂, subst, sym, ◌∙◌}
-use Rattle.std.proofs.lemmas.Bool.{and_parts, true≢false}
+use Rattle.std.proofs.Common.{arith, ap, ap₂, sym, ◌∙◌}
+use Rattle.std.proofs.lemmas.Bool.{true≢false}
 use Rattle.stated_limits.specs.Limits.{max_runs}
 use Rattle.group_book.specs.Books.{slot_in}
 use Rattle.group_book.proofs.Exact.{it_is_in}
-use Rattle.group_name.specs.Group.{Group, same_group}
-use Rattle.group_name.proofs.SameGroups.{own_group, same_is_one}
-use Rattle.run_states.specs.Arrivals.{is_in_group_of_run}
+use Rattle.group_name.specs.Group.{Group}
 use Rattle.run_states.specs.GroupOf.{cancels_in_progress, group_at}
 use Rattle.run_states.specs.GroupWords.{same_holder}
-use Rattle.run_states.specs.Groups.{all_holders, holds, is_in, is_in_progress_in, is_pending_in, is_taken, may_start, waits}
+use Rattle.run_states.specs.Groups.{all_holders, holds, is_in_progress_in, is_pending_in, is_taken, may_start, waits}
 use Rattle.run_states.specs.Holders.{first_conflicting, is_conflicting, run_of}
 use Rattle.run_states.specs.Resuming.{finds_others, makes_room}
 use Rattle.run_states.specs.RunState.{RunState}
 use Rattle.run_states.specs.declared.holder.Holder.{Holder}
-use Rattle.run_states.specs.declared.holder.Holder.TheVariants.{Run, Leg}
 use Rattle.run_states.specs.declared.holder.HolderFilter.TheVariants.{InProgress, OthersPending}
-use Rattle.run_states.specs.declared.place.LegPlace.{LegPlace}
 use Rattle.settling_laws.proofs.ArrivalKeeps.{holder_tested}
 use Rattle.settling_laws.proofs.OneEach.{each_holder}
 use Rattle.workflow_runs.specs.GroupsKept.{AreExact, is_there}
@@ -148,18 +144,3 @@ makes_room_by runs entries exact h (Some g) is not_yet =
     ∙ sym (in_progress_found runs entries exact g) in
     ap (λ o. is_some o && finds_others runs h) its
     ∙ ap₂ (λ a b. is_some a || (cancels_in_progress runs h && is_some b)) pending in_progress
-
--- ---- a leg in its own run's group
-
-pub own_group_by : (runs : List RunState) (p : LegPlace) (run leg : Option Group) → run ≡ group_at runs (Run p.run)
-    → leg ≡ group_at runs (Leg p) → is_in_group_of_run runs p ≡ option_map_or (λ g. option_map_or (same_group g) leg false) run false
-own_group_by runs p run leg is_run is_leg =
-    ap₂ (λ o u. option_map_or (λ g. option_map_or (same_group g) u false) o false) (sym is_run) (sym is_leg)
-
-pub told_same : (g k : Group) (b : Bool) → ((b ≡ true) → g ≡ k) → (g ≡ k → b ≡ true) → same_group g k ≡ b
-told_same g k true if_so only_if = ap (same_group g) (sym (if_so refl)) ∙ own_group g
-told_same g k false if_so only_if = by (same_group g k) refl
-  where
-    by : (c : Bool) → same_group g k ≡ c → c ≡ false
-    by true same = absurd (true≢false (sym (only_if (same_is_one g k same))))
-    by false not_so = refl

@@ -1,9 +1,9 @@
 -- The book of a table's groups stays exact where nobody changes, where a holder that waits begins, and where a holder ends.
-use Rattle.std.specs.Prelude.{◌≡◌, ◌↔◌, ◌≤◌, ◌||◌, List, [], ◌∷◌, Bool, true, false, not, Option, None, Some, if◌then◌else◌, is_some, refl}
+use Rattle.std.specs.Prelude.{◌≡◌, ◌≤◌, ◌||◌, List, [], ◌∷◌, Bool, true, false, not, Option, None, Some, if◌then◌else◌, is_some, refl}
 use Rattle.std.specs.List.{list_any}
 use Rattle.std.specs.Option.{option_map_or}
-use Rattle.std.proofs.Common.{ap, arith, subst, sym, ◌∙◌}
-use Rattle.std.proofs.lemmas.Bool.{not-true, true≢false}
+use Rattle.std.proofs.Common.{ap, subst, sym, ◌∙◌}
+use Rattle.std.proofs.lemmas.Bool.{not-true}
 use Rattle.group_book.specs.Books.{BookState, Puts, slot_in}
 use Rattle.group_book.specs.Slots.{HasLost, begun}
 use Rattle.group_book.specs.declared.slot.Slot.{Slot}
@@ -18,7 +18,7 @@ use Rattle.run_states.specs.declared.holder.Holder.TheVariants.{Leg}
 use Rattle.run_bindings.specs.declared.bindings.RunBindings.{RunBindings}
 use Rattle.settling_laws.proofs.OneEach.{not_taken}
 use Rattle.workflow_runs.specs.BookSteps.{Begins, HasLeftGroup, Leaves}
-use Rattle.workflow_runs.specs.GroupsKept.{AreExact, AreTold, GroupsAreKept, Knows, arrivals_to_come, is_there}
+use Rattle.workflow_runs.specs.GroupsKept.{AreExact, AreTold, GroupsAreKept, arrivals_to_come}
 use Rattle.workflow_runs.specs.HolderChanges.{ChangesNobody, EndsOnly, SameHolders, StartsOnly}
 use Rattle.workflow_runs.proofs.HoldersThere.{holds_not, tells, there_if_holds, there_if_new, there_if_waits}
 

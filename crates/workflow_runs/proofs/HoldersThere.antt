@@ -1,7 +1,7 @@
 -- Runs and legs that are in a table: one that waits or holds is there, and none does both.
 use Rattle.std.specs.Prelude.{◌≡◌, ◌<◌, ◌⊎◌, List, length, Bool, true, false, Option, None, Some, is_some, refl}
 use Rattle.std.specs.Option.{option_map_or}
-use Rattle.std.proofs.Common.{inl, inr, ap, sym, ◌∙◌}
+use Rattle.std.proofs.Common.{inl, inr}
 use Rattle.std.proofs.lemmas.Option.{slice_get_within}
 use Rattle.run_states.specs.Groups.{holds, leg_holds, leg_waits, run_waits, waits}
 use Rattle.run_states.specs.Holders.{run_of}

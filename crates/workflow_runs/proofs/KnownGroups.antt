@@ -2,8 +2,7 @@
 use Rattle.std.specs.Prelude.{◌≡◌, ◌&&◌, ◌||◌, List, not, Bool, true, false, Option, None, Some, is_some, refl}
 use Rattle.std.proofs.Common.{ap, sym, ◌∙◌}
 use Rattle.group_book.specs.Books.{BookState, slot_in}
-use Rattle.group_name.specs.Group.{Group, same_group}
-use Rattle.run_states.specs.Arrivals.{is_in_group_of_run}
+use Rattle.group_name.specs.Group.{Group}
 use Rattle.run_states.specs.GroupOf.{cancels_in_progress, group_at}
 use Rattle.run_states.specs.Groups.{may_start, waits}
 use Rattle.run_states.specs.Resuming.{makes_room}
@@ -30,9 +29,6 @@ module _ (runs : List RunState) (bindings : List RunBindings) (book : BookState 
 
   pub may_start_in : (g : Group) → Some g ≡ key_at bindings h → not (is_some (slot_in book.entries g).in_progress) ≡ may_start runs h
   may_start_in g is = sym (may_start_by runs book.entries kept.exact h (Some g) (known_group (Some g) is))
-
-  pub may_start_alone : None ≡ key_at bindings h → true ≡ may_start runs h
-  may_start_alone is = sym (may_start_by runs book.entries kept.exact h None (known_group None is))
 
   module _ (not_yet : waits runs h ≡ false) where
     pub room_alone : None ≡ key_at bindings h → false ≡ makes_room runs h

@@ -1,15 +1,14 @@
 -- A new leg is cancelled, if its group is its own run's, or waits. It is not in the book of groups yet; all others are in it as before.
-use Rattle.std.specs.Prelude.{◌≡◌, ◌<◌, ℕ, List, length, Bool, true, false, Option, None, Some, option_and_then, refl}
+use Rattle.std.specs.Prelude.{◌≡◌, ◌<◌, ℕ, List, length, true, false, Option, None, Some, refl}
 use Rattle.std.specs.Option.{option_map_or}
-use Rattle.std.proofs.Common.{ap, subst, sym, ◌∙◌}
+use Rattle.std.proofs.Common.{ap, sym, ◌∙◌}
 use Rattle.std.proofs.lemmas.Bool.{true≢false}
 use Rattle.group_book.specs.Books.{BookState, slot_in}
 use Rattle.group_book.proofs.Exact.{Stays, exact_within, pick}
-use Rattle.group_name.specs.Group.{Group}
 use Rattle.run_marks.specs.Marked.{is_marked}
 use Rattle.run_states.specs.Changes.{changed}
 use Rattle.run_states.specs.GroupOf.{group_at}
-use Rattle.run_states.specs.Groups.{holds, is_in_progress_in, leg_holds, leg_waits, waits}
+use Rattle.run_states.specs.Groups.{holds, leg_holds, leg_waits, waits}
 use Rattle.run_states.specs.Places.{leg_at, with_leg, with_run}
 use Rattle.run_states.specs.Resuming.{is_new_at}
 use Rattle.run_states.specs.Rules.{with_leg_in}
@@ -23,7 +22,6 @@ use Rattle.run_states.specs.declared.phases.LegPhase.{LegPhase}
 use Rattle.run_states.specs.declared.phases.LegPhase.TheVariants as leg
 use Rattle.run_states.specs.declared.place.LegPlace.{LegPlace}
 use Rattle.run_states.proofs.JobKeeps.{with_job_of, with_leg_of}
-use Rattle.run_bindings.specs.GroupKeys.{ticket_in}
 use Rattle.run_bindings.specs.declared.bindings.RunBindings.{RunBindings}
 use Rattle.resuming_laws.proofs.KeptBack.{RunsStillFor}
 use Rattle.settling_laws.proofs.RuleKeeps.{leg_goes, new_ends, newcomer_waits}

@@ -1,5 +1,5 @@
 -- A leg on which a runner is at work ends, and a leg that holds its group is given to a runner.
-use Rattle.std.specs.Prelude.{◌≡◌, ◌<◌, ℕ, List, length, Bool, true, false, Option, Some, is_some, refl}
+use Rattle.std.specs.Prelude.{◌≡◌, ◌<◌, ℕ, List, length, true, false, Option, Some, is_some, refl}
 use Rattle.std.specs.Option.{option_map_or}
 use Rattle.std.proofs.Common.{ap, sym, ◌∙◌}
 use Rattle.std.proofs.lemmas.Bool.{true≢false}
@@ -11,7 +11,7 @@ use Rattle.run_states.specs.Parallel.{is_at_work}
 use Rattle.run_states.specs.Places.{leg_at, with_leg}
 use Rattle.run_states.specs.RunState.{LegState, RunState}
 use Rattle.run_states.specs.SoundRuns.{LeaseFits, RunsAreSound}
-use Rattle.run_states.specs.StateWords.{is_new, leg_in_phase, outcome_of}
+use Rattle.run_states.specs.StateWords.{leg_in_phase, outcome_of}
 use Rattle.run_states.specs.declared.holder.Holder.TheVariants.{Leg}
 use Rattle.run_states.specs.declared.phases.LegPhase.{LegPhase}
 use Rattle.run_states.specs.declared.phases.LegPhase.TheVariants as leg

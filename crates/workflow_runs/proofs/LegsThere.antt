@@ -1,7 +1,7 @@
 -- Legs that are read from a table are there.
-use Rattle.std.specs.Prelude.{◌≡◌, ℕ, List, [], ◌∷◌, map, Option, None, Some, is_some, option_and_then, option_map, slice_get, refl}
+use Rattle.std.specs.Prelude.{◌≡◌, ℕ, List, [], ◌∷◌, map, Some, option_and_then, option_map, slice_get}
 use Rattle.std.specs.List.{AllByRecursion}
-use Rattle.std.proofs.Common.{ap, sym, ◌∙◌}
+use Rattle.std.proofs.Common.{ap, ◌∙◌}
 use Rattle.run_states.specs.FirstOf.{placed}
 use Rattle.run_states.specs.PlacedLegs.{PlacedLeg, placed_leg}
 use Rattle.run_states.specs.Places.{job_at, leg_at, leg_place}

@@ -1,10 +1,9 @@
 -- The marks of runs stay valid after each change.
-use Rattle.std.specs.Prelude.{◌≡◌, ℕ, zero, suc, ◌+◌, ◌<◌, ◌≤◌, ◌||◌, List, [], ◌∷◌, ◌++◌, length, Bool, true, false, Option, Some, None, nat_eq}
+use Rattle.std.specs.Prelude.{◌≡◌, ℕ, zero, suc, ◌+◌, ◌<◌, ◌≤◌, List, [], ◌∷◌, ◌++◌, length, Bool, true, false, Option, Some, None, nat_eq}
 use Rattle.std.specs.Prelude.{IfNone, IfSome, is_some, option_and_then, option_map, slice_get, slice_set, if◌then◌else◌, refl}
-use Rattle.std.specs.List.{list_any}
 use Rattle.std.specs.Option.{option_map_or}
 use Rattle.std.proofs.Common.{arith, ap, sym, subst, ◌∙◌, inl, inr, length-append, length-set}
-use Rattle.std.proofs.lemmas.Bool.{and_parts, cases_Bool, cases_eq, or_right, true≢false}
+use Rattle.std.proofs.lemmas.Bool.{and_parts, cases_Bool, cases_eq, true≢false}
 use Rattle.std.proofs.lemmas.Bool.Decides.{Decides-eqb, nat_tests}
 use Rattle.std.proofs.lemmas.Option.{slice_get-map, slice_get_past, slice_get_within}
 use Rattle.run_marks.specs.Bits.{Puts}
@@ -27,7 +26,6 @@ use Rattle.resuming_laws.proofs.KeptBack.{KeepsBackIn, RunsStillFor, back_still,
 use Rattle.resuming_laws.proofs.HoldersOfRuns.{holder_within, same_holds}
 use Rattle.resuming_laws.proofs.Resumed.{run_rests}
 use Rattle.settling_laws.proofs.OneEach.{one_that_holds}
-use Rattle.run_states.specs.declared.holder.Holder.{Holder}
 
 -- ---- one mark
 
@@ -94,9 +92,6 @@ unmarked_rests runs marks are i none =
 pub past_rests : (runs : List RunState) (i : ℕ) → length runs ≤ i → apply_at (first_in_run runs) runs i ≡ None
 past_rests runs i past = ap (option_and_then (first_in_run runs i)) (slice_get_past runs i past)
 
-pub nothing_to_mark : (fact : ℕ → RunState → Bool) (marks : List ℕ) → AreMarked fact [] marks
-nothing_to_mark fact marks = record { covers = omega arith; marked = (λ r x at has. cc) }
-
 -- ---- a property of one run alone: the run changes, is added, or is found not to have it
 
 pub written : (fact : RunState → Bool) (xs : List RunState) (marks marks' : List ℕ) (r : ℕ) (y : RunState) → length marks' ≡ length marks
@@ -138,14 +133,6 @@ unmarked fact xs marks marks' r none as_long puts are = record {
             puts s ∙ ap (λ b. if b then false else is_marked marks s) test ∙ are.marked s x at has
       ]);
 }
-
-pub not_so_there : (fact : RunState → Bool) (xs : List RunState) (r : ℕ) (x : RunState) → is_so_at fact xs r ≡ false
-    → slice_get xs r ≡ Some x → fact x ≡ false
-not_so_there fact xs r x none at = sym (ap (λ o. option_map_or fact o false) at) ∙ none
-
-pub not_due_there : (runs : List RunState) (r : ℕ) (x : RunState) → apply_at (first_in_run runs) runs r ≡ None → slice_get runs r ≡ Some x
-    → is_due runs r x ≡ false
-not_due_there runs r x none at = ap is_some (sym (ap (option_and_then (first_in_run runs r)) at) ∙ none)
 
 pub roomier : (fact : ℕ → RunState → Bool) (xs : List RunState) (marks marks' : List ℕ) → SameMarks marks marks' → length marks ≤ length marks'
     → AreMarked fact xs marks → AreMarked fact xs marks'
@@ -189,18 +176,6 @@ module _ (runs next : List RunState) (old new : List ℕ) (r : ℕ) (kept : (i :
         | inl here ↦ subst (λ i. is_marked new i ≡ true) (sym here) itself
         | inr other ↦ still_due s x other (sym (same other) ∙ at) (same other) (upto other) due
       ]
-
--- a run changes and keeps its event
-pub due_after_change : (runs : List RunState) (y : RunState) (old new : List ℕ) (r : ℕ) → events (slice_set runs r y) ≡ events runs
-    → ((s : ℕ) → (s ≡ r → ⊥) → is_marked new s ≡ false → RunsStillFor runs (slice_set runs r y) s)
-    → ((i : ℕ) → is_marked old i ≡ true → is_marked new i ≡ true) → is_marked new r ≡ true → length new ≡ length old
-    → AreMarked (is_due runs) runs old → AreMarked (is_due (slice_set runs r y)) (slice_set runs r y) new
-due_after_change runs y old new r same stay kept itself as_long are = record {
-  covers = omega (arith, are.covers, as_long, length-set runs r y);
-  marked = (λ s x at due.
-      due_unless runs (slice_set runs r y) old new r kept itself are stay s x (λ other. set_other runs r s y other)
-      (λ other k le. ap (λ es. slice_get es k) same) at due);
-}
 
 pub events_before : (runs : List RunState) (y : RunState) (s : ℕ) → s < length runs → SameUpTo s (events (runs ++ y ∷ [])) (events runs)
 events_before runs y s lt k le =

@@ -1,7 +1,6 @@
 -- The next attempt of a run, which replaces it.
 use Rattle.std.specs.Prelude.{◌≡◌, ℕ, zero, suc, ◌<◌, List, [], ◌∷◌, length, Some, None, option_map, slice_get, slice_set, refl}
-use Rattle.std.proofs.Common.{arith, ap, sym, get_or}
-use Rattle.std.proofs.lemmas.List.{length-set}
+use Rattle.std.proofs.Common.{ap, sym, get_or}
 use Rattle.std.proofs.lemmas.Option.{same_Some, slice_get_within}
 use Rattle.run_states.specs.FirstOf.{changed_at}
 use Rattle.run_states.specs.NewRun.{again}
@@ -35,9 +34,6 @@ next_of runs r next e =
 
 pub put : (runs : List RunState) (r : ℕ) (next : RunState) → NextOf runs r next → slice_set runs r next ≡ with_run r again runs
 put runs r next from = changed_within again runs r from.was next from.within from.read from.is
-
-pub still_within : (runs : List RunState) (r : ℕ) (next : RunState) → NextOf runs r next → r < length (slice_set runs r next)
-still_within runs r next from = omega (arith, length-set runs r next, from.within)
 
 pub not_there : {X : Type 0} (f : X → X) (xs : List X) (r : ℕ) → None ≡ option_map f (slice_get xs r) → changed_at r f xs ≡ xs
 not_there f [] r e = refl

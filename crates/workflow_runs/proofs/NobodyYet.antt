@@ -1,5 +1,5 @@
 -- A table without runs: nobody holds a group, and nothing is marked.
-use Rattle.std.specs.Prelude.{◌≡◌, ℕ, List, [], true, false, None, Some, refl}
+use Rattle.std.specs.Prelude.{◌≡◌, ℕ, List, [], false, None, Some, refl}
 use Rattle.std.proofs.Common.{arith, subst, sym, ◌∙◌}
 use Rattle.std.proofs.lemmas.Bool.{and_parts, true≢false}
 use Rattle.group_book.specs.Books.{BookState}

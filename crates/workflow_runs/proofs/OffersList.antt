@@ -11,7 +11,7 @@ use Rattle.run_states.specs.ActiveRuns.{has_ready_leg}
 use Rattle.run_states.specs.FirstOf.{placed}
 use Rattle.run_states.specs.Fitting.{is_ready}
 use Rattle.run_states.specs.RunState.{JobState, LegState, RunState}
-use Rattle.run_bindings.specs.LabelNumbers.{JobsOffer, LegsOffer, OnlyPuts, is_ready_in, is_ready_leg, job_offers, leg_offers, list_number}
+use Rattle.run_bindings.specs.LabelNumbers.{LegsOffer, is_ready_in, is_ready_leg, job_offers, leg_offers, list_number}
 use Rattle.run_bindings.specs.LabelNumbers.{offers_list}
 use Rattle.run_bindings.specs.declared.label_numbers.ListNumbers.{ListNumbers}
 use Rattle.resuming_laws.proofs.NoneActive.{none_of}
@@ -167,50 +167,6 @@ module _ (lists : ListsState) (numbers : List ListNumbers) (r : ℕ) where
   abbrev pub JobsOfferUpTo : List JobState → ℕ → Type 0
   JobsOfferUpTo jobs n =
       (j l : ℕ) → j < n → is_ready_in jobs j l ≡ true → may_offer lists (list_number numbers j l) r ≡ true
-
-ready_within : (legs : List LegState) (l : ℕ) → is_ready_leg legs l ≡ true → l < length legs
-ready_within legs l ready = by (slice_get legs l) refl ready
-  where
-    by : (o : Option LegState) → slice_get legs l ≡ o → option_map_or (λ (z : LegState). is_ready z.phase) o false ≡ true → l < length legs
-    by None at is = absurd (true≢false (sym is))
-    by (Some z) at is = slice_get_within legs l z at
-
-pub legs_offer : (lists : ListsState) (numbers : List ListNumbers) (r j : ℕ) (legs : List LegState)
-    → LegsOfferUpTo lists numbers r j legs (length legs) → LegsOffer lists numbers r j legs
-legs_offer lists numbers r j legs each l ready = each l (ready_within legs l ready) ready
-
-pub jobs_offer : (lists : ListsState) (numbers : List ListNumbers) (r : ℕ) (jobs : List JobState)
-    → JobsOfferUpTo lists numbers r jobs (length jobs) → JobsOffer lists numbers r jobs
-jobs_offer lists numbers r jobs each j l ready = by (slice_get jobs j) refl ready
-  where
-    by : (o : Option JobState) → slice_get jobs j ≡ o → option_map_or (λ (y : JobState). is_ready_leg y.legs l) o false ≡ true
-        → may_offer lists (list_number numbers j l) r ≡ true
-    by None at is = absurd (true≢false (sym is))
-    by (Some y) at is = each j l (slice_get_within jobs j y at) ready
-
-pub one_more_leg : (old new : ListsState) (numbers : List ListNumbers) (r j : ℕ) (legs : List LegState) (n : ℕ) (z : LegState)
-    → OnlyPuts r true old new → slice_get legs n ≡ Some z
-    → (is_ready z.phase ≡ true → may_offer new (list_number numbers j n) r ≡ true) → LegsOfferUpTo old numbers r j legs n
-    → LegsOfferUpTo new numbers r j legs (n + 1)
-one_more_leg old new numbers r j legs n z puts at itself before l lt ready =
-    elim (cases_eq l n) [
-      | inl same ↦
-          ap (λ (k : ℕ). may_offer new (list_number numbers j k) r) same
-          ∙ itself (sym (ap (λ o. option_map_or (λ (x : LegState). is_ready x.phase) o false) at) ∙ ap (is_ready_leg legs) (sym same) ∙ ready)
-      | inr other ↦ puts.stays (list_number numbers j l) (before l (omega (arith, lt, other)) ready)
-    ]
-
-pub one_more_job_offers : (old new : ListsState) (numbers : List ListNumbers) (r : ℕ) (jobs : List JobState) (n : ℕ) (y : JobState)
-    → OnlyPuts r true old new → slice_get jobs n ≡ Some y → LegsOffer new numbers r n y.legs → JobsOfferUpTo old numbers r jobs n
-    → JobsOfferUpTo new numbers r jobs (n + 1)
-one_more_job_offers old new numbers r jobs n y puts at itself before j l lt ready =
-    elim (cases_eq j n) [
-      | inl same ↦
-          ap (λ (k : ℕ). may_offer new (list_number numbers k l) r) same
-          ∙ itself l (sym (ap (λ o. option_map_or (λ (x : JobState). is_ready_leg x.legs l) o false) at)
-          ∙ ap (λ (k : ℕ). is_ready_in jobs k l) (sym same) ∙ ready)
-      | inr other ↦ puts.stays (list_number numbers j l) (before j l (omega (arith, lt, other)) ready)
-    ]
 
 -- a job without a ready leg needs no mark
 pub none_to_offer : (lists : ListsState) (numbers : List ListNumbers) (r j : ℕ) (y : JobState) → has_ready_leg y ≡ false

@@ -7,7 +7,7 @@ use Rattle.run_states.specs.FirstOf.{changed_at}
 use Rattle.run_states.specs.GroupOf.{cancels_in_progress, run_cancels}
 use Rattle.run_states.specs.Groups.{holds, leg_holds, leg_waits, run_waits, waits}
 use Rattle.run_states.specs.Places.{leg_at, run_at, with_leg, with_run}
-use Rattle.run_states.specs.RunState.{JobState, LegState, RunState}
+use Rattle.run_states.specs.RunState.{LegState, RunState}
 use Rattle.run_states.specs.StateWords.{is_blocked, is_live, is_new, run_in_phase, settled_as}
 use Rattle.run_states.specs.declared.holder.Holder.{Holder}
 use Rattle.run_states.specs.declared.holder.Holder.TheVariants.{Run, Leg}

@@ -1,5 +1,5 @@
 -- The changes by which one holder begins or ends.
-use Rattle.std.specs.Prelude.{◌≡◌, ℕ, List, map, Bool, true, false, Option, None, Some, is_some, option_map, slice_get, refl}
+use Rattle.std.specs.Prelude.{◌≡◌, ℕ, List, Bool, true, false, Option, None, Some, is_some, option_map, slice_get, refl}
 use Rattle.std.specs.List.{list_all}
 use Rattle.std.specs.Option.{option_map_or}
 use Rattle.std.proofs.Common.{ap, subst, sym, ◌∙◌}
@@ -23,7 +23,6 @@ use Rattle.run_states.specs.declared.place.LegPlace.{LegPlace}
 use Rattle.run_states.proofs.Changed.{at_another, at_changed}
 use Rattle.run_states.proofs.JobKeeps.{leg_in, leg_now, with_job_of, with_leg_of}
 use Rattle.run_states.proofs.Optional.{each_passes}
-use Rattle.run_states.proofs.RunFits.{RunsFit}
 use Rattle.run_states.proofs.Settles.{StayFit}
 use Rattle.run_states.proofs.Transitions.{changed_same}
 use Rattle.settling_laws.proofs.HoldersFade.{Weakens, by_run, job_passes, leg_passes, passed_map, passes, run_passes}
@@ -33,7 +32,7 @@ use Rattle.settling_laws.proofs.SoundRuns.{runs_that_fit}
 use Rattle.workflow_runs.specs.GroupsKept.{is_unopened}
 use Rattle.workflow_runs.specs.HolderChanges.{ChangesNobody, EndsOnly, StartsOnly, StaysAs}
 use Rattle.workflow_runs.proofs.HoldersThere.{tells, there_if_holds, there_if_waits}
-use Rattle.workflow_runs.proofs.OneChange.{AddsNothing, any_phase, blocked_in, leg_adds, leg_others, phase_adds, phase_others, same_holders, same_reading}
+use Rattle.workflow_runs.proofs.OneChange.{AddsNothing, any_phase, leg_adds, leg_others, phase_adds, phase_others, same_holders, same_reading}
 
 -- ---- a run or a leg in a phase
 
@@ -52,11 +51,6 @@ waiting_phase run.Waiting e = refl
 waiting_phase run.Live e = cc
 waiting_phase run.Ended e = cc
 
-live_phase : (phase : RunPhase) → is_live phase ≡ true → phase ≡ run.Live
-live_phase run.Waiting e = cc
-live_phase run.Live e = refl
-live_phase run.Ended e = cc
-
 waiting_leg : (phase : LegPhase) → leg_waits phase ≡ true → phase ≡ leg.Waiting
 waiting_leg leg.New e = cc
 waiting_leg leg.Waiting e = refl
@@ -71,13 +65,6 @@ run_that_waits runs r e = by (run_at runs r) refl e
     by : (o : Option RunState) → run_at runs r ≡ o → option_map_or (λ (x : RunState). run_waits x.phase) o false ≡ true → RunIn runs r run.Waiting
     by None at e = cc
     by (Some x) at e = record { state = x; there = at; is = waiting_phase x.phase e }
-
-pub run_that_is_live : (runs : List RunState) (r : ℕ) → holds runs (Run r) ≡ true → RunIn runs r run.Live
-run_that_is_live runs r e = by (run_at runs r) refl e
-  where
-    by : (o : Option RunState) → run_at runs r ≡ o → option_map_or (λ (x : RunState). is_live x.phase) o false ≡ true → RunIn runs r run.Live
-    by None at e = cc
-    by (Some x) at e = record { state = x; there = at; is = live_phase x.phase e }
 
 pub leg_that_waits : (runs : List RunState) (p : LegPlace) → waits runs (Leg p) ≡ true → LegIs runs p leg.Waiting
 leg_that_waits runs p e = by (leg_at runs p) refl e

@@ -1,22 +1,21 @@
 -- A job opens at the first place where a rule applies.
-use Rattle.std.specs.Prelude.{◌≡◌, ◌+◌, ◌<◌, ◌&&◌, ℕ, List, [], length, nat_eq, Bool, true, false, Option, None, Some, is_some, option_and_then, option_map, slice_get, refl}
+use Rattle.std.specs.Prelude.{◌≡◌, ◌+◌, ◌<◌, ℕ, List, [], length, nat_eq, true, false, Option, None, Some, option_and_then, option_map, slice_get, refl}
 use Rattle.std.specs.List.{slice_index_or}
 use Rattle.std.specs.Option.{option_map_or}
 use Rattle.std.proofs.Common.{arith, ap, subst, sym, ◌∙◌}
 use Rattle.std.proofs.lemmas.Bool.{and_from, true≢false}
-use Rattle.std.proofs.lemmas.Option.{same_Some, slice_get_within}
+use Rattle.std.proofs.lemmas.Option.{slice_get_within}
 use Rattle.wf_value.specs.declared.outcome.JobResult.{JobResult}
 use Rattle.run_plan.specs.PlanOf.{plan_of}
 use Rattle.group_book.specs.Books.{BookState}
 use Rattle.run_marks.specs.Marked.{is_marked}
 use Rattle.run_states.specs.Changes.{changed}
 use Rattle.run_states.specs.FirstOf.{changed_at}
-use Rattle.run_states.specs.GroupOf.{RunFacts, run_facts_at}
+use Rattle.run_states.specs.GroupOf.{run_facts_at}
 use Rattle.run_states.specs.Places.{job_at, run_at, with_job, with_run}
 use Rattle.run_states.specs.Rules.{may_run}
-use Rattle.run_states.specs.RunNumber.{events}
 use Rattle.run_states.specs.RunState.{JobState, LegState, RunState}
-use Rattle.run_states.specs.Settling.{first_place, legs_in_plan}
+use Rattle.run_states.specs.Settling.{first_place}
 use Rattle.run_states.specs.SoundRuns.{LegsFit, RunsAreSound}
 use Rattle.run_states.specs.StateWords.{is_blocked, opened}
 use Rattle.run_states.specs.Words.{planned_legs}
@@ -33,13 +32,12 @@ use Rattle.run_states.proofs.Optional.{from_and_then, some_of}
 use Rattle.run_states.proofs.RunFits.{RunsFit}
 use Rattle.run_states.proofs.Settles.{StayFit}
 use Rattle.run_states.proofs.Transitions.{changed_same}
-use Rattle.run_bindings.specs.Bindings.{AreBound, RunSays, group_request_of}
+use Rattle.run_bindings.specs.Bindings.{AreBound, group_request_of}
 use Rattle.run_bindings.specs.BoundGroups.{is_set_by, results_by_place}
 use Rattle.run_bindings.specs.declared.bindings.RunBindings.{RunBindings}
 use Rattle.run_bindings.specs.declared.group_keys.HolderKey.{HolderKey}
 use Rattle.run_bindings.specs.declared.groups.GroupRequest.{GroupRequest}
 use Rattle.group_name.specs.BoundGroup.{group_at as bound_group_at}
-use Rattle.run_bindings.specs.GroupKeys.{AreLater, requests_of}
 use Rattle.run_bindings.proofs.BoundSays.{SaysBoth, run_says, said_there}
 use Rattle.run_bindings.proofs.FlagsSaid.{some_within}
 use Rattle.resuming_laws.proofs.KeptBack.{RunsStillFor}

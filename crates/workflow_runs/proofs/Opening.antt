@@ -1,5 +1,5 @@
 -- A job opens: its legs, which are new, know their groups, given the results of the run's jobs, which do not change any more.
-use Rattle.std.specs.Prelude.{◌≡◌, ◌≤◌, ◌+◌, ◌&&◌, ◌⊎◌, ℕ, zero, suc, List, [], ◌∷◌, length, map, nat_eq, Bool, true, false, Option, None, Some, is_some}
+use Rattle.std.specs.Prelude.{◌≡◌, ◌+◌, ◌⊎◌, ℕ, zero, suc, List, [], ◌∷◌, length, map, nat_eq, Bool, true, false, Option, None, Some, is_some}
 use Rattle.std.specs.Prelude.{option_and_then, option_map, slice_get, refl}
 use Rattle.std.specs.Option.{option_map_or}
 use Rattle.std.proofs.Common.{arith, ap, inl, inr, subst, sym, ◌∙◌}

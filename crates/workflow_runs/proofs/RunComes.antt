@@ -1,7 +1,7 @@
 -- A run comes, or begins its next attempt. It waits and is not in the book of groups yet; all others are in it as before.
-use Rattle.std.specs.Prelude.{◌≡◌, ◌≤◌, ◌<◌, ◌&&◌, ◌++◌, ◌∷◌, [], ℕ, List, length, not, Bool, true, false, Option, None, Some, is_some, option_and_then, option_map, slice_get, refl}
+use Rattle.std.specs.Prelude.{◌≡◌, ◌&&◌, ◌++◌, ◌∷◌, [], ℕ, List, length, not, true, false, Option, None, Some, is_some, option_and_then, option_map, slice_get, refl}
 use Rattle.std.specs.Option.{option_map_or}
-use Rattle.std.proofs.Common.{arith, ap, inl, inr, subst, sym, ◌∙◌}
+use Rattle.std.proofs.Common.{arith, ap, inl, inr, sym, ◌∙◌}
 use Rattle.std.proofs.lemmas.Bool.{and_parts, cases_eq, true≢false}
 use Rattle.std.proofs.lemmas.Option.{same_Some, slice_get_past}
 use Rattle.group_book.specs.Books.{slot_in}

@@ -1,15 +1,12 @@
 -- The numbers with which runs are stored.
 use Rattle.std.specs.Prelude.{◌≡◌, ℕ, zero, suc, ◌+◌, ◌<◌, ◌&&◌, List, [], ◌∷◌, ◌++◌, map, length, take, count_by, cond, Bool, true}
-use Rattle.std.specs.Prelude.{Option, Some, None, option_map, slice_get, slice_set, Result, Ok, Err, OnOk, OnErr, refl}
+use Rattle.std.specs.Prelude.{Option, Some, None, option_map, slice_get, slice_set, refl}
 use Rattle.std.specs.List.{fold}
 use Rattle.std.specs.Str.{bytes_eq}
-use Rattle.std.proofs.Common.{arith, ap, sym, subst, ◌∙◌, get_or, append_assoc, length-append}
+use Rattle.std.proofs.Common.{arith, ap, sym, ◌∙◌, get_or, append_assoc, length-append}
 use Rattle.std.proofs.lemmas.List.{map-append, length-set}
 use Rattle.std.proofs.lemmas.List.Sums.{sum_by-append}
 use Rattle.std.proofs.lemmas.Slice.Eq.{bytes_eq-Decides}
-use Rattle.wf_value.specs.Gives.{Gives}
-use Rattle.wf_value.specs.declared.refusal.Refusal.{Refusal}
-use Rattle.wf_value.proofs.PassedOn.{same_Ok}
 use Rattle.wf_reader.specs.Event.{event_of}
 use Rattle.run_plan.specs.Admitted.{Admitted}
 use Rattle.run_states.specs.RunNumber.{events, same_workflow, run_number, numbers_after, AreNumbered}
@@ -57,18 +54,6 @@ one_more runs run numbers n room are is = record {
       ∙ sym (after_more [] (events runs) run.admitted)
       ∙ ap (numbers_after []) (sym (map-append (λ (x : RunState). x.admitted) runs (run ∷ [])));
 }
-
--- either the run and its number are both added, or neither is
-pub added : {X : Type 0} (runs : List RunState) (run : RunState) (numbers : List ℕ) (n : ℕ) (new_runs : List RunState)
-    (new_numbers : List ℕ) (result : Result X Refusal) → length runs < 100000 → AreNumbered runs numbers
-    → n ≡ count_by (λ other. same_workflow run.admitted other.admitted) runs
-    → Gives (λ _. new_runs) result (Ok (runs ++ run ∷ [])) → OnOk result (new_numbers ≡ numbers ++ (n + 1) ∷ [])
-    → OnErr result (new_runs ≡ runs) → OnErr result (new_numbers ≡ numbers) → AreNumbered new_runs new_numbers
-added runs run numbers n new_runs new_numbers (Ok x) room are is run_added number_added same_runs same_numbers =
-    subst (λ (rs : List RunState). AreNumbered rs new_numbers) (same_Ok (runs ++ run ∷ []) new_runs run_added)
-    (subst (AreNumbered (runs ++ run ∷ [])) (sym number_added) (one_more runs run numbers n room are is))
-added runs run numbers n new_runs new_numbers (Err e) room are is run_added number_added same_runs same_numbers =
-    subst (λ (rs : List RunState). AreNumbered rs new_numbers) (sym same_runs) (subst (AreNumbered runs) (sym same_numbers) are)
 
 -- ---- one run changed
 

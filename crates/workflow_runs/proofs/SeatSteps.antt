@@ -1,9 +1,8 @@
 -- One more holder, job or run takes its places, or finds one taken, after those before it.
-use Rattle.std.specs.Prelude.{◌≡◌, ◌&&◌, ◌||◌, ℕ, suc, List, length, nat_eq, nat_lt, Bool, true, false, Option, option_and_then, refl}
+use Rattle.std.specs.Prelude.{◌≡◌, ◌&&◌, ◌||◌, ℕ, suc, List, length, nat_eq, nat_lt, Bool, true, false, option_and_then, refl}
 use Rattle.std.specs.Option.{option_map_or}
 use Rattle.std.proofs.Common.{ap, sym, ◌∙◌}
 use Rattle.std.proofs.lemmas.Bool.{and_from, and_parts, true≢false}
-use Rattle.run_states.specs.GroupOf.{group_at}
 use Rattle.run_states.specs.GroupWords.{same_holder}
 use Rattle.run_states.specs.Holders.{run_of}
 use Rattle.run_states.specs.Places.{job_at, run_at}
@@ -13,8 +12,7 @@ use Rattle.run_states.specs.declared.holder.Holder.TheVariants.{Run, Leg}
 use Rattle.run_states.specs.declared.place.LegPlace.{LegPlace}
 use Rattle.run_bindings.specs.GroupKeys.{ticket_in}
 use Rattle.run_bindings.specs.declared.bindings.RunBindings.{RunBindings}
-use Rattle.workflow_runs.specs.RowsKept.{holder_key_at}
-use Rattle.workflow_runs.specs.Seating.{AreSeated, HaveKeys, OneIsTaken, TakeSeats, in_job, is_of, jobs_below, legs_below, legs_of_run, runs_below}
+use Rattle.workflow_runs.specs.Seating.{HaveKeys, OneIsTaken, TakeSeats, in_job, is_of, jobs_below, legs_below, legs_of_run, runs_below}
 use Rattle.workflow_runs.specs.declared.runs.of.Place.{Place}
 use Rattle.workflow_runs.proofs.GroupsHeld.{Entries}
 use Rattle.workflow_runs.proofs.Seating.{alike, nobody_seated, seated_then, taken_then}

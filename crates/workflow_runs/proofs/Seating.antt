@@ -1,12 +1,11 @@
 -- The holders of a table take their places in the book of groups, one after the other.
-use Rattle.std.specs.Prelude.{◌≡◌, ◌↔◌, ◌≤◌, ◌<◌, ◌+◌, ◌&&◌, ◌||◌, ℕ, suc, List, length, nat_eq, nat_lt, Bool, true, false, Option, None, Some, option_and_then, if◌then◌else◌, refl}
-use Rattle.std.specs.Option.{option_map_or}
+use Rattle.std.specs.Prelude.{◌≡◌, ◌<◌, ◌+◌, ◌&&◌, ◌||◌, List, Bool, true, false, Option, None, Some, option_and_then, if◌then◌else◌, refl}
 use Rattle.std.proofs.Common.{arith, ap, ap₂, subst, sym, ◌∙◌}
 use Rattle.std.proofs.lemmas.Bool.{and_from, and_parts, true≢false}
 use Rattle.group_book.specs.Books.{BookState, Puts, slot_in}
 use Rattle.group_book.specs.Slots.{begun, with_newcomer}
 use Rattle.group_book.specs.declared.slot.Slot.{Slot}
-use Rattle.group_book.proofs.Exact.{exact_beside, exact_come, in_no_place, pick, put_here}
+use Rattle.group_book.proofs.Exact.{exact_beside, exact_come, in_no_place, put_here}
 use Rattle.group_name.specs.Group.{Group, same_group}
 use Rattle.group_name.proofs.SameGroups.{own_group, same_is_one}
 use Rattle.run_states.specs.GroupOf.{group_at}
@@ -18,7 +17,7 @@ use Rattle.run_bindings.specs.GroupKeys.{ticket_in}
 use Rattle.run_bindings.specs.declared.bindings.RunBindings.{RunBindings}
 use Rattle.run_bindings.proofs.SpentKeys.{one_each}
 use Rattle.settling_laws.proofs.ArrivalKeeps.{itself}
-use Rattle.workflow_runs.specs.GroupsKept.{AreExact, AreTold, arrivals_to_come, is_there}
+use Rattle.workflow_runs.specs.GroupsKept.{AreExact, AreTold, is_there}
 use Rattle.workflow_runs.specs.BookSteps.{Begins}
 use Rattle.workflow_runs.specs.RowsKept.{holder_key_at, key_at, keys_spent}
 use Rattle.workflow_runs.specs.Seating.{AreApart, AreSeated, AreSeatedOrTaken, BeginsIf, HasSeats, NobodyIsBeside, OneIsTaken, SitsDown, TakeSeats, beside_place, in_place, is_of}
@@ -27,7 +26,7 @@ use Rattle.workflow_runs.specs.declared.runs.of.Place.TheVariants.{InProgress, P
 use Rattle.workflow_runs.proofs.Arriving.{another}
 use Rattle.workflow_runs.proofs.GroupsHeld.{Entries}
 use Rattle.workflow_runs.proofs.HoldersThere.{tells, there_if_holds, there_if_waits}
-use Rattle.workflow_runs.proofs.SpentThere.{another_key, one_arrival_fewer, told_spent, told_spent_by_one_that_holds}
+use Rattle.workflow_runs.proofs.SpentThere.{one_arrival_fewer, told_spent, told_spent_by_one_that_holds}
 
 -- ---- tests
 
@@ -119,11 +118,6 @@ module _ (place : Place) (runs : List RunState) where
         → AreSeatedOrTaken result place (either a b) runs was now old new
     then_or_taken true later = seated_then later
     then_or_taken false taken = taken_then taken
-
-  -- some had found a place taken
-  pub taken_first : (a b : Test) (old : Entries) → OneIsTaken place a runs old → OneIsTaken place (either a b) runs old
-  taken_first a b old taken who apart seated =
-      taken who (λ h e. apart h (and_left (is_of place runs h) (a h) (b h) e)) seated
 
   -- the same, said by another test
   pub alike : (a b : Test) (result : Bool) (was now : List RunBindings) (old new : Entries) → Agree a b

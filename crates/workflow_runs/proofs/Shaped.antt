@@ -1,6 +1,6 @@
 -- The keys of a run's jobs are changed in place, so that there are as many as before.
-use Rattle.std.specs.Prelude.{◌≡◌, ℕ, zero, suc, List, [], ◌∷◌, length, Some, slice_get, refl}
-use Rattle.std.proofs.Common.{subst, sym, ◌∙◌}
+use Rattle.std.specs.Prelude.{◌≡◌, ℕ, zero, suc, List, [], ◌∷◌, length, refl}
+use Rattle.std.proofs.Common.{subst, ◌∙◌}
 use Rattle.std.proofs.lemmas.Option.{same_Some}
 use Rattle.run_states.specs.FirstOf.{changed_at}
 use Rattle.run_states.specs.declared.holder.Holder.{Holder}

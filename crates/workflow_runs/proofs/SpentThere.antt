@@ -1,5 +1,5 @@
 -- A run or a leg brings its key to its group: what all others know stays, and one arrival fewer is to come.
-use Rattle.std.specs.Prelude.{◌≡◌, ℕ, ◌+◌, List, length, nat_eq, Bool, true, false, Option, None, Some, option_and_then, option_map, slice_get, refl}
+use Rattle.std.specs.Prelude.{◌≡◌, ℕ, ◌+◌, List, length, nat_eq, true, false, Option, None, Some, option_and_then, option_map, slice_get, refl}
 use Rattle.std.specs.Option.{option_map_or}
 use Rattle.std.proofs.Common.{arith, ap, inl, inr, subst, sym, ◌∙◌}
 use Rattle.std.proofs.lemmas.Bool.{and_parts, cases_eq, eqb-true, true≢false}
@@ -20,7 +20,7 @@ use Rattle.run_states.specs.declared.place.LegPlace.{LegPlace}
 use Rattle.run_states.proofs.Changed.{at_another, at_changed}
 use Rattle.run_states.proofs.JobKeeps.{leg_in}
 use Rattle.run_states.proofs.Optional.{some_of}
-use Rattle.run_bindings.specs.GroupKeys.{AreLater, KeyState, arrivals_of, holder_key, key_in, requests_of, spent, ticket_in, with_spent}
+use Rattle.run_bindings.specs.GroupKeys.{AreLater, arrivals_of, holder_key, key_in, requests_of, spent, ticket_in, with_spent}
 use Rattle.run_bindings.specs.declared.bindings.RunBindings.{RunBindings}
 use Rattle.run_bindings.specs.declared.group_keys.HolderKey.{HolderKey}
 use Rattle.run_bindings.specs.declared.group_keys.HolderKey.TheVariants.{Known}

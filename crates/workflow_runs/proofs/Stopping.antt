@@ -11,7 +11,7 @@ use Rattle.run_states.specs.Places.{job_at, leg_at, leg_place, run_at, with_job,
 use Rattle.run_states.specs.RunState.{JobState, LegState, RunState}
 use Rattle.run_states.specs.SoundRuns.{RunsAreSound}
 use Rattle.run_states.specs.StateWords.{is_new}
-use Rattle.run_states.specs.Stops.{stopped, stopped_in, stopped_phase, stopped_run, with_job_stopped, with_jobs_stopped, with_stop_requested, with_stopped_legs}
+use Rattle.run_states.specs.Stops.{stopped, stopped_in, stopped_phase, stopped_run, with_job_stopped, with_stop_requested, with_stopped_legs}
 use Rattle.run_states.specs.declared.phases.LegPhase.{LegPhase}
 use Rattle.run_states.specs.declared.phases.LegPhase.TheVariants as leg
 use Rattle.run_states.specs.declared.phases.RunPhase.{RunPhase}
@@ -24,7 +24,6 @@ use Rattle.run_states.proofs.RunFits.{RunsFit, job_in_run}
 use Rattle.run_states.proofs.Settles.{StayFit, one_stays}
 use Rattle.run_states.proofs.StoppedRuns.{all_jobs_stopped, is_to_stop, job_that_stays, job_that_stops, leg_facts_upto, next_job_stopped, upto, upto_all, upto_more}
 use Rattle.run_states.proofs.Transitions.{changed_none, changed_same}
-use Rattle.settling_laws.proofs.HoldersFade.{Weakens, leg_passes}
 use Rattle.settling_laws.proofs.HoldersKeep.{leg_stop_settles}
 use Rattle.settling_laws.proofs.SoundRuns.{runs_that_fit, sound_runs}
 use Rattle.workflow_runs.specs.HolderChanges.{ChangesNobody}
@@ -68,9 +67,6 @@ module _ (runs : List RunState) (r : ℕ) (x : RunState) (at : run_at runs r ≡
 -- the jobs before `n` are stopped where they have to be
 abbrev pub stopped_upto : ℕ → RunState → RunState
 stopped_upto n x = leg_facts_upto n (asked x)
-
-pub none_stopped : (runs : List RunState) (r : ℕ) → with_run r asked runs ≡ with_run r (stopped_upto 0) runs
-none_stopped runs r = refl
 
 pub one_more_stopped : (runs : List RunState) (r n : ℕ)
     → with_run r (with_job_stopped n) (with_run r (stopped_upto n) runs) ≡ with_run r (stopped_upto (n + 1)) runs

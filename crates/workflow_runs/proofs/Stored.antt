@@ -1,22 +1,19 @@
 -- The runs of a table that was stored are added one after the other.
-use Rattle.std.specs.Prelude.{◌≡◌, ◌+◌, ◌<◌, ◌≤◌, ◌++◌, ◌∷◌, [], ℕ, List, length, take, Bool, true, Option, None, Some, option_and_then, slice_get, is_some, refl}
-use Rattle.std.specs.Option.{option_map_or}
-use Rattle.std.proofs.Common.{arith, ap, inl, inr, subst, sym, ◌∙◌, length-append}
+use Rattle.std.specs.Prelude.{◌≡◌, ◌+◌, ◌<◌, ◌≤◌, ◌++◌, ◌∷◌, [], ℕ, List, length, take, true, Option, option_and_then, slice_get, is_some}
+use Rattle.std.proofs.Common.{arith, ap, inl, inr, sym, ◌∙◌}
 use Rattle.std.proofs.lemmas.Bool.{cases_eq}
 use Rattle.group_book.specs.Books.{BookState}
 use Rattle.run_states.specs.GroupOf.{group_at}
 use Rattle.run_states.specs.Holders.{run_of}
-use Rattle.run_states.specs.Places.{run_at}
 use Rattle.run_states.specs.RunState.{JobState, RunState}
 use Rattle.run_states.specs.declared.holder.Holder.{Holder}
 use Rattle.run_states.specs.declared.holder.Holder.TheVariants.{Run, Leg}
-use Rattle.run_states.specs.declared.place.LegPlace.{LegPlace}
 use Rattle.run_states.proofs.Found.{before_the_end}
 use Rattle.run_bindings.specs.GroupKeys.{holder_key, ticket_in}
 use Rattle.run_bindings.specs.declared.bindings.RunBindings.{RunBindings}
 use Rattle.workflow_runs.specs.Begun.{HaveTickets}
 use Rattle.workflow_runs.specs.GroupsKept.{AreTold, arrivals_to_come, is_there}
-use Rattle.workflow_runs.specs.RowsKept.{RowState, holder_key_at}
+use Rattle.workflow_runs.specs.RowsKept.{RowState}
 use Rattle.workflow_runs.specs.Seating.{AreStored}
 use Rattle.workflow_runs.proofs.HoldersThere.{within_there}
 use Rattle.workflow_runs.proofs.MarkedRuns.{events_before}

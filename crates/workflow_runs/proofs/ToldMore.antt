@@ -8,7 +8,7 @@ use Rattle.std.proofs.lemmas.Bool.{and_parts, cases_eq, eqb-true, le-ltb, trueâ‰
 use Rattle.std.proofs.lemmas.Option.{same_Some, slice_get-map}
 use Rattle.run_plan.specs.PlanOf.{plan_of}
 use Rattle.run_plan.specs.declared.planned.PlannedJob.{PlannedJob}
-use Rattle.run_states.specs.GroupOf.{RunFacts, cancels_in_progress, group_at, run_facts_at}
+use Rattle.run_states.specs.GroupOf.{group_at}
 use Rattle.run_states.specs.Holders.{run_of}
 use Rattle.run_states.specs.NewRun.{again, blocked_job}
 use Rattle.run_states.specs.Places.{run_at, with_run}
@@ -28,7 +28,7 @@ use Rattle.run_bindings.specs.GroupKeys.{AllAreLater, AreLater, KeyState, decide
 use Rattle.run_bindings.specs.declared.bindings.JobBindings.{JobBindings}
 use Rattle.run_bindings.specs.declared.bindings.RunBindings.{RunBindings}
 use Rattle.run_bindings.specs.declared.group_keys.HolderKey.{HolderKey}
-use Rattle.run_bindings.specs.declared.group_keys.HolderKey.TheVariants.{Known, NoGroup}
+use Rattle.run_bindings.specs.declared.group_keys.HolderKey.TheVariants.{NoGroup}
 use Rattle.run_bindings.specs.declared.groups.GroupRequest.{GroupRequest}
 use Rattle.run_bindings.proofs.BoundSays.{SaysBoth, said_there}
 use Rattle.settling_laws.proofs.GroupStays.{same_flag, same_group}

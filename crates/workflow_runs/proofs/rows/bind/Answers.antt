@@ -1,4 +1,4 @@
-use Rattle.std.proofs.Common.{◌≡◌, ◌+◌}
+use Rattle.std.proofs.Common.{◌+◌}
 use Rattle.std.specs.Fmt.{decimal}
 use Rattle.run_states.specs.GroupOf.{RunFacts}
 use Rattle.workflow_runs.proofs.StillBound.{SameButKeys, lists_still, says_still}

@@ -1,5 +1,5 @@
-use Rattle.std.specs.Prelude.{ℕ, List, Option, Some, IfSome, slice_get, slice_set, refl}
-use Rattle.std.proofs.Common.{ap, subst, sym, ◌≡◌, ◌≤◌, ◌∙◌, ◌<◌, length, arith, rules}
+use Rattle.std.specs.Prelude.{List, Option, Some, IfSome, slice_get, slice_set, refl}
+use Rattle.std.proofs.Common.{ap, subst, ◌≡◌, ◌≤◌, ◌∙◌, ◌<◌, length, arith, rules}
 use Rattle.std.proofs.lemmas.Option.{slice_get_read}
 use Rattle.run_states.specs.Changes.{changed, offered_by}
 use Rattle.run_states.specs.Places.{with_run}

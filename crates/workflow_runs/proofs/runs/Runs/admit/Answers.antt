@@ -1,4 +1,4 @@
-use Rattle.std.proofs.Common.{◌≡◌, ◌<◌, ◌++◌, ◌∷◌, ℕ, [], List, Ok, ap, arith, length, length-append, rules, subst, sym, ◌∙◌}
+use Rattle.std.proofs.Common.{◌≡◌, ◌++◌, ◌∷◌, ℕ, [], List, Ok, ap, arith, length, length-append, subst, sym, ◌∙◌}
 use Rattle.group_book.specs.Books.{BookState}
 use Rattle.run_states.specs.Arrivals.{arrived}
 use Rattle.run_states.specs.GroupOf.{group_at}

@@ -4,10 +4,8 @@ use Rattle.std.proofs.lemmas.Bool.{true≢false}
 use Rattle.std.proofs.Common.{ap, arith, subst, sym, ◌∙◌}
 use Rattle.run_marks.specs.Marked.{Covers}
 use Rattle.run_states.specs.Arrivals.{arrived}
-use Rattle.run_states.specs.Changes.{changed}
 use Rattle.run_states.specs.Groups.{waits}
-use Rattle.run_states.specs.Moves.{Transition, without_moves}
-use Rattle.run_states.specs.Places.{with_leg, with_run}
+use Rattle.run_states.specs.Moves.{without_moves}
 use Rattle.run_states.specs.Rules.{with_leg_in}
 use Rattle.run_states.specs.RunState.{LegState, RunState}
 use Rattle.run_states.specs.SoundRuns.{RunsAreSound}

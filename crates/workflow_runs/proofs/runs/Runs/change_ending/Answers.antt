@@ -1,6 +1,5 @@
 use Rattle.std.proofs.Common.{◌≡◌, ◌<◌, List, length, ℕ, true, arith, ap, subst, sym, ◌∙◌}
 use Rattle.std.proofs.lemmas.Bool.{true≢false}
-use Rattle.group_name.specs.Group.{Group}
 use Rattle.run_marks.specs.Marked.{Covers, is_marked}
 use Rattle.run_states.specs.Changes.{changed}
 use Rattle.run_states.specs.GroupOf.{group_at}

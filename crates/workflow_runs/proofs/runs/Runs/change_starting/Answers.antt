@@ -1,5 +1,4 @@
-use Rattle.std.proofs.Common.{◌≡◌, ◌<◌, List, length, Option, None, Some, option_map, arith, ap, refl, subst, sym, ◌∙◌}
-use Rattle.group_name.specs.Group.{Group}
+use Rattle.std.proofs.Common.{◌≡◌, ◌<◌, List, length, Some, arith, subst, sym, ◌∙◌}
 use Rattle.run_marks.specs.Marked.{Covers}
 use Rattle.run_states.specs.Changes.{changed}
 use Rattle.run_states.specs.GroupOf.{group_at}

@@ -1,7 +1,6 @@
-use Rattle.std.specs.Prelude.{◌≡◌, Bool, true, false}
+use Rattle.std.specs.Prelude.{true, false}
 use Rattle.std.proofs.Common.{refl, rules, sym, ◌∙◌}
-use Rattle.run_states.specs.Words.{is_stopping}
-use Rattle.workflow_runs.proofs.FirstRules.{finishes_where, opens_where}
+use Rattle.workflow_runs.proofs.FirstRules.{opens_where}
 use Rattle.workflow_runs.proofs.JobFinishes.{finishes_nobody, opening_within}
 use Rattle.workflow_runs.proofs.runs.Runs.decide.Goals as goal
 

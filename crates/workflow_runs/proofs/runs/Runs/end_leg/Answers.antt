@@ -1,7 +1,6 @@
-use Rattle.std.specs.Prelude.{Some, None, IfSome, Option, true}
-use Rattle.std.proofs.Common.{◌≡◌, ap, subst, sym, ◌∙◌}
+use Rattle.std.specs.Prelude.{IfSome, Option, true}
+use Rattle.std.proofs.Common.{◌≡◌, subst, sym, ◌∙◌}
 use Rattle.run_states.specs.Parallel.{is_at_work}
-use Rattle.run_states.specs.Places.{with_leg}
 use Rattle.run_states.specs.RunState.{LegState}
 use Rattle.run_states.specs.SoundRuns.{RunsAreSound}
 use Rattle.run_states.specs.StateWords.{leg_in_phase}

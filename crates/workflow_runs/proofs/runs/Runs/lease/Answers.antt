@@ -1,4 +1,3 @@
-use Rattle.std.specs.Prelude.{List}
 use Rattle.std.proofs.Common.{ap, subst, sym, ◌∙◌}
 use Rattle.run_states.specs.Places.{with_leg}
 use Rattle.run_states.specs.RunState.{LegState}

@@ -1,5 +1,5 @@
 use Rattle.std.specs.Prelude.{◌≡◌, is_some, not, true}
-use Rattle.std.proofs.Common.{ap, sym, ◌∙◌}
+use Rattle.std.proofs.Common.{ap, ◌∙◌}
 use Rattle.run_states.specs.Groups.{may_start}
 use Rattle.workflow_runs.specs.GroupsKept.{is_there}
 use Rattle.workflow_runs.proofs.KnownGroups.{may_start_in, the_other}

@@ -1,5 +1,5 @@
-use Rattle.std.specs.Prelude.{◌≡◌, [], IfSome, List, MatchOption, None, Option, length, true, false, refl}
-use Rattle.std.proofs.Common.{ap, rules, subst, sym, ◌∙◌}
+use Rattle.std.specs.Prelude.{IfSome, List, MatchOption, Option, length, true, false, refl}
+use Rattle.std.proofs.Common.{ap, subst, sym, ◌∙◌}
 use Rattle.group_book.specs.Books.{BookState}
 use Rattle.run_states.specs.AsPlanned.{AreAsPlanned}
 use Rattle.run_states.specs.Groups.{HasOneEach}

@@ -1,4 +1,4 @@
-use Rattle.std.proofs.Common.{◌≡◌, ◌<◌, ◌+◌, List, Some, length, arith, ap, refl, subst, sym, ◌∙◌}
+use Rattle.std.proofs.Common.{◌<◌, ◌+◌, List, length, arith, ap, refl, subst, sym, ◌∙◌}
 use Rattle.run_marks.specs.Marked.{Covers}
 use Rattle.run_states.specs.Changes.{changed}
 use Rattle.run_states.specs.Places.{with_job, with_run}

@@ -1,5 +1,5 @@
 use Rattle.std.specs.Prelude.{find, length}
-use Rattle.std.proofs.Common.{ap, subst, sym, ◌≤◌, ◌∙◌}
+use Rattle.std.proofs.Common.{ap, subst, ◌≤◌, ◌∙◌}
 use Rattle.stated_limits.specs.Limits.{max_runs}
 use Rattle.group_book.specs.Books.{slot_in}
 use Rattle.run_states.specs.Groups.{all_holders, is_pending_in}

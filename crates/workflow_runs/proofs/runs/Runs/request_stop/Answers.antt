@@ -1,4 +1,4 @@
-use Rattle.std.proofs.Common.{◌≡◌, List, ap, arith, subst, sym, ◌∙◌}
+use Rattle.std.proofs.Common.{List, ap, arith, subst, sym, ◌∙◌}
 use Rattle.run_states.specs.Places.{with_run}
 use Rattle.run_states.specs.RunState.{RunState}
 use Rattle.run_states.specs.SoundRuns.{RunsAreSound}

@@ -1,6 +1,4 @@
-use Rattle.std.proofs.Common.{◌≡◌, ap, subst, sym, ◌∙◌}
-use Rattle.run_states.specs.Places.{with_leg}
-use Rattle.run_states.specs.RunState.{LegState, RunState}
+use Rattle.std.proofs.Common.{subst, sym, ◌∙◌}
 use Rattle.run_states.specs.StateWords.{leg_in_phase}
 use Rattle.run_states.specs.declared.holder.Holder.TheVariants.{Leg}
 use Rattle.run_states.specs.declared.phases.LegPhase.TheVariants as leg

@@ -1,4 +1,4 @@
-use Rattle.std.proofs.Common.{◌≡◌, false, true, ◌∙◌}
+use Rattle.std.proofs.Common.{false, true, ◌∙◌}
 use Rattle.workflow_runs.proofs.Stopping.{job_stays, job_stops, job_told}
 use Rattle.workflow_runs.proofs.runs.Runs.stop_job.Goals as goal
 

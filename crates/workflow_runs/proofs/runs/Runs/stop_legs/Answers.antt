@@ -1,11 +1,11 @@
 use Rattle.std.proofs.Common.{◌≡◌, ◌≤◌, ℕ, List, length, Some, Option, arith, ap, subst, sym, ◌∙◌}
 use Rattle.std.specs.Option.{option_map_or}
-use Rattle.run_states.specs.Places.{job_at, with_job, with_leg}
+use Rattle.run_states.specs.Places.{job_at, with_leg}
 use Rattle.run_states.specs.RunState.{JobState, RunState}
 use Rattle.run_states.specs.SoundRuns.{RunsAreSound}
 use Rattle.run_states.specs.Stops.{stopped}
 use Rattle.workflow_runs.specs.RowsKept.{RowState}
-use Rattle.workflow_runs.proofs.Stopping.{all_the_legs, legs_upto, none_of_the_legs, one_more_leg}
+use Rattle.workflow_runs.proofs.Stopping.{all_the_legs, none_of_the_legs, one_more_leg}
 use Rattle.workflow_runs.proofs.runs.Runs.stop_legs.Goals as goal
 
 pub loop-l-init : goal.loop-l-init

@@ -1,7 +1,5 @@
-use Rattle.std.proofs.Common.{◌≡◌, ◌<◌, List, length, ap, subst, sym, ◌∙◌}
-use Rattle.std.proofs.lemmas.Option.{slice_get_within}
-use Rattle.run_states.specs.Places.{leg_at, with_leg}
-use Rattle.run_states.specs.RunState.{LegState, RunState}
+use Rattle.std.proofs.Common.{List, subst, sym, ◌∙◌}
+use Rattle.run_states.specs.RunState.{RunState}
 use Rattle.run_states.specs.SoundRuns.{RunsAreSound}
 use Rattle.run_states.specs.Stops.{stopped}
 use Rattle.run_states.specs.declared.holder.Holder.TheVariants.{Leg}

@@ -1,6 +1,5 @@
 use Rattle.std.proofs.Common.{◌≡◌, List, None, Some, length, ap, rules, subst, sym, ◌∙◌}
 use Rattle.run_marks.specs.Marked.{Covers}
-use Rattle.group_name.specs.Group.{Group}
 use Rattle.run_states.specs.GroupOf.{group_at}
 use Rattle.run_states.specs.Groups.{waits}
 use Rattle.run_states.specs.RunState.{RunState}

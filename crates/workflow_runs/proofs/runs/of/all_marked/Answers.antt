@@ -1,4 +1,3 @@
-use Rattle.std.specs.Prelude.{◌≡◌, ◌<◌, ℕ, true}
 use Rattle.std.proofs.Common.{arith, inl, inr}
 use Rattle.std.proofs.lemmas.Bool.{cases_eq}
 use Rattle.workflow_runs.proofs.MarkedRuns.{put_adds, put_marks}

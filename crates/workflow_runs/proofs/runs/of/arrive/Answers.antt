@@ -1,4 +1,4 @@
-use Rattle.std.specs.Prelude.{◌≡◌, List, Option, None, Some, option_and_then, true}
+use Rattle.std.specs.Prelude.{◌≡◌, List, Some}
 use Rattle.std.proofs.Common.{◌+◌, arith, ap, subst, sym, ◌∙◌}
 use Rattle.std.proofs.lemmas.Option.{same_Some}
 use Rattle.group_name.specs.Group.{Group}

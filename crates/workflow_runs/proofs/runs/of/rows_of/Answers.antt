@@ -1,4 +1,4 @@
-use Rattle.std.proofs.Common.{◌≡◌, ◌++◌, ◌∷◌, [], ℕ, Option, arith, ap, sym, ◌∙◌, subst}
+use Rattle.std.proofs.Common.{◌≡◌, ◌++◌, ◌∷◌, [], ℕ, Option, arith, ap, ◌∙◌, subst}
 use Rattle.std.specs.Prelude.{MatchOption, length}
 use Rattle.std.proofs.lemmas.List.{length-take, take_all}
 use Rattle.run_plan.specs.PlanOf.{plan_of}

@@ -1,5 +1,5 @@
 use Rattle.std.specs.Prelude.{◌≡◌, Option, None, Some, false, is_some, option_copied, true}
-use Rattle.std.proofs.Common.{ap, rules, subst, sym, ◌∙◌}
+use Rattle.std.proofs.Common.{ap, rules, sym, ◌∙◌}
 use Rattle.std.proofs.lemmas.Bool.{and_from}
 use Rattle.std.proofs.lemmas.Option.{same_Some}
 use Rattle.group_book.specs.Books.{slot_in}
@@ -8,7 +8,6 @@ use Rattle.run_states.specs.GroupOf.{group_at}
 use Rattle.run_states.specs.GroupWords.{same_holder}
 use Rattle.run_states.proofs.Optional.{some_of}
 use Rattle.settling_laws.proofs.ArrivalKeeps.{itself}
-use Rattle.workflow_runs.specs.RowsKept.{key_at}
 use Rattle.workflow_runs.specs.Seating.{in_place, is_of}
 use Rattle.workflow_runs.proofs.Seating.{group_by_key, in_no_group, its_place_is_taken, no_seat_for, one_seated}
 use Rattle.workflow_runs.proofs.runs.of.seat.Goals as goal

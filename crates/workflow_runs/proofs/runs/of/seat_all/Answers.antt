@@ -1,4 +1,4 @@
-use Rattle.std.specs.Prelude.{◌≡◌, suc, ◌||◌, List, length, Bool, true, refl}
+use Rattle.std.specs.Prelude.{◌≡◌, suc, ◌||◌, List, length, true, refl}
 use Rattle.std.proofs.Common.{arith, ◌+◌, ap, rules, subst, sym, ◌∙◌}
 use Rattle.run_states.specs.GroupWords.{same_holder}
 use Rattle.run_states.specs.RunState.{RunState}

@@ -1,12 +1,11 @@
-use Rattle.std.specs.Prelude.{◌≡◌, suc, ◌&&◌, List, true, refl}
+use Rattle.std.specs.Prelude.{◌≡◌, suc, List, true, refl}
 use Rattle.std.proofs.Common.{arith, ◌+◌, ap, subst, sym, ◌∙◌}
-use Rattle.std.proofs.lemmas.Bool.{and_parts}
 use Rattle.run_states.specs.GroupWords.{same_holder}
 use Rattle.run_states.specs.RunState.{RunState}
 use Rattle.run_states.specs.declared.holder.Holder.{Holder}
 use Rattle.run_states.specs.declared.holder.Holder.TheVariants.{Leg}
 use Rattle.run_states.specs.declared.place.LegPlace.{LegPlace}
-use Rattle.workflow_runs.specs.Seating.{AreSeatedOrTaken, HasSeats, HaveKeys, TakeSeats, in_job, legs_below}
+use Rattle.workflow_runs.specs.Seating.{HaveKeys, TakeSeats, in_job, legs_below}
 use Rattle.workflow_runs.proofs.Seating.{are_seated, one_is_taken, said_of}
 use Rattle.workflow_runs.proofs.SeatSteps.{all_legs_seated, keys_still, leg_in_its_job, leg_place, leg_seated, leg_taken, no_leg_seated}
 use Rattle.workflow_runs.proofs.SeatsInOrder.{leg_is_another}
