@@ -1,5 +1,5 @@
 -- A holder exists only in a run of the table, and whether it holds its group depends only on its run.
-use Rattle.std.specs.Prelude.{◌≡◌, ℕ, ◌<◌, List, length, false, Option, Some, option_and_then, slice_get}
+use Rattle.std.specs.Prelude.{◌≡◌, ◌<◌, List, length, false, Some, option_and_then, slice_get}
 use Rattle.std.specs.Option.{option_map_or}
 use Rattle.std.proofs.Common.{ap}
 use Rattle.std.proofs.lemmas.Option.{slice_get_within}

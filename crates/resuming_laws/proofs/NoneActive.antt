@@ -10,10 +10,8 @@ use Rattle.group_name.specs.Group.{Group}
 use Rattle.run_states.specs.ActiveRuns.{has_active_leg, is_active, is_active_leg}
 use Rattle.run_states.specs.FirstOf.{first_some, placed}
 use Rattle.run_states.specs.Fitting.{OnlyAtWork, has_lease}
-use Rattle.run_states.specs.GroupOf.{group_at}
 use Rattle.run_states.specs.GroupWords.{same_holder}
-use Rattle.run_states.specs.Groups.{holds, is_in, is_pending_in, is_in_progress_in, leg_holds, leg_waits, run_waits, waits}
-use Rattle.run_states.specs.Holders.{is_conflicting, run_of}
+use Rattle.run_states.specs.Groups.{is_in, is_pending_in, leg_holds, leg_waits, run_waits, waits}
 use Rattle.run_states.specs.Resuming.{apply_at}
 use Rattle.run_states.specs.Parallel.{is_at_work}
 use Rattle.run_states.specs.PlacedLegs.{PlacedLeg, placed_legs_of_run}
@@ -22,16 +20,12 @@ use Rattle.run_states.specs.declared.place.LegPlace.{LegPlace}
 use Rattle.run_states.specs.RunState.{JobState, LegState, RunState}
 use Rattle.run_states.specs.StateWords.{is_live}
 use Rattle.run_states.specs.WithinRun.{lease_in_run}
-use Rattle.run_states.specs.declared.holder.HolderFilter.{HolderFilter}
-use Rattle.run_states.specs.declared.holder.HolderFilter.TheVariants.{OthersPending, InProgress}
 use Rattle.run_states.specs.declared.phases.LegPhase.{LegPhase}
 use Rattle.run_states.specs.declared.phases.LegPhase.TheVariants as a_leg
-use Rattle.run_states.proofs.JobKeeps.{leg_in}
 use Rattle.resuming_laws.specs.RunFacts.{is_so_at}
 use Rattle.settling_laws.proofs.Firsts.{first_same_placed, first_some_same}
 use Rattle.settling_laws.proofs.PlacedLegs.{each_in_run, leg_there}
 use Rattle.run_states.specs.declared.holder.Holder.{Holder}
-use Rattle.run_states.specs.declared.holder.Holder.TheVariants.{Run, Leg}
 
 -- ---- if each index has no value
 
@@ -104,59 +98,11 @@ and_none : (a b : Bool) → b ≡ false → (a && b) ≡ false
 and_none true b none = none
 and_none false b none = refl
 
--- a run without a property lacks each property that implies it
-weaker : (fact other : RunState → Bool) (o : Option RunState) → ((x : RunState) → fact x ≡ false → other x ≡ false)
-    → option_map_or fact o false ≡ false → option_map_or other o false ≡ false
-weaker fact other None says e = refl
-weaker fact other (Some x) says e = says x e
-
-phase_rests : (x : RunState) → is_active x ≡ false → (run_waits x.phase ≡ false) × (is_live x.phase ≡ false)
-phase_rests x none =
-    or_parts (run_waits x.phase) (is_live x.phase) (or_parts (run_waits x.phase || is_live x.phase) (list_any has_active_leg x.jobs) none).0
-
 module _ (runs : List RunState) (h : Holder) where
   not_pending : (other : Holder) (o : Option Group) → waits runs other ≡ false
       → option_map_or (λ g. is_pending_in runs g other && not (same_holder other h)) o false ≡ false
   not_pending other None none = refl
   not_pending other (Some g) none = ap (λ b. b && not (same_holder other h)) (and_none (is_in runs g other) (waits runs other) none)
-
-  not_in_progress : (other : Holder) (o : Option Group) → holds runs other ≡ false
-      → option_map_or (λ g. is_in_progress_in runs g other) o false ≡ false
-  not_in_progress other None none = refl
-  not_in_progress other (Some g) none = and_none (is_in runs g other) (holds runs other) none
-
-  not_meant : (holder_filter : HolderFilter) (other : Holder) → waits runs other ≡ false → holds runs other ≡ false
-      → is_conflicting runs h holder_filter other ≡ false
-  not_meant OthersPending other waits_not holds_not = not_pending other (group_at runs h) waits_not
-  not_meant InProgress other waits_not holds_not = not_in_progress other (group_at runs h) holds_not
-
-  run_not_meant : (holder_filter : HolderFilter) (r : ℕ) → is_so_at is_active runs r ≡ false
-      → is_conflicting runs h holder_filter (Run r) ≡ false
-  run_not_meant holder_filter r none =
-      not_meant holder_filter (Run r)
-      (weaker is_active (λ x. run_waits x.phase) (slice_get runs r) (λ x rests. (phase_rests x rests).0) none)
-      (weaker is_active (λ x. is_live x.phase) (slice_get runs r) (λ x rests. (phase_rests x rests).1) none)
-
-  leg_not_meant : (holder_filter : HolderFilter) (p : LegPlace) (leg : LegState) → leg_at runs p ≡ Some leg → is_active_leg leg ≡ false
-      → is_conflicting runs h holder_filter (Leg p) ≡ false
-  leg_not_meant holder_filter p leg at none =
-      let parts = or_parts (leg_waits leg.phase) (leg_holds leg.phase) none in
-      not_meant holder_filter (Leg p) (ap (λ o. option_map_or (λ x. leg_waits x.phase) o false) at ∙ parts.0)
-      (ap (λ o. option_map_or (λ x. leg_holds x.phase) o false) at ∙ parts.1)
-
-  pub not_meant_there : (holder_filter : HolderFilter) (other : Holder) → is_so_at is_active runs (run_of other) ≡ false
-      → is_conflicting runs h holder_filter other ≡ false
-  not_meant_there holder_filter (Run r) none = run_not_meant holder_filter r none
-  not_meant_there holder_filter (Leg p) none = by (leg_at runs p) refl
-    where
-      by : (o : Option LegState) → leg_at runs p ≡ o → is_conflicting runs h holder_filter (Leg p) ≡ false
-      by None at =
-          not_meant holder_filter (Leg p) (ap (λ o. option_map_or (λ (x : LegState). leg_waits x.phase) o false) at)
-          (ap (λ o. option_map_or (λ (x : LegState). leg_holds x.phase) o false) at)
-      by (Some leg) at =
-          let there = leg_in runs p leg at in
-          let rests : is_active there.place.run ≡ false = sym (ap (λ o. option_map_or is_active o false) there.place.run_is) ∙ none in
-          leg_not_meant holder_filter p leg at (leg_rests there.place.run p.job p.leg there.job leg rests there.place.job_is there.leg_is)
 
 -- no run before `r` has a value, if none before `from` has one and none is found from there to `r`
 

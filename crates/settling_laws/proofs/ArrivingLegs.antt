@@ -2,7 +2,7 @@
 use Rattle.std.specs.Prelude.{◌≡◌, List, true, false, Option, Some, None, refl}
 use Rattle.std.specs.Option.{option_map_or}
 use Rattle.std.proofs.Common.{ap}
-use Rattle.run_states.specs.Groups.{HasOneBeside, HasOneEach, leg_waits, waits}
+use Rattle.run_states.specs.Groups.{leg_waits, waits}
 use Rattle.run_states.specs.Resuming.{is_new_at}
 use Rattle.run_states.specs.Places.{leg_at}
 use Rattle.run_states.specs.declared.place.LegPlace.{LegPlace}
@@ -13,8 +13,7 @@ use Rattle.run_states.specs.StateWords.{is_new, leg_in_phase}
 use Rattle.run_states.specs.declared.phases.LegPhase.{LegPhase}
 use Rattle.run_states.specs.declared.phases.LegPhase.TheVariants as leg
 use Rattle.settling_laws.proofs.HoldersFade.{leg_passes, passes}
-use Rattle.settling_laws.proofs.OneEach.{groups_stay, newcomer_besides}
-use Rattle.settling_laws.proofs.OneEachRules.{newcomer_comes, set_itself}
+use Rattle.settling_laws.proofs.OneEachRules.{set_itself}
 use Rattle.settling_laws.proofs.RuleKeeps.{newcomer_waits}
 use Rattle.settling_laws.proofs.SoundRuns.{runs_that_fit, sound_runs}
 use Rattle.run_states.specs.declared.holder.Holder.TheVariants.{Leg}
@@ -49,10 +48,3 @@ module _ (runs : List RunState) (p : LegPlace) (new : is_new_at runs p ≡ true)
   arriving_sound sound =
       sound_runs (with_leg_in leg.Waiting p runs)
       (newcomer_waits runs p there.state (runs_that_fit runs sound) there.is there.new).stay.fit
-
-  pub arriving_beside : RunsAreSound runs → HasOneEach runs → HasOneBeside (with_leg_in leg.Waiting p runs) (Leg p)
-  arriving_beside sound each =
-      let next = with_leg_in leg.Waiting p runs in
-      let fit = runs_that_fit runs sound in
-      let stay = (newcomer_waits runs p there.state fit there.is there.new).stay in
-      newcomer_besides runs next (Leg p) (groups_stay runs next fit stay) (newcomer_comes runs p there.state there.is) each

@@ -1,5 +1,5 @@
 -- The first place where a rule applies is found in the runs that are due.
-use Rattle.std.specs.Prelude.{◌≡◌, ℕ, ◌<◌, ◌≤◌, List, length, true, false, Option, Some, None, is_some}
+use Rattle.std.specs.Prelude.{◌≡◌, ℕ, ◌<◌, ◌≤◌, List, length, true, Option, Some, None, is_some}
 use Rattle.std.proofs.Common.{arith, sym, ◌∙◌, inl, inr}
 use Rattle.std.proofs.lemmas.Bool.{cases_lt, true≢false}
 use Rattle.run_states.specs.Resuming.{NoneBefore, apply_at}
@@ -25,11 +25,6 @@ module _ (runs : List RunState) where
       → is_some o ≡ true → o ≡ first_place runs
   place_found r None before is some = absurd (true≢false (sym some))
   place_found r (Some p) before is some = sym (first_place_by_run runs ∙ found_at (first_in_run runs) runs r p before (sym is))
-
-  pub nothing_found : (r : ℕ) (o : Option RuleSite) → o ≡ apply_at (first_in_run runs) runs r → is_some o ≡ false
-      → apply_at (first_in_run runs) runs r ≡ None
-  nothing_found r None is none = sym is
-  nothing_found r (Some p) is none = absurd (true≢false none)
 
   pub none_left : (from : ℕ) → NoneBefore (first_in_run runs) runs from → ((i : ℕ) → from ≤ i → apply_at (first_in_run runs) runs i ≡ None)
       → None ≡ first_place runs

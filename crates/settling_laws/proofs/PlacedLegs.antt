@@ -6,7 +6,7 @@ use Rattle.std.proofs.Common.{arith, ap, ap₂, ◌∙◌}
 use Rattle.std.proofs.lemmas.List.{map-append}
 use Rattle.run_states.specs.FirstOf.{first_some, placed}
 use Rattle.run_states.specs.PlacedLegs.{PlacedLeg, placed_leg, placed_legs, placed_legs_of_job, placed_legs_of_run}
-use Rattle.run_states.specs.Places.{leg_at, leg_place, leg_places, leg_places_of_job, leg_places_of_run}
+use Rattle.run_states.specs.Places.{leg_at, leg_place, leg_places_of_job, leg_places_of_run}
 use Rattle.run_states.specs.declared.place.LegPlace.{LegPlace}
 use Rattle.run_states.specs.RunState.{LegState, JobState, RunState}
 use Rattle.run_states.proofs.Found.{all_flat_map, all_weaken, each_of_flat_map, each_of_map, each_of_placed, placed_get}
@@ -58,9 +58,6 @@ pub places_of_run : (r : ℕ × RunState) → map (λ (x : PlacedLeg). x.place) 
 places_of_run r =
     map_flat_map (λ (x : PlacedLeg). x.place) (placed_legs_of_job r.0) (leg_places_of_job r.0)
     (λ j. map_map (λ (x : PlacedLeg). x.place) (placed_leg r.0 j.0) (placed j.1.legs)) (placed r.1.jobs)
-
-pub places_of_all : (runs : List RunState) → map (λ (x : PlacedLeg). x.place) (placed_legs runs) ≡ leg_places runs
-places_of_all runs = map_flat_map (λ (x : PlacedLeg). x.place) placed_legs_of_run leg_places_of_run places_of_run (placed runs)
 
 -- ---- each is at its place
 
