@@ -2,9 +2,9 @@
 
 ghost use Rattle.std.specs.Prelude.{◌<◌, length};
 
-use crate::exchange::{ClientReader, ClientWriter, Input, would_block};
 use act_disk::Disk;
 use act_loop::{ClientStatus, Service};
+use client_ports::{ClientReader, ClientWriter, Input, Next, would_block};
 use mio::event::Event;
 use runner_sessions::RunnerLines;
 use std::alloc::Global;
@@ -36,17 +36,6 @@ pub(crate) enum Stage {
     Owes,
     /// Its session is over, and what it still sends is discarded.
     Leaves,
-}
-
-/// What a client is to do after its turn.
-#[derive(Clone, Copy, Debug, PartialEq, Eq)]
-pub(crate) enum Next {
-    /// It is heard in the next turn.
-    Again,
-    /// It waits until its stream reports something.
-    Waits,
-    /// Its stream is closed.
-    Closes,
 }
 
 /// What became of the answers of a client.

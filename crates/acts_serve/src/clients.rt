@@ -1,7 +1,7 @@
 //! The clients of both ports, each in its place, and those that are heard or answered in a turn.
 
 use crate::client::Client;
-use crate::port::{MAX_CLIENTS, Port};
+use client_ports::{MAX_CLIENTS, Port};
 use mio::event::Event;
 use mio::unix::SourceFd;
 use mio::{Interest, Registry, Token};

@@ -1,11 +1,11 @@
 //! Ends the clients' sessions after a device failure: every request that has arrived is answered, and all streams are
 //! closed.
 
-use crate::client::{Next, Stage};
-use crate::port::MAX_CLIENTS;
+use crate::client::Stage;
 use crate::turns::Turns;
 use act_disk::Disk;
 use act_sessions::Protocol;
+use client_ports::{MAX_CLIENTS, Next};
 use runner_sessions::RunnerLines;
 use std::alloc::Global;
 use std::io::Write;

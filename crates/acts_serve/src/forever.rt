@@ -5,12 +5,11 @@ ghost use Rattle.std.specs.Prelude.{◌≡◌, []};
 use crate::clients::Clients;
 use crate::farewell::part_with_all;
 use crate::limits::Limits;
-use crate::port::MAX_CLIENTS;
 use crate::turns::Turns;
-use crate::views::{ViewPort, Views};
 use act_disk::Disk;
 use act_loop::{Service, Slots};
 use act_store::Store;
+use client_ports::MAX_CLIENTS;
 use mio::{Events, Poll};
 use run_table::Table;
 use service_startup::{brought_up, tell_ready};
@@ -20,6 +19,7 @@ use std::io::{ErrorKind, Write};
 use std::net::{Net, TcpListener};
 use std::sync::Wait;
 use std::time::{Clock, Duration, Instant, SystemTime, UNIX_EPOCH};
+use view_port::{ViewPort, Views};
 use wf_value::{Code, Refusal};
 
 /// The most events that are taken at once.

@@ -2,22 +2,23 @@
 //! committed at once, and then all are answered.
 
 use crate::checkpoints::Checkpoints;
-use crate::client::{Next, Stage};
+use crate::client::Stage;
 use crate::clients::Clients;
 use crate::limits::Limits;
 use crate::linger::Linger;
-use crate::port::MAX_CLIENTS;
-use crate::views::{FIRST_TOKEN, Seen, Views};
 use act_disk::Disk;
 use act_loop::{MAX_REQUESTS, Service};
 use act_store::MAX_ENTRIES;
+use client_ports::{MAX_CLIENTS, Next};
 use mio::Token;
 use mio::event::Event;
 use runner_sessions::RunnerLines;
 use service_startup::tell_settled;
+use service_views::Seen;
 use std::alloc::Global;
 use std::io::Write;
 use std::time::{Clock, Duration, Instant};
+use view_port::{FIRST_TOKEN, Views};
 use webhook_sessions::Hooks;
 use wf_value::{Code, Refusal};
 
@@ -326,7 +327,7 @@ impl<'a, D: Disk> Turns<'a, D> {
     /// A commit took so long.
     pub(crate) fn has_committed(&mut self, took: Duration) {
         if let Some(views) = &mut self.views {
-            views.kept.counters.committed(took);
+            views.committed(took);
         }
     }
 
@@ -430,7 +431,7 @@ impl<'a, D: Disk> Turns<'a, D> {
             Ok(()) => {
                 self.checkpoints.turn_over();
                 if let Some(views) = &mut self.views {
-                    views.kept.turn_over();
+                    views.turn_over();
                 }
                 self.bytes = 0;
                 tell_settled(entries, out)

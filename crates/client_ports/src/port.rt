@@ -9,7 +9,7 @@ use std::net::{TcpListener, TcpStream};
 use std::os::fd::AsRawFd;
 
 /// The most clients that a port has. Others wait until one of them leaves.
-pub(crate) const MAX_CLIENTS: usize = 1024;
+pub const MAX_CLIENTS: usize = 1024;
 
 /// The permanent errors of the system's `accept`: the listener cannot be used.
 const EBADF: i32 = 9;
@@ -44,7 +44,7 @@ enum Callers {
 
 /// A port with its free places.
 #[derive(Drop)]
-pub(crate) struct Port<'a> {
+pub struct Port<'a> {
     listener: &'a TcpListener,
     free: Vec<usize>,
     callers: Callers,
@@ -52,7 +52,7 @@ pub(crate) struct Port<'a> {
 
 impl<'a> Port<'a> {
     /// A port whose clients have the places from `first` on.
-    pub(crate) fn new(
+    pub fn new(
         alloc: Global,
         listener: &'a TcpListener,
         first: usize,
@@ -69,35 +69,35 @@ impl<'a> Port<'a> {
     }
 
     /// Registers the listener, so that connections are reported.
-    pub(crate) fn watch(&self, registry: &Registry, token: Token) -> io::Result<()> {
+    pub fn watch(&self, registry: &Registry, token: Token) -> io::Result<()> {
         self.listener.set_nonblocking(true)?;
         let fd = self.listener.as_raw_fd();
         registry.register(&mut SourceFd(&fd), token, Interest::READABLE)
     }
 
     /// A connection has come.
-    pub(crate) fn reports(&mut self) {
+    pub fn reports(&mut self) {
         self.callers = Callers::Some;
     }
 
     /// Whether a connection can be accepted at once.
-    pub(crate) fn is_busy(&self) -> bool {
+    pub fn is_busy(&self) -> bool {
         self.callers == Callers::Some && !self.free.is_empty()
     }
 
     /// How many clients it has.
-    pub(crate) fn taken(&self) -> usize {
+    pub fn taken(&self) -> usize {
         MAX_CLIENTS.saturating_sub(self.free.len())
     }
 
     /// Frees a place.
-    pub(crate) fn vacate(&mut self, place: usize) {
+    pub fn vacate(&mut self, place: usize) {
         let _ = self.free.push(place);
     }
 
     /// The next connection, with a place for it. If there is no place, or the system has no room at the moment, it waits
     /// and is tried again in the next turn.
-    pub(crate) fn accept(&mut self) -> io::Result<Option<(TcpStream, usize)>> {
+    pub fn accept(&mut self) -> io::Result<Option<(TcpStream, usize)>> {
         if self.callers == Callers::None {
             return Ok(None);
         }

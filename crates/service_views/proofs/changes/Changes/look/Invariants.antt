@@ -1,6 +1,6 @@
 use Rattle.std.proofs.Common.{◌≡◌}
 use Rattle.covered_log.specs.Lines.{entries_of}
-use Rattle.acts_serve.proofs.changes.Changes.look.Given as goal
+use Rattle.service_views.proofs.changes.Changes.look.Given as goal
 
 abbrev pub invariant-loop-index : goal.invariant-loop-index
 invariant-loop-index l = record {

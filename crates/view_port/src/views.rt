@@ -1,23 +1,16 @@
 //! The clients of the view port, and what they are shown.
 
-mod board;
-mod kept;
 mod parting;
-mod shown;
 
-use crate::client::Next;
-use crate::port::{MAX_CLIENTS, Port};
 use crate::viewer::{Viewer, Waiting};
-use crate::views::shown::Made;
 use act_disk::Disk;
 use act_store::Store;
-pub use board::Board;
-pub(crate) use kept::Kept;
+use client_ports::{MAX_CLIENTS, Next, Port};
 use mio::event::Event;
 use mio::unix::SourceFd;
 use mio::{Interest, Registry, Token};
 use run_table::Table;
-pub(crate) use shown::Seen;
+use service_views::{Board, Kept, Made, Seen};
 use std::alloc::{AllocError, Global};
 use std::collections::VecDeque;
 use std::net::{TcpListener, TcpStream};
@@ -26,7 +19,7 @@ use std::{io, mem};
 use wf_value::{Code, Refusal};
 
 /// The token of the listener. Those of the clients follow it.
-pub(crate) const FIRST_TOKEN: usize = 2 + 2 * MAX_CLIENTS;
+pub const FIRST_TOKEN: usize = 2 + 2 * MAX_CLIENTS;
 
 /// The port to look at a service, and the version of the program and the board that it shows.
 #[derive(Clone, Copy)]
@@ -38,17 +31,17 @@ pub struct ViewPort<'a> {
 
 /// The clients of the view port, with what is kept for them.
 #[derive(Drop)]
-pub(crate) struct Views<'a> {
+pub struct Views<'a> {
     port: Port<'a>,
-    pub(crate) version: &'a str,
-    pub(crate) board: &'a Board,
+    pub version: &'a str,
+    pub board: &'a Board,
     registry: Registry,
     slots: Vec<Option<Viewer>>,
     /// The places of those that are served next.
     queue: VecDeque<usize>,
     /// The places of those that wait for changes.
     waiting: Vec<usize>,
-    pub(crate) kept: Kept,
+    kept: Kept,
 }
 
 /// The refusal for a failed system call.
@@ -67,7 +60,7 @@ fn empty_slots(alloc: Global) -> Result<Vec<Option<Viewer>>, AllocError> {
 
 impl<'a> Views<'a> {
     /// The views of a service that begins now.
-    pub(crate) fn new(
+    pub fn new(
         alloc: Global,
         port: ViewPort<'a>,
         registry: Registry,
@@ -88,7 +81,7 @@ impl<'a> Views<'a> {
     }
 
     /// Registers the listener, so that connections are reported.
-    pub(crate) fn watch(&self) -> Result<(), Refusal> {
+    pub fn watch(&self) -> Result<(), Refusal> {
         self.port
             .watch(&self.registry, Token(FIRST_TOKEN))
             .map_err(|e| refusal_of(&e))
@@ -97,7 +90,7 @@ impl<'a> Views<'a> {
     // ---- clients
 
     /// Whether a client is to be served, or a connection to be accepted.
-    pub(crate) fn is_busy(&self) -> bool {
+    pub fn is_busy(&self) -> bool {
         !self.queue.is_empty() || self.port.is_busy()
     }
 
@@ -106,7 +99,7 @@ impl<'a> Views<'a> {
     }
 
     /// The listener or the stream of a client has reported something. `number` counts from the listener's token.
-    pub(crate) fn note(&mut self, number: usize, event: &Event) {
+    pub fn note(&mut self, number: usize, event: &Event) {
         let Some(place) = number.checked_sub(1) else {
             self.port.reports();
             return;
@@ -128,7 +121,7 @@ impl<'a> Views<'a> {
     }
 
     /// Accepts a connection, if one has come.
-    pub(crate) fn accept(&mut self, alloc: Global, now: Instant) -> Result<bool, Refusal> {
+    pub fn accept(&mut self, alloc: Global, now: Instant) -> Result<bool, Refusal> {
         let accepted = self.port.accept().map_err(|e| refusal_of(&e))?;
         let Some((stream, place)) = accepted else {
             return Ok(false);
@@ -168,7 +161,7 @@ impl<'a> Views<'a> {
 
     /// Closes the clients that have been silent for too long, and queues those that have waited for changes for long enough.
     /// Returns whether clients leave, or answers wait.
-    pub(crate) fn sweep(&mut self, now: Instant, idle: Duration) -> bool {
+    pub fn sweep(&mut self, now: Instant, idle: Duration) -> bool {
         let mut is_restless = false;
         for place in 0..self.slots.len() {
             let Some(viewer) = self.get(place) else {
@@ -186,14 +179,24 @@ impl<'a> Views<'a> {
     }
 
     /// How many clients there are.
-    pub(crate) fn clients(&self) -> usize {
+    pub fn clients(&self) -> usize {
         self.port.taken()
+    }
+
+    /// A commit took so long.
+    pub fn committed(&mut self, took: Duration) {
+        self.kept.committed(took);
+    }
+
+    /// A new history has begun.
+    pub fn turn_over(&mut self) {
+        self.kept.turn_over();
     }
 
     // ---- what they are shown
 
     /// Takes up what was made durable since the last time, and queues those that wait for it.
-    pub(crate) fn take_up<D: Disk>(&mut self, alloc: Global, store: &Store<D>, now: Instant) {
+    pub fn take_up<D: Disk>(&mut self, alloc: Global, store: &Store<D>, now: Instant) {
         if !self.kept.take_up(alloc, store, now) {
             return;
         }
@@ -235,7 +238,8 @@ impl<'a> Views<'a> {
 
     /// Gives the client in a place that waits for changes an answer, if there is one by now.
     fn serve_waiting(&mut self, alloc: Global, place: usize, waiting: Waiting, now: Instant) {
-        match self.kept.made_later(alloc, &waiting, now) {
+        let is_over = waiting.until <= now;
+        match self.kept.made_later(alloc, waiting.query, is_over) {
             Made::Answer(answer) => {
                 self.waiting.retain(|other| *other != place);
                 if let Some(viewer) = self.get(place) {
@@ -275,7 +279,7 @@ impl<'a> Views<'a> {
     }
 
     /// Serves the client that has waited for the longest. Returns false if there is none.
-    pub(crate) fn serve_next(
+    pub fn serve_next(
         &mut self,
         alloc: Global,
         seen: Seen<'_>,

@@ -8,7 +8,7 @@ use Rattle.run_states.specs.RunState.{RunState}
 use Rattle.act_store.specs.declared.entry.Entry.{Entry}
 use Rattle.covered_log.specs.Lines.{Change, Entered, Missed, Stands, entries_in, entries_of}
 use Rattle.covered_log.specs.LogState.{HasRoom, LogState, losing_line, with_change}
-use Rattle.acts_serve.specs.Following.{Gains, told_of}
+use Rattle.service_views.specs.Following.{Gains, told_of}
 
 -- no entries
 pub gains_none : (s : LogState) → Gains [] s s

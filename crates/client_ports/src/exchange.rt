@@ -6,7 +6,7 @@ use std::net::TcpStream;
 
 /// Whether more may be read from a client.
 #[derive(Clone, Copy, Debug, PartialEq, Eq)]
-pub(crate) enum Input {
+pub enum Input {
     /// It has sent nothing more yet.
     Drained,
     /// It may have sent more.
@@ -18,7 +18,7 @@ pub(crate) enum Input {
 }
 
 /// Whether the error says only that nothing can be read or written yet.
-pub(crate) fn would_block(e: &io::Error) -> bool {
+pub fn would_block(e: &io::Error) -> bool {
     matches!(e.kind(), ErrorKind::WouldBlock | ErrorKind::Interrupted)
 }
 
@@ -36,15 +36,15 @@ fn input_after(read: &io::Result<usize>, room: usize, is_closing: bool) -> Input
 
 /// Reads from a client, and keeps what the last read says of its input.
 #[derive(Drop)]
-pub(crate) struct ClientReader<'s> {
+pub struct ClientReader<'s> {
     stream: &'s TcpStream,
     /// Whether the client has closed its side.
     is_closing: bool,
-    pub(crate) input: Input,
+    pub input: Input,
 }
 
 impl<'s> ClientReader<'s> {
-    pub(crate) fn new(stream: &'s TcpStream, is_closing: bool) -> ClientReader<'s> {
+    pub fn new(stream: &'s TcpStream, is_closing: bool) -> ClientReader<'s> {
         ClientReader {
             stream,
             is_closing,
@@ -64,13 +64,13 @@ impl Read for ClientReader<'_> {
 
 /// Writes to a client, and keeps whether its stream has failed.
 #[derive(Drop)]
-pub(crate) struct ClientWriter<'s> {
+pub struct ClientWriter<'s> {
     stream: &'s TcpStream,
-    pub(crate) has_failed: bool,
+    pub has_failed: bool,
 }
 
 impl<'s> ClientWriter<'s> {
-    pub(crate) fn new(stream: &'s TcpStream) -> ClientWriter<'s> {
+    pub fn new(stream: &'s TcpStream) -> ClientWriter<'s> {
         ClientWriter {
             stream,
             has_failed: false,

@@ -2,9 +2,8 @@
 
 use crate::changes::Found;
 use crate::counters::Gauges;
-use crate::viewer::Waiting;
-use crate::views::board::Board;
-use crate::views::kept::Kept;
+use crate::board::Board;
+use crate::kept::Kept;
 use run_table::Table;
 use std::alloc::Global;
 use std::time::Instant;
@@ -25,23 +24,23 @@ const MAX_ROWS: usize = 100;
 /// What is shown: the table, the version of the program, its board, the length of an area and its room, its generation, how many clients each port
 /// has, and how many checkpoints were finished.
 #[derive(Clone, Copy)]
-pub(crate) struct Seen<'t> {
-    pub(crate) table: &'t Table,
-    pub(crate) version: &'t str,
-    pub(crate) board: &'t Board,
-    pub(crate) area: u64,
-    pub(crate) room: u64,
-    pub(crate) generation: u64,
-    pub(crate) hooks: usize,
-    pub(crate) runners: usize,
-    pub(crate) viewers: usize,
-    pub(crate) checkpoints: u64,
-    pub(crate) now: Instant,
+pub struct Seen<'t> {
+    pub table: &'t Table,
+    pub version: &'t str,
+    pub board: &'t Board,
+    pub area: u64,
+    pub room: u64,
+    pub generation: u64,
+    pub hooks: usize,
+    pub runners: usize,
+    pub viewers: usize,
+    pub checkpoints: u64,
+    pub now: Instant,
 }
 
 /// What becomes of a request.
 #[derive(Drop)]
-pub(crate) enum Made {
+pub enum Made {
     Answer(Answer),
     Waits(ChangesQuery),
 }
@@ -177,7 +176,7 @@ impl Kept {
     }
 
     /// What becomes of a request. Without memory the answer is that there is none.
-    pub(crate) fn made(&self, alloc: Global, seen: Seen<'_>, request: &ViewRequest) -> Made {
+    pub fn made(&self, alloc: Global, seen: Seen<'_>, request: &ViewRequest) -> Made {
         let shown = match &request.asked {
             Ok(view) => self.show(alloc, seen, view),
             Err(fault) => return Made::Answer(Err(*fault)),
@@ -196,11 +195,11 @@ impl Kept {
         }
     }
 
-    /// The answer for a client that has waited, if there is one by now.
-    pub(crate) fn made_later(&self, alloc: Global, waiting: &Waiting, now: Instant) -> Made {
-        let wait = if waiting.until <= now { 0 } else { 1 };
+    /// The answer for a client that has waited for changes, if there is one by now. Once its wait is over there is one.
+    pub fn made_later(&self, alloc: Global, query: ChangesQuery, is_over: bool) -> Made {
+        let wait = if is_over { 0 } else { 1 };
         let query = ChangesQuery {
-            after: waiting.query.after,
+            after: query.after,
             wait,
         };
         self.changes(alloc, query)

@@ -1,7 +1,7 @@
 //! Ends the sessions of the view port after a device failure: what clients have asked by then is answered with that.
 
-use crate::port::MAX_CLIENTS;
 use crate::views::Views;
+use client_ports::MAX_CLIENTS;
 use std::alloc::Global;
 use std::time::Instant;
 
@@ -18,7 +18,7 @@ impl Views<'_> {
     }
 
     /// Answers what clients have asked, and closes their streams.
-    pub(crate) fn part_with_all(&mut self, alloc: Global, buffer: &mut Vec<u8>, now: Instant) {
+    pub fn part_with_all(&mut self, alloc: Global, buffer: &mut Vec<u8>, now: Instant) {
         self.accept_all(alloc, now);
         for place in 0..self.slots.len() {
             if let Some(viewer) = self.get(place) {

@@ -8,7 +8,7 @@ use run_plan::{Command, RunnerName};
 use run_table::Table;
 use std::alloc::{AllocError, Global};
 use std::collections::HashMap;
-use std::time::Instant;
+use std::time::{Duration, Instant};
 
 /// The runner that a command comes from.
 fn runner_of(command: &Command) -> Option<&RunnerName> {
@@ -22,7 +22,7 @@ fn runner_of(command: &Command) -> Option<&RunnerName> {
 
 /// What is kept.
 #[derive(Drop)]
-pub(crate) struct Kept {
+pub struct Kept {
     pub(crate) changes: Changes,
     pub(crate) counters: Counters,
     /// When each runner was last heard.
@@ -31,7 +31,7 @@ pub(crate) struct Kept {
 
 impl Kept {
     /// What is kept of a service that begins now.
-    pub(crate) fn new(
+    pub fn new(
         alloc: Global,
         process: u64,
         now: Instant,
@@ -70,7 +70,7 @@ impl Kept {
     }
 
     /// Takes up what was made durable since the last time. Returns whether there was something.
-    pub(crate) fn take_up<D: Disk>(
+    pub fn take_up<D: Disk>(
         &mut self,
         alloc: Global,
         store: &Store<D>,
@@ -84,8 +84,13 @@ impl Kept {
         true
     }
 
+    /// A commit took so long.
+    pub fn committed(&mut self, took: Duration) {
+        self.counters.committed(took);
+    }
+
     /// A new history has begun.
-    pub(crate) fn turn_over(&mut self) {
+    pub fn turn_over(&mut self) {
         self.changes.turn_over();
     }
 

@@ -1,7 +1,6 @@
 //! A client connected to the view port. Its stream is non-blocking.
 
-use crate::client::Next;
-use crate::exchange::{ClientReader, ClientWriter, Input, would_block};
+use client_ports::{ClientReader, ClientWriter, Input, Next, would_block};
 use mio::event::Event;
 use std::alloc::Global;
 use std::io;

@@ -3,7 +3,7 @@
 ghost use Rattle.std.specs.Prelude.{◌≡◌, [], ◌∷◌, IfOk, IfSome, drop, take};
 ghost use Rattle.covered_log.specs.Lines.{entries_of};
 ghost use Rattle.covered_log.specs.LogState.{new_log};
-ghost use Rattle.acts_serve.specs.Following.{Gains, TakesUp};
+ghost use Rattle.service_views.specs.Following.{Gains, TakesUp};
 
 use act_disk::Disk;
 use act_store::{Entry, Store};

@@ -1,9 +1,9 @@
 use Rattle.std.proofs.Common.{◌≡◌, ◌∙◌, ◌≤◌, sym, ap, arith}
 use Rattle.std.specs.Prelude.{None, Some, length, slice_get}
 use Rattle.std.specs.Option.{option_copied}
-use Rattle.acts_serve.proofs.FollowingLemmas.{found_at, gains_next, none_is_past}
-use Rattle.acts_serve.proofs.changes.Changes.enter_new.Goals.{in-Some, in_default}
-use Rattle.acts_serve.proofs.changes.Changes.enter_new.Goals as goal
+use Rattle.service_views.proofs.FollowingLemmas.{found_at, gains_next, none_is_past}
+use Rattle.service_views.proofs.changes.Changes.enter_new.Goals.{in-Some, in_default}
+use Rattle.service_views.proofs.changes.Changes.enter_new.Goals as goal
 
 pub loop-place-preserved : goal.loop-place-preserved
 loop-place-preserved g c =

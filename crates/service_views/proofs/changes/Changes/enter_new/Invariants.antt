@@ -1,6 +1,6 @@
 use Rattle.std.proofs.Common.{◌≡◌, ◌<◌, drop, take}
-use Rattle.acts_serve.specs.Following.{Gains}
-use Rattle.acts_serve.proofs.changes.Changes.enter_new.Given as goal
+use Rattle.service_views.specs.Following.{Gains}
+use Rattle.service_views.proofs.changes.Changes.enter_new.Given as goal
 
 -- the entries so far
 abbrev pub invariant-loop-place : goal.invariant-loop-place

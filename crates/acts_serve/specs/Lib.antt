@@ -1,2 +1,0 @@
--- The service without end.
-pub mod Following

@@ -1,0 +1,2 @@
+-- The views of a service.
+pub mod Following

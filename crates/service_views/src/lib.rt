@@ -1,0 +1,12 @@
+//! What a service shows to those that look at it: the answers of its views, from its table and from what is kept of it.
+#![tactic(auto)]
+
+mod board;
+mod changes;
+mod counters;
+mod kept;
+mod shown;
+
+pub use board::Board;
+pub use kept::Kept;
+pub use shown::{Made, Seen};
