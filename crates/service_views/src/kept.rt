@@ -70,12 +70,7 @@ impl Kept {
     }
 
     /// Takes up what was made durable since the last time. Returns whether there was something.
-    pub fn take_up<D: Disk>(
-        &mut self,
-        alloc: Global,
-        store: &Store<D>,
-        now: Instant,
-    ) -> bool {
+    pub fn take_up<D: Disk>(&mut self, alloc: Global, store: &Store<D>, now: Instant) -> bool {
         if store.covered() == self.changes.taken() {
             return false;
         }

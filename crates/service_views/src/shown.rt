@@ -1,8 +1,8 @@
 //! What a request is shown.
 
+use crate::board::Board;
 use crate::changes::Found;
 use crate::counters::Gauges;
-use crate::board::Board;
 use crate::kept::Kept;
 use run_table::Table;
 use std::alloc::Global;

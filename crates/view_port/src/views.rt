@@ -279,12 +279,7 @@ impl<'a> Views<'a> {
     }
 
     /// Serves the client that has waited for the longest. Returns false if there is none.
-    pub fn serve_next(
-        &mut self,
-        alloc: Global,
-        seen: Seen<'_>,
-        buffer: &mut Vec<u8>,
-    ) -> bool {
+    pub fn serve_next(&mut self, alloc: Global, seen: Seen<'_>, buffer: &mut Vec<u8>) -> bool {
         let Some(place) = self.queue.pop_front() else {
             return false;
         };
