@@ -2,24 +2,21 @@
 use Rattle.std.specs.Prelude.{◌≡◌, ◌&&◌, ℕ, List, [], Bool, true, false, nat_eq, IfSome, Option, Some, None, slice_get, if◌then◌else◌, refl}
 use Rattle.std.specs.Option.{option_map_or}
 use Rattle.std.proofs.Common.{ap, subst, sym, ◌∙◌, inl, inr}
-use Rattle.std.proofs.lemmas.Bool.{cases_eq, true≢false}
+use Rattle.std.proofs.lemmas.Bool.{cases_eq}
 use Rattle.std.proofs.lemmas.Option.{same_Some}
 use Rattle.label_lists.specs.Lists.{HasPlace, ListsState, OnlyGrows, PutsOffer, may_offer}
-use Rattle.run_states.specs.ActiveRuns.{has_ready_leg, offers_legs}
 use Rattle.run_states.specs.Changes.{offered_by}
 use Rattle.run_states.specs.Fitting.{is_ready}
 use Rattle.run_states.specs.Places.{leg_place, run_at}
 use Rattle.run_states.specs.declared.place.LegPlace.{LegPlace}
-use Rattle.run_states.specs.RunState.{JobState, LegState, RunState}
+use Rattle.run_states.specs.RunState.{RunState}
 use Rattle.run_states.specs.declared.change.Change.{Change}
 use Rattle.run_states.specs.declared.change.Change.TheVariants as change
 use Rattle.run_bindings.specs.LabelNumbers.{AreListsOf, IsOffered, IsReadyAt, JobsOffer, LegsAreOffered, OnlyMarks, OnlyPuts, is_ready_in}
 use Rattle.run_bindings.specs.LabelNumbers.{list_number, offers_list}
 use Rattle.run_bindings.specs.declared.bindings.RunBindings.{RunBindings}
 use Rattle.run_bindings.proofs.LabelNumbers.{puts_one, still_lists}
-use Rattle.resuming_laws.specs.RunFacts.{is_so_at}
-use Rattle.settling_laws.proofs.HoldersFade.{by_run, job_passes, leg_passes, passes, run_passes}
-use Rattle.resuming_laws.proofs.NoneActive.{none_of}
+use Rattle.settling_laws.proofs.HoldersFade.{by_run, passes, run_passes}
 use Rattle.workflow_runs.proofs.OffersList.{other_number}
 use Rattle.workflow_runs.proofs.ReadyBefore.{WasReady}
 
@@ -72,44 +69,31 @@ offered_after runs next bindings old new r c requested requested_at before itsel
       ]);
 }
 
--- ---- a run without a ready leg
-
-no_ready : (j l : ℕ) (o : Option RunState) → option_map_or offers_legs o false ≡ false → passes (run_passes is_ready j l) o ≡ true → ⊥
-no_ready j l None none e = true≢false (sym e)
-no_ready j l (Some x) none e = by_job (slice_get x.jobs j) refl e
-  where
-    by_leg : (y : JobState) → has_ready_leg y ≡ false → (o : Option LegState) → slice_get y.legs l ≡ o
-        → passes (leg_passes is_ready) o ≡ true → ⊥
-    by_leg y rests None at is = true≢false (sym is)
-    by_leg y rests (Some z) at is = true≢false (sym is ∙ none_of (λ (leg : LegState). is_ready leg.phase) y.legs l z rests at)
-
-    by_job : (o : Option JobState) → slice_get x.jobs j ≡ o → passes (job_passes is_ready l) o ≡ true → ⊥
-    by_job None at is = true≢false (sym is)
-    by_job (Some y) at is = by_leg y (none_of has_ready_leg x.jobs j y none at) (slice_get y.legs l) refl is
-
-pub ready_there : (runs : List RunState) (r : ℕ) (p : LegPlace) → is_so_at offers_legs runs r ≡ false → p.run ≡ r → IsReadyAt runs p → ⊥
-ready_there runs r p rests here ready =
-    no_ready p.job p.leg (run_at runs p.run)
-    (ap (is_so_at offers_legs runs) here ∙ rests) (sym (by_run is_ready runs p) ∙ ready)
-
--- it may be unmarked
-pub offered_unmarked : (runs : List RunState) (bindings : List RunBindings) (old new : ListsState) (r : ℕ)
-    → is_so_at offers_legs runs r ≡ false → OnlyPuts r false old new → LegsAreOffered runs bindings old → LegsAreOffered runs bindings new
-offered_unmarked runs bindings old new r rests puts are = record {
-  numbers = (λ s kept at.
-      still_lists old new (λ n texts is. puts.labels n ∙ is) puts.places s kept.jobs kept.lists (are.numbers s kept at));
-  offered = (λ p kept ready at.
-      elim (cases_eq p.run r) [
-        | inl here ↦ absurd (ready_there runs r p rests here ready)
-        | inr other ↦ puts.others (list_number kept.lists p.job p.leg) p.run other ∙ are.offered p kept ready at
-      ]);
-}
-
 -- ---- a run in which no ready leg has a number
 
 ready_there_in : (runs : List RunState) (p : LegPlace) (x : RunState) → run_at runs p.run ≡ Some x → IsReadyAt runs p
     → is_ready_in x.jobs p.job p.leg ≡ true
 ready_there_in runs p x here ready = sym (ap (passes (run_passes is_ready p.job p.leg)) here) ∙ sym (by_run is_ready runs p) ∙ ready
+
+-- it may be unmarked, and marked again for its ready legs
+pub offered_anew : (runs : List RunState) (bindings : List RunBindings) (old cleared new : ListsState) (r : ℕ) (x : RunState)
+    (requested : RunBindings) → run_at runs r ≡ Some x → slice_get bindings r ≡ Some requested → OnlyPuts r false old cleared
+    → JobsOffer new requested.lists r x.jobs → OnlyPuts r true cleared new → LegsAreOffered runs bindings old → LegsAreOffered runs bindings new
+offered_anew runs bindings old cleared new r x requested run_there requested_there clears all puts are = record {
+  numbers = (λ s kept at.
+      still_lists old new (λ n texts is. puts.labels n ∙ clears.labels n ∙ is) (λ n s there. puts.places n s (clears.places n s there)) s
+      kept.jobs kept.lists (are.numbers s kept at));
+  offered = (λ p kept ready at.
+      let n = list_number kept.lists p.job p.leg in
+      elim (cases_eq p.run r) [
+        | inl here ↦
+            let same : requested ≡ kept = same_Some requested kept (sym requested_there ∙ ap (slice_get bindings) (sym here) ∙ at) in
+            subst (λ (k : RunBindings). IsOffered new k p) same
+            (ap (may_offer new (list_number requested.lists p.job p.leg)) here
+            ∙ all p.job p.leg (ready_there_in runs p x (ap (run_at runs) here ∙ run_there) ready))
+        | inr other ↦ puts.others n p.run other ∙ clears.others n p.run other ∙ are.offered p kept ready at
+      ]);
+}
 
 -- it may be unmarked for that number
 pub number_unmarked : (runs : List RunState) (bindings : List RunBindings) (old new : ListsState) (r number : ℕ) (x : RunState)

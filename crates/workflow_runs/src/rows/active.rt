@@ -3,7 +3,7 @@
 ghost use Rattle.std.specs.Prelude.{◌≡◌};
 
 use crate::rows::Rows;
-use crate::rows::offers::{offers_list, put_run};
+use crate::rows::offers::{offer_run, offers_list, put_run};
 use run_bindings::label_numbers::list_number;
 use run_states::LegPlace;
 
@@ -23,13 +23,15 @@ impl Rows {
         }
     }
 
-    /// Unmarks run `r` for all lists of labels if it has no ready leg, so that claims skip it.
+    /// Marks run `r` for exactly the lists that its ready legs ask for, so that claims for others skip it.
     pub(crate) fn refresh_offers(&mut self, r: usize)
         ensures { self.new ≡ self.old }
     {
-        if r < self.runs.len() && !self.runs[r].offers_legs() {
+        if r < self.runs.len() {
+            let run = &self.runs[r];
             let bindings = &self.bindings[r];
             put_run(&mut self.index.lists, bindings.lists.as_slice(), r, false);
+            offer_run(&mut self.index.lists, bindings, r, run);
         }
     }
 

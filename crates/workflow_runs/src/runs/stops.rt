@@ -42,6 +42,7 @@ impl Runs {
         for j in 0..self.rows.job_count(r) {
             self.stop_job(r, j);
         }
+        self.rows.refresh_offers(r);
     }
 
     /// Whether job `j` of run `r` is open and its condition is false.
@@ -61,12 +62,22 @@ impl Runs {
         ensures sound { RunsAreSound self.new }
     {
         if self.is_to_stop(r, j) {
-            self.stop_legs(r, j);
+            self.stop_each_leg(r, j);
         }
     }
 
-    /// Stops all legs of job `j` of run `r`.
+    /// Stops all legs of job `j` of run `r`. Claims then skip the run for lists that only these legs asked for.
     pub(super) fn stop_legs(&mut self, r: usize, j: usize)
+        requires { RunsAreSound self.old }
+        ensures stopped { self.new ≡ with_job r j with_stopped_legs self.old }
+        ensures sound { RunsAreSound self.new }
+    {
+        self.stop_each_leg(r, j);
+        self.rows.refresh_offers(r);
+    }
+
+    /// Stops all legs of job `j` of run `r`. Its run stays marked for the lists of legs that were ready.
+    fn stop_each_leg(&mut self, r: usize, j: usize)
         requires { RunsAreSound self.old }
         ensures stopped { self.new ≡ with_job r j with_stopped_legs self.old }
         ensures sound { RunsAreSound self.new }
@@ -74,7 +85,6 @@ impl Runs {
         for l in 0..self.rows.leg_count(r, j) {
             self.stop_one(LegPlace::new(r, j, l));
         }
-        self.rows.refresh_offers(r);
     }
 
     fn stop_leg(&mut self, place: LegPlace)

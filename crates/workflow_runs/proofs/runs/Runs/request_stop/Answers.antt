@@ -3,6 +3,7 @@ use Rattle.run_states.specs.Places.{with_run}
 use Rattle.run_states.specs.RunState.{RunState}
 use Rattle.run_states.specs.SoundRuns.{RunsAreSound}
 use Rattle.run_states.specs.Stops.{with_job_stopped}
+use Rattle.workflow_runs.specs.RowsKept.{RowState}
 use Rattle.workflow_runs.proofs.Stopping.{all_stopped, jobs_counted, one_more_stopped, request_nobody, request_sound}
 use Rattle.workflow_runs.proofs.runs.Runs.request_stop.Goals as goal
 
@@ -26,7 +27,9 @@ loop-j-preserved c = record {
 
 pub returns : goal.returns
 returns c =
-    c.loop-j.invariant.stopped
+    ap (λ (rows : RowState). rows.runs) c.refresh_offers.ensures
+    ∙ c.self-2.view_is
+    ∙ c.loop-j.invariant.stopped
     ∙ all_stopped c.args.self.now c.args.r c.loop-j.j
     (λ x at.
     jobs_counted c.args.self.now c.change_within.new.self c.self.inside.rows.runs c.args.r c.job_count-j-end.result c.loop-j.j x

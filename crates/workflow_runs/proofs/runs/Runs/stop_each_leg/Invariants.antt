@@ -2,7 +2,7 @@ use Rattle.std.proofs.Common.{◌≡◌}
 use Rattle.run_states.specs.Places.{with_job}
 use Rattle.run_states.specs.SoundRuns.{RunsAreSound}
 use Rattle.workflow_runs.proofs.Stopping.{legs_upto}
-use Rattle.workflow_runs.proofs.runs.Runs.stop_legs.Given as goal
+use Rattle.workflow_runs.proofs.runs.Runs.stop_each_leg.Given as goal
 
 -- the legs before `l` are stopped
 abbrev pub invariant-loop-l : goal.invariant-loop-l
