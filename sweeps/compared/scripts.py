@@ -1,12 +1,16 @@
 #!/usr/bin/env python3
 """Makes random scripts and workflows, for `sweeps/compared/run`.
 
-    sweeps/compared/scripts.py SEED LINES             a script of so many lines
-    sweeps/compared/scripts.py SEED LINES --workflow  a workflow
+    sweeps/compared/scripts.py SEED LINES                 a script of so many lines
+    sweeps/compared/scripts.py SEED LINES --workflow      a workflow
+    sweeps/compared/scripts.py SEED RUNS --groups GROUPS  a script of so many runs in so many groups
 
 A script is made line by line together with the plain model, so most runners ask in turn for what there is: claims and reports with the next
 number, leases that are held, runs that have ended. Some lines are out of turn, repeated or no commands. Most workflows have no fault; in the
 others a member or some bytes were changed. The store's own lines (`commit`, `begin`, `slice`, `finish`) are among the others.
+
+With `--groups` all runs and legs share so many concurrency groups, whose names come from texts, `vars`, matrices, results of needs and attempts, in
+spellings that are one name. Many arrivals cancel what is in progress, and runs are cancelled and run again until each is so for the last time.
 """
 
 import json
@@ -226,6 +230,103 @@ def script(seed, count):
     return Script(seed).made(count)
 
 
+NAMED = ('Stra\u00dfe {}', 'STRASSE {}', 'strasse {}')
+BY_RESULTS = ('success', 'failure', 'cancelled', 'skipped')
+FLAGS = (True, True, False, '${{ vars.go }}')
+
+
+class Crowded(Script):
+    """A script of many runs in few groups. Four of these are named by results, the others by numbers."""
+
+    def __init__(self, seed, runs, groups):
+        super().__init__(f'groups {seed}')
+        self.most, self.numbers = runs, max(1, groups - len(BY_RESULTS))
+
+    def any_number(self):
+        return self.dice.randint(1, self.numbers)
+
+    def group(self, names, flags):
+        dice, one = self.dice, self.dice.choice(names)
+        name = dice.choice(NAMED).format(one if one != '' else dice.choice([*map(str, range(1, 1 + self.numbers)), *BY_RESULTS]))
+        return name if chance(dice, 0.4) else {'group': name, 'cancel-in-progress': dice.choice(flags)}
+
+    def job(self, before):
+        dice = self.dice
+        made = {'runs-on': dice.choice(('linux', 'linux', 'x64'))}
+        names, flags = ['', '${{ vars.g }}', '${{ github.run_attempt }}'], list(FLAGS)
+        if before and chance(dice, 0.7):
+            made['needs'] = dice.choice(before)
+            names += [f'${{{{ needs.{made["needs"]}.result }}}}'] * 4
+            if chance(dice, 0.6):
+                made['if'] = dice.choice(('always()', 'failure()', '!cancelled()'))
+        if chance(dice, 0.5):
+            made['strategy'] = {'matrix': {'n': [self.any_number() for _ in range(dice.randint(1, 3))], 'go': [chance(dice, 0.5)]}, 'fail-fast': chance(dice, 0.5)}
+            names += ['${{ matrix.n }}'] * 3
+            flags.append('${{ matrix.go }}')
+        if chance(dice, 0.8):
+            made['concurrency'] = self.group(names, flags)
+        return made
+
+    def body(self):
+        dice, jobs = self.dice, {}
+        for name in dice.sample(IDS, dice.choice((1, 1, 2, 2, 3))):
+            jobs[name] = self.job(list(jobs))
+        made = {'jobs': jobs}
+        if chance(dice, 0.4):
+            made['concurrency'] = self.group(['', '${{ vars.g }}', '${{ github.run_attempt }}'], FLAGS)
+        event = {'repo': 'o/r', 'path': 'ci.json', 'vars': {'g': str(self.any_number()), 'go': chance(dice, 0.5)}, 'workflow': made}
+        return json.dumps(event, ensure_ascii=chance(dice, 0.5)).encode()
+
+    def some_run(self, ended):
+        """A run that has ended, or one that has not, if there is one."""
+        found = [run.place for run in self.table.runs if (run.phase == 'ended') == ended]
+        return self.dice.choice(found) if found else 1
+
+    def line(self):
+        dice, kind, name = self.dice, self.dice.random(), f'r{self.dice.randint(1, 8)}'
+        holds = getattr(self.table.runners.get(name.encode()), 'holds', None)
+        if kind < 0.36:
+            self.deliveries += 1
+            return b'admit d%d push %s' % (self.deliveries, self.body())
+        if kind < 0.78:
+            if holds:
+                result = dice.choice(('success', 'success', 'success', 'failure', 'failure', 'cancelled'))
+                return f'done {name} {self.number(name)} {self.lease(name)} {result}'.encode()
+            return f'claim {name} {self.number(name)} linux,x64'.encode()
+        if kind < 0.85:
+            return f'cancel {self.some_run(False)}'.encode()
+        if kind < 0.96:
+            run = self.some_run(True)
+            return f'rerun {run} {self.table.runs[run - 1].attempt + 1 if self.table.runs else 2}'.encode()
+        return f'lost {name}'.encode() if kind < 0.97 else f'look {self.run()}'.encode()
+
+    def whole(self):
+        """All runs come, and each has ended: what is ready is done, and then the runs that are left are cancelled."""
+        while len(self.table.runs) < self.most:
+            self.made_line(self.line())
+        for run in range(1, 1 + self.most):
+            self.made_line(b'look %d' % run)
+        while any(run.phase != 'ended' for run in self.table.runs):
+            self.made_line(f'cancel {self.some_run(False)}'.encode() if chance(self.dice, 0.3) else self.line_of_runner())
+        for run in range(1, 1 + self.most):
+            self.made_line(b'look %d' % run)
+        return b''.join(line + b'\n' for line in self.lines)
+
+    def line_of_runner(self):
+        name = f'r{self.dice.randint(1, 8)}'
+        holds = getattr(self.table.runners.get(name.encode()), 'holds', None)
+        number = self.table.runners[name.encode()].number + 1 if name.encode() in self.table.runners else 1
+        return f'done {name} {number} {holds[0]} success'.encode() if holds else f'claim {name} {number} linux,x64'.encode()
+
+    def made_line(self, line):
+        self.store.answer(line)
+        self.lines.append(line)
+
+
+def crowded(seed, runs, groups):
+    return Crowded(seed, runs, groups).whole()
+
+
 def workflow_text(seed):
     dice = random.Random(f'workflow {seed}')
     made = workflow(dice)
@@ -237,10 +338,12 @@ def workflow_text(seed):
 
 
 def main():
-    if len(sys.argv) not in (3, 4) or sys.argv[3:] not in ([], ['--workflow']):
+    if len(sys.argv) not in (3, 4, 5) or sys.argv[3:4] not in ([], ['--workflow'], ['--groups']):
         sys.exit(__doc__)
+    seed, count, *more = sys.argv[1:]
+    made = workflow_text(seed) + b'\n' if more == ['--workflow'] else crowded(seed, int(count), int(more[1])) if more else script(seed, int(count))
     with open(1, 'wb', closefd=False) as out:
-        out.write(workflow_text(sys.argv[1]) + b'\n' if sys.argv[3:] else script(sys.argv[1], int(sys.argv[2])))
+        out.write(made)
 
 
 if __name__ == '__main__':
