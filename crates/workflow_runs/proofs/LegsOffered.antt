@@ -20,6 +20,9 @@ use Rattle.settling_laws.proofs.HoldersFade.{by_run, passes, run_passes}
 use Rattle.workflow_runs.proofs.OffersList.{other_number}
 use Rattle.workflow_runs.proofs.ReadyBefore.{WasReady}
 
+pub none_offered : (lists : ListsState) → LegsAreOffered [] [] lists
+none_offered lists = record { numbers = (λ r kept at. cc); offered = (λ p kept ready at. cc) }
+
 -- lists are entered, or room is made
 pub offered_grown : (runs : List RunState) (bindings : List RunBindings) (old new : ListsState) → OnlyGrows old new
     → LegsAreOffered runs bindings old → LegsAreOffered runs bindings new

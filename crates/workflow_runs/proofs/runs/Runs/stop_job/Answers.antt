@@ -4,10 +4,10 @@ use Rattle.workflow_runs.proofs.runs.Runs.stop_job.Goals as goal
 
 pub returns-then-is_to_stop : goal.returns-then-is_to_stop
 returns-then-is_to_stop c = record {
-  stopped = c.stop_legs.ensures.stopped
+  stopped = c.stop_each_leg.ensures.stopped
       ∙ job_stops c.args.self.now c.args.r c.args.j
       (job_told c.args.self.now c.args.r c.args.j c.is_to_stop.result true c.is_to_stop.ensures c.if-is_to_stop.true);
-  sound = c.stop_legs.ensures.sound;
+  sound = c.stop_each_leg.ensures.sound;
 }
 
 pub returns-else-is_to_stop : goal.returns-else-is_to_stop
