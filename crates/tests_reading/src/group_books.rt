@@ -1,5 +1,7 @@
 //! The holders of groups in a book. Group names are case-insensitive, and each repository has its own groups.
 
+ghost use Rattle.std.specs.Prelude.{◌≡◌};
+
 use crate::holds::holds;
 use group_book::Book;
 use group_name::GroupKey;
@@ -13,8 +15,10 @@ fn group(rt: &impl Abort, alloc: Global, repository: &str, name: &str) -> GroupK
     }
 }
 
-/// A book in which holder 1 is in progress in the group `Straße`, and holder 2 is pending.
-fn book_of_two(rt: &impl Abort, alloc: Global) -> Book<usize> {
+/// A book in which holder 1 is in progress in the group `Straße`, and holder 2 is pending. One more may arrive.
+fn book_of_two(rt: &impl Abort, alloc: Global) -> Book<usize>
+    ensures one_more { result.expected ≡ 1 }
+{
     let mut book = Book::new(alloc);
     book.expect(3).expect(rt, "memory");
     let first = book.arrive(group(rt, alloc, "o/r", "Straße"), 1, false);
@@ -45,7 +49,7 @@ fn a_newcomer_takes_the_place_of_the_pending_holder(rt: HostRuntime) {
     holds!(rt; third.displaced == Some(2) && third.to_stop == Some(1));
     holds!(rt; has(&book, &name, Some(1), Some(3)));
     holds!(rt; book.leave(&name, &1) == Some(3));
-    holds!(rt; has(&book, &name, None, Some(3)));
+    holds!(rt; book.running(&name).is_none() && book.pending(&name) == Some(3));
     book.start(&name);
     holds!(rt; has(&book, &name, Some(3), None));
     holds!(rt; book.leave(&name, &3).is_none());
