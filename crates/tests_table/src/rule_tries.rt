@@ -19,16 +19,20 @@ const BEFORE_GROUP: &str =
 
 const AFTER_GROUP: &str = "\",\"jobs\":{\"build\":{\"runs-on\":\"linux\"}}}}";
 
-/// The most tries that a step may make once a thousand runs have finished.
-const MAX_TRIES: u64 = 64;
+/// The most tries that a step of one job may make, however many other runs and groups there are.
+pub(crate) const MAX_TRIES: u64 = 64;
 
-fn step(alloc: Global, table: &mut Table, words: &Words<'_>) -> Result<Reply, Refusal> {
+pub(crate) fn step(alloc: Global, table: &mut Table, words: &Words<'_>) -> Result<Reply, Refusal> {
     let command: Command = command_of(alloc, words)?;
     table.step(alloc, &command)
 }
 
-/// How many times the step tries a rule.
-fn tries_of_step(alloc: Global, table: &mut Table, words: &Words<'_>) -> Result<u64, Refusal> {
+/// How many times the step tries a rule or looks at a run.
+pub(crate) fn tries_of_step(
+    alloc: Global,
+    table: &mut Table,
+    words: &Words<'_>,
+) -> Result<u64, Refusal> {
     let _earlier = table.take_tries();
     step(alloc, table, words)?;
     Ok(table.take_tries())
