@@ -1,8 +1,10 @@
-"""Sizes that a team has. `sweeps/edits/tested_bodies/acts` has a body for each that is right up to half of it."""
+"""Sizes that a team has. `sweeps/edits/tested_bodies/acts` has a body for each that is right up to half of it, or that lets go of no memory."""
 
+import json
+import re
 import time
 
-from checking import expect, opened, served, stopped
+from checking import expect, opened, served, stopped, turned_over
 from command_lines import ran
 from encoded import claim, file, job, leg, number, run, table
 from files import held, write
@@ -12,6 +14,11 @@ TABLE_AREA, SECONDS = 4 << 20, 600
 LAST_RUN, LAST_AREA = 100_000, 16 << 20
 BODY_BYTES, COMMANDS, CONNECTIONS = 65_536, 40_000, 2_000
 SESSIONS, SESSION_LINES, SESSION_REQUESTS = 32, 1_024, 64
+RERUNS, LAST_ATTEMPT, NAME, TURN_OVER = 10_000, 1_000, 'g' * 190, 1_000
+# Bytes. A group that stays known, or memory that stays taken for it, is several times as much after so many re-runs.
+MOST_MEMORY = 512 << 10
+# A trial keeps what was freed aside for a while otherwise.
+FREED_AT_ONCE = {'ASAN_OPTIONS': 'quarantine_size_mb=0:thread_local_quarantine_size_kb=0'}
 BEAT = b'BEAT nobody 1\n'
 
 
@@ -183,4 +190,49 @@ def one_after_another(acts, folder):
     return f'{CONNECTIONS} connections to each port, one after another'
 
 
-CHECKS = many_runs, last_run, long_body, many_legs, long_history, full_round, one_after_another
+def attempts_body():
+    """A run and a leg in groups that name the attempt, and a leg that never arrives in a group that its need's result names."""
+    each = f'{NAME}-${{{{ github.run_id }}}}-${{{{ github.run_attempt }}}}'
+    jobs = {'a': {'runs-on': 'x', 'concurrency': f'a-{each}'},
+            'b': {'runs-on': 'x', 'needs': 'a', 'concurrency': f'b-{each}-${{{{ needs.a.result }}}}'}}
+    return json.dumps({'repo': 'o/r', 'path': 'ci.json', 'workflow': {'concurrency': f'w-{each}', 'jobs': jobs}}).encode()
+
+
+def rerun_each(service, first, last):
+    """Cancels and runs again, from re-run number `first` on: each run up to its last attempt."""
+    for begun in range(first, last, SESSION_REQUESTS // 2):
+        hook, asked = service.hook(), []
+        for it in range(begun, min(last, begun + SESSION_REQUESTS // 2)):
+            run, attempt = 1 + it // (LAST_ATTEMPT - 1), 2 + it % (LAST_ATTEMPT - 1)
+            asked += [(f'POST /runs/{run}/cancel HTTP/1.1\r\n\r\n'.encode(), 'ok'), (served.rerun(run, attempt), f'again {run} {attempt}')]
+        hook.send(b''.join(request for request, _ in asked))
+        for _, wanted in asked:
+            found = hook.answer()[1]
+            expect(found == wanted, 'a cancel or a re-run is answered', found, 'and not', wanted)
+        hook.close()
+
+
+def memory(service):
+    """The bytes of memory that a service has taken, once one more history has turned over."""
+    turned_over(service, service.runner()).close()
+    with open(f'/proc/{service.child.pid}/status') as file:
+        return 1024 * int(re.search(r'VmData:\s+(\d+) kB', file.read())[1])
+
+
+def many_attempts(acts, folder):
+    """Runs that are run again, each attempt in groups of its own, take no more memory than after ten."""
+    service, _ = opened(acts, folder, turn_over=TURN_OVER, settings=FREED_AT_ONCE)
+    hook = service.hook()
+    for run in range(1, 2 + RERUNS // (LAST_ATTEMPT - 1)):
+        ask(hook, served.event(f'd{run}', attempts_body()), f'created {run}')
+    hook.close()
+    rerun_each(service, 0, 10)
+    after_ten = memory(service)
+    rerun_each(service, 10, RERUNS)
+    more = memory(service) - after_ten
+    expect(more <= MOST_MEMORY, RERUNS, 're-runs take', more, 'bytes more than ten, and not at most', MOST_MEMORY)
+    stopped(service)
+    return f'{RERUNS} re-runs, each in groups of its own, take {more} bytes more than ten'
+
+
+CHECKS = many_runs, last_run, long_body, many_legs, long_history, full_round, one_after_another, many_attempts
