@@ -1,11 +1,11 @@
 //! What is kept of a service for those that look at it: its changes, its counts, and when its runners were last heard.
 
 use crate::changes::Changes;
-use crate::counters::Counters;
 use act_disk::Disk;
 use act_store::Store;
 use run_plan::{Command, RunnerName};
 use run_table::Table;
+use service_metrics::Counters;
 use std::alloc::{AllocError, Global};
 use std::collections::HashMap;
 use std::time::{Duration, Instant};
@@ -25,6 +25,7 @@ fn runner_of(command: &Command) -> Option<&RunnerName> {
 pub struct Kept {
     pub(crate) changes: Changes,
     pub(crate) counters: Counters,
+    began: Instant,
     /// When each runner was last heard.
     heard: HashMap<String, Instant>,
 }
@@ -39,7 +40,8 @@ impl Kept {
     ) -> Result<Kept, AllocError> {
         Ok(Kept {
             changes: Changes::new(alloc, process, table)?,
-            counters: Counters::new(now),
+            counters: Counters::new(),
+            began: now,
             heard: HashMap::new(alloc),
         })
     }
@@ -87,6 +89,11 @@ impl Kept {
     /// A new history has begun.
     pub fn turn_over(&mut self) {
         self.changes.turn_over();
+    }
+
+    /// For how many whole seconds the service has run.
+    pub(crate) fn uptime(&self, now: Instant) -> u64 {
+        now.saturating_duration_since(self.began).as_secs()
     }
 
     /// How many whole seconds ago the runner with this name was heard, if it was.

@@ -3,7 +3,6 @@
 
 mod board;
 mod changes;
-mod counters;
 mod kept;
 mod shown;
 

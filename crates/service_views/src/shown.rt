@@ -2,15 +2,14 @@
 
 use crate::board::Board;
 use crate::changes::Found;
-use crate::counters::Gauges;
 use crate::kept::Kept;
 use run_table::Table;
+use service_metrics::{Gauges, metrics_text};
 use std::alloc::Global;
 use std::time::Instant;
 use store_copies::copy_of;
 use table_views::{
-    holder_page, index_after, index_of, one_runner, push_table_metrics, ready_page, run_view,
-    runner_page, runs_page,
+    holder_page, index_after, one_runner, ready_page, run_view, runner_page, runs_page,
 };
 use view_sessions::{
     Answer, BoardFile, ChangesQuery, Content, GroupsQuery, RunnersQuery, View, ViewFault,
@@ -92,8 +91,7 @@ impl Kept {
         let (table, now) = (seen.table, seen.now);
         if let Some(name) = &query.name {
             let seconds = self.seconds_since(name.as_str(), now);
-            let index = index_of(table, name.as_str());
-            return json(one_runner(alloc, table, seconds, index)?);
+            return json(one_runner(alloc, table, name.as_str(), seconds)?);
         }
         let from = match &query.after {
             Some(name) => index_after(table, name.as_str()),
@@ -110,7 +108,7 @@ impl Kept {
     fn metrics(&self, alloc: Global, seen: Seen<'_>) -> Result<Made, Refusal> {
         let gauges = Gauges {
             version: seen.version,
-            now: seen.now,
+            uptime: self.uptime(seen.now),
             hooks: seen.hooks as u64,
             runners: seen.runners as u64,
             views: seen.viewers as u64,
@@ -119,9 +117,7 @@ impl Kept {
             generation: seen.generation,
             checkpoints: seen.checkpoints,
         };
-        let mut text = String::new(alloc);
-        self.counters.push(alloc, &mut text, &gauges)?;
-        push_table_metrics(alloc, &mut text, seen.table)?;
+        let text = metrics_text(alloc, &gauges, &self.counters, seen.table)?;
         Ok(Made::Answer(Ok(Content::Metrics(text))))
     }
 

@@ -8,7 +8,7 @@ use Rattle.group_name.specs.Group.{Group, same_group}
 use Rattle.run_states.specs.Groups.{all_holders}
 use Rattle.run_states.specs.RunState.{RunState}
 use Rattle.table_views.specs.Claims.{claim_of, claims_of, line_once, said}
-use Rattle.table_views.specs.GroupLines.{distinct, group_in_use}
+use Rattle.table_views.specs.GroupLines.{distinct_groups, group_in_use}
 use Rattle.table_views.specs.declared.claim.GroupClaim.{GroupClaim}
 use Rattle.table_views.proofs.Distinct.{distinct_more, one_unless}
 use Rattle.run_states.specs.declared.holder.Holder.{Holder}
@@ -54,24 +54,24 @@ past_groups (x ∷ gs) zero none = absurd cc
 past_groups (x ∷ gs) (suc i) none = ap (λ ys. x ∷ ys) (past_groups gs i none)
 
 pub lines_more : (line : Group → List ℕ) (gs : List Group) (i : ℕ)
-    → flat_map line (distinct (take (i + 1) gs)) ≡ flat_map line (distinct (take i gs)) ++ line_once line gs i
+    → flat_map line (distinct_groups (take (i + 1) gs)) ≡ flat_map line (distinct_groups (take i gs)) ++ line_once line gs i
 lines_more line gs i =
     let step : i + 1 ≡ suc i = omega arith in
-    ap (λ k. flat_map line (distinct (take k gs))) step ∙ by (slice_get gs i) refl
+    ap (λ k. flat_map line (distinct_groups (take k gs))) step ∙ by (slice_get gs i) refl
   where
     by : (o : Option Group) → slice_get gs i ≡ o
-        → flat_map line (distinct (take (suc i) gs)) ≡ flat_map line (distinct (take i gs)) ++ line_once line gs i
+        → flat_map line (distinct_groups (take (suc i) gs)) ≡ flat_map line (distinct_groups (take i gs)) ++ line_once line gs i
     by None none =
-        ap (λ ys. flat_map line (distinct ys)) (past_groups gs i none) ∙ sym (append-nil (flat_map line (distinct (take i gs))))
-        ∙ ap (λ o. flat_map line (distinct (take i gs))
+        ap (λ ys. flat_map line (distinct_groups ys)) (past_groups gs i none) ∙ sym (append-nil (flat_map line (distinct_groups (take i gs))))
+        ∙ ap (λ o. flat_map line (distinct_groups (take i gs))
         ++ option_map_or (λ g. if list_any (λ h. same_group h g) (take i gs) then [] else line g) o []) (sym none)
     by (Some g) at =
         let there = list_any (λ h. same_group h g) (take i gs) in
-        ap (λ ys. flat_map line (distinct ys)) (more_groups gs i g at)
-        ∙ ap (flat_map line) (distinct_more (take i gs) g)
-        ∙ flat_map-append line (distinct (take i gs)) (one_unless there g)
-        ∙ ap (λ ys. flat_map line (distinct (take i gs)) ++ ys) (one_or_none line g there)
-        ∙ ap (λ o. flat_map line (distinct (take i gs))
+        ap (λ ys. flat_map line (distinct_groups ys)) (more_groups gs i g at)
+        ∙ ap (flat_map line) (distinct_more same_group (take i gs) g)
+        ∙ flat_map-append line (distinct_groups (take i gs)) (one_unless there g)
+        ∙ ap (λ ys. flat_map line (distinct_groups (take i gs)) ++ ys) (one_or_none line g there)
+        ∙ ap (λ o. flat_map line (distinct_groups (take i gs))
         ++ option_map_or (λ h. if list_any (λ k. same_group k h) (take i gs) then [] else line h) o []) (sym at)
 
 -- ---- the groups of all claims
@@ -97,10 +97,10 @@ groups_of_claims runs claims is =
     groups_seen claims ∙ ap (map (λ (p : Group × Holder). p.0)) is ∙ groups_claimed runs (all_holders runs)
 
 pub all_lines : (line : Group → List ℕ) (runs : List RunState) (claims : List GroupClaim) (i : ℕ) (text : List ℕ) → length claims ≤ i
-    → map said claims ≡ claims_of runs → text ≡ flat_map line (distinct (take i (map (λ d. d.group) claims)))
-    → text ≡ flat_map line (distinct (filter_map (group_in_use runs) (all_holders runs)))
+    → map said claims ≡ claims_of runs → text ≡ flat_map line (distinct_groups (take i (map (λ d. d.group) claims)))
+    → text ≡ flat_map line (distinct_groups (filter_map (group_in_use runs) (all_holders runs)))
 all_lines line runs claims i text past is so_far =
-    so_far ∙ ap (λ gs. flat_map line (distinct gs)) (whole i claims past ∙ groups_of_claims runs claims is)
+    so_far ∙ ap (λ gs. flat_map line (distinct_groups gs)) (whole i claims past ∙ groups_of_claims runs claims is)
   where
     whole : (k : ℕ) (cs : List GroupClaim) → length cs ≤ k → take k (map (λ d. d.group) cs) ≡ map (λ d. d.group) cs
     whole zero [] le = refl

@@ -1,9 +1,14 @@
 pub mod Ascending
+pub mod AskedLists
 pub mod Claimed
+pub mod Counting
 pub mod Distinct
 pub mod FirstOfGroup
 pub mod GroupsOnce
 pub mod JobsLeft
 pub mod Joined
+pub mod NoneReady
+pub mod OneMoreName
 pub mod Paging
 pub mod Placing
+pub mod SoFar

@@ -1,13 +1,13 @@
 -- The concurrency groups that a run or a leg holds or waits for, as an operator sees them: which holder of each is in
 -- progress, and which is pending. GitHub Docs, "Control the concurrency of workflows and jobs". The format is defined
 -- by this project.
-use Rattle.std.specs.Prelude.{ℕ, ◌+◌, List, [], ◌∷◌, ◌++◌, ◌||◌, filter_map, flat_map, codes, decimal, not, if◌then◌else◌, Option, Some, None}
-use Rattle.std.specs.List.{filter}
+use Rattle.std.specs.Prelude.{ℕ, ◌+◌, List, ◌++◌, ◌||◌, filter_map, flat_map, codes, decimal, if◌then◌else◌, Option, Some, None}
 use Rattle.group_name.specs.Group.{Group, same_group}
 use Rattle.group_name.specs.KeyTexts.{name_bytes, repository_bytes}
 use Rattle.run_states.specs.GroupOf.{group_at}
 use Rattle.run_states.specs.Groups.{all_holders, group_state, holds, waits}
 use Rattle.run_states.specs.RunState.{RunState}
+use Rattle.table_views.specs.Distinct.{distinct}
 use Rattle.table_views.specs.Texts.{leg_members, leg_words, line, quoted}
 use Rattle.table_views.specs.declared.form.Form.{Form}
 use Rattle.table_views.specs.declared.form.Form.TheVariants as form
@@ -21,13 +21,12 @@ abbrev pub group_in_use : List RunState → Holder → Option Group
 group_in_use runs h = if waits runs h || holds runs h then group_at runs h else None
 
 -- each group once, at its first occurrence
-abbrev pub distinct : List Group → List Group
-distinct [] = []
-distinct (g ∷ gs) = g ∷ filter (λ h. not (same_group g h)) (distinct gs)
+abbrev pub distinct_groups : List Group → List Group
+distinct_groups groups = distinct same_group groups
 
 -- in the order of all runs, then all legs
 abbrev pub groups_in_use : List RunState → List Group
-groups_in_use runs = distinct (filter_map (group_in_use runs) (all_holders runs))
+groups_in_use runs = distinct_groups (filter_map (group_in_use runs) (all_holders runs))
 
 -- ---- their lines
 

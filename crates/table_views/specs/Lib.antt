@@ -1,14 +1,19 @@
 pub mod ChangeLines
 pub mod Claims
+pub mod Distinct
 pub mod GroupLines
 pub mod HolderOrder
 pub mod HolderPages
+pub mod LegCounting
 pub mod Limits
 pub mod Members
+pub mod MetricLines
+pub mod NamedCounts
 pub mod Pages
 pub mod Placed
 pub mod QueueLines
 pub mod ReadyPages
+pub mod RunCounting
 pub mod RunFilters
 pub mod RunLines
 pub mod RunPages
@@ -16,4 +21,5 @@ pub mod RunRows
 pub mod RunViews
 pub mod RunnerLines
 pub mod RunnerPages
+pub mod TableMetrics
 pub mod Texts

@@ -1,11 +1,13 @@
 -- A page of the runners of a table, in the order of their names. The format is defined by this project.
-use Rattle.std.specs.Prelude.{◌≡◌, ℕ, ◌+◌, ◌-◌, List, [], ◌∷◌, ◌++◌, codes, decimal, length, nat_lt, slice_get, Option, Some, None, option_map, if◌then◌else◌}
+use Rattle.std.specs.Prelude.{◌≡◌, ℕ, ◌+◌, ◌-◌, List, [], ◌∷◌, ◌++◌, codes, decimal, length, nat_lt, slice_get, unwrap_or, Option, Some, None, option_map, if◌then◌else◌}
+use Rattle.std.specs.List.{position}
 use Rattle.std.specs.Option.{option_map_or}
 use Rattle.run_plan.specs.declared.last_command.ClaimReply.TheVariants as claim_reply
 use Rattle.run_plan.specs.declared.last_command.LastCommand.{LastCommand}
 use Rattle.run_plan.specs.declared.last_command.LastCommand.TheVariants.{Claim, Done}
 use Rattle.run_plan.specs.declared.last_command.ClaimReply.{ClaimReply}
 use Rattle.run_plan.specs.declared.reply.Lease.{Lease}
+use Rattle.run_table.specs.SequenceNumbers.{is_above, runner_named}
 use Rattle.run_table.specs.TableState.{RunnerState, TableState}
 use Rattle.table_views.specs.Members.{member, number_or_null, text_or_null}
 use Rattle.table_views.specs.Pages.{IsPage, page_text, rows_from}
@@ -49,6 +51,17 @@ runner_rows heard from runners index =
 abbrev pub next_name : List RunnerState → ℕ → ℕ → Option (List ℕ)
 next_name runners from count =
     if nat_lt (from + count) (length runners) then option_map (λ runner. runner.name) (slice_get runners (from + count - 1)) else None
+
+-- the index of the first runner whose name comes after this one
+abbrev pub index_after : List RunnerState → List ℕ → ℕ
+index_after runners name = unwrap_or (position (is_above name) runners) (length runners)
+
+abbrev pub rows_of : Option ℕ → Option RunnerState → List (List ℕ)
+rows_of heard runner = option_map_or (λ r. runner_row heard r ∷ []) runner []
+
+-- a page of the runner with this name alone, or of none
+abbrev pub one_runner : Option ℕ → List RunnerState → List ℕ → List ℕ
+one_runner heard runners name = page_text (codes "runners") (rows_of heard (runner_named runners name)) (codes "after") (codes "null")
 
 -- a page of the runners from an index on
 pub record IsRunnerPage (heard : List (Option ℕ)) (from limit : ℕ) (t : TableState) (text : List ℕ) : Type 0 where

@@ -1,8 +1,10 @@
 //! A page of the runners of a table, in the order of their names.
 
-ghost use Rattle.std.specs.Prelude.{◌≡◌, ◌≤◌, ◌<◌, ◌^◌, ◌++◌, ◌+◌, IfOk, Ok, length, option_map, slice_get, string_bytes};
+ghost use Rattle.std.specs.Prelude.{◌≡◌, ◌≤◌, ◌<◌, ◌^◌, ◌++◌, ◌+◌, IfOk, IfSome, Ok, length, option_map, slice_get, string_bytes};
+ghost use Rattle.std.specs.List.{position};
 ghost use Rattle.wf_value.specs.Gives.{ErrsOnlyByMemory, Gives};
-ghost use Rattle.table_views.specs.RunnerPages.{IsRunnerPage, heard_at, held_lease, lease_json, lease_of_last, next_name, runner_row, runner_rows};
+ghost use Rattle.run_table.specs.SequenceNumbers.{is_above, is_named, runner_named};
+ghost use Rattle.table_views.specs.RunnerPages.{IsRunnerPage, heard_at, held_lease, index_after, lease_json, lease_of_last, next_name, one_runner, rows_of, runner_row, runner_rows};
 
 use crate::members::{number_or_null, push_member, push_number, push_text, text_or_null};
 use crate::pages::{Source, page_of, page_text};
@@ -120,26 +122,29 @@ fn next_name(runners: &[Runner], from: usize, count: usize) -> Option<&str>
     Some(last.name.as_str())
 }
 
+fn is_above(runner: &Runner, name: &str) -> bool
+    ensures { result ≡ is_above name.now runner.now }
+{
+    name < runner.name.as_str()
+}
+
+fn first_above(runners: &[Runner], name: &str) -> Option<usize>
+    ensures within { IfSome result (λ index. index < length runners.now) }
+    ensures first { result ≡ position (is_above name.now) runners.now }
+{
+    runners.iter().position(|runner| is_above(runner, name))
+}
+
 /// The index of the first runner whose name comes after this one.
 pub fn index_after(table: &Table, name: &str) -> usize
-    ensures { result ≤ length table.now.runners }
+    ensures within { result ≤ length table.now.runners }
+    ensures after { result ≡ index_after table.now.runners name.now }
 {
     let runners = table.runners();
-    match runners
-        .iter()
-        .position(|runner| runner.name.as_str() > name)
-    {
+    match first_above(runners, name) {
         Some(index) => index,
         None => runners.len(),
     }
-}
-
-/// The index of the runner with this name.
-pub fn index_of(table: &Table, name: &str) -> Option<usize> {
-    table
-        .runners()
-        .iter()
-        .position(|runner| runner.name.as_str() == name)
 }
 
 /// A page of the runners from an index on. `heard` has the seconds since each of them was last heard, if that is known.
@@ -172,18 +177,42 @@ pub fn runner_page(
     )
 }
 
-/// A page of one runner alone, or of none.
+fn is_named(runner: &Runner, name: &str) -> bool
+    ensures { result ≡ is_named name.now runner.now }
+{
+    runner.name.as_str() == name
+}
+
+fn runner_named<'a>(runners: &'a [Runner], name: &str) -> Option<&'a Runner>
+    ensures { option_map (λ runner. runner.now) result ≡ runner_named runners.now name.now }
+{
+    runners.iter().find(|runner| is_named(runner, name))
+}
+
+/// The row of a runner, or none.
+fn rows_of(
+    alloc: Global,
+    heard: Option<u64>,
+    runner: Option<&Runner>,
+) -> Result<Vec<Chars>, Refusal>
+    ensures { Gives (λ rows. rows.items) result (Ok (rows_of heard (option_map (λ runner. runner.now) runner.entry))) }
+{
+    let mut rows = Vec::new(alloc);
+    if let Some(runner) = runner {
+        rows.push(Chars::new(runner_row(alloc, heard, runner)?))?;
+    }
+    Ok(rows)
+}
+
+/// A page of the runner with this name alone, or of none. `heard` is the seconds since it was last heard, if that is known.
 pub fn one_runner(
     alloc: Global,
     table: &Table,
+    name: &str,
     heard: Option<u64>,
-    index: Option<usize>,
-) -> Result<String, Refusal> {
-    let mut rows = Vec::new(alloc);
-    if let Some(index) = index {
-        if let Some(runner) = runner_at(table.runners(), index) {
-            rows.push(Chars::new(runner_row(alloc, heard, runner)?))?;
-        }
-    }
+) -> Result<String, Refusal>
+    ensures { Gives string_bytes result (Ok (one_runner heard table.now.runners name.now)) }
+{
+    let rows = rows_of(alloc, heard, runner_named(table.runners(), name))?;
     page_text(alloc, "runners", rows.as_slice(), "after", "null")
 }

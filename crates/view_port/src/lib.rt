@@ -1,7 +1,6 @@
 //! The view port of a service: its clients, which are served what they ask for. It writes nothing into the store.
 #![tactic(auto)]
 
-mod parting;
 mod viewer;
 mod views;
 

@@ -1,0 +1,12 @@
+use Rattle.std.proofs.lemmas.Result.{on_ok_weaker}
+use Rattle.std.specs.Prelude.{string_bytes}
+use Rattle.table_views.proofs.SoFar.{after}
+use Rattle.service_metrics.proofs.gauges.push_build.Goals as goal
+
+pub returns : goal.returns
+returns c =
+    let old = string_bytes c.args.text.now in
+    on_ok_weaker c.push_version.result
+    (λ last. after old (string_bytes c.push_head.new.text) (string_bytes c.push_version.new.text) _ _
+    c.in_ok-push_head.ensures last)
+    c.push_version.ensures

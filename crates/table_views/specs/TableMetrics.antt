@@ -1,0 +1,47 @@
+-- The numbers of a table, in Prometheus' text format. Their names are defined by this project.
+use Rattle.std.specs.Prelude.{ℕ, List, ◌++◌, codes, flat_map, is_some, length, map}
+use Rattle.std.specs.List.{count_by, filter}
+use Rattle.run_states.specs.Places.{leg_places}
+use Rattle.run_states.specs.RunState.{RunState}
+use Rattle.run_states.specs.declared.place.LegPlace.{LegPlace}
+use Rattle.run_table.specs.TableState.{RunnerState, TableState}
+use Rattle.table_views.specs.LegCounting.{leg_lines}
+use Rattle.table_views.specs.MetricLines.{capped, head, metric, value_line}
+use Rattle.table_views.specs.NamedCounts.{named, others, times}
+use Rattle.table_views.specs.QueueLines.{is_ready_at, labels_json}
+use Rattle.table_views.specs.RunCounting.{run_lines}
+use Rattle.table_views.specs.Texts.{quoted}
+
+-- ---- what ready legs ask for
+
+-- the list of labels that each ready leg among these asks for
+abbrev pub asked_at : List RunState → List LegPlace → List (List ℕ)
+asked_at runs places = map (labels_json runs) (filter (is_ready_at runs) places)
+
+abbrev pub asked : List RunState → List (List ℕ)
+asked runs = asked_at runs (leg_places runs)
+
+-- A list is the value of a label, with a backslash before each quote and each backslash.
+abbrev pub ready_value : List ℕ → ℕ → List ℕ
+ready_value list count = value_line (codes "acts_ready_legs") (codes "{labels=" ++ quoted list ++ codes "}") count
+
+abbrev pub ready_lines : List RunState → List ℕ
+ready_lines runs =
+    head (codes "acts_ready_legs") (codes "gauge") (codes "Ready legs by the labels that they ask for.")
+    ++ flat_map (λ list. ready_value list (times (asked runs) list)) (named (asked runs))
+    ++ ready_value (codes "other") (others (asked runs))
+
+-- ---- runners
+
+abbrev pub leases_of : List RunnerState → ℕ
+leases_of runners = capped (count_by (λ runner. is_some runner.holds) runners)
+
+abbrev pub runner_lines : List RunnerState → List ℕ
+runner_lines runners =
+    metric (codes "acts_runners") (codes "gauge") (codes "Runners that have ever claimed.") (length runners)
+    ++ metric (codes "acts_leases") (codes "gauge") (codes "Runners that hold a lease.") (leases_of runners)
+
+-- ---- all
+
+abbrev pub table_metrics : TableState → List ℕ
+table_metrics t = run_lines t.runs ++ leg_lines t.runs ++ ready_lines t.runs ++ runner_lines t.runners
