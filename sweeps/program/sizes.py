@@ -1,4 +1,4 @@
-"""Sizes that a team has. `sweeps/edits/tested_bodies/acts` has a body for each that is right up to half of it, or that lets go of no memory."""
+"""Sizes that a team has. `sweeps/edits/tested_bodies/acts.edits` has a body for each that is right up to half of it, or that lets go of no memory."""
 
 import json
 import re
