@@ -3,7 +3,7 @@
 ACTS := crates/acts/out/acts
 FIRST := crates/first_run
 
-.PHONY: first-run test names build install example serve-example bench gate sweep hostile compared crashes-over-a-file wrong-bodies tested-bodies definitions
+.PHONY: first-run test names build install example serve-example bench bench-all gate sweep hostile compared crashes-over-a-file wrong-bodies tested-bodies definitions
 .PHONY: engine
 
 # Plays the example by a trial run, and prints each line of the script with its answer. A trial interprets the program before it compiles it,
@@ -53,7 +53,8 @@ example: build
 serve-example:
 	examples/try_examples
 
-# Checks the names and the links on the pages of docs/ and in the README, and that docs/FORMATS.md explains the refusals as the program does.
+# Checks the names and the links on the pages of docs/ and in the README, that docs/FORMATS.md explains the refusals as the program does, and that
+# docs/PERFORMANCE.md has the figures of bench/measured.csv.
 # Left out without Python 3.
 names:
 	@if command -v python3 > /dev/null; then docs/check_names; else echo 'names: python3 is not here, so the names in docs/ were not checked'; fi
@@ -65,9 +66,14 @@ names:
 test: names
 	LANES='$(LANES)' bench/prove $(CRATES)
 
-# Commands per second over growing tables.
+# Commands per second over growing tables. The figures go into bench/measured.csv, from which the tables of docs/PERFORMANCE.md are made.
 bench: build
-	python3 bench/play $(ACTS)
+	bench/keep --whole bench/play $(ACTS)
+	docs/performance --write
+
+# Every benchmark, with the proved program, as `hostile` plays every sweep: hours. `bench/all PROGRAM` does the same with a program that is built already.
+bench-all: build
+	bench/all $(ACTS)
 
 # The stored run and some rows, with each growth of memory refused in turn. Needs a C compiler.
 sweep: build
