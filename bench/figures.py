@@ -137,7 +137,7 @@ FORMS = {
           ("the first answer after a crash, with 4,096 commands since the last checkpoint", "{place}", "{answer}", "s")]),
     ],
     "bench/gate": [
-        (r"\| (?P<crate>`\w+`|the whole) \|.*\| (?P<minutes>[\d.]+) \|", [("{crate}", "", "{minutes}", "processor minutes")]),
+        (r"\| (?P<crate>`\w+`|the whole) \|.*\| (?P<minutes>[\d.]+) \|", [("{crate}", "{machine}", "{minutes}", "processor minutes")]),
     ],
 }
 
@@ -162,9 +162,9 @@ def one_by_one(seen):
     return [{**seen, "command": command, "count": count} for command, count in listed] or [seen]
 
 
-def figures_in(benchmark, lines):
-    """The figures of what a benchmark printed."""
-    seen, found = {}, []
+def figures_in(benchmark, lines, machine=""):
+    """The figures of what a benchmark printed on a machine."""
+    seen, found = {"machine": machine}, []
     for line in lines:
         for pattern, figures in FORMS[benchmark]:
             match = re.fullmatch(pattern, line)
