@@ -117,12 +117,12 @@ FORMS = {
     ],
     "bench/views/served": [
         (rf" *(?P<runs>\d+) runs, (?P<view>\S+): half within (?P<half>\d+) microseconds, 99 of 100 within (?P<nearly>\d+), (?P<cost>\d+) of a processor",
-         [("pages: half within: `{view}`", "{runs} finished runs", "{half}", "microseconds"), ("pages: 99 of 100 within: `{view}`", "{runs} finished runs", "{nearly}", "microseconds")]),
-        (r"(?P<pairs>\d+) pairs, (?P<given>[^:]+): (?P<rate>\d+) lifecycles a second .*", [("load: without views, {given}", "{pairs} pairs", "{rate}", "lifecycles a second")]),
-        (rf"  beside \d+ of (?P<view>\S+) a second: \d+ .*, (?P<part>{N}) of it", [("load: beside 1,000 of `{view}` a second, {given}", "{pairs} pairs", "{part}", "of the lifecycles")]),
+         [("half within: `{view}`", "{runs} finished runs", "{half}", "microseconds"), ("99 of 100 within: `{view}`", "{runs} finished runs", "{nearly}", "microseconds")]),
+        (r"(?P<pairs>\d+) pairs, (?P<given>[^:]+): (?P<rate>\d+) lifecycles a second .*", [("without views, {given}", "{pairs} pairs", "{rate}", "lifecycles a second")]),
+        (rf"  beside \d+ of (?P<view>\S+) a second: \d+ .*, (?P<part>{N}) of it", [("beside 1,000 of `{view}` a second, {given}", "{pairs} pairs", "{part}", "of the lifecycles")]),
         (rf"(?P<readers>\d+) readers wait for changes: (?P<used>{N}) s of a processor in 30 s, (?P<wakes>\d+) wake-ups",
-         [("waiting: idle, in 30 s", "{readers} readers", "{used}", "s of a processor"), ("waiting: idle, in 30 s", "{readers} readers", "{wakes}", "wake-ups")]),
-        (r"one event: all (?P<readers>\d+) readers have it within (?P<time>\d+) ms", [("waiting: one event reaches all within", "{readers} readers", "{time}", "ms")]),
+         [("idle, in 30 s", "{readers} readers", "{used}", "s of a processor"), ("idle, in 30 s", "{readers} readers", "{wakes}", "wake-ups")]),
+        (r"one event: all (?P<readers>\d+) readers have it within (?P<time>\d+) ms", [("one event reaches all within", "{readers} readers", "{time}", "ms")]),
     ],
     "bench/checkpoint/served": [
         (r"area \d+: half within (?P<half>\d+) us, 99 of 100 within (?P<nearly>\d+) us, all within \d+ us; (?P<count>\d+) checkpoints",
