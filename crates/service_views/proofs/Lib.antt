@@ -1,1 +1,2 @@
 pub mod FollowingLemmas
+pub mod KeepingLemmas

@@ -1,2 +1,7 @@
--- The views of a service.
+-- What a service shows to those that look at it.
+pub mod Behind
+pub mod Boards
 pub mod Following
+pub mod HeardTimes
+pub mod Keeping
+pub mod Shown

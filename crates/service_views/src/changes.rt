@@ -7,13 +7,12 @@ ghost use Rattle.service_views.specs.Following.{Gains, TakesUp};
 
 use act_disk::Disk;
 use act_store::{Entry, Store};
-use covered_log::{CoveredLog, Page};
+use covered_log::CoveredLog;
 use run_plan::{Command, Number, Reply};
 use run_states::Run;
 use run_table::{Table, conclusion_word, status_word};
 use std::alloc::{AllocError, Global};
 use std::mem;
-use view_sessions::Cursor;
 
 /// How a run stands.
 #[derive(Clone, Copy, PartialEq, Eq)]
@@ -96,17 +95,6 @@ pub(crate) struct Changes {
     standings: Option<Standings>,
     /// How many entries of the present history were taken up.
     taken: u64,
-}
-
-/// What became of a wish for changes.
-#[derive(Drop)]
-pub(crate) enum Found {
-    /// These lines, the cursor among them.
-    Lines(String),
-    /// There is none yet.
-    None,
-    /// The cursor is not known any more.
-    Unknown,
 }
 
 impl Changes {
@@ -285,28 +273,10 @@ impl Changes {
 
     // ---- what is shown
 
-    fn cursor_line(&self, alloc: Global, line: u64) -> Result<String, AllocError> {
-        let process = self.log.process();
-        let cursor = Cursor { process, line }.text(alloc)?;
-        format!(in alloc; "{{\"cursor\":\"{cursor}\"}}\n")
-    }
-
-    /// The line of the cursor of the present.
-    pub(crate) fn present(&self, alloc: Global) -> Result<String, AllocError> {
-        self.cursor_line(alloc, self.log.end())
-    }
-
-    /// What came after a cursor.
-    pub(crate) fn after(&self, alloc: Global, cursor: Cursor) -> Result<Found, AllocError> {
-        let Some(page) = self.log.after(alloc, cursor.process, cursor.line)? else {
-            return Ok(Found::Unknown);
-        };
-        let Page { mut text, next } = page;
-        if next == cursor.line {
-            return Ok(Found::None);
-        }
-        let end = self.cursor_line(alloc, next)?;
-        text.push_str(end.as_str())?;
-        Ok(Found::Lines(text))
+    /// The log of the changes.
+    pub(crate) fn log(&self) -> &CoveredLog
+        ensures { result.now ≡ self.now.log }
+    {
+        &self.log
     }
 }

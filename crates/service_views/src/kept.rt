@@ -1,8 +1,17 @@
 //! What is kept of a service for those that look at it: its changes, its counts, and when its runners were last heard.
 
+ghost use Rattle.std.specs.Prelude.{◌≡◌, ◌∷◌, [], ◌==◌, IfOk, List, not, option_map, ℕ};
+ghost use Rattle.std.specs.Duration.{as_nanos};
+ghost use Rattle.std.specs.HashMap.{get_by_text};
+ghost use Rattle.std.specs.Str.{bytes_eq};
+ghost use Rattle.service_metrics.specs.Counters.{Done, counters_of, with_commit};
+ghost use Rattle.service_views.specs.HeardTimes.{seconds_between, seconds_since};
+ghost use Rattle.service_views.specs.Keeping.{Begins, GoesOn, HeardAt, Notes, covered_after, runner_of};
+ghost use Rattle.table_views.specs.MetricLines.{capped};
+
 use crate::changes::Changes;
 use act_disk::Disk;
-use act_store::Store;
+use act_store::{Entry, Store};
 use run_plan::{Command, RunnerName};
 use run_table::Table;
 use service_metrics::Counters;
@@ -11,7 +20,9 @@ use std::collections::HashMap;
 use std::time::{Duration, Instant};
 
 /// The runner that a command comes from.
-fn runner_of(command: &Command) -> Option<&RunnerName> {
+fn runner_of(command: &Command) -> Option<&RunnerName>
+    ensures { option_map (λ runner. runner.now) result ≡ runner_of command.now }
+{
     match command {
         Command::Claim(claim) => Some(&claim.runner),
         Command::Done(done) => Some(&done.runner),
@@ -32,12 +43,9 @@ pub struct Kept {
 
 impl Kept {
     /// What is kept of a service that begins now.
-    pub fn new(
-        alloc: Global,
-        process: u64,
-        now: Instant,
-        table: &Table,
-    ) -> Result<Kept, AllocError> {
+    pub fn new(alloc: Global, process: u64, now: Instant, table: &Table) -> Result<Kept, AllocError>
+        ensures { IfOk result (Begins process now) }
+    {
         Ok(Kept {
             changes: Changes::new(alloc, process, table)?,
             counters: Counters::new(),
@@ -46,8 +54,11 @@ impl Kept {
         })
     }
 
-    /// The runner with this name was heard.
-    fn hear(&mut self, alloc: Global, runner: &RunnerName, now: Instant) -> Result<(), AllocError> {
+    /// The runner with this name was heard. Without memory for it one that was never heard before stays unknown.
+    fn hear(&mut self, alloc: Global, runner: &RunnerName, now: Instant) -> Result<(), AllocError>
+        ensures heard { (name : List ℕ) → HeardAt (bytes_eq runner.now name) now (get_by_text self.old.heard name) (get_by_text self.new.heard name) }
+        ensures rest { self.new ≡ record self.old { heard = self.new.heard } }
+    {
         if let Some(heard) = self.heard.get_mut(runner.as_str()) {
             *heard = now;
             return Ok(());
@@ -59,45 +70,68 @@ impl Kept {
         }
     }
 
+    /// Counts an entry that was made durable, and notes that the runner was heard from which it comes.
+    fn note(&mut self, alloc: Global, entry: &Entry, now: Instant)
+        ensures { Notes (entry.now ∷ []) now self.old self.new }
+    {
+        self.counters.entered(&entry.reply);
+        if let Some(runner) = runner_of(&entry.command) {
+            let _ = self.hear(alloc, runner, now);
+        }
+    }
+
     /// Counts the entries of a store that were made durable since the last time, and notes which runners were heard.
-    fn count_new<D: Disk>(&mut self, alloc: Global, store: &Store<D>, now: Instant) {
+    fn note_new<D: Disk>(&mut self, alloc: Global, store: &Store<D>, now: Instant)
+        ensures { Notes (covered_after self.old.changes.taken store.now) now self.old self.new }
+    {
         for place in self.changes.taken()..store.covered() {
-            if let Some(entry) = store.entry(place.saturating_add(1)) {
-                self.counters.entered(&entry.reply);
-                if let Some(runner) = runner_of(&entry.command) {
-                    let _ = self.hear(alloc, runner, now);
-                }
+            if let Some(entry) = store.entry(place + 1) {
+                self.note(alloc, entry, now);
             }
         }
     }
 
     /// Takes up what was made durable since the last time. Returns whether there was something.
-    pub fn take_up<D: Disk>(&mut self, alloc: Global, store: &Store<D>, now: Instant) -> bool {
+    pub fn take_up<D: Disk>(&mut self, alloc: Global, store: &Store<D>, now: Instant) -> bool
+        ensures goes_on { GoesOn store.now now self.old self.new }
+        ensures some { result ≡ not (store.now.covered == self.old.changes.taken) }
+    {
         if store.covered() == self.changes.taken() {
             return false;
         }
-        self.count_new(alloc, store, now);
+        self.note_new(alloc, store, now);
         self.changes.take_up(alloc, store);
         true
     }
 
     /// A commit took so long.
-    pub fn committed(&mut self, took: Duration) {
+    pub fn committed(&mut self, took: Duration)
+        ensures counted { (done : Done) → self.old.counters ≡ counters_of done → self.new.counters ≡ counters_of (with_commit done (capped (as_nanos took))) }
+        ensures rest { self.new ≡ record self.old { counters = self.new.counters } }
+    {
         self.counters.committed(took);
     }
 
     /// A new history has begun.
-    pub fn turn_over(&mut self) {
+    pub fn turn_over(&mut self)
+        ensures log { self.new.changes.log ≡ self.old.changes.log }
+        ensures taken { self.new.changes.taken ≡ 0 }
+        ensures rest { self.new ≡ record self.old { changes = self.new.changes } }
+    {
         self.changes.turn_over();
     }
 
     /// For how many whole seconds the service has run.
-    pub(crate) fn uptime(&self, now: Instant) -> u64 {
+    pub(crate) fn uptime(&self, now: Instant) -> u64
+        ensures { result ≡ seconds_between self.now.began now }
+    {
         now.saturating_duration_since(self.began).as_secs()
     }
 
     /// How many whole seconds ago the runner with this name was heard, if it was.
-    pub(crate) fn seconds_since(&self, name: &str, now: Instant) -> Option<u64> {
+    pub(crate) fn seconds_since(&self, name: &str, now: Instant) -> Option<u64>
+        ensures { result ≡ seconds_since self.now now name.now }
+    {
         let heard = self.heard.get(name)?;
         Some(now.saturating_duration_since(*heard).as_secs())
     }

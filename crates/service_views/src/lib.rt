@@ -1,6 +1,7 @@
 //! What a service shows to those that look at it: the answers of its views, from its table and from what is kept of it.
 #![tactic(auto)]
 
+mod behind;
 mod board;
 mod changes;
 mod kept;

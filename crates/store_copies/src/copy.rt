@@ -5,7 +5,7 @@ ghost use Rattle.wf_value.specs.Gives.{ErrsOnlyByMemory};
 ghost use Rattle.act_store.specs.Images.{IsAreaLength, RecoversTo};
 ghost use Rattle.act_store.specs.TableText.{EncodesTable};
 ghost use Rattle.act_store.specs.declared.layout.Layout.TheVariants as layouts;
-ghost use Rattle.store_copies.specs.Copies.{copy_front, file_of, fits};
+ghost use Rattle.store_copies.specs.Copies.{copy_bytes, copy_front, file_of, fits};
 
 use act_store::{MAX_AREA, MIN_AREA};
 use gated_journal::OPEN;
@@ -60,6 +60,7 @@ pub fn copy_of(alloc: Global, area: u64, table: &Table) -> Result<Option<FileByt
     ensures err { ErrsOnlyByMemory result }
     ensures recovers { IfOk result (λ found. IfSome found (λ copy. RecoversTo table.now (file_of copy))) }
     ensures none { IfOk result (λ found. is_some found ≡ fits area table.now) }
+    ensures bytes { IfOk result (λ found. IfSome found (λ copy. copy.bytes.items ≡ copy_bytes table.now)) }
     ensures size { IfOk result (λ found. IfSome found (λ copy. length (file_of copy) ≡ area + area)) }
 {
     if !fits(area, table) {

@@ -167,8 +167,8 @@ impl Viewer {
     /// Sends it what it takes of its answer. Returns whether it takes more.
     fn send(&mut self, now: Instant) -> Writable {
         let mut writer = ClientWriter::new(&self.stream);
-        let (count, writable) = self.session.send(&mut writer, WRITES);
-        if count > 0 {
+        let (moved, writable) = self.session.send(&mut writer, WRITES);
+        if moved {
             self.moved = now;
         }
         writable

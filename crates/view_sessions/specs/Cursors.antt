@@ -1,6 +1,6 @@
 -- The text of a cursor: two numbers with a hyphen between, each as its high and its low part below 10^9, with a dot between. The form is defined by
 -- this project.
-use Rattle.std.specs.Prelude.{ℕ, ◌+◌, ◌*◌, ◌^◌, List, length, nat_lt, slice_index, ◌==◌, ◌&&◌, Option, Some, None, option_map, option_and_then, if◌then◌else◌}
+use Rattle.std.specs.Prelude.{ℕ, ◌+◌, ◌*◌, ◌/◌, ◌%◌, ◌^◌, List, ◌++◌, codes, decimal, length, nat_lt, slice_index, ◌==◌, ◌&&◌, Option, Some, None, option_map, option_and_then, if◌then◌else◌}
 use Rattle.run_plan.specs.Decimal.{decimal_of}
 use Rattle.view_sessions.specs.Values.{after_byte, before_byte}
 use Rattle.view_sessions.specs.declared.cursor.Cursor.{Cursor}
@@ -26,3 +26,11 @@ cursor_from process line = record { process = process; line = line }
 abbrev pub cursor_of : List ℕ → Option Cursor
 cursor_of text =
     option_and_then (λ process. option_map (cursor_from process) (option_and_then long_number (after_byte 45 text))) (long_number (before_byte 45 text))
+
+-- ---- as it is printed
+
+abbrev pub long_text : ℕ → List ℕ
+long_text n = decimal (n / 1000000000) ++ codes "." ++ decimal (n % 1000000000)
+
+abbrev pub cursor_text : Cursor → List ℕ
+cursor_text cursor = long_text cursor.process ++ codes "-" ++ long_text cursor.line

@@ -4,5 +4,6 @@ pub mod Faults
 pub mod Paths
 pub mod Queries
 pub mod Requests
+pub mod Sessions
 pub mod Targets
 pub mod Values

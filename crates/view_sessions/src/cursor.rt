@@ -1,5 +1,5 @@
-ghost use Rattle.std.specs.Prelude.{◌≡◌};
-ghost use Rattle.view_sessions.specs.Cursors.{cursor_of, long_number, short_number};
+ghost use Rattle.std.specs.Prelude.{◌≡◌, IfOk, string_bytes};
+ghost use Rattle.view_sessions.specs.Cursors.{cursor_of, cursor_text, long_number, short_number};
 
 use crate::query::{after_byte, before_byte};
 use run_plan::decimal_of;
@@ -42,7 +42,10 @@ impl Cursor {
         Some(Cursor { process, line })
     }
 
-    pub fn text(&self, alloc: Global) -> Result<String, AllocError> {
+    /// The text of the cursor.
+    pub fn to_text(&self, alloc: Global) -> Result<String, AllocError>
+        ensures { IfOk result (λ text. string_bytes text ≡ cursor_text self.now) }
+    {
         let (high, low) = (self.process / 1_000_000_000, self.process % 1_000_000_000);
         let (line_high, line_low) = (self.line / 1_000_000_000, self.line % 1_000_000_000);
         format!(in alloc; "{high}.{low}-{line_high}.{line_low}")

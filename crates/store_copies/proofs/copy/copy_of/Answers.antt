@@ -53,3 +53,6 @@ returns-clause-size c =
       length_front text,
       c.if-not-fits.ensures.room refl,
     )
+
+pub returns-clause-bytes : goal.returns-clause-bytes
+returns-clause-bytes c = c.in_ok-bytes.ensures.bytes

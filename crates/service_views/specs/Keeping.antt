@@ -1,0 +1,75 @@
+-- What a service keeps of itself while its history goes on.
+use Rattle.std.specs.Prelude.{◌≡◌, ◌⊎◌, ℕ, List, ◌++◌, map, drop, take, Bool, true, false, Option, None, Some}
+use Rattle.std.specs.HashMap.{get_by_text}
+use Rattle.std.specs.List.{list_any}
+use Rattle.std.specs.Option.{option_map_or}
+use Rattle.std.specs.Str.{bytes_eq}
+use Rattle.std.specs.declared.time.Instant.{Instant}
+use Rattle.run_plan.specs.declared.command.Command.{Command}
+use Rattle.run_plan.specs.declared.command.Command.TheVariants as command
+use Rattle.act_store.specs.StoreState.{StoreState}
+use Rattle.act_store.specs.declared.entry.Entry.{Entry}
+use Rattle.covered_log.specs.LogState.{new_log}
+use Rattle.service_metrics.specs.Counters.{CountersState, Done, counters_of, nothing_done}
+use Rattle.service_views.specs.Following.{TakesUp}
+use Rattle.service_views.specs.declared.kept.Kept.{Kept}
+
+-- ---- what is counted
+
+abbrev pub with_entries : Done → List Entry → Done
+with_entries done entries = record { replies = done.replies ++ map (λ e. e.reply) entries; commits = done.commits }
+
+-- each of these entries is counted once
+abbrev pub Counts : List Entry → CountersState → CountersState → Type 0
+Counts entries old new = (done : Done) → old ≡ counters_of done → new ≡ counters_of (with_entries done entries)
+
+-- ---- who was heard
+
+-- the runner that a command comes from
+abbrev pub runner_of : Command → Option (List ℕ)
+runner_of (command.Claim claim) = Some claim.runner
+runner_of (command.Done done) = Some done.runner
+runner_of (command.Beat beat) = Some beat.runner
+runner_of _ = None
+
+abbrev pub comes_from : List ℕ → Entry → Bool
+comes_from name e = option_map_or (λ runner. bytes_eq runner name) (runner_of e.command) false
+
+-- When a runner was last heard: now if it is heard, else as before. Without memory one that was never heard before stays unknown.
+abbrev pub HeardAt : Bool → Instant → Option Instant → Option Instant → Type 0
+HeardAt true now old new = (new ≡ Some now) ⊎ ((old ≡ None) × (new ≡ None))
+HeardAt false now old new = new ≡ old
+
+-- those are heard, and no others, from which one of these entries comes
+abbrev pub Hears : List Entry → Instant → Kept → Kept → Type 0
+Hears entries now old new =
+    (name : List ℕ) → HeardAt (list_any (comes_from name) entries) now (get_by_text old.heard name) (get_by_text new.heard name)
+
+-- ---- what is kept
+
+-- these entries are counted, and those heard from which they come
+pub record Notes (entries : List Entry) (now : Instant) (old new : Kept) : Type 0 where
+  pub counts : Counts entries old.counters new.counters
+  pub hears : Hears entries now old new
+  pub changes : new.changes ≡ old.changes
+  pub began : new.began ≡ old.began
+
+-- the entries of a store that were made durable after so many
+abbrev pub covered_after : {D : Type 0} → ℕ → StoreState D → List Entry
+covered_after taken s = drop taken (take s.covered s.history)
+
+-- what a service that begins now keeps
+pub record Begins (process : ℕ) (now : Instant) (k : Kept) : Type 0 where
+  pub log : k.changes.log ≡ new_log process
+  pub taken : k.changes.taken ≡ 0
+  pub counters : k.counters ≡ counters_of nothing_done
+  pub began : k.began ≡ now
+  pub heard : (name : List ℕ) → get_by_text k.heard name ≡ None
+
+-- what was made durable since the last time is told, counted and heard
+pub record GoesOn {D : Type 0} (s : StoreState D) (now : Instant) (old new : Kept) : Type 0 where
+  pub entered : TakesUp (covered_after old.changes.taken s) old.changes.log new.changes.log
+  pub taken : new.changes.taken ≡ s.covered
+  pub counts : Counts (covered_after old.changes.taken s) old.counters new.counters
+  pub hears : Hears (covered_after old.changes.taken s) now old new
+  pub began : new.began ≡ old.began
