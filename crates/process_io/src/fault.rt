@@ -1,3 +1,6 @@
+ghost use Rattle.std.specs.Prelude.{◌≡◌};
+ghost use Rattle.process_io.specs.Faults.{code_of_fault};
+
 use std::{fmt, io};
 use wf_value::{Code, Refusal};
 
@@ -19,7 +22,9 @@ pub enum Fault<'a> {
 
 impl Fault<'_> {
     /// The refusal: 51 for a file that is too long, and else 61.
-    pub fn refusal(&self) -> Refusal {
+    pub fn refusal(&self) -> Refusal
+        ensures { result ≡ Refusal.Numbered (code_of_fault self.now) }
+    {
         Refusal::Numbered(match self {
             Fault::TooLong(_) => Code::DeviceFailed,
             _ => Code::StreamFailed,

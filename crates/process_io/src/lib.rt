@@ -1,5 +1,5 @@
-//! What a command uses of the system, with the errors of the system: the standard streams, the file of a store, other files, and ports. No
-//! contract describes these.
+//! What a command uses of the system, with the errors of the system: the standard streams, the file of a store, other files, and ports.
+//! Contracts say what an opened file holds, and the number of a fault; none describes the rest.
 #![tactic(auto)]
 
 mod fault;

@@ -1,0 +1,14 @@
+-- The number of what can't be used.
+use Rattle.wf_value.specs.declared.code.Code.{Code}
+use Rattle.wf_value.specs.declared.code.Code.TheVariants.{DeviceFailed, StreamFailed}
+use Rattle.process_io.specs.declared.fault.Fault.{Fault}
+use Rattle.process_io.specs.declared.fault.Fault.TheVariants.{File, Locked, Port, Stream, TooLong, Unmeasured}
+
+-- 51 for a file that is longer than the system lets the process write, and 61 for all else
+abbrev pub code_of_fault : Fault → Code
+code_of_fault (File path error) = StreamFailed
+code_of_fault (Locked path) = StreamFailed
+code_of_fault (Unmeasured path) = StreamFailed
+code_of_fault (TooLong path) = DeviceFailed
+code_of_fault (Port port error) = StreamFailed
+code_of_fault (Stream name error) = StreamFailed
