@@ -8,6 +8,7 @@ pub mod JobSetSteps
 pub mod LookupSteps
 pub mod MarkSteps
 pub mod Members
+pub mod NoNeeds
 pub mod OwnIds
 pub mod PlaceLists
 pub mod Reach

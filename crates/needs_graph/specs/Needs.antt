@@ -1,6 +1,6 @@
 -- The needs of a workflow's jobs, and when they form no graph. GitHub Docs, "Workflow syntax for GitHub Actions":
 -- `jobs.<job_id>.needs`.
-use Rattle.std.specs.Prelude.{ℕ, List, [], ◌∷◌, Bool, Result, Ok, Err, filter, map, if◌then◌else◌}
+use Rattle.std.specs.Prelude.{ℕ, ◌==◌, List, [], ◌∷◌, length, Bool, Result, Ok, Err, filter, map, if◌then◌else◌}
 use Rattle.std.specs.List.{list_any, list_all, enumerate_from}
 use Rattle.std.specs.Str.{bytes_eq}
 use Rattle.wf_value.specs.Names.{rises_by}
@@ -37,6 +37,10 @@ unknown_need = Numbered UnknownNeed
 abbrev pub unless_cycle : List (List ℕ) → List (List ℕ) → Result (List (List ℕ)) Refusal
 unless_cycle [] needs = Ok needs
 unless_cycle (id ∷ ids) needs = Err (Cycle (id ∷ ids))
+
+-- whether no job lists a need
+abbrev pub list_nothing : List JobNeeds → Bool
+list_nothing jobs = list_all (λ job. length job.needs == 0) jobs
 
 -- the graph of the jobs' needs, or its refusal; 13 comes before 14
 abbrev pub graph_of : List JobNeeds → Result (List (List ℕ)) Refusal

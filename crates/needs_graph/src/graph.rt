@@ -1,9 +1,9 @@
-ghost use Rattle.std.specs.Prelude.{◌≡◌, ◌≢◌, ◌↔◌, ◌<◌, ◌&&◌, not, false, IsTrue, None, Ok, All, Contains, length, map, slice_get, ℕ};
+ghost use Rattle.std.specs.Prelude.{◌≡◌, ◌≢◌, ◌↔◌, ◌<◌, ◌&&◌, ◌==◌, [], not, false, true, IsTrue, None, Ok, All, Contains, length, map, slice_get, ℕ};
 ghost use Rattle.std.specs.List.{list_all, list_any, slice_index_or};
 ghost use Rattle.wf_value.specs.Gives.{Gives};
 ghost use Rattle.needs_graph.specs.Ancestors.{needs_at, is_ancestor, dependents_of, HasWalk};
 ghost use Rattle.needs_graph.specs.Conditions.{ancestor_results, condition_value, has_failed, has_succeeded};
-ghost use Rattle.needs_graph.specs.Needs.{ids_rise, needs_of, graph_of};
+ghost use Rattle.needs_graph.specs.Needs.{ids_rise, list_nothing, needs_of, graph_of};
 ghost use Rattle.needs_graph.specs.Rows.{own_ids};
 
 use crate::conditions::{AncestorTest, ancestor_test_of, has_failed, has_succeeded, result_at};
@@ -11,7 +11,7 @@ use crate::ended::HasResult;
 use crate::job_needs::JobNeeds;
 use crate::job_set::{JobSet, set_has};
 use crate::marks::JobBitmap;
-use crate::rows::{all_dependents, all_places, all_sets, closed_rows, needs_rows};
+use crate::rows::{all_dependents, all_places, all_sets, closed_rows, needs_rows, no_places};
 use std::alloc::Global;
 use std::marker::Model;
 use wf_value::{Chars, Condition, Refusal, Sequence, TryCopy};
@@ -46,6 +46,31 @@ impl Graph {
         // An ancestor is the end of a walk along needs.
         ensures walks { (job other : ℕ) → IsTrue (is_ancestor (needs_of jobs.now) job other)
             ↔ HasWalk (needs_of jobs.now) job other }
+    {
+        if list_nothing(jobs) {
+            return Graph::without_needs(alloc, jobs);
+        }
+        Graph::of_needs(alloc, jobs)
+    }
+
+    /// The graph of jobs that list no needs. It needs no lookup of ids.
+    fn without_needs(alloc: Global, jobs: &[JobNeeds<'_>]) -> Result<Graph, Refusal>
+        requires { list_nothing jobs.now ≡ true }
+        ensures { Gives (λ g. g) result (graph_of jobs.now) }
+    {
+        let needs = no_places(alloc, jobs.len())?;
+        let dependents = no_places(alloc, jobs.len())?;
+        Ok(Graph {
+            needs,
+            ancestors: no_sets(alloc),
+            dependents,
+        })
+    }
+
+    /// The graph of jobs, whatever they list.
+    fn of_needs(alloc: Global, jobs: &[JobNeeds<'_>]) -> Result<Graph, Refusal>
+        requires { IsTrue (ids_rise jobs.now) }
+        ensures { Gives (λ g. g) result (graph_of jobs.now) }
     {
         let direct = needs_rows(alloc, jobs)?;
         let needs = all_places(alloc, direct.as_slice())?;
@@ -182,6 +207,26 @@ impl TryCopy for Graph {
             dependents: self.dependents.copy(alloc)?,
         })
     }
+}
+
+fn lists_nothing(job: &JobNeeds<'_>) -> bool
+    ensures { result ≡ (length job.now.needs == 0) }
+{
+    job.needs().is_empty()
+}
+
+/// Whether no job lists a need.
+fn list_nothing(jobs: &[JobNeeds<'_>]) -> bool
+    ensures { result ≡ list_nothing jobs.now }
+{
+    jobs.iter().all(|job| lists_nothing(job))
+}
+
+/// No sets: a job without a set has no ancestors.
+fn no_sets(alloc: Global) -> Sequence<JobSet>
+    ensures { result ≡ [] }
+{
+    Sequence::new(Vec::new(alloc))
 }
 
 /// Whether one of the jobs at these indices has not succeeded.

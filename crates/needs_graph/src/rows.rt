@@ -1,4 +1,4 @@
-ghost use Rattle.std.specs.Prelude.{◌≡◌, IfOk, IsTrue, Ok, map, length};
+ghost use Rattle.std.specs.Prelude.{◌≡◌, [], IfOk, IsTrue, Ok, map, length, replicate};
 ghost use Rattle.wf_value.specs.Gives.{Gives};
 ghost use Rattle.needs_graph.specs.JobBitmap.{is_marked, marked, places, through, closed};
 ghost use Rattle.needs_graph.specs.Needs.{ids_rise};
@@ -36,7 +36,7 @@ pub(crate) fn needs_rows(alloc: Global, jobs: &[JobNeeds<'_>]) -> Result<Vec<Job
     ensures { Gives (λ v. v.items) result (needs_rows_of jobs.now) }
 {
     let lookup = Lookup::new(alloc, jobs)?;
-    let mut rows = Vec::new(alloc);
+    let mut rows = Vec::with_capacity(alloc, jobs.len())?;
     for job in jobs {
         rows.push(needs_row(alloc, &lookup, job.needs())?)?;
     }
@@ -63,6 +63,17 @@ pub(crate) fn closed_rows(alloc: Global, rows: Vec<JobBitmap>) -> Result<Vec<Job
     Ok(reached)
 }
 
+/// So many empty lists of jobs.
+pub(crate) fn no_places(alloc: Global, count: usize) -> Result<Sequence<Sequence<usize>>, Refusal>
+    ensures { Gives (λ p. p) result (Ok (replicate count [])) }
+{
+    let mut places = Vec::with_capacity(alloc, count)?;
+    for _ in 0..count {
+        places.push(Sequence::new(Vec::new(alloc)))?;
+    }
+    Ok(Sequence::new(places))
+}
+
 /// The jobs of each row, in order.
 pub(crate) fn all_places(
     alloc: Global,
@@ -70,7 +81,7 @@ pub(crate) fn all_places(
 ) -> Result<Sequence<Sequence<usize>>, Refusal>
     ensures { Gives (λ p. p) result (Ok (map marked rows.now)) }
 {
-    let mut places = Vec::new(alloc);
+    let mut places = Vec::with_capacity(alloc, rows.len())?;
     for row in rows {
         places.push(row.places(alloc)?)?;
     }
@@ -95,7 +106,7 @@ pub(crate) fn all_dependents(
 ) -> Result<Sequence<Sequence<usize>>, Refusal>
     ensures { Gives (λ d. d) result (Ok (dependents_by rows.now)) }
 {
-    let mut dependents = Vec::new(alloc);
+    let mut dependents = Vec::with_capacity(alloc, rows.len())?;
     for job in 0..rows.len() {
         dependents.push(Sequence::new(dependents_on(alloc, rows, job)?))?;
     }

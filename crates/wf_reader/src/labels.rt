@@ -51,7 +51,7 @@ fn labels_in(alloc: Global, value: &Value) -> Result<Vec<Template>, Refusal>
     if value.is_object() {
         return Err(Refusal::Numbered(Code::LeftOut));
     }
-    let mut labels = Vec::new(alloc);
+    let mut labels = Vec::with_capacity(alloc, 1)?;
     labels.push(read_label(alloc, value)?)?;
     Ok(labels)
 }

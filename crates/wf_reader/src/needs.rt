@@ -40,7 +40,7 @@ fn needs_of(alloc: Global, value: &Value) -> Result<Vec<Chars>, Refusal>
     if let Some(values) = value.as_array() {
         return read_list(alloc, values.as_slice());
     }
-    let mut needs = Vec::new(alloc);
+    let mut needs = Vec::with_capacity(alloc, 1)?;
     needs.push(read_need(alloc, value)?)?;
     Ok(needs)
 }
