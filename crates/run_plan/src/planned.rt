@@ -2,11 +2,12 @@ ghost use Rattle.std.specs.Prelude.{◌≡◌, Ok};
 ghost use Rattle.needs_graph.specs.Needs.{graph_of};
 ghost use Rattle.run_plan.specs.PlanOf.{needs_listed, plan_graph};
 
+use crate::same_templates::{same_concurrency, same_flag, same_templates};
 use needs_graph::Graph;
 use std::marker::Model;
 use wf_expr::Template;
 use wf_reader::{Concurrency, Flag};
-use wf_value::{Chars, Combo, Condition, Sequence};
+use wf_value::{Chars, Combo, Condition, Same, Sequence};
 
 /// A leg of a planned job: one combination of its matrix.
 #[derive(Drop)]
@@ -78,5 +79,31 @@ impl Plan {
         ensures whole { graph_of (needs_listed self.now) ≡ Ok result.now }
     {
         &self.graph
+    }
+}
+
+impl Same for PlannedLeg {
+    fn same(&self, other: &Self) -> bool {
+        self.combo.same(&other.combo)
+    }
+}
+
+impl Same for PlannedJob {
+    fn same(&self, other: &Self) -> bool {
+        self.id.same(&other.id)
+            && same_templates(self.labels.as_slice(), other.labels.as_slice())
+            && self.needs.same(&other.needs)
+            && self.condition == other.condition
+            && same_flag(&self.continue_on_error, &other.continue_on_error)
+            && same_concurrency(&self.concurrency, &other.concurrency)
+            && self.fail_fast == other.fail_fast
+            && self.max_parallel == other.max_parallel
+            && self.legs.same(&other.legs)
+    }
+}
+
+impl Same for Plan {
+    fn same(&self, other: &Self) -> bool {
+        self.jobs.same(&other.jobs)
     }
 }

@@ -37,8 +37,9 @@ pub fn plan_jobs(alloc: Global, jobs: Jobs) -> Result<Plan, Refusal>
 fn planned_jobs(alloc: Global, jobs: Jobs) -> Result<Sequence<PlannedJob>, Refusal>
     ensures { Gives (λ p. p) result (unless_faulty (legs_faults jobs) (map planned_job jobs)) }
 {
-    let mut planned = Vec::new(alloc);
-    for job in jobs.into_vec() {
+    let jobs = jobs.into_vec();
+    let mut planned = Vec::with_capacity(alloc, jobs.len())?;
+    for job in jobs {
         planned.push(planned_job(alloc, job)?)?;
     }
     Ok(Sequence::new(planned))
@@ -98,7 +99,7 @@ fn combinations(alloc: Global, matrix: Option<Matrix>) -> Result<Vec<Combo>, Ref
     match matrix {
         Some(matrix) => expand(alloc, &matrix),
         None => {
-            let mut combos = Vec::new(alloc);
+            let mut combos = Vec::with_capacity(alloc, 1)?;
             combos.push(Combo::new(alloc))?;
             Ok(combos)
         }
@@ -109,7 +110,7 @@ fn combinations(alloc: Global, matrix: Option<Matrix>) -> Result<Vec<Combo>, Ref
 fn legs_of(alloc: Global, combos: Vec<Combo>) -> Result<Sequence<PlannedLeg>, Refusal>
     ensures { Gives (λ s. s) result (Ok (legs_of combos.items)) }
 {
-    let mut legs = Vec::new(alloc);
+    let mut legs = Vec::with_capacity(alloc, combos.len())?;
     for combo in combos {
         legs.push(PlannedLeg { combo })?;
     }

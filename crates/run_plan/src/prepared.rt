@@ -6,44 +6,34 @@ ghost use Rattle.wf_value.specs.declared.refusal.Refusal.TheVariants.{Numbered};
 ghost use Rattle.wf_value.specs.Gives.{Gives};
 ghost use Rattle.wf_reader.specs.Event.{event_of};
 ghost use Rattle.wf_reader.specs.Faults.{unless_faulty};
-ghost use Rattle.run_plan.specs.Origins.{IsOrigin};
 ghost use Rattle.run_plan.specs.PlanOf.{faults_of, plan_of};
 
 use crate::planned::Plan;
-use crate::planning::plan_jobs;
+use crate::planned_workflow::{PlannedWorkflow, contexts_and_workflow};
 use crate::small_text::{DeliveryId, EventName};
 use crate::utf8::text_of;
 use std::alloc::Global;
 use std::marker::Model;
 use std::sync::Arc;
-use wf_reader::{Concurrency, Contexts, Event, Jobs, Workflow, read_event};
+use wf_reader::{Concurrency, Contexts};
 use wf_value::{Chars, Refusal, Same};
 
-/// The contents of an event except the jobs of its workflow.
-#[derive(Drop)]
-struct Origin {
-    repo: Chars,
-    path: Chars,
-    contexts: Contexts,
-    workflow_name: Chars,
-    concurrency: Option<Concurrency>,
-}
-
-/// An admitted event: its bytes and their parsed contents.
+/// What an event has alone: its bytes, and the contexts in them.
 #[derive(Drop)]
 struct Admission {
     delivery: DeliveryId,
     event: EventName,
     body: Vec<u8>,
-    origin: Origin,
-    plan: Plan,
+    contexts: Contexts,
 }
 
-/// An event that is ready for admission. It is immutable, and all shares refer to one copy in memory. In contracts it is the
-/// delivery, the event's name and the bytes, since everything else follows from them.
+/// An event that is ready for admission. Its value does not change, and all shares refer to one copy in memory; events of the same
+/// workflow may refer to one copy of it too. In contracts it is the delivery, the event's name and the bytes, since everything else
+/// follows from them.
 #[derive(Drop)]
 pub struct Prepared {
     admission: Arc<Admission>,
+    workflow: Arc<PlannedWorkflow>,
 }
 
 impl Model for Prepared {
@@ -51,8 +41,8 @@ impl Model for Prepared {
     ghost use Rattle.std.specs.Prelude.{◌≡◌, []};
     ghost use Rattle.wf_reader.specs.Event.{event_of};
     ghost use Rattle.run_plan.specs.Admitted.{Admitted, coded_admitted};
-    ghost use Rattle.run_plan.specs.Origins.{IsOrigin};
-    ghost use Rattle.run_plan.specs.PlanOf.{faults_of, plan_of};
+    ghost use Rattle.run_plan.specs.PlanOf.{faults_of};
+    ghost use Rattle.run_plan.specs.PlannedWorkflows.{IsPlanned};
 
     ghost Value = { Admitted };
 
@@ -62,8 +52,8 @@ impl Model for Prepared {
         record { delivery = a.delivery; event = a.event; body = a.body.items } };
 
     ghost invariant = { λ p. let a = arc_value p.admission in
-        (faults_of a.body.items ≡ []) × IsOrigin a.origin (event_of a.body.items)
-        × (a.plan ≡ plan_of a.body.items) };
+        (faults_of a.body.items ≡ []) × (a.contexts ≡ (event_of a.body.items).contexts)
+        × IsPlanned (arc_value p.workflow) (event_of a.body.items) };
 }
 
 impl Prepared {
@@ -99,42 +89,42 @@ impl Prepared {
     pub fn repo(&self) -> &Chars
         ensures { result.now ≡ (event_of self.now.body).repo }
     {
-        &self.admission.origin.repo
+        &self.workflow.repo
     }
 
     /// The path of the workflow within the repository.
     pub fn path(&self) -> &Chars
         ensures { result.now ≡ (event_of self.now.body).path }
     {
-        &self.admission.origin.path
+        &self.workflow.path
     }
 
     /// The contexts `github`, `inputs` and `vars` that the sender supplied.
     pub fn contexts(&self) -> &Contexts
         ensures { result.now ≡ (event_of self.now.body).contexts }
     {
-        &self.admission.origin.contexts
+        &self.admission.contexts
     }
 
     /// The `name` of the workflow, or the empty text if it is missing.
     pub fn workflow_name(&self) -> &Chars
         ensures { result.now ≡ (event_of self.now.body).workflow.name }
     {
-        &self.admission.origin.workflow_name
+        &self.workflow.name
     }
 
     /// The `concurrency` of the workflow, if any.
     pub fn concurrency(&self) -> Option<&Concurrency>
         ensures { option_copied result ≡ (event_of self.now.body).workflow.concurrency }
     {
-        self.admission.origin.concurrency.as_ref()
+        self.workflow.concurrency.as_ref()
     }
 
     /// The plan of the body's workflow.
     pub fn plan(&self) -> &Plan
         ensures { result.now ≡ plan_of self.now.body }
     {
-        &self.admission.plan
+        &self.workflow.plan
     }
 
     /// Another share of the event. It takes no memory; the only `Err` is 50, if the event already has 2^63 - 1 shares.
@@ -143,7 +133,20 @@ impl Prepared {
     {
         Ok(Prepared {
             admission: Arc::try_clone(&self.admission)?,
+            workflow: Arc::try_clone(&self.workflow)?,
         })
+    }
+
+    /// Refers to the copy of the workflow that the other event refers to, if both have the same workflow. Only memory shows it.
+    pub fn share_workflow(&mut self, other: &Prepared)
+        ensures { self.new ≡ self.old }
+    {
+        if !self.workflow.same(&other.workflow) {
+            return;
+        }
+        if let Ok(workflow) = Arc::try_clone(&other.workflow) {
+            self.workflow = workflow;
+        }
     }
 }
 
@@ -153,45 +156,6 @@ impl Same for Prepared {
             && self.event().same(other.event())
             && self.body() == other.body()
     }
-}
-
-/// Splits an event into the jobs of its workflow and the rest.
-fn origin_and_jobs(event: Event) -> (Origin, Jobs)
-    ensures origin { IsOrigin result.0 event }
-    ensures jobs { result.1 ≡ event.workflow.jobs }
-{
-    let Event {
-        repo,
-        path,
-        contexts,
-        workflow,
-    } = event;
-    let Workflow {
-        name,
-        concurrency,
-        jobs,
-    } = workflow;
-    let origin = Origin {
-        repo,
-        path,
-        contexts,
-        workflow_name: name,
-        concurrency,
-    };
-    (origin, jobs)
-}
-
-/// The origin of a body and the plan of its workflow, or the first fault.
-fn origin_and_plan(alloc: Global, body: &[u8]) -> Result<(Origin, Plan), Refusal>
-    ensures gives { Gives (λ p. p.1) result (unless_faulty (faults_of body.now) (plan_of body.now)) }
-    ensures origin { IfOk result (λ p. IsOrigin p.0 (event_of body.now)) }
-    ensures too_long { max_body < length body.now → result ≡ Err (Numbered TooLong) }
-    ensures no_text { length body.now ≤ max_body → is_utf8 body.now ≡ false → result ≡ Err (Numbered NotJson) }
-{
-    let read = read_event(alloc, body)?;
-    let (origin, jobs) = origin_and_jobs(read);
-    let plan = plan_jobs(alloc, jobs)?;
-    Ok((origin, plan))
 }
 
 /// Prepares an event: reads and plans its body, and refuses the first fault, 10 to 26. Out of memory is 50. A body that is too long
@@ -210,15 +174,17 @@ pub fn prepare(
     ensures no_text { length body.items ≤ max_body → is_utf8 body.items ≡ false
         → result ≡ Err (Numbered NotJson) }
 {
-    let (origin, plan) = origin_and_plan(alloc, body.as_slice())?;
-    let admission = Admission {
+    let (contexts, planned) = contexts_and_workflow(alloc, body.as_slice())?;
+    let workflow = Arc::new(alloc, planned)?;
+    let alone = Admission {
         delivery,
         event,
         body,
-        origin,
-        plan,
+        contexts,
     };
+    let admission = Arc::new(alloc, alone)?;
     Ok(Prepared {
-        admission: Arc::new(alloc, admission)?,
+        admission,
+        workflow,
     })
 }

@@ -9,7 +9,7 @@ use Rattle.run_plan.proofs.planning.planned_jobs.Goals as goal
 
 pub returns-in_err-planned_job : goal.returns-in_err-planned_job
 returns-in_err-planned_job c =
-    passed_on _ _ _ _ c.in_err-planned_job.field-0.0 c.from_residual.ensures.1 c.in_err-planned_job.ensures
+    passed_on _ _ _ _ c.in_err-planned_job.field-0.0 c.from_residual-in_err-planned_job.ensures.1 c.in_err-planned_job.ensures
     (λ refused. first_of_rest job_faults c.args.jobs (into_iter_items c.loop-job.job-iterator) (into_iter_items c.next.new.self)
     c.in-Some.job (planned_job c.in-Some.job) _ c.in_err-planned_job.field-0.0 c.loop-job.invariant.left c.in-Some.ensures.steps.0 refused)
 

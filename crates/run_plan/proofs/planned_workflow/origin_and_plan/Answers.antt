@@ -1,11 +1,11 @@
 use Rattle.std.proofs.Common.{Ok, ap, sym, subst}
 use Rattle.wf_value.proofs.PassedOn.{passed_on}
 use Rattle.wf_reader.specs.Event.{event_faults, event_of}
-use Rattle.run_plan.specs.Origins.{IsOrigin}
 use Rattle.run_plan.specs.PlanOf.{plan_faults}
+use Rattle.run_plan.specs.PlannedWorkflows.{IsOrigin}
 use Rattle.wf_reader.proofs.InOrder.{first_decides, same_value}
 use Rattle.run_plan.proofs.Prepares.{refused_run, faultless_run, plan_of_run}
-use Rattle.run_plan.proofs.prepared.origin_and_plan.Goals as goal
+use Rattle.run_plan.proofs.planned_workflow.origin_and_plan.Goals as goal
 
 pub returns-in_err-read-clause-gives : goal.returns-in_err-read-clause-gives
 returns-in_err-read-clause-gives c =
