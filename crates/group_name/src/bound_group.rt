@@ -4,6 +4,7 @@ ghost use Rattle.group_name.specs.Group.{group_of};
 ghost use Rattle.wf_expr.specs.Bound.{Results, bound_text};
 ghost use Rattle.wf_value.specs.Gives.{ErrsOnlyByMemory, Gives};
 
+use crate::bound_pieces::same_pieces;
 use crate::group_key::{GroupKey, folded};
 use crate::key_room::KeyRoom;
 use std::alloc::Global;
@@ -134,6 +135,14 @@ impl BoundGroup {
         self.has_group(results)
             && self.repository.same(&other.repository)
             && self.name.is_same_text(results, &other.name, other_results)
+    }
+
+    /// Whether both are the same name in the same repository, so that they stand for the same group whatever the results.
+    pub fn is_same_name(&self, other: &Self) -> bool
+        ensures { IsTrue result ↔ (self.now ≡ other.now) }
+    {
+        self.repository.same(&other.repository)
+            && same_pieces(self.name.pieces(), other.name.pieces())
     }
 }
 

@@ -26,7 +26,7 @@ list_stays lists labels other n at = by (list_any (labels_eq labels) lists)
     by false = still_seen (labels ∷ []) lists n other at
 
 -- an appended list is found at its index
-own_place : (lists rest : List (List (List ℕ))) (labels : List (List ℕ)) → slice_get (lists ++ labels ∷ rest) (length lists) ≡ Some labels
+pub own_place : (lists rest : List (List (List ℕ))) (labels : List (List ℕ)) → slice_get (lists ++ labels ∷ rest) (length lists) ≡ Some labels
 own_place [] rest labels = refl
 own_place (l ∷ ls) rest labels = own_place ls rest labels
 

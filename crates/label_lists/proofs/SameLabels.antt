@@ -1,6 +1,8 @@
 -- Lists of labels are equal as map keys if and only if they are the same.
-use Rattle.std.proofs.Common.{◌≡◌, ◌↔◌, ℕ, zero, suc, Some, slice_get, List, [], ◌∷◌, Bool, true, false, IsTrue, ◌&&◌, true≢false, refl, sym, ap, subst, ◌∙◌}
-use Rattle.std.specs.List.{AllByRecursion, IsDistinct}
+use Rattle.std.proofs.Common.{◌≡◌, ◌↔◌, ℕ, zero, suc, Option, None, Some, IfNone, IfSome, slice_get, get_or, List, [], ◌∷◌, Bool, true, false, IsTrue, ◌&&◌, ◌||◌, is_some, true≢false, refl, sym, ap, subst, ◌∙◌}
+use Rattle.std.specs.List.{AllByRecursion, IsDistinct, list_any, position}
+use Rattle.std.proofs.lemmas.List.Quantifiers.{position-Some}
+use Rattle.std.proofs.lemmas.Option.{slice_get-get_or}
 use Rattle.std.proofs.lemmas.Map.Keys.{IsDistinct-head, IsDistinct-tail}
 use Rattle.std.specs.Cmp.{first_so, second_so}
 use Rattle.std.specs.Cmp.Lexicographic.{bytes_decides}
@@ -55,3 +57,45 @@ each_once (l ∷ ls) distinct zero zero labels at also = refl
 each_once (l ∷ ls) distinct zero (suc n) labels at also = absurd (not_later l ls n labels distinct at also)
 each_once (l ∷ ls) distinct (suc m) zero labels at also = absurd (not_later l ls m labels distinct also at)
 each_once (l ∷ ls) distinct (suc m) (suc n) labels at also = ap suc (each_once ls (IsDistinct-tail labels_eq l ls distinct) m n labels at also)
+
+-- ---- the number of a list
+
+-- a list that is among the others is found
+among : (lists : List (List (List ℕ))) (labels : List (List ℕ)) (k : ℕ) → slice_get lists k ≡ Some labels → list_any (labels_eq labels) lists ≡ true
+among [] labels k at = cc
+among (l ∷ ls) labels zero at = ap (λ b. b || list_any (labels_eq labels) ls) ((one_list labels l).1 (one at))
+  where
+    one : Some l ≡ Some labels → labels ≡ l
+    one h = cc
+among (l ∷ ls) labels (suc k) at = by (labels_eq labels l) (among ls labels k at)
+  where
+    by : (b : Bool) → list_any (labels_eq labels) ls ≡ true → (b || list_any (labels_eq labels) ls) ≡ true
+    by true later = refl
+    by false later = later
+
+-- one that is not is not found
+pub nowhere : (lists : List (List (List ℕ))) (labels : List (List ℕ)) → ((k : ℕ) → slice_get lists k ≡ Some labels → ⊥)
+    → list_any (labels_eq labels) lists ≡ false
+nowhere [] labels never = refl
+nowhere (l ∷ ls) labels never = by (labels_eq labels l) refl (nowhere ls labels (λ k. never (suc k)))
+  where
+    by : (b : Bool) → labels_eq labels l ≡ b → list_any (labels_eq labels) ls ≡ false → (b || list_any (labels_eq labels) ls) ≡ false
+    by true e later = absurd (never zero (ap Some (sym (same labels l e))))
+    by false e later = later
+
+module _ (lists : List (List (List ℕ))) (labels : List (List ℕ)) where
+  pub number_there : (found : Option ℕ) → found ≡ position (labels_eq labels) lists → IfSome found (λ n. slice_get lists n ≡ Some labels)
+  number_there None is = tt
+  number_there (Some n) is =
+      let there = position-Some (labels_eq labels) lists n labels (sym is) in
+      slice_get-get_or lists n labels there.0 ∙ ap Some (sym (same labels (get_or lists n labels) there.1))
+
+  pub number_once : (found : Option ℕ) → found ≡ position (labels_eq labels) lists → IsDistinct labels_eq lists
+      → IfSome found (λ n. (k : ℕ) → slice_get lists k ≡ Some labels → n ≡ k)
+  number_once None is distinct = tt
+  number_once (Some n) is distinct = λ k at. each_once lists distinct n k labels (number_there (Some n) is) at
+
+  pub number_none : (found : Option ℕ) → is_some found ≡ list_any (labels_eq labels) lists
+      → IfNone found ((k : ℕ) → slice_get lists k ≡ Some labels → ⊥)
+  number_none None is = λ k at. true≢false (sym (among lists labels k at) ∙ sym is)
+  number_none (Some n) is = tt

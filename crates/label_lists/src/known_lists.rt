@@ -12,7 +12,7 @@ use indexmap::IndexSet;
 use run_marks::RunBitmap;
 use std::alloc::Global;
 use std::marker::Model;
-use wf_value::{Chars, Refusal, Sequence, TryCopy};
+use wf_value::{Chars, Refusal, TryCopy};
 
 /// Lists of labels with numbers that never change. In contracts it is the lists in the order of their numbers, from 0, and for each
 /// the runs that have legs with these labels.
@@ -121,17 +121,17 @@ impl KnownLists {
     }
 
     /// Enters a list, unless it has a number, and adds a run to it. It returns the number, or `None` if the list already has a
-    /// later run but not this one.
+    /// later run but not this one. A list that has a number is looked up once, and not copied.
     pub fn enter(
         &mut self,
         alloc: Global,
-        labels: Sequence<Chars>,
+        labels: &LabelList,
         run: usize,
     ) -> Result<Option<usize>, Refusal>
         ensures enters { OnlyEnters self.old self.new }
-        ensures number { IfOk result (λ found. IfSome found (λ n. slice_get self.new.lists n ≡ Some labels)) }
+        ensures number { IfOk result (λ found. IfSome found (λ n. slice_get self.new.lists n ≡ Some labels.now)) }
         ensures requests { IfOk result (λ found. IfSome found (λ n. requests_at self.new.requesting n run ≡ true)) }
-        ensures none { IfOk result (λ found. (found ≡ None) ↔ IsPassedFor self.old labels run) }
+        ensures none { IfOk result (λ found. (found ≡ None) ↔ IsPassedFor self.old labels.now run) }
         ensures err { IfErr result (λ e. e ≡ no_memory) }
     {
         let number = self.number_of(alloc, labels)?;
@@ -155,21 +155,45 @@ impl KnownLists {
     }
 
     /// The number of a list, which is entered if it has none.
-    fn number_of(&mut self, alloc: Global, labels: Sequence<Chars>) -> Result<usize, Refusal>
+    fn number_of(&mut self, alloc: Global, labels: &LabelList) -> Result<usize, Refusal>
         ensures enters { OnlyEnters self.old self.new }
-        ensures number { IfOk result (λ n. slice_get self.new.lists n ≡ Some labels) }
+        ensures number { IfOk result (λ n. slice_get self.new.lists n ≡ Some labels.now) }
         ensures within { IfOk result (λ n. n < length self.new.requesting) }
-        ensures keeps { IfOk result (λ n. (k : ℕ) → slice_get self.old.lists k ≡ Some labels → n ≡ k) }
-        ensures had { IfOk result (λ n. n < length self.old.requesting → slice_get self.old.lists n ≡ Some labels) }
+        ensures keeps { IfOk result (λ n. (k : ℕ) → slice_get self.old.lists k ≡ Some labels.now → n ≡ k) }
+        ensures had { IfOk result (λ n. n < length self.old.requesting → slice_get self.old.lists n ≡ Some labels.now) }
         ensures requests { SameRequested self.old.requesting self.new.requesting }
         ensures err { IfErr result (λ e. e ≡ no_memory) }
     {
+        match self.number(labels) {
+            Some(number) => Ok(number),
+            None => self.enter_list(alloc, labels),
+        }
+    }
+
+    /// The number of a list, if it has one.
+    fn number(&self, labels: &LabelList) -> Option<usize>
+        ensures number { IfSome result (λ n. slice_get self.now.lists n ≡ Some labels.now) }
+        ensures within { IfSome result (λ n. n < length self.now.requesting) }
+        ensures keeps { IfSome result (λ n. (k : ℕ) → slice_get self.now.lists k ≡ Some labels.now → n ≡ k) }
+        ensures none { IfNone result ((k : ℕ) → slice_get self.now.lists k ≡ Some labels.now → ⊥) }
+    {
+        self.lists.get_index_of(labels)
+    }
+
+    /// Enters a list that has no number. It gets the next number, and has no runs.
+    fn enter_list(&mut self, alloc: Global, labels: &LabelList) -> Result<usize, Refusal>
+        requires { (k : ℕ) → slice_get self.old.lists k ≡ Some labels.now → ⊥ }
+        ensures enters { OnlyEnters self.old self.new }
+        ensures number { IfOk result (λ n. slice_get self.new.lists n ≡ Some labels.now) }
+        ensures next { IfOk result (λ n. n ≡ length self.old.requesting) }
+        ensures within { IfOk result (λ n. n < length self.new.requesting) }
+        ensures requests { SameRequested self.old.requesting self.new.requesting }
+        ensures err { IfErr result (λ e. e ≡ no_memory) }
+    {
+        let copy = labels.copy(alloc)?;
         self.offering.reserve_up_to(self.requesting.len() + 1)?;
         self.requesting.reserve(1)?;
-        let (number, is_new) = self.lists.insert_full(LabelList::new(labels))?;
-        if !is_new {
-            return Ok(number);
-        }
+        let (number, _is_new) = self.lists.insert_full(copy)?;
         self.requesting.push_reserved(RequestingRuns::new(alloc));
         Ok(number)
     }

@@ -15,7 +15,7 @@ use wf_value::{Chars, Refusal, Same, Sequence, TryCopy};
 
 /// The texts of labels. In contracts it is the list of them.
 #[derive(Drop)]
-pub(crate) struct LabelList {
+pub struct LabelList {
     labels: Sequence<Chars>,
 }
 

@@ -7,4 +7,5 @@ mod label_list;
 mod lists;
 mod requesting_runs;
 
+pub use label_list::LabelList;
 pub use lists::LabelLists;

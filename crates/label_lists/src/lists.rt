@@ -7,10 +7,11 @@ ghost use Rattle.label_lists.specs.Known.{IsBefore};
 ghost use Rattle.label_lists.specs.Lists.{HasPlace, IsOnceEach, IsPassedUnder, OnlyGrows, PutsOffer, labels_of, may_offer};
 
 use crate::known_lists::KnownLists;
+use crate::label_list::LabelList;
 use run_marks::RunBitmap;
 use std::alloc::Global;
 use std::marker::Model;
-use wf_value::{Chars, Refusal, Sequence};
+use wf_value::{Chars, Refusal};
 
 /// Lists of labels, numbered from 1, and for each the runs that may have a ready leg with these labels. Number 0 is for legs whose
 /// labels have no known list. In contracts it is the labels of each number, the runs that may have a ready leg for it, and the runs
@@ -52,19 +53,14 @@ impl LabelLists {
     }
 
     /// The number under which a run is marked for a leg with these labels. It is that of the list, which is entered if it has none,
-    /// or 0 if the list already has a later run but not this one. On `Err`, which is 50 (out of memory), the list may have been
-    /// entered.
-    pub fn enter(
-        &mut self,
-        alloc: Global,
-        labels: Sequence<Chars>,
-        run: usize,
-    ) -> Result<usize, Refusal>
+    /// or 0 if the list already has a later run but not this one. A list that has a number is not copied. On `Err`, which is 50 (out
+    /// of memory), the list may have been entered.
+    pub fn enter(&mut self, alloc: Global, labels: &LabelList, run: usize) -> Result<usize, Refusal>
         requires { HasPlace self.old 0 run }
         ensures grows { OnlyGrows self.old self.new }
-        ensures number { IfOk result (λ n. (n ≡ 0) ⊎ (labels_of self.new n ≡ Some labels)) }
+        ensures number { IfOk result (λ n. (n ≡ 0) ⊎ (labels_of self.new n ≡ Some labels.now)) }
         ensures place { IfOk result (λ n. HasPlace self.new n run) }
-        ensures zero { IfOk result (λ n. (n ≡ 0) ↔ IsPassedUnder self.old labels run) }
+        ensures zero { IfOk result (λ n. (n ≡ 0) ↔ IsPassedUnder self.old labels.now run) }
         ensures err { IfErr result (λ e. e ≡ no_memory) }
     {
         let found = self.known.enter(alloc, labels, run)?;

@@ -100,29 +100,6 @@ job_numbers lists r job numbers many whole each l = by (slice_get numbers.legs l
         (subst (λ (o : Option ℕ). IsListOf lists r (kept_texts w) (unwrap_or o numbers.whole)) (sym at)
         (subst (λ (k : Option ResolvedLabels). IsListOf lists r (option_and_then kept_texts k) n) kept (each l n at)))
 
--- ---- the numbers for all jobs
-
-abbrev pub EachJob : ListsState → ℕ → List JobBindings → List ListNumbers → Type 0
-EachJob lists r jobs numbers =
-    (j : ℕ) (job : ListNumbers) → slice_get numbers j ≡ Some job → (l : ℕ) → IsListOf lists r (texts_of jobs j l) (number_in job l)
-
-pub each_job_grown : (old new : ListsState) → OnlyGrows old new → (r : ℕ) (jobs : List JobBindings) (numbers : List ListNumbers)
-    → EachJob old r jobs numbers → EachJob new r jobs numbers
-each_job_grown old new grows r jobs numbers each j job at l =
-    grown_list old new grows r (texts_of jobs j l) (number_in job l) (each j job at l)
-
-pub lists_of_each : (lists : ListsState) (r : ℕ) (jobs : List JobBindings) (numbers : List ListNumbers) → HasPlace lists 0 r
-    → EachJob lists r jobs numbers → AreListsOf lists r jobs numbers
-lists_of_each lists r jobs numbers has each j l = by (slice_get numbers j) refl
-  where
-    by : (o : Option ListNumbers) → slice_get numbers j ≡ o → IsListOf lists r (texts_of jobs j l) (list_number numbers j l)
-    by None none =
-        subst (λ (o : Option ListNumbers). IsListOf lists r (texts_of jobs j l) (option_map_or (λ job. number_in job l) o 0)) (sym none)
-        (no_list lists r (texts_of jobs j l) has)
-    by (Some job) at =
-        subst (λ (o : Option ListNumbers). IsListOf lists r (texts_of jobs j l) (option_map_or (λ job. number_in job l) o 0)) (sym at)
-        (each j job at l)
-
 -- ---- a run is marked for a list, or unmarked
 
 put_taken : (b to m : Bool) → m ≡ to → (if b then to else m) ≡ to

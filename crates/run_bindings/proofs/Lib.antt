@@ -1,4 +1,5 @@
 pub mod Binding
+pub mod BoundJobs
 pub mod BoundSays
 pub mod DecidedKeys
 pub mod DecidedThere

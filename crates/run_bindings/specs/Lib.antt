@@ -1,6 +1,7 @@
 pub mod Bindings
 pub mod BoundFlags
 pub mod BoundGroups
+pub mod BoundJobs
 pub mod GroupKeys
 pub mod KnownLabels
 pub mod LabelNumbers

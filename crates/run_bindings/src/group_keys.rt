@@ -10,7 +10,6 @@ ghost use Rattle.run_bindings.specs.GroupKeys.{key_of, spent, ticket_in, with_sp
 ghost use Rattle.run_bindings.specs.declared.group_keys.KnownGroup.{KnownGroup as KnownInCode};
 ghost use Rattle.run_bindings.specs.declared.group_keys.HolderKey.TheVariants as kept;
 
-use crate::bindings::JobBindings;
 use crate::groups::GroupRequest;
 use group_name::{GroupKey, KeyRoom};
 use run_states::Holder;
@@ -47,6 +46,24 @@ impl HolderKey {
         let key = request.group.room(alloc)?;
         let ticket = request.group.room(alloc)?;
         Ok(HolderKey::Later(key, ticket))
+    }
+
+    /// What a run asks for itself, decided with these results.
+    pub(crate) fn of_run<R: NeedResults>(
+        alloc: Global,
+        own: &Option<GroupRequest>,
+        results: &R,
+    ) -> Result<Self, Refusal>
+        ensures err { ErrsOnlyByMemory result }
+        ensures own { IfOk result (λ key. key ≡ option_map_or (decided (R.result_of results.now)) own.now kept.NoGroup) }
+    {
+        match own {
+            Some(request) => {
+                let later = HolderKey::later(alloc, request)?;
+                Ok(later.decided(request, results))
+            }
+            None => Ok(HolderKey::NoGroup),
+        }
     }
 
     /// What the request gives with the results. It takes no memory.
@@ -147,7 +164,7 @@ impl Model for LegKeys {
 
 impl LegKeys {
     /// Takes the memory for what the requests give.
-    fn take(alloc: Global, requests: &[GroupRequest]) -> Result<Self, Refusal>
+    pub(crate) fn take(alloc: Global, requests: &[GroupRequest]) -> Result<Self, Refusal>
         ensures err { ErrsOnlyByMemory result }
         ensures later { IfOk result (AreLater requests.now) }
     {
@@ -218,26 +235,10 @@ impl Model for GroupKeys {
 }
 
 impl GroupKeys {
-    /// Takes the memory for the groups that a run and its legs ask for. That of the run itself is decided with these results.
-    pub(crate) fn take<R: NeedResults>(
-        alloc: Global,
-        own: &Option<GroupRequest>,
-        jobs: &[JobBindings],
-        results: &R,
-    ) -> Result<Self, Refusal>
-        ensures err { ErrsOnlyByMemory result }
-        ensures own { IfOk result (λ keys. keys.own ≡ option_map_or (decided (R.result_of results.now)) own.now kept.NoGroup) }
-        ensures as_many { IfOk result (λ keys. length keys.jobs ≡ length jobs.now) }
-        ensures later { IfOk result (λ keys. AllAreLater jobs.now keys.jobs) }
+    pub(crate) fn new(own: HolderKey, jobs: Vec<LegKeys>) -> Self
+        ensures { result ≡ record { own = own; jobs = jobs.items } }
     {
-        let own = match own {
-            Some(request) => HolderKey::later(alloc, request)?.decided(request, results),
-            None => HolderKey::NoGroup,
-        };
-        Ok(GroupKeys {
-            own,
-            jobs: take_jobs(alloc, jobs)?,
-        })
+        GroupKeys { own, jobs }
     }
 
     fn holder(&self, holder: &Holder) -> Option<&HolderKey>
@@ -322,19 +323,6 @@ impl GroupKeys {
         }
         Some(count)
     }
-}
-
-fn take_jobs(alloc: Global, jobs: &[JobBindings]) -> Result<Vec<LegKeys>, Refusal>
-    ensures err { ErrsOnlyByMemory result }
-    ensures as_many { IfOk result (λ keys. length keys.items ≡ length jobs.now) }
-    ensures later { IfOk result (λ keys. AllAreLater jobs.now keys.items) }
-{
-    let mut keys = Vec::with_capacity(alloc, jobs.len())?;
-    for j in 0..jobs.len() {
-        let legs = LegKeys::take(alloc, jobs[j].groups.as_slice())?;
-        keys.push(legs)?;
-    }
-    Ok(keys)
 }
 
 impl TryCopy for KnownGroup {

@@ -19,7 +19,7 @@ use run_plan::PlannedJob;
 use std::alloc::Global;
 use wf_expr::{BoundTemplate, Context, NeedResults, Needs};
 use wf_reader::{Concurrency, Flag};
-use wf_value::{Refusal, Sequence, TryCopy};
+use wf_value::{Refusal, Sequence};
 
 /// A flag: fixed, or a bound template.
 #[derive(Drop)]
@@ -152,22 +152,4 @@ fn bind_each<'x>(
         legs.push(bound)?;
     }
     Ok(legs)
-}
-
-impl TryCopy for BoundFlag {
-    fn copy(&self, alloc: Global) -> Result<Self, Refusal> {
-        match self {
-            BoundFlag::Fixed(set) => Ok(BoundFlag::Fixed(*set)),
-            BoundFlag::Template(template) => Ok(BoundFlag::Template(template.copy(alloc)?)),
-        }
-    }
-}
-
-impl TryCopy for GroupRequest {
-    fn copy(&self, alloc: Global) -> Result<Self, Refusal> {
-        Ok(GroupRequest {
-            group: self.group.copy(alloc)?,
-            cancels: self.cancels.copy(alloc)?,
-        })
-    }
 }

@@ -4,13 +4,13 @@
 ghost use Rattle.std.specs.Prelude.{◌≡◌, ℕ, IfOk, Some, length, option_and_then, option_copied, slice_get};
 ghost use Rattle.label_lists.specs.Lists.{HasPlace, OnlyGrows};
 ghost use Rattle.wf_value.specs.Gives.{ErrsOnlyByMemory};
-ghost use Rattle.run_bindings.specs.LabelNumbers.{AreListsOf, IsListOf, kept_texts, list_number, number_in, texts_in};
+ghost use Rattle.run_bindings.specs.LabelNumbers.{IsListOf, kept_texts, list_number, number_in, texts_in};
 
 use crate::bindings::JobBindings;
 use crate::resolved_labels::ResolvedLabels;
-use label_lists::LabelLists;
+use label_lists::{LabelList, LabelLists};
 use std::alloc::Global;
-use wf_value::{Chars, Refusal, Sequence, TryCopy};
+use wf_value::{Refusal, Sequence};
 
 /// The number of each leg's list, if the legs of the job may differ; otherwise `whole` is the number for all legs. The number is 0 if the
 /// list is not known, or if the run cannot be marked under the list's own number.
@@ -46,7 +46,7 @@ pub fn list_number(numbers: &[ListNumbers], j: usize, l: usize) -> usize
 /// list, or 0.
 fn enter_list(
     alloc: Global,
-    labels: Option<&Sequence<Chars>>,
+    labels: Option<&LabelList>,
     lists: &mut LabelLists,
     r: usize,
 ) -> Result<usize, Refusal>
@@ -56,7 +56,7 @@ fn enter_list(
     ensures number { IfOk result (IsListOf lists.new r (option_copied labels.entry)) }
 {
     match labels {
-        Some(labels) => lists.enter(alloc, labels.copy(alloc)?, r),
+        Some(labels) => lists.enter(alloc, labels, r),
         None => Ok(0),
     }
 }
@@ -82,7 +82,8 @@ fn enter_legs(
     Ok(legs)
 }
 
-fn enter_job(
+/// Enters the lists that the legs of a job of run `r` ask for. On an `Err` (50, out of memory) some may have been entered.
+pub(crate) fn enter_job(
     alloc: Global,
     job: &JobBindings,
     lists: &mut LabelLists,
@@ -99,34 +100,4 @@ fn enter_job(
         whole,
         legs: Sequence::new(legs),
     })
-}
-
-/// Enters the lists that the legs of run `r` ask for, job by job. On an `Err` (50, out of memory) some may have been entered.
-pub(crate) fn enter_jobs(
-    alloc: Global,
-    jobs: &[JobBindings],
-    lists: &mut LabelLists,
-    r: usize,
-) -> Result<Vec<ListNumbers>, Refusal>
-    requires { HasPlace lists.old 0 r }
-    ensures err { ErrsOnlyByMemory result }
-    ensures grows { OnlyGrows lists.old lists.new }
-    ensures numbers { IfOk result (λ numbers. AreListsOf lists.new r jobs.now numbers.items) }
-{
-    let mut numbers = Vec::with_capacity(alloc, jobs.len())?;
-    for j in 0..jobs.len() {
-        let job = enter_job(alloc, &jobs[j], lists, r)?;
-        numbers.push(job)?;
-    }
-    Ok(numbers)
-}
-
-impl TryCopy for ListNumbers {
-    fn copy(&self, alloc: Global) -> Result<Self, Refusal> {
-        let legs = Vec::from_slice(alloc, self.legs.as_slice())?;
-        Ok(ListNumbers {
-            whole: self.whole,
-            legs: Sequence::new(legs),
-        })
-    }
 }

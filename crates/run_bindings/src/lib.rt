@@ -15,6 +15,8 @@ mod plain_labels;
 pub mod resolved_labels;
 mod run_context;
 mod run_identity;
+mod same;
+mod shared;
 
 pub use bindings::{JobBindings, RunBindings};
 pub use group_keys::{GroupKeys, HolderKey, KnownGroup};
@@ -22,3 +24,4 @@ pub use groups::{BoundFlag, GroupRequest};
 pub use label_numbers::ListNumbers;
 pub use leg_view::LegView;
 pub use resolved_labels::ResolvedLabels;
+pub use shared::Shared;

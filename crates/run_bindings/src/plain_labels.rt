@@ -7,6 +7,7 @@ ghost use Rattle.wf_value.specs.Gives.{ErrsOnlyByMemory};
 ghost use Rattle.wf_value.specs.ScalarValue.{scalar_text};
 ghost use Rattle.run_bindings.specs.PlainLabels.{AreTheTexts};
 
+use label_lists::LabelList;
 use std::alloc::Global;
 use wf_expr::{Piece, Template};
 use wf_value::{Chars, Refusal, Sequence, TryCopy};
@@ -26,10 +27,7 @@ fn plain_text(label: &Template) -> Option<&Chars>
 }
 
 /// The texts of the labels, if each is one plain text.
-pub(crate) fn plain_texts(
-    alloc: Global,
-    labels: &[Template],
-) -> Result<Option<Sequence<Chars>>, Refusal>
+pub(crate) fn plain_texts(alloc: Global, labels: &[Template]) -> Result<Option<LabelList>, Refusal>
     ensures err { ErrsOnlyByMemory result }
     ensures texts { IfOk result (λ found. IfSome found (AreTheTexts labels.now)) }
 {
@@ -40,5 +38,5 @@ pub(crate) fn plain_texts(
             None => return Ok(None),
         }
     }
-    Ok(Some(Sequence::new(texts)))
+    Ok(Some(LabelList::new(Sequence::new(texts))))
 }

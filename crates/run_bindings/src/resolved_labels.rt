@@ -12,16 +12,17 @@ ghost use Rattle.run_bindings.specs.LabelNumbers.{kept_texts};
 ghost use Rattle.run_bindings.specs.declared.resolved_labels.ResolvedLabels.{ResolvedLabels as WantedLabels};
 
 use crate::run_identity::RunIdentity;
+use label_lists::LabelList;
 use run_plan::{Label, MAX_TEXT_BYTES, PlannedJob};
 use std::alloc::Global;
 use wf_expr::{BoundPiece, BoundTemplate, Context, NeedResults, Needs, Template};
-use wf_value::{Chars, Refusal, Sequence, TryCopy};
+use wf_value::{Chars, Refusal, Sequence};
 
 /// The bound labels of a leg.
 #[derive(Drop)]
 pub enum ResolvedLabels {
     /// Their texts, if none depends on the result of a job.
-    Known(Sequence<Chars>),
+    Known(LabelList),
     /// The bound templates, if some depend on results.
     ByResults(Sequence<BoundTemplate>),
 }
@@ -32,14 +33,14 @@ impl ResolvedLabels {
     {
         if are_known(bound.as_slice()) {
             let texts = known_texts(alloc, bound.as_slice())?;
-            Ok(ResolvedLabels::Known(Sequence::new(texts)))
+            Ok(ResolvedLabels::Known(LabelList::new(Sequence::new(texts))))
         } else {
             Ok(ResolvedLabels::ByResults(Sequence::new(bound)))
         }
     }
 
     /// The texts, if none depends on the result of a job.
-    pub(crate) fn kept_texts(&self) -> Option<&Sequence<Chars>>
+    pub(crate) fn kept_texts(&self) -> Option<&LabelList>
         ensures { option_copied result ≡ kept_texts self.now }
     {
         match self {
@@ -59,15 +60,6 @@ impl ResolvedLabels {
                 wanted.as_slice(),
                 results,
             ),
-        }
-    }
-}
-
-impl TryCopy for ResolvedLabels {
-    fn copy(&self, alloc: Global) -> Result<Self, Refusal> {
-        match self {
-            ResolvedLabels::Known(texts) => Ok(ResolvedLabels::Known(texts.copy(alloc)?)),
-            ResolvedLabels::ByResults(bound) => Ok(ResolvedLabels::ByResults(bound.copy(alloc)?)),
         }
     }
 }
@@ -188,7 +180,7 @@ pub(crate) fn bind_labels<'x>(
     identity: &'x RunIdentity<'_>,
     j: usize,
     job: &'x PlannedJob,
-    plain: &Option<Sequence<Chars>>,
+    plain: &Option<LabelList>,
 ) -> Result<Sequence<ResolvedLabels>, Refusal>
     ensures err { ErrsOnlyByMemory result }
     ensures kept { IfOk result (AreKept identity.now j job.now plain.now) }

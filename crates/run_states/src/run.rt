@@ -9,7 +9,7 @@ ghost use Rattle.run_states.specs.Changes.{changed};
 ghost use Rattle.run_states.specs.FirstOf.{changed_at};
 ghost use Rattle.run_states.specs.JobResults.{results_so_far};
 ghost use Rattle.run_states.specs.Resuming.{job_again};
-ghost use Rattle.run_states.specs.NewRun.{again, is_delivered_as, new_run, run_in_attempt};
+ghost use Rattle.run_states.specs.NewRun.{again, new_run, run_in_attempt};
 ghost use Rattle.run_states.specs.Rules.{opened, settled_as, run_in_phase};
 ghost use Rattle.run_states.specs.Settling.{legs_in_plan};
 ghost use Rattle.run_states.specs.Stops.{cancelled, is_open_at};
@@ -23,7 +23,7 @@ use crate::job::Job;
 use crate::leg::Leg;
 use crate::phases::RunPhase;
 use crate::run::needs::{count_needs, settle_among};
-use run_plan::{DeliveryId, Number, PlannedJob, Prepared};
+use run_plan::{Number, PlannedJob, Prepared};
 use std::alloc::Global;
 use std::marker::Model;
 use wf_value::{Condition, JobResult, Refusal, TryCopy, copy_items};
@@ -91,16 +91,17 @@ impl Run {
         &self.prepared
     }
 
+    /// Refers to the copy of the workflow that the other run refers to, if both have the same workflow. Only memory shows it.
+    pub fn share_workflow(&mut self, other: &Run)
+        ensures { self.new ≡ self.old }
+    {
+        self.prepared.share_workflow(&other.prepared);
+    }
+
     pub fn attempt(&self) -> Number
         ensures { result ≡ self.now.attempt }
     {
         self.attempt
-    }
-
-    pub fn is_delivered_as(&self, delivery: &DeliveryId) -> bool
-        ensures { result ≡ is_delivered_as delivery.now self.now }
-    {
-        self.prepared.delivery().as_str() == delivery.as_str()
     }
 
     pub fn phase(&self) -> RunPhase

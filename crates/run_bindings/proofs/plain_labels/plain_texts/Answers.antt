@@ -1,5 +1,5 @@
 use Rattle.std.specs.Prelude.{◌≡◌, ◌++◌, ◌∷◌, []}
-use Rattle.std.proofs.Common.{subst, sym, rules}
+use Rattle.std.proofs.Common.{subst, sym, ◌∙◌, rules}
 use Rattle.run_bindings.specs.PlainLabels.{AreTheTexts}
 use Rattle.run_bindings.proofs.PlainLabels.{all_texts, one_more_text}
 use Rattle.run_bindings.proofs.plain_labels.plain_texts.Goals as goal
@@ -14,5 +14,5 @@ loop-label-preserved c =
 
 pub returns-clause-texts : goal.returns-clause-texts
 returns-clause-texts c =
-    subst (AreTheTexts c.args.labels.now) (sym c.new.ensures)
+    subst (AreTheTexts c.args.labels.now) (sym (c.new-2.ensures ∙ c.new.ensures))
     (all_texts c.args.labels.now c.loop-label.label-index c.loop-label.texts.items c.loop-label-test.false c.loop-label.invariant)

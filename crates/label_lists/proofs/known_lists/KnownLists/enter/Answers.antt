@@ -14,11 +14,11 @@ returns-clause-enters c = enters_twice _ _ _ c.in_ok-number.ensures.enters c.in_
 pub returns-then-not-has_place-clause-none : goal.returns-then-not-has_place-clause-none
 returns-then-not-has_place-clause-none c =
     let number = c.in_ok-number.ensures in
-    none_where_passed c.args.self.now c.number_of.new.self.requesting number.requests c.args.labels c.in_ok-number.number c.args.run number.keeps number.had
+    none_where_passed c.args.self.now c.number_of.new.self.requesting number.requests c.args.labels.now c.in_ok-number.number c.args.run number.keeps number.had
     c.in_ok-has_place.has_place c.if-not-has_place.true c.in_ok-has_place.ensures.refused
 
 pub returns-clause-none : goal.returns-clause-none
 returns-clause-none c =
     let number = c.in_ok-number.ensures in
-    some_where_not c.args.self.now c.number_of.new.self.requesting number.requests c.args.labels c.in_ok-number.number c.args.run number.keeps number.had
+    some_where_not c.args.self.now c.number_of.new.self.requesting number.requests c.args.labels.now c.in_ok-number.number c.args.run number.keeps number.had
     c.in_ok-has_place.has_place c.if-not-has_place.false c.in_ok-has_place.ensures.refused
