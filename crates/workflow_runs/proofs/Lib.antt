@@ -39,8 +39,10 @@ pub mod Seating
 pub mod SeatSteps
 pub mod SeatsInOrder
 mod Shaped
+mod SizesKept
 mod SpentThere
 pub mod StillBound
 pub mod Stored
+mod StoredSizes
 mod Stopping
 mod ToldMore

@@ -24,10 +24,12 @@ use Rattle.run_bindings.specs.declared.bindings.RunBindings.{RunBindings}
 use Rattle.run_bindings.proofs.Binding.{one_more as one_more_bound}
 use Rattle.run_bindings.proofs.BoundSays.{facts_of_run, run_told}
 use Rattle.settling_laws.proofs.GroupStays.{run_facts_stay}
-use Rattle.workflow_runs.specs.Counted.{AreCounted}
+use Rattle.indexmap.specs.IndexMap.{get_by_text}
+use Rattle.workflow_runs.specs.Counted.{AreCounted, count_of}
 use Rattle.workflow_runs.specs.Delivered.{FindsFirst}
 use Rattle.workflow_runs.specs.RowsKept.{RunsAreKept}
 use Rattle.workflow_runs.specs.declared.rows.index.Index.{Index}
+use Rattle.workflow_runs.proofs.Indexed.{finds_the_same}
 use Rattle.workflow_runs.proofs.LegsOffered.{offered_grown, offered_with}
 use Rattle.workflow_runs.proofs.MarkedRuns.{roomier, set_other, written}
 use Rattle.workflow_runs.proofs.RunNumbers.{events_kept, length_kept, number_at, one_more, still_numbered}
@@ -70,15 +72,16 @@ still_kept xs numbers kept index lists active active' r x y offered lt is same a
       offered = offered;
     }
 
--- the same runs, as the code sees them, with another index
-pub kept_in : (xs seen : List RunState) (numbers : List ℕ) (kept : List RunBindings) (old new : Index) (active : List ℕ) → seen ≡ xs
-    → RunsAreKept xs numbers kept old active → FindsFirst (events seen) new.places.places → AreCounted (events seen) new.counts.counts
-    → new.lists ≡ old.lists → RunsAreKept xs numbers kept new active
-kept_in xs seen numbers kept old new active same are found counted lists = record {
+-- the same runs, with another index that finds and counts the same
+pub kept_in : (xs : List RunState) (numbers : List ℕ) (kept : List RunBindings) (old new : Index) (active : List ℕ)
+    → ((d : List ℕ) → get_by_text new.places.places d ≡ get_by_text old.places.places d)
+    → ((event : Admitted) → count_of new.counts.counts event ≡ count_of old.counts.counts event) → new.lists ≡ old.lists
+    → RunsAreKept xs numbers kept old active → RunsAreKept xs numbers kept new active
+kept_in xs numbers kept old new active found counted lists are = record {
   numbered = are.numbered;
   bound = are.bound;
-  found = subst (λ (rs : List RunState). FindsFirst (events rs) new.places.places) same found;
-  counted = subst (λ (rs : List RunState). AreCounted (events rs) new.counts.counts) same counted;
+  found = finds_the_same (events xs) old.places.places new.places.places found are.found;
+  counted = (λ event. counted event ∙ are.counted event);
   active = are.active;
   offered = subst (LegsAreOffered xs kept) (sym lists) are.offered;
 }

@@ -56,22 +56,6 @@ begun_first x kept own many later = record {
     none_below true j = le-ltb j 0 (omega arith)
     none_below false j = refl
 
--- bindings with the same requests and the same keys
-module _ (x : RunState) (was now : RunBindings) (keys : now.keys ≡ was.keys) (own : now.own ≡ was.own) (jobs : now.jobs ≡ was.jobs) where
-  known_same : (b : Bool) (j : ℕ) (legs : List HolderKey) → AreKnownIf b x was j legs → AreKnownIf b x now j legs
-  known_same true j legs is = is ∙ ap (λ (js : List JobBindings). map (decided (results_by_place x)) (requests_of js j)) (sym jobs)
-  known_same false j legs is = subst (λ (js : List JobBindings). AreLater (requests_of js j) legs) (sym jobs) is
-
-  pub begun_same : (n : ℕ) → IsBegunBelow n x was → IsBegunBelow n x now
-  begun_same n begun = record {
-    own = ap (λ (k : KeyState). k.own) keys ∙ begun.own
-        ∙ sym (ap (λ (o : Option GroupRequest). option_map_or (decided (results_by_place x)) o NoGroup) own);
-    as_many = ap (λ (k : KeyState). length k.jobs) keys ∙ begun.as_many ∙ sym (ap (λ (js : List JobBindings). length js) jobs);
-    jobs = (λ j legs at.
-        known_same (has_legs_at x j && nat_lt j n) j legs
-        (begun.jobs j legs (sym (ap (λ (k : KeyState). slice_get k.jobs j) keys) ∙ at)));
-  }
-
 -- a run without legs has begun
 pub begun_without_legs : (x : RunState) (kept : RunBindings) → ((j : ℕ) → has_legs_at x j ≡ false) → IsBegunBelow 0 x kept → IsBegun x kept
 begun_without_legs x kept none begun = record {

@@ -8,3 +8,4 @@ pub mod HolderChanges
 pub mod MarkedRuns
 pub mod RowsKept
 pub mod Seating
+pub mod StoredSizes

@@ -1,7 +1,7 @@
 //! The runs of a table with what is kept of each, and with the marks and indexes by which commands find them. Concurrency groups stand
 //! beside them, in `Runs`.
 
-ghost use Rattle.std.specs.Prelude.{◌≡◌, ◌≤◌, ◌<◌, ◌+◌, [], length, IfOk, IfSome, OnErr, OnOk, option_and_then, option_copied, option_map};
+ghost use Rattle.std.specs.Prelude.{◌≡◌, ◌≤◌, ◌<◌, ◌+◌, ◌*◌, ◌^◌, [], length, sum_by, IfOk, IfSome, OnErr, OnOk, option_and_then, option_copied, option_map};
 ghost use Rattle.std.specs.Prelude.{Ok, Some, false, slice_get, true};
 ghost use Rattle.std.specs.Fmt.{decimal};
 ghost use Rattle.std.specs.List.{position};
@@ -20,10 +20,10 @@ ghost use Rattle.run_states.specs.Changes.{changed};
 ghost use Rattle.run_states.specs.NewRun.{is_delivered_as};
 ghost use Rattle.run_states.specs.Groups.{holds, waits};
 ghost use Rattle.run_states.specs.Places.{job_at, leg_at, run_at, with_run};
-ghost use Rattle.run_states.specs.RunNumber.{events, run_number};
-ghost use Rattle.workflow_runs.specs.Counted.{IsOf};
+ghost use Rattle.run_states.specs.RunNumber.{events, number_of_next, run_number};
 ghost use Rattle.workflow_runs.specs.Begun.{AddsOrStays, IsBegun, IsBegunBelow, has_legs_at};
 ghost use Rattle.workflow_runs.specs.GroupsKept.{arrivals_to_come};
+ghost use Rattle.workflow_runs.specs.StoredSizes.{max_run_size, run_size};
 ghost use Rattle.workflow_runs.specs.RowsKept.{IsUndecided, decided_in, holder_key_at, key_at, keys_decided, keys_spent};
 
 mod active;
@@ -32,10 +32,13 @@ pub(crate) mod index;
 pub(crate) mod offers;
 mod places;
 mod rerun;
+pub(crate) mod sizes;
+pub(crate) mod workflow;
 
-use crate::rows::counts::{Workflow, workflow_of};
 use crate::rows::index::Index;
 use crate::rows::offers::{offer, offer_run};
+use crate::rows::sizes::{run_size, size_added};
+use crate::rows::workflow::Workflow;
 use group_book::Book;
 use group_name::GroupKey;
 use label_lists::LabelLists;
@@ -57,16 +60,19 @@ pub(crate) struct Rows {
     pub(crate) index: Index,
     /// The runs that wait or are live, or have a leg that waits for its group or holds it.
     pub(crate) active: RunBitmap,
+    /// How many bytes the runs have in the text of the table.
+    pub(crate) text: u64,
 }
 
 impl Model for Rows {
     ghost use Rattle.workflow_runs.specs.RowsKept.{RowState, RunsAreKept};
+    ghost use Rattle.workflow_runs.specs.StoredSizes.{IsSizeOf};
 
     ghost Value = { RowState };
 
     ghost view = { λ r. record { runs = r.runs.items; bindings = r.bindings.items } };
 
-    ghost invariant = { λ r. RunsAreKept r.runs.items r.numbers.items r.bindings.items r.index r.active };
+    ghost invariant = { λ r. RunsAreKept r.runs.items r.numbers.items r.bindings.items r.index r.active × IsSizeOf r.runs.items r.text };
 }
 
 impl Rows {
@@ -80,6 +86,7 @@ impl Rows {
             bindings: Vec::new(alloc),
             index: Index::new(alloc),
             active: RunBitmap::new(alloc),
+            text: 0,
         }
     }
 
@@ -88,6 +95,14 @@ impl Rows {
         ensures most { length self.now.runs ≤ max_runs }
     {
         self.runs.as_slice()
+    }
+
+    /// How many bytes the runs have in the text of the table.
+    pub(crate) fn text_size(&self) -> u64
+        ensures size { result ≡ sum_by run_size self.now.runs }
+        ensures most { result ≤ max_runs * max_run_size }
+    {
+        self.text
     }
 
     /// Run `r`.
@@ -110,23 +125,7 @@ impl Rows {
         ensures found { result ≡ position (is_delivered_as delivery.now) self.now.runs }
         ensures most { IfSome result (λ i. i < max_runs) }
     {
-        let place = self.index.places.place(delivery)?;
-        if self.is_delivered_at(place, delivery) {
-            Some(place)
-        } else {
-            None
-        }
-    }
-
-    /// Whether the run at index `place` is of the delivery.
-    fn is_delivered_at(&self, place: usize, delivery: &DeliveryId) -> bool
-        ensures is { result ≡ option_map_or (is_delivered_as delivery.now) (slice_get self.now.runs place) false }
-        ensures within { result ≡ true → place < max_runs }
-    {
-        match self.as_slice().get(place) {
-            Some(run) => run.is_delivered_as(delivery),
-            None => false,
-        }
+        self.index.places.place(delivery)
     }
 
     /// Adds a run at the end, with its number and its bindings, and takes the memory for the arrivals of the run and of its legs. On an
@@ -141,44 +140,56 @@ impl Rows {
         ensures err { ErrsOnlyByMemory result }
         ensures adds { AddsOrStays result run self.old self.new book.old book.new }
     {
-        let found = self.position(run.prepared().delivery());
-        let workflow = workflow_of(alloc, run.prepared())?;
-        self.add_counted(alloc, run, found, workflow, book)
+        let workflow = Workflow::of(run.prepared())?;
+        let coming = self.index.counts.next(&workflow);
+        let run = self.sharing(run, coming.latest);
+        self.add_numbered(alloc, run, workflow, coming.number, coming.latest, book)
     }
 
-    /// Adds a run of this workflow. `found` is the index of an earlier run of its delivery, if there is one.
-    fn add_counted(
+    /// The run, which refers to the copy of its workflow that run `latest` refers to, if they are the same.
+    fn sharing(&self, run: Run, latest: Option<usize>) -> Run
+        ensures { result ≡ run }
+    {
+        let mut run = run;
+        if let Some(latest) = latest_in(&self.runs, latest) {
+            run.share_workflow(latest);
+        }
+        run
+    }
+
+    /// Adds a run of this workflow, which gets this number. What was bound alike for run `latest` is kept once.
+    fn add_numbered(
         &mut self,
         alloc: Global,
         run: Run,
-        found: Option<usize>,
         workflow: Workflow,
+        number: usize,
+        latest: Option<usize>,
         book: &mut Book<Holder>,
     ) -> Result<(), Refusal>
         requires room { length self.old.runs < max_runs }
-        requires found { found ≡ position (is_delivered_as run.admitted.delivery) self.old.runs }
-        requires workflow { IsOf workflow run.admitted }
+        requires workflow { workflow ≡ run.admitted }
+        requires number { number ≡ number_of_next self.old.runs run.admitted }
         ensures err { ErrsOnlyByMemory result }
         ensures adds { AddsOrStays result run self.old self.new book.old book.new }
     {
-        let runs = self.runs.as_slice();
-        let number = self
-            .index
-            .make_room(alloc, runs, run.prepared(), &workflow, found)?;
+        let delivery = self.index.make_room(alloc, run.prepared().delivery())?;
         self.runs.reserve(1)?;
         self.numbers.reserve(1)?;
         self.bindings.reserve(1)?;
         let r = self.runs.len();
         self.active.reserve_up_to(r + 1)?;
         self.index.lists.reserve_up_to(r + 1)?;
-        let bindings = bind(alloc, &run, number, &mut self.index.lists, r)?;
+        let like = latest_in(&self.bindings, latest);
+        let bindings = bind(alloc, &run, number, &mut self.index.lists, r, like)?;
         expect(book, &bindings)?;
+        self.text += run_size(&run);
         offer_run(&mut self.index.lists, &bindings, r, &run);
         self.active.mark(r);
         self.runs.push_reserved(run);
         self.numbers.push_reserved(number);
         self.bindings.push_reserved(bindings);
-        self.index.counts.add(workflow, number);
+        self.index.enter(delivery, workflow, number, r);
         Ok(())
     }
 
@@ -308,7 +319,9 @@ impl Rows {
             offer(&mut self.index.lists, offered, bindings);
             self.active.mark(r);
             let run = &mut self.runs[r];
+            let more = size_added(run, &change);
             run.change(change);
+            self.text += more;
         }
     }
 
@@ -321,8 +334,14 @@ impl Rows {
             bindings: copy_items(alloc, &self.bindings)?,
             index: self.index.copy(alloc)?,
             active: self.active.copy()?,
+            text: self.text,
         })
     }
+}
+
+/// What a list has for run `latest`, if there is one.
+fn latest_in<T>(items: &[T], latest: Option<usize>) -> Option<&T> {
+    items.get(latest?)
 }
 
 fn number_at(numbers: &[usize], r: usize) -> Option<usize>
@@ -334,13 +353,15 @@ fn number_at(numbers: &[usize], r: usize) -> Option<usize>
     }
 }
 
-/// What run `r`, which has this number, and its legs ask for, bound now. The groups of the legs that it has are decided.
+/// What run `r`, which has this number, and its legs ask for, bound now. The groups of the legs that it has are decided. What was bound
+/// alike for `like`, another run, is kept once.
 fn bind(
     alloc: Global,
     run: &Run,
     number: usize,
     lists: &mut LabelLists,
     r: usize,
+    like: Option<&RunBindings>,
 ) -> Result<RunBindings, Refusal>
     requires few { r < max_runs }
     requires place { HasPlace lists.old 0 r }
@@ -355,8 +376,7 @@ fn bind(
     ensures begun { IfOk result (IsBegun run.now) }
     ensures lists { IfOk result (λ bindings. AreListsOf lists.new r bindings.jobs bindings.lists) }
 {
-    let requested = RunBindings::bind(alloc, run, r + 1, number)?;
-    let mut bindings = requested.with_lists(alloc, lists, r)?;
+    let mut bindings = RunBindings::bind(alloc, run, number, lists, r, like)?;
     decide_begun(&mut bindings, run);
     Ok(bindings)
 }
@@ -419,6 +439,7 @@ impl Drop for Rows {
             bindings: _,
             index: _,
             active: _,
+            text: _,
         } = self;
     }
 }

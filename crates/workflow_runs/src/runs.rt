@@ -1,4 +1,4 @@
-ghost use Rattle.std.specs.Prelude.{◌≡◌, ◌≤◌, ◌<◌, ◌∷◌, ◌++◌, [], length, IfSome, OnErr};
+ghost use Rattle.std.specs.Prelude.{◌≡◌, ◌≤◌, ◌<◌, ◌*◌, ◌∷◌, ◌++◌, [], length, sum_by, IfSome, OnErr};
 ghost use Rattle.std.specs.Prelude.{option_map, option_copied, slice_get, Ok, ◌^◌, false, true};
 ghost use Rattle.std.specs.List.{position};
 ghost use Rattle.std.specs.Option.{option_map_or};
@@ -9,6 +9,7 @@ ghost use Rattle.run_states.specs.NewRun.{is_delivered_as};
 ghost use Rattle.run_states.specs.Parallel.{most_at_work};
 ghost use Rattle.run_states.specs.Places.{job_at, leg_at, plan_at, run_at};
 ghost use Rattle.run_states.specs.RunNumber.{events, run_number};
+ghost use Rattle.workflow_runs.specs.StoredSizes.{max_run_size, run_size};
 ghost use Rattle.run_states.specs.Words.{combo_at, job_id};
 
 mod arrivals;
@@ -74,6 +75,14 @@ impl Runs {
         ensures most { length self.now ≤ max_runs }
     {
         self.rows.as_slice()
+    }
+
+    /// How many bytes the runs have in the text of a table.
+    pub fn text_size(&self) -> u64
+        ensures size { result ≡ sum_by run_size self.now }
+        ensures most { result ≤ max_runs * max_run_size }
+    {
+        self.rows.text_size()
     }
 
     /// Run `r`.

@@ -1,23 +1,36 @@
 //! How many runs there are of each workflow, so that the number of the next run is known without a scan of the runs.
 
-ghost use Rattle.std.specs.Prelude.{◌≡◌, ◌+◌, IfOk, Ok, OnOk, false, if◌then◌else◌, string_bytes, true};
-ghost use Rattle.wf_value.specs.Gives.{ErrsOnlyByMemory, Gives};
+ghost use Rattle.std.specs.Prelude.{◌≡◌, ◌<◌, ◌+◌, IfOk, OnOk, if◌then◌else◌};
+ghost use Rattle.stated_limits.specs.Limits.{max_runs};
+ghost use Rattle.indexmap.specs.IndexMap.{spare};
+ghost use Rattle.wf_value.specs.Gives.{ErrsOnlyByMemory};
 ghost use Rattle.run_plan.specs.Admitted.{Admitted};
 ghost use Rattle.run_states.specs.RunNumber.{same_workflow};
-ghost use Rattle.workflow_runs.specs.Counted.{IsOf, count_of, has_count, is_counted, texts_of};
+ghost use Rattle.workflow_runs.specs.Counted.{count_of};
 
-use run_plan::Prepared;
+use crate::rows::workflow::Workflow;
+use indexmap::IndexMap;
 use std::alloc::Global;
-use std::collections::BTreeMap;
-use wf_value::{Chars, Refusal};
+use wf_value::Refusal;
 
-/// A workflow: its repository, and its path within it.
-pub type Workflow = (String, String);
+/// How many runs a workflow has so far, and the index of the latest. No contract mentions the index.
+#[derive(Clone, Copy)]
+pub(crate) struct Counted {
+    pub runs: usize,
+    pub latest: usize,
+}
+
+/// The number of the next run of a workflow, and the index of the latest, if it has one. No contract mentions the index.
+#[derive(Drop)]
+pub(crate) struct NextRun {
+    pub number: usize,
+    pub latest: Option<usize>,
+}
 
 /// The number of runs so far, by workflow.
 #[derive(Drop)]
 pub(crate) struct Counts {
-    pub counts: BTreeMap<Workflow, usize>,
+    pub counts: IndexMap<Workflow, Counted>,
 }
 
 impl Counts {
@@ -25,41 +38,34 @@ impl Counts {
         ensures { (event : Admitted) → count_of result.counts event ≡ 0 }
     {
         Counts {
-            counts: BTreeMap::new(alloc),
+            counts: IndexMap::new(alloc),
         }
     }
 
-    /// How many runs the workflow has.
-    pub(crate) fn count(&self, workflow: &Workflow) -> usize
-        ensures { (event : Admitted) → IsOf workflow.now event → result ≡ count_of self.now.counts event }
+    /// What the next run of the workflow is.
+    pub(crate) fn next(&self, workflow: &Workflow) -> NextRun
+        requires { count_of self.now.counts workflow.now < max_runs }
+        ensures { result.number ≡ count_of self.now.counts workflow.now + 1 }
     {
         match self.counts.get(workflow) {
-            Some(count) => *count,
-            None => 0,
+            Some(counted) => NextRun {
+                number: counted.runs + 1,
+                latest: Some(counted.latest),
+            },
+            None => NextRun {
+                number: 1,
+                latest: None,
+            },
         }
     }
 
-    /// Reserves an entry for the workflow, so that counting its next run takes no memory.
-    pub(crate) fn make_room(&mut self, alloc: Global, workflow: &Workflow) -> Result<(), Refusal>
+    /// Reserves memory, so that counting one more run takes none.
+    pub(crate) fn make_room(&mut self) -> Result<(), Refusal>
         ensures err { ErrsOnlyByMemory result }
         ensures same { (event : Admitted) → count_of self.new.counts event ≡ count_of self.old.counts event }
-        ensures room { OnOk result ((event : Admitted) → IsOf workflow.now event → is_counted self.new.counts event ≡ true) }
+        ensures room { OnOk result (0 < spare self.new.counts) }
     {
-        match self.counts.get(workflow) {
-            Some(_) => Ok(()),
-            None => self.begin(alloc, workflow),
-        }
-    }
-
-    /// Enters a workflow with the count 0.
-    fn begin(&mut self, alloc: Global, workflow: &Workflow) -> Result<(), Refusal>
-        requires { has_count self.old.counts workflow.now ≡ false }
-        ensures err { ErrsOnlyByMemory result }
-        ensures same { (event : Admitted) → count_of self.new.counts event ≡ count_of self.old.counts event }
-        ensures room { OnOk result ((event : Admitted) → IsOf workflow.now event → is_counted self.new.counts event ≡ true) }
-    {
-        let copy = copy_of(alloc, workflow)?;
-        self.counts.insert(copy, 0)?;
+        self.counts.reserve(1)?;
         Ok(())
     }
 
@@ -73,42 +79,19 @@ impl Counts {
         })
     }
 
-    /// Counts a run of the workflow, which has an entry.
-    pub(crate) fn add(&mut self, workflow: Workflow, number: usize)
-        requires { (event : Admitted) × IsOf workflow event × (is_counted self.old.counts event ≡ true) }
-        ensures counted { (run event : Admitted) → IsOf workflow run → number ≡ count_of self.old.counts run + 1
-            → count_of self.new.counts event
-            ≡ (if same_workflow event run then count_of self.old.counts event + 1 else count_of self.old.counts event) }
+    /// Counts a run of the workflow: that with this number, at index `r`.
+    pub(crate) fn add(&mut self, workflow: Workflow, number: usize, r: usize)
+        requires { 0 < spare self.old.counts }
+        ensures { (event : Admitted) → count_of self.new.counts event
+            ≡ (if same_workflow workflow event then number else count_of self.old.counts event) }
     {
-        match self.counts.insert(workflow, number) {
+        let counted = Counted {
+            runs: number,
+            latest: r,
+        };
+        match self.counts.insert(workflow, counted) {
             Ok(_) => {}
             Err(_) => unreachable!(),
         }
     }
-}
-
-fn copy_of(alloc: Global, workflow: &Workflow) -> Result<Workflow, Refusal>
-    ensures err { ErrsOnlyByMemory result }
-    ensures same { IfOk result (λ copy. texts_of copy ≡ texts_of workflow.now) }
-{
-    let repo = string_of(alloc, workflow.0.as_str())?;
-    let path = string_of(alloc, workflow.1.as_str())?;
-    Ok((repo, path))
-}
-
-/// The workflow of an event.
-pub(crate) fn workflow_of(alloc: Global, prepared: &Prepared) -> Result<Workflow, Refusal>
-    ensures err { ErrsOnlyByMemory result }
-    ensures is { IfOk result (λ workflow. IsOf workflow prepared.now) }
-{
-    let repo = string_of(alloc, prepared.repo().as_str())?;
-    let path = string_of(alloc, prepared.path().as_str())?;
-    Ok((repo, path))
-}
-
-/// A copy of a text.
-pub(crate) fn string_of(alloc: Global, text: &str) -> Result<String, Refusal>
-    ensures { Gives string_bytes result (Ok text.now) }
-{
-    Ok(Chars::from_str(alloc, text)?.into_string())
 }

@@ -1,26 +1,22 @@
 //! The index of a table's runs.
 
-ghost use Rattle.std.specs.List.{position};
-ghost use Rattle.std.specs.Prelude.{◌≡◌, ◌+◌, ◌<◌, ◌&&◌, ◌∷◌, ◌++◌, ℕ, [], IfOk, List, OnErr, OnOk, Some, if◌then◌else◌, is_none};
-ghost use Rattle.std.specs.Prelude.{length, true};
+ghost use Rattle.std.specs.Prelude.{◌≡◌, ◌<◌, ℕ, [], IfOk, List, Ok, OnOk, Some, if◌then◌else◌, string_bytes, unwrap_or};
 ghost use Rattle.std.specs.Str.{bytes_eq};
-ghost use Rattle.stated_limits.specs.Limits.{max_runs};
-ghost use Rattle.indexmap.specs.IndexMap.{get_by_text};
-ghost use Rattle.wf_value.specs.Gives.{ErrsOnlyByMemory};
+ghost use Rattle.indexmap.specs.IndexMap.{get_by_text, spare};
+ghost use Rattle.wf_value.specs.Gives.{ErrsOnlyByMemory, Gives};
 ghost use Rattle.run_plan.specs.Admitted.{Admitted};
-ghost use Rattle.run_states.specs.NewRun.{is_delivered_as};
-ghost use Rattle.run_states.specs.RunNumber.{events, number_of_next};
+ghost use Rattle.run_states.specs.RunNumber.{same_workflow};
 ghost use Rattle.run_bindings.specs.LabelNumbers.{LegsAreOffered};
-ghost use Rattle.workflow_runs.specs.Counted.{AreCounted, IsOf, count_of, is_counted};
+ghost use Rattle.workflow_runs.specs.Counted.{AreCounted, count_of};
 ghost use Rattle.workflow_runs.specs.Delivered.{FindsFirst};
 
-use crate::rows::counts::{Counts, Workflow};
+use crate::rows::counts::Counts;
 use crate::rows::places::DeliveryPlaces;
+use crate::rows::workflow::Workflow;
 use label_lists::LabelLists;
-use run_plan::Prepared;
-use run_states::Run;
+use run_plan::DeliveryId;
 use std::alloc::Global;
-use wf_value::Refusal;
+use wf_value::{Chars, Refusal};
 
 /// The index of the first run of each delivery, the number of runs of each workflow, and the runs that may have a ready leg for a list of
 /// labels.
@@ -45,57 +41,37 @@ impl Index {
         }
     }
 
-    /// Takes the memory for one more run at the end, for an event of this workflow, and returns the run's number. The run's index is kept
-    /// for its delivery, unless an earlier run of that delivery was found. `Counts::add` counts the run once it is added.
+    /// Takes the memory for one more run: that of its index and its count, and a copy of its delivery, which it returns.
     pub(crate) fn make_room(
         &mut self,
         alloc: Global,
-        runs: &[Run],
-        event: &Prepared,
-        workflow: &Workflow,
-        found: Option<usize>,
-    ) -> Result<usize, Refusal>
-        requires few { length runs.now < max_runs }
-        requires found { found ≡ position (is_delivered_as event.now.delivery) runs.now }
-        requires workflow { IsOf workflow.now event.now }
-        requires finds { FindsFirst (events runs.now) self.old.places.places }
-        requires counted { AreCounted (events runs.now) self.old.counts.counts }
+        delivery: &DeliveryId,
+    ) -> Result<String, Refusal>
         ensures err { ErrsOnlyByMemory result }
-        ensures number { IfOk result (λ number. number ≡ number_of_next runs.now event.now) }
-        ensures finds { FindsFirst (events runs.now) self.new.places.places }
-        ensures counted { AreCounted (events runs.now) self.new.counts.counts }
-        ensures one_more { OnOk result (FindsFirst (events runs.now ++ event.now ∷ []) self.new.places.places) }
-        ensures room { OnOk result (is_counted self.new.counts.counts event.now ≡ true) }
+        ensures copy { IfOk result (λ copy. string_bytes copy ≡ delivery.now) }
+        ensures found { (other : List ℕ) → get_by_text self.new.places.places other ≡ get_by_text self.old.places.places other }
+        ensures counted { (event : Admitted) → count_of self.new.counts.counts event ≡ count_of self.old.counts.counts event }
         ensures lists { self.new.lists ≡ self.old.lists }
+        ensures room { OnOk result ((0 < spare self.new.places.places) × (0 < spare self.new.counts.counts)) }
     {
-        self.take_memory(alloc, event, workflow, runs.len(), found)
+        self.places.make_room()?;
+        self.counts.make_room()?;
+        string_of(alloc, delivery.as_str())
     }
 
-    /// Takes that memory for a run that is to be at index `place`, and returns its number.
-    fn take_memory(
-        &mut self,
-        alloc: Global,
-        event: &Prepared,
-        workflow: &Workflow,
-        place: usize,
-        found: Option<usize>,
-    ) -> Result<usize, Refusal>
-        requires few { count_of self.old.counts.counts event.now < max_runs }
-        requires workflow { IsOf workflow.now event.now }
-        ensures err { ErrsOnlyByMemory result }
-        ensures number { IfOk result (λ number. number ≡ count_of self.old.counts.counts event.now + 1) }
-        ensures kept { OnOk result ((other : List ℕ) → get_by_text self.new.places.places other
-            ≡ (if is_none found && bytes_eq event.now.delivery other then Some place else get_by_text self.old.places.places other)) }
-        ensures same { OnErr result ((other : List ℕ)
-            → get_by_text self.new.places.places other ≡ get_by_text self.old.places.places other) }
-        ensures uncounted { (other : Admitted) → count_of self.new.counts.counts other ≡ count_of self.old.counts.counts other }
-        ensures room { OnOk result (is_counted self.new.counts.counts event.now ≡ true) }
+    /// Enters a run of this delivery and workflow: that at index `r`, with this number. An earlier run of the delivery is found as before.
+    pub(crate) fn enter(&mut self, delivery: String, workflow: Workflow, number: usize, r: usize)
+        requires places { 0 < spare self.old.places.places }
+        requires counts { 0 < spare self.old.counts.counts }
+        ensures found { (other : List ℕ) → get_by_text self.new.places.places other
+            ≡ (if bytes_eq (string_bytes delivery) other then Some (unwrap_or (get_by_text self.old.places.places other) r)
+            else get_by_text self.old.places.places other) }
+        ensures counted { (event : Admitted) → count_of self.new.counts.counts event
+            ≡ (if same_workflow workflow event then number else count_of self.old.counts.counts event) }
         ensures lists { self.new.lists ≡ self.old.lists }
     {
-        let number = self.counts.count(workflow) + 1;
-        self.counts.make_room(alloc, workflow)?;
-        self.places.keep(alloc, event.delivery(), place, found)?;
-        Ok(number)
+        self.places.keep(delivery, r);
+        self.counts.add(workflow, number, r);
     }
 
     /// A copy of the index.
@@ -113,4 +89,11 @@ impl Index {
             lists: self.lists.copy(alloc)?,
         })
     }
+}
+
+/// A copy of a text.
+fn string_of(alloc: Global, text: &str) -> Result<String, Refusal>
+    ensures { Gives string_bytes result (Ok text.now) }
+{
+    Ok(Chars::from_str(alloc, text)?.into_string())
 }

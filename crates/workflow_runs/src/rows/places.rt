@@ -1,18 +1,16 @@
 //! The index of the first run of each delivery, so that a repeated delivery is found without a scan of the runs.
 
-ghost use Rattle.std.specs.Prelude.{◌≡◌, ◌&&◌, ℕ, IfOk, List, None, OnErr, OnOk, Some, if◌then◌else◌, is_none};
+ghost use Rattle.std.specs.Prelude.{◌≡◌, ◌<◌, ℕ, IfOk, List, None, OnOk, Some, if◌then◌else◌, string_bytes, unwrap_or};
 ghost use Rattle.std.specs.Str.{bytes_eq};
-ghost use Rattle.indexmap.specs.IndexMap.{get_by_text};
+ghost use Rattle.indexmap.specs.IndexMap.{get_by_text, spare};
 ghost use Rattle.wf_value.specs.Gives.{ErrsOnlyByMemory};
 
-use crate::rows::counts::string_of;
 use indexmap::IndexMap;
 use run_plan::DeliveryId;
 use std::alloc::Global;
 use wf_value::Refusal;
 
-/// An index for each delivery. It may be kept for a run that could not be added, so callers check that the run at the index is of the
-/// delivery.
+/// The index of the first run of each delivery.
 #[derive(Drop)]
 pub(crate) struct DeliveryPlaces {
     pub places: IndexMap<String, usize>,
@@ -37,34 +35,29 @@ impl DeliveryPlaces {
         }
     }
 
-    /// Keeps the index for a delivery, unless its run was found before.
-    pub(crate) fn keep(
-        &mut self,
-        alloc: Global,
-        delivery: &DeliveryId,
-        place: usize,
-        found: Option<usize>,
-    ) -> Result<(), Refusal>
+    /// Reserves memory, so that keeping one more index takes none.
+    pub(crate) fn make_room(&mut self) -> Result<(), Refusal>
         ensures err { ErrsOnlyByMemory result }
-        ensures kept { OnOk result ((other : List ℕ) → get_by_text self.new.places other
-            ≡ (if is_none found && bytes_eq delivery.now other then Some place else get_by_text self.old.places other)) }
-        ensures same { OnErr result ((other : List ℕ) → get_by_text self.new.places other ≡ get_by_text self.old.places other) }
+        ensures same { (delivery : List ℕ) → get_by_text self.new.places delivery ≡ get_by_text self.old.places delivery }
+        ensures room { OnOk result (0 < spare self.new.places) }
     {
-        match found {
-            Some(_) => Ok(()),
-            None => self.put(alloc, delivery, place),
-        }
+        self.places.reserve(1)?;
+        Ok(())
     }
 
-    fn put(&mut self, alloc: Global, delivery: &DeliveryId, place: usize) -> Result<(), Refusal>
-        ensures err { ErrsOnlyByMemory result }
-        ensures put { OnOk result ((other : List ℕ) → get_by_text self.new.places other
-            ≡ (if bytes_eq delivery.now other then Some place else get_by_text self.old.places other)) }
-        ensures same { OnErr result ((other : List ℕ) → get_by_text self.new.places other ≡ get_by_text self.old.places other) }
+    /// Keeps the index for a delivery, unless one is kept for it already.
+    pub(crate) fn keep(&mut self, delivery: String, place: usize)
+        requires { 0 < spare self.old.places }
+        ensures { (other : List ℕ) → get_by_text self.new.places other
+            ≡ (if bytes_eq (string_bytes delivery) other then Some (unwrap_or (get_by_text self.old.places other) place)
+            else get_by_text self.old.places other) }
     {
-        let key = string_of(alloc, delivery.as_str())?;
-        self.places.insert(key, place)?;
-        Ok(())
+        match self.places.entry(delivery) {
+            Ok(entry) => {
+                entry.or_insert(place);
+            }
+            Err(_) => unreachable!(),
+        }
     }
 
     /// A copy of the indices.

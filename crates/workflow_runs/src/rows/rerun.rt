@@ -1,18 +1,17 @@
 //! Re-runs: a run begins again in its next attempt. GitHub Docs, "Re-running workflows and jobs".
 
 ghost use Rattle.std.specs.Prelude.{◌≡◌, ◌≤◌, ◌+◌, ◌<◌, IfOk, IfSome, Ok, OnErr, OnOk, Some, option_map, slice_set, vec_len};
-ghost use Rattle.std.specs.Fmt.{decimal};
 ghost use Rattle.stated_limits.specs.Limits.{last_attempt};
 ghost use Rattle.wf_value.specs.Gives.{ErrsOnlyByMemory, Gives};
 ghost use Rattle.run_states.specs.NewRun.{again};
 ghost use Rattle.run_states.specs.Places.{run_at, with_run};
 ghost use Rattle.run_states.specs.RunNumber.{events, run_number};
-ghost use Rattle.run_bindings.specs.Bindings.{RunSays};
 ghost use Rattle.run_bindings.specs.GroupKeys.{arrivals_of};
-ghost use Rattle.workflow_runs.specs.Begun.{HaveTickets, IsBegunBelow};
+ghost use Rattle.workflow_runs.specs.Begun.{HaveTickets};
 ghost use Rattle.workflow_runs.specs.GroupsKept.{AreTold, arrivals_to_come};
 
 use crate::rows::offers::offer_run;
+use crate::rows::sizes::run_size;
 use crate::rows::{Rows, expect};
 use group_book::Book;
 use run_bindings::RunBindings;
@@ -22,7 +21,8 @@ use wf_value::Refusal;
 
 impl Rows {
     /// Puts run `r`, if there is one, into its next attempt: it waits, all its jobs are blocked, and its templates are bound again. All
-    /// memory is taken first, so on an `Err` nothing has changed. What was taken for arrivals of the attempt before is let go of.
+    /// memory is taken first, so on an `Err` nothing has changed. What was taken for arrivals of the attempt before is let go of. What is bound
+    /// as in the attempt before is kept once.
     pub(crate) fn rerun(
         &mut self,
         alloc: Global,
@@ -39,29 +39,23 @@ impl Rows {
         ensures expected { arrivals_to_come self.new.bindings ≤ book.new.expected }
     {
         match self.next_attempt(alloc, r)? {
-            Some((next, requested)) => self.put_again(alloc, r, next, requested, book),
+            Some((next, number)) => self.put_again(alloc, r, next, number, book),
             None => Ok(()),
         }
     }
 
-    /// Replaces run `r` by its next attempt, with these bindings.
+    /// Replaces run `r`, which has this number, by its next attempt.
     fn put_again(
         &mut self,
         alloc: Global,
         r: usize,
         next: Run,
-        requested: RunBindings,
+        number: usize,
         book: &mut Book<Holder>,
     ) -> Result<(), Refusal>
         requires expected { arrivals_to_come self.old.bindings ≤ book.old.expected }
         requires next { Some next ≡ option_map again (run_at self.old.runs r) }
-        requires says { RunSays (record {
-          event = next.admitted;
-          run_id = decimal (r + 1);
-          run_number = decimal (run_number (events self.old.runs) r next.admitted);
-          run_attempt = decimal next.attempt;
-        }) requested }
-        requires begun { IsBegunBelow 0 next requested }
+        requires number { number ≡ run_number (events self.old.runs) r next.admitted }
         ensures again { Gives (λ _. self.new.runs) result (Ok (with_run r again self.old.runs)) }
         ensures err { OnErr result (self.new ≡ self.old) }
         ensures entries { book.new.entries ≡ book.old.entries }
@@ -70,28 +64,27 @@ impl Rows {
         ensures expected { arrivals_to_come self.new.bindings ≤ book.new.expected }
     {
         self.index.lists.reserve_up_to(r + 1)?;
-        let bindings = requested.with_lists(alloc, &mut self.index.lists, r)?;
+        let like = self.bindings.get(r);
+        let bindings = RunBindings::bind(alloc, &next, number, &mut self.index.lists, r, like)?;
         expect(book, &bindings)?;
         forgo(book, &self.bindings[r]);
         offer_run(&mut self.index.lists, &bindings, r, &next);
         self.active.mark(r);
+        let was = &self.runs[r];
+        let before = run_size(was);
+        let after = run_size(&next);
+        self.text = self.text - before + after;
         put_at(&mut self.runs, r, next);
         put_at(&mut self.bindings, r, bindings);
         Ok(())
     }
 
-    /// The next attempt of run `r`, with its bindings.
-    fn next_attempt(&self, alloc: Global, r: usize) -> Result<Option<(Run, RunBindings)>, Refusal>
+    /// The next attempt of run `r`, with the run's number.
+    fn next_attempt(&self, alloc: Global, r: usize) -> Result<Option<(Run, usize)>, Refusal>
         requires { IfSome (run_at self.now.runs r) (λ run. run.attempt < last_attempt) }
         ensures err { ErrsOnlyByMemory result }
         ensures next { IfOk result (λ found. option_map (λ it. it.0) found ≡ option_map again (run_at self.now.runs r)) }
-        ensures says { IfOk result (λ found. IfSome found (λ it. RunSays (record {
-          event = it.0.admitted;
-          run_id = decimal (r + 1);
-          run_number = decimal (run_number (events self.now.runs) r it.0.admitted);
-          run_attempt = decimal it.0.attempt;
-        }) it.1)) }
-        ensures begun { IfOk result (λ found. IfSome found (λ it. IsBegunBelow 0 it.0 it.1)) }
+        ensures number { IfOk result (λ found. IfSome found (λ it. it.1 ≡ run_number (events self.now.runs) r it.0.admitted)) }
     {
         let Some(run) = self.run(r) else {
             return Ok(None);
@@ -100,8 +93,7 @@ impl Rows {
             return Ok(None);
         };
         let next = run.again(alloc)?;
-        let requested = RunBindings::bind(alloc, &next, r + 1, number)?;
-        Ok(Some((next, requested)))
+        Ok(Some((next, number)))
     }
 }
 

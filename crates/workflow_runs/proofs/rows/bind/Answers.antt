@@ -2,15 +2,12 @@ use Rattle.std.proofs.Common.{◌+◌}
 use Rattle.std.specs.Fmt.{decimal}
 use Rattle.run_states.specs.GroupOf.{RunFacts}
 use Rattle.workflow_runs.proofs.StillBound.{SameButKeys, lists_still, says_still}
-use Rattle.workflow_runs.proofs.ToldMore.{begun_first, begun_same}
+use Rattle.workflow_runs.proofs.ToldMore.{begun_first}
 use Rattle.workflow_runs.proofs.rows.bind.Goals as goal
 
 pub decide_begun-requires : goal.decide_begun-requires
 decide_begun-requires c =
-    let asked = c.in_ok-requested.requested in
-    begun_same c.args.run.now asked c.in_ok-bindings.bindings c.in_ok-bindings.ensures.keys c.in_ok-bindings.ensures.own
-    c.in_ok-bindings.ensures.jobs 0
-    (begun_first c.args.run.now asked c.in_ok-requested.ensures.own c.in_ok-requested.ensures.as_many c.in_ok-requested.ensures.later)
+    begun_first c.args.run.now c.in_ok-bindings.bindings c.in_ok-bindings.ensures.own c.in_ok-bindings.ensures.as_many c.in_ok-bindings.ensures.later
 
 pub returns-clause-says : goal.returns-clause-says
 returns-clause-says c =
@@ -22,10 +19,10 @@ returns-clause-says c =
     } in
     let same : SameButKeys c.in_ok-bindings.bindings c.decide_begun.new.bindings =
     record { own = c.decide_begun.ensures.own; jobs = c.decide_begun.ensures.jobs; lists = c.decide_begun.ensures.lists } in
-    says_still facts c.in_ok-bindings.bindings c.decide_begun.new.bindings same (c.in_ok-bindings.ensures.says facts c.in_ok-requested.ensures.says)
+    says_still facts c.in_ok-bindings.bindings c.decide_begun.new.bindings same c.in_ok-bindings.ensures.says
 
 pub returns-clause-lists : goal.returns-clause-lists
 returns-clause-lists c =
     let same : SameButKeys c.in_ok-bindings.bindings c.decide_begun.new.bindings =
     record { own = c.decide_begun.ensures.own; jobs = c.decide_begun.ensures.jobs; lists = c.decide_begun.ensures.lists } in
-    lists_still c.with_lists.new.lists c.args.r c.in_ok-bindings.bindings c.decide_begun.new.bindings same c.in_ok-bindings.ensures.lists
+    lists_still c.bind.new.lists c.args.r c.in_ok-bindings.bindings c.decide_begun.new.bindings same c.in_ok-bindings.ensures.lists

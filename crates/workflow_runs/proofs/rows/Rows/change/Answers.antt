@@ -12,6 +12,7 @@ use Rattle.workflow_runs.specs.RowsKept.{RowState}
 use Rattle.workflow_runs.proofs.LegsOffered.{has_place, offered_after}
 use Rattle.workflow_runs.proofs.ReadyBefore.{ready_before}
 use Rattle.workflow_runs.proofs.StillBound.{still_kept}
+use Rattle.workflow_runs.proofs.SizesKept.{change_fits, size_changed}
 use Rattle.workflow_runs.proofs.rows.Rows.change.Goals as goal
 
 pub invariant_of-self : goal.invariant_of-self
@@ -27,7 +28,7 @@ invariant_of-self c =
     let is_next : slice_set items r new ≡ next =
     changed_within (changed change) items r old new within c.index_mut-run.ensures.value c.change.ensures in
     let requested_at : slice_get bindings r ≡ Some c.index-bindings.result.now =
-    slice_get_read bindings (length bindings) r c.index-bindings.result.now refl (omega (arith, within, c.self.invariant.bound.as_many))
+    slice_get_read bindings (length bindings) r c.index-bindings.result.now refl (omega (arith, within, c.self.invariant.0.bound.as_many))
     c.index-bindings.ensures in
     let was = c.self.inside.index.lists in
     let lists = c.offer.new.lists in
@@ -36,15 +37,28 @@ invariant_of-self c =
     let offered : LegsAreOffered (slice_set items r new) bindings lists =
     offered_after items (slice_set items r new) bindings was lists r change c.index-bindings.result.now requested_at
     (λ p ready. ready_before items r change p (subst (λ (rs : List RunState). IsReadyAt rs p) is_next ready)) one c.offer.ensures.others
-    c.self.invariant.offered in
-    still_kept items c.self.inside.numbers.items bindings c.self.inside.index lists c.self.inside.active c.mark.new.self r old new offered within
-    c.index_mut-run.ensures.value
-    (ap (λ (x : RunState). x.admitted) c.change.ensures ∙ changed_admitted change old)
-    (ap (λ (x : RunState). x.attempt) c.change.ensures ∙ changed_attempt change old) c.mark.ensures.keeps c.mark.ensures.puts c.self.invariant
+    c.self.invariant.0.offered in (
+      still_kept items c.self.inside.numbers.items bindings c.self.inside.index lists c.self.inside.active c.mark.new.self r old new offered within
+          c.index_mut-run.ensures.value
+          (ap (λ (x : RunState). x.admitted) c.change.ensures ∙ changed_admitted change old)
+          (ap (λ (x : RunState). x.attempt) c.change.ensures ∙ changed_attempt change old) c.mark.ensures.keeps c.mark.ensures.puts c.self.invariant.0,
+      size_changed items r old new change c.self.inside.text c.size_added-more.result within c.index_mut-run.ensures.value c.change.ensures
+          c.size_added-more.ensures c.self.invariant.1,
+    )
+
+pub overflow_add-self : goal.overflow_add-self
+overflow_add-self c =
+    let items = c.self.inside.runs.items in
+    let within : c.args.r < length items = search rules in
+    omega (
+      arith,
+      change_fits items c.args.r c.index_mut-run.result.now c.change.new.self c.args.change c.self.inside.text c.size_added-more.result within
+          c.index_mut-run.ensures.value c.change.ensures c.size_added-more.ensures c.self.invariant.1 c.self.invariant.0.numbered.few,
+    )
 
 pub mark-requires : goal.mark-requires
 mark-requires c =
-    let within : c.args.r < length c.self.inside.runs.items = search rules in omega (arith, within, c.self.invariant.active.covers)
+    let within : c.args.r < length c.self.inside.runs.items = search rules in omega (arith, within, c.self.invariant.0.active.covers)
 
 pub offer-requires : goal.offer-requires
 offer-requires c =
@@ -53,7 +67,7 @@ offer-requires c =
     let requested_at : slice_get bindings r ≡ Some c.index-bindings.result.now =
     slice_get_read bindings (length bindings) r c.index-bindings.result.now refl (search rules) c.index-bindings.ensures in
     has_place c.self.inside.index.lists r c.args.change c.index-bindings.result.now
-    (c.self.invariant.offered.numbers r c.index-bindings.result.now requested_at) c.offered-offered.result c.offered-offered.ensures
+    (c.self.invariant.0.offered.numbers r c.index-bindings.result.now requested_at) c.offered-offered.result c.offered-offered.ensures
 
 pub returns-then-r-len-clause-runs : goal.returns-then-r-len-clause-runs
 returns-then-r-len-clause-runs c =

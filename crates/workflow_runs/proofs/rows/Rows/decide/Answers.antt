@@ -23,12 +23,14 @@ invariant_of-self c =
     let change : RunBindings → RunBindings = decided_in c.args.j c.index.result.now in
     let within : r < length bindings = search rules in
     let is : slice_set bindings r new ≡ changed_at r change bindings =
-    changed_within change bindings r old new within c.index_mut-bindings.ensures.value c.decide_job.ensures.decided in
-    subst (λ (bs : List RunBindings). RunsAreKept c.self.inside.runs.items c.self.inside.numbers.items bs c.self.inside.index c.self.inside.active)
-    (sym is)
-    (kept_rekeyed c.self.inside.runs.items c.self.inside.numbers.items bindings (changed_at r change bindings) c.self.inside.index
-    c.self.inside.active (length-changed_at r change bindings)
-    (one_rekeyed r change bindings (λ b. record { own = refl; jobs = refl; lists = refl })) c.self.invariant)
+    changed_within change bindings r old new within c.index_mut-bindings.ensures.value c.decide_job.ensures.decided in (
+      subst (λ (bs : List RunBindings). RunsAreKept c.self.inside.runs.items c.self.inside.numbers.items bs c.self.inside.index c.self.inside.active)
+          (sym is)
+          (kept_rekeyed c.self.inside.runs.items c.self.inside.numbers.items bindings (changed_at r change bindings) c.self.inside.index
+          c.self.inside.active (length-changed_at r change bindings)
+          (one_rekeyed r change bindings (λ b. record { own = refl; jobs = refl; lists = refl })) c.self.invariant.0),
+      c.self.invariant.1,
+    )
 
 pub returns-then-r-len-clause-decided : goal.returns-then-r-len-clause-decided
 returns-then-r-len-clause-decided c =
@@ -40,7 +42,7 @@ returns-then-r-len-clause-decided c =
     let within : r < length runs = search rules in
     let at : slice_get runs r ≡ Some run = slice_get_read runs (length runs) r run refl within c.index.ensures in
     changed_within (decided_in j run) bindings r c.index_mut-bindings.result.now c.decide_job.new.bindings
-    (omega (arith, within, c.self.invariant.bound.as_many)) c.index_mut-bindings.ensures.value c.decide_job.ensures.decided
+    (omega (arith, within, c.self.invariant.0.bound.as_many)) c.index_mut-bindings.ensures.value c.decide_job.ensures.decided
     ∙ sym (ap (λ (o : Option RunState). option_map_or (λ (x : RunState). changed_at r (decided_in j x) bindings) o bindings) at)
     ∙ ap (λ (rows : RowState). keys_decided r j rows.runs rows.bindings) c.self.view_is
 
@@ -51,7 +53,7 @@ returns-then-r-len-clause-without c =
     let old = c.index_mut-bindings.result.now in
     let within : r < length c.self.inside.runs.items = search rules in
     let at : slice_get bindings r ≡ Some old =
-    slice_get_read bindings (length bindings) r old refl (omega (arith, within, c.self.invariant.bound.as_many)) c.index_mut-bindings.ensures.value in
+    slice_get_read bindings (length bindings) r old refl (omega (arith, within, c.self.invariant.0.bound.as_many)) c.index_mut-bindings.ensures.value in
     fewer_to_come bindings r old c.decide_job.new.bindings c.decide_job.result at c.decide_job.ensures.without
     ∙ ap (λ (rows : RowState). arrivals_to_come rows.bindings) c.self.view_is
 
@@ -62,7 +64,7 @@ decide_job-requires c =
     let old = c.index_mut-bindings.result.now in
     let within : r < length c.self.inside.runs.items = search rules in
     let at : slice_get bindings r ≡ Some old =
-    slice_get_read bindings (length bindings) r old refl (omega (arith, within, c.self.invariant.bound.as_many)) c.index_mut-bindings.ensures.value in
+    slice_get_read bindings (length bindings) r old refl (omega (arith, within, c.self.invariant.0.bound.as_many)) c.index_mut-bindings.ensures.value in
     c.requires old (sym (ap (λ (rows : RowState). slice_get rows.bindings r) c.self.view_is) ∙ at)
 
 pub returns-else-r-len-clause-decided : goal.returns-else-r-len-clause-decided
@@ -73,7 +75,7 @@ returns-else-r-len-clause-decided c =
     (slice_get_past rows.runs c.args.r past))
 
 pub returns-then-r-len-clause-bound : goal.returns-then-r-len-clause-bound
-returns-then-r-len-clause-bound c = subst (λ (rows : RowState). AreBound rows.runs rows.bindings) c.self.view_is c.self.invariant.bound
+returns-then-r-len-clause-bound c = subst (λ (rows : RowState). AreBound rows.runs rows.bindings) c.self.view_is c.self.invariant.0.bound
 
 pub returns-else-r-len-clause-bound : goal.returns-else-r-len-clause-bound
-returns-else-r-len-clause-bound c = subst (λ (rows : RowState). AreBound rows.runs rows.bindings) c.self.view_is c.self.invariant.bound
+returns-else-r-len-clause-bound c = subst (λ (rows : RowState). AreBound rows.runs rows.bindings) c.self.view_is c.self.invariant.0.bound

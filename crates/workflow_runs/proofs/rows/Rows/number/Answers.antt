@@ -10,4 +10,4 @@ returns c =
     subst (λ (rows : RowState). c.number_at.result ≡ option_map (run_number (events rows.runs) c.args.r) (slice_get (events rows.runs) c.args.r))
     c.self.view_is
     (c.number_at.ensures ∙ ap (λ numbers. slice_get numbers c.args.r) c.deref.ensures.value
-    ∙ number_at c.self.inside.runs.items c.self.inside.numbers.items c.args.r c.self.invariant.numbered)
+    ∙ number_at c.self.inside.runs.items c.self.inside.numbers.items c.args.r c.self.invariant.0.numbered)

@@ -8,7 +8,7 @@ use Rattle.workflow_runs.proofs.rows.Rows.refresh_list.Goals as goal
 
 pub invariant_of-self : goal.invariant_of-self
 invariant_of-self c =
-    let are = c.self.invariant in
+    let are = c.self.invariant.0 in
     let runs = c.self.inside.runs.items in
     let bindings = c.self.inside.bindings.items in
     let r = c.args.place.run in
@@ -22,13 +22,15 @@ invariant_of-self c =
     let none : c.offers_list.result ≡ false = search rules in
     let rests : offers_list run requested.lists number ≡ false =
     subst (λ (numbers : List ListNumbers). offers_list run numbers number ≡ false) c.as_slice-numbers.ensures
-    (sym c.offers_list.ensures ∙ none) in
-    record {
-      numbered = are.numbered;
-      bound = are.bound;
-      found = are.found;
-      counted = are.counted;
-      active = are.active;
-      offered = number_unmarked runs bindings c.self.inside.index.lists c.unmark.new.self r number run requested run_there requested_there rests
-          c.unmark.ensures are.offered;
-    }
+    (sym c.offers_list.ensures ∙ none) in (
+      record {
+        numbered = are.numbered;
+        bound = are.bound;
+        found = are.found;
+        counted = are.counted;
+        active = are.active;
+        offered = number_unmarked runs bindings c.self.inside.index.lists c.unmark.new.self r number run requested run_there requested_there rests
+            c.unmark.ensures are.offered;
+      },
+      c.self.invariant.1,
+    )

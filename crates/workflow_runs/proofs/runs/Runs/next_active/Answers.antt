@@ -14,7 +14,7 @@ returns-clause-between c =
     (λ r unmarked i from to.
     ap (λ (xs : List RunState). is_so_at is_active xs i) (sym c.self.view_is)
     ∙ sym (ap (λ (w : Inside). is_so_at is_active w.rows.runs i) c.self-inside.view_is)
-    ∙ unmarked_is_not_so is_active (c.self-inside.inside.0.0).runs.items _ c.self-inside.invariant.active i (unmarked i from to))
+    ∙ unmarked_is_not_so is_active (c.self-inside.inside.0.0).runs.items _ c.self-inside.invariant.0.active i (unmarked i from to))
     c.next_below.ensures.between
 
 pub returns-clause-none : goal.returns-clause-none
@@ -25,7 +25,7 @@ returns-clause-none c =
       | inl within ↦
           ap (λ (xs : List RunState). is_so_at is_active xs i) (sym c.self.view_is)
           ∙ sym (ap (λ (w : Inside). is_so_at is_active w.rows.runs i) c.self-inside.view_is)
-          ∙ unmarked_is_not_so is_active (c.self-inside.inside.0.0).runs.items _ c.self-inside.invariant.active i (unmarked i from within)
+          ∙ unmarked_is_not_so is_active (c.self-inside.inside.0.0).runs.items _ c.self-inside.invariant.0.active i (unmarked i from within)
       | inr past ↦ past_is_not_so is_active c.args.self.now i (omega (arith, past, c.len.ensures.len))
     ])
     c.next_below.ensures.none

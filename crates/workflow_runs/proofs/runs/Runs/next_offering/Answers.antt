@@ -19,8 +19,8 @@ returns-clause-between c =
     (λ r. (i : ℕ) → c.args.from ≤ i → i < r → apply_at (fit_in_run labels xs) xs i ≡ None) in
     subst Between c.self.view_is
     (subst (λ (w : Inside). Between w.rows.runs) c.self-inside.view_is
-    (next_between labels rows.runs.items rows.bindings.items rows.index.lists c.self-inside.invariant.bound
-    c.self-inside.invariant.offered c.args.from c.first_offering-found.result c.first_offering-found.ensures.passed c.below.result
+    (next_between labels rows.runs.items rows.bindings.items rows.index.lists c.self-inside.invariant.0.bound
+    c.self-inside.invariant.0.offered c.args.from c.first_offering-found.result c.first_offering-found.ensures.passed c.below.result
     c.below.ensures.same))
 
 pub returns-clause-none : goal.returns-clause-none
@@ -30,7 +30,7 @@ returns-clause-none c =
     let None_left = λ (xs : List RunState). IfNone c.below.result ((i : ℕ) → c.args.from ≤ i → apply_at (fit_in_run labels xs) xs i ≡ None) in
     subst None_left c.self.view_is
     (subst (λ (w : Inside). None_left w.rows.runs) c.self-inside.view_is
-    (next_none labels rows.runs.items rows.bindings.items rows.index.lists c.self-inside.invariant.bound
-    c.self-inside.invariant.offered c.args.from c.first_offering-found.result c.first_offering-found.ensures.passed c.len.result
+    (next_none labels rows.runs.items rows.bindings.items rows.index.lists c.self-inside.invariant.0.bound
+    c.self-inside.invariant.0.offered c.args.from c.first_offering-found.result c.first_offering-found.ensures.passed c.len.result
     (c.len.ensures.len ∙ ap length (sym c.self.view_is) ∙ sym (ap (λ (w : Inside). length w.rows.runs) c.self-inside.view_is)) c.below.result
     c.below.ensures.none))

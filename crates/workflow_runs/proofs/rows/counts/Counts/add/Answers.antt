@@ -1,12 +1,16 @@
-use Rattle.workflow_runs.proofs.Counting.{counted, kept_count}
+use Rattle.std.proofs.Common.{◌≡◌, ap, ◌∙◌}
+use Rattle.std.specs.Prelude.{Bool, Option, Some, cond, false, refl, true}
+use Rattle.std.specs.Option.{option_map_or}
+use Rattle.run_states.specs.RunNumber.{same_workflow}
+use Rattle.workflow_runs.specs.declared.rows.counts.Counted.{Counted}
 use Rattle.workflow_runs.proofs.rows.counts.Counts.add.Goals as goal
 
-pub unreachable-requires : goal.unreachable-requires
-unreachable-requires c =
-    kept_count c.args.self.now.counts c.args.workflow c.requires.0 c.requires.1 c.requires.2 c.in-Err.ensures.absent
+chosen : (b : Bool) (put : Counted) (was : Option Counted)
+    → option_map_or (λ (c : Counted). c.runs) (cond b (Some put) was) 0 ≡ cond b put.runs (option_map_or (λ (c : Counted). c.runs) was 0)
+chosen true put was = refl
+chosen false put was = refl
 
 pub returns : goal.returns
-returns c = record {
-  counted = (λ run event of is.
-      counted c.args.self.now.counts c.insert.new.self run c.args.workflow c.args.number c.in-Ok.ensures.updates of is event);
-}
+returns c = λ event.
+    ap (λ (found : Option Counted). option_map_or (λ (c : Counted). c.runs) found 0) (c.in-Ok.ensures.updates.0 event)
+    ∙ chosen (same_workflow c.args.workflow event) _ _
