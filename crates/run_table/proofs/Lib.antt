@@ -25,6 +25,7 @@ pub mod ReportKeeps
 mod RerunRows
 pub mod RunnerOrder
 pub mod RunnerPut
+pub mod RunnerSizes
 pub mod ServedNothing
 pub mod StepKeeps
 pub mod StepRows

@@ -2,6 +2,7 @@ pub mod Claims
 pub mod Histories
 pub mod KeptPlace
 pub mod PlaceNamed
+pub mod RunnerSizes
 pub mod Sound
 pub mod Step
 pub mod Storable

@@ -3,6 +3,7 @@
 
 mod leases;
 mod runner;
+mod runner_size;
 mod runners;
 mod sequence_numbers;
 mod table;

@@ -1,10 +1,13 @@
-ghost use Rattle.std.specs.Prelude.{◌≡◌, ◌<◌, [], is_some, length, option_and_then, option_map, slice_get, slice_set, Ok, OnErr};
-ghost use Rattle.std.specs.Prelude.{true};
+ghost use Rattle.std.specs.Prelude.{◌≡◌, ◌<◌, ◌≤◌, ◌*◌, [], is_some, length, option_and_then, option_map, slice_get, slice_set, Ok, OnErr};
+ghost use Rattle.std.specs.Option.{option_map_or};
+ghost use Rattle.std.specs.Prelude.{sum_by, true};
 ghost use Rattle.wf_value.specs.Gives.{Gives};
 ghost use Rattle.run_table.specs.PlaceNamed.{place_named};
+ghost use Rattle.run_table.specs.RunnerSizes.{max_runner_size, runner_size};
 ghost use Rattle.run_table.specs.SequenceNumbers.{is_below, is_named, kept_named, names_rise, runner_named, with_runner};
 
 use crate::runner::Runner;
+use crate::runner_size::all_sizes;
 use run_plan::RunnerName;
 use std::alloc::Global;
 use std::marker::Model;
@@ -14,10 +17,13 @@ use wf_value::{Refusal, TryCopy, copy_items};
 #[derive(Drop)]
 pub struct Runners {
     runners: Vec<Runner>,
+    /// How many bytes they have in the text of the table.
+    text: u128,
 }
 
 impl Model for Runners {
     ghost use Rattle.std.specs.Prelude.{◌≡◌, List, true};
+    ghost use Rattle.run_table.specs.RunnerSizes.{AreSized};
     ghost use Rattle.run_table.specs.TableState.{RunnerState};
     ghost use Rattle.run_table.specs.SequenceNumbers.{names_rise};
 
@@ -25,7 +31,7 @@ impl Model for Runners {
 
     ghost view = { λ r. r.runners.items };
 
-    ghost invariant = { λ r. names_rise r.runners.items ≡ true };
+    ghost invariant = { λ r. (names_rise r.runners.items ≡ true) × AreSized r.runners.items r.text };
 }
 
 impl Runners {
@@ -34,6 +40,7 @@ impl Runners {
     {
         Runners {
             runners: Vec::new(alloc),
+            text: 0,
         }
     }
 
@@ -42,7 +49,16 @@ impl Runners {
         requires { names_rise runners.items ≡ true }
         ensures { result ≡ runners.items }
     {
-        Runners { runners }
+        let text = all_sizes(&runners);
+        Runners { runners, text }
+    }
+
+    /// How many bytes the runners have in the text of a table.
+    pub(crate) fn text_size(&self) -> u128
+        ensures size { result ≡ sum_by runner_size self.now }
+        ensures most { result ≤ length self.now * max_runner_size }
+    {
+        self.text
     }
 
     pub(crate) fn as_slice(&self) -> &[Runner]
@@ -74,7 +90,22 @@ impl Runners {
         ensures put { Gives (λ _. self.new) result (Ok (with_runner self.old runner)) }
         ensures err { OnErr result (self.new ≡ self.old) }
     {
-        put_in(&mut self.runners, place, runner)
+        let before = u128::from(self.size_at(place, &runner.name));
+        let after = u128::from(runner.text_size());
+        put_in(&mut self.runners, place, runner)?;
+        self.text = self.text - before + after;
+        Ok(())
+    }
+
+    /// The size of the runner with this name, given its index; 0 if there is none.
+    fn size_at(&self, place: usize, name: &RunnerName) -> u64
+        requires { place ≡ place_named self.now name.now }
+        ensures { result ≡ option_map_or runner_size (runner_named self.now name.now) 0 }
+    {
+        match self.at(place, name) {
+            Some(runner) => runner.text_size(),
+            None => 0,
+        }
     }
 }
 
@@ -82,6 +113,7 @@ impl TryCopy for Runners {
     fn copy(&self, alloc: Global) -> Result<Self, Refusal> {
         Ok(Runners {
             runners: copy_items(alloc, &self.runners)?,
+            text: self.text,
         })
     }
 }

@@ -1,6 +1,7 @@
-ghost use Rattle.std.specs.Prelude.{◌≡◌, ◌≤◌, true, IfOk, Ok, OnErr, IsOk};
+ghost use Rattle.std.specs.Prelude.{◌≡◌, ◌≤◌, ◌*◌, length, sum_by, true, IfOk, Ok, OnErr, IsOk};
 ghost use Rattle.stated_limits.specs.Limits.{last_number};
 ghost use Rattle.wf_value.specs.Gives.{Gives};
+ghost use Rattle.run_table.specs.RunnerSizes.{max_runner_size, runner_size};
 ghost use Rattle.run_table.specs.Sound.{IsSound};
 ghost use Rattle.run_table.specs.Storable.{IsStorable};
 ghost use Rattle.run_table.specs.Step.{read_only_reply, empty, is_allocation_free, seen, step};
@@ -94,6 +95,17 @@ impl Table {
         self.table_data.runs.take_tries()
     }
 
+    /// The command. If it admits an event of the last run's workflow, the event then refers to that run's copy of the workflow. Only
+    /// memory shows it.
+    pub fn sharing(&self, command: Command) -> Command
+        ensures { result ≡ command }
+    {
+        match command {
+            Command::Admit(prepared) => Command::Admit(self.table_data.sharing(prepared)),
+            other => other,
+        }
+    }
+
     /// The view of the run with this id, or `None` if there is no such run. It takes no memory.
     pub fn look(&self, run: Number) -> Option<RunView<'_>>
         ensures seen { result ≡ seen self.now run }
@@ -135,6 +147,14 @@ impl Table {
         ensures sound { IsSound self.now }
     {
         self.table_data.runners()
+    }
+
+    /// How many bytes the runners have in the text of a table. It walks none of them.
+    pub fn size_of_runners(&self) -> u128
+        ensures size { result ≡ sum_by runner_size self.now.runners }
+        ensures most { result ≤ length self.now.runners * max_runner_size }
+    {
+        self.table_data.runners.text_size()
     }
 }
 

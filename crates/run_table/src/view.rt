@@ -6,9 +6,13 @@ use crate::view_text::{conclusion_word, push_jobs, status_word};
 use run_plan::Number;
 use run_states::Run;
 use std::alloc::{AllocError, Global};
+use std::fmt::Write;
 use std::marker::Model;
 use wf_value::{Chars, Refusal};
 use workflow_runs::runs::Runs;
+
+/// The room that the text of a view takes at first: as much as most runs of one job need.
+const VIEW_ROOM: usize = 64;
 
 /// The view of a run: its id, its number among the runs of its workflow, and the run itself.
 #[derive(Drop)]
@@ -58,7 +62,8 @@ impl<'a> RunView<'a> {
         let conclusion = conclusion_word(run.phase(), jobs);
         let number = number_text(alloc, number, run.attempt().get())?;
         let number = number.as_str();
-        let mut text = format!(in alloc; "run {id} {number} {status} {conclusion}")?;
+        let mut text = String::with_capacity(alloc, VIEW_ROOM)?;
+        write!(text, "run {id} {number} {status} {conclusion}")?;
         push_jobs(run.prepared().plan().as_slice(), jobs, &mut text)?;
         Ok(Chars::new(text))
     }

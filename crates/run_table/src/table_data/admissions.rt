@@ -28,6 +28,17 @@ impl TableData {
         self.enter(alloc, prepared)
     }
 
+    /// The event, which refers to the last run's copy of its workflow if they have the same workflow.
+    pub(crate) fn sharing(&self, prepared: Prepared) -> Prepared
+        ensures { result ≡ prepared }
+    {
+        let mut prepared = prepared;
+        if let Some(run) = self.runs.as_slice().last() {
+            prepared.share_workflow(run.prepared());
+        }
+        prepared
+    }
+
     /// Creates a run for the event.
     fn enter(&mut self, alloc: Global, prepared: &Prepared) -> Result<Reply, Refusal>
         requires sound { IsSound self.old }

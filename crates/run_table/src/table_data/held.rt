@@ -4,15 +4,13 @@ ghost use Rattle.std.specs.Prelude.{◌≡◌, ◌<◌, ◌^◌, IfSome, option_
 ghost use Rattle.run_table.specs.KeptPlace.{kept_place};
 ghost use Rattle.run_table.specs.Sound.{IsSound};
 ghost use Rattle.run_states.specs.Fitting.{OnlyAtWork, place_of_lease};
-ghost use Rattle.run_states.specs.Stops.{outcome_of_loss};
 
 use crate::leases::leg_has_lease;
 use crate::runner::Runner;
 use crate::table_data::TableData;
 use run_plan::{ClaimReply, LastCommand, Number};
 use run_states::LegPlace;
-use wf_value::Outcome;
-use workflow_runs::fit::{outcome_of_loss, place_of_lease};
+use workflow_runs::fit::place_of_lease;
 
 impl TableData {
     /// The leg of a lease on which a runner is at work. It first tries the leg that is kept with the last claim of the
@@ -28,16 +26,6 @@ impl TableData {
             Some(leg) if leg_has_lease(&self.runs, leg, lease) => Some(leg),
             _ => place_of_lease(lease, &self.runs),
         }
-    }
-
-    /// The outcome of the lease's leg if the runner at index `place`, which is at work on it, is lost. It takes no
-    /// memory.
-    pub(super) fn outcome_of_loss(&self, place: usize, lease: Number) -> Outcome
-        requires sound { IsSound self.now }
-        requires work { OnlyAtWork self.now.runs lease }
-        ensures { result ≡ outcome_of_loss self.now.runs lease }
-    {
-        outcome_of_loss(self.leg_held(place, lease), &self.runs)
     }
 }
 

@@ -15,6 +15,7 @@ use crate::table_data::{TableData, refused};
 use run_plan::{Number, Reply, RunnerName};
 use std::alloc::Global;
 use wf_value::{Code, Refusal};
+use workflow_runs::fit::outcome_of_loss;
 
 impl TableData {
     pub(super) fn lose(&mut self, alloc: Global, name: &RunnerName) -> Result<Reply, Refusal>
@@ -45,8 +46,8 @@ impl TableData {
         ensures step { Gives (λ reply. (self.new, reply)) result (Ok (outcome (losing self.old runner lease))) }
         ensures err { OnErr result (self.new ≡ self.old) }
     {
-        let outcome = self.outcome_of_loss(place, lease);
         let leg = self.leg_held(place, lease);
+        let outcome = outcome_of_loss(leg, &self.runs);
         self.runners.put(place, runner)?;
         self.runs.end(leg, outcome);
         self.runs.settle();

@@ -1,9 +1,13 @@
-use Rattle.std.specs.Prelude.{◌≡◌, IfSome, List, Option, true}
-use Rattle.std.proofs.Common.{ap, sym, subst, ◌∙◌}
+use Rattle.std.specs.Prelude.{◌≡◌, IfSome, List, Option, false, if◌then◌else◌, true}
+use Rattle.std.specs.Option.{option_map_or}
+use Rattle.std.proofs.Common.{ap, ap₂, sym, subst, ◌∙◌}
+use Rattle.wf_value.specs.declared.outcome.Outcome.{Outcome}
+use Rattle.wf_value.specs.declared.outcome.Outcome.TheVariants as outcome
 use Rattle.run_states.specs.Parallel.{is_at_work}
 use Rattle.run_states.specs.Places.{leg_at}
 use Rattle.run_states.specs.SoundRuns.{RunsAreSound}
 use Rattle.run_states.specs.StopMoves.{with_ended}
+use Rattle.run_states.specs.Fitting.{is_stopping_leg}
 use Rattle.run_states.specs.Stops.{outcome_of_loss}
 use Rattle.run_states.specs.declared.place.LegPlace.{LegPlace}
 use Rattle.run_table.specs.TableState.{TableState}
@@ -17,13 +21,20 @@ use Rattle.run_table.proofs.table_data.TableData.end_lost.Goals.{After-end}
 pub put-requires : goal.put-requires
 put-requires c = c.requires.place ∙ ap (λ (t : TableState). place_named t.runners c.args.runner.name) (sym c.self.view_is)
 
+-- its outcome
+its_outcome : (c : After-end) → c.outcome_of_loss-outcome.result ≡ outcome_of_loss c.args.self.now.runs c.args.lease
+its_outcome c =
+    let of : List RunState → Option LegPlace → Outcome = λ runs leg. if
+    option_map_or (λ p. option_map_or (λ l. is_stopping_leg l.phase) (leg_at runs p) false) leg false then outcome.Cancelled else outcome.Failure in
+    c.outcome_of_loss-outcome.ensures ∙ ap₂ of (ap (λ (t : TableState). t.runs) c.self.view_is) c.leg_held-leg.ensures.found
+
 -- the leg has ended
 ended : (c : After-end) → c.end.new.self
     ≡ with_ended c.args.lease (outcome_of_loss c.args.self.now.runs c.args.lease) c.args.self.now.runs
 ended c =
     ended_at c.args.lease c.outcome_of_loss-outcome.result c.args.self.now c.self.inside.runs c.end.new.self c.leg_held-leg.result
     (ap (λ (s : TableState). s.runs) c.self.view_is) c.leg_held-leg.ensures.found c.end.ensures
-    ∙ ap (λ o. with_ended c.args.lease o c.args.self.now.runs) c.outcome_of_loss-outcome.ensures
+    ∙ ap (λ o. with_ended c.args.lease o c.args.self.now.runs) (its_outcome c)
 
 pub end-requires-clause-sound : goal.end-requires-clause-sound
 end-requires-clause-sound c =
