@@ -1,5 +1,5 @@
 -- Facts about the parts of a table that is written.
-use Rattle.std.proofs.Common.{◌≡◌, ℕ, zero, suc, ◌≤◌, ◌<◌, List, [], ◌∷◌, length, get_or, ◌++◌, ◌^◌, refl, sym, ◌∙◌, ap, ap₂, arith}
+use Rattle.std.proofs.Common.{◌≡◌, ℕ, zero, suc, ◌≤◌, ◌<◌, List, [], ◌∷◌, length, get_or, ◌++◌, ◌^◌, refl, sym, ◌∙◌, ap, arith}
 use Rattle.std.proofs.Common.{append_assoc}
 use Rattle.std.specs.Prelude.{◌&&◌, Bool, true, false, not, map, flat_map, nat_le, Option, Some, None, slice_get, option_and_then}
 use Rattle.std.specs.List.{AllByRecursion}
@@ -134,29 +134,21 @@ runners_have_bytes t s takes =
 
 -- ---- one part after another
 
-prefix_bytes : (old a b c d event event' jobs jobs' : List ℕ) (x x' y y' : ℕ) → a ≡ old ++ event → b ≡ a ++ x ∷ [] → c ≡ b ++ y ∷ []
-    → d ≡ c ++ jobs
-    → event ≡ event' → x ≡ x' → y ≡ y' → jobs ≡ jobs' → d ≡ old ++ (event' ++ x' ∷ y' ∷ jobs')
-prefix_bytes old a b c d event event' jobs jobs' x x' y y' one two three four e f g h =
-    four
-    ∙ ap (λ (l : List ℕ). l ++ jobs) (three ∙ ap (λ (l : List ℕ). l ++ y ∷ []) (two ∙ ap (λ (l : List ℕ). l ++ x ∷ []) one))
-    ∙ append_assoc ((old ++ event) ++ x ∷ []) (y ∷ []) jobs
-    ∙ append_assoc (old ++ event) (x ∷ []) (y ∷ jobs)
-    ∙ append_assoc old event (x ∷ y ∷ jobs)
-    ∙ ap (λ (l : List ℕ). old ++ (l ++ x ∷ y ∷ jobs)) e
-    ∙ ap (λ n. old ++ (event' ++ n ∷ y ∷ jobs)) f
-    ∙ ap (λ n. old ++ (event' ++ x' ∷ n ∷ jobs)) g
-    ∙ ap (λ (l : List ℕ). old ++ (event' ++ x' ∷ y' ∷ l)) h
-
--- an event, an attempt, two bytes and jobs
-pub run_bytes : (old a b c d e event event' jobs jobs' : List ℕ) (n n' x x' y y' : ℕ) → a ≡ old ++ event → b ≡ a ++ word_bytes n
-    → c ≡ b ++ x ∷ [] → d ≡ c ++ y ∷ [] → e ≡ d ++ jobs → event ≡ event' → n ≡ n' → x ≡ x' → y ≡ y' → jobs ≡ jobs'
-    → e ≡ old ++ (event' ++ (word_bytes n' ++ x' ∷ y' ∷ jobs'))
-run_bytes old a b c d e event event' jobs jobs' n n' x x' y y' one two three four five f g h i j =
-    prefix_bytes old b c d e (event ++ word_bytes n) (event' ++ word_bytes n') jobs jobs' x x' y y'
-    (two ∙ ap (λ (l : List ℕ). l ++ word_bytes n) one ∙ append_assoc old event (word_bytes n)) three four five
-    (ap₂ (λ (l : List ℕ) (k : ℕ). l ++ word_bytes k) f g) h i j
-    ∙ ap (λ (l : List ℕ). old ++ l) (append_assoc event' (word_bytes n') (x' ∷ y' ∷ jobs'))
+-- an event, an attempt with two bytes, and jobs
+pub run_bytes : (old a b c event event' jobs jobs' : List ℕ) (n n' x x' y y' : ℕ) → a ≡ old ++ event
+    → b ≡ a ++ (word_bytes n ++ x ∷ y ∷ []) → c ≡ b ++ jobs → event ≡ event' → n ≡ n' → x ≡ x' → y ≡ y' → jobs ≡ jobs'
+    → c ≡ old ++ (event' ++ (word_bytes n' ++ x' ∷ y' ∷ jobs'))
+run_bytes old a b c event event' jobs jobs' n n' x x' y y' one two three f g h i j =
+    three
+    ∙ ap (λ (l : List ℕ). l ++ jobs) (two ∙ ap (λ (l : List ℕ). l ++ (word_bytes n ++ x ∷ y ∷ [])) one)
+    ∙ append_assoc (old ++ event) (word_bytes n ++ x ∷ y ∷ []) jobs
+    ∙ append_assoc old event ((word_bytes n ++ x ∷ y ∷ []) ++ jobs)
+    ∙ ap (λ (l : List ℕ). old ++ (event ++ l)) (append_assoc (word_bytes n) (x ∷ y ∷ []) jobs)
+    ∙ ap (λ (l : List ℕ). old ++ (l ++ (word_bytes n ++ x ∷ y ∷ jobs))) f
+    ∙ ap (λ k. old ++ (event' ++ (word_bytes k ++ x ∷ y ∷ jobs))) g
+    ∙ ap (λ k. old ++ (event' ++ (word_bytes n' ++ k ∷ y ∷ jobs))) h
+    ∙ ap (λ k. old ++ (event' ++ (word_bytes n' ++ x' ∷ k ∷ jobs))) i
+    ∙ ap (λ (l : List ℕ). old ++ (event' ++ (word_bytes n' ++ x' ∷ y' ∷ l))) j
 
 five_parts : (old a b c d e l n rs m qs : List ℕ) → a ≡ old ++ l → b ≡ a ++ n → c ≡ b ++ rs → d ≡ c ++ m → e ≡ d ++ qs
     → e ≡ old ++ (l ++ ((n ++ rs) ++ (m ++ qs)))

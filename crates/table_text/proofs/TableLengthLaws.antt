@@ -5,8 +5,14 @@ use Rattle.std.specs.Option.{option_map_or}
 use Rattle.std.proofs.lemmas.List.Concat.{length-flat_map}
 use Rattle.std.proofs.lemmas.List.Sums.{sum_by-cons}
 use Rattle.run_plan.specs.declared.command.Command.TheVariants as requested
-use Rattle.stored_tables.specs.Stored.{StoredRunner, StoredTable}
+use Rattle.run_plan.specs.declared.last_command.ClaimReply.TheVariants as given
+use Rattle.run_plan.specs.declared.last_command.LastCommand.{LastCommand}
+use Rattle.run_plan.specs.declared.last_command.LastCommand.TheVariants as kept_last
+use Rattle.run_table.specs.RunnerSizes.{last_size, runner_size}
+use Rattle.run_table.specs.TableState.{RunnerState}
+use Rattle.stored_tables.specs.Stored.{StoredRunner, StoredTable, stored_last, stored_runner}
 use Rattle.run_states.specs.RunState.{LegState, JobState, RunState}
+use Rattle.workflow_runs.specs.StoredSizes.{job_size, leg_counts, run_size}
 use Rattle.stored_tables.specs.declared.parts.LastParts.{LastParts}
 use Rattle.stored_tables.specs.declared.parts.LastParts.TheVariants as last
 use Rattle.stored_tables.specs.declared.parts.StoredLease.{StoredLease}
@@ -14,7 +20,7 @@ use Rattle.stored_tables.specs.declared.parts.StoredPlace.{StoredPlace}
 use Rattle.command_encodings.specs.Commands.{admit, command_bytes}
 use Rattle.command_encodings.specs.Format.{present, text_bytes, word_bytes}
 use Rattle.command_encodings.specs.Lengths.{command_length, fields_length, length_of, text_length}
-use Rattle.table_text.specs.TableLengths.{job_length, last_length, lease_length, run_length, runner_length, table_length}
+use Rattle.table_text.specs.TableLengths.{last_length, lease_length, runner_length, table_length}
 use Rattle.table_text.specs.Tables.{flag_byte, job, kept, kept_lease, last_command, lease, leg, place, run, run_byte, runner, table}
 use Rattle.table_text.specs.declared.kept.StoredReply.TheVariants as replied
 use Rattle.command_encodings.proofs.LengthLaws.{after_one, length_admit, length_command, length_counted, length_text, length_two, length_word}
@@ -40,21 +46,24 @@ five_each (l ∷ ls) =
     let before = five_each ls in
     omega (arith, more, before)
 
-length_job : (j : JobState) → length_of job j ≡ job_length j
+length_job : (j : JobState) → length_of job j ≡ job_size (length j.legs)
 length_job j =
     let legs = length_counted leg.encoding (λ (l : LegState). 5) j.legs length_leg in
     let five = five_each j.legs in
     after_one (word_bytes (length j.legs) ++ flat_map leg.encoding j.legs) legs ∙ omega (arith, five)
 
-length_run : (r : RunState) → length_of run r ≡ run_length r
+length_run : (r : RunState) → length_of run r ≡ run_size r
 length_run r =
-    let jobs : length (flat_map job.encoding r.jobs) ≡ sum_by job_length r.jobs =
-    length-flat_map job.encoding r.jobs ∙ sum_same (λ j. length (job.encoding j)) job_length r.jobs length_job in
+    let sizes = sum_by job_size (leg_counts r.jobs) in
+    let jobs : length (flat_map job.encoding r.jobs) ≡ sizes =
+    length-flat_map job.encoding r.jobs
+    ∙ sum_same (λ j. length (job.encoding j)) (λ j. job_size (length j.legs)) r.jobs length_job
+    ∙ sym (sum_seen job_size (λ (j : JobState). length j.legs) r.jobs) in
     length_two (admit.encoding r.admitted) (word_bytes r.attempt ++ run_byte r.phase ∷ flag_byte r.stopping ∷ flat_map job.encoding r.jobs)
     (fields_length (requested.Admit r.admitted))
-    (4 + (1 + (1 + sum_by job_length r.jobs))) (length_admit r.admitted)
+    (4 + (1 + (1 + sizes))) (length_admit r.admitted)
     (length_two (word_bytes r.attempt) (run_byte r.phase ∷ flag_byte r.stopping ∷ flat_map job.encoding r.jobs) 4
-    (1 + (1 + sum_by job_length r.jobs)) (length_word r.attempt)
+    (1 + (1 + sizes)) (length_word r.attempt)
     (after_one (flag_byte r.stopping ∷ flat_map job.encoding r.jobs) (after_one (flat_map job.encoding r.jobs) jobs)))
     ∙ omega arith
 
@@ -94,11 +103,25 @@ length_runner r =
 
 pub length_table : (t : StoredTable) → length_of table t ≡ table_length t
 length_table t =
-    let runs = length_counted run.encoding run_length t.runs length_run in
+    let runs = length_counted run.encoding run_size t.runs length_run in
     let runners = length_counted runner.encoding runner_length t.runners length_runner in
-    length_two (word_bytes t.last_lease) _ 4 ((4 + sum_by run_length t.runs) + (4 + sum_by runner_length t.runners))
+    length_two (word_bytes t.last_lease) _ 4 ((4 + sum_by run_size t.runs) + (4 + sum_by runner_length t.runners))
     (length_word t.last_lease)
     (length_two (word_bytes (length t.runs) ++ flat_map run.encoding t.runs)
     (word_bytes (length t.runners) ++ flat_map runner.encoding t.runners)
-    (4 + sum_by run_length t.runs) (4 + sum_by runner_length t.runners) runs runners)
+    (4 + sum_by run_size t.runs) (4 + sum_by runner_length t.runners) runs runners)
     ∙ omega arith
+
+-- ---- the runners of a table, whose sizes it keeps
+
+same_last : (l : LastCommand) → last_size l ≡ last_length (stored_last l)
+same_last (kept_last.Claim claim given.Nothing) = refl
+same_last (kept_last.Claim claim (given.Lease kept)) = omega arith
+same_last (kept_last.Done report) = refl
+
+same_size : (r : RunnerState) → runner_size r ≡ runner_length (stored_runner r)
+same_size r = let one = same_last r.last in omega (arith, one)
+
+pub runner_sizes : (runners : List RunnerState) → sum_by runner_size runners ≡ sum_by runner_length (map stored_runner runners)
+runner_sizes runners =
+    sum_same runner_size (λ (r : RunnerState). runner_length (stored_runner r)) runners same_size ∙ sym (sum_seen runner_length stored_runner runners)

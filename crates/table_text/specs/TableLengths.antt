@@ -1,21 +1,13 @@
 -- The number of bytes in a table's encoding, as a sum over the fields.
-use Rattle.std.specs.Prelude.{ℕ, ◌+◌, ◌*◌, length, sum_by, Some, None}
+use Rattle.std.specs.Prelude.{ℕ, ◌+◌, sum_by, Some, None}
 use Rattle.std.specs.Option.{option_map_or}
 use Rattle.run_plan.specs.declared.command.Command.TheVariants as requested
 use Rattle.stored_tables.specs.Stored.{StoredRunner, StoredTable}
-use Rattle.run_states.specs.RunState.{JobState, RunState}
+use Rattle.workflow_runs.specs.StoredSizes.{run_size}
 use Rattle.stored_tables.specs.declared.parts.LastParts.{LastParts}
 use Rattle.stored_tables.specs.declared.parts.LastParts.TheVariants as last
 use Rattle.stored_tables.specs.declared.parts.StoredLease.{StoredLease}
-use Rattle.command_encodings.specs.Lengths.{command_length, fields_length, text_length}
-
--- a phase, the number of legs, and for each leg its phase and its lease
-abbrev pub job_length : JobState → ℕ
-job_length j = 1 + 4 + 5 * length j.legs
-
--- what was admitted, an attempt, a phase, a flag and the jobs
-abbrev pub run_length : RunState → ℕ
-run_length r = fields_length (requested.Admit r.admitted) + 4 + 1 + 1 + sum_by job_length r.jobs
+use Rattle.command_encodings.specs.Lengths.{command_length, text_length}
 
 -- a lease, and the four numbers of its place
 abbrev pub lease_length : StoredLease → ℕ
@@ -33,4 +25,4 @@ runner_length r = text_length r.name + 4 + last_length r.last + 4
 
 -- the last lease and two counts have four bytes each
 abbrev pub table_length : StoredTable → ℕ
-table_length t = 4 + (4 + sum_by run_length t.runs) + (4 + sum_by runner_length t.runners)
+table_length t = 4 + (4 + sum_by run_size t.runs) + (4 + sum_by runner_length t.runners)

@@ -7,7 +7,7 @@ ghost use Rattle.stored_tables.specs.Stored.{is_new, stored_last, stored_lease, 
 ghost use Rattle.run_table.specs.TableState.{RunnerState};
 ghost use Rattle.run_states.specs.RunState.{JobState, RunState};
 ghost use Rattle.command_encodings.specs.Format.{word_bytes};
-ghost use Rattle.table_text.specs.Tables.{flag_byte, job, job_byte, kept_lease, last_command, lease, leg, leg_byte, run, run_byte, runner};
+ghost use Rattle.table_text.specs.Tables.{flag_byte, job, job_byte, kept_lease, last_command, lease, lease_word, leg, leg_byte, run, run_byte, runner};
 ghost use Rattle.table_text.specs.Tables.{table};
 ghost use Rattle.command_encodings.specs.Writing.{Keeps};
 ghost use Rattle.table_text.specs.Writing.{HasByte, JobHasBytes, KeptHasBytes, RunHasBytes};
@@ -27,6 +27,43 @@ fn push_byte(out: &mut Vec<u8>, value: u8) -> Result<(), AllocError>
     ensures kept { OnErr result (Keeps out.old.items out.new.items) }
 {
     out.extend_from_slice(&[value])
+}
+
+/// A byte and a number of four bytes.
+#[tactic(auto, unfolding(command_encodings::specs::Format::word_bytes))]
+fn byte_and_word(byte: u8, word: u32) -> [u8; 5]
+    ensures { result ≡ byte ∷ word_bytes word }
+{
+    let word = word.to_be_bytes();
+    [byte, word[0], word[1], word[2], word[3]]
+}
+
+fn push_byte_and_word(out: &mut Vec<u8>, byte: u8, word: u32) -> Result<(), AllocError>
+    ensures bytes { OnOk result (out.new.items ≡ out.old.items ++ byte ∷ word_bytes word) }
+    ensures kept { OnErr result (Keeps out.old.items out.new.items) }
+{
+    out.extend_from_slice(&byte_and_word(byte, word))
+}
+
+/// A number of four bytes and two bytes.
+#[tactic(auto, unfolding(command_encodings::specs::Format::word_bytes))]
+fn word_and_bytes(word: u32, first: u8, second: u8) -> [u8; 6]
+    ensures { result ≡ word_bytes word ++ first ∷ second ∷ [] }
+{
+    let word = word.to_be_bytes();
+    [word[0], word[1], word[2], word[3], first, second]
+}
+
+fn push_word_and_bytes(
+    out: &mut Vec<u8>,
+    word: u32,
+    first: u8,
+    second: u8,
+) -> Result<(), AllocError>
+    ensures bytes { OnOk result (out.new.items ≡ out.old.items ++ (word_bytes word ++ first ∷ second ∷ [])) }
+    ensures kept { OnErr result (Keeps out.old.items out.new.items) }
+{
+    out.extend_from_slice(&word_and_bytes(word, first, second))
 }
 
 fn leg_byte(phase: LegPhase) -> u8
@@ -73,15 +110,14 @@ fn flag_byte(flag: bool) -> u8
     if flag { 1 } else { 0 }
 }
 
-/// Appends a lease, 0 for none.
-fn push_lease(out: &mut Vec<u8>, value: Option<Number>) -> Result<(), AllocError>
+/// The number of a lease, 0 for none.
+fn lease_word(value: Option<Number>) -> u32
     ensures takes { lease.Takes value }
-    ensures bytes { OnOk result (out.new.items ≡ out.old.items ++ lease.encoding value) }
-    ensures kept { OnErr result (Keeps out.old.items out.new.items) }
+    ensures word { result ≡ lease_word value }
 {
     match value {
-        Some(number) => push_number(out, number),
-        None => push_word(out, 0),
+        Some(number) => number.get(),
+        None => 0,
     }
 }
 
@@ -95,9 +131,7 @@ impl Push for Leg {
     ghost encoding = { leg.encoding };
 
     fn push_to(&self, out: &mut Vec<u8>) -> Result<(), AllocError> {
-        push_byte(out, leg_byte(self.phase))?;
-        push_lease(out, self.lease)?;
-        Ok(())
+        push_byte_and_word(out, leg_byte(self.phase), lease_word(self.lease))
     }
 }
 
@@ -110,8 +144,7 @@ impl Push for Job {
 
     fn push_to(&self, out: &mut Vec<u8>) -> Result<(), AllocError> {
         let legs = self.legs();
-        push_byte(out, job_byte(self.phase()))?;
-        push_word(out, legs.len() as u32)?;
+        push_byte_and_word(out, job_byte(self.phase()), legs.len() as u32)?;
         push_list(out, legs)?;
         Ok(())
     }
@@ -126,9 +159,8 @@ impl Push for Run {
 
     fn push_to(&self, out: &mut Vec<u8>) -> Result<(), AllocError> {
         push_admit(out, self.prepared())?;
-        push_number(out, self.attempt())?;
-        push_byte(out, run_byte(self.phase()))?;
-        push_byte(out, flag_byte(self.is_stopping()))?;
+        let (phase, stopping) = (run_byte(self.phase()), flag_byte(self.is_stopping()));
+        push_word_and_bytes(out, self.attempt().get(), phase, stopping)?;
         push_list(out, self.jobs())?;
         Ok(())
     }
@@ -203,7 +235,7 @@ impl Push for Runner {
         push_small_text(out, &self.name)?;
         push_number(out, self.number)?;
         push_last(out, &self.last)?;
-        push_lease(out, self.holds)?;
+        push_word(out, lease_word(self.holds))?;
         Ok(())
     }
 }

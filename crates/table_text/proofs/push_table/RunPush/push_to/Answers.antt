@@ -22,8 +22,8 @@ returns-clause-takes c =
 
 pub returns-clause-bytes : goal.returns-clause-bytes
 returns-clause-bytes c =
-    run_bytes _ _ _ _ _ _ _ _ _ _ _ _ _ _ _ _ c.in_ok-push_admit.ensures.bytes c.in_ok-push_number.ensures.bytes
-    c.in_ok-push_byte.ensures.bytes c.in_ok-push_byte-2.ensures.bytes c.in_ok-push_list.ensures.bytes
-    (ap admit.encoding c.prepared.ensures) c.attempt.ensures (c.run_byte.ensures ∙ ap run_byte c.phase.ensures)
-    (c.flag_byte.ensures ∙ ap flag_byte c.is_stopping.ensures)
+    run_bytes _ _ _ _ _ _ _ _ _ _ _ _ _ _ c.in_ok-push_admit.ensures.bytes c.in_ok-push_word_and_bytes.ensures.bytes
+    c.in_ok-push_list.ensures.bytes
+    (ap admit.encoding c.prepared.ensures) (c.get.ensures.value ∙ c.attempt.ensures) (c.run_byte-phase.ensures ∙ ap run_byte c.phase.ensures)
+    (c.flag_byte-stopping.ensures ∙ ap flag_byte c.is_stopping.ensures)
     (sym (flat_map-map job.encoding (λ (j : JobCells). j.state) c.jobs.result.now) ∙ ap (flat_map job.encoding) c.jobs.ensures)
