@@ -18,9 +18,9 @@ use Rattle.wf_reader.specs.contracts.contexts.Contexts.{the_row as contexts}
 use Rattle.wf_reader.specs.contracts.contexts.Contexts.TheInside.{the_row as contexts_inside}
 use denote.Param.SendFields.{declared_send, declared_sync, variants_send}
 use Rattle.run_plan.specs.contracts.prepared.Admission.{the_row as admission, the_type as admission_type}
-use Rattle.run_plan.specs.contracts.prepared.Origin.{the_row as origin}
+use Rattle.run_plan.specs.contracts.planned_workflow.PlannedWorkflow.{the_row as workflow, the_type as workflow_type}
 use Rattle.run_plan.specs.contracts.prepared.Prepared.{the_row}
-use Rattle.run_plan.specs.contracts.prepared.Prepared.TheInside.{the_row as inside}
+use Rattle.run_plan.specs.contracts.prepared.Prepared.TheInside.{the_row as inside, the_type as inside_type}
 use Rattle.std.proofs.result.Result.TheSendSync as result
 use Rattle.wf_value.proofs.refusal.Refusal.TheSendSync as refusal
 use Rattle.run_plan.proofs.boxed_lease.BoxedLease.TheSendSync as lease
@@ -36,7 +36,16 @@ use Rattle.run_bindings.proofs.bindings.RunBindings.TheSendSync as bindings
 use Rattle.group_book.proofs.book.Book.TheSendSync as book
 use Rattle.run_marks.proofs.marks.RunBitmap.TheSendSync as bitmap
 use Rattle.run_states.proofs.holder.Holder.TheSendSync as holder
-use Rattle.workflow_runs.proofs.rows.index.Index.TheSendSync as index
+use Rattle.std.proofs.hash.BuildHasherDefault.TheSendSync as hashers
+use Rattle.std.proofs.hash.FoldHasher.TheSendSync as hasher
+use Rattle.indexmap.proofs.map.IndexMap.TheSendSync as indexed
+use Rattle.label_lists.proofs.lists.LabelLists.TheSendSync as lists
+use Rattle.workflow_runs.proofs.rows.places.DeliveryPlaces.TheSendSync as places
+use Rattle.workflow_runs.proofs.rows.counts.Counted.TheSendSync as counted
+use Rattle.workflow_runs.specs.contracts.rows.workflow.Workflow.{the_row as key}
+use Rattle.workflow_runs.specs.contracts.rows.workflow.Workflow.TheInside.{the_row as key_inside}
+use Rattle.workflow_runs.specs.contracts.rows.counts.Counts.{the_row as counts, the_type as counts_type}
+use Rattle.workflow_runs.specs.contracts.rows.index.Index.{the_row as index, the_type as index_type}
 use Rattle.run_table.proofs.runners.Runners.TheSendSync as runners
 use Rattle.run_plan.specs.contracts.command.Command.{the_row as command, enum as command_variants}
 use Rattle.run_plan.specs.contracts.reply.Reply.{the_row as reply, enum as reply_variants}
@@ -94,31 +103,53 @@ contexts_send = view_send contexts_inside _ _ _ _ (search (parts, value_send) de
 contexts_sync : IsSync contexts
 contexts_sync = view_sync contexts_inside _ _ _ _ (search (parts, value_sync) depth 12)
 
-origin_send : IsSend origin
-origin_send = search (parts, chars.the_send, concurrency.the_send, contexts_send) depth 12
+workflow_send : IsSend workflow
+workflow_send =
+    declared_send workflow_type (
+      search (parts, chars.the_send) depth 6,
+      (
+        search (parts, chars.the_send) depth 6,
+        (search (parts, chars.the_send) depth 6, (search (parts, concurrency.the_send) depth 8, (search (parts, plan.the_send) depth 6, tt))),
+      ),
+    )
 
-origin_sync : IsSync origin
-origin_sync = search (parts, chars.the_sync, concurrency.the_sync, contexts_sync) depth 12
+workflow_sync : IsSync workflow
+workflow_sync =
+    declared_sync workflow_type (
+      search (parts, chars.the_sync) depth 6,
+      (
+        search (parts, chars.the_sync) depth 6,
+        (search (parts, chars.the_sync) depth 6, (search (parts, concurrency.the_sync) depth 8, (search (parts, plan.the_sync) depth 6, tt))),
+      ),
+    )
 
 admission_send : IsSend admission
 admission_send =
     declared_send admission_type (
       search (parts, small.the_send) depth 8,
-      (search (parts, small.the_send) depth 8, (search parts depth 8, (search (parts, origin_send) depth 6, (search (parts, plan.the_send) depth 6, tt)))),
+      (search (parts, small.the_send) depth 8, (search parts depth 8, (search (parts, contexts_send) depth 6, tt))),
     )
 
 admission_sync : IsSync admission
 admission_sync =
     declared_sync admission_type (
       search (parts, small.the_sync) depth 8,
-      (search (parts, small.the_sync) depth 8, (search parts depth 8, (search (parts, origin_sync) depth 6, (search (parts, plan.the_sync) depth 6, tt)))),
+      (search (parts, small.the_sync) depth 8, (search parts depth 8, (search (parts, contexts_sync) depth 6, tt))),
     )
 
 inside_send : IsSend inside
-inside_send = search (parts, arc.the_send, admission_send, admission_sync) depth 12
+inside_send =
+    declared_send inside_type (
+      search (parts, arc.the_send, admission_send, admission_sync) depth 12,
+      (search (parts, arc.the_send, workflow_send, workflow_sync) depth 12, tt),
+    )
 
 inside_sync : IsSync inside
-inside_sync = search (parts, arc.the_sync, admission_send, admission_sync) depth 12
+inside_sync =
+    declared_sync inside_type (
+      search (parts, arc.the_sync, admission_send, admission_sync) depth 12,
+      (search (parts, arc.the_sync, workflow_send, workflow_sync) depth 12, tt),
+    )
 
 pub prepared_send : IsSend the_row
 prepared_send = view_send inside _ _ _ _ inside_send
@@ -161,12 +192,26 @@ transcript_send = declared_send transcript_type (search (parts, asked_send) dept
 run_send : IsSend run
 run_send = view_send run_inside _ _ _ _ (declared_send run_type (search (parts, prepared_send) depth 6, (search (parts, number.the_send) depth 6, (search (parts, phase.the_send) depth 6, (search parts depth 6, (search (parts, job.the_send) depth 10, tt))))))
 
+-- the workflow by which runs are counted is a share of an event
+key_send : IsSend key
+key_send = view_send key_inside _ _ _ _ (search (parts, prepared_send) depth 6)
+
+counts_send : IsSend counts
+counts_send = declared_send counts_type (search (parts, indexed.the_send, key_send, counted.the_send, hashers.the_send, hasher.the_send) depth 12, tt)
+
+index_send : IsSend index
+index_send =
+    declared_send index_type (
+      search (parts, places.the_send) depth 6,
+      (search (parts, counts_send) depth 6, (search (parts, lists.the_send) depth 6, tt)),
+    )
+
 rows_send : IsSend rows
 rows_send =
     view_send rows_inside _ _ _ _
     (declared_send rows_type (
       search (parts, run_send) depth 10,
-      (search parts depth 10, (search (parts, bindings.the_send) depth 10, (search (parts, index.the_send) depth 6, (search (parts, bitmap.the_send) depth 6, tt)))),
+      (search parts depth 10, (search (parts, bindings.the_send) depth 10, (search (parts, index_send) depth 6, (search (parts, bitmap.the_send) depth 6, (search parts depth 6, tt))))),
     ))
 
 runs_send : IsSend runs

@@ -1,7 +1,7 @@
 -- The table that a finished checkpoint recovers to.
 use Rattle.std.proofs.Common.{◌≡◌, inl, inr, ⊎_elim, ℕ, ◌+◌, ◌-◌, ◌<◌, ◌≤◌, ◌^◌, List, [], ◌∷◌, ◌++◌, length, take, drop, refl, sym, ◌∙◌, ap, subst, arith}
 use Rattle.std.proofs.Common.{Bool, not, append_assoc, drop_of_length-le, length-append}
-use Rattle.std.specs.Prelude.{IfSome, None, Option, Some, flat_map, nat_lt, option_map}
+use Rattle.std.specs.Prelude.{IfSome, IsSomeAnd, None, Option, Some, flat_map, nat_lt, option_map}
 use Rattle.std.specs.Int.{to_be_bytes, w32}
 use Rattle.std.proofs.lemmas.Bool.{cases_Bool, le-ltb, lt-ltb, ltb-false, ltb-true}
 use Rattle.std.specs.List.{AllByRecursion}
@@ -17,11 +17,11 @@ use Rattle.run_plan.specs.declared.command.Command.{Command}
 use Rattle.run_table.specs.Histories.{after}
 use Rattle.run_table.specs.TableState.{TableState}
 use Rattle.command_encodings.specs.Commands.{IsEncoded, batch, command_bytes}
-use Rattle.act_store.specs.Checkpoints.{first_gate, gate_after, refusal_of_finish}
+use Rattle.act_store.specs.Checkpoints.{IsFinished, finished, first_gate, gate_after, refusal_of_finish}
 use Rattle.act_store.specs.Entries.{commands_of, table_after}
 use Rattle.act_store.specs.Layouts.{HasCommand, batch_format, current_version, layout_of}
-use Rattle.act_store.specs.StoreState.{StoreState, RecoversToEither, covered_table, table_of}
-use Rattle.act_store.specs.LastPart.{bodies_of, last_part}
+use Rattle.act_store.specs.StoreState.{Checkpoint, StoreState, RecoversToEither, covered_table, table_of}
+use Rattle.act_store.specs.LastPart.{bodies_of, front_of, last_part, written_part}
 use Rattle.act_store.specs.Meaning.{MeansTable}
 use Rattle.act_store.specs.Promise.{IsBegun, IsCounted, IsPut, IsSettled, IsSnapshot, IsConsistent}
 use Rattle.act_store.specs.StoreSeen.{as_checkpoint, as_state}
@@ -33,7 +33,7 @@ use Rattle.act_store.specs.declared.layout.Layout.TheVariants as layouts
 use Rattle.act_store.specs.declared.store.Store.TheInside.{Inside}
 use Rattle.act_store.proofs.Histories.{table_split}
 use Rattle.act_store.proofs.InLayout.{one_layout}
-use Rattle.act_store.proofs.LastPart.{from_on}
+use Rattle.act_store.proofs.LastPart.{last_is}
 use Rattle.act_store.proofs.Meanings.{means_more}
 use Rattle.act_store.proofs.Records.{length_batch}
 use Rattle.act_store.proofs.RefusalsOfCheckpoints.{MayFinish, may_finish}
@@ -69,6 +69,12 @@ short_bodies : (area text : ℕ) (commands : List Command) → area ≤ 10737418
 short_bodies area text [] most room = _
 short_bodies area text (c ∷ cs) most room = (omega (arith, most, room), _)
 
+-- what has room is short
+pub later_is_short : (area text : ℕ) (commands : List Command) → area ≤ 1073741824 → gate_after text commands + 1 ≤ area
+    → 4 + length (flat_map command_bytes commands) < 2 ^ 32
+later_is_short area text [] most room = omega arith
+later_is_short area text (c ∷ cs) most room = omega (arith, most, room, length_batch (c ∷ cs))
+
 -- ---- what the new area recovers to
 
 means_with : (head : Head) (table : TableState) (commands : List Command) → length commands ≤ 4294967295
@@ -86,6 +92,7 @@ pub record Finishes {D : Type 0} (honest : D → Type 0) (images : D → List �
   pub counted : IsCounted (as_state s) s.table s.pending_batch
   pub active_side : honest s.disk → IsConsistent images s.areas.side s.other (as_state s)
   pub b : Begun
+  pub begun : s.begun ≡ Some b
   pub snapshot : IsSnapshot s.base.value s.history.items s.generation s.areas.len b
   pub may : MayFinish (as_state s) (as_checkpoint b)
   pub put : honest s.disk → IsPut s.areas.len s.areas.side s.other (seen s.disk) b
@@ -93,31 +100,57 @@ pub record Finishes {D : Type 0} (honest : D → Type 0) (images : D → List �
   pub is : bytes ≡ last_part (commands_of (drop b.place s.history.items))
   pub encoded : AllByRecursion IsEncoded (commands_of (drop b.place s.history.items))
 
--- What is known as a checkpoint is finished, in that form.
-pub finishing : {D : Type 0} (honest : D → Type 0) (images : D → List ℕ → Type 0) (seen : D → List ℕ) (s : Inside D)
-    → IsCounted (as_state s) s.table s.pending_batch → (honest s.disk → IsConsistent images s.areas.side s.other (as_state s))
+-- What is known as a checkpoint is finished: what precedes the later commands can be filled in.
+pub record FillsIn (count : ℕ) (b : Begun) : Type 0 where
+  pub few : count < 2 ^ 32
+  pub short : 4 + length b.last.encoded < 2 ^ 32
+
+pub fills_in : {D : Type 0} (honest : D → Type 0) (seen : D → List ℕ) (s : Inside D) → IsCounted (as_state s) s.table s.pending_batch
     → IfSome s.begun (IsBegun s.base.value s.history.items s.generation s.areas.len s.areas.side s.other (honest s.disk) s.failed (seen s.disk))
     → (v : StoreState D) → as_state s ≡ v → refusal_of_finish v ≡ None → (b : Begun) → s.begun ≡ Some b
-    → (history : List Entry) → history ≡ s.history.items → (len : ℕ) → len ≡ length b.prefix.items → (bytes last : List ℕ) → bytes ≡ last
-    → last ≡ last_part (commands_of (take (length history - b.place) (drop b.place history)))
-    → AllByRecursion IsEncoded (commands_of (take (length history - b.place) (drop b.place history)))
-    → Finishes honest images seen s (1 + len) bytes
-finishing {D} honest images seen s counted active_side begun v view none b some history value len prefix bytes last same is encoded =
+    → (count : ℕ) → count ≡ length s.history.items - b.place → FillsIn count b
+fills_in {D} honest seen s counted begun v view none b some count counts =
     let may = may_finish (as_state s) (as_checkpoint b) (ap (λ (o : Option Begun). option_map as_checkpoint o) some)
     (subst (λ (k : StoreState D). refusal_of_finish k ≡ None) (sym view) none) in
     let so = it_is s.begun b
     (IsBegun s.base.value s.history.items s.generation s.areas.len s.areas.side s.other (honest s.disk) s.failed (seen s.disk)) some begun in
-    let on = from_on b.place s.history.items history value in
+    let later = commands_of (drop b.place s.history.items) in
+    record {
+      few = omega (arith, counts, counted.most);
+      short = omega (
+        arith,
+        ap (λ (l : List ℕ). length l) so.0.later_is,
+        later_is_short s.areas.len (length b.prefix.items - 17) later counted.size.most may.room,
+      );
+    }
+
+-- And what is written is known in that form.
+pub finishing : {D : Type 0} (honest : D → Type 0) (images : D → List ℕ → Type 0) (seen : D → List ℕ) (s : Inside D)
+    → IsCounted (as_state s) s.table s.pending_batch → (honest s.disk → IsConsistent images s.areas.side s.other (as_state s))
+    → IfSome s.begun (IsBegun s.base.value s.history.items s.generation s.areas.len s.areas.side s.other (honest s.disk) s.failed (seen s.disk))
+    → (v : StoreState D) → as_state s ≡ v → refusal_of_finish v ≡ None → (b : Begun) → s.begun ≡ Some b → (len : ℕ) → len ≡ length b.prefix.items
+    → (count : ℕ) → count ≡ length s.history.items - b.place → (bytes : List ℕ)
+    → bytes ≡ written_part (record b.last { front = front_of count b.last.encoded }) → Finishes honest images seen s (1 + len) bytes
+finishing {D} honest images seen s counted active_side begun v view none b some len prefix count counts bytes is =
+    let may = may_finish (as_state s) (as_checkpoint b) (ap (λ (o : Option Begun). option_map as_checkpoint o) some)
+    (subst (λ (k : StoreState D). refusal_of_finish k ≡ None) (sym view) none) in
+    let so = it_is s.begun b
+    (IsBegun s.base.value s.history.items s.generation s.areas.len s.areas.side s.other (honest s.disk) s.failed (seen s.disk)) some begun in
+    let later = commands_of (drop b.place s.history.items) in
+    let many : count ≡ length later =
+    counts ∙ sym (length-map (drop b.place s.history.items) (λ (e : Entry). e.command) ∙ length-drop b.place s.history.items) in
     record {
       counted = counted;
       active_side = active_side;
       b = b;
+      begun = some;
       snapshot = so.0;
       may = may;
       put = λ is_honest. so.1 is_honest may.live;
       place = omega (arith, prefix);
-      is = same ∙ subst (λ (h : List Entry). last ≡ last_part (commands_of h)) on is;
-      encoded = subst (λ (h : List Entry). AllByRecursion IsEncoded (commands_of h)) on encoded;
+      is = is ∙ last_is later (record b.last { front = front_of count b.last.encoded }) so.0.later_is
+          (ap (λ (n : ℕ). front_of n b.last.encoded) many);
+      encoded = so.0.later_encoded;
     }
 
 module _ {D : Type 0} (honest : D → Type 0) (images : D → List ℕ → Type 0) (seen : D → List ℕ) (s : Inside D)
@@ -206,6 +239,19 @@ module _ {D : Type 0} (honest : D → Type 0) (images : D → List ℕ → Type 
         (λ new. inr (recovers_to s.areas.len (other s.areas.side) Open next others (table_of (as_state s)) c f.counted.size new means_all))
         either
 
+  -- the last part ends within the area
+  pub part_fits : at + length bytes ≤ s.areas.len
+  part_fits =
+      omega (
+        arith,
+        f.place,
+        long_prefix,
+        end,
+        room,
+        ap (λ (l : List ℕ). length l) f.is,
+        length-append (record_bytes others) (0 ∷ []),
+      )
+
   -- what the switch of areas guarantees
   abbrev pub Turns : (Head → Head → List (List ℕ) → List (List ℕ) → Type 0) → Type 0
   Turns what =
@@ -272,6 +318,16 @@ module _ {D : Type 0} (honest : D → Type 0) (images : D → List ℕ → Type 
     }
 
     module _ (covered used : ℕ) (all : covered ≡ length s.history.items) (here : used ≡ at + length bytes - 1) where
+      -- the checkpoint that was begun is finished
+      pub is_finished : (v : StoreState D) → as_state s ≡ v → IsFinished v (done covered used)
+      is_finished v same =
+          let checkpoint = as_checkpoint f.b in
+          let now : done covered used ≡ finished (as_state s) checkpoint disk =
+          ap (λ n. done n used) all ∙ ap (λ n. done (length s.history.items) n) (here ∙ used_of) in
+          let begun : Some checkpoint ≡ option_map as_checkpoint s.begun = sym (ap (λ (o : Option Begun). option_map as_checkpoint o) f.begun) in
+          subst (λ (k : StoreState D). IsFinished k (done covered used)) same
+          (subst (λ (o : Option Checkpoint). IsSomeAnd o (λ (c : Checkpoint). done covered used ≡ finished (as_state s) c disk)) begun now)
+
       pub counted_finished : (left : BatchState) → left ≡ batch_state_of [] → IsCounted (done covered used) s.table left
       counted_finished left nothing =
           let none : drop covered s.history.items ≡ [] = drop_of_length-le s.history.items (omega (arith, all)) in

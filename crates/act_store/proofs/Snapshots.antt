@@ -1,31 +1,44 @@
 -- What is preserved of a checkpoint in progress, from call to call.
 use Rattle.std.proofs.Common.{◌≡◌, ℕ, ◌+◌, ◌-◌, ◌<◌, ◌≤◌, List, [], ◌∷◌, ◌++◌, length, take, drop, refl, sym, ◌∙◌, ap, subst, arith}
 use Rattle.std.proofs.Common.{Bool, true, false, length-append, take-add, length-take-le}
-use Rattle.std.specs.Prelude.{Option, Some, None, IfSome, is_some}
-use Rattle.std.proofs.lemmas.List.{take_all, take-append-le}
+use Rattle.std.specs.Prelude.{Option, Some, None, IfSome, flat_map, is_some, option_map}
+use Rattle.std.proofs.lemmas.List.{drop-append-le, drop_all, take_all, take_at, take-append-le}
 use Rattle.std.specs.Int.{to_be_bytes, w64}
+use Rattle.std.specs.List.{AllByRecursion}
 use Rattle.act_disk.specs.Images.{Holds}
 use Rattle.gated_journal.specs.Layout.{head_bytes}
 use Rattle.gated_journal.specs.TwoAreas.{other, start_of}
 use Rattle.gated_journal.specs.declared.gate.Gate.{Gate}
 use Rattle.gated_journal.specs.declared.gate.Gate.TheVariants.{Closed}
 use Rattle.gated_journal.specs.declared.side.Side.{Side}
+use Rattle.run_plan.specs.declared.command.Command.{Command}
 use Rattle.run_table.specs.TableState.{TableState}
+use Rattle.command_encodings.specs.Commands.{IsEncoded, command_bytes}
 use Rattle.table_text.specs.WholeTables.{whole_table}
 use Rattle.act_store.specs.Checkpoints.{first_gate, text_length}
-use Rattle.act_store.specs.Entries.{table_after}
+use Rattle.act_store.specs.Entries.{commands_of, table_after}
+use Rattle.act_store.specs.LaterEntries.{with_encoded, without_last}
 use Rattle.act_store.specs.Layouts.{current_version}
 use Rattle.act_store.specs.Promise.{IsBegun, IsPut, IsSnapshot}
+use Rattle.act_store.specs.StoreSeen.{as_checkpoint}
 use Rattle.act_store.specs.TableText.{EncodesTable}
 use Rattle.act_store.specs.declared.begun.Begun.{Begun}
 use Rattle.act_store.specs.declared.entry.Entry.{Entry}
 use Rattle.act_store.specs.declared.layout.Layout.TheVariants as layouts
+use Rattle.act_store.proofs.Histories.{commands-append}
+use Rattle.act_store.proofs.Meanings.{all_push}
+use Rattle.act_store.proofs.Records.{commands_with}
 
 -- ---- statements about an optional value
 
 pub if_some : {X : Type 0} (o : Option X) (P Q : X → Type 0) → ((x : X) → P x → Q x) → IfSome o P → IfSome o Q
 if_some None P Q weaker here = tt
 if_some (Some x) P Q weaker here = weaker x here
+
+if_mapped : {X Y : Type 0} (f : X → Y) (o : Option X) (P : X → Type 0) (Q : Y → Type 0) → ((x : X) → P x → Q (f x)) → IfSome o P
+    → IfSome (option_map f o) Q
+if_mapped f None P Q weaker here = tt
+if_mapped f (Some x) P Q weaker here = weaker x here
 
 pub if_none : {X : Type 0} (o : Option X) (P : X → Type 0) → is_some o ≡ false → IfSome o P
 if_none None P none = tt
@@ -55,17 +68,21 @@ pub snapshot_taken : (base table : TableState) (history : List Entry) (generatio
     → table ≡ table_after base history → b.place ≡ length history → b.put ≡ 0 → generation < 18446744073709551615
     → first_gate (text_length table) + 1 ≤ area
     → b.prefix.items ≡ head_bytes (record { version = current_version; generation = generation + 1; text = whole_table.encoding table })
-    → EncodesTable layouts.Second table (whole_table.encoding table) → IsSnapshot base history generation area b
-snapshot_taken base table history generation area b is place put newer room prefix encodes = record {
-  text = whole_table.encoding table;
-  encodes = subst (λ (t : TableState). EncodesTable layouts.Second t (whole_table.encoding table))
-      (is ∙ ap (λ (l : List Entry). table_after base l) (sym (take_all b.place history (omega (arith, place))))) encodes;
-  prefix_is = prefix;
-  place = omega (arith, place);
-  put = omega (arith, put);
-  newer = omega (arith, newer);
-  fits = omega (arith, ap (λ (l : List ℕ). length l) prefix, length_head (generation + 1) (whole_table.encoding table), room);
-}
+    → EncodesTable layouts.Second table (whole_table.encoding table) → b.last.encoded ≡ [] → IsSnapshot base history generation area b
+snapshot_taken base table history generation area b is place put newer room prefix encodes none =
+    let nothing : drop b.place history ≡ [] = drop_all b.place history (omega (arith, place)) in
+    record {
+      text = whole_table.encoding table;
+      encodes = subst (λ (t : TableState). EncodesTable layouts.Second t (whole_table.encoding table))
+          (is ∙ ap (λ (l : List Entry). table_after base l) (sym (take_all b.place history (omega (arith, place))))) encodes;
+      prefix_is = prefix;
+      place = omega (arith, place);
+      put = omega (arith, put);
+      newer = omega (arith, newer);
+      fits = omega (arith, ap (λ (l : List ℕ). length l) prefix, length_head (generation + 1) (whole_table.encoding table), room);
+      later_is = none ∙ ap (λ (l : List Entry). flat_map command_bytes (commands_of l)) (sym nothing);
+      later_encoded = subst (λ (l : List Entry). AllByRecursion IsEncoded (commands_of l)) (sym nothing) _;
+    }
 
 empty_of : (l : List ℕ) → length l ≡ 0 → l ≡ []
 empty_of [] none = refl
@@ -88,9 +105,9 @@ slice_on items other from to less is =
     ∙ ap (λ (n : ℕ). take n items) (let whole : from + (to - from) ≡ to = omega (arith, less) in whole)
 
 pub snapshot_sliced : (base : TableState) (history : List Entry) (generation area : ℕ) (b next : Begun)
-    → next.prefix.items ≡ b.prefix.items → next.place ≡ b.place → next.put ≤ length b.prefix.items
+    → next.prefix.items ≡ b.prefix.items → next.place ≡ b.place → next.put ≤ length b.prefix.items → next.last.encoded ≡ b.last.encoded
     → IsSnapshot base history generation area b → IsSnapshot base history generation area next
-snapshot_sliced base history generation area b next prefix place put snapshot = record {
+snapshot_sliced base history generation area b next prefix place put last snapshot = record {
   text = snapshot.text;
   encodes = subst (λ (n : ℕ). EncodesTable layouts.Second (table_after base (take n history)) snapshot.text) (sym place) snapshot.encodes;
   prefix_is = prefix ∙ snapshot.prefix_is;
@@ -98,6 +115,9 @@ snapshot_sliced base history generation area b next prefix place put snapshot = 
   put = omega (arith, put, ap (λ (l : List ℕ). length l) prefix);
   newer = snapshot.newer;
   fits = omega (arith, snapshot.fits, ap (λ (l : List ℕ). length l) prefix);
+  later_is = last ∙ snapshot.later_is
+      ∙ ap (λ (n : ℕ). flat_map command_bytes (commands_of (drop n history))) (sym place);
+  later_encoded = subst (λ (n : ℕ). AllByRecursion IsEncoded (commands_of (drop n history))) (sym place) snapshot.later_encoded;
 }
 
 pub put_sliced : (area : ℕ) (side : Side) (gate : Gate) (seen : List ℕ) (b next : Begun) → next.prefix.items ≡ b.prefix.items
@@ -109,29 +129,72 @@ put_sliced area side gate seen b next prefix closed held = record {
 
 -- ---- across the other calls
 
--- a history with one more entry
+-- a history with one more entry, whose encoding is kept
 snapshot_entered : (base : TableState) (history more : List Entry) (entry : Entry) (generation area : ℕ) (b : Begun)
-    → more ≡ history ++ entry ∷ [] → IsSnapshot base history generation area b → IsSnapshot base more generation area b
-snapshot_entered base history more entry generation area b is snapshot = record {
-  text = snapshot.text;
-  encodes = subst (λ (l : List Entry). EncodesTable layouts.Second (table_after base l) snapshot.text)
-      (sym (ap (λ (l : List Entry). take b.place l) is ∙ take-append-le b.place history (entry ∷ []) snapshot.place)) snapshot.encodes;
-  prefix_is = snapshot.prefix_is;
-  place = omega (arith, snapshot.place, ap (λ (l : List Entry). length l) is, length-append history (entry ∷ []));
-  put = snapshot.put;
-  newer = snapshot.newer;
-  fits = snapshot.fits;
-}
+    → more ≡ history ++ entry ∷ [] → IsEncoded entry.command → IsSnapshot base history generation area b
+    → IsSnapshot base more generation area (with_encoded (command_bytes entry.command) b)
+snapshot_entered base history more entry generation area b is encoded snapshot =
+    let later = commands_of (drop b.place history) in
+    let now : commands_of (drop b.place more) ≡ later ++ entry.command ∷ [] =
+    ap (λ (l : List Entry). commands_of (drop b.place l)) is
+    ∙ ap (λ (l : List Entry). commands_of l) (drop-append-le b.place history (entry ∷ []) snapshot.place)
+    ∙ commands-append (drop b.place history) (entry ∷ []) in
+    record {
+      text = snapshot.text;
+      encodes = subst (λ (l : List Entry). EncodesTable layouts.Second (table_after base l) snapshot.text)
+          (sym (ap (λ (l : List Entry). take b.place l) is ∙ take-append-le b.place history (entry ∷ []) snapshot.place)) snapshot.encodes;
+      prefix_is = snapshot.prefix_is;
+      place = omega (arith, snapshot.place, ap (λ (l : List Entry). length l) is, length-append history (entry ∷ []));
+      put = snapshot.put;
+      newer = snapshot.newer;
+      fits = snapshot.fits;
+      later_is = ap (λ (l : List ℕ). l ++ command_bytes entry.command) snapshot.later_is
+          ∙ sym (commands_with later entry.command) ∙ ap (λ (l : List Command). flat_map command_bytes l) (sym now);
+      later_encoded = subst (λ (l : List Command). AllByRecursion IsEncoded l) (sym now)
+          (all_push IsEncoded later entry.command snapshot.later_encoded encoded);
+    }
+
+-- what contracts see of it is the same
+same_checkpoint : (encoded : List ℕ) (o : Option Begun)
+    → option_map as_checkpoint (option_map (with_encoded encoded) o) ≡ option_map as_checkpoint o
+same_checkpoint encoded None = refl
+same_checkpoint encoded (Some b) = refl
+
+pub seen_grown : (command : Command) (o next : Option Begun) → next ≡ option_map (with_encoded (command_bytes command)) o
+    → option_map as_checkpoint next ≡ option_map as_checkpoint o
+seen_grown command o next grown = ap (λ (x : Option Begun). option_map as_checkpoint x) grown ∙ same_checkpoint (command_bytes command) o
+
+-- as many bytes are taken off as were added
+pub taken_back : (encoded : List ℕ) (count : ℕ) (o next : Option Begun) → count ≡ length encoded → next ≡ option_map (with_encoded encoded) o
+    → option_map (without_last count) next ≡ o
+taken_back encoded count None next counts is = ap (λ (x : Option Begun). option_map (without_last count) x) is
+taken_back encoded count (Some b) next counts is =
+    let size : length (b.last.encoded ++ encoded) - count ≡ length b.last.encoded = omega (arith, counts, length-append b.last.encoded encoded) in
+    ap (λ (x : Option Begun). option_map (without_last count) x) is
+    ∙ ap (λ (n : ℕ). Some (record b { last = record b.last { encoded = take n (b.last.encoded ++ encoded) } })) size
+    ∙ ap (λ (l : List ℕ). Some (record b { last = record b.last { encoded = l } }))
+    (take_at b.last.encoded encoded (length b.last.encoded) refl)
+
+pub enough_added : (encoded : List ℕ) (count : ℕ) (o next : Option Begun) → count ≡ length encoded → next ≡ option_map (with_encoded encoded) o
+    → IfSome next (λ (b : Begun). count ≤ length b.last.encoded)
+enough_added encoded count None next counts is = subst (λ (x : Option Begun). IfSome x (λ (b : Begun). count ≤ length b.last.encoded)) (sym is) tt
+enough_added encoded count (Some b) next counts is =
+    subst (λ (x : Option Begun). IfSome x (λ (b : Begun). count ≤ length b.last.encoded)) (sym is)
+    (omega (arith, counts, length-append b.last.encoded encoded))
 
 module _ (base : TableState) (history : List Entry) (generation area : ℕ) (side : Side) (gate : Gate) (honest : Type 0) (failed : Bool)
     (seen : List ℕ) (o : Option Begun)
     (here : IfSome o (IsBegun base history generation area side gate honest failed seen)) where
-  pub begun_entered : (more : List Entry) (entry : Entry) → more ≡ history ++ entry ∷ []
-      → IfSome o (IsBegun base more generation area side gate honest failed seen)
-  begun_entered more entry is =
-      if_some o (IsBegun base history generation area side gate honest failed seen)
+  pub begun_entered : (more : List Entry) (entry : Entry) (next : Option Begun) → more ≡ history ++ entry ∷ [] → IsEncoded entry.command
+      → next ≡ option_map (with_encoded (command_bytes entry.command)) o → IfSome next (IsBegun base more generation area side gate honest failed seen)
+  begun_entered more entry next is encoded grown =
+      subst (λ (x : Option Begun). IfSome x (IsBegun base more generation area side gate honest failed seen)) (sym grown)
+      (if_mapped (with_encoded (command_bytes entry.command)) o (IsBegun base history generation area side gate honest failed seen)
       (IsBegun base more generation area side gate honest failed seen)
-      (λ b so. (snapshot_entered base history more entry generation area b is so.0, so.1)) here
+      (λ b so. (
+        snapshot_entered base history more entry generation area b is encoded so.0,
+        λ still live. let put = so.1 still live in record { closed = put.closed; held = put.held },
+      )) here)
 
   -- after a device failure nothing is known of the disk
   pub begun_broken : (later : Type 0) (file : List ℕ) → IfSome o (IsBegun base history generation area side gate later true file)

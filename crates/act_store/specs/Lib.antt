@@ -4,6 +4,7 @@ pub mod Entries
 pub mod GroupsOfHistory
 pub mod Images
 pub mod LastPart
+pub mod LaterEntries
 pub mod Layouts
 pub mod Limits
 pub mod Meaning

@@ -1,5 +1,5 @@
 -- What a store guarantees after any calls: the promise about the images of its disk.
-use Rattle.std.specs.Prelude.{◌≡◌, ℕ, ◌<◌, ◌≤◌, ◌+◌, ◌^◌, List, length, take, Bool, false, Some}
+use Rattle.std.specs.Prelude.{◌≡◌, ℕ, ◌<◌, ◌≤◌, ◌+◌, ◌^◌, List, length, take, drop, flat_map, Bool, false, Some}
 use Rattle.std.specs.List.{AllByRecursion}
 use Rattle.stated_limits.specs.Limits.{max_entries}
 use Rattle.act_disk.specs.Images.{Holds}
@@ -11,8 +11,8 @@ use Rattle.gated_journal.specs.declared.gate.Gate.TheVariants.{Closed}
 use Rattle.gated_journal.specs.declared.side.Side.{Side}
 use Rattle.run_table.specs.Sound.{IsSound}
 use Rattle.run_table.specs.TableState.{TableState}
-use Rattle.command_encodings.specs.Commands.{IsEncoded}
-use Rattle.act_store.specs.Entries.{IsLegal, table_after}
+use Rattle.command_encodings.specs.Commands.{IsEncoded, command_bytes}
+use Rattle.act_store.specs.Entries.{IsLegal, commands_of, table_after}
 use Rattle.act_store.specs.Images.{IsAreaLength}
 use Rattle.act_store.specs.StoreState.{StoreState, RecoversToEither, covered_table, pending_commands, table_of}
 use Rattle.act_store.specs.Layouts.{HasCommand, current_version, layout_of}
@@ -58,7 +58,7 @@ pub record IsCounted {D : Type 0} (s : StoreState D) (table : TableState) (pendi
   pub pending_batch_is : pending_batch ≡ batch_state_of (pending_commands s)
 
 -- The state in memory of a checkpoint in progress: the head of an area of the next generation, with the text of the table after the first
--- entries. It fits the area, with one gate before it and one after.
+-- entries. It fits the area, with one gate before it and one after. The encodings of the entries since are kept behind it.
 pub record IsSnapshot (base : TableState) (history : List Entry) (generation area : ℕ) (b : Begun) : Type 0 where
   pub text : List ℕ
   pub encodes : EncodesTable layouts.Second (table_after base (take b.place history)) text
@@ -67,6 +67,8 @@ pub record IsSnapshot (base : TableState) (history : List Entry) (generation are
   pub put : b.put ≤ length b.prefix.items
   pub newer : generation + 1 < 2 ^ 64
   pub fits : 2 + length b.prefix.items ≤ area
+  pub later_is : b.last.encoded ≡ flat_map command_bytes (commands_of (drop b.place history))
+  pub later_encoded : AllByRecursion IsEncoded (commands_of (drop b.place history))
 
 -- Its state on the disk: the gate of the other area is closed, and a read finds what was put after that gate.
 pub record IsPut (area : ℕ) (side : Side) (gate : Gate) (seen : List ℕ) (b : Begun) : Type 0 where

@@ -1,4 +1,4 @@
-ghost use Rattle.std.specs.Prelude.{◌≡◌, ◌⊎◌, ◌+◌, ◌<◌, ◌^◌, [], ◌∷◌, ◌++◌, length, Err, IfErr, IfOk, IfSome, OnErr, OnOk, Some};
+ghost use Rattle.std.specs.Prelude.{◌≡◌, ◌⊎◌, ◌+◌, ◌<◌, ◌^◌, [], ◌∷◌, ◌++◌, length, option_map, Err, IfErr, IfOk, IfSome, OnErr, OnOk, Some};
 ghost use Rattle.std.specs.Prelude.{vec_capacity, vec_len};
 ghost use Rattle.wf_value.specs.Gives.{no_memory};
 ghost use Rattle.act_disk.specs.Failed.{device_failed};
@@ -8,8 +8,10 @@ ghost use Rattle.command_encodings.specs.Commands.{IsEncoded, command_bytes};
 ghost use Rattle.act_store.specs.StoreState.{RecoversToEither};
 ghost use Rattle.act_store.specs.Plain.{entered, receipt_of, refusal_of_apply};
 ghost use Rattle.act_store.specs.PendingBatch.{with_command};
+ghost use Rattle.act_store.specs.LaterEntries.{with_encoded};
 ghost use Rattle.act_store.specs.declared.pending_batch.TheConstants.{COUNT};
 
+use crate::begun::{Begun, add_encoding, take_off};
 use crate::entry::Entry;
 use crate::pending_batch::PendingBatch;
 use crate::receipt::Receipt;
@@ -50,6 +52,7 @@ impl<D: Disk> Store<D> {
             &mut self.table,
             &mut self.history,
             &mut self.pending_batch,
+            &mut self.begun,
             seat,
             command,
         )?;
@@ -80,12 +83,14 @@ impl<D: Disk> Store<D> {
     }
 }
 
-/// Carries out a command, and appends it to the history and to the pending commands. Running out of memory changes nothing.
+/// Carries out a command, and appends it to the history, to the pending commands, and to what a checkpoint in progress keeps. Running
+/// out of memory changes nothing.
 fn enter(
     alloc: Global,
     table: &mut Table,
     history: &mut Vec<Entry>,
     pending_batch: &mut PendingBatch,
+    begun: &mut Option<Begun>,
     seat: u64,
     command: Command,
 ) -> Result<Reply, Refusal>
@@ -96,15 +101,18 @@ fn enter(
     ensures history { IfOk result (λ _. history.new.items ≡ history.old.items
         ++ record { seat = seat; command = command; reply = (stepped table.old command).reply } ∷ []) }
     ensures pending_batch { OnOk result (pending_batch.new ≡ with_command pending_batch.old command) }
+    ensures begun { OnOk result (begun.new ≡ option_map (with_encoded (command_bytes command)) begun.old) }
     ensures encoded { OnOk result (IsEncoded command) }
     ensures same_table { OnErr result (table.new ≡ table.old) }
     ensures same_history { OnErr result (history.new.items ≡ history.old.items) }
     ensures same_pending_batch { OnErr result (pending_batch.new ≡ pending_batch.old) }
+    ensures same_begun { OnErr result (begun.new ≡ begun.old) }
     ensures refused { IfErr result (λ e. e ≡ no_memory) }
 {
     let (count, encoded) = (pending_batch.count(), pending_batch.encoded_len());
     make_room(alloc, history, pending_batch, &command)?;
-    match step_and_push(alloc, table, history, seat, command) {
+    let bytes = pending_batch.encoded_from(encoded);
+    match keep_and_step(alloc, table, history, begun, bytes, seat, command) {
         Ok(reply) => Ok(reply),
         Err(refusal) => {
             pending_batch.truncate(count, encoded);
@@ -133,6 +141,37 @@ fn make_room(
     pending_batch.add(alloc, command)
 }
 
+/// Carries out a command, and appends it to a history that has room for it, and its encoding to what a checkpoint in progress keeps.
+fn keep_and_step(
+    alloc: Global,
+    table: &mut Table,
+    history: &mut Vec<Entry>,
+    begun: &mut Option<Begun>,
+    encoded: &[u8],
+    seat: u64,
+    command: Command,
+) -> Result<Reply, Refusal>
+    requires { vec_len history.old < vec_capacity history.old }
+    ensures reply { IfOk result (λ reply. reply ≡ (stepped table.old command).reply) }
+    ensures table { IfOk result (λ _. table.new ≡ (stepped table.old command).table) }
+    ensures history { IfOk result (λ _. history.new.items ≡ history.old.items
+        ++ record { seat = seat; command = command; reply = (stepped table.old command).reply } ∷ []) }
+    ensures begun { OnOk result (begun.new ≡ option_map (with_encoded encoded.now) begun.old) }
+    ensures same_table { OnErr result (table.new ≡ table.old) }
+    ensures same_history { OnErr result (history.new.items ≡ history.old.items) }
+    ensures same_begun { OnErr result (begun.new ≡ begun.old) }
+    ensures refused { IfErr result (λ e. e ≡ no_memory) }
+{
+    add_encoding(begun, encoded)?;
+    match step_and_push(alloc, table, history, seat, command) {
+        Ok(reply) => Ok(reply),
+        Err(refusal) => {
+            take_off(begun, encoded.len());
+            Err(refusal)
+        }
+    }
+}
+
 /// Carries out a command, and appends it to a history that has room for it.
 fn step_and_push(
     alloc: Global,
@@ -153,7 +192,7 @@ fn step_and_push(
     let (reply, told) = table.step_with_copy(alloc, &command)?;
     let entry = Entry {
         seat,
-        command,
+        command: table.sharing(command),
         reply,
     };
     push_within(history, entry);

@@ -1,4 +1,4 @@
-ghost use Rattle.std.specs.Prelude.{◌≡◌, ◌⊎◌, ◌↔◌, ◌+◌, ◌≤◌, ℕ, List, length, nat_lt, not, Err, IfErr, IfOk, IfSome, OnOk, Some};
+ghost use Rattle.std.specs.Prelude.{◌≡◌, ◌⊎◌, ◌↔◌, ◌+◌, ◌≤◌, ◌<◌, ◌^◌, ℕ, List, [], is_some, length, nat_lt, not, Err, IfErr, IfOk, IfSome, OnOk, None, Some};
 ghost use Rattle.wf_value.specs.Gives.{no_memory};
 ghost use Rattle.act_disk.specs.Failed.{device_failed};
 ghost use Rattle.act_disk.specs.Images.{EachSince};
@@ -15,6 +15,7 @@ ghost use Rattle.act_store.specs.TableText.{EncodesTable};
 ghost use Rattle.act_store.specs.FaultCauses.{TellsFault};
 
 use crate::begun::Begun;
+use crate::last_part::LastPart;
 use crate::layout::Layout;
 use crate::store::Store;
 use act_disk::Disk;
@@ -47,10 +48,14 @@ impl<D: Disk> Store<D> {
         ensures calls { D.calls self.new.disk ≤ D.calls self.old.disk + 2 }
         ensures honest { D.honest self.new.disk ↔ D.honest self.old.disk }
     {
-        if let Some(refusal) = self.refusal_of_begin() {
-            return Err(refusal);
-        }
-        let prefix = area_header(alloc, self.generation + 1, &self.table)?;
+        let text = self.text_to_take()?;
+        let begun = take_text(
+            alloc,
+            self.generation + 1,
+            text,
+            &self.table,
+            self.history.len(),
+        )?;
         let areas = self.areas;
         match areas.close_other(&mut self.disk, self.other) {
             Err(fault) => {
@@ -58,61 +63,96 @@ impl<D: Disk> Store<D> {
                 Err(Refusal::from(fault))
             }
             Ok(()) => {
-                let left = prefix.len() as u64;
+                let left = begun.prefix.len() as u64;
                 self.other = Gate::Closed;
-                self.begun = Some(Begun {
-                    place: self.history.len(),
-                    prefix,
-                    put: 0,
-                });
+                self.begun = Some(begun);
                 Ok(left)
             }
         }
     }
 
-    /// Why no checkpoint is begun, whether or not memory is available.
-    fn refusal_of_begin(&self) -> Option<Refusal>
-        ensures { result ≡ refusal_of_begin self.now }
+    /// The length of the text of the current table, or why no checkpoint is begun, whether or not memory is available.
+    fn text_to_take(&self) -> Result<u64, Refusal>
+        ensures refused { IfErr result (λ refusal. refusal_of_begin self.now ≡ Some refusal) }
+        ensures begins { OnOk result (refusal_of_begin self.now ≡ None) }
+        ensures text { IfOk result (λ text. text ≡ text_length (table_of self.now)) }
     {
         if self.failed {
-            return Some(Refusal::Numbered(Code::FailedEarlier));
+            return Err(Refusal::Numbered(Code::FailedEarlier));
         }
         if self.begun.is_some() {
-            return Some(Refusal::Numbered(Code::CheckpointTurn));
+            return Err(Refusal::Numbered(Code::CheckpointTurn));
         }
         if self.generation == u64::MAX {
-            return Some(Refusal::Numbered(Code::LastCounter));
+            return Err(Refusal::Numbered(Code::LastCounter));
         }
-        if !self.text_fits() {
-            return Some(Refusal::Numbered(Code::AreaFull));
+        match self.text_that_fits() {
+            Some(text) => Ok(text),
+            None => Err(Refusal::Numbered(Code::AreaFull)),
         }
-        None
     }
 
-    /// Whether the text of the current table fits an area.
-    fn text_fits(&self) -> bool
-        ensures { result ≡ not (nat_lt self.now.area (first_gate (text_length (table_of self.now)) + GATE)) }
+    /// The length of the text of the current table, if it fits an area.
+    fn text_that_fits(&self) -> Option<u64>
+        ensures fits { is_some result ≡ not (nat_lt self.now.area (first_gate (text_length (table_of self.now)) + GATE)) }
+        ensures text { IfSome result (λ text. text ≡ text_length (table_of self.now)) }
     {
         // More runners cannot be encoded; their text would not fit.
         if self.table.runners().len() > u32::MAX as usize {
-            return false;
+            return None;
         }
-        table_length(&self.table) <= self.areas.len - (GATE + HEAD + GATE)
+        let text = table_length(&self.table);
+        if text > self.areas.len - (GATE + HEAD + GATE) {
+            return None;
+        }
+        Some(text)
     }
 }
 
-/// The head of an area of a generation, with the text of a table.
-#[tactic(auto, using(crate::proofs::TextOfTable::table_encodes))]
-fn area_header(alloc: Global, generation: u64, table: &Table) -> Result<Vec<u8>, Refusal>
+/// A checkpoint of a table, with nothing written yet: `place` entries lead to the table, and its text has `text` bytes.
+fn take_text(
+    alloc: Global,
+    generation: u64,
+    text: u64,
+    table: &Table,
+    place: usize,
+) -> Result<Begun, Refusal>
     requires few { length table.now.runners ≤ 4294967295 }
     requires sound { IsSound table.now }
+    requires text { text ≡ text_length table.now }
+    requires short { text < 2 ^ 32 }
+    ensures prefix { IfOk result (λ b. b.prefix.items
+        ≡ head_bytes (record { version = current_version; generation = generation; text = whole_table.encoding table.now })) }
+    ensures encodes { OnOk result (EncodesTable layouts.Second table.now (whole_table.encoding table.now)) }
+    ensures place { IfOk result (λ b. b.place ≡ place) }
+    ensures put { IfOk result (λ b. b.put ≡ 0) }
+    ensures none { IfOk result (λ b. b.last.encoded ≡ []) }
+    ensures refused { IfErr result (λ e. e ≡ no_memory) }
+{
+    let prefix = area_header(alloc, generation, text, table)?;
+    let last = LastPart::new(alloc)?;
+    Ok(Begun {
+        place,
+        prefix,
+        put: 0,
+        last,
+    })
+}
+
+/// The head of an area of a generation, with the text of a table, which has `text` bytes.
+#[tactic(auto, using(crate::proofs::TextOfTable::table_encodes))]
+fn area_header(alloc: Global, generation: u64, text: u64, table: &Table) -> Result<Vec<u8>, Refusal>
+    requires few { length table.now.runners ≤ 4294967295 }
+    requires sound { IsSound table.now }
+    requires text { text ≡ text_length table.now }
+    requires short { text < 2 ^ 32 }
     ensures prefix { IfOk result (λ bytes. bytes.items
         ≡ head_bytes (record { version = current_version; generation = generation; text = whole_table.encoding table.now })) }
     ensures encodes { OnOk result (EncodesTable layouts.Second table.now (whole_table.encoding table.now)) }
     ensures refused { IfErr result (λ e. e ≡ no_memory) }
 {
-    let text = table_length(table);
     let mut bytes = vec![in alloc; Layout::Second.byte(); 1]?;
+    bytes.reserve((HEAD + text) as usize)?;
     bytes.extend_from_slice(&generation.to_be_bytes())?;
     bytes.extend_from_slice(&text.to_be_bytes())?;
     write_table(&mut bytes, table)?;

@@ -1,7 +1,9 @@
-ghost use Rattle.std.specs.Prelude.{◌≡◌, ◌⊎◌, ◌↔◌, ◌+◌, ◌≤◌, ℕ, List, length, not, Err, IfErr, IfOk, IfSome, OnOk, Some};
+ghost use Rattle.std.specs.Prelude.{◌≡◌, ◌⊎◌, ◌↔◌, ◌+◌, ◌≤◌, ℕ, List, drop, flat_map, length, not, Err, IfErr, IfOk, IfSome, OnOk, Some};
 ghost use Rattle.wf_value.specs.Gives.{no_memory};
 ghost use Rattle.act_disk.specs.Failed.{device_failed};
 ghost use Rattle.act_disk.specs.Images.{EachSince};
+ghost use Rattle.command_encodings.specs.Commands.{command_bytes};
+ghost use Rattle.act_store.specs.Entries.{commands_of};
 ghost use Rattle.act_store.specs.Checkpoints.{IsFinished, dropped, has_no_room, refusal_of_finish};
 ghost use Rattle.act_store.specs.Images.{RecoversTo};
 ghost use Rattle.act_store.specs.StoreState.{RecoversToEither, table_of};
@@ -10,7 +12,6 @@ ghost use Rattle.act_store.specs.StoreSeen.{as_checkpoint};
 ghost use Rattle.act_store.specs.FaultCauses.{TellsFault};
 
 use crate::begun::Begun;
-use crate::last_part::{encoded_len, last_part};
 use crate::layout::Layout;
 use crate::pending_batch::COUNT;
 use crate::store::Store;
@@ -26,8 +27,8 @@ impl<D: Disk> Store<D> {
     ///
     /// It is refused, whether or not memory is available, with 52 if the device has failed; else with 56 if no checkpoint is in progress
     /// or some of its bytes are not written; else with 47 if the record does not fit. After 47 the checkpoint is dropped, and nothing else
-    /// changes. The only other failures are 50, and 51, after which the store has failed. At each moment of the call the disk recovers to
-    /// the entries that were covered, or to all; after `Ok`, to all.
+    /// changes. The only other failure is 51, after which the store has failed: no memory is taken, though the clauses allow 50. At each
+    /// moment of the call the disk recovers to the entries that were covered, or to all; after `Ok`, to all.
     pub fn check_finish(&mut self, alloc: Global) -> Result<u64, Refusal>
         ensures any_moment { D.honest self.old.disk
             → EachSince D.moment D.images_since self.old.disk self.new.disk (RecoversToEither self.old) }
@@ -52,13 +53,19 @@ impl<D: Disk> Store<D> {
             Some(refusal) => return Err(refusal),
             None => {}
         }
-        let Some(begun) = &self.begun else {
+        let areas = self.areas;
+        let Some(begun) = self.begun.take() else {
             return Err(Refusal::Numbered(Code::CheckpointTurn));
         };
+        let mut begun = begun;
+        let later = self.history.len() - begun.place;
+        begun.last.fill_in(later);
         let at = 1 + begun.prefix.len() as u64;
-        let last = last_part(alloc, &self.history[begun.place..])?;
-        let areas = self.areas;
-        match areas.switch(&mut self.disk, at, last.as_slice()) {
+        let last = begun.last.as_slice();
+        let end = at + last.len() as u64;
+        let switched = areas.switch(&mut self.disk, at, last);
+        self.begun = Some(begun);
+        match switched {
             Err(fault) => {
                 self.failed = true;
                 Err(Refusal::from(fault))
@@ -69,7 +76,7 @@ impl<D: Disk> Store<D> {
                     side: areas.side.other(),
                 };
                 self.other = Gate::Open;
-                self.used = at + last.len() as u64 - 1;
+                self.used = end - 1;
                 self.generation += 1;
                 self.layout = Layout::Second;
                 self.covered = self.history.len();
@@ -104,13 +111,13 @@ impl<D: Disk> Store<D> {
         requires place { begun.now.place ≤ length self.now.history }
         requires head { HEAD ≤ length begun.now.prefix.items }
         requires fits { 2 + length begun.now.prefix.items ≤ self.now.area }
+        requires later { begun.now.last.encoded ≡ flat_map command_bytes (commands_of (drop begun.now.place self.now.history)) }
         ensures { result ≡ not (has_no_room self.now (as_checkpoint begun.now)) }
     {
-        let since = &self.history[begun.place..];
-        if since.is_empty() {
+        if self.history.len() == begun.place {
             return true;
         }
-        let record = GATE + LENGTH + COUNT + encoded_len(since) + GATE;
+        let record = GATE + LENGTH + COUNT + begun.last.encoded_len() + GATE;
         begun.prefix.len() as u64 + record < self.areas.len
     }
 }

@@ -88,6 +88,7 @@ fn put_slice<D: Disk>(areas: AreaPair, disk: &mut D, begun: &mut Begun) -> Resul
         → Holds (D.seen disk.new) (start_of areas.len (other areas.side) + 1) (take begun.new.put begun.old.prefix.items)) }
     ensures same_prefix { begun.new.prefix.items ≡ begun.old.prefix.items }
     ensures same_place { begun.new.place ≡ begun.old.place }
+    ensures same_last { begun.new.last ≡ begun.old.last }
     ensures put { OnOk result (begun.new.put ≡ min (begun.old.put + max_slice) (length begun.old.prefix.items)) }
     ensures same { OnErr result (begun.new ≡ begun.old) }
     ensures calls { D.calls disk.new ≡ D.calls disk.old + 1 }

@@ -101,6 +101,20 @@ impl PendingBatch {
         }
     }
 
+    /// The encodings from an offset in them on.
+    pub(crate) fn encoded_from(&self, from: usize) -> &[u8]
+        requires { from ≤ length self.now.encoded }
+        ensures { result.now ≡ drop from self.now.encoded }
+    {
+        match &self.record {
+            Some(record) => {
+                let bytes = record.as_slice();
+                &bytes[COUNT_AT + COUNT as usize + from..bytes.len() - 1]
+            }
+            None => &[],
+        }
+    }
+
     /// Adds a command. Running out of memory changes nothing.
     pub(crate) fn add(&mut self, alloc: Global, command: &Command) -> Result<(), Refusal>
         requires few { self.old.count + 1 < 2 ^ 32 }

@@ -1,18 +1,20 @@
 use Rattle.std.proofs.Common.{rules, ◌≡◌, ◌++◌, [], ◌∷◌, refl, sym, subst}
-use Rattle.std.specs.Prelude.{None, Some}
+use Rattle.std.specs.Prelude.{None, Option, Some, option_map}
 use Rattle.run_table.specs.Step.{stepped}
+use Rattle.command_encodings.specs.Commands.{command_bytes}
 use Rattle.run_table.specs.TableState.{TableState}
 use Rattle.act_disk.specs.Images.{EachSince}
 use Rattle.act_disk.proofs.Moments.{started}
-use Rattle.act_store.specs.StoreState.{StoreState, RecoversToEither}
+use Rattle.act_store.specs.StoreState.{Checkpoint, StoreState, RecoversToEither}
 use Rattle.act_store.specs.Plain.{refusal_of_apply}
-use Rattle.act_store.specs.Promise.{IsCounted}
-use Rattle.act_store.specs.StoreSeen.{as_state}
+use Rattle.act_store.specs.Promise.{IsCounted, IsConsistent}
+use Rattle.act_store.specs.StoreSeen.{as_checkpoint, as_state}
+use Rattle.act_store.specs.LaterEntries.{with_encoded}
 use Rattle.act_store.specs.declared.entry.Entry.{Entry}
 use Rattle.act_store.proofs.Entering.{IsAdmitted, counted_entered, few_wait, is_admitted, record_is_short}
 use Rattle.act_store.proofs.Refused.{apply_no_fault}
 use Rattle.act_store.proofs.Settling.{consistent_entered}
-use Rattle.act_store.proofs.Snapshots.{begun_entered}
+use Rattle.act_store.proofs.Snapshots.{begun_entered, seen_grown}
 use Rattle.act_store.proofs.store.Store.apply.Goals as goal
 
 pub enter-requires : goal.enter-requires
@@ -41,15 +43,22 @@ invariant_of-self-2 g c =
     let entry : Entry = record { seat = c.args.seat; command = command; reply = (stepped s.table command).reply } in
     let history = c.enter.new.history.items in
     let is : history ≡ s.history.items ++ entry ∷ [] = c.in_ok-reply.ensures.history in
-    let table : c.enter.new.table ≡ (stepped s.table command).table = c.in_ok-reply.ensures.table in (
-      subst (λ (t : TableState). IsCounted (record k { history = history }) t c.enter.new.pending_batch) (sym table)
+    let table : c.enter.new.table ≡ (stepped s.table command).table = c.in_ok-reply.ensures.table in
+    let begun = c.enter.new.begun in
+    let grown : begun ≡ option_map (with_encoded (command_bytes command)) s.begun = c.in_ok-reply.ensures.begun in
+    let same : option_map as_checkpoint begun ≡ k.begun = seen_grown command s.begun begun grown in (
+      subst (λ (o : Option Checkpoint). IsCounted (record k { history = history; begun = o }) c.enter.new.table c.enter.new.pending_batch)
+          (sym same)
+          (subst (λ (t : TableState). IsCounted (record k { history = history }) t c.enter.new.pending_batch) (sym table)
           (counted_entered k s.table s.pending_batch counted command entry history refl refl is c.enter.new.pending_batch
-          c.in_ok-reply.ensures.pending_batch c.in_ok-reply.ensures.encoded admitted),
+          c.in_ok-reply.ensures.pending_batch c.in_ok-reply.ensures.encoded admitted)),
       c.self.invariant.1,
-      λ honest. consistent_entered g.D.Disk.images s.areas.side s.other k counted.size history entry is counted.covers admitted.live
-          (c.self.invariant.2 honest),
+      λ honest. subst (λ (o : Option Checkpoint). IsConsistent g.D.Disk.images s.areas.side s.other (record k { history = history; begun = o }))
+          (sym same)
+          (consistent_entered g.D.Disk.images s.areas.side s.other k counted.size history entry is counted.covers admitted.live
+          (c.self.invariant.2 honest)),
       begun_entered s.base.value s.history.items s.generation s.areas.len s.areas.side s.other (g.D.Disk.honest s.disk) s.failed
-          (g.D.Disk.seen s.disk) s.begun c.self.invariant.3 history entry is,
+          (g.D.Disk.seen s.disk) s.begun c.self.invariant.3 history entry begun is c.in_ok-reply.ensures.encoded grown,
     )
 
 pub returns-in-Some-clause-any_moment : goal.returns-in-Some-clause-any_moment

@@ -1,11 +1,11 @@
-use Rattle.std.proofs.Common.{rules, arith, ◌≡◌, ◌≤◌, ◌+◌, length, true, refl, subst, sym}
+use Rattle.std.proofs.Common.{rules, arith, ◌≡◌, ◌≤◌, ◌+◌, ◌∙◌, ℕ, ap, length, take, true, refl, subst, sym}
 use Rattle.std.specs.Prelude.{Some, option_map}
-use Rattle.act_disk.specs.Images.{EachSince}
+use Rattle.act_disk.specs.Images.{EachSince, Holds}
 use Rattle.act_disk.proofs.Moments.{started}
 use Rattle.gated_journal.specs.TwoAreas.{other, start_of}
 use Rattle.gated_journal.specs.declared.gate.Gate.TheVariants.{Closed}
 use Rattle.act_store.specs.Checkpoints.{first_gate, text_length}
-use Rattle.act_store.specs.StoreState.{RecoversToEither, StoreState}
+use Rattle.act_store.specs.StoreState.{RecoversToEither, StoreState, table_of}
 use Rattle.act_store.specs.Promise.{IsBegun}
 use Rattle.act_store.specs.StoreSeen.{as_checkpoint, as_state}
 use Rattle.act_store.specs.declared.begun.Begun.{Begun}
@@ -16,14 +16,20 @@ use Rattle.act_store.proofs.RefusalsOfCheckpoints.{begins, none_begun}
 use Rattle.act_store.proofs.Snapshots.{held_none, if_none, snapshot_taken}
 use Rattle.act_store.proofs.store.Store.check_begin.Goals as goal
 
-pub area_header-requires : goal.area_header-requires
-area_header-requires g c =
+pub take_text-requires : goal.take_text-requires
+take_text-requires g c =
     let s = c.self.inside in
     let k = as_state s in
     let counted = c.self.invariant.0 in
+    let may = begins s c.args.self.now c.self.view_is (search rules) in
+    let text : c.in_ok-text.text ≡ text_length s.table =
+    subst (λ (v : StoreState g.row.D.Denot). c.in_ok-text.text ≡ text_length (table_of v)) (sym c.self.view_is) c.in_ok-text.ensures.text
+    ∙ ap (λ t. text_length t) (sym counted.table_is) in
     record {
-      few = few_runners k s.table s.pending_batch counted (begins s c.args.self.now c.self.view_is (search rules));
+      few = few_runners k s.table s.pending_batch counted may;
       sound = table_sound k s.table s.pending_batch counted;
+      text = text;
+      short = omega (arith, text, ap (λ t. text_length t) counted.table_is, may.room, counted.size.most);
     }
 
 pub invariant_of-self : goal.invariant_of-self
@@ -54,8 +60,8 @@ invariant_of-self-in-Ok g c =
     let counted = c.self.invariant.0 in
     let d1 = c.close_other.new.disk in
     let may = begins s c.args.self.now c.self.view_is (search rules) in
-    let b : Begun = record { place = c.len.result; prefix = c.in_ok-prefix.prefix; put = 0 } in
-    let place : c.len.result ≡ length s.history.items = search rules in
+    let b : Begun = c.in_ok-begun.begun in
+    let place : b.place ≡ length s.history.items = search rules in
     let checkpoint = Some (as_checkpoint b) in (
       counted_with k s.table s.pending_batch counted d1 checkpoint s.failed,
       (λ _. search (rules, arith)),
@@ -66,12 +72,14 @@ invariant_of-self-in-Ok g c =
           (settled_again k s.table s.pending_batch counted disk.images s.areas.side s.other settled Closed d1
           (c.in-Ok.ensures.closed settled.head settled.bodies honest settled.each))),
       (
-        snapshot_taken s.base.value s.table s.history.items s.generation s.areas.len b counted.table_is place refl may.newer
+        snapshot_taken s.base.value s.table s.history.items s.generation s.areas.len b counted.table_is place c.in_ok-begun.ensures.put may.newer
             (subst (λ t. first_gate (text_length t) + 1 ≤ s.areas.len) (sym counted.table_is) may.room)
-            c.in_ok-prefix.ensures.prefix c.in_ok-prefix.ensures.encodes,
+            c.in_ok-begun.ensures.prefix c.in_ok-begun.ensures.encodes c.in_ok-begun.ensures.none,
         λ honest1 live. record {
           closed = refl;
-          held = held_none (disk.seen d1) (start_of s.areas.len (other s.areas.side) + 1) c.in_ok-prefix.prefix.items;
+          held = subst (λ (n : ℕ). Holds (disk.seen d1) (start_of s.areas.len (other s.areas.side) + 1) (take n b.prefix.items))
+              (sym c.in_ok-begun.ensures.put)
+              (held_none (disk.seen d1) (start_of s.areas.len (other s.areas.side) + 1) b.prefix.items);
         },
       ),
     )
@@ -92,8 +100,17 @@ returns-in-Ok-clause-any_moment g c =
     begin_moments disk.honest disk.images s c.self.invariant.0 may.live c.self.invariant.2 c.close_other.new.disk disk.moment
     disk.images_since c.close_other.ensures.any_moment c.args.self.now c.self.view_is
 
-pub returns-in_err-prefix-clause-any_moment : goal.returns-in_err-prefix-clause-any_moment
-returns-in_err-prefix-clause-any_moment g c =
+pub returns-in_err-begun-clause-any_moment : goal.returns-in_err-begun-clause-any_moment
+returns-in_err-begun-clause-any_moment g c =
+    let s = c.self.inside in
+    let disk = g.D.Disk in
+    subst (λ (v : StoreState g.row.D.Denot). disk.honest v.disk → EachSince disk.moment disk.images_since v.disk v.disk (RecoversToEither v))
+    c.self.view_is
+    (λ honest. started disk.moment disk.images_since s.disk (RecoversToEither (as_state s))
+    (λ i left. (c.self.invariant.2 honest).each i (g.met.D.Disk.only_now s.disk honest i left)))
+
+pub returns-in_err-text-clause-any_moment : goal.returns-in_err-text-clause-any_moment
+returns-in_err-text-clause-any_moment g c =
     let s = c.self.inside in
     let disk = g.D.Disk in
     subst (λ (v : StoreState g.row.D.Denot). disk.honest v.disk → EachSince disk.moment disk.images_since v.disk v.disk (RecoversToEither v))

@@ -1,7 +1,8 @@
-use Rattle.std.proofs.Common.{rules, arith, ◌≡◌, ◌≤◌, length, true, refl, subst, sym}
+use Rattle.std.proofs.Common.{rules, arith, ◌≡◌, ◌≤◌, ap, length, true, refl, subst, sym}
 use Rattle.std.specs.Prelude.{Some}
 use Rattle.gated_journal.specs.Whole.{RecoversWhole}
 use Rattle.gated_journal.specs.declared.gate.Gate.TheVariants.{Closed}
+use Rattle.act_store.specs.LastPart.{LastState}
 use Rattle.act_store.specs.StoreState.{RecoversToEither}
 use Rattle.act_store.specs.Promise.{IsBegun, IsSnapshot}
 use Rattle.act_store.specs.StoreSeen.{as_checkpoint, as_state}
@@ -64,7 +65,7 @@ invariant_of-self-in-Ok g c =
           (c.put_slice.ensures.any_moment settled.head settled.bodies honest each)))),
       (
         snapshot_sliced s.base.value s.history.items s.generation s.areas.len b next c.put_slice.ensures.same_prefix
-            c.put_slice.ensures.same_place within so.0,
+            c.put_slice.ensures.same_place within (ap (λ (part : LastState). part.encoded) c.put_slice.ensures.same_last) so.0,
         λ honest1 live.
             let honest = c.put_slice.ensures.honest.0 honest1 in
             let put = so.1 honest live in
