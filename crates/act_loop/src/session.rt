@@ -10,7 +10,7 @@ use crate::exchange_history::ExchangeHistory;
 use crate::pause::Pause;
 use crate::turns::take_turns;
 use act_disk::Disk;
-use act_sessions::{HeldBytes, Protocol};
+use act_sessions::{HeldBytes, Protocol, take_first_off};
 use act_store::Store;
 use std::alloc::Global;
 use std::marker::Model;
@@ -178,6 +178,6 @@ impl<P: Protocol> Session<P> {
         ensures sent { self.new ≡ sent_of self.old n }
     {
         self.sent.add(&self.out, n);
-        self.out.drain(..n);
+        take_first_off(&mut self.out, n);
     }
 }

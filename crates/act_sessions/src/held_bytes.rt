@@ -1,6 +1,7 @@
 ghost use Rattle.std.specs.Prelude.{◌≡◌, ◌++◌, [], length, IfErr, IfOk};
 ghost use Rattle.act_sessions.specs.Taking.{Finds};
 
+use crate::first_bytes::take_first_off;
 use crate::protocol::Protocol;
 use crate::request::{Next, Progress, Request};
 use std::alloc::{AllocError, Global};
@@ -66,7 +67,7 @@ impl<P: Protocol> HeldBytes<P> {
         }
         match P::next(alloc, &self.bytes, self.progress)? {
             Next::Whole(found) => {
-                self.bytes.drain(..found.length);
+                take_first_off(&mut self.bytes, found.length);
                 self.progress = Progress::none();
                 self.until = 0;
                 Ok(Some(found.request))

@@ -4,6 +4,7 @@
 
 mod answer;
 mod error;
+mod first_bytes;
 mod held_bytes;
 mod input;
 mod last;
@@ -21,6 +22,7 @@ mod turn_text;
 mod work;
 
 pub use answer::Answer;
+pub use first_bytes::take_first_off;
 pub use held_bytes::HeldBytes;
 pub use last::{ends_by, leaves_open};
 pub use laws::{first_part, one_session, one_session_to_its_end, two_parts};

@@ -28,11 +28,13 @@ not_a_line = Numbered code.Line
 abbrev pub prepared : Admitted → Result Command Refusal
 prepared event = onward (λ p. command.Admit p) (unless_faulty (faults_of event.body) event)
 
+abbrev pub event_of : List ℕ × List ℕ × List ℕ → Option Admitted
+event_of f =
+    option_and_then (λ delivery. option_map (λ event. record { delivery = delivery; event = event; body = f.2 })
+    (event_name_of f.1)) (delivery_id_of f.0)
+
 abbrev pub admit_of : List ℕ → Result Command Refusal
-admit_of fields =
-    option_map_or prepared (option_and_then (λ f. option_and_then (λ delivery. option_map (λ event.
-    record { delivery = delivery; event = event; body = f.2 })
-    (event_name_of f.1)) (delivery_id_of f.0)) (three_fields fields)) (Err not_a_line)
+admit_of fields = option_map_or prepared (option_and_then event_of (three_fields fields)) (Err not_a_line)
 
 -- `claim RUNNER NUMBER LABELS`
 abbrev pub claim_of : List ℕ → Option Command

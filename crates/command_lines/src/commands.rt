@@ -1,7 +1,8 @@
-ghost use Rattle.std.specs.Prelude.{◌≡◌, Ok, Some, None, IfOk, IfErr, ok_or};
+ghost use Rattle.std.specs.Prelude.{◌≡◌, Err, Ok, Some, None, IfOk, IfErr, ok_or};
+ghost use Rattle.std.specs.Option.{option_map_or};
 ghost use Rattle.wf_value.specs.Gives.{Gives};
 ghost use Rattle.run_plan.specs.SmallText.{label_list_of, short_text_of};
-ghost use Rattle.command_lines.specs.Commands.{not_a_line, prepared, admit_of, claim_of, outcome_of, done_of, beat_of};
+ghost use Rattle.command_lines.specs.Commands.{not_a_line, prepared, admit_of, event_of, claim_of, outcome_of, done_of, beat_of};
 ghost use Rattle.command_lines.specs.Commands.{cancel_of, lost_of, look_of, fetch_of, rerun_of};
 
 use crate::fields::{at_space, three_fields};
@@ -40,6 +41,19 @@ pub fn admit_of(alloc: Global, fields: &[u8]) -> Result<Command, Refusal>
     ensures { Gives (λ c. c) result (admit_of fields.now) }
 {
     let (delivery, event, body) = spelled(three_fields(fields))?;
+    admit_event(alloc, delivery, event, body)
+}
+
+/// Parses a delivery and the name of an event, and prepares the body.
+fn admit_event(
+    alloc: Global,
+    delivery: &[u8],
+    event: &[u8],
+    body: &[u8],
+) -> Result<Command, Refusal>
+    ensures { Gives (λ c. c) result
+        (option_map_or prepared (event_of (delivery.now, event.now, body.now)) (Err not_a_line)) }
+{
     let delivery = small_text(alloc, delivery)?;
     let event = small_text(alloc, event)?;
     prepared(alloc, delivery, event, body)

@@ -1,7 +1,8 @@
-ghost use Rattle.std.specs.Prelude.{◌≡◌, ◌++◌, ◌∷◌, [], codes, length, option_copied, option_map, string_bytes, IfOk, Ok, OnOk};
+ghost use Rattle.std.specs.Prelude.{◌≡◌, ◌++◌, ◌∷◌, [], option_copied, string_bytes, IfOk, Ok, OnOk};
 ghost use Rattle.http.specs.StatusCode.{status_text};
 ghost use Rattle.wf_value.specs.Gives.{Gives};
-ghost use Rattle.webhook_sessions.specs.Answers.{allow_line, answer_text, close_line, fault_text, kind_line, refused, reply_content, reply_kind, response, size_line, out_of_memory_text};
+ghost use Rattle.run_plan.specs.ReplyText.{reply_text};
+ghost use Rattle.webhook_sessions.specs.Answers.{allow_line, answer_text, close_line, fault_text, kind_line, refused, response, size_line, out_of_memory_text};
 
 use crate::fault::Fault;
 use crate::statuses::{fault_allows, fault_refusal, fault_status, refusal_status, reply_status};
@@ -9,9 +10,14 @@ use http::{Method, StatusCode};
 use run_plan::Reply;
 use std::alloc::{AllocError, Global};
 use std::fmt::Write;
-use wf_value::{Chars, Refusal};
+use wf_value::Refusal;
 
 const PLAIN: &str = "text/plain";
+
+const JSON: &str = "application/json";
+
+/// The room that an answer takes for its head: no head is longer.
+const HEAD_ROOM: usize = 128;
 
 /// The status and its reason phrase.
 fn push_status(text: &mut String, status: StatusCode) -> Result<(), AllocError>
@@ -56,7 +62,7 @@ fn push_close(text: &mut String, last: bool) -> Result<(), AllocError>
     Ok(())
 }
 
-/// An answer with its content.
+/// An answer with its content. Its memory is taken at once.
 #[tactic(auto, unfolding(crate::specs::Answers::response))]
 fn response(
     alloc: Global,
@@ -68,7 +74,9 @@ fn response(
 ) -> Result<Vec<u8>, AllocError>
     ensures { IfOk result (λ v. v.items ≡ response status kind.now (option_copied allowed.entry) last content.now) }
 {
-    let mut text = String::from_str(alloc, "HTTP/1.1 ")?;
+    let room = content.len().saturating_add(HEAD_ROOM);
+    let mut text = String::with_capacity(alloc, room)?;
+    text.push_str("HTTP/1.1 ")?;
     push_status(&mut text, status)?;
     text.push_str("\r\n")?;
     push_kind(&mut text, kind)?;
@@ -95,25 +103,25 @@ fn refused(
     Ok(response(alloc, status, PLAIN, allowed, last, content.as_str())?)
 }
 
-fn reply_kind(reply: &Reply) -> &'static str
-    ensures { result.now ≡ reply_kind reply.now }
+/// The text of a reply and a line feed.
+fn reply_line(alloc: Global, reply: &Reply) -> Result<String, Refusal>
+    ensures { Gives (λ text. string_bytes text) result (Ok (reply_text reply.now ++ 10 ∷ [])) }
 {
-    match reply {
-        Reply::Body(_) => "application/json",
-        _ => PLAIN,
-    }
+    let mut line = reply.text(alloc)?.into_string();
+    line.push_str("\n")?;
+    Ok(line)
 }
 
-/// The content for a reply: an admitted body alone, otherwise the reply's text and a line feed.
-fn reply_content(alloc: Global, reply: &Reply) -> Result<String, Refusal>
-    ensures { Gives (λ text. string_bytes text) result (Ok (reply_content reply.now)) }
+/// The bytes of a reply: an admitted body is sent alone, every other reply is its text and a line feed.
+fn replied(alloc: Global, last: bool, reply: &Reply) -> Result<Vec<u8>, Refusal>
+    ensures { Gives (λ v. v.items) result (Ok (answer_text last (Ok reply.now))) }
 {
+    let status = reply_status(reply);
     match reply {
-        Reply::Body(body) => Ok(Chars::from_str(alloc, body.as_str())?.into_string()),
+        Reply::Body(body) => Ok(response(alloc, status, JSON, None, last, body.as_str())?),
         _ => {
-            let mut content = reply.text(alloc)?.into_string();
-            content.push_str("\n")?;
-            Ok(content)
+            let line = reply_line(alloc, reply)?;
+            Ok(response(alloc, status, PLAIN, None, last, line.as_str())?)
         }
     }
 }
@@ -127,17 +135,7 @@ pub fn answer_text(
     ensures { Gives (λ v. v.items) result (Ok (answer_text last answer.now)) }
 {
     match answer {
-        Ok(reply) => {
-            let content = reply_content(alloc, reply)?;
-            Ok(response(
-                alloc,
-                reply_status(reply),
-                reply_kind(reply),
-                None,
-                last,
-                content.as_str(),
-            )?)
-        }
+        Ok(reply) => replied(alloc, last, reply),
         Err(refusal) => refused(alloc, refusal_status(refusal), None, last, refusal),
     }
 }
