@@ -107,6 +107,11 @@ FORMS = {
         (rf" *(?P<extra>\d+) us more a sync, +(?P<pairs>\d+) pairs: (?P<futex>{N}) calls of futex and (?P<switches>{N}) switches a lifecycle, .*",
          [("a lifecycle, {pairs} pairs, {delay}", "", "{futex}", "calls of `futex`"), ("a lifecycle, {pairs} pairs, {delay}", "", "{switches}", "switches")]),
     ],
+    "bench/lifecycle": [
+        (rf"(?P<what>.*): (?P<count>{N}) {unit}(?:; the earlier program (?P<before>{N}); (?P<ratio>{N}) times)?",
+         [("{what}", "acts", "{count}", unit), ("{what}", "the earlier program", "{before}", unit), ("{what}", "times", "{ratio}", unit)])
+        for unit in ("instructions", "blocks", "KiB")
+    ],
     "bench/pieces/run.sh": [
         (rf"(?P<what>\w+), pieces of (?P<size>\d+): (?P<count>\d+)(?: \((?P<each>\d+)\))?",
          [("{what} in pieces of {size} bytes", "acts", "{count}", "instructions"), ("{what} in pieces of {size} bytes, each further piece", "acts", "{each}", "instructions")]),

@@ -1,7 +1,9 @@
 """Sizes that a team has. `sweeps/edits/tested_bodies/acts.edits` has a body for each that is right up to half of it, or that lets go of no memory."""
 
 import json
+import os
 import re
+import subprocess
 import time
 
 from checking import expect, opened, served, stopped, turned_over
@@ -19,6 +21,7 @@ RERUNS, LAST_ATTEMPT, NAME, TURN_OVER = 10_000, 1_000, 'g' * 190, 1_000
 MOST_MEMORY = 512 << 10
 # A trial keeps what was freed aside for a while otherwise.
 FREED_AT_ONCE = {'ASAN_OPTIONS': 'quarantine_size_mb=0:thread_local_quarantine_size_kb=0'}
+JOBS, RUNS_OF_JOBS = 40, 500
 BEAT = b'BEAT nobody 1\n'
 
 
@@ -235,4 +238,26 @@ def many_attempts(acts, folder):
     return f'{RERUNS} re-runs, each in groups of its own, take {more} bytes more than ten'
 
 
-CHECKS = many_runs, last_run, long_body, many_legs, long_history, full_round, one_after_another, many_attempts
+def most_memory(acts, names):
+    """The most memory, in KiB, of a script with a run of a workflow of many jobs for each of these names of workflows."""
+    jobs = {f'job{it}': {'runs-on': 'linux'} for it in range(JOBS)}
+    bodies = [{'repo': 'o/r', 'path': 'ci.json', 'workflow': {'name': name, 'jobs': jobs}} for name in names]
+    lines = [f'admit d{it} push {json.dumps(body, separators=(",", ":"))}' for it, body in enumerate(bodies)]
+    player = subprocess.Popen([acts, 'play'], stdin=subprocess.PIPE, stdout=subprocess.DEVNULL)
+    with player.stdin:
+        player.stdin.write('\n'.join(lines).encode())
+    _, status, used = os.wait4(player.pid, 0)
+    player.returncode = os.waitstatus_to_exitcode(status)
+    expect(player.returncode == 0, 'a script of', len(lines), 'runs ends with', player.returncode)
+    return used.ru_maxrss
+
+
+def one_workflow(acts, folder):
+    """Runs of one workflow keep its plan once, and so does their history."""
+    none = most_memory(acts, [])
+    one, each = (most_memory(acts, names) - none for names in (['w'] * RUNS_OF_JOBS, [f'w{it}' for it in range(RUNS_OF_JOBS)]))
+    expect(one < 0.75 * each, RUNS_OF_JOBS, 'runs of one workflow take', one, 'KiB, of a workflow each', each)
+    return f'{RUNS_OF_JOBS} runs of one workflow of {JOBS} jobs take {one} KiB, of a workflow each {each}'
+
+
+CHECKS = many_runs, last_run, long_body, many_legs, long_history, full_round, one_after_another, many_attempts, one_workflow
