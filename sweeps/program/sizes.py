@@ -1,9 +1,9 @@
 """Sizes that a team has. `sweeps/edits/tested_bodies/acts.edits` has a body for each that is right up to half of it, or that lets go of no memory."""
 
 import json
-import os
 import re
 import subprocess
+import tempfile
 import time
 
 from checking import expect, opened, served, stopped, turned_over
@@ -238,18 +238,27 @@ def many_attempts(acts, folder):
     return f'{RERUNS} re-runs, each in groups of its own, take {more} bytes more than ten'
 
 
+def held_memory(pid):
+    """The most memory that a process has held so far, in KiB; 0 once it has ended. (`ru_maxrss` begins with what its parent held.)"""
+    with open(f'/proc/{pid}/status', encoding='ascii') as status:
+        return next((int(line.split()[1]) for line in status if line.startswith('VmHWM:')), 0)
+
+
 def most_memory(acts, names):
     """The most memory, in KiB, of a script with a run of a workflow of many jobs for each of these names of workflows."""
     jobs = {f'job{it}': {'runs-on': 'linux'} for it in range(JOBS)}
     bodies = [{'repo': 'o/r', 'path': 'ci.json', 'workflow': {'name': name, 'jobs': jobs}} for name in names]
     lines = [f'admit d{it} push {json.dumps(body, separators=(",", ":"))}' for it, body in enumerate(bodies)]
-    player = subprocess.Popen([acts, 'play'], stdin=subprocess.PIPE, stdout=subprocess.DEVNULL)
-    with player.stdin:
-        player.stdin.write('\n'.join(lines).encode())
-    _, status, used = os.wait4(player.pid, 0)
-    player.returncode = os.waitstatus_to_exitcode(status)
+    with tempfile.TemporaryFile() as script:
+        script.write('\n'.join(lines).encode())
+        script.seek(0)
+        player = subprocess.Popen([acts, 'play'], stdin=script, stdout=subprocess.DEVNULL)
+    most = 0
+    while player.poll() is None:
+        most = max(most, held_memory(player.pid))
+        time.sleep(0.001)
     expect(player.returncode == 0, 'a script of', len(lines), 'runs ends with', player.returncode)
-    return used.ru_maxrss
+    return most
 
 
 def one_workflow(acts, folder):
