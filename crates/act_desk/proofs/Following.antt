@@ -1,7 +1,7 @@
 -- How far a seat's part of a history can follow what its session submitted.
-use Rattle.std.proofs.Common.{◌≡◌, ℕ, zero, suc, ◌+◌, ◌<◌, ◌≤◌, ◌==◌, Bool, true, false, List, [], ◌∷◌, ◌++◌, length, get_or, take, drop, Option, Some, None, Result, Ok, Err, slice_get, refl, ap, sym, subst, ◌∙◌, arith, append_assoc, length-append}
-use Rattle.std.specs.Prelude.{IfNone, IfSome, is_ok, is_some, option_map}
-use Rattle.std.proofs.lemmas.List.{append-nil, drop_more, get_or_default, map-append, same_from_push, take-append-drop, take-take, take_all}
+use Rattle.std.proofs.Common.{◌≡◌, ℕ, ◌+◌, ◌<◌, ◌≤◌, ◌==◌, Bool, true, false, List, [], ◌∷◌, ◌++◌, length, get_or, take, drop, Option, Some, None, Result, Ok, Err, slice_get, refl, ap, sym, subst, ◌∙◌, arith, append_assoc, length-append}
+use Rattle.std.specs.Prelude.{IfNone, IfSome, is_ok}
+use Rattle.std.proofs.lemmas.List.{drop_more, get_or_default, map-append, take-append-drop, take-take, take_all}
 use Rattle.std.proofs.lemmas.List.Concat.{flat_map-append}
 use Rattle.std.proofs.lemmas.List.Elements.{filter-append}
 use Rattle.std.proofs.lemmas.Bool.Decides.{nat_tests}
@@ -10,10 +10,10 @@ use mathlib.Core.List.{IsPrefix}
 use Rattle.wf_value.specs.declared.refusal.Refusal.{Refusal}
 use Rattle.run_plan.specs.declared.reply.Reply.{Reply}
 use Rattle.act_sessions.specs.declared.transcript.LoggedExchange.{LoggedExchange}
-use Rattle.act_sessions.specs.Exchange.{Exchange, exchanges_in, leaves_open}
+use Rattle.act_sessions.specs.Exchange.{Exchange, exchanges_in}
 use Rattle.act_store.specs.declared.entry.Entry.{Entry}
-use Rattle.act_desk.specs.Settled.{Agrees, IsOfLast, MayBegin, entries_of, entries_of_one, if_any, part_of}
-use Rattle.act_desk.proofs.Prefixes.{get_last, prefix_get, prefix_length, prefix_trans}
+use Rattle.act_desk.specs.Settled.{Agrees, MayBegin, entries_of, entries_of_one, if_any, part_of}
+use Rattle.act_desk.proofs.Prefixes.{get_last, prefix_get, prefix_trans}
 
 -- the entries of the commands that got a reply
 abbrev pub told : ℕ → List LoggedExchange → List Entry
@@ -53,40 +53,6 @@ other_reply seat at xs one reply e less is ok other m =
     let all : told seat xs ++ if_any m.over ≡ before ++ entry_for seat one reply ∷ (after ++ if_any m.over)
     = ap (λ l. l ++ if_any m.over) (told_at seat at xs one reply less is ok) ∙ append_assoc before (entry_for seat one reply ∷ after) (if_any m.over) in
     other (next_same before (after ++ if_any m.over) e (entry_for seat one reply) (subst (IsPrefix (before ++ e ∷ [])) all m.begins))
-
-one_at_most : (over : Option Entry) → length (if_any over) ≤ 1
-one_at_most None = omega arith
-one_at_most (Some e) = omega arith
-
--- nothing comes after the entry of the last command
-pub no_more : (seat n : ℕ) (xs : List LoggedExchange) (o e : Entry) → n ≡ length xs
-    → MayBegin seat (exchanges_in xs) ((told seat (take n xs) ++ o ∷ []) ++ e ∷ []) → ⊥
-no_more seat n xs o e whole m =
-    let same : told seat (take n xs) ≡ told seat xs = ap (told seat) (take_all n xs (omega (arith, whole))) in
-    let long = prefix_length ((told seat (take n xs) ++ o ∷ []) ++ e ∷ []) (told seat xs ++ if_any m.over) m.begins in
-    omega (
-      arith,
-      long,
-      ap length same,
-      length-append (told seat (take n xs) ++ o ∷ []) (e ∷ []),
-      length-append (told seat (take n xs)) (o ∷ []),
-      length-append (told seat xs) (if_any m.over),
-      one_at_most m.over,
-    )
-
-not_last : (seat : ℕ) (exchanges : List Exchange) (all : List Entry) (e : Entry) (over : Option Entry) → IfSome over (IsOfLast seat exchanges)
-    → IsPrefix (all ++ e ∷ []) (all ++ if_any over) → (IsOfLast seat exchanges e → ⊥) → ⊥
-not_last seat exchanges all e None of begins other =
-    omega (arith, prefix_length (all ++ e ∷ []) (all ++ []) begins, length-append all (e ∷ []), length-append all [])
-not_last seat exchanges all e (Some o) of begins other = other (subst (IsOfLast seat exchanges) (sym (next_same all [] e o begins)) of)
-
--- after all replies, only the entry of the last command comes
-pub no_last : (seat n at : ℕ) (xs : List LoggedExchange) (e : Entry) → told seat (take at xs) ≡ told seat (take n xs) → length xs ≤ at
-    → (IsOfLast seat (exchanges_in xs) e → ⊥) → MayBegin seat (exchanges_in xs) ((told seat (take n xs) ++ []) ++ e ∷ []) → ⊥
-no_last seat n at xs e none whole other m =
-    let all : told seat (take n xs) ++ [] ≡ told seat xs = append-nil (told seat (take n xs)) ∙ sym none ∙ ap (told seat) (take_all at xs whole) in
-    not_last seat (exchanges_in xs) (told seat xs) e m.over m.of_last
-    (subst (λ l. IsPrefix (l ++ e ∷ []) (told seat xs ++ if_any m.over)) all m.begins) other
 
 -- what begins a part that may begin so, may begin it too
 pub begins_earlier : (seat : ℕ) (exchanges : List Exchange) (xs ys : List Entry) → IsPrefix xs ys → MayBegin seat exchanges ys → MayBegin seat exchanges xs
@@ -140,50 +106,6 @@ pub agrees_long : (seat : ℕ) (exchanges : List Exchange) (history : List Entry
     → length (entries_of seat exchanges) ≤ length (part_of seat history)
 agrees_long seat exchanges history a =
     omega (arith, ap length a.part_is, length-append (entries_of seat exchanges) (if_any a.over))
-
--- the last command of a list
-pub last_is : (seat : ℕ) (xs before : List LoggedExchange) (last : LoggedExchange) (e : Entry) → xs ≡ before ++ last ∷ []
-    → IsOfLast seat (exchanges_in xs) e → (leaves_open last.answer ≡ true) × (e.command ≡ last.command)
-last_is seat xs before last e is of =
-    let mapped : exchanges_in xs ≡ exchanges_in before ++ (last.command, last.answer) ∷ []
-    = ap exchanges_in is ∙ map-append (λ (a : LoggedExchange). (a.command, a.answer)) before (last ∷ []) in
-    let same = same_from_push (exchanges_in before) of.prefix (last.command, last.answer) of.last (sym mapped ∙ of.last_is) in (
-      ap (λ (t : Exchange). leaves_open t.1) same.1 ∙ of.open_is,
-      of.command_is ∙ sym (ap (λ (t : Exchange). t.0) same.1),
-    )
-
-pub last_of_none : (seat : ℕ) (e : Entry) → IsOfLast seat [] e → ⊥
-last_of_none seat e of = omega (arith, ap length of.last_is, length-append of.prefix (of.last ∷ []))
-
--- within a list there is an element at each place
-pub no_gap : {A : Type 0} (xs : List A) (i : ℕ) → i < length xs → slice_get xs i ≡ None → ⊥
-no_gap [] i less none = omega (arith, less)
-no_gap (x ∷ xs) zero less none = cc none
-no_gap (x ∷ xs) (suc i) less none = no_gap xs i (omega (arith, less)) none
-
--- the same three, where it is tested whether the entry of the last command was found
-pub no_more_any : (seat n : ℕ) (xs : List LoggedExchange) (over : Option Entry) (e : Entry) → is_some over ≡ true
-    → IfSome over (λ (o : Entry). n ≡ length xs) → MayBegin seat (exchanges_in xs) ((told seat (take n xs) ++ if_any over) ++ e ∷ []) → ⊥
-no_more_any seat n xs None e some whole m = cc some
-no_more_any seat n xs (Some o) e some whole m = no_more seat n xs o e whole m
-
-pub no_last_any : (seat n at : ℕ) (xs : List LoggedExchange) (over : Option Entry) (e : Entry) → is_some over ≡ false
-    → told seat (take at xs) ≡ told seat (take n xs) → length xs ≤ at → (IsOfLast seat (exchanges_in xs) e → ⊥)
-    → MayBegin seat (exchanges_in xs) ((told seat (take n xs) ++ if_any over) ++ e ∷ []) → ⊥
-no_last_any seat n at xs None e none same whole other m = no_last seat n at xs e same whole other m
-no_last_any seat n at xs (Some o) e none same whole other m = cc none
-
-pub no_reply_any : {T : Type 0} (seat n at : ℕ) (xs : List LoggedExchange) (over : Option Entry) (e : Entry) (r : Option T) → is_some over ≡ false
-    → told seat (take at xs) ≡ told seat (take n xs) → IfNone r (MayBegin seat (exchanges_in xs) (told seat (take at xs) ++ e ∷ []) → ⊥)
-    → IfNone r (MayBegin seat (exchanges_in xs) ((told seat (take n xs) ++ if_any over) ++ e ∷ []) → ⊥)
-no_reply_any seat n at xs None e None none same other =
-    subst (λ l. MayBegin seat (exchanges_in xs) (l ++ e ∷ []) → ⊥) (same ∙ sym (append-nil (told seat (take n xs)))) other
-no_reply_any seat n at xs None e (Some f) none same other = tt
-no_reply_any seat n at xs (Some o) e r none same other = absurd (cc none)
-
-pub mapped_some : {A B : Type 0} (f : A → B) (o : Option A) (b : Bool) → is_some o ≡ b → is_some (option_map f o) ≡ b
-mapped_some f None b is = is
-mapped_some f (Some x) b is = is
 
 -- a number that is not the greatest one is less
 pub still_less : (i n : ℕ) → i ≤ n → (i == n) ≡ false → i < n

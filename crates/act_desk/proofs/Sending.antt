@@ -144,18 +144,8 @@ inside_send =
       (search (parts, arc.the_send, workflow_send, workflow_sync) depth 12, tt),
     )
 
-inside_sync : IsSync inside
-inside_sync =
-    declared_sync inside_type (
-      search (parts, arc.the_sync, admission_send, admission_sync) depth 12,
-      (search (parts, arc.the_sync, workflow_send, workflow_sync) depth 12, tt),
-    )
-
 pub prepared_send : IsSend the_row
 prepared_send = view_send inside _ _ _ _ inside_send
-
-pub prepared_sync : IsSync the_row
-prepared_sync = view_sync inside _ _ _ _ inside_sync
 
 command_send : IsSend command
 command_send =

@@ -4,10 +4,6 @@ use Rattle.act_store.specs.declared.entry.Entry.{Entry}
 use Rattle.act_desk.specs.Events.{covered_in, entries_in}
 use Rattle.act_desk.specs.declared.event.Event.{Event}
 
--- the entry is at some position of the history
-abbrev pub IsEntered : List Entry → Entry → Type 0
-IsEntered history entry = (place : ℕ) × (slice_get history place ≡ Some entry)
-
 -- The entry is in what was seen, after every entry that had been seen before, and it is covered.
 pub record IsCoveredAfter (before seen : List Event) (entry : Entry) : Type 0 where
   pub place : ℕ

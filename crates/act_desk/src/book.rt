@@ -1,6 +1,6 @@
 //! Steps on the book of a desk.
 
-ghost use Rattle.std.specs.Prelude.{◌≡◌, true};
+ghost use Rattle.std.specs.Prelude.{◌≡◌};
 ghost use mathlib.Core.List.{IsPrefix};
 ghost use Rattle.logbook.specs.Pages.{may_write};
 ghost use Rattle.act_desk.specs.Lines.{IsUnused, head_of};

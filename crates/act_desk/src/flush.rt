@@ -1,4 +1,4 @@
-ghost use Rattle.std.specs.Prelude.{◌≡◌, ◌⊎◌, ◌<◌, ℕ, Ok, Some, None, false, true, IfErr, IfOk, OnOk};
+ghost use Rattle.std.specs.Prelude.{◌≡◌, ◌⊎◌, ◌<◌, Ok, Some, None, false, true, IfErr, IfOk, OnOk};
 ghost use Rattle.wf_value.specs.Gives.{no_memory};
 ghost use Rattle.act_disk.specs.Failed.{device_failed};
 ghost use Rattle.act_store.specs.Plain.{area_full, failed_earlier};

@@ -32,7 +32,6 @@ pub record Follows (step : List ℕ → List ℕ → Type 0) (old new : List ℕ
 abbrev pub LeavesAny : (List ℕ → List ℕ → Type 0) → (List ℕ → Type 0) → (List ℕ → Type 0) → Type 0
 LeavesAny step old new = (d c : List ℕ) → old d → step d c → new c
 
--- the same images
 abbrev pub SameImages : (List ℕ → Type 0) → (List ℕ → Type 0) → Type 0
 SameImages old new = (c : List ℕ) → new c ↔ old c
 

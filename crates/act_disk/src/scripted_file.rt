@@ -31,7 +31,7 @@ pub struct ScriptedFile {
 }
 
 impl Model for ScriptedFile {
-    ghost use Rattle.std.specs.Prelude.{◌≡◌, ◌<◌, ◌^◌, [], List, IsTrue};
+    ghost use Rattle.std.specs.Prelude.{◌≡◌, ◌<◌, [], List, IsTrue};
     ghost use Rattle.act_disk.specs.SystemCalls.{FileCall, is_sound, contents, IsHonest};
 
     ghost Value = { List FileCall };

@@ -24,19 +24,6 @@ pub enters_then : {D : Type 0} (number : ℕ) (old mid new : StoreState D) (xs y
 enters_then {D} number old mid new [] ys first second = subst (λ (s : StoreState D). Enters number s ys new) first second
 enters_then number old mid new (x ∷ xs) ys first second = (first.0, first.1, enters_then number first.0 mid new xs ys first.2 second)
 
-pub goes_start : {F D : Type 0} (p : Rules F) (number n : ℕ) (bytes : List ℕ) (now : Moment D) → n < p.most → Goes p number n bytes now now n bytes
-goes_start p number n bytes now room = record {
-  turns = [];
-  reads = refl;
-  unended = tt;
-  count_is = omega arith;
-  room = room;
-  enters = refl;
-  exchanges_are = sym (append-nil now.exchanges);
-  few_withheld = λ few. few;
-  wrote = sym (append-nil now.out);
-}
-
 -- after a turn that is not the last, the session may take another one
 still_room : {F : Type 0} (p : Rules F) (n : ℕ) (t : Turn F) → n < p.most → is_last p n t ≡ false → n + 1 < p.most
 still_room p n t room h = grind (arith, nat_tests)

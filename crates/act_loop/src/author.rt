@@ -1,4 +1,3 @@
-ghost use Rattle.std.specs.Prelude.{◌≡◌};
 ghost use Rattle.act_loop.specs.Entering.{EntersOne};
 
 use crate::exchange_history::ExchangeHistory;

@@ -14,7 +14,6 @@ pub enum Event {
     Begins,
     /// A slice of it is written.
     Slices,
-    /// It is finished.
     Finishes,
     /// The store's history restarts.
     TurnsOver,

@@ -150,12 +150,6 @@ waited p to i i2 output written asked exchanges t (goes, waits, end) = (
   inr (inl (goes.unended, waits, end, refl)),
 )
 
--- the only part of a session that is over
-pub was_done : {F : Type 0} (p : Rules F) (to : Place) (i i2 : Option (List ℕ)) (old new : Moment)
-    → IsPart p first i i2 old new to (Over Done) → IsDone p i i2 old new
-was_done p to i i2 old new (turns, rest, out, did, inl ended) = (turns, rest, out, did, inl ended)
-was_done p to i i2 old new (turns, rest, out, did, inr out_of_memory_response) = (turns, rest, out, did, inr (inr out_of_memory_response))
-
 pub was_cut : {F : Type 0} (p : Rules F) (how : Ending) (to : Place) (i i2 : Option (List ℕ)) (old new : Moment) → how ≢ Done
     → IsPart p first i i2 old new to (Over how) → IsCut p how i i2 old new
 was_cut p Done to i i2 old new not part = absurd (not refl)

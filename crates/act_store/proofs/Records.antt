@@ -1,9 +1,9 @@
 -- The bytes of a record of commands.
 use Rattle.std.proofs.Common.{◌≡◌, ℕ, ◌+◌, ◌-◌, ◌<◌, ◌≤◌, List, [], ◌∷◌, ◌++◌, length, take, drop, Option, Some, None, refl, sym, subst, ◌∙◌, ap, arith}
-use Rattle.std.proofs.Common.{append_assoc, length-append, length-drop, length-take-le}
+use Rattle.std.proofs.Common.{length-append, length-drop, length-take-le}
 use Rattle.std.specs.Prelude.{flat_map}
 use Rattle.std.specs.Int.{to_be_bytes, w32}
-use Rattle.std.proofs.lemmas.List.{append-nil, drop-append-le, drop-drop, drop-take, drop_at, take_at}
+use Rattle.std.proofs.lemmas.List.{append-nil, drop-append-le, drop-take, drop_at, take_at}
 use Rattle.std.proofs.lemmas.List.Concat.{flat_map-append}
 use Rattle.gated_journal.specs.Appends.{body_in, record_of}
 use Rattle.run_plan.specs.declared.command.Command.{Command}
@@ -77,14 +77,6 @@ longer_by bytes cut longer more long is_cut few counts =
       length_word (count + 1),
     )
 
--- the body of the same bytes with a gate again
-pub body_again : (bytes cut longer : List ℕ) (gate : ℕ) → 5 ≤ length bytes → cut ≡ take (length bytes - 1) bytes → longer ≡ cut
-    → body_in (longer ++ gate ∷ []) ≡ body_in bytes
-body_again bytes cut longer gate long is_cut same =
-    let before : length cut ≡ length bytes - 1 = ap (λ (l : List ℕ). length l) is_cut ∙ length-take-le (length bytes - 1) bytes (omega arith) in
-    ap (λ (l : List ℕ). body_in (l ++ gate ∷ [])) same ∙ body_with_gate cut gate (omega (arith, long, before))
-    ∙ ap (λ (l : List ℕ). drop 4 l) is_cut ∙ sym (body_before_gate bytes long)
-
 -- the body with one more command
 pub body_longer : (bytes cut longer : List ℕ) (added : Command) (gate : ℕ) → 5 ≤ length bytes → cut ≡ take (length bytes - 1) bytes
     → Counts cut longer (command_bytes added) → IsWithCommand (body_in bytes) added (body_in (longer ++ gate ∷ []))
@@ -121,26 +113,6 @@ encoded_longer held count added body longer counted is few grows =
     ap (λ (l : List ℕ). drop 4 l) (grows count few was.0)
     ∙ drop_at (to_be_bytes w32 (count + 1)) (drop 4 body ++ command_bytes added) 4 refl
     ∙ ap (λ (l : List ℕ). l ++ command_bytes added) was.1
-
--- the encodings from an offset on, between the count and the gate of a record
-pub encoded_on : (count : ℕ) (body bytes : List ℕ) (from lo hi : ℕ) → body ≡ to_be_bytes w32 count ++ drop 4 body → bytes ≡ record_of body
-    → from ≤ length (drop 4 body) → lo ≡ 8 + from → hi ≡ length bytes - 1 → take (hi - lo) (drop lo bytes) ≡ drop from (drop 4 body)
-encoded_on count body bytes from lo hi counted is within first last =
-    let number = to_be_bytes w32 (length body) in
-    let words = to_be_bytes w32 count in
-    let e = drop 4 body in
-    let eight : length (number ++ words) ≡ 8 = refl in
-    let whole : bytes ≡ (number ++ words) ++ (e ++ 0 ∷ []) =
-    is ∙ ap (λ (l : List ℕ). (number ++ l) ++ 0 ∷ []) counted ∙ ap (λ (l : List ℕ). l ++ 0 ∷ []) (sym (append_assoc number words e))
-    ∙ append_assoc (number ++ words) e (0 ∷ []) in
-    let size : length bytes ≡ 9 + length e =
-    omega (arith, eight, ap (λ (l : List ℕ). length l) whole, length-append (number ++ words) (e ++ 0 ∷ []), length-append e (0 ∷ [])) in
-    let behind : drop lo bytes ≡ drop from e ++ 0 ∷ [] =
-    ap (λ (n : ℕ). drop n bytes) first ∙ sym (drop-drop from 8 bytes)
-    ∙ ap (λ (l : List ℕ). drop from l) (ap (λ (l : List ℕ). drop 8 l) whole ∙ drop_at (number ++ words) (e ++ 0 ∷ []) 8 eight)
-    ∙ drop-append-le from e (0 ∷ []) within in
-    ap (λ (l : List ℕ). take (hi - lo) l) behind
-    ∙ take_at (drop from e) (0 ∷ []) (hi - lo) (omega (arith, length-drop from e, size, first, last, within))
 
 -- the pending commands and one more
 pub commands_with : (commands : List Command) (more : Command)

@@ -2,7 +2,7 @@
 use Rattle.std.proofs.Common.{◌≡◌, ℕ, ◌+◌, ◌-◌, ◌<◌, ◌≤◌, List, [], ◌∷◌, ◌++◌, length, take, drop, refl, sym, ◌∙◌, ap, subst, arith}
 use Rattle.std.proofs.Common.{Bool, true, false, length-append, take-add, length-take-le}
 use Rattle.std.specs.Prelude.{Option, Some, None, IfSome, flat_map, is_some, option_map}
-use Rattle.std.proofs.lemmas.List.{drop-append-le, drop_all, take_all, take_at, take-append-le}
+use Rattle.std.proofs.lemmas.List.{drop-append-le, drop_all, take_all, take-append-le}
 use Rattle.std.specs.Int.{to_be_bytes, w64}
 use Rattle.std.specs.List.{AllByRecursion}
 use Rattle.act_disk.specs.Images.{Holds}
@@ -17,7 +17,7 @@ use Rattle.command_encodings.specs.Commands.{IsEncoded, command_bytes}
 use Rattle.table_text.specs.WholeTables.{whole_table}
 use Rattle.act_store.specs.Checkpoints.{first_gate, text_length}
 use Rattle.act_store.specs.Entries.{commands_of, table_after}
-use Rattle.act_store.specs.LaterEntries.{with_encoded, without_last}
+use Rattle.act_store.specs.LaterEntries.{with_encoded}
 use Rattle.act_store.specs.Layouts.{current_version}
 use Rattle.act_store.specs.Promise.{IsBegun, IsPut, IsSnapshot}
 use Rattle.act_store.specs.StoreSeen.{as_checkpoint}
@@ -163,24 +163,6 @@ same_checkpoint encoded (Some b) = refl
 pub seen_grown : (command : Command) (o next : Option Begun) → next ≡ option_map (with_encoded (command_bytes command)) o
     → option_map as_checkpoint next ≡ option_map as_checkpoint o
 seen_grown command o next grown = ap (λ (x : Option Begun). option_map as_checkpoint x) grown ∙ same_checkpoint (command_bytes command) o
-
--- as many bytes are taken off as were added
-pub taken_back : (encoded : List ℕ) (count : ℕ) (o next : Option Begun) → count ≡ length encoded → next ≡ option_map (with_encoded encoded) o
-    → option_map (without_last count) next ≡ o
-taken_back encoded count None next counts is = ap (λ (x : Option Begun). option_map (without_last count) x) is
-taken_back encoded count (Some b) next counts is =
-    let size : length (b.last.encoded ++ encoded) - count ≡ length b.last.encoded = omega (arith, counts, length-append b.last.encoded encoded) in
-    ap (λ (x : Option Begun). option_map (without_last count) x) is
-    ∙ ap (λ (n : ℕ). Some (record b { last = record b.last { encoded = take n (b.last.encoded ++ encoded) } })) size
-    ∙ ap (λ (l : List ℕ). Some (record b { last = record b.last { encoded = l } }))
-    (take_at b.last.encoded encoded (length b.last.encoded) refl)
-
-pub enough_added : (encoded : List ℕ) (count : ℕ) (o next : Option Begun) → count ≡ length encoded → next ≡ option_map (with_encoded encoded) o
-    → IfSome next (λ (b : Begun). count ≤ length b.last.encoded)
-enough_added encoded count None next counts is = subst (λ (x : Option Begun). IfSome x (λ (b : Begun). count ≤ length b.last.encoded)) (sym is) tt
-enough_added encoded count (Some b) next counts is =
-    subst (λ (x : Option Begun). IfSome x (λ (b : Begun). count ≤ length b.last.encoded)) (sym is)
-    (omega (arith, counts, length-append b.last.encoded encoded))
 
 module _ (base : TableState) (history : List Entry) (generation area : ℕ) (side : Side) (gate : Gate) (honest : Type 0) (failed : Bool)
     (seen : List ℕ) (o : Option Begun)

@@ -1,4 +1,4 @@
-ghost use Rattle.std.specs.Prelude.{◌≡◌, ◌⊎◌, ◌↔◌, ◌+◌, ◌≤◌, ◌<◌, ◌^◌, ℕ, List, [], is_some, length, nat_lt, not, Err, IfErr, IfOk, IfSome, OnOk, None, Some};
+ghost use Rattle.std.specs.Prelude.{◌≡◌, ◌⊎◌, ◌↔◌, ◌+◌, ◌≤◌, ◌<◌, ◌^◌, [], is_some, length, nat_lt, not, Err, IfErr, IfOk, IfSome, OnOk, None, Some};
 ghost use Rattle.wf_value.specs.Gives.{no_memory};
 ghost use Rattle.act_disk.specs.Failed.{device_failed};
 ghost use Rattle.act_disk.specs.Images.{EachSince};

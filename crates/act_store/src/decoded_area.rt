@@ -1,6 +1,5 @@
-ghost use Rattle.std.specs.Prelude.{◌≡◌, ◌<◌, IfErr, IfOk, length};
+ghost use Rattle.std.specs.Prelude.{◌≡◌, ◌<◌, IfErr, IfOk};
 ghost use Rattle.wf_value.specs.Gives.{no_memory};
-ghost use Rattle.run_table.specs.TableState.{TableState};
 ghost use Rattle.act_store.specs.Encoded.{IsEncoded, IsTextOf};
 
 use crate::layout::Layout;

@@ -1,8 +1,7 @@
 -- What a lint of a text has written.
-use Rattle.std.proofs.Common.{◌≡◌, ◌⊎◌, inl, inr, ℕ, ◌≤◌, List, [], ◌++◌, length, Bool, Option, Result, Ok, Err, refl, subst, ◌∙◌, sym}
+use Rattle.std.proofs.Common.{◌≡◌, ◌⊎◌, inl, inr, ℕ, ◌≤◌, List, [], length, Bool, Option, Result, Ok, Err, refl, subst, ◌∙◌, sym}
 use Rattle.std.specs.Io.KnownBytes.{Appends}
 use Rattle.std.specs.Prelude.{IsErrAnd}
-use Rattle.std.proofs.KnownBytes.{Appends-nil}
 use Rattle.stated_limits.specs.Limits.{max_input}
 use Rattle.wf_value.specs.Gives.{no_memory}
 use Rattle.wf_value.specs.declared.refusal.Refusal.{Refusal}
@@ -11,7 +10,7 @@ use Rattle.workflow_lint.specs.Plans.{found_in}
 use Rattle.workflow_lint.specs.declared.finding.Finding.{Finding}
 use Rattle.acts_ops.specs.Input.{RefusesInput}
 use Rattle.acts_ops.specs.Lint.{Lints, LintsTo, linted}
-use Rattle.acts_ops.specs.Writes.{PrefixWritten, Writes}
+use Rattle.acts_ops.specs.Writes.{PrefixWritten}
 
 -- the findings, as they are written
 pub slice_is : (text : List ℕ) (found slice : List Finding) → ◌≡◌ {A = Result (List Finding) Refusal} (Ok (found_in text)) (Ok found)

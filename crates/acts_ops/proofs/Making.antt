@@ -5,9 +5,7 @@ use Rattle.std.specs.Io.KnownBytes.{Appends}
 use Rattle.std.proofs.Math.Nat.{eq-zero-or-pos}
 use Rattle.wf_value.specs.declared.refusal.Refusal.{Refusal}
 use Rattle.act_disk.specs.Failed.{stream_failed}
-use Rattle.act_store.specs.FaultCauses.{TellsFault}
 use Rattle.acts_ops.specs.Made.{Makes, made_line}
-use Rattle.acts_ops.proofs.Writing.{no_fault}
 
 -- a disk on which a store was made was empty
 pub was_empty : {T E : Type 0} (size : ℕ) (r : Result T E) (x : T) (e : E) → ((size ≡ 0 → ⊥) → r ≡ Err e) → r ≡ Ok x → size ≡ 0
@@ -26,9 +24,3 @@ made_of size old new (Err e) zero all prefix why = (
   prefix.1,
   inr (inr (zero, why, drop prefix.0 made_line, take-append-drop prefix.0 made_line)),
 )
-
--- the store was made without a failure of the device
-pub made_faults : {U : Type 0} (r : Result U Refusal) (before after : ℕ) → IfErr r (λ e. e ≡ stream_failed) → after ≡ before
-    → TellsFault r before after
-made_faults (Ok u) before after why same = same
-made_faults (Err e) before after why same = inr (no_fault e (inl why), same)

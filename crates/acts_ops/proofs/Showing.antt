@@ -26,7 +26,6 @@ use Rattle.act_store.specs.FaultCauses.{TellsFault}
 use Rattle.acts_ops.specs.Show.{Shows, WritesWhat, lines_from, run_lines, shown}
 use Rattle.acts_ops.specs.declared.shown.Shown.{Shown}
 use Rattle.acts_ops.specs.declared.shown.Shown.TheVariants as what
-use Rattle.acts_ops.specs.Writes.{Writes}
 use Rattle.acts_ops.proofs.Writing.{flushed, written_faults}
 
 -- the lines of the runs from an index on

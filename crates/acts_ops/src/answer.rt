@@ -67,7 +67,6 @@ pub fn answer_to<D: Disk>(alloc: Global, store: &mut Store<D>, line: &[u8]) -> A
     }
 }
 
-/// The text of an answer.
 fn answer_text(alloc: Global, answer: &Answer) -> Result<String, Refusal>
     ensures { Gives (λ text. string_bytes text) result (Ok (played_text answer.now.word.now answer.now.played)) }
 {

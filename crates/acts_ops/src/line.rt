@@ -1,4 +1,3 @@
-ghost use Rattle.std.specs.Prelude.{◌≡◌};
 ghost use Rattle.wf_value.specs.Gives.{Gives};
 ghost use Rattle.acts_ops.specs.Line.{command_by, command_of};
 

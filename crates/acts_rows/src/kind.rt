@@ -5,7 +5,6 @@ use crate::sessions::Protocol;
 /// What a row plays.
 #[derive(Clone, Copy)]
 pub enum Kind {
-    /// A script.
     Script,
     /// A workflow to check.
     Workflow,
@@ -19,7 +18,6 @@ pub enum Kind {
     Upgraded,
     /// A store that is made, opened, played on and shown byte by byte.
     Steps,
-    /// A session.
     Session(Protocol),
 }
 

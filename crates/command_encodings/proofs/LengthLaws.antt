@@ -1,9 +1,9 @@
 -- The length of an encoding is the sum over its fields.
-use Rattle.std.proofs.Common.{◌≡◌, ℕ, suc, ◌+◌, ◌<◌, List, [], ◌∷◌, ◌++◌, length, take, get_or, refl, sym, ◌∙◌, ap, arith}
+use Rattle.std.proofs.Common.{◌≡◌, ℕ, suc, ◌+◌, List, [], ◌∷◌, ◌++◌, length, refl, sym, ◌∙◌, ap, arith}
 use Rattle.std.proofs.Common.{length-append}
 use Rattle.std.specs.Prelude.{flat_map, sum_by}
 use Rattle.std.proofs.lemmas.List.Concat.{length-flat_map}
-use Rattle.std.proofs.lemmas.List.Sums.{sum_by-cons, sum_by_more}
+use Rattle.std.proofs.lemmas.List.Sums.{sum_by-cons}
 use Rattle.wf_value.specs.declared.outcome.Outcome.{Outcome}
 use Rattle.run_plan.specs.Admitted.{Admitted}
 use Rattle.run_plan.specs.declared.command.Command.{Command}
@@ -28,14 +28,6 @@ pub sum_same : {X : Type 0} (f g : X → ℕ) (xs : List X) → ((x : X) → f x
 sum_same f g [] same = refl
 sum_same f g (x ∷ xs) same =
     sum_by-cons f x xs ∙ ap (λ k. k + sum_by f xs) (same x) ∙ ap (λ k. g x + k) (sum_same f g xs same) ∙ sym (sum_by-cons g x xs)
-
--- the sum so far, plus the count of one more value
-pub sum_more : {X : Type 0} (f : X → ℕ) (xs : List X) (i : ℕ) (d x : X) (total more : ℕ) → i < length xs → x ≡ get_or xs i d
-    → total ≡ sum_by f (take i xs)
-    → more ≡ f x → total + more ≡ sum_by f (take (i + 1) xs)
-sum_more f xs i d x total more below is so_far one =
-    let next : sum_by f (take (i + 1) xs) ≡ sum_by f (take i xs) + f (get_or xs i d) = sum_by_more f xs i d below in
-    ap (λ n. n + more) so_far ∙ ap (λ n. sum_by f (take i xs) + n) (one ∙ ap f is) ∙ sym next
 
 -- values of one format after their count
 pub length_counted : {X : Type 0} (f : X → List ℕ) (g : X → ℕ) (xs : List X) → ((x : X) → length (f x) ≡ g x)

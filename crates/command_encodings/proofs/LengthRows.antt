@@ -28,7 +28,6 @@ look_up_has_5 run = refl
 rerun_has_9 : (run attempt : ℕ) → command_length (requested.Rerun (record { run = run; attempt = attempt })) ≡ 9
 rerun_has_9 run attempt = refl
 
--- as a batch
 batch_of_a_look_up_has_9 : (run : ℕ) → batch_length (requested.Look run ∷ []) ≡ 9
 batch_of_a_look_up_has_9 run = refl
 

@@ -1,6 +1,6 @@
 //! A batch that grows in place.
 
-ghost use Rattle.std.specs.Prelude.{◌≡◌, ◌+◌, ◌<◌, ◌≤◌, ◌^◌, List, ℕ, [], ◌∷◌, ◌++◌, IfErr, OnErr, OnOk, drop, length, take, vec_capacity, vec_len};
+ghost use Rattle.std.specs.Prelude.{◌≡◌, ◌+◌, ◌<◌, ◌≤◌, List, ℕ, [], ◌∷◌, ◌++◌, IfErr, OnErr, OnOk, drop, length, take, vec_capacity, vec_len};
 ghost use Rattle.wf_value.specs.Gives.{no_memory};
 ghost use Rattle.run_plan.specs.declared.command.Command.{Command};
 ghost use Rattle.command_encodings.specs.Commands.{IsEncoded, batch, command_bytes};

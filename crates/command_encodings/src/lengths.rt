@@ -1,9 +1,9 @@
 //! The length of an encoding in bytes, before it is written.
 
-ghost use Rattle.std.specs.Prelude.{◌≡◌, [], ◌≤◌, ◌*◌, length, sum_by};
+ghost use Rattle.std.specs.Prelude.{◌≡◌, [], ◌≤◌, length, sum_by};
 ghost use Rattle.run_plan.specs.PlanOf.{faults_of};
 ghost use Rattle.run_plan.specs.declared.command.Command.TheVariants as requested_for;
-ghost use Rattle.command_encodings.specs.Commands.{batch, command};
+ghost use Rattle.command_encodings.specs.Commands.{command};
 ghost use Rattle.command_encodings.specs.Lengths.{command_length, fields_length, length_of, text_length, texts_length};
 
 use run_plan::{Beat, Claim, Command, Done, Form, Label, Labels, Prepared, SmallText};
@@ -98,26 +98,4 @@ pub fn command_length(requested: &Command) -> u64
     ensures most { result ≤ 65677 }
 {
     1 + fields_length(requested)
-}
-
-/// The number of bytes in the encoding of a batch.
-#[tactic(auto, using(crate::proofs::LengthLaws::length_batch))]
-pub fn batch_length(commands: &[Command]) -> u64
-    requires { length commands.now ≤ 4294967295 }
-    ensures { result ≡ length_of batch commands.now }
-{
-    WORD + commands_length(commands)
-}
-
-/// The bytes of all the commands.
-fn commands_length(commands: &[Command]) -> u64
-    requires { length commands.now ≤ 4294967295 }
-    ensures length { result ≡ sum_by command_length commands.now }
-    ensures most { result ≤ 4294967295 * 65677 }
-{
-    let mut total = 0;
-    for requested in commands {
-        total += command_length(requested);
-    }
-    total
 }

@@ -39,10 +39,6 @@ pub entries_of-few : (cs : List Change) → length (entries_of cs) ≤ length cs
 entries_of-few [] = omega arith
 entries_of-few (c ∷ cs) = grind (arith, entries_in-few c, entries_of-few cs, length-append (entries_in c) (entries_of cs))
 
--- as many lines are kept as there are changes but for the first
-pub kept_count : (kept : KeptState) (entries : ℕ) (cs : List Change) → IsLog kept entries cs → length kept.lines ≡ length cs - kept.first
-kept_count kept entries cs log = omega (arith, log.ends)
-
 length-push : (cs : List Change) (c : Change) → length (cs ++ c ∷ []) ≡ length cs + 1
 length-push cs c = length-append cs (c ∷ [])
 

@@ -11,7 +11,6 @@ mod Gates
 pub mod Grown
 mod Heads
 mod Laying
-mod Loaded
 mod Moves
 pub mod OneReading
 pub mod Parting

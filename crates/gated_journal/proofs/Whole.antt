@@ -100,7 +100,6 @@ module _ (len : ℕ) (side : Side) (head : Head) (bodies : List (List ℕ)) (d c
         (omega (arith, within len (other side) d recovers.recovers.encodes.long, inside)) ∙ recovers.whole;
   }
 
-  -- its gate
   gate_long : (gate : Gate) → RecoversWhole len side gate d head bodies → Torn (start_of len (other side)) 1 d c → length c ≡ len + len
   gate_long gate recovers torn =
       torn_long (start_of len (other side)) 1 d c torn

@@ -6,6 +6,5 @@ pub mod OnDisk
 pub mod Reading
 pub mod Scanned
 pub mod ScannedHead
-pub mod Encoded
 pub mod TwoAreas
 pub mod Whole

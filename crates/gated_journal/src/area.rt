@@ -1,5 +1,5 @@
 ghost use Rattle.std.specs.Prelude.{◌≡◌, ◌↔◌, ◌+◌, ◌<◌, ◌≤◌, ◌^◌, ℕ, List, [], ◌∷◌, ◌++◌, length, OnOk, IsOk};
-ghost use Rattle.act_disk.specs.Images.{Torn, IsWritten, Holds, From, Only, EachSince, CountsFault};
+ghost use Rattle.act_disk.specs.Images.{Torn, IsWritten, From, Only, EachSince, CountsFault};
 ghost use Rattle.gated_journal.specs.Appends.{Appends};
 ghost use Rattle.gated_journal.specs.Layout.{Head};
 ghost use Rattle.gated_journal.specs.OnDisk.{ReadsAt, MayHaveGrown, Awaits, WouldReadAt, ShutAt, OpenOrShut};

@@ -1,4 +1,4 @@
-ghost use Rattle.std.specs.Prelude.{◌≡◌, ℕ, List, IfSome, IsNone};
+ghost use Rattle.std.specs.Prelude.{ℕ, List, IfSome, IsNone};
 ghost use Rattle.gated_journal.specs.Layout.{Head, ReadsNothing};
 ghost use Rattle.gated_journal.specs.CutOff.{HasNoHead, EncodesNothing};
 ghost use Rattle.gated_journal.specs.Scanned.{HasPrefix, IsScanned};

@@ -346,10 +346,6 @@ module _ {H : Type 0} where
             ap holders (stay_elsewhere g k is other (is_in_progress k) (λ a. there k a (not a.waits)) all) ∙ right.in_progress k
             ∙ sym (ap (λ (s : Slot H). option_to_list s.in_progress) (others k other))
 
--- a book without groups is right where nobody has arrived
-pub right_at_first : {H : Type 0} → IsBookOf {H = H} [] []
-right_at_first = record { pending = λ g. refl; in_progress = λ g. refl }
-
 -- the holder in a place is the one that the table has
 module _ {H : Type 0} (entries : List (Group × Slot H)) (g : Group) (place : Option H) where
   pub is_running : place ≡ (slot_in entries g).in_progress → (all : List (Arrived H)) → IsBookOf all entries

@@ -61,7 +61,6 @@ module _ (names : Names) (runs : List RunState) (g : Group) (requests : Holder �
         | false ↦ λ isnt. ap (λ b. b && was_stopped h moves) (in_progress_said h ∙ isnt)
       ] refl
 
-  -- by the names
   in_progress_named : (h : Holder) → is_in_progress (name_in names runs h) whole ≡ is_in_progress h moves
   in_progress_named h = ap₂ (λ s e. s && not e) (so_far.agrees.started h) (so_far.agrees.ended h)
 

@@ -1,9 +1,9 @@
 -- A list of moves determines the holders of a concurrency group in a table: which are running, which are pending, and which are asked to
 -- stop. GitHub Docs, "Control the concurrency of workflows and jobs".
-use Rattle.std.specs.Prelude.{◌≡◌, ◌&&◌, Bool, true, List, filter}
+use Rattle.std.specs.Prelude.{◌≡◌, ◌&&◌, Bool, true, List}
 use Rattle.group_name.specs.Group.{Group}
 use Rattle.run_states.specs.GroupWords.{is_pending, is_in_progress, was_stopped}
-use Rattle.run_states.specs.Groups.{all_holders, is_pending_in, is_in_progress_in, is_stop_requested}
+use Rattle.run_states.specs.Groups.{is_pending_in, is_in_progress_in, is_stop_requested}
 use Rattle.run_states.specs.Moves.{Move}
 use Rattle.run_states.specs.RunState.{RunState}
 use Rattle.group_laws.specs.Names.{Names, name_in}
@@ -16,9 +16,6 @@ is_stopping h moves = is_in_progress h moves && was_stopped h moves
 -- in a table: a holder of the group that is in progress and asked to stop
 abbrev pub is_stopping_in : List RunState → Group → Holder → Bool
 is_stopping_in runs g h = is_in_progress_in runs g h && is_stop_requested runs h
-
-abbrev pub stopping_in : List RunState → Group → List Holder
-stopping_in runs g = filter (is_stopping_in runs g) (all_holders runs)
 
 -- For each run and leg, by its name in its attempt, the moves agree with the tests that filter the table's runs and legs: those of
 -- `in_progress_in`, of `pending_in` and of `stopping_in`. By the moves no other name runs or waits.

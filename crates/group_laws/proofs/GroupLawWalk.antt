@@ -1,6 +1,5 @@
 -- The law of a group by recursion on the list of moves.
-use Rattle.std.proofs.Common.{◌≡◌, List, [], ◌∷◌, ◌++◌, Bool, true, false, Some, ap, sym, subst, ◌∙◌, append_assoc}
-use Rattle.std.proofs.lemmas.List.{append-nil}
+use Rattle.std.proofs.Common.{◌≡◌, List, [], ◌∷◌, ◌++◌, Bool, true, false, Some, ap, ◌∙◌, append_assoc}
 use Rattle.wf_value.specs.declared.outcome.Outcome.TheVariants.{Cancelled}
 use Rattle.run_states.specs.GroupWords.{has_ended, has_started, is_in_progress, latest, next_displaced, was_stopped}
 use Rattle.run_states.specs.Moves.{Move}
@@ -64,11 +63,3 @@ pub law_goes_on : (cancels : Holder → Bool) (moves more : List Move) → Keeps
     → KeepsLaw cancels (moves ++ more)
 law_goes_on cancels moves more law walk =
     walk_is_law cancels (moves ++ more) (walk_on (Lawful cancels) (still_lawful cancels) [] moves more (law_walks cancels moves law) walk)
-
--- the later part of a list that satisfies the law
-parted : {X : Type 0} (P : List X → X → List X → Type 0) (start xs ys : List X) → Walk P start (xs ++ ys) → Walk P (start ++ xs) ys
-parted P start [] ys walk = subst (λ s. Walk P s ys) (sym (append-nil start)) walk
-parted P start (x ∷ xs) ys walk = subst (λ s. Walk P s ys) (append_assoc start (x ∷ []) xs) (parted P (start ++ x ∷ []) xs ys walk.1)
-
-pub walks_after : (cancels : Holder → Bool) (moves more : List Move) → KeepsLaw cancels (moves ++ more) → Walk (Lawful cancels) moves more
-walks_after cancels moves more law = parted (Lawful cancels) [] moves more (law_walks cancels (moves ++ more) law)

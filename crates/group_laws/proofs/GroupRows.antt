@@ -87,7 +87,6 @@ starts_out_of_order : keeps_law never (Move.arrive run1 ∷ Move.stop run1 ∷ M
     ∷ Move.start run1 ∷ []) ≡ false
 starts_out_of_order = refl
 
--- every newcomer is queued
 queues_every_newcomer : keeps_law never (Move.arrive run1 ∷ Move.start run1 ∷ Move.arrive run2 ∷ Move.arrive run3
     ∷ Move.end_with Success run1 ∷ Move.start run3 ∷ []) ≡ false
 queues_every_newcomer = refl

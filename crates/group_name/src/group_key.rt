@@ -1,4 +1,4 @@
-ghost use Rattle.std.specs.Prelude.{◌≡◌, ◌↔◌, [], IsTrue, IsUtf8, chars, Ok, IfOk, None};
+ghost use Rattle.std.specs.Prelude.{◌≡◌, [], IsUtf8, chars, Ok, IfOk, None};
 ghost use Rattle.group_name.specs.BoundGroup.{group_of_folded};
 ghost use Rattle.group_name.specs.Group.{folded_name, group_of};
 ghost use Rattle.group_name.specs.KeyTexts.{name_bytes, repository_bytes};

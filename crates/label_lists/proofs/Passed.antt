@@ -4,9 +4,8 @@ use Rattle.std.specs.List.Sorted.{IsBinarySearchResult}
 use Rattle.std.specs.Option.{option_map_or}
 use Rattle.std.specs.Ordering.{nat_cmp}
 use Rattle.std.proofs.lemmas.List.Sorted.{searched}
-use Rattle.std.proofs.lemmas.Option.{slice_get-get_or}
 use Rattle.label_lists.specs.Requesting.{RequestingState, Begins, IsPassed, requests_in, place_of}
-use Rattle.label_lists.specs.Known.{HasEachOnce, IsPassedFor, KnownState, SameRequested, requests_at}
+use Rattle.label_lists.specs.Known.{IsPassedFor, KnownState, SameRequested, requests_at}
 use Rattle.label_lists.specs.Lists.{HasPlace, IsPassedUnder, ListsState, labels_of}
 use Rattle.label_lists.proofs.Places.{Rises, missing, no_less, place_found, place_there}
 use Rattle.label_lists.proofs.Writes.{within_if}
@@ -57,19 +56,6 @@ pub passed_there : {E : Type 0} (requesting : List RequestingState) (k : ℕ) (o
     → IfOk result (λ has. (has ≡ false) ↔ IsPassed (requests_in old) run) → IfOk result (λ has. (has ≡ false) ↔ IsPassed (requests_at requesting k) run)
 passed_there requesting k old run result there is =
     subst (λ o. IfOk result (λ has. (has ≡ false) ↔ IsPassed (λ r. option_map_or (λ a. requests_in a r) o false) run)) (sym there) is
-
--- a list that has a number keeps it, and one that has none gets a new one
-pub one_number : (old new : List (List (List ℕ))) (labels : List (List ℕ)) (n : ℕ) → HasEachOnce new → slice_get new n ≡ Some labels
-    → ((k : ℕ) (other : List (List ℕ)) → slice_get old k ≡ Some other → slice_get new k ≡ Some other)
-    → (k : ℕ) → slice_get old k ≡ Some labels → n ≡ k
-one_number old new labels n once at stay k was = once n k labels at (stay k labels was)
-
-pub old_number : (old new : List (List (List ℕ))) (labels : List (List ℕ)) (n : ℕ) → slice_get new n ≡ Some labels
-    → ((k : ℕ) (other : List (List ℕ)) → slice_get old k ≡ Some other → slice_get new k ≡ Some other)
-    → n < length old → slice_get old n ≡ Some labels
-old_number old new labels n at stay within =
-    let is = slice_get-get_or old n labels within in
-    is ∙ sym (stay n (get_or old n labels) is) ∙ at
 
 module _ (old : KnownState) (requesting : List RequestingState) (same : SameRequested old.requesting requesting) (labels : List (List ℕ)) (number run : ℕ)
     (keeps : (k : ℕ) → slice_get old.lists k ≡ Some labels → number ≡ k)

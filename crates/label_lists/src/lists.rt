@@ -1,6 +1,6 @@
 //! Lists of labels by number, and the runs that may have a ready leg for each number.
 
-ghost use Rattle.std.specs.Prelude.{◌≡◌, ◌↔◌, ◌≤◌, ◌<◌, ◌^◌, ◌⊎◌, ℕ, true, false, length, None, Some, IfErr, IfNone, IfOk, IfSome, Ok, OnOk};
+ghost use Rattle.std.specs.Prelude.{◌≡◌, ◌↔◌, ◌<◌, ◌^◌, ◌⊎◌, ℕ, true, false, None, Some, IfErr, IfNone, IfOk, IfSome, Ok, OnOk};
 ghost use Rattle.wf_value.specs.Gives.{Gives, no_memory};
 ghost use Rattle.run_marks.specs.First.{IsFirstFrom};
 ghost use Rattle.label_lists.specs.Known.{IsBefore};

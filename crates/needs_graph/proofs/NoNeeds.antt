@@ -1,7 +1,7 @@
 -- The graph of jobs that list no needs.
-use Rattle.std.specs.Prelude.{◌≡◌, ◌==◌, ◌&&◌, ◌<◌, ℕ, zero, suc, List, [], ◌∷◌, Bool, true, false, Ok, length, map, filter, replicate, refl}
-use Rattle.std.specs.List.{Contains, enumerate_from, flat_map, list_all, list_any, range_with_len}
-use Rattle.std.proofs.Common.{ap, arith, get_or, nat_eq, subst, sym, ◌∙◌}
+use Rattle.std.specs.Prelude.{◌≡◌, ◌==◌, ℕ, zero, suc, List, [], ◌∷◌, Bool, true, false, Ok, length, map, filter, replicate, refl}
+use Rattle.std.specs.List.{enumerate_from, flat_map, list_all, list_any, range_with_len}
+use Rattle.std.proofs.Common.{ap, arith, nat_eq, subst, sym, ◌∙◌}
 use Rattle.std.proofs.lemmas.Bool.{and_parts, false≢true}
 use Rattle.std.proofs.lemmas.Bool.Decides.{nat_tests}
 use Rattle.std.proofs.lemmas.Grind.{common_steps}
@@ -10,7 +10,7 @@ use Rattle.needs_graph.specs.Ancestors.{IsGraph, dependents_of, is_ancestor, nee
 use Rattle.needs_graph.specs.JobBitmap.{places}
 use Rattle.needs_graph.specs.JobNeeds.{JobNeeds}
 use Rattle.needs_graph.specs.JobSets.{is_in}
-use Rattle.needs_graph.specs.Needs.{graph_of, is_job, is_listed, list_nothing, needs_of, own_ancestors, unless_cycle, unknown_need}
+use Rattle.needs_graph.specs.Needs.{graph_of, is_job, is_listed, list_nothing, needs_of, own_ancestors}
 use Rattle.needs_graph.proofs.Members.{Has-from_Contains}
 
 -- ---- tests that nothing passes

@@ -1,4 +1,4 @@
-ghost use Rattle.std.specs.Prelude.{◌≡◌, ◌≢◌, ◌↔◌, ◌<◌, ◌&&◌, ◌==◌, [], not, false, true, IsTrue, None, Ok, All, Contains, length, map, slice_get, ℕ};
+ghost use Rattle.std.specs.Prelude.{◌≡◌, ◌≢◌, ◌↔◌, ◌<◌, ◌&&◌, ◌==◌, [], not, false, true, IsTrue, None, Ok, length, map, slice_get, ℕ};
 ghost use Rattle.std.specs.List.{list_all, list_any, slice_index_or};
 ghost use Rattle.wf_value.specs.Gives.{Gives};
 ghost use Rattle.needs_graph.specs.Ancestors.{needs_at, is_ancestor, dependents_of, HasWalk};

@@ -1,11 +1,11 @@
 -- One more job is bound: the memory for the keys of its groups and the numbers of its lists stand beside it, and the jobs before it keep
 -- theirs.
-use Rattle.std.specs.Prelude.{◌≡◌, ◌+◌, ◌++◌, ◌∷◌, ℕ, List, [], length, Option, Some, option_and_then, slice_get, refl}
+use Rattle.std.specs.Prelude.{◌≡◌, ◌+◌, ◌++◌, ◌∷◌, ℕ, List, [], length, Option, Some, option_and_then, slice_get}
 use Rattle.std.specs.Option.{option_map_or}
 use Rattle.std.proofs.Common.{ap, inl, inr, length-append, subst, sym, ◌∙◌}
 use Rattle.std.proofs.lemmas.Bool.{cases_eq}
 use Rattle.std.proofs.lemmas.Option.{same_Some}
-use Rattle.label_lists.specs.Lists.{HasPlace, ListsState, OnlyGrows}
+use Rattle.label_lists.specs.Lists.{ListsState, OnlyGrows}
 use Rattle.run_states.proofs.Found.{at_the_end, before_the_end}
 use Rattle.run_bindings.specs.BoundJobs.{AreBeside, AreNumbersOf}
 use Rattle.run_bindings.specs.GroupKeys.{AreLater, requests_of}
@@ -14,18 +14,7 @@ use Rattle.run_bindings.specs.declared.bindings.JobBindings.{JobBindings}
 use Rattle.run_bindings.specs.declared.group_keys.HolderKey.{HolderKey}
 use Rattle.run_bindings.specs.declared.groups.GroupRequest.{GroupRequest}
 use Rattle.run_bindings.specs.declared.label_numbers.ListNumbers.{ListNumbers}
-use Rattle.run_bindings.proofs.LabelNumbers.{grown_list, no_list}
-
-pub no_jobs : (lists : ListsState) (r : ℕ) → HasPlace lists 0 r → AreBeside lists r [] [] []
-no_jobs lists r has = record {
-  as_many = refl;
-  numbered = refl;
-  later = (λ j legs at. absurd (nothing j legs at));
-  listed = (λ j l. no_list lists r (texts_of [] j l) has);
-}
-  where
-    nothing : (j : ℕ) (legs : List HolderKey) → slice_get [] j ≡ Some legs → ⊥
-    nothing j legs at = cc
+use Rattle.run_bindings.proofs.LabelNumbers.{grown_list}
 
 -- what is read of the job at an index
 abbrev groups_in : Option JobBindings → List GroupRequest

@@ -180,8 +180,3 @@ pub no_group : (runs : List RunState) (h : Holder) → run_at runs (run_of h) �
 unfolding group_at
 no_group runs (Run r) none = ap (option_and_then run_group) (run_untold runs r none)
 no_group runs (Leg p) none = ap (option_and_then leg_group) (leg_untold runs p none)
-
-pub no_flag : (runs : List RunState) (h : Holder) → run_at runs (run_of h) ≡ None → cancels_in_progress runs h ≡ false
-unfolding cancels_in_progress
-no_flag runs (Run r) none = ap (λ o. option_map_or run_cancels o false) (run_untold runs r none)
-no_flag runs (Leg p) none = ap (λ o. option_map_or leg_cancels o false) (leg_untold runs p none)

@@ -1,8 +1,8 @@
 -- The groups of a job's legs, decided one by one, and how many arrivals are to come before and after that.
-use Rattle.std.specs.Prelude.{◌≡◌, ℕ, zero, suc, ◌+◌, ◌<◌, List, [], ◌∷◌, ◌++◌, length, map, take, drop, slice_get, slice_set, sum_by, count_by, Bool, true, false}
+use Rattle.std.specs.Prelude.{◌≡◌, ℕ, zero, suc, ◌+◌, ◌<◌, List, [], ◌∷◌, ◌++◌, length, map, take, drop, slice_get, slice_set, sum_by, count_by, Bool}
 use Rattle.std.specs.Prelude.{Option, None, Some, if◌then◌else◌, refl}
 use Rattle.std.specs.Option.{option_map_or}
-use Rattle.std.proofs.Common.{arith, ap, ap₂, subst, sym, ◌∙◌, get_or}
+use Rattle.std.proofs.Common.{arith, ap, get_or}
 use Rattle.std.proofs.lemmas.List.Sums.{sum_by-cons}
 use Rattle.std.proofs.lemmas.Option.{same_Some}
 use Rattle.wf_expr.specs.Bound.{Results}
@@ -10,7 +10,7 @@ use Rattle.group_name.specs.BoundGroup.{group_at as bound_group_at}
 use Rattle.group_name.specs.Group.{Group}
 use Rattle.run_states.specs.FirstOf.{changed_at}
 use Rattle.run_bindings.specs.BoundGroups.{is_set_by}
-use Rattle.run_bindings.specs.GroupKeys.{AreLater, IsLater, KeyState, arrivals_in, arrivals_of, arrivals_of_legs, decided, has_no_group, known_as}
+use Rattle.run_bindings.specs.GroupKeys.{AreLater, IsLater, arrivals_in, arrivals_of, arrivals_of_legs, decided, has_no_group, known_as}
 use Rattle.run_bindings.specs.declared.group_keys.HolderKey.{HolderKey}
 use Rattle.run_bindings.specs.declared.group_keys.HolderKey.TheVariants.{Known, Later, NoGroup}
 use Rattle.run_bindings.specs.declared.groups.GroupRequest.{GroupRequest}

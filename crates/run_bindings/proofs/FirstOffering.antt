@@ -1,5 +1,5 @@
 -- The first run that is marked for a list that a runner serves, list by list.
-use Rattle.std.specs.Prelude.{◌≡◌, ℕ, ◌<◌, ◌≤◌, List, Bool, false, IfSome, Option, Some, None}
+use Rattle.std.specs.Prelude.{◌≡◌, ℕ, ◌<◌, ◌≤◌, List, Bool, false, Option, Some, None}
 use Rattle.std.proofs.Common.{arith, subst, sym, inl, inr}
 use Rattle.std.proofs.lemmas.Bool.{cases_eq, cases_lt}
 use Rattle.label_lists.specs.Known.{IsBefore}
@@ -11,10 +11,6 @@ pub first_passes : (has : ℕ → Bool) (from : ℕ) (found : Option ℕ) → Is
     → has s ≡ false
 first_passes has from None is s le before = is s le
 first_passes has from (Some r) is s le before = is.2 s le before
-
-pub first_after : (has : ℕ → Bool) (from : ℕ) (found : Option ℕ) → IsFirstFrom has from found → IfSome found (λ s. from ≤ s)
-first_after has from None is = tt
-first_after has from (Some r) is = is.0
 
 -- no run before the one found is marked for a list up to `number` that the labels serve
 abbrev pub PassedUpTo : ListsState → List (List ℕ) → ℕ → ℕ → Option ℕ → Type 0

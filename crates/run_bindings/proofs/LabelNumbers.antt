@@ -4,11 +4,10 @@ use Rattle.std.specs.Prelude.{◌+◌, ◌≤◌, ◌&&◌, nat_eq, true, false,
 use Rattle.std.specs.Option.{option_map_or}
 use Rattle.std.proofs.Common.{arith, ap, subst, sym, ◌∙◌, inl, inr}
 use Rattle.std.proofs.lemmas.Bool.{cases_eq}
-use Rattle.std.proofs.lemmas.Bool.Decides.{Decides-eqb}
 use Rattle.std.proofs.lemmas.Option.{same_Some, slice_get_past}
 use Rattle.label_lists.specs.Lists.{HasPlace, ListsState, OnlyGrows, PutsOffer, labels_of, may_offer}
 use Rattle.run_states.proofs.NamedOnce.{not_same}
-use Rattle.run_bindings.specs.LabelNumbers.{AreListsOf, IsListOf, OnlyMarks, OnlyPuts, kept_texts, list_number, number_in, texts_in, texts_of}
+use Rattle.run_bindings.specs.LabelNumbers.{AreListsOf, IsListOf, OnlyPuts, kept_texts, list_number, number_in, texts_in, texts_of}
 use Rattle.run_bindings.specs.declared.bindings.JobBindings.{JobBindings}
 use Rattle.run_bindings.specs.declared.label_numbers.ListNumbers.{ListNumbers}
 use Rattle.run_bindings.specs.declared.resolved_labels.ResolvedLabels.{ResolvedLabels}
@@ -37,22 +36,11 @@ pub grown_list : (old new : ListsState) → OnlyGrows old new → (r : ℕ) (tex
     → IsListOf new r texts n
 grown_list old new grows = still_list old new grows.labels grows.places
 
-pub grows_none : (lists : ListsState) → OnlyGrows lists lists
-grows_none lists = record { labels = (λ n ts at. at); places = (λ n r has. has); offers = (λ n r. refl) }
-
 pub grows_more : (old between new : ListsState) → OnlyGrows old between → OnlyGrows between new → OnlyGrows old new
 grows_more old between new first next = record {
   labels = (λ n ts at. next.labels n ts (first.labels n ts at));
   places = (λ n r has. next.places n r (first.places n r has));
   offers = (λ n r. next.offers n r ∙ first.offers n r);
-}
-
-pub puts_none : (r : ℕ) (to : Bool) (lists : ListsState) → OnlyPuts r to lists lists
-puts_none r to lists = record {
-  labels = (λ n. refl);
-  places = (λ n s has. has);
-  stays = (λ n is. is);
-  others = (λ n s other. refl);
 }
 
 pub puts_more : (r : ℕ) (to : Bool) (old between new : ListsState) → OnlyPuts r to old between → OnlyPuts r to between new
@@ -65,9 +53,6 @@ puts_more r to old between new first next = record {
 }
 
 -- ---- the numbers of the legs of a job
-
-pub no_list : (lists : ListsState) (r : ℕ) (texts : Option (List (List ℕ))) → HasPlace lists 0 r → IsListOf lists r texts 0
-no_list lists r texts has = record { place = has; says = inl refl }
 
 pub as_long : {X Y : Type 0} (xs : List X) (ys : List Y) (l : ℕ) → length xs ≡ length ys → slice_get xs l ≡ None → slice_get ys l ≡ None
 as_long [] [] l same none = refl
@@ -120,21 +105,6 @@ puts_one to number r old new puts = record {
       ∙ ap (λ b. if nat_eq n number && b then to else may_offer old n s) (not_same s r other)
       ∙ ap (λ b. if b then to else may_offer old n s) (not_both (nat_eq n number)));
 }
-
-pub puts_there : (to : Bool) (number r : ℕ) (old new : ListsState) → PutsOffer to number r old new → may_offer new number r ≡ to
-puts_there to number r old new puts =
-    puts.offers number r
-    ∙ ap (λ b. if b && nat_eq r r then to else may_offer old number r) ((Decides-eqb number number).1 refl)
-    ∙ ap (λ b. if b then to else may_offer old number r) ((Decides-eqb r r).1 refl)
-
-pub marks_one : (number r : ℕ) (old new : ListsState) → PutsOffer true number r old new → OnlyMarks old new
-marks_one number r old new puts = record {
-  labels = puts.labels;
-  places = puts.places;
-  offers = (λ n s is. puts.offers n s ∙ put_taken (nat_eq n number && nat_eq s r) true (may_offer old n s) is);
-}
-
--- ---- one number after another
 
 pub one_more_put : (r : ℕ) (to : Bool) (old new : ListsState) → OnlyPuts r to old new → (numbers : List ℕ) (l n : ℕ)
     → slice_get numbers l ≡ Some n → may_offer new n r ≡ to

@@ -1,22 +1,14 @@
 -- The text of a label that is one plain text is the same in every context.
 use Rattle.std.specs.Prelude.{◌≡◌, ℕ, ◌+◌, ◌<◌, ◌≤◌, List, [], ◌∷◌, ◌++◌, length}
-use Rattle.std.proofs.Common.{arith, ap, get_or, sym, take, ◌∙◌}
+use Rattle.std.proofs.Common.{ap, get_or, sym, take, ◌∙◌}
 use Rattle.std.proofs.lemmas.Grind.{take_at_read}
-use Rattle.std.proofs.lemmas.List.{append-nil, map-append, take_all}
+use Rattle.std.proofs.lemmas.List.{map-append, take_all}
 use Rattle.wf_expr.specs.ContextValue.{Values}
 use Rattle.wf_expr.specs.TemplateValue.{template_value}
 use Rattle.wf_expr.specs.declared.piece.Piece.{Piece}
-use Rattle.wf_expr.specs.declared.piece.Piece.TheVariants.{Plain}
 use Rattle.wf_value.specs.ScalarValue.{scalar_text}
 use Rattle.run_states.specs.Words.{label_texts}
 use Rattle.run_bindings.specs.PlainLabels.{AreTheTexts}
-
-pub one_piece : (label : List Piece) (piece : Piece) (text : List ℕ) → length label ≡ 1 → piece ≡ get_or label 0 piece → piece ≡ Plain text
-    → (values : Values) → scalar_text (template_value values label) ≡ text
-one_piece [] piece text many read is values = absurd (omega (arith, many))
-one_piece (p ∷ []) piece text many read is values =
-    ap (λ (q : Piece). scalar_text (template_value values (q ∷ []))) (sym read ∙ is) ∙ append-nil text
-one_piece (p ∷ q ∷ label) piece text many read is values = absurd (omega (arith, many))
 
 -- the labels so far, and one more
 pub one_more_text : (labels : List (List Piece)) (i : ℕ) (label : List Piece) (texts now : List (List ℕ)) (text : List ℕ)

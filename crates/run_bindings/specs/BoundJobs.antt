@@ -1,7 +1,7 @@
 -- What is bound of the jobs of a run in one pass: what their legs ask, and beside it the memory for the keys of their groups and the numbers
 -- of their lists of labels.
 use Rattle.std.specs.Prelude.{◌≡◌, ◌++◌, ◌∷◌, ℕ, List, [], length}
-use Rattle.label_lists.specs.Lists.{HasPlace, ListsState}
+use Rattle.label_lists.specs.Lists.{ListsState}
 use Rattle.run_bindings.specs.GroupKeys.{AllAreLater}
 use Rattle.run_bindings.specs.LabelNumbers.{AreListsOf, IsListOf, number_in, texts_in}
 use Rattle.run_bindings.specs.declared.bindings.JobBindings.{JobBindings}

@@ -1,11 +1,11 @@
 //! The groups that a run and its legs ask for, once their names are known, with the keys of these groups. That of a leg is decided when
 //! its job opens. Memory for it is taken when the attempt begins, so that neither that nor the leg's arrival can fail.
 
-ghost use Rattle.std.specs.Prelude.{◌≡◌, ◌+◌, IfOk, IfSome, Some, count_by, length, map, option_and_then, option_copied, slice_get};
+ghost use Rattle.std.specs.Prelude.{◌≡◌, ◌+◌, IfOk, IfSome, Some, count_by, map, option_and_then, option_copied, slice_get};
 ghost use Rattle.std.specs.Option.{option_map_or};
 ghost use Rattle.wf_value.specs.Gives.{ErrsOnlyByMemory};
 ghost use Rattle.run_states.specs.FirstOf.{changed_at};
-ghost use Rattle.run_bindings.specs.GroupKeys.{AllAreLater, AreLater, IsLater, arrivals_in, arrivals_of, arrivals_of_legs, decided, has_no_group, holder_key, key_in};
+ghost use Rattle.run_bindings.specs.GroupKeys.{AreLater, IsLater, arrivals_in, arrivals_of, arrivals_of_legs, decided, has_no_group, holder_key, key_in};
 ghost use Rattle.run_bindings.specs.GroupKeys.{key_of, spent, ticket_in, with_spent};
 ghost use Rattle.run_bindings.specs.declared.group_keys.KnownGroup.{KnownGroup as KnownInCode};
 ghost use Rattle.run_bindings.specs.declared.group_keys.HolderKey.TheVariants as kept;

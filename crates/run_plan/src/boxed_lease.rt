@@ -1,5 +1,4 @@
 ghost use Rattle.std.specs.Prelude.{◌≡◌, IfOk, Ok};
-ghost use Rattle.wf_value.specs.Gives.{Gives};
 
 use crate::reply::Lease;
 use std::alloc::{AllocError, Global};

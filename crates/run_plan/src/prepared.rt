@@ -1,4 +1,4 @@
-ghost use Rattle.std.specs.Prelude.{◌≡◌, ◌<◌, ◌≤◌, [], Err, IfOk, Ok, false, length, option_copied};
+ghost use Rattle.std.specs.Prelude.{◌≡◌, ◌<◌, ◌≤◌, [], Err, Ok, false, length, option_copied};
 ghost use Rattle.std.specs.Str.{is_utf8};
 ghost use Rattle.stated_limits.specs.Limits.{max_body};
 ghost use Rattle.wf_value.specs.declared.code.Code.TheVariants.{NotJson, TooLong};

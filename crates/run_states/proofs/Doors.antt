@@ -1,10 +1,10 @@
 -- The changes of a run's cells, as contracts see them.
-use Rattle.std.specs.Prelude.{◌≡◌, ℕ, zero, suc, ◌<◌, ◌≤◌, List, [], ◌∷◌, ◌++◌, length, map, filter_map, Bool, true, false}
-use Rattle.std.specs.Prelude.{slice_get, slice_set, take, Option, Some, None, refl}
+use Rattle.std.specs.Prelude.{◌≡◌, ℕ, zero, suc, ◌<◌, ◌≤◌, List, [], ◌∷◌, length, map, filter_map, Bool, true, false}
+use Rattle.std.specs.Prelude.{slice_get, slice_set, Option, Some, None, refl}
 use Rattle.std.specs.List.{cons_option}
 use Rattle.std.specs.Option.{option_map_or}
-use Rattle.std.proofs.Common.{arith, ap, subst, sym, ◌∙◌, get_or}
-use Rattle.std.proofs.lemmas.List.{length-map, length-set, take_at}
+use Rattle.std.proofs.Common.{arith, ap, subst, ◌∙◌, get_or}
+use Rattle.std.proofs.lemmas.List.{length-set}
 use Rattle.std.proofs.lemmas.Option.{gets, slice_get-map}
 use Rattle.run_plan.specs.declared.planned.PlannedJob.{PlannedJob}
 use Rattle.run_states.specs.Cells.{JobCells, cells_of, in_state, states, rooms, legs_planned, blocked_cells, result_of}
@@ -14,7 +14,6 @@ use Rattle.run_states.specs.JobResults.{results_of}
 use Rattle.run_states.specs.NewRun.{blocked_job}
 use Rattle.run_states.specs.RunState.{LegState}
 use Rattle.run_states.specs.Settling.{legs_in_plan}
-use Rattle.run_states.specs.Stops.{stopped, with_stopped_legs}
 use Rattle.run_states.specs.declared.phases.JobPhase.{JobPhase}
 
 -- ---- a change at one index
@@ -77,24 +76,6 @@ no_leg_written phase true xs left l leg s past is =
 no_leg_written phase false xs left l leg s past is =
     let P : JobCells → Type 0 = λ t. t ≡ in_state (record t.state { legs = changed_at l (λ _. leg) t.state.legs }) t in
     subst P is refl
-
--- all legs are stopped; what is in the room of a job without legs is none of its own
-pub legs_stopped : (phase : JobPhase) (has_legs : Bool) (xs : List LegState) (left : ℕ) (s : JobCells) → cells_of phase has_legs xs left ≡ s
-    → cells_of phase has_legs (map stopped xs) left ≡ in_state (with_stopped_legs s.state) s
-legs_stopped phase true xs left s is =
-    let P : JobCells → Type 0 = λ t. cells_of phase true (map stopped xs) left ≡ in_state (with_stopped_legs t.state) t in
-    subst P is
-    (ap (λ n. record { state = record { phase = phase; legs = map stopped xs }; room = n; needs_left = left }) (length-map xs stopped))
-legs_stopped phase false xs left s is =
-    let P : JobCells → Type 0 = λ t. cells_of phase false (map stopped xs) left ≡ in_state (with_stopped_legs t.state) t in
-    subst P is (ap (λ n. record { state = record { phase = phase; legs = [] }; room = n; needs_left = left }) (length-map xs stopped))
-
--- the contents of a `Vec` of legs once the slice of its items is `new`
-pub stopped_room : (xs old new rest : List LegState) (n : ℕ) → old ≡ xs → new ≡ map stopped old → n ≡ length new
-    → take n (new ++ rest) ≡ map stopped xs
-stopped_room xs old new rest n was so len = take_at new rest n (sym len) ∙ so ∙ ap (map stopped) was
-
--- ---- the jobs of a run
 
 -- a job that is written keeps its room
 pub rooms_kept : (xs : List JobCells) (j : ℕ) (y : JobCells) → j < length xs → y.room ≡ (get_or xs j y).room

@@ -1,5 +1,5 @@
 -- The counts of a job's legs: what they say, and how a change of the legs changes them.
-use Rattle.std.specs.Prelude.{◌≡◌, ◌+◌, ◌&&◌, ◌||◌, ℕ, zero, suc, List, [], ◌∷◌, map, replicate, Bool, true, false}
+use Rattle.std.specs.Prelude.{◌≡◌, ◌+◌, ◌&&◌, ◌||◌, ℕ, zero, suc, List, [], ◌∷◌, replicate, Bool, true, false}
 use Rattle.std.specs.Prelude.{Option, Some, None, nat_lt, not, if◌then◌else◌, cond, refl, is_some}
 use Rattle.std.specs.List.{list_all, list_any, enumerate_from}
 use Rattle.std.specs.Option.{option_or}
@@ -11,12 +11,11 @@ use Rattle.run_states.specs.ActiveRuns.{is_active_leg}
 use Rattle.run_states.specs.FirstOf.{first_some}
 use Rattle.run_states.specs.Fitting.{is_ready}
 use Rattle.run_states.specs.Groups.{leg_holds, leg_waits}
-use Rattle.run_states.specs.LegCounts.{AreCounted, is_unready_leg, legs_in, legs_of_room}
+use Rattle.run_states.specs.LegCounts.{AreCounted, is_unready_leg, legs_in}
 use Rattle.run_states.specs.Parallel.{is_at_work}
 use Rattle.run_states.specs.Places.{leg_place}
 use Rattle.run_states.specs.RunState.{LegState, RunState}
 use Rattle.run_states.specs.StateWords.{is_new, leg_has_ended, new_leg, outcome_of}
-use Rattle.run_states.specs.Stops.{stopped, stopped_phase}
 use Rattle.run_states.specs.WithinRun.{first_of_legs, goes_on, goes_on_in}
 use Rattle.run_states.specs.declared.leg_counts.LegCounts.{LegCounts}
 use Rattle.run_states.specs.declared.phases.LegPhase.{LegPhase}
@@ -170,78 +169,6 @@ all_new_counted n counts newcomers waiting ready at_work = record {
   ready = ready ∙ sym (counted_new is_ready n);
   at_work = at_work ∙ sym (counted_new is_at_work n);
 }
-
--- all legs are stopped
-stopped_not : (test : LegPhase → Bool) → ((phase : LegPhase) → test (stopped_phase phase) ≡ false) → (legs : List LegState)
-    → legs_in test (map stopped legs) ≡ 0
-stopped_not test none [] = refl
-stopped_not test none (l ∷ legs) =
-    let all : legs_in test (map stopped (l ∷ legs)) ≡ counted_one (test (stopped_phase l.phase)) + legs_in test (map stopped legs) =
-    counted_cons test (stopped l) (map stopped legs) in
-    let first : counted_one (test (stopped_phase l.phase)) ≡ 0 = ap (λ b. counted_one b) (none l.phase) in
-    let rest = stopped_not test none legs in
-    omega (arith, all, first, rest)
-
-stopped_same : (test : LegPhase → Bool) → ((phase : LegPhase) → test (stopped_phase phase) ≡ test phase) → (legs : List LegState)
-    → legs_in test (map stopped legs) ≡ legs_in test legs
-stopped_same test same [] = refl
-stopped_same test same (l ∷ legs) =
-    let all : legs_in test (map stopped (l ∷ legs)) ≡ counted_one (test (stopped_phase l.phase)) + legs_in test (map stopped legs) =
-    counted_cons test (stopped l) (map stopped legs) in
-    let first : counted_one (test (stopped_phase l.phase)) ≡ counted_one (test l.phase) = ap (λ b. counted_one b) (same l.phase) in
-    let before = counted_cons test l legs in
-    let rest = stopped_same test same legs in
-    omega (arith, all, first, before, rest)
-
-new_not : (phase : LegPhase) → is_new (stopped_phase phase) ≡ false
-new_not leg.New = refl
-new_not leg.Waiting = refl
-new_not leg.Ready = refl
-new_not leg.Running = refl
-new_not leg.Stopping = refl
-new_not (leg.Ended o) = refl
-
-waits_not : (phase : LegPhase) → leg_waits (stopped_phase phase) ≡ false
-waits_not leg.New = refl
-waits_not leg.Waiting = refl
-waits_not leg.Ready = refl
-waits_not leg.Running = refl
-waits_not leg.Stopping = refl
-waits_not (leg.Ended o) = refl
-
-ready_not : (phase : LegPhase) → is_ready (stopped_phase phase) ≡ false
-ready_not leg.New = refl
-ready_not leg.Waiting = refl
-ready_not leg.Ready = refl
-ready_not leg.Running = refl
-ready_not leg.Stopping = refl
-ready_not (leg.Ended o) = refl
-
-work_same : (phase : LegPhase) → is_at_work (stopped_phase phase) ≡ is_at_work phase
-work_same leg.New = refl
-work_same leg.Waiting = refl
-work_same leg.Ready = refl
-work_same leg.Running = refl
-work_same leg.Stopping = refl
-work_same (leg.Ended o) = refl
-
-pub stopped_counted : (has_legs : Bool) (room : List LegState) (before after : LegCounts) → after.newcomers ≡ 0 → after.waiting ≡ 0
-    → after.ready ≡ 0 → after.at_work ≡ before.at_work → AreCounted (legs_of_room has_legs room) before
-    → AreCounted (legs_of_room has_legs (map stopped room)) after
-stopped_counted true room before after newcomers waiting ready at_work are = record {
-  newcomers = newcomers ∙ sym (stopped_not is_new new_not room);
-  waiting = waiting ∙ sym (stopped_not leg_waits waits_not room);
-  ready = ready ∙ sym (stopped_not is_ready ready_not room);
-  at_work = at_work ∙ are.at_work ∙ sym (stopped_same is_at_work work_same room);
-}
-stopped_counted false room before after newcomers waiting ready at_work are = record {
-  newcomers = newcomers;
-  waiting = waiting;
-  ready = ready;
-  at_work = at_work ∙ are.at_work;
-}
-
--- ---- if no leg is new or waits, no rule applies to any
 
 module _ (runs : List RunState) (r j : ℕ) where
   no_rule : (phase : LegPhase) (n : ℕ) (l : LegState) → l.phase ≡ phase → is_new phase ≡ false → leg_waits phase ≡ false

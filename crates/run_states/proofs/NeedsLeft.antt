@@ -7,12 +7,10 @@ use Rattle.std.proofs.lemmas.Bool.{eqb-true, eq-eqb, true≢false}
 use Rattle.std.proofs.lemmas.List.{get_or_past, length-map}
 use Rattle.wf_value.specs.declared.outcome.JobResult.{JobResult}
 use Rattle.needs_graph.specs.Ancestors.{dependents_of, needs_at}
-use Rattle.run_plan.specs.PlanOf.{needs_listed, needs_of_planned, plan_graph}
+use Rattle.run_plan.specs.PlanOf.{plan_graph}
 use Rattle.run_plan.specs.declared.planned.PlannedJob.{PlannedJob}
-use Rattle.needs_graph.specs.JobNeeds.{JobNeeds}
 use Rattle.needs_graph.specs.JobBitmap.{places}
-use Rattle.needs_graph.specs.Needs.{is_listed}
-use Rattle.run_states.specs.Cells.{JobCells, legs_planned, rooms, states}
+use Rattle.run_states.specs.Cells.{JobCells, states}
 use Rattle.run_states.specs.FirstOf.{changed_at}
 use Rattle.run_states.specs.JobResults.{results_so_far, settled_result}
 use Rattle.run_states.specs.LegCounts.{one_where}
@@ -202,18 +200,6 @@ none_where None b is = ap not is
 none_where (Some r) b is = ap not is
 
 -- ---- the jobs of a plan
-
-pub as_many_needs : (plan : List PlannedJob) → length (plan_graph plan) ≡ length plan
-as_many_needs plan =
-    length-map (needs_listed plan) (λ (job : JobNeeds). places (λ (other : JobNeeds). is_listed job.needs other.id) (needs_listed plan))
-    ∙ length-map plan needs_of_planned
-
--- jobs that have the rooms of a plan are as many as the plan's jobs
-pub as_many_rooms : (plan : List PlannedJob) (jobs : List JobCells) → rooms jobs ≡ legs_planned plan
-    → length jobs ≡ length (plan_graph plan)
-as_many_rooms plan jobs same =
-    sym (length-map jobs (λ (x : JobCells). x.room))
-    ∙ ap length same ∙ length-map plan (λ (p : PlannedJob). length p.legs) ∙ sym (as_many_needs plan)
 
 -- the written job keeps its room and its count, and is finished exactly if it was before
 pub still_planned : (plan : List PlannedJob) (xs : List JobCells) (j : ℕ) (x y : JobCells) → ArePlanned plan xs → x ≡ get_or xs j x

@@ -1,6 +1,6 @@
 -- Walks over a list that stop at the first element that fails a test.
 use Rattle.std.specs.Prelude.{◌≡◌, ℕ, ◌+◌, ◌<◌, ◌≤◌, List, [], ◌∷◌, ◌++◌, length, map, take, Bool, true, false}
-use Rattle.std.specs.Prelude.{◌&&◌, suc, IfOk, Result, Ok, Err, Some, option_map, slice_get, refl}
+use Rattle.std.specs.Prelude.{◌&&◌, suc, Some, option_map, slice_get, refl}
 use Rattle.std.specs.List.{list_all}
 use Rattle.std.specs.Bool.{Decides}
 use Rattle.std.proofs.Common.{arith, ap, ap₂, sym, subst, ◌∙◌, get_or, below_more}
@@ -68,12 +68,6 @@ all_pass p (x ∷ xs) each =
     ap (λ b. b && list_all p xs) (each 0 x refl) ∙ all_pass p xs (λ k y at. each (suc k) y at)
 
 -- ---- results that may be an error
-
-pub when_ok : {X E : Type 0} (o : Result X E) (P Q : X → Type 0) → ((x : X) → P x → Q x) → IfOk o P → IfOk o Q
-when_ok (Ok x) P Q f p = f x p
-when_ok (Err e) P Q f p = p
-
--- ---- lists that grow by one element
 
 pub grown : {X Y : Type 0} (f : X → Y) (xs : List X) (x : X) (ys : List Y) (i : ℕ) (y : Y) → map f xs ≡ take i ys → f x ≡ y
     → slice_get ys i ≡ Some y → map f (xs ++ x ∷ []) ≡ take (i + 1) ys

@@ -133,14 +133,3 @@ stopped_admitted x =
       ]
       | run.Ended ↦ refl
     ]
-
-pub stopped_attempt : (x : RunState) → (stopped_run x).attempt ≡ x.attempt
-stopped_attempt x =
-    elim (x.phase) as (λ phase. (stopped_in phase x).attempt ≡ x.attempt) [
-      | run.Waiting ↦ refl
-      | run.Live ↦ elim (x.stopping) as (λ b. (if b then x else with_stop_requested x).attempt ≡ x.attempt) [
-        | true ↦ refl
-        | false ↦ refl
-      ]
-      | run.Ended ↦ refl
-    ]

@@ -6,7 +6,6 @@ use Rattle.run_states.specs.Groups.{leg_holds, leg_waits, run_waits}
 use Rattle.run_states.specs.RunState.{JobState, LegState, RunState}
 use Rattle.run_states.specs.StateWords.{is_live}
 
--- whether a leg is ready
 abbrev pub has_ready_leg : JobState → Bool
 has_ready_leg job = list_any (λ l. is_ready l.phase) job.legs
 

@@ -7,7 +7,6 @@ use Rattle.run_states.specs.Places.{leg_place}
 use Rattle.run_states.specs.declared.place.LegPlace.{LegPlace}
 use Rattle.run_states.specs.RunState.{LegState, JobState, RunState}
 
--- a leg with its place
 pub record PlacedLeg : Type 0 where
   pub place : LegPlace
   pub leg : LegState

@@ -149,7 +149,6 @@ IsNoArrival runs (AtLeg p) = (l : LegState) → leg_at runs p ≡ Some l → l.p
 IsNoArrival runs (Closing r j) = Unit {0}
 IsNoArrival runs (Whole r) = Unit {0}
 
--- the run of a place
 abbrev pub run_of_place : RuleSite → ℕ
 run_of_place (Opening r j) = r
 run_of_place (AtLeg p) = p.run

@@ -47,7 +47,6 @@ all_have_results results places = list_all (λ place. is_some (slice_index_or re
 abbrev pub needs_have_settled : List RunState → ℕ → ℕ → Bool
 needs_have_settled runs r j = all_have_results (job_results runs r) (needs_at (needs_graph_at runs r) j)
 
--- the id of the job
 abbrev pub job_id : List RunState → ℕ → ℕ → List ℕ
 job_id runs r j = option_map_or (λ planned. planned.id) (plan_at runs r j) []
 

@@ -46,9 +46,6 @@ pub record MaySettle (runs : List RunState) : Type 0 where
 table_fits : (t : TableState) → IsSound t → RunsFit t.runs
 table_fits t s = (kept_from_sound t s).fit
 
-pub table_settles : (t : TableState) → IsSound t → MaySettle t.runs
-table_settles t s = record { sound = sound_runs t.runs (table_fits t s); one_each = s.one_of_each_group }
-
 -- equal runs may settle too
 pub so_settles : (runs new : List RunState) → new ≡ runs → MaySettle runs → MaySettle new
 so_settles runs new is may = subst MaySettle (sym is) may

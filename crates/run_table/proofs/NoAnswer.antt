@@ -1,10 +1,9 @@
 -- A question that is put to each element of a list with its place, and has no answer at any.
-use Rattle.std.specs.Prelude.{◌≡◌, ℕ, zero, suc, ◌+◌, List, [], ◌∷◌, length, Option, Some, None, option_and_then, slice_get, refl}
+use Rattle.std.specs.Prelude.{◌≡◌, ℕ, zero, suc, ◌+◌, List, [], ◌∷◌, Option, Some, None, option_and_then, slice_get, refl}
 use Rattle.std.specs.List.{enumerate_from}
 use Rattle.std.proofs.Common.{arith, ap, sym, ◌∙◌}
 use Rattle.run_states.specs.FirstOf.{first_some, placed}
 use Rattle.run_states.proofs.OneAfterAnother.{OfEach}
-use Rattle.settling_laws.proofs.Firsts.{none_found}
 use Rattle.wf_value.proofs.OptionOr.{or_nothing}
 
 each_none_from : {X Y : Type 0} (f : ℕ → X → Option Y) (xs : List X) (n : ℕ) → first_some (λ e. f e.0 e.1) (enumerate_from n xs) ≡ None
@@ -31,9 +30,3 @@ pub requested_none : {X Y : Type 0} (f : ℕ → X → Option Y) (xs : List X) �
     → option_and_then (f k) o ≡ None
 requested_none f xs each k None at = refl
 requested_none f xs each k (Some x) at = each k x at
-
-pub none_of_each : {X Y : Type 0} (f : ℕ → X → Option Y) (xs : List X) → OfEach (NoneAt f) xs
-    → first_some (λ e. f e.0 e.1) (placed xs) ≡ None
-none_of_each f xs each =
-    none_found f xs (length xs)
-    (λ k lt. ap (option_and_then (f k)) refl ∙ requested_none f xs each k (slice_get xs k) refl) (omega arith)

@@ -1,5 +1,5 @@
 -- The size of the runners in the text of a table, as one of them is put in place.
-use Rattle.std.specs.Prelude.{◌≡◌, ℕ, zero, suc, ◌+◌, ◌-◌, ◌*◌, ◌<◌, ◌≤◌, List, [], ◌∷◌, length, sum_by, take, true, false}
+use Rattle.std.specs.Prelude.{◌≡◌, ℕ, zero, suc, ◌+◌, ◌-◌, ◌*◌, ◌<◌, ◌≤◌, List, [], ◌∷◌, length, sum_by, take, true}
 use Rattle.std.specs.Prelude.{Option, Some, None, if◌then◌else◌, option_and_then, slice_get, refl}
 use Rattle.std.specs.List.{AllByRecursion}
 use Rattle.std.specs.Option.{is_some, option_map_or}
@@ -83,9 +83,6 @@ sizes_most (x ∷ xs) small =
 
 pub size_most : (runners : List RunnerState) (size : ℕ) → AreSized runners size → size ≤ length runners * max_runner_size
 size_most runners size sized = omega (arith, sized.is, sizes_most runners sized.small)
-
-pub no_runners : AreSized [] 0
-no_runners = record { is = refl; small = tt }
 
 -- with one in its place
 pub sized_with : (runners next : List RunnerState) (new : RunnerState) (size before after : ℕ) → names_rise runners ≡ true

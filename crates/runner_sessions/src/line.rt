@@ -2,8 +2,7 @@ ghost use Rattle.std.specs.Prelude.{◌≡◌, ◌≤◌, ◌==◌, Ok, length, 
 ghost use Rattle.wf_value.specs.Gives.{Gives};
 ghost use Rattle.act_sessions.specs.Held.{Keeps};
 ghost use Rattle.act_sessions.specs.Rules.{IsNext};
-ghost use Rattle.command_lines.specs.Commands.{not_a_line};
-ghost use Rattle.runner_sessions.specs.Line.{HasNoFeed, LineKnown, command_by, command_of, demand_by, request_in, runner_rules};
+ghost use Rattle.runner_sessions.specs.Line.{HasNoFeed, LineKnown, command_by, command_of, request_in, runner_rules};
 
 use act_sessions::{Demand, FoundRequest, Next, Progress, Request};
 use command_lines::{

@@ -1,7 +1,6 @@
-ghost use Rattle.std.specs.Prelude.{◌≡◌, ◌++◌, ◌∷◌, [], Ok};
+ghost use Rattle.std.specs.Prelude.{◌++◌, ◌∷◌, [], Ok};
 ghost use Rattle.std.proofs.Common.{rules as common};
 ghost use Rattle.wf_value.specs.Gives.{Gives};
-ghost use Rattle.wf_value.specs.RefusalText.{refusal_text};
 ghost use Rattle.runner_sessions.specs.Line.{response_text};
 
 use crate::line::{MAX_LINE, next_line};

@@ -1,6 +1,6 @@
 //! How long commits took, as a histogram.
 
-ghost use Rattle.std.specs.Prelude.{◌≡◌, ◌+◌, ◌++◌, ℕ, List, OnOk, flat_map, map, string_bytes};
+ghost use Rattle.std.specs.Prelude.{◌≡◌, ◌+◌, ◌++◌, OnOk, flat_map, map, string_bytes};
 ghost use Rattle.std.specs.Duration.{as_nanos};
 ghost use Rattle.table_views.specs.MetricLines.{capped};
 ghost use Rattle.service_metrics.specs.CommitTimes.{bounds, bucket_line, commit_lines, empty, line_of, seconds_text, sum_line, with_commit};

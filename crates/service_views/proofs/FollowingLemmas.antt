@@ -1,18 +1,12 @@
 -- One more entry of a history is taken up.
-use Rattle.std.proofs.Common.{◌≡◌, ◌≤◌, ◌<◌, ◌+◌, ◌-◌, ◌^◌, ℕ, List, [], ◌∷◌, ◌++◌, length, take, drop, map, ap, refl, sym, arith, append_assoc, length-append, length-take}
-use Rattle.std.proofs.lemmas.List.{append-nil, drop-append-le, map-append, take_more}
-use Rattle.std.proofs.lemmas.List.Concat.{flat_map-append}
+use Rattle.std.proofs.Common.{◌≡◌, ◌≤◌, ◌<◌, ◌+◌, ◌-◌, ◌^◌, ℕ, List, [], ◌∷◌, ◌++◌, length, take, drop, map, arith, append_assoc, length-append, length-take}
+use Rattle.std.proofs.lemmas.List.{drop-append-le, map-append, take_more}
 use Rattle.std.proofs.lemmas.Option.{get_or_from_slice_get, slice_get_cases, slice_get_within}
-use Rattle.std.specs.Prelude.{Err, None, Ok, OnErr, OnOk, Option, Result, Some, slice_get, ◌==◌, if◌then◌else◌}
-use Rattle.run_states.specs.RunState.{RunState}
+use Rattle.std.specs.Prelude.{None, Option, Some, slice_get, ◌==◌, if◌then◌else◌}
 use Rattle.act_store.specs.declared.entry.Entry.{Entry}
-use Rattle.covered_log.specs.Lines.{Change, Entered, Missed, Stands, entries_in, entries_of}
-use Rattle.covered_log.specs.LogState.{HasRoom, LogState, losing_line, with_change}
+use Rattle.covered_log.specs.Lines.{entries_of}
+use Rattle.covered_log.specs.LogState.{LogState}
 use Rattle.service_views.specs.Following.{Gains, told_of}
-
--- no entries
-pub gains_none : (s : LogState) → Gains [] s s
-gains_none s = record { few = omega arith; takes_up = λ room. sym (append-nil _) }
 
 -- entries, and then another
 gains_more : (xs : List Entry) (e : Entry) (old mid new : LogState) → Gains xs old mid → Gains (e ∷ []) mid new → Gains (xs ++ e ∷ []) old new
@@ -39,34 +33,6 @@ gains_next history from place e old mid new order is first more =
     (gains_more (drop from (take place history)) e old mid new first more)
 
 -- ---- one change
-
--- its line is kept or lost
-pub either_way : {X E : Type 0} (result : Result X E) (old new : LogState) (c : Change) → OnOk result (new ≡ with_change old c)
-    → OnErr result (new ≡ losing_line old c) → new.changes ≡ old.changes ++ c ∷ []
-either_way (Ok x) old new c ok err = ap (λ (s : LogState). s.changes) ok
-either_way (Err e) old new c ok err = ap (λ (s : LogState). s.changes) err
-
-entries_of-append : (cs ds : List Change) → entries_of (cs ++ ds) ≡ entries_of cs ++ entries_of ds
-entries_of-append cs ds = flat_map-append entries_in cs ds
-
--- an entry
-pub entered_gains : (e : Entry) (old new : LogState) → new.changes ≡ old.changes ++ Entered e.command e.reply ∷ [] → Gains (e ∷ []) old new
-entered_gains e old new is = record {
-  few = omega (arith, ap (λ (cs : List Change). length cs) is, length-append old.changes (Entered e.command e.reply ∷ []));
-  takes_up = λ room. rw (is, entries_of-append old.changes (Entered e.command e.reply ∷ [])) refl;
-}
-
--- an entry for which there is no room
-pub full_gains : (e : Entry) (s : LogState) → ¬ HasRoom s → Gains (e ∷ []) s s
-full_gains e s full = record { few = omega arith; takes_up = λ room. absurd (full room) }
-
--- how a run stands is no entry
-pub stands_enters_none : (old new : LogState) (id : ℕ) (run : RunState) → new.changes ≡ old.changes ++ Stands id run ∷ []
-    → entries_of new.changes ≡ entries_of old.changes
-stands_enters_none old new id run is = rw (is, entries_of-append old.changes (Stands id run ∷ [])) (append-nil _)
-
-pub missed_enters_none : (old new : LogState) → new.changes ≡ old.changes ++ Missed ∷ [] → entries_of new.changes ≡ entries_of old.changes
-missed_enters_none old new is = rw (is, entries_of-append old.changes (Missed ∷ [])) (append-nil _)
 
 -- the entry at a place counted from 1 is that at an index
 pub found_at : (history : List Entry) (index : ℕ) (found : Option Entry)

@@ -12,7 +12,7 @@ use Rattle.std.specs.Prelude.{Bool, true, false, cond, nat_le, None, Option, Som
 use Rattle.std.specs.declared.time.Instant.{Instant}
 use Rattle.run_plan.specs.declared.reply.Reply.{Reply}
 use Rattle.act_store.specs.declared.entry.Entry.{Entry}
-use Rattle.service_metrics.specs.Counters.{CountersState, Done, counters_of}
+use Rattle.service_metrics.specs.Counters.{CountersState, counters_of}
 use Rattle.service_views.specs.Keeping.{Counts, HeardAt, Notes, comes_from, with_entries}
 use Rattle.service_views.specs.declared.kept.Kept.{Kept}
 

@@ -1,6 +1,6 @@
 //! The changes of a service: its covered entries, and the runs that they have changed, as lines.
 
-ghost use Rattle.std.specs.Prelude.{◌≡◌, [], ◌∷◌, IfOk, IfSome, drop, take};
+ghost use Rattle.std.specs.Prelude.{◌≡◌, [], ◌∷◌, IfOk, drop, take};
 ghost use Rattle.covered_log.specs.Lines.{entries_of};
 ghost use Rattle.covered_log.specs.LogState.{new_log};
 ghost use Rattle.service_views.specs.Following.{Gains, TakesUp};

@@ -162,7 +162,6 @@ fn backup(alloc: Global, area: u64, table: &Table) -> Result<Made, Refusal>
     }
 }
 
-/// A file of the board.
 fn board_file(alloc: Global, board: &Board, file: BoardFile) -> Result<Made, Refusal>
     ensures { IfOk result (ShowsBoard board.now file) }
 {

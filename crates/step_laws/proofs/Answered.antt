@@ -1,5 +1,5 @@
 -- What is answered from the table as it is.
-use Rattle.std.specs.Prelude.{◌≡◌, ◌⊎◌, ◌-◌, ◌+◌, ℕ, List, ◌&&◌, Bool, true, false, not, nat_eq, nat_le, length, is_some, Option, Some, None, option_map, if◌then◌else◌, refl}
+use Rattle.std.specs.Prelude.{◌≡◌, ◌-◌, ◌+◌, ℕ, ◌&&◌, Bool, true, false, not, nat_eq, nat_le, length, is_some, Option, Some, None, option_map, if◌then◌else◌, refl}
 use Rattle.std.proofs.Common.{sym, ap, subst, ◌∙◌, inl, inr, arith}
 use Rattle.std.proofs.lemmas.Bool.Decides.{nat_tests}
 use Rattle.std.proofs.lemmas.Option.{same_Some}
@@ -19,7 +19,6 @@ use Rattle.run_plan.specs.declared.command.Command.TheVariants as command
 use Rattle.run_plan.specs.declared.command.Done.{Done}
 use Rattle.run_plan.specs.declared.last_command.LastCommand.{LastCommand}
 use Rattle.run_plan.specs.declared.last_command.LastCommand.TheVariants as last
-use Rattle.run_plan.specs.declared.reply.Lease.{Lease}
 use Rattle.run_plan.specs.declared.reply.Reply.{Reply}
 use Rattle.run_plan.specs.declared.reply.Reply.TheVariants as reply
 use Rattle.run_plan.specs.Admitted.{Admitted}
@@ -33,7 +32,7 @@ use Rattle.run_states.specs.declared.phases.RunPhase.TheVariants as phase
 use Rattle.run_states.specs.declared.place.LegPlace.{LegPlace}
 use Rattle.run_states.specs.Fitting.{first_fit, is_lease_stopping}
 use Rattle.run_table.specs.SequenceNumbers.{answer_by_number, holds_lease, holds_this, number_refusal, runner_named}
-use Rattle.run_table.specs.Step.{admitting, admission_answer, answer_of_attempt, answer_of_next, answer_of_run, beat_answer, cancel_answer, cancelling, claim_answer, claiming, fetch_answer, is_allocation_free, lease_answer, leasing, look_answer, losing, loss_answer, read_only_reply, refused, released, report_answer, reporting, rerun_answer, rerunning, serving_nothing, stepped, unchanged}
+use Rattle.run_table.specs.Step.{admitting, admission_answer, answer_of_attempt, answer_of_next, answer_of_run, beat_answer, cancel_answer, cancelling, claim_answer, claiming, fetch_answer, is_allocation_free, lease_answer, leasing, look_answer, losing, read_only_reply, refused, released, report_answer, reporting, rerun_answer, rerunning, serving_nothing, stepped, unchanged}
 use Rattle.run_table.specs.TableState.{RunnerState, Step, TableState}
 use Rattle.step_laws.specs.Texts.{CarriesText, IsAnsweredAnyway}
 

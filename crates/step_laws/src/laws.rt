@@ -1,4 +1,4 @@
-ghost use Rattle.std.specs.Prelude.{◌≡◌, ◌-◌, ℕ, true, false, Some};
+ghost use Rattle.std.specs.Prelude.{◌≡◌, ◌-◌, ℕ, true, Some};
 ghost use Rattle.std.specs.List.{position};
 ghost use Rattle.wf_value.specs.declared.code.Code.{Code};
 ghost use Rattle.wf_value.specs.declared.refusal.Refusal.TheVariants.{Turn};
@@ -10,7 +10,6 @@ ghost use Rattle.run_plan.specs.declared.command.Claim.{Claim};
 ghost use Rattle.run_plan.specs.declared.command.Command.{Command};
 ghost use Rattle.run_plan.specs.declared.command.Command.TheVariants as command;
 ghost use Rattle.run_plan.specs.declared.command.Done.{Done};
-ghost use Rattle.run_plan.specs.declared.reply.Reply.{Reply};
 ghost use Rattle.run_plan.specs.declared.reply.Reply.TheVariants as reply;
 ghost use Rattle.run_states.specs.NewRun.{is_delivered_as};
 ghost use Rattle.run_states.specs.Places.{run_at};

@@ -1,10 +1,9 @@
 -- Examples, by computation: tables of the first layout and their bytes.
-use Rattle.std.specs.Prelude.{◌≡◌, ℕ, List, [], ◌∷◌, ◌++◌, codes, length, true, false, Option, Some, None, refl}
+use Rattle.std.specs.Prelude.{◌≡◌, [], ◌∷◌, ◌++◌, codes, length, true, false, Some, None, refl}
 use Rattle.wf_value.specs.declared.outcome.Outcome.TheVariants as outcome
 use Rattle.run_plan.specs.declared.command.Command.TheVariants as requested
 use Rattle.stored_tables.specs.Stored.{StoredRunner, StoredTable}
 use Rattle.stored_tables.specs.declared.parts.LastParts.TheVariants as last
-use Rattle.stored_tables.specs.declared.parts.StoredLease.{StoredLease}
 use Rattle.run_states.specs.RunState.{RunState}
 use Rattle.run_states.specs.declared.phases.JobPhase.TheVariants as job_phase
 use Rattle.run_states.specs.declared.phases.LegPhase.TheVariants as leg_phase

@@ -1,5 +1,5 @@
 -- Facts about the parts of a table that is written.
-use Rattle.std.proofs.Common.{◌≡◌, ℕ, zero, suc, ◌≤◌, ◌<◌, List, [], ◌∷◌, length, get_or, ◌++◌, ◌^◌, refl, sym, ◌∙◌, ap, arith}
+use Rattle.std.proofs.Common.{◌≡◌, ℕ, ◌≤◌, ◌<◌, List, [], ◌∷◌, length, ◌++◌, ◌^◌, refl, sym, ◌∙◌, ap, arith}
 use Rattle.std.proofs.Common.{append_assoc}
 use Rattle.std.specs.Prelude.{◌&&◌, Bool, true, false, not, map, flat_map, nat_le, Option, Some, None, slice_get, option_and_then}
 use Rattle.std.specs.List.{AllByRecursion}

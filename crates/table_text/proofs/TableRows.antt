@@ -209,7 +209,6 @@ idle_runner_bytes : runner.encoding idle_runner
 unfolding text_bytes word_bytes
 idle_runner_bytes = refl
 
--- a runner that has reported
 abbrev reporting_runner : StoredRunner
 reporting_runner = record {
   name = codes "r1";

@@ -1,7 +1,7 @@
 -- Whole tables of the first layout are encoded as what it stores of them, which distinguishes sound ones; and a batch
 -- of it is a batch of the second layout.
 use Rattle.std.proofs.Common.{◌≡◌, List, [], ◌∷◌, ℕ, suc, ◌++◌, ◌-◌, refl, sym, ◌∙◌, ap, ap₂, subst, arith}
-use Rattle.std.specs.Prelude.{◌≢◌, true, false, Option, None, Some, map, option_map, slice_get}
+use Rattle.std.specs.Prelude.{true, false, Option, None, Some, map, option_map, slice_get}
 use Rattle.std.specs.List.{AllByRecursion, list_all}
 use Rattle.std.specs.Option.{option_map_or}
 use Rattle.std.proofs.lemmas.List.{length-map}

@@ -3,9 +3,7 @@
 
 ghost use Rattle.std.specs.Prelude.{◌≡◌, [], ◌∷◌, ◌++◌, ◌<◌, ◌≤◌, ◌^◌, length, OnErr, OnOk};
 ghost use Rattle.run_plan.specs.declared.last_command.LastCommand.TheVariants as last;
-ghost use Rattle.stored_tables.specs.Stored.{is_new, stored_last, stored_lease, stored_runner, stored_table};
-ghost use Rattle.run_table.specs.TableState.{RunnerState};
-ghost use Rattle.run_states.specs.RunState.{JobState, RunState};
+ghost use Rattle.stored_tables.specs.Stored.{stored_last, stored_lease, stored_runner, stored_table};
 ghost use Rattle.command_encodings.specs.Format.{word_bytes};
 ghost use Rattle.table_text.specs.Tables.{flag_byte, job, job_byte, kept_lease, last_command, lease, lease_word, leg, leg_byte, run, run_byte, runner};
 ghost use Rattle.table_text.specs.Tables.{table};

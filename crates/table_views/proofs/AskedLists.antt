@@ -1,9 +1,9 @@
 -- What the ready legs of one more run ask for.
-use Rattle.std.proofs.Common.{◌≡◌, ◌∙◌, ℕ, ◌+◌, ◌<◌, ◌≤◌, List, [], ◌∷◌, ◌++◌, length, map, take, get_or, refl, sym, ap, subst, arith, append-nil, append_assoc, inl, inr}
+use Rattle.std.proofs.Common.{◌≡◌, ◌∙◌, ℕ, ◌+◌, ◌<◌, List, [], ◌∷◌, ◌++◌, length, map, take, get_or, refl, sym, ap, subst, arith, append-nil, append_assoc, inl, inr}
 use Rattle.std.proofs.lemmas.List.{map-append, take_more}
 use Rattle.std.proofs.lemmas.List.Elements.{filter-append}
 use Rattle.std.proofs.lemmas.Option.{slice_get_cases}
-use Rattle.std.specs.Prelude.{Some, Option, slice_get, cond, true, false}
+use Rattle.std.specs.Prelude.{Some, Option, slice_get, false}
 use Rattle.std.specs.List.{filter, flat_map}
 use Rattle.std.specs.Option.{option_map_or}
 use Rattle.run_states.specs.ActiveRuns.{offers_legs}
@@ -60,15 +60,6 @@ asked_more runs lists xs i p lt is =
     ∙ ap (asked_at runs) (ap (λ (q : LegPlace). take i xs ++ q ∷ []) is ∙ sym (take_more xs i p lt)))
 
 -- ---- one leg
-
-pub leg_asked : (runs : List RunState) (p : LegPlace) → is_ready_at runs p ≡ true → labels_json runs p ∷ [] ≡ asked_at runs (p ∷ [])
-leg_asked runs p ready = ap (λ b. map (labels_json runs) (cond b (p ∷ []) [])) (sym ready)
-
-pub leg_rests : (runs : List RunState) (p : LegPlace) (lists : List (List ℕ)) (counts : NamedCounts) → is_ready_at runs p ≡ false
-    → AreCounts lists counts → AreCounts (lists ++ asked_at runs (p ∷ [])) counts
-leg_rests runs p lists counts rests are =
-    subst (λ (xs : List (List ℕ)). AreCounts xs counts)
-    (sym (ap (λ b. lists ++ map (labels_json runs) (cond b (p ∷ []) [])) rests ∙ append-nil lists)) are
 
 pub run_asked : (runs : List RunState) (r : ℕ) (counts : NamedCounts) → r < length runs
     → AreCounts (asked_at runs (flat_map leg_places_of_run (placed (take r runs))) ++ asked_at runs (legs_at runs r)) counts

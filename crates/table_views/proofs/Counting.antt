@@ -1,6 +1,6 @@
 -- Counts of a list, when an element is added at its end.
-use Rattle.std.proofs.Common.{◌≡◌, ◌∙◌, ℕ, ◌+◌, ◌-◌, List, [], ◌∷◌, ◌++◌, ap, arith}
-use Rattle.std.specs.Prelude.{◌^◌, Bool, true, false, cond, min}
+use Rattle.std.proofs.Common.{◌≡◌, ◌∙◌, ◌+◌, ◌-◌, List, [], ◌∷◌, ◌++◌, ap, arith}
+use Rattle.std.specs.Prelude.{Bool, true, false, cond}
 use Rattle.std.specs.List.{count_by}
 use Rattle.std.proofs.lemmas.List.Sums.{sum_by-append}
 use Rattle.table_views.specs.MetricLines.{capped}

@@ -8,7 +8,7 @@ use Rattle.std.proofs.lemmas.List.Sums.{sum_by-cons}
 use Rattle.std.proofs.lemmas.List.Quantifiers.{position-Some}
 use Rattle.std.proofs.lemmas.Option.{none-some}
 use Rattle.std.proofs.lemmas.Slice.Eq.{bytes_eq-Decides}
-use Rattle.std.specs.Prelude.{◌^◌, ◌||◌, Bool, true, false, cond, not, min, nat_lt, Option, None, Some}
+use Rattle.std.specs.Prelude.{◌||◌, Bool, true, false, cond, not, min, nat_lt, None, Some}
 use Rattle.std.specs.List.{AllByRecursion, IsDistinct, count_by, filter, list_any, position, position_or_len}
 use Rattle.std.specs.Str.{bytes_eq}
 use Rattle.table_views.specs.Distinct.{distinct}

@@ -1,7 +1,6 @@
 -- Visiting a list with the index of each element, one element at a time.
-use Rattle.std.proofs.Common.{◌≡◌, ◌∙◌, ℕ, zero, suc, ◌+◌, ◌<◌, ◌≤◌, List, [], ◌∷◌, ◌++◌, length, map, take, get_or, sym, ap, arith}
+use Rattle.std.proofs.Common.{◌≡◌, ◌∙◌, ℕ, zero, suc, ◌+◌, ◌<◌, List, [], ◌∷◌, ◌++◌, length, map, take, get_or, sym, ap, arith}
 use Rattle.std.proofs.Common.{append_assoc, append-nil}
-use Rattle.std.proofs.lemmas.List.{take_all}
 use Rattle.std.specs.List.{flat_map, enumerate_from}
 use Rattle.run_states.specs.FirstOf.{placed}
 
@@ -26,12 +25,6 @@ one_more f n xs x lt is =
     ap (λ k. flat_map f (placed (take k xs))) step ∙ more_from f 0 n xs x lt is
     ∙ ap (λ k. flat_map f (placed (take n xs)) ++ f (k, x)) start
 
-pub all_placed : {X Y : Type 0} (f : ℕ × X → List Y) (n : ℕ) (xs : List X) → length xs ≤ n
-    → flat_map f (placed (take n xs)) ≡ flat_map f (placed xs)
-all_placed f n xs past = ap (λ ys. flat_map f (placed ys)) (take_all n xs past)
-
--- ---- indices alone
-
 map_from : {X Y : Type 0} (g : ℕ → Y) (m n : ℕ) (xs : List X) → n < length xs
     → map (λ (x : ℕ × X). g x.0) (enumerate_from m (take (suc n) xs))
     ≡ map (λ (x : ℕ × X). g x.0) (enumerate_from m (take n xs)) ++ g (m + n) ∷ []
@@ -50,12 +43,6 @@ one_place_more {X} g n xs lt =
     let start : 0 + n ≡ n = omega arith in
     ap (λ k. map (λ (x : ℕ × X). g x.0) (placed (take k xs))) step ∙ map_from g 0 n xs lt
     ∙ ap (λ k. map (λ (x : ℕ × X). g x.0) (placed (take n xs)) ++ g k ∷ []) start
-
-pub all_places : {X Y : Type 0} (g : ℕ → Y) (n : ℕ) (xs : List X) → length xs ≤ n
-    → map (λ (x : ℕ × X). g x.0) (placed (take n xs)) ≡ map (λ (x : ℕ × X). g x.0) (placed xs)
-all_places {X} g n xs past = ap (λ ys. map (λ (x : ℕ × X). g x.0) (placed ys)) (take_all n xs past)
-
--- ---- what was added so far, and one more part
 
 pub added_more : {Y : Type 0} (old so_far part mid new : List Y) → mid ≡ old ++ so_far → new ≡ mid ++ part → new ≡ old ++ (so_far ++ part)
 added_more old so_far part mid new is more = more ∙ ap (λ ys. ys ++ part) is ∙ append_assoc old so_far part

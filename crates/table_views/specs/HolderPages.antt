@@ -1,6 +1,6 @@
 -- A page of the runs and legs that hold concurrency groups or wait for them, run by run. GitHub Docs, "Control the concurrency of workflows and
 -- jobs". The format is defined by this project.
-use Rattle.std.specs.Prelude.{◌≡◌, ℕ, ◌+◌, ◌-◌, List, [], ◌∷◌, ◌++◌, ◌&&◌, codes, decimal, filter_map, length, map, Bool, Option, Some, None, if◌then◌else◌}
+use Rattle.std.specs.Prelude.{◌≡◌, ℕ, ◌+◌, ◌-◌, List, ◌∷◌, ◌++◌, ◌&&◌, codes, decimal, filter_map, length, map, Bool, Option, Some, None, if◌then◌else◌}
 use Rattle.std.specs.Option.{option_and_then}
 use Rattle.group_name.specs.Group.{Group}
 use Rattle.group_name.specs.KeyTexts.{name_bytes, repository_bytes}

@@ -1,5 +1,5 @@
 -- How often each name comes in a list of names. The first names have a count each, and all others one together.
-use Rattle.std.specs.Prelude.{◌≡◌, ℕ, List, Bool, length, map, not, take}
+use Rattle.std.specs.Prelude.{◌≡◌, ℕ, List, Bool, map, not, take}
 use Rattle.std.specs.List.{count_by, list_any}
 use Rattle.std.specs.Str.{bytes_eq}
 use Rattle.table_views.specs.Distinct.{distinct}

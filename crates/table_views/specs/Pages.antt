@@ -1,6 +1,6 @@
 -- Pages of long lists. A source gives rows at each of its indices, which count from 0; rows have a weight, which is their number, or that of
 -- what they list. A page begins at an index, and looks at so many indices that its rows have a wanted weight, at most at a given number.
-use Rattle.std.specs.Prelude.{◌≡◌, ◌⊎◌, ℕ, zero, suc, ◌+◌, ◌-◌, ◌<◌, ◌≤◌, List, [], ◌++◌, codes, if◌then◌else◌}
+use Rattle.std.specs.Prelude.{◌≡◌, ◌⊎◌, ℕ, zero, suc, ◌+◌, ◌<◌, ◌≤◌, List, [], ◌++◌, codes}
 use Rattle.table_views.specs.Members.{member}
 use Rattle.table_views.specs.Texts.{line, listed}
 

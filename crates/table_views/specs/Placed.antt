@@ -1,5 +1,5 @@
 -- Bounds on the places of legs.
-use Rattle.std.specs.Prelude.{ℕ, ◌<◌, ◌^◌}
+use Rattle.std.specs.Prelude.{◌<◌, ◌^◌}
 use Rattle.stated_limits.specs.Limits.{max_runs}
 use Rattle.run_states.specs.declared.place.LegPlace.{LegPlace}
 

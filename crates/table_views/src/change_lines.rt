@@ -1,6 +1,6 @@
 //! The lines of changes: entries of the history, and runs whose state has changed.
 
-ghost use Rattle.std.specs.Prelude.{◌≡◌, IfOk, Ok, codes, decimal, length, map, string_bytes};
+ghost use Rattle.std.specs.Prelude.{◌≡◌, IfOk, Ok, length, map, string_bytes};
 ghost use Rattle.wf_value.specs.Gives.{Gives};
 ghost use Rattle.table_views.specs.ChangeLines.{admit_json, beat_json, claim_json, command_json, done_json, entry_line, json_of_run, lost_json, named, rerun_json, run_change_line, short_reply, short_view};
 ghost use Rattle.table_views.specs.Texts.{quoted};

@@ -1,6 +1,6 @@
 //! A page of the runners of a table, in the order of their names.
 
-ghost use Rattle.std.specs.Prelude.{◌≡◌, ◌≤◌, ◌<◌, ◌^◌, ◌++◌, ◌+◌, IfOk, IfSome, Ok, length, option_map, slice_get, string_bytes};
+ghost use Rattle.std.specs.Prelude.{◌≡◌, ◌≤◌, ◌<◌, ◌^◌, ◌+◌, IfOk, IfSome, Ok, length, option_map, slice_get, string_bytes};
 ghost use Rattle.std.specs.List.{position};
 ghost use Rattle.wf_value.specs.Gives.{ErrsOnlyByMemory, Gives};
 ghost use Rattle.run_table.specs.SequenceNumbers.{is_above, is_named, runner_named};

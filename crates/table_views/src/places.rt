@@ -1,6 +1,6 @@
 //! All legs of a table, and all runs and legs that may hold a concurrency group.
 
-ghost use Rattle.std.specs.Prelude.{◌≡◌, ◌++◌, ◌<◌, ◌≤◌, ◌^◌, IfOk, OnOk};
+ghost use Rattle.std.specs.Prelude.{◌≡◌, ◌++◌, ◌<◌, IfOk, OnOk};
 ghost use Rattle.std.specs.List.{All};
 ghost use Rattle.stated_limits.specs.Limits.{max_runs};
 ghost use Rattle.run_states.specs.Places.{leg_places, leg_places_of_job, leg_places_of_run};

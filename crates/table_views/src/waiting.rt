@@ -1,6 +1,6 @@
 //! What a run or a leg waits for.
 
-ghost use Rattle.std.specs.Prelude.{◌≡◌, ◌++◌, Ok, codes, option_map, string_bytes};
+ghost use Rattle.std.specs.Prelude.{◌≡◌, Ok, codes, option_map, string_bytes};
 ghost use Rattle.wf_value.specs.Gives.{Gives};
 ghost use Rattle.run_states.specs.Fitting.{may_run_too};
 ghost use Rattle.run_states.specs.Parallel.{most_at_work};

@@ -128,22 +128,22 @@ fn a_record_is_synced_before_its_gate_opens(rt: HostRuntime) {
     holds!(rt; gate_in(disk.bytes().get(..4096).expect(&rt, "an area")) == Some(44));
 }
 
-/// Whether the first area can be read from the disk, with its first closed gate at `gate`.
-fn is_loaded<D: Disk>(rt: &impl Abort, disk: &mut D, gate: u64) -> bool {
+/// Whether the first area can be synced and read from the disk, with its first closed gate at `gate`.
+fn is_read<D: Disk>(rt: &impl Abort, disk: &mut D, gate: u64) -> bool {
     let mut bytes = [0; 4096];
     holds!(rt; disk.faults() < u64::MAX && 4096 <= disk.len());
-    match FIRST.load(disk, &mut bytes) {
-        Ok(Some(found)) => found.gate == gate,
-        _ => false,
+    if disk.sync().is_err() || FIRST.read(disk, &mut bytes).is_err() {
+        return false;
     }
+    gate_in(&bytes) == Some(gate)
 }
 
-/// The sync or the read of a load fails, and the next load succeeds.
+/// The sync or the read fails, and the next ones succeed.
 #[test]
-fn an_area_is_not_loaded_if_a_disk_call_fails(rt: HostRuntime) {
+fn an_area_is_not_read_if_a_disk_call_fails(rt: HostRuntime) {
     for call in 0..2 {
         let mut disk = FuseDisk::once(fresh(&rt, rt.alloc()), call);
-        holds!(rt; !is_loaded(&rt, &mut disk, 30), call);
-        holds!(rt; is_loaded(&rt, &mut disk, 30) && disk.faults() == 1, call);
+        holds!(rt; !is_read(&rt, &mut disk, 30), call);
+        holds!(rt; is_read(&rt, &mut disk, 30) && disk.faults() == 1, call);
     }
 }

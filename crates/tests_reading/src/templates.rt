@@ -4,7 +4,7 @@ use crate::holds::holds;
 use std::alloc::Global;
 use std::process::Abort;
 use tests_common::values::{Literal, scalar};
-use wf_expr::{ContextSite, Over, Properties, Template, is_flag_set};
+use wf_expr::{ContextSite, Properties, Template};
 use wf_value::{Chars, Refusal, Same, Scalar, TryCopy};
 
 /// The path of names that are separated by `.`.
@@ -135,64 +135,33 @@ fn templates_have_their_values(rt: HostRuntime) {
     }
 }
 
-const UPPER: &[(&str, Literal)] = &[
-    ("matrix.os", Literal::Text("linux")),
-    ("github.run_id", Literal::Null),
-];
-
-const OVER: &[(&str, &str)] = &[
-    ("${{ matrix.os }}-${{ github.workflow }}", "linux-ci.json"),
-    ("<${{ github.run_id }}>", "<>"),
-    ("${{ matrix.x || inputs.most }}", "9223372036854775807"),
-];
-
-/// Whether the template has this text, in an upper context on top of that of the rows.
-fn is_text_over(alloc: Global, text: &str, want: &str) -> Result<bool, Refusal> {
-    let (upper, lower) = (properties(alloc, UPPER)?, example(alloc)?);
-    let layers = Over {
-        upper: &upper,
-        lower: &lower,
-    };
-    Ok(template_of(alloc, text)?.is_text(&layers, want.as_bytes()))
-}
-
-#[test]
-fn the_upper_layer_is_looked_up_first(rt: HostRuntime) {
-    for (text, want) in OVER {
-        let is_text = is_text_over(rt.alloc(), text, want).expect(&rt, text);
-        holds!(rt; is_text, text);
-    }
-}
-
-/// A template, another text, whether that is its text, and whether it is up to ASCII case.
-const COMPARED: &[(&str, &str, bool, bool)] = &[
-    ("Linux", "Linux", true, true),
-    ("Linux", "linux", false, true),
-    ("Linux", "linu", false, false),
-    ("Linux", "linux2", false, false),
-    ("", "", true, true),
-    ("${{ inputs.none }}", "", true, true),
-    ("${{ inputs.none }}", "x", false, false),
-    ("${{ inputs.yes }}", "true", true, true),
-    ("${{ inputs.no }}", "FALSE", false, true),
-    ("v${{ inputs.least }}", "V-9223372036854775808", false, true),
-    ("${{ inputs.a-b_C9 }}.", "7.", true, true),
+/// A template, another text, and whether that is its text up to ASCII case.
+const COMPARED: &[(&str, &str, bool)] = &[
+    ("Linux", "Linux", true),
+    ("Linux", "linux", true),
+    ("Linux", "linu", false),
+    ("Linux", "linux2", false),
+    ("", "", true),
+    ("${{ inputs.none }}", "", true),
+    ("${{ inputs.none }}", "x", false),
+    ("${{ inputs.yes }}", "true", true),
+    ("${{ inputs.no }}", "FALSE", true),
+    ("v${{ inputs.least }}", "V-9223372036854775808", true),
+    ("${{ inputs.a-b_C9 }}.", "7.", true),
     (
         "${{ github.workflow }}-${{ 'A' }}",
         "CI.json-a",
-        false,
         true,
     ),
-    ("é", "É", false, false),
+    ("é", "É", false),
 ];
 
 /// Whether a copy of the row's template compares as the row says.
-fn compares(alloc: Global, row: &(&str, &str, bool, bool)) -> Result<bool, Refusal> {
-    let (text, other, same, alike) = row;
+fn compares(alloc: Global, row: &(&str, &str, bool)) -> Result<bool, Refusal> {
+    let (text, other, alike) = row;
     let context = example(alloc)?;
     let template = template_of(alloc, text)?.copy(alloc)?;
-    let is_alike = template.is_text_ignoring_ascii_case(&context, other.as_bytes());
-    Ok(template.is_text(&context, other.as_bytes()) == *same && is_alike == *alike)
+    Ok(template.is_text_ignoring_ascii_case(&context, other.as_bytes()) == *alike)
 }
 
 #[test]
@@ -217,10 +186,16 @@ const FLAGS: &[(&str, bool)] = &[
     ("", false),
 ];
 
+/// Whether the template sets a flag in the context of the rows.
+fn sets_flag(alloc: Global, text: &str) -> Result<bool, Refusal> {
+    let context = example(alloc)?;
+    Ok(template_of(alloc, text)?.sets_flag(&context))
+}
+
 #[test]
 fn templates_set_flags(rt: HostRuntime) {
     for &(text, want) in FLAGS {
-        let value = value_of(rt.alloc(), text).expect(&rt, text);
-        holds!(rt; is_flag_set(&value) == want, text);
+        let is_set = sets_flag(rt.alloc(), text).expect(&rt, text);
+        holds!(rt; is_set == want, text);
     }
 }

@@ -53,7 +53,6 @@ pub(crate) struct Viewer {
     leaves: bool,
     discarded: usize,
     pub(crate) waiting: Option<Waiting>,
-    /// Whether it is in the queue.
     pub(crate) is_queued: bool,
 }
 

@@ -11,7 +11,6 @@ use Rattle.view_sessions.specs.declared.fault.ViewFault.{ViewFault}
 use Rattle.view_sessions.specs.declared.path.Path.{Path}
 use Rattle.view_sessions.specs.declared.query.Query.{Query}
 
--- a fault stays
 fault_stays : (at : Path) (fault : ViewFault) (parts : List (List ℕ)) → all_added at (Err fault) parts ≡ Err fault
 fault_stays at fault [] = refl
 fault_stays at fault (part ∷ parts) = fault_stays at fault parts

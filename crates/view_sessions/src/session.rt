@@ -27,7 +27,6 @@ pub enum Writable {
     Yes,
     /// Not yet.
     Later,
-    /// It has failed.
     Failed,
 }
 

@@ -2,7 +2,7 @@
 use Rattle.std.proofs.Common.{◌≡◌, ◌≢◌, ℕ, ◌+◌, ◌<◌, Bool, true, false, ◌==◌, List, [], ◌∷◌, ◌++◌, length, take, drop, codes, Some, refl, sym, ap, subst, ◌∙◌, inl, inr, append_assoc, length-append, take-append-drop, length-take, get_or-take, length-drop, arith}
 use Rattle.std.specs.Prelude.{not, slice_index_or}
 use Rattle.std.specs.List.{position}
-use Rattle.std.proofs.lemmas.Bool.{eqb-true, false≢true, ne_eqb, or_from}
+use Rattle.std.proofs.lemmas.Bool.{eqb-true, false≢true, ne_eqb}
 use Rattle.std.proofs.lemmas.List.{drop-drop, take_more}
 use Rattle.std.proofs.lemmas.List.Elements.{All-append, All-cons, All-head, All-nil, All-tail}
 use Rattle.std.proofs.lemmas.List.Quantifiers.{position-Some}
@@ -313,7 +313,3 @@ pub waits_by_lines : (bytes : List ℕ) (p : Progress) → AreUnfinishedLines by
 waits_by_lines bytes p ((within, few, begins), (none, may)) short =
     let rest = drop p.read bytes in
     inl (has_no_head bytes rest p.lines begins none, may_be_head bytes rest p.lines begins may, short)
-
-pub no_newline_first : (bytes : List ℕ) → 0 < length bytes → slice_index_or bytes 0 0 ≢ 13 → slice_index_or bytes 0 0 ≢ 10 → Stops is_newline bytes
-no_newline_first [] some cr nl = absurd (omega arith)
-no_newline_first (b ∷ bytes) some cr nl = or_from (b == 13) (b == 10) (ne_eqb b 13 cr) (ne_eqb b 10 nl)

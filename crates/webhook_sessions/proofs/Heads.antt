@@ -123,11 +123,6 @@ body_missing head n size after is less =
       refl,
     )
 
-pub body_fits : (head : Heading) (size : ℕ) → body_length head ≡ Ok size → size ≤ max_body
-body_fits head size is = subst IsSmall is (body_small head)
-
--- ---- a whole head
-
 -- what the code finds after a head of n bytes
 pub next_by : (bytes : List ℕ) (h : RequestHead) (n : ℕ) → n ≤ 8192 → n ≤ length bytes → BeginsWith bytes h (drop n bytes)
     → (found : Result (Next Fault) Refusal) → IsFound (heading_of h) n (drop n bytes) found → IsNext hooks bytes found

@@ -1,4 +1,3 @@
-ghost use Rattle.std.specs.Prelude.{◌≡◌, Some, None, option_map, option_copied};
 
 use http::{Method, StatusCode};
 use std::alloc::Global;

@@ -1,6 +1,5 @@
 ghost use Rattle.std.specs.Prelude.{◌≡◌, ◌==◌, Ok, Some, None, option_map, position};
 ghost use Rattle.wf_value.specs.Gives.{Gives};
-ghost use Rattle.run_plan.specs.SmallText.{number_of};
 ghost use Rattle.webhook_sessions.specs.Paths.{after_prefix, at_slash, before_end, method_of, part_of_run, path_of, run_path, runner_path};
 
 use http::Method;

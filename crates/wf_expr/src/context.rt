@@ -1,5 +1,5 @@
 ghost use Rattle.std.specs.Prelude.{◌≡◌};
-ghost use Rattle.std.specs.Option.{option_map, option_or};
+ghost use Rattle.std.specs.Option.{option_map};
 
 use crate::properties::Properties;
 use crate::scalar_view::ScalarView;
@@ -28,24 +28,6 @@ impl Context for Properties {
         match self.get(path) {
             Some(value) => Some(ScalarView::of(value)),
             None => None,
-        }
-    }
-}
-
-/// One context on top of another: a path without a value in the upper one is looked up in the lower one.
-#[derive(Drop)]
-pub struct Over<'a, U, L> {
-    pub upper: &'a U,
-    pub lower: &'a L,
-}
-
-impl<'a, U: Context, L: Context> Context for Over<'a, U, L> {
-    ghost values = { λ layers path. option_or (U.values layers.upper.now path) (L.values layers.lower.now path) };
-
-    fn value_of(&self, path: &[Chars]) -> Option<ScalarView<'_>> {
-        match self.upper.value_of(path) {
-            Some(value) => Some(value),
-            None => self.lower.value_of(path),
         }
     }
 }

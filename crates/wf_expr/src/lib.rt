@@ -23,8 +23,7 @@ mod value;
 
 pub use bind::flag_is_set_by_the_text_true;
 pub use bound::{BoundPiece, BoundTemplate};
-pub use context::{Context, Over};
-pub use flag::is_flag_set;
+pub use context::Context;
 pub use grammar::{spells_one_template, template_of_is_the_grammars};
 pub use piece::{Operand, Piece};
 pub use place::ContextSite;

@@ -1,4 +1,4 @@
-ghost use Rattle.std.specs.Prelude.{◌≡◌, ◌↔◌, ◌⊎◌, List, ℕ, IsTrue, Result, IfOk, IfErr, Ok, Err};
+ghost use Rattle.std.specs.Prelude.{◌≡◌, ◌↔◌, ◌⊎◌, List, IsTrue, Result, IfOk, IfErr, Ok, Err};
 ghost use Rattle.wf_expr.specs.Comparison.{lowered};
 ghost use Rattle.wf_value.specs.Gives.{Gives, no_memory};
 ghost use Rattle.wf_value.specs.ScalarValue.{scalar_text};
@@ -67,13 +67,6 @@ impl Template {
             [Piece::Braced(operands)] => expression_value(operands.as_slice(), context).copy(alloc),
             pieces => Ok(Scalar::Text(joined(alloc, pieces, context)?)),
         }
-    }
-
-    /// Whether the text of the template's value in the context equals `text`. It takes no memory.
-    pub fn is_text<C: Context>(&self, context: &C, text: &[u8]) -> bool
-        ensures { IsTrue result ↔ (scalar_text (template_value (C.values context.now) self.now) ≡ text.now) }
-    {
-        are_text(self.pieces(), context, text, Case::Sensitive)
     }
 
     /// Whether the text of the template's value in the context equals `text` up to ASCII case, as labels compare. It takes no

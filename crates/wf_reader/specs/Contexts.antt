@@ -26,7 +26,6 @@ abbrev pub scalar_at : List (List ℕ) → Data → Option Scalar
 scalar_at [] d = scalar_in d
 scalar_at (name ∷ path) d = option_and_then (scalar_at path) (get name d)
 
--- the context with this name
 abbrev pub context_named : ContextObjects → List ℕ → Option Data
 context_named c name =
     if bytes_eq name (codes "github") then c.github

@@ -1,15 +1,12 @@
 ghost use Rattle.std.specs.Prelude.{◌≡◌, IsTrue, IfOk, map, flat_map, string_bytes};
 ghost use Rattle.std.specs.List.{filter};
-ghost use Rattle.serde_json.specs.Find.{get};
 ghost use Rattle.serde_json.specs.View.{view};
 ghost use Rattle.wf_value.specs.Gives.{Gives};
 ghost use Rattle.wf_value.specs.Names.{names_rise};
-ghost use Rattle.wf_value.specs.declared.code.Code.TheVariants.{MatrixValue, EmptyList, StrategyMember};
+ghost use Rattle.wf_value.specs.declared.code.Code.TheVariants.{StrategyMember};
 ghost use Rattle.wf_value.specs.declared.refusal.Refusal.TheVariants.{Numbered};
-ghost use Rattle.wf_reader.specs.Faults.{unless_faulty, optional};
-ghost use Rattle.wf_reader.specs.Json.{member_at};
+ghost use Rattle.wf_reader.specs.Faults.{unless_faulty};
 ghost use Rattle.wf_reader.specs.MatrixOf.{is_variable_name, variable_faults, variable_of, matrix_faults, matrix_of};
-ghost use Rattle.wf_reader.specs.Patterns.{patterns_faults, patterns_of};
 
 use crate::patterns::read_patterns;
 use crate::values::{empty_list, matrix_value, read_values};

@@ -2,12 +2,11 @@
 use Rattle.std.proofs.Common.{◌≡◌, ℕ, ◌<◌, List, [], ◌∷◌, ◌++◌, map, length, Bool, true, false, cond, if◌then◌else◌, is_some, Option, Some, None}
 use Rattle.std.proofs.Common.{unwrap_or, option_and_then, refl, sym, ap, ◌∙◌, subst, append_assoc, arith}
 use Rattle.std.specs.List.{filter, list_all, list_any}
-use Rattle.std.specs.Option.{option_map_or}
 use Rattle.std.specs.Str.{bytes_eq}
 use Rattle.std.proofs.lemmas.List.{length-map}
 use Rattle.std.proofs.lemmas.List.Folds.{list_all-map}
 use Rattle.serde_json.specs.Data.{Data, null, array, Members, no_members}
-use Rattle.serde_json.specs.Find.{as_array, as_object, get}
+use Rattle.serde_json.specs.Find.{as_array, as_object}
 use Rattle.serde_json.specs.View.{view, items_view, members_view}
 use Rattle.serde_json.specs.declared.value.Value.{Value}
 use Rattle.serde_json.proofs.Views.{Entry}
@@ -22,10 +21,9 @@ use Rattle.wf_reader.proofs.Contents.{array-of, item_list-view, items_here, memb
 use Rattle.wf_reader.proofs.Entries.{kept}
 use Rattle.needs_graph.specs.Needs.{is_job}
 use Rattle.run_plan.specs.PlanOf.{needs_of_job}
-use Rattle.workflow_lint.specs.Checks.{found_by, items_at, members_at, optional_at}
+use Rattle.workflow_lint.specs.Checks.{found_by, items_at, members_at}
 use Rattle.workflow_lint.specs.InJob.{labels_at, needs_at}
 use Rattle.workflow_lint.specs.InMatrix.{pattern_at, patterns_at, unless_empty, variable_at}
-use Rattle.workflow_lint.specs.Paths.{member_path}
 use Rattle.workflow_lint.specs.Plans.{need_found}
 use Rattle.workflow_lint.specs.declared.check.Check.TheVariants as check
 use Rattle.workflow_lint.specs.declared.finding.Finding.{Finding}
@@ -37,11 +35,6 @@ if_so false xs ys is = absurd cc
 filled_so : {X : Type 0} (path : List ℕ) (xs : List X) (found : List Finding) → 0 < length xs → unless_empty path xs found ≡ found
 filled_so path [] found filled = absurd (omega arith)
 filled_so path (x ∷ xs) found filled = refl
-
--- a member that is present
-pub member_here : (f : List ℕ → Data → List Finding) (path name p : List ℕ) (d v : Data) → Some v ≡ get name d → p ≡ member_path path name
-    → f p v ≡ optional_at f path name d
-member_here f path name p d v is named = ap (λ q. f q v) named ∙ ap (λ o. option_map_or (f (member_path path name)) o []) is
 
 -- three parts, the last under another name
 pub last_renamed : (all start one two i e v w : List Finding) → one ≡ start ++ i → two ≡ one ++ e → v ≡ w → all ≡ two ++ v

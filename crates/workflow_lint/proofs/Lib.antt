@@ -1,4 +1,3 @@
-pub mod Suffix
 pub mod Faults
 pub mod Here
 pub mod Laws

@@ -1,7 +1,7 @@
 //! The printed line of a finding.
 
-ghost use Rattle.std.specs.Prelude.{◌≡◌, ◌++◌, [], ◌∷◌, IfOk, OnOk, codes, decimal, flat_map, string_bytes};
-ghost use Rattle.wf_value.specs.RefusalText.{refusal_detail, refusal_number};
+ghost use Rattle.std.specs.Prelude.{◌≡◌, ◌++◌, IfOk, OnOk, flat_map, string_bytes};
+ghost use Rattle.wf_value.specs.RefusalText.{refusal_detail};
 ghost use Rattle.wf_value.specs.SpacedText.{spaced};
 ghost use Rattle.workflow_lint.specs.Lines.{finding_line, meaning, meaning_of_code, shown_path};
 

@@ -1,6 +1,6 @@
 //! The plan of a workflow without faults of its own: the matrices and the needs of its jobs.
 
-ghost use Rattle.std.specs.Prelude.{◌≡◌, ◌++◌, IfOk, IsTrue, OnOk, codes, map, option_to_list, string_bytes};
+ghost use Rattle.std.specs.Prelude.{◌≡◌, ◌++◌, IfOk, IsTrue, OnOk, map, option_to_list, string_bytes};
 ghost use Rattle.wf_reader.specs.Faults.{outcome_faults};
 ghost use Rattle.wf_reader.specs.JobCode.{ids_rise};
 ghost use Rattle.std.specs.List.{list_any};

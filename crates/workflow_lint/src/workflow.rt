@@ -1,6 +1,6 @@
 //! The text of a workflow.
 
-ghost use Rattle.std.specs.Prelude.{◌≡◌, ◌++◌, [], IfOk, List, ℕ, Ok, OnOk, codes, map, option_and_then, option_map, string_bytes};
+ghost use Rattle.std.specs.Prelude.{◌≡◌, ◌++◌, IfOk, List, ℕ, Ok, OnOk, codes, map, option_and_then, option_map, string_bytes};
 ghost use Rattle.serde_json.specs.Find.{as_object, get};
 ghost use Rattle.serde_json.specs.View.{members_view, view};
 ghost use Rattle.wf_reader.specs.Json.{member_at, members_of};

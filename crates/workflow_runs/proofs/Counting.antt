@@ -1,10 +1,10 @@
 -- One more run is counted: the count of its workflow grows by one, and the other counts stay the same.
-use Rattle.std.specs.Prelude.{◌≡◌, ℕ, ◌+◌, ◌≤◌, ◌<◌, ◌&&◌, List, [], ◌∷◌, ◌++◌, Bool, true, false, cond, count_by, IsSomeAnd, MatchOption, Some, None}
-use Rattle.std.specs.Prelude.{Option, length, map, refl}
+use Rattle.std.specs.Prelude.{◌≡◌, ℕ, ◌+◌, ◌<◌, ◌&&◌, List, [], ◌∷◌, ◌++◌, Bool, true, false, cond, count_by, IsSomeAnd, MatchOption, Some, None}
+use Rattle.std.specs.Prelude.{Option, length, map}
 use Rattle.std.specs.List.{AllZip}
 use Rattle.std.specs.Option.{option_map_or}
 use Rattle.std.specs.Str.{bytes_eq}
-use Rattle.std.proofs.Common.{arith, ap, ap₂, inl, inr, sym, subst, ◌∙◌}
+use Rattle.std.proofs.Common.{arith, ap, ap₂, inl, inr, sym, ◌∙◌}
 use Rattle.std.proofs.lemmas.Bool.{and_parts, cases_Bool, cond-false, cond-true}
 use Rattle.std.proofs.lemmas.Cmp.{and_equiv, nat_list_eq_equiv, on_equiv}
 use Rattle.std.proofs.lemmas.List.{length-map}

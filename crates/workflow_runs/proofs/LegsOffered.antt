@@ -1,6 +1,5 @@
 -- Each run stays marked for the lists of its ready legs, whatever changes.
-use Rattle.std.specs.Prelude.{◌≡◌, ◌&&◌, ℕ, List, [], Bool, true, false, nat_eq, IfSome, Option, Some, None, slice_get, if◌then◌else◌, refl}
-use Rattle.std.specs.Option.{option_map_or}
+use Rattle.std.specs.Prelude.{◌≡◌, ◌&&◌, ℕ, List, [], Bool, true, false, nat_eq, IfSome, Option, Some, None, slice_get, if◌then◌else◌}
 use Rattle.std.proofs.Common.{ap, subst, sym, ◌∙◌, inl, inr}
 use Rattle.std.proofs.lemmas.Bool.{cases_eq}
 use Rattle.std.proofs.lemmas.Option.{same_Some}

@@ -4,7 +4,7 @@ use Rattle.std.specs.Prelude.{IfNone, IfSome, is_some, option_and_then, option_m
 use Rattle.std.specs.Option.{option_map_or}
 use Rattle.std.proofs.Common.{arith, ap, sym, subst, ◌∙◌, inl, inr, length-append, length-set}
 use Rattle.std.proofs.lemmas.Bool.{and_parts, cases_Bool, cases_eq, true≢false}
-use Rattle.std.proofs.lemmas.Bool.Decides.{Decides-eqb, nat_tests}
+use Rattle.std.proofs.lemmas.Bool.Decides.{Decides-eqb}
 use Rattle.std.proofs.lemmas.Option.{slice_get-map, slice_get_past, slice_get_within}
 use Rattle.run_marks.specs.Bits.{Puts}
 use Rattle.run_marks.specs.Marked.{Covers, SameMarks, is_marked}
@@ -115,22 +115,6 @@ one_more fact xs y marks marks' r end room as_long puts are = record {
         | inl here ↦ put_marks r s marks marks' puts here
         | inr other ↦
             put_adds r s marks marks' puts (are.marked s x (sym (before_the_end xs y s (λ e. other (e ∙ sym end))) ∙ at) has)
-      ]);
-}
-
-pub unmarked : (fact : ℕ → RunState → Bool) (xs : List RunState) (marks marks' : List ℕ) (r : ℕ)
-    → ((x : RunState) → slice_get xs r ≡ Some x → fact r x ≡ false) → length marks' ≡ length marks → Puts false r marks marks'
-    → AreMarked fact xs marks → AreMarked fact xs marks'
-unmarked fact xs marks marks' r none as_long puts are = record {
-  covers = omega (arith, are.covers, as_long);
-  marked = (λ s x at has.
-      elim (cases_eq s r) [
-        | inl same ↦
-            let here : slice_get xs r ≡ Some x = ap (slice_get xs) (sym same) ∙ at in
-            absurd (true≢false (sym has ∙ ap (λ k. fact k x) same ∙ none x here))
-        | inr other ↦
-            let test : nat_eq s r ≡ false = grind (arith, nat_tests) in
-            puts s ∙ ap (λ b. if b then false else is_marked marks s) test ∙ are.marked s x at has
       ]);
 }
 

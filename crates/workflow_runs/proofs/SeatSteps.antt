@@ -21,7 +21,6 @@ use Rattle.workflow_runs.proofs.SeatsInOrder.{all_jobs, all_legs, all_runs, job_
 abbrev pub leg_place : ℕ → ℕ → ℕ → LegPlace
 leg_place r j l = record { run = r; job = j; leg = l }
 
--- a leg is of its job
 pub leg_in_its_job : (r j l : ℕ) (h : Holder) → same_holder h (Leg (leg_place r j l)) ≡ true → in_job r j h ≡ true
 leg_in_its_job r j l (Run s) e = absurd (true≢false (sym e))
 leg_in_its_job r j l (Leg p) e =

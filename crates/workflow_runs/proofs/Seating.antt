@@ -163,7 +163,6 @@ no_seat_for place runs bindings entries one has_not =
     (λ h has. sym (another one h (λ is. true≢false (sym has ∙ ap (is_of place runs) is ∙ has_not))))
     (nobody_seated place runs bindings entries)
 
--- it is in no group
 pub in_no_group : (place : Place) (runs : List RunState) (bindings : List RunBindings) (entries : Entries) (one : Holder)
     → group_at runs one ≡ None → TakeSeats place (only one) runs bindings bindings entries entries
 in_no_group place runs bindings entries one none = record {

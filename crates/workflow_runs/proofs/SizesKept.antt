@@ -1,7 +1,7 @@
 -- How the size of the runs changes as a run is added or replaced, and its bound.
-use Rattle.std.specs.Prelude.{◌≡◌, ℕ, zero, suc, ◌+◌, ◌*◌, ◌<◌, ◌≤◌, List, [], ◌∷◌, ◌++◌, length, sum_by, slice_set, refl}
+use Rattle.std.specs.Prelude.{◌≡◌, ℕ, zero, suc, ◌+◌, ◌*◌, ◌<◌, ◌≤◌, List, [], ◌∷◌, ◌++◌, length, sum_by, slice_set}
 use Rattle.std.specs.List.{AllByRecursion}
-use Rattle.std.proofs.Common.{arith, ap, get_or, sym, subst, ◌∙◌}
+use Rattle.std.proofs.Common.{arith, ap, get_or, sym, subst}
 use Rattle.std.proofs.lemmas.List.{length-set}
 use Rattle.std.proofs.lemmas.List.Sums.{get_or-le-sum_by, sum_by-cons, sum_by-set, sum_by_push}
 use Rattle.stated_limits.specs.Limits.{max_runs}
@@ -37,9 +37,6 @@ sizes_most (x ∷ xs) all =
 
 -- ---- the size
 
-pub no_size : IsSizeOf [] 0
-no_size = record { is = refl; small = tt }
-
 pub size_most : (runs : List RunState) (size : ℕ) → IsSizeOf runs size → length runs ≤ max_runs → size ≤ max_runs * max_run_size
 size_most runs size of few = omega (arith, of.is, sizes_most runs of.small, few)
 
@@ -73,7 +70,6 @@ size_changed runs r x y change size more within is next sizes of =
     (subst IsSmall (sym next) (small_changed change x (small_at runs r x within is of.small)))
     (omega (arith, sizes, ap run_size next)) of
 
--- which fits
 pub change_fits : (runs : List RunState) (r : ℕ) (x y : RunState) (change : Change) (size more : ℕ) → r < length runs → x ≡ get_or runs r x
     → y ≡ changed change x → run_size (changed change x) ≡ run_size x + more → IsSizeOf runs size → length runs ≤ max_runs
     → size + more ≤ max_runs * max_run_size

@@ -7,7 +7,6 @@ use Rattle.std.proofs.Common.{arith, ap, below_more, get_or, sym, subst, ◌∙�
 use Rattle.std.proofs.lemmas.List.{length-map, length-replicate, take_all}
 use Rattle.std.proofs.lemmas.List.Sums.{sum_by-cons, sum_by_more}
 use Rattle.std.proofs.lemmas.Option.{same_Some, slice_get-map}
-use Rattle.wf_value.specs.declared.outcome.JobResult.{JobResult}
 use Rattle.run_plan.specs.PlanOf.{plan_of}
 use Rattle.run_plan.specs.declared.planned.PlannedJob.{PlannedJob}
 use Rattle.run_plan.proofs.FewLegs.{few_planned}

@@ -24,12 +24,10 @@ use Rattle.run_states.proofs.Found.{at_the_end, before_the_end}
 use Rattle.run_states.proofs.LegFacts.{SameUpTo}
 use Rattle.run_bindings.specs.BoundGroups.{results_by_place}
 use Rattle.run_bindings.specs.Bindings.{AreBound}
-use Rattle.run_bindings.specs.GroupKeys.{AllAreLater, AreLater, KeyState, decided, holder_key, key_in, requests_of, ticket_in}
-use Rattle.run_bindings.specs.declared.bindings.JobBindings.{JobBindings}
+use Rattle.run_bindings.specs.GroupKeys.{AllAreLater, AreLater, decided, holder_key, key_in, requests_of, ticket_in}
 use Rattle.run_bindings.specs.declared.bindings.RunBindings.{RunBindings}
 use Rattle.run_bindings.specs.declared.group_keys.HolderKey.{HolderKey}
 use Rattle.run_bindings.specs.declared.group_keys.HolderKey.TheVariants.{NoGroup}
-use Rattle.run_bindings.specs.declared.groups.GroupRequest.{GroupRequest}
 use Rattle.run_bindings.proofs.BoundSays.{SaysBoth, said_there}
 use Rattle.settling_laws.proofs.GroupStays.{same_flag, same_group}
 use Rattle.workflow_runs.specs.Begun.{AreKnownIf, HaveTickets, IsBegun, IsBegunBelow, has_legs_at}

@@ -1,6 +1,6 @@
 -- The book of a table has exactly the holders that the table has: each slot has the holder that is pending in its group, and the one that is
 -- in progress. Each run and each leg knows its group, and memory is taken for each arrival that is to come.
-use Rattle.std.specs.Prelude.{◌≡◌, ◌↔◌, ◌≤◌, ◌&&◌, ℕ, List, length, nat_eq, Bool, true, false, sum_by, Option, Some, is_some, option_and_then, slice_get}
+use Rattle.std.specs.Prelude.{◌≡◌, ◌↔◌, ◌≤◌, ◌&&◌, ℕ, List, length, nat_eq, Bool, true, false, sum_by, Some, is_some, option_and_then, slice_get}
 use Rattle.std.specs.Option.{option_map_or}
 use Rattle.group_book.specs.Books.{BookState, slot_in}
 use Rattle.group_book.specs.declared.slot.Slot.{Slot}

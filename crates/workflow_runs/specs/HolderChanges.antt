@@ -1,5 +1,5 @@
 -- Which holder a change of a run makes begin or end. A change concerns at most one.
-use Rattle.std.specs.Prelude.{◌≡◌, ℕ, List, Bool, true, false}
+use Rattle.std.specs.Prelude.{◌≡◌, ℕ, List, true, false}
 use Rattle.run_states.specs.GroupOf.{cancels_in_progress, group_at}
 use Rattle.run_states.specs.Groups.{holds, may_start, waits}
 use Rattle.run_states.specs.Resuming.{is_new_at}

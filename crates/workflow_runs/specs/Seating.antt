@@ -1,5 +1,5 @@
 -- The book of groups of a table that was stored: first the holders in progress take their places in it, and then those that are pending.
-use Rattle.std.specs.Prelude.{◌≡◌, ◌↔◌, ◌≤◌, ◌&&◌, ◌||◌, ℕ, List, length, nat_eq, nat_lt, Bool, true, false, Option, None, Some, option_and_then, slice_get}
+use Rattle.std.specs.Prelude.{◌≡◌, ◌↔◌, ◌≤◌, ◌&&◌, ◌||◌, ℕ, List, nat_eq, nat_lt, Bool, true, false, Option, None, Some, option_and_then}
 use Rattle.group_book.specs.Books.{BookState, slot_in}
 use Rattle.group_book.specs.declared.slot.Slot.{Slot}
 use Rattle.group_name.specs.Group.{Group, same_group}

@@ -1,8 +1,8 @@
 //! The runs of a table with what is kept of each, and with the marks and indexes by which commands find them. Concurrency groups stand
 //! beside them, in `Runs`.
 
-ghost use Rattle.std.specs.Prelude.{◌≡◌, ◌≤◌, ◌<◌, ◌+◌, ◌*◌, ◌^◌, [], length, sum_by, IfOk, IfSome, OnErr, OnOk, option_and_then, option_copied, option_map};
-ghost use Rattle.std.specs.Prelude.{Ok, Some, false, slice_get, true};
+ghost use Rattle.std.specs.Prelude.{◌≡◌, ◌≤◌, ◌<◌, ◌+◌, ◌*◌, [], length, sum_by, IfOk, IfSome, OnErr, OnOk, option_and_then, option_copied, option_map};
+ghost use Rattle.std.specs.Prelude.{Ok, Some, false, slice_get};
 ghost use Rattle.std.specs.Fmt.{decimal};
 ghost use Rattle.std.specs.List.{position};
 ghost use Rattle.std.specs.Option.{option_map_or};

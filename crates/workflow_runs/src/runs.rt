@@ -1,5 +1,5 @@
-ghost use Rattle.std.specs.Prelude.{◌≡◌, ◌≤◌, ◌<◌, ◌*◌, ◌∷◌, ◌++◌, [], length, sum_by, IfSome, OnErr};
-ghost use Rattle.std.specs.Prelude.{option_map, option_copied, slice_get, Ok, ◌^◌, false, true};
+ghost use Rattle.std.specs.Prelude.{◌≡◌, ◌≤◌, ◌<◌, ◌*◌, [], length, sum_by, IfSome};
+ghost use Rattle.std.specs.Prelude.{option_map, option_copied, slice_get, Ok, ◌^◌};
 ghost use Rattle.std.specs.List.{position};
 ghost use Rattle.std.specs.Option.{option_map_or};
 ghost use Rattle.stated_limits.specs.Limits.{max_runs};

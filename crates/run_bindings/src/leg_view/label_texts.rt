@@ -1,6 +1,6 @@
 //! The texts of the labels that a leg asks for.
 
-ghost use Rattle.std.specs.Prelude.{◌≡◌, Ok};
+ghost use Rattle.std.specs.Prelude.{Ok};
 ghost use Rattle.wf_value.specs.Gives.{Gives};
 ghost use Rattle.wf_value.specs.ScalarValue.{scalar_text};
 ghost use Rattle.wf_expr.specs.TemplateValue.{template_value};

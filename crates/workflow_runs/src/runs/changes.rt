@@ -5,7 +5,7 @@ ghost use Rattle.group_book.specs.Books.{slot_in};
 ghost use Rattle.group_name.specs.Group.{Group};
 ghost use Rattle.run_marks.specs.Marked.{Covers, is_marked};
 ghost use Rattle.run_states.specs.Changes.{changed};
-ghost use Rattle.run_states.specs.Groups.{holds, may_start, waits};
+ghost use Rattle.run_states.specs.Groups.{may_start, waits};
 ghost use Rattle.run_states.specs.Holders.{run_of};
 ghost use Rattle.run_states.specs.Places.{with_job, with_run};
 ghost use Rattle.run_states.specs.Rules.{may_run, opened, run_in_phase, settled_as, with_leg_in};

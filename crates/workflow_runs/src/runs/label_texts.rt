@@ -1,6 +1,6 @@
 //! The texts of the labels that a leg asks for.
 
-ghost use Rattle.std.specs.Prelude.{◌≡◌, ◌<◌, ◌^◌, [], Ok, unwrap_or};
+ghost use Rattle.std.specs.Prelude.{◌<◌, ◌^◌, [], Ok, unwrap_or};
 ghost use Rattle.wf_value.specs.Gives.{Gives};
 ghost use Rattle.run_states.specs.Words.{labels_at};
 

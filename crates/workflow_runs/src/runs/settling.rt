@@ -1,6 +1,6 @@
 //! Settling: apply one rule after another, until none applies.
 
-ghost use Rattle.std.specs.Prelude.{◌≡◌, ◌<◌, ◌^◌, true, false, if◌then◌else◌, is_some, Some, None, IfSome, option_map, option_and_then};
+ghost use Rattle.std.specs.Prelude.{◌≡◌, ◌<◌, false, if◌then◌else◌, is_some, Some, None, IfSome, option_map, option_and_then};
 ghost use Rattle.std.specs.Prelude.{filter_map};
 ghost use Rattle.std.specs.List.{list_any};
 ghost use Rattle.std.specs.Option.{option_map_or};

@@ -1,4 +1,4 @@
-use Rattle.std.proofs.Common.{rules, ◌≡◌, ◌∙◌, subst}
+use Rattle.std.proofs.Common.{rules, ◌≡◌, subst}
 use Rattle.std.specs.Prelude.{None, Option, Some}
 use Rattle.gated_journal.specs.ScannedHead.{head_of}
 use Rattle.run_table.specs.TableState.{TableState}

@@ -9,8 +9,8 @@ use Rattle.run_bindings.specs.declared.bindings.JobBindings.{JobBindings}
 use Rattle.run_bindings.specs.declared.group_keys.HolderKey.{HolderKey}
 use Rattle.run_bindings.specs.declared.label_numbers.ListNumbers.{ListNumbers}
 use Rattle.run_bindings.proofs.Binding.{one_pushed}
-use Rattle.run_bindings.proofs.BoundJobs.{no_jobs, one_beside}
-use Rattle.run_bindings.proofs.LabelNumbers.{grows_more, grows_none}
+use Rattle.run_bindings.proofs.BoundJobs.{one_beside}
+use Rattle.run_bindings.proofs.LabelNumbers.{grows_more}
 use Rattle.run_bindings.proofs.bindings.bind_jobs.Goals as goal
 
 pub loop-j-preserved : goal.loop-j-preserved

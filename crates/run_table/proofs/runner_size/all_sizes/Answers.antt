@@ -1,4 +1,4 @@
-use Rattle.std.proofs.Common.{◌≡◌, ◌<◌, ◌≤◌, ◌∙◌, arith, length, rules}
+use Rattle.std.proofs.Common.{◌≤◌, ◌∙◌, arith, length}
 use Rattle.run_table.proofs.RunnerSizes.{below_most, sized_all, sized_more, sized_none}
 use Rattle.run_table.proofs.runner_size.all_sizes.Goals as goal
 

@@ -1,10 +1,8 @@
 use Rattle.std.proofs.Common.{sym, subst}
-use Rattle.group_name.specs.Group.{Group}
 use Rattle.group_histories.specs.GroupHistories.{all_moves}
 use Rattle.group_histories.specs.GroupHolders.{SayWhoHolds}
 use Rattle.group_histories.proofs.HistoryLaw.{group_keeps_law}
 use Rattle.group_histories.proofs.HoldersSaid.{moves_say_who_holds}
-use Rattle.group_laws.specs.Names.{Names}
 use Rattle.run_table.specs.TableState.{TableState}
 use Rattle.step_laws.proofs.calls.carry_out.Goals as goal
 

@@ -1,4 +1,4 @@
-use Rattle.std.proofs.Common.{◌≡◌, Option, ℕ, arith, subst, sym}
+use Rattle.std.proofs.Common.{arith, subst, sym}
 use Rattle.std.specs.Prelude.{Some}
 use Rattle.command_encodings.proofs.Known.{is_numbered_within}
 use Rattle.table_text.specs.Tables.{IsLease}

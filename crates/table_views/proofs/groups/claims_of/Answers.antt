@@ -1,5 +1,5 @@
 use Rattle.std.specs.Prelude.{refl}
-use Rattle.std.proofs.Common.{◌∙◌, ℕ, ◌<◌, length, map, arith}
+use Rattle.std.proofs.Common.{ℕ, ◌<◌, length, map, arith}
 use Rattle.run_states.specs.FirstOf.{placed}
 use Rattle.run_states.specs.RunState.{RunState}
 use Rattle.run_states.specs.Places.{leg_place}

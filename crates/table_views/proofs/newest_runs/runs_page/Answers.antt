@@ -1,4 +1,4 @@
-use Rattle.std.proofs.Common.{◌∙◌, ◌+◌, ◌-◌, ℕ, List, length, ap, ap₂, subst, sym}
+use Rattle.std.proofs.Common.{◌∙◌, ◌-◌, ℕ, List, length, ap, ap₂, subst, sym}
 use Rattle.std.specs.Prelude.{codes, string_bytes}
 use Rattle.table_views.specs.Members.{number_or_null}
 use Rattle.table_views.specs.Pages.{IsPage, page_text, rows_from}

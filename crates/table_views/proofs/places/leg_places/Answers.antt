@@ -1,4 +1,4 @@
-use Rattle.std.proofs.Common.{◌≡◌, ◌∙◌, ◌++◌, ◌<◌, length, ap, sym, arith}
+use Rattle.std.proofs.Common.{◌∙◌, ◌++◌, ◌<◌, length, ap, sym, arith}
 use Rattle.run_states.specs.Places.{leg_places_of_run}
 use Rattle.table_views.proofs.Placing.{one_more}
 use Rattle.table_views.proofs.places.leg_places.Goals as goal

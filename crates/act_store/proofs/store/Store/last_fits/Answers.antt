@@ -1,4 +1,4 @@
-use Rattle.std.proofs.Common.{rules, arith, ◌≡◌, ◌<◌, ◌≤◌, ◌+◌, ◌-◌, List, drop, length, not, ap, subst, sym, ◌∙◌}
+use Rattle.std.proofs.Common.{rules, arith, ◌≡◌, ◌<◌, ◌≤◌, ◌+◌, ◌-◌, drop, length, not, ap, subst, sym, ◌∙◌}
 use Rattle.std.specs.Prelude.{flat_map, nat_lt}
 use Rattle.std.proofs.lemmas.List.{length-drop}
 use Rattle.command_encodings.specs.Commands.{command_bytes}
@@ -6,7 +6,6 @@ use Rattle.act_store.specs.Checkpoints.{has_no_room}
 use Rattle.act_store.specs.Entries.{commands_of}
 use Rattle.act_store.specs.StoreState.{StoreState}
 use Rattle.act_store.specs.StoreSeen.{as_checkpoint}
-use Rattle.act_store.specs.declared.entry.Entry.{Entry}
 use Rattle.act_store.proofs.Finishing.{fits_is}
 use Rattle.act_store.proofs.store.Store.last_fits.Goals as goal
 

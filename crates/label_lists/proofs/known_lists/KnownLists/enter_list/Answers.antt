@@ -1,4 +1,4 @@
-use Rattle.std.proofs.Common.{◌≡◌, ℕ, ◌<◌, ◌∷◌, ◌++◌, ◌+◌, [], Bool, List, Some, false, length, length-append, if◌then◌else◌, not, slice_get, sym, subst, ap, ◌∙◌, rules}
+use Rattle.std.proofs.Common.{◌≡◌, ℕ, ◌∷◌, ◌++◌, ◌+◌, [], Bool, List, Some, false, length, length-append, if◌then◌else◌, not, slice_get, sym, subst, ap, ◌∙◌, rules}
 use Rattle.std.specs.List.{list_any}
 use Rattle.run_marks.specs.Marked.{Covers}
 use Rattle.label_lists.specs.Known.{AreMarked, KnownState, OnlyEnters, requests_at, offers_at}

@@ -1,4 +1,4 @@
-use Rattle.std.specs.Prelude.{◌≡◌, ◌≤◌, None, length, option_and_then, slice_get}
+use Rattle.std.specs.Prelude.{◌≤◌, length, option_and_then}
 use Rattle.std.proofs.Common.{ap, rules, sym, ◌∙◌}
 use Rattle.std.proofs.lemmas.Option.{slice_get_past}
 use Rattle.run_states.specs.FirstOf.{changed_at}

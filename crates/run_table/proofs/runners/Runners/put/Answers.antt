@@ -1,6 +1,5 @@
-use Rattle.std.proofs.Common.{◌≡◌, ◌≤◌, List, ℕ, ap, arith, length, rules, sym, subst, ◌∙◌}
+use Rattle.std.proofs.Common.{◌≡◌, List, ℕ, ap, arith, sym, ◌∙◌}
 use Rattle.wf_value.proofs.PassedOn.{same_Ok}
-use Rattle.run_table.specs.RunnerSizes.{AreSized}
 use Rattle.run_table.specs.SequenceNumbers.{runner_named, with_runner}
 use Rattle.run_table.specs.TableState.{RunnerState}
 use Rattle.run_table.proofs.RunnerOrder.{put_keeps_order}

@@ -1,4 +1,4 @@
-use Rattle.std.proofs.Common.{List, ap, ◌∙◌, ◌+◌, ◌*◌, ◌≤◌, length, subst}
+use Rattle.std.proofs.Common.{List, ap, ◌∙◌, ◌*◌, ◌≤◌, length, subst}
 use Rattle.std.specs.Prelude.{sum_by}
 use Rattle.run_table.specs.RunnerSizes.{runner_size, max_runner_size}
 use Rattle.run_table.specs.TableState.{RunnerState}

@@ -21,7 +21,6 @@ use Rattle.run_table.proofs.table_data.TableData.end_lost.Goals.{After-end}
 pub put-requires : goal.put-requires
 put-requires c = c.requires.place ∙ ap (λ (t : TableState). place_named t.runners c.args.runner.name) (sym c.self.view_is)
 
--- its outcome
 its_outcome : (c : After-end) → c.outcome_of_loss-outcome.result ≡ outcome_of_loss c.args.self.now.runs c.args.lease
 its_outcome c =
     let of : List RunState → Option LegPlace → Outcome = λ runs leg. if

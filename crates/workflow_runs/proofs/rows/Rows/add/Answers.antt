@@ -1,9 +1,7 @@
 use Rattle.std.proofs.Common.{◌≡◌, ◌<◌, ap, subst, sym, ◌∙◌, rules}
-use Rattle.std.specs.Prelude.{List, length}
+use Rattle.std.specs.Prelude.{length}
 use Rattle.run_plan.specs.Admitted.{Admitted}
 use Rattle.run_states.specs.RunNumber.{number_of_next}
-use Rattle.run_states.specs.RunState.{RunState}
-use Rattle.workflow_runs.specs.Begun.{AddsOrStays}
 use Rattle.workflow_runs.specs.RowsKept.{RowState}
 use Rattle.workflow_runs.proofs.Counting.{few_counted, next_counted}
 use Rattle.workflow_runs.proofs.rows.Rows.add.Goals as goal

@@ -10,7 +10,7 @@ use Rattle.label_lists.specs.Lists.{ListsState, OnlyGrows as ListsGrow}
 use Rattle.run_marks.specs.Marked.{SameMarks}
 use Rattle.run_states.specs.ActiveRuns.{is_active}
 use Rattle.run_states.specs.GroupOf.{RunFacts}
-use Rattle.run_states.specs.RunNumber.{AreNumbered, events, number_of_next, same_workflow}
+use Rattle.run_states.specs.RunNumber.{AreNumbered, number_of_next, same_workflow}
 use Rattle.run_states.specs.RunState.{RunState}
 use Rattle.run_states.specs.declared.holder.Holder.{Holder}
 use Rattle.run_bindings.specs.Bindings.{AreBound, RunSays}

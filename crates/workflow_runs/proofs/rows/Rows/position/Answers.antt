@@ -1,4 +1,4 @@
-use Rattle.std.proofs.Common.{◌≡◌, ap, subst, sym, ◌∙◌, arith}
+use Rattle.std.proofs.Common.{ap, arith}
 use Rattle.std.specs.Prelude.{List, length}
 use Rattle.run_states.specs.RunState.{RunState}
 use Rattle.workflow_runs.specs.RowsKept.{RowState}

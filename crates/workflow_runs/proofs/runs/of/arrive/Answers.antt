@@ -12,7 +12,6 @@ use Rattle.workflow_runs.proofs.SpentThere.{another_key}
 use Rattle.workflow_runs.proofs.runs.of.arrive.Goals as goal
 use Rattle.workflow_runs.proofs.runs.of.arrive.Goals.{After-begin_at_once, In-Some}
 
--- the group that it is in
 its_group : (c : In-Some) → group_at c.args.rows.now.runs c.args.holder.now ≡ Some c.in-Some.group
 its_group c = sym c.requires.key ∙ sym c.in-Some.ensures.ticket
 

@@ -26,7 +26,6 @@ returns-in_default-clause-taken c =
     (sym (group_by_key c.args.place c.args.rows.now.runs c.args.rows.now.bindings c.args.book.now c.args.holder.now has c.requires.seats)
     ∙ sym c.key.ensures ∙ ap option_copied none)
 
--- the group that it is in
 in_group : (c : In-Some) → is_of c.args.place c.args.rows.now.runs c.args.holder.now ≡ true
     → group_at c.args.rows.now.runs c.args.holder.now ≡ Some c.in-Some.group.now
 in_group c has =
