@@ -2,11 +2,12 @@
 use Rattle.std.specs.Prelude.{◌≡◌, ◌≢◌, ◌⊎◌, ℕ, ◌+◌, ◌-◌, ◌*◌, ◌^◌, ◌<◌, min, true, false, Bool, Option, Some, None, Result, Ok, Err}
 use Rattle.wf_value.specs.declared.refusal.Refusal.{Refusal}
 use Rattle.act_disk.specs.Failed.{device_failed}
-use Rattle.act_store.specs.Checkpoints.{IsFinished, begun_at, left_of, refusal_of_begin, refusal_of_finish, refusal_of_slice, sliced, text_length}
-use Rattle.act_store.specs.Plain.{failed_earlier}
+use Rattle.act_store.specs.Checkpoints.{IsFinished, begun_at, left_of, refusal_of_begin, refusal_of_finish, refusal_of_slice, sliced}
+use Rattle.act_store.specs.Plain.{failed_earlier, room_in}
 use Rattle.act_store.specs.Steps.{left_by}
-use Rattle.act_store.specs.StoreState.{StoreState, table_of}
+use Rattle.act_store.specs.StoreState.{StoreState}
 use Rattle.act_store.specs.declared.step.Step.TheVariants as asked
+use Rattle.act_store.specs.Checkpoints.{checkpoint_length}
 
 -- The state of a flusher: how many bytes of the checkpoint in progress are left to write, if there is one; how many entries were covered
 -- when it last tried to begin one; and how many it has finished.
@@ -17,7 +18,7 @@ pub record Flushing : Type 0 where
 
 -- less than half of the area is left for the next record, and entries were covered since the last attempt
 abbrev pub IsDue : {D : Type 0} → Flushing → StoreState D → Type 0
-IsDue f s = (2 * (s.area - s.used - 6) < s.area) × (f.tried ≢ Some s.covered)
+IsDue f s = (2 * room_in s < s.area) × (f.tried ≢ Some s.covered)
 
 -- 51 and 52, which end the flusher
 abbrev pub IsOfDevice : Refusal → Type 0
@@ -25,7 +26,7 @@ IsOfDevice e = (e ≡ device_failed) ⊎ (e ≡ failed_earlier)
 
 -- It begins a checkpoint. Running out of memory changes nothing. After any other refusal it waits until more entries are covered.
 abbrev pub Begins : {D : Type 0} → Flushing → Flushing → StoreState D → StoreState D → Result Bool Refusal → Type 0
-Begins f g s t (Ok true) = (t ≡ begun_at s t.disk) × (g ≡ record f { left = Some (17 + text_length (table_of s)); tried = Some s.covered })
+Begins f g s t (Ok true) = (t ≡ begun_at s t.disk) × (g ≡ record f { left = Some (checkpoint_length s); tried = Some s.covered })
 Begins f g s t (Ok false) =
     (t ≡ s) × ((g ≡ f) ⊎ ((e : Refusal) × (refusal_of_begin s ≡ Some e) × (g ≡ record f { tried = Some s.covered })))
 Begins f g s t (Err e) = IsOfDevice e

@@ -1,10 +1,11 @@
 -- What the sessions submitted, compared with the history of the store.
 use Rattle.std.specs.Prelude.{◌≡◌, ◌≢◌, ◌⊎◌, ◌==◌, ◌||◌, ◌<◌, ℕ, Bool, true, List, [], ◌∷◌, ◌++◌, filter, flat_map, length, get_or, Ok, Err, ⊤, Option, Some, None, IfSome, All}
 use mathlib.Core.List.{IsPrefix}
-use Rattle.wf_value.specs.RefusalText.{refusal_number}
+use Rattle.wf_value.specs.declared.code.Code.{Code}
+use Rattle.wf_value.specs.declared.code.Code.TheVariants.{HistoryFull, AreaFull, OldLayout}
 use Rattle.act_sessions.specs.declared.transcript.Ending.TheVariants.{Broken, Memory}
 use Rattle.act_sessions.specs.declared.transcript.Transcript.{Transcript}
-use Rattle.act_sessions.specs.Exchange.{Response, Exchange, leaves_open, exchanges_by}
+use Rattle.act_sessions.specs.Exchange.{Response, Exchange, leaves_open, exchanges_by, is_one_of}
 use Rattle.act_store.specs.declared.entry.Entry.{Entry}
 
 -- the entries of a seat
@@ -19,11 +20,14 @@ entries_of_one seat (command, Err refusal) = []
 abbrev pub entries_of : ℕ → List Exchange → List Entry
 entries_of seat exchanges = flat_map (entries_of_one seat) exchanges
 
--- An answer that settles whether its command was entered. A reply says that it was. 46, 47 and 57, for a full history, a full area and an
--- area of the first layout, say that it was not.
+-- these answers say that the command was not entered: a full history, a full area, and an area of the first layout
+abbrev pub unentered_codes : List Code
+unentered_codes = HistoryFull ∷ AreaFull ∷ OldLayout ∷ []
+
+-- An answer that settles whether its command was entered. A reply says that it was.
 abbrev pub is_definite : Response → Bool
 is_definite (Ok reply) = true
-is_definite (Err refusal) = (refusal_number refusal == 46) || (refusal_number refusal == 47) || (refusal_number refusal == 57)
+is_definite (Err refusal) = is_one_of unentered_codes refusal
 
 -- Each answer settles whether its command was entered. Only the last one may leave it unknown, as 50, 51, 52 and 60 do.
 abbrev pub AreDefinite : List Exchange → Type 0

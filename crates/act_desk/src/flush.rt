@@ -210,9 +210,10 @@ fn lacks_memory(refusal: Refusal) -> Result<bool, Refusal>
     ensures other { IfOk result (λ lacks. lacks ≡ false → refusal ≡ no_memory → ⊥) }
     ensures cause { IfErr result (λ e. (e ≡ device_failed) ⊎ (e ≡ failed_earlier)) }
 {
-    match refusal.number() {
-        51 => Err(Refusal::Numbered(Code::DeviceFailed)),
-        52 => Err(Refusal::Numbered(Code::FailedEarlier)),
-        number => Ok(number == 50),
+    match refusal {
+        Refusal::Numbered(Code::DeviceFailed) => Err(Refusal::Numbered(Code::DeviceFailed)),
+        Refusal::Numbered(Code::FailedEarlier) => Err(Refusal::Numbered(Code::FailedEarlier)),
+        Refusal::Numbered(Code::NoMemory) => Ok(true),
+        _ => Ok(false),
     }
 }

@@ -3,7 +3,7 @@ ghost use mathlib.Core.List.{IsPrefix};
 ghost use Rattle.wf_value.specs.Gives.{no_memory};
 ghost use Rattle.act_disk.specs.Failed.{device_failed};
 ghost use Rattle.act_disk.specs.Images.{EachSince};
-ghost use Rattle.act_store.specs.Checkpoints.{IsFinished, begun_at, dropped, left_of, refusal_of_begin, refusal_of_finish, refusal_of_slice, sliced, text_length};
+ghost use Rattle.act_store.specs.Checkpoints.{IsFinished, begun_at, dropped, left_of, refusal_of_begin, refusal_of_finish, refusal_of_slice, sliced};
 ghost use Rattle.act_store.specs.Entries.{IsLegal};
 ghost use Rattle.act_store.specs.GroupsOfHistory.{KeepsGroups};
 ghost use Rattle.act_store.specs.Images.{RecoversTo};
@@ -12,6 +12,8 @@ ghost use Rattle.act_store.specs.declared.entry.Entry.{Entry};
 ghost use Rattle.act_desk.specs.Answered.{unsettled};
 ghost use Rattle.act_store.specs.Plain.{area_full, broken, committed, entered, failed_earlier, history_full, old_layout, refusal_of_apply};
 ghost use Rattle.act_store.specs.FaultCauses.{TellsFault};
+ghost use Rattle.act_store.specs.Checkpoints.{checkpoint_length};
+ghost use Rattle.act_store.specs.Plain.{room_in};
 ghost use Rattle.act_desk.specs.Events.{covered_in, entries_in, told_in};
 ghost use Rattle.act_desk.specs.Shown.{IsReplyTo, IsAnsweredBy, Shows};
 
@@ -112,8 +114,8 @@ impl<D: Disk, E: Named, T: Ledger> LockedStore<D, E, T> {
 
     /// Whether less than half of an area is left for the next record.
     pub fn is_pressed(&self) -> bool
-        ensures pressed { result ≡ true → 2 * (self.now.store.area - self.now.store.used - 6) < self.now.store.area }
-        ensures free { result ≡ false → self.now.store.area ≤ 2 * (self.now.store.area - self.now.store.used - 6) }
+        ensures pressed { result ≡ true → 2 * room_in self.now.store < self.now.store.area }
+        ensures free { result ≡ false → self.now.store.area ≤ 2 * room_in self.now.store }
     {
         let (area, room) = (self.store.area(), self.store.room());
         room < area - room
@@ -124,7 +126,7 @@ impl<D: Disk, E: Named, T: Ledger> LockedStore<D, E, T> {
         ensures any_moment { D.honest self.old.store.disk
             → EachSince D.moment D.images_since self.old.store.disk self.new.store.disk (RecoversToEither self.old.store) }
         ensures begun { OnOk result (self.new.store ≡ begun_at self.old.store self.new.store.disk) }
-        ensures left { IfOk result (λ left. left ≡ 17 + text_length (table_of self.old.store)) }
+        ensures left { IfOk result (λ left. left ≡ checkpoint_length self.old.store) }
         ensures faults { TellsFault result (D.fault_count self.old.store.disk) (D.fault_count self.new.store.disk) }
         ensures refused { IfSome (refusal_of_begin self.old.store) (λ refusal. result ≡ Err refusal) }
         ensures cause { IfErr result (λ e. (e ≡ no_memory) ⊎ (e ≡ device_failed) ⊎ (refusal_of_begin self.old.store ≡ Some e)) }

@@ -2,9 +2,9 @@
 
 ghost use Rattle.std.specs.Prelude.{◌≡◌, ◌≢◌, ◌<◌, ◌≤◌, ◌+◌, ℕ, List, [], ◌∷◌, ◌++◌, ◌==◌, ◌||◌, All, get_or, is_ok, length, take, false, true, IfNone, IfSome, None, Some};
 ghost use mathlib.Core.List.{IsPrefix};
-ghost use Rattle.act_sessions.specs.Exchange.{leaves_open as leaves, exchanges_in};
+ghost use Rattle.act_sessions.specs.Exchange.{leaves_open as leaves, exchanges_in, is_one_of};
 ghost use Rattle.act_sessions.specs.declared.transcript.LoggedExchange.{LoggedExchange as AskedOne};
-ghost use Rattle.act_desk.specs.Settled.{Agrees, AreCovered, AreDefinite, IsOfLast, IsSettled, MayBegin, NoneBroken, entries_of, if_any, is_definite as definite, part_of};
+ghost use Rattle.act_desk.specs.Settled.{Agrees, AreCovered, AreDefinite, IsOfLast, IsSettled, MayBegin, NoneBroken, entries_of, if_any, is_definite as definite, part_of, unentered_codes};
 
 use act_disk::Disk;
 use act_sessions::{Ending, LoggedExchange, Transcript, leaves_open};
@@ -12,7 +12,7 @@ use act_store::{Entry, Store};
 use run_plan::Reply;
 use std::marker::Model;
 use std::snapshot::Snapshot;
-use wf_value::{Refusal, Same};
+use wf_value::{Code, Refusal, Same};
 
 /// How far a list of submitted commands was found in the history: `asked` first ones, and perhaps the entry of the last one after them.
 #[derive(Drop)]
@@ -55,14 +55,17 @@ fn is_definite(answer: &Result<Reply, Refusal>) -> bool
 {
     match answer {
         Ok(_) => true,
-        Err(refusal) => is_of_a_full_store(refusal.number()),
+        Err(refusal) => is_of_a_full_store(refusal),
     }
 }
 
-fn is_of_a_full_store(number: u64) -> bool
-    ensures { result ≡ ((number == 46) || (number == 47) || (number == 57)) }
+fn is_of_a_full_store(refusal: &Refusal) -> bool
+    ensures { result ≡ is_one_of unentered_codes refusal.now }
 {
-    number == 46 || number == 47 || number == 57
+    matches!(
+        refusal,
+        Refusal::Numbered(Code::HistoryFull | Code::AreaFull | Code::OldLayout)
+    )
 }
 
 /// Whether each answer settles if its command was entered.

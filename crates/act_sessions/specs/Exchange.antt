@@ -1,8 +1,10 @@
 -- What a session submits, and the answers it gets.
-use Rattle.std.specs.Prelude.{◌≡◌, ◌⊎◌, ℕ, Bool, false, ◌==◌, List, [], ◌∷◌, ◌++◌, map, Result, Ok, Err, ⊤}
+use Rattle.std.specs.Prelude.{◌≡◌, ◌⊎◌, Bool, false, ◌==◌, List, [], ◌∷◌, ◌++◌, map, Result, Ok, Err, ⊤}
 use Rattle.std.specs.List.{list_any}
 use Rattle.wf_value.specs.Gives.{no_memory}
-use Rattle.wf_value.specs.RefusalText.{refusal_number}
+use Rattle.wf_value.specs.RefusalText.{code_number, refusal_number}
+use Rattle.wf_value.specs.declared.code.Code.{Code}
+use Rattle.wf_value.specs.declared.code.Code.TheVariants.{NoMemory, DeviceFailed, FailedEarlier, Unsettled}
 use Rattle.wf_value.specs.declared.refusal.Refusal.{Refusal}
 use Rattle.run_plan.specs.declared.command.Command.{Command}
 use Rattle.run_plan.specs.declared.reply.Reply.{Reply}
@@ -27,13 +29,17 @@ AreAsked old new exchanges =
     (new ≡ old ++ exchanges)
     ⊎ ((prefix : List Exchange) × (c : Command) × (exchanges ≡ prefix ++ (c, Err no_memory) ∷ []) × (new ≡ old ++ prefix))
 
+-- whether a refusal has one of these codes
+abbrev pub is_one_of : List Code → Refusal → Bool
+is_one_of those refusal = list_any (λ c. code_number c == refusal_number refusal) those
+
 -- these answers do not say whether the command was entered
-abbrev pub open_numbers : List ℕ
-open_numbers = 50 ∷ 51 ∷ 52 ∷ 60 ∷ []
+abbrev pub open_codes : List Code
+open_codes = NoMemory ∷ DeviceFailed ∷ FailedEarlier ∷ Unsettled ∷ []
 
 abbrev pub leaves_open : Response → Bool
 leaves_open (Ok reply) = false
-leaves_open (Err refusal) = list_any (λ n. n == refusal_number refusal) open_numbers
+leaves_open (Err refusal) = is_one_of open_codes refusal
 
 -- Each answer but the last settles whether its command was entered.
 abbrev pub OnlyLastOpen : List Exchange → Type 0

@@ -1,18 +1,18 @@
 -- Which answers end a session, whatever requests follow. This is defined by this project.
-use Rattle.std.specs.Prelude.{ℕ, Bool, false, ◌==◌, List, [], ◌∷◌, Ok, Err}
-use Rattle.std.specs.List.{list_any}
-use Rattle.wf_value.specs.RefusalText.{refusal_number}
+use Rattle.std.specs.Prelude.{Bool, false, List, ◌∷◌, Ok, Err}
+use Rattle.wf_value.specs.declared.code.Code.{Code}
+use Rattle.wf_value.specs.declared.code.Code.TheVariants.{HistoryFull, AreaFull, LastCounter, OldLayout}
 use Rattle.wf_value.specs.declared.refusal.Refusal.{Refusal}
 use Rattle.run_plan.specs.declared.reply.Reply.TheVariants as reply
-use Rattle.act_sessions.specs.Exchange.{Response}
+use Rattle.act_sessions.specs.Exchange.{Response, is_one_of, open_codes}
 
--- full history, full area, a counter at its limit, a command that the area's layout lacks, out of memory, a failed device, and a history
--- that contradicts earlier replies
-abbrev pub ending_numbers : List ℕ
-ending_numbers = 46 ∷ 47 ∷ 48 ∷ 57 ∷ 50 ∷ 51 ∷ 52 ∷ 60 ∷ []
+-- a full history, a full area, a counter at its limit, a command that the area's layout lacks, and what leaves it open whether the command was
+-- entered: out of memory, a failed device, and a history that contradicts earlier replies
+abbrev pub ending_codes : List Code
+ending_codes = HistoryFull ∷ AreaFull ∷ LastCounter ∷ OldLayout ∷ open_codes
 
 abbrev pub ends_by : Refusal → Bool
-ends_by e = list_any (λ n. n == refusal_number e) ending_numbers
+ends_by e = is_one_of ending_codes e
 
 -- an answer with such a refusal, from the table or from before it
 abbrev pub ends_session : Response → Bool

@@ -37,12 +37,16 @@ abbrev pub refusal_of_begin : {D : Type 0} → StoreState D → Option Refusal
 refusal_of_begin s =
     if s.failed then Some failed_earlier else (if is_some s.begun then Some checkpoint_order else refusal_of_head s)
 
+-- what a checkpoint writes: the head of an area, and the text of the table of all entries
+abbrev pub checkpoint_length : {D : Type 0} → StoreState D → ℕ
+checkpoint_length s = HEAD + text_length (table_of s)
+
 -- the text of the table of all entries is taken, and nothing of it is written yet
 abbrev pub taken : {D : Type 0} → StoreState D → Checkpoint
 taken s = record {
   place = length s.history;
   text = text_length (table_of s);
-  left = HEAD + text_length (table_of s);
+  left = checkpoint_length s;
 }
 
 abbrev pub begun_at : {D : Type 0} → StoreState D → D → StoreState D

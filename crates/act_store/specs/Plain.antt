@@ -1,6 +1,7 @@
 -- The abstract store: when each call is refused, what it returns, and its effect. It assumes that memory and the device do not fail; for
 -- failures the contracts of the calls define the effect.
 use Rattle.std.specs.Prelude.{◌≡◌, ◌⊎◌, ℕ, ◌+◌, List, [], ◌∷◌, ◌++◌, length, is_some, ◌||◌, nat_le, nat_lt, if◌then◌else◌, true, false, Option, Some, None}
+use Rattle.std.specs.Prelude.{◌-◌}
 use Rattle.stated_limits.specs.Limits.{max_entries}
 use Rattle.wf_value.specs.declared.code.Code.TheVariants.{AreaFull, CheckpointTurn, DiskNotEmpty, FailedEarlier, HistoryFull, NoArea, NoTable, OldLayout}
 use Rattle.wf_value.specs.declared.refusal.Refusal.{Refusal}
@@ -44,6 +45,10 @@ batch_length commands = length (batch.encoding commands)
 -- if its record fits, so a commit never fails for lack of space.
 abbrev pub record_end : {D : Type 0} → StoreState D → List Command → ℕ
 record_end s commands = s.used + FRAME + batch_length commands + GATE
+
+-- the bytes that the next record may take beside its frame and the gate after it
+abbrev pub room_in : {D : Type 0} → StoreState D → ℕ
+room_in s = s.area - s.used - (GATE + FRAME)
 
 -- ---- apply
 

@@ -9,7 +9,7 @@ use Rattle.act_disk.specs.Failed.{device_failed}
 use Rattle.act_disk.specs.Images.{EachSince}
 use Rattle.run_plan.specs.declared.reply.Reply.{Reply}
 use Rattle.run_table.specs.Step.{stepped}
-use Rattle.act_store.specs.Checkpoints.{IsFinished, begun_at, dropped, left_of, sliced, text_length}
+use Rattle.act_store.specs.Checkpoints.{IsFinished, begun_at, dropped, left_of, sliced, checkpoint_length}
 use Rattle.act_store.specs.Checkpoints.{refusal_of_begin, refusal_of_finish, refusal_of_slice}
 use Rattle.act_store.specs.StoreState.{StoreState, RecoversToEither, table_of}
 use Rattle.act_store.specs.Plain.{broken, committed, entered, refusal_of_apply, refusal_of_commit}
@@ -85,7 +85,7 @@ Replies old requested.Finish reply new = ⊥
 abbrev pub Counts : {D : Type 0} → StoreState D → Step → ℕ → StoreState D → Type 0
 Counts old (requested.Apply command) count new = ⊥
 Counts old requested.Commit count new = Covers old count new
-Counts old requested.Begin count new = (new ≡ begun_at old new.disk) × (count ≡ 17 + text_length (table_of old))
+Counts old requested.Begin count new = (new ≡ begun_at old new.disk) × (count ≡ checkpoint_length old)
 Counts old requested.Slice count new = (new ≡ sliced old new.disk) × (count ≡ left_of new.begun)
 Counts old requested.Finish count new = IsFinished old new × (count ≡ length old.history)
 

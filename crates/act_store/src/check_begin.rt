@@ -5,7 +5,7 @@ ghost use Rattle.act_disk.specs.Images.{EachSince};
 ghost use Rattle.gated_journal.specs.Layout.{head_bytes};
 ghost use Rattle.run_table.specs.Sound.{IsSound};
 ghost use Rattle.table_text.specs.WholeTables.{whole_table};
-ghost use Rattle.act_store.specs.Checkpoints.{begun_at, first_gate, refusal_of_begin, text_length};
+ghost use Rattle.act_store.specs.Checkpoints.{begun_at, first_gate, refusal_of_begin, text_length, checkpoint_length};
 ghost use Rattle.act_store.specs.Layouts.{current_version};
 ghost use Rattle.act_store.specs.OtherGate.{IsShutBeside};
 ghost use Rattle.act_store.specs.StoreState.{RecoversToEither, table_of};
@@ -37,7 +37,7 @@ impl<D: Disk> Store<D> {
         ensures any_moment { D.honest self.old.disk
             → EachSince D.moment D.images_since self.old.disk self.new.disk (RecoversToEither self.old) }
         ensures begun { OnOk result (self.new ≡ begun_at self.old self.new.disk) }
-        ensures left { IfOk result (λ left. left ≡ 17 + text_length (table_of self.old)) }
+        ensures left { IfOk result (λ left. left ≡ checkpoint_length self.old) }
         ensures refused { IfSome (refusal_of_begin self.old) (λ refusal. result ≡ Err refusal) }
         ensures cause { IfErr result (λ e. (e ≡ no_memory) ⊎ (e ≡ device_failed) ⊎ (refusal_of_begin self.old ≡ Some e)) }
         ensures broken { result ≡ Err device_failed → self.new ≡ broken self.old self.new.disk }

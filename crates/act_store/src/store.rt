@@ -1,8 +1,8 @@
 ghost use Rattle.std.specs.Prelude.{◌≡◌, ◌≤◌, ◌==◌, ◌+◌, ◌-◌, List, ℕ, if◌then◌else◌, length, slice_get, option_copied, None};
-ghost use Rattle.gated_journal.specs.declared.lengths.TheConstants.{FRAME};
 ghost use Rattle.act_store.specs.Entries.{IsLegal};
 ghost use Rattle.act_store.specs.GroupsOfHistory.{KeepsGroups};
 ghost use Rattle.act_store.specs.StoreState.{RecoverToCovered, RecoversToEither, table_of};
+ghost use Rattle.act_store.specs.Plain.{room_in};
 ghost use Rattle.run_table.specs.Sound.{IsSound};
 ghost use Rattle.run_table.specs.Step.{seen};
 
@@ -118,7 +118,7 @@ impl<D: Disk> Store<D> {
 
     /// How many bytes the next record's commands and their count may take to fit the area.
     pub fn room(&self) -> u64
-        ensures { result ≡ self.now.area - self.now.used - (GATE + FRAME) }
+        ensures { result ≡ room_in self.now }
     {
         (self.areas.len - self.used).saturating_sub(GATE + LENGTH + GATE)
     }

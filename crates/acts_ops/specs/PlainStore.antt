@@ -1,9 +1,9 @@
 -- The plain store that a script is played over: a store without its disk. It gives the answer to each step if neither
 -- memory nor the device fails. This is defined by this project.
-use Rattle.std.specs.Prelude.{ℕ, ◌+◌, length, nat_lt, Option, Some, None, if◌then◌else◌}
+use Rattle.std.specs.Prelude.{ℕ, length, nat_lt, Option, Some, None, if◌then◌else◌}
 use Rattle.wf_value.specs.declared.refusal.Refusal.{Refusal}
 use Rattle.run_table.specs.Step.{stepped}
-use Rattle.act_store.specs.Checkpoints.{begun_at, finished, left_of, sliced, text_length}
+use Rattle.act_store.specs.Checkpoints.{begun_at, finished, left_of, sliced, checkpoint_length}
 use Rattle.act_store.specs.StoreState.{Checkpoint, StoreState, table_of}
 use Rattle.act_store.specs.Plain.{committed, entered, fresh}
 use Rattle.act_store.specs.Steps.{left_by, refusal_of}
@@ -51,7 +51,7 @@ all_checked s (Some checkpoint) = finished s checkpoint tt
 abbrev pub done : PlainStore → Step → PlainStore × Played
 done s (requested.Apply command) = (entered s 0 command, told.Replied (stepped (table_of s) command).reply)
 done s requested.Commit = (all_covered s, told.Count (length s.history))
-done s requested.Begin = (begun_at s tt, told.Count (17 + text_length (table_of s)))
+done s requested.Begin = (begun_at s tt, told.Count (checkpoint_length s))
 done s requested.Slice = (sliced s tt, told.Count (left_of (sliced s tt).begun))
 done s requested.Finish = (all_checked s s.begun, told.Count (length s.history))
 

@@ -131,10 +131,10 @@ impl Checkpoints {
 
     /// Handles the refusal of a step. For lack of memory there are `left` bytes to write as before.
     fn refused(&mut self, refusal: Refusal, left: Option<u64>) -> Result<(), Refusal> {
-        match refusal.number() {
-            51 => Err(Refusal::Numbered(Code::DeviceFailed)),
-            52 => Err(Refusal::Numbered(Code::FailedEarlier)),
-            50 => {
+        match refusal {
+            Refusal::Numbered(Code::DeviceFailed) => Err(Refusal::Numbered(Code::DeviceFailed)),
+            Refusal::Numbered(Code::FailedEarlier) => Err(Refusal::Numbered(Code::FailedEarlier)),
+            Refusal::Numbered(Code::NoMemory) => {
                 self.lacks_memory = true;
                 self.left = left;
                 if left.is_none() {

@@ -1,11 +1,11 @@
 -- The status of each answer: RFC 9110, section 15.
-use Rattle.std.specs.Prelude.{ℕ, ◌==◌, ◌||◌, Bool, List, Option, Some, None, if◌then◌else◌}
-use Rattle.wf_value.specs.RefusalText.{refusal_number}
+use Rattle.std.specs.Prelude.{ℕ, Bool, List, [], ◌∷◌, Option, Some, None, if◌then◌else◌}
 use Rattle.wf_value.specs.declared.code.Code.TheVariants as code
 use Rattle.wf_value.specs.declared.refusal.Refusal.{Refusal}
 use Rattle.wf_value.specs.declared.refusal.Refusal.TheVariants.{Numbered}
 use Rattle.run_plan.specs.declared.reply.Reply.{Reply}
 use Rattle.run_plan.specs.declared.reply.Reply.TheVariants as reply
+use Rattle.act_sessions.specs.Exchange.{is_one_of}
 use Rattle.act_sessions.specs.Last.{ends_by}
 use Rattle.webhook_sessions.specs.declared.fault.Fault.{Fault}
 use Rattle.webhook_sessions.specs.declared.fault.Fault.TheVariants.{BadHead, NoLength, BadLength, TooLong, EventHeader, NoPath, WrongMethod, Unprocessable}
@@ -41,7 +41,7 @@ fault_allows fault = None
 
 -- no such run or runner
 abbrev pub is_missing : Refusal → Bool
-is_missing e = (refusal_number e == 40) || (refusal_number e == 45)
+is_missing e = is_one_of (code.NoRun ∷ code.NoRunner ∷ []) e
 
 -- a refusal that ends a session is 503; any other one conflicts with the state of the table
 abbrev pub refusal_status : Refusal → ℕ

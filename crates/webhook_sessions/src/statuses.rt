@@ -49,8 +49,7 @@ pub fn fault_allows(fault: &Fault) -> Option<&Method>
 fn is_missing(refusal: &Refusal) -> bool
     ensures { result ≡ is_missing refusal.now }
 {
-    let number = refusal.number();
-    number == 40 || number == 45
+    matches!(refusal, Refusal::Numbered(Code::NoRun | Code::NoRunner))
 }
 
 pub fn refusal_status(refusal: &Refusal) -> StatusCode
