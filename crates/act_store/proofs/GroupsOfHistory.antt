@@ -2,8 +2,8 @@
 use Rattle.std.proofs.Common.{List}
 use Rattle.run_table.specs.Sound.{IsSound}
 use Rattle.run_table.specs.TableState.{TableState}
-use Rattle.group_histories.proofs.HistoryLaw.{group_keeps_law}
-use Rattle.group_histories.proofs.HistoryWords.{one_pending_after, one_in_progress_after}
+use Rattle.table_laws.proofs.HistoryLaw.{group_keeps_law}
+use Rattle.table_laws.proofs.HistoryWords.{one_pending_after, one_in_progress_after}
 use Rattle.act_store.specs.Entries.{commands_of}
 use Rattle.act_store.specs.GroupsOfHistory.{KeepsGroups}
 use Rattle.act_store.specs.declared.entry.Entry.{Entry}

@@ -6,7 +6,7 @@ use Rattle.run_plan.specs.declared.reply.Reply.{Reply}
 use Rattle.run_table.specs.Histories.{after, replies}
 use Rattle.run_table.specs.Step.{stepped}
 use Rattle.run_table.specs.TableState.{TableState}
-use Rattle.group_histories.proofs.LeasesStay.{after_both}
+use Rattle.table_laws.proofs.LeasesStay.{after_both}
 use Rattle.act_store.specs.Entries.{commands_of, table_after, IsLegal}
 use Rattle.act_store.specs.declared.entry.Entry.{Entry}
 

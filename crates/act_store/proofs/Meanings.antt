@@ -7,7 +7,7 @@ use Rattle.gated_journal.specs.Layout.{Head}
 use Rattle.run_plan.specs.declared.command.Command.{Command}
 use Rattle.run_table.specs.Histories.{after}
 use Rattle.run_table.specs.TableState.{TableState}
-use Rattle.group_histories.proofs.LeasesStay.{after_both}
+use Rattle.table_laws.proofs.LeasesStay.{after_both}
 use Rattle.command_encodings.specs.Commands.{batch}
 use Rattle.act_store.specs.Layouts.{batch_format}
 use Rattle.act_store.specs.Meaning.{EncodeCommands, MeansTable}

@@ -14,7 +14,7 @@ use Rattle.run_table.specs.TableState.{TableState}
 use Rattle.table_laws.specs.ExactlyOnce.{HasNumber, IsRefused}
 use Rattle.table_laws.specs.Remembered.{AreNoLaterNumbers, AreNoOtherAttempts, KnowsAttempt, KnowsDelivery, LastCommandIs}
 use Rattle.table_laws.proofs.KnownAttempts.{attempt_after, begun_is_known, known_attempt_is_answered}
-use Rattle.group_histories.proofs.LeasesStay.{after_both}
+use Rattle.table_laws.proofs.LeasesStay.{after_both}
 use Rattle.table_laws.proofs.Remembered.{answered_is_last, created_is_known, known_after, known_is_answered, last_after, last_is_answered}
 use Rattle.act_store.specs.Entries.{IsLegal, commands_of, replies_of, table_after}
 use Rattle.act_store.specs.Reopened.{FindsAgain, IsAcknowledged, LeadTo, Life, requested_in}

@@ -9,7 +9,7 @@ use Rattle.gated_journal.proofs.Parting.{all_parted, parts_more}
 use Rattle.run_plan.specs.declared.command.Command.{Command}
 use Rattle.run_table.specs.Histories.{after}
 use Rattle.run_table.specs.TableState.{TableState}
-use Rattle.group_histories.proofs.LeasesStay.{after_both}
+use Rattle.table_laws.proofs.LeasesStay.{after_both}
 use Rattle.command_encodings.specs.Format.{OpensWith as BeginsWith, Encodes}
 use Rattle.act_store.specs.Layouts.{batch_format}
 use Rattle.act_store.specs.Meaning.{EncodeCommands}

@@ -24,8 +24,8 @@ use Rattle.run_states.proofs.Found.{before_the_end}
 use Rattle.run_states.proofs.JobKeeps.{leg_in}
 use Rattle.settling_laws.proofs.HoldersFade.{by_run, passes, run_passes}
 use Rattle.run_table.proofs.Kept.{kept_from_sound}
-use Rattle.resuming_laws.proofs.KeptBack.{StillHold, kept_back}
-use Rattle.resuming_laws.proofs.Resumed.{rest_before_all, runs_rest}
+use Rattle.settling_laws.proofs.KeptBack.{StillHold, kept_back}
+use Rattle.settling_laws.proofs.Resumed.{rest_before_all, runs_rest}
 use Rattle.settling_laws.proofs.OneEach.{one_that_holds}
 use Rattle.run_table.proofs.NoAnswer.{requested_none, each_none}
 use Rattle.settling_laws.proofs.Walks.{first_place_by_run}

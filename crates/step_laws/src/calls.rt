@@ -1,10 +1,10 @@
 ghost use Rattle.std.specs.Prelude.{◌≡◌, ◌≤◌, ℕ, length, take, IfErr, OnErr, OnOk};
 ghost use Rattle.wf_value.specs.Gives.{no_memory};
 ghost use Rattle.group_name.specs.Group.{Group};
-ghost use Rattle.group_histories.specs.GroupHistories.{all_moves, requests_cancellation};
-ghost use Rattle.group_histories.specs.GroupHolders.{SayWhoHolds};
-ghost use Rattle.group_laws.specs.GroupLaw.{KeepsLaw};
-ghost use Rattle.group_laws.specs.Names.{Names};
+ghost use Rattle.table_laws.specs.GroupHistories.{all_moves, requests_cancellation};
+ghost use Rattle.table_laws.specs.GroupHolders.{SayWhoHolds};
+ghost use Rattle.table_laws.specs.GroupLaw.{KeepsLaw};
+ghost use Rattle.table_laws.specs.Names.{Names};
 ghost use Rattle.run_table.specs.Histories.{after};
 
 use run_plan::Command;

@@ -1,4 +1,10 @@
 pub mod Answered
 pub mod ExactlyOnce
+pub mod GroupChanges
+pub mod GroupHistories
+pub mod GroupHolders
+pub mod GroupLaw
+pub mod GroupLawTest
+pub mod Names
 pub mod Remembered
 pub mod Skips

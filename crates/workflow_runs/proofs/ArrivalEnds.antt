@@ -21,7 +21,7 @@ use Rattle.run_bindings.specs.declared.bindings.RunBindings.{RunBindings}
 use Rattle.run_bindings.specs.declared.group_keys.HolderKey.{HolderKey}
 use Rattle.run_bindings.specs.declared.group_keys.HolderKey.TheVariants.{Known, Later, NoGroup}
 use Rattle.run_bindings.specs.declared.group_keys.KnownGroup.{KnownGroup}
-use Rattle.run_bindings.proofs.SpentKeys.{one_each}
+use Rattle.workflow_runs.proofs.SpentKeys.{one_each}
 use Rattle.settling_laws.proofs.Arrives.{arrived_by_stops}
 use Rattle.workflow_runs.specs.Arriving.{KeptBeside, stopped_if, waits_beside, with_first_stopped}
 use Rattle.workflow_runs.specs.GroupsKept.{Knows}

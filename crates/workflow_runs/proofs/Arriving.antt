@@ -21,7 +21,7 @@ use Rattle.run_states.specs.declared.holder.Holder.TheVariants.{Run, Leg}
 use Rattle.run_states.specs.declared.holder.HolderFilter.TheVariants.{InProgress, OthersPending}
 use Rattle.run_bindings.specs.GroupKeys.{ticket_in}
 use Rattle.run_bindings.specs.declared.bindings.RunBindings.{RunBindings}
-use Rattle.run_bindings.proofs.SpentKeys.{one_each}
+use Rattle.workflow_runs.proofs.SpentKeys.{one_each}
 use Rattle.settling_laws.proofs.ArrivalKeeps.{holder_tested, itself}
 use Rattle.settling_laws.proofs.HoldersKeep.{holder_stop_settles}
 use Rattle.settling_laws.proofs.SoundRuns.{runs_that_fit, sound_runs}

@@ -26,7 +26,7 @@ use Rattle.run_bindings.specs.declared.group_keys.HolderKey.TheVariants.{Known, 
 use Rattle.run_bindings.specs.declared.group_keys.KnownGroup.{KnownGroup}
 use Rattle.run_bindings.specs.declared.groups.GroupRequest.{GroupRequest}
 use Rattle.run_bindings.proofs.BoundSays.{SaysBoth, as_short}
-use Rattle.run_bindings.proofs.DecidedThere.{flags_decided_of, keys_decided_of, tickets_decided_of}
+use Rattle.workflow_runs.proofs.DecidedThere.{flags_decided_of, keys_decided_of, tickets_decided_of}
 use Rattle.workflow_runs.specs.Begun.{AreKnownIf, IsBegun, IsBegunBelow, has_legs_at}
 use Rattle.workflow_runs.specs.GroupsKept.{Knows, is_there}
 use Rattle.workflow_runs.specs.RowsKept.{IsUndecided, decided_in, holder_key_at}

@@ -13,7 +13,7 @@ use Rattle.run_states.specs.declared.holder.Holder.{Holder}
 use Rattle.run_states.specs.declared.holder.Holder.TheVariants.{Run, Leg}
 use Rattle.run_states.proofs.JobKeeps.{with_job_of, with_leg_of}
 use Rattle.run_states.proofs.StoppedRuns.{stopped_admitted}
-use Rattle.resuming_laws.proofs.KeptBack.{RunsStillFor}
+use Rattle.settling_laws.proofs.KeptBack.{RunsStillFor}
 use Rattle.workflow_runs.specs.Arriving.{stopped_if}
 use Rattle.workflow_runs.specs.HolderChanges.{EndsOnly}
 use Rattle.workflow_runs.specs.MarkedRuns.{AreMarked, is_due}

@@ -16,7 +16,7 @@ use Rattle.run_states.specs.RunNumber.{events}
 use Rattle.run_states.specs.RunState.{RunState}
 use Rattle.run_states.specs.declared.holder.Holder.{Holder}
 use Rattle.run_states.proofs.Changed.{at_another, length-changed_at}
-use Rattle.resuming_laws.proofs.KeptBack.{RunsStillFor, runs_still}
+use Rattle.settling_laws.proofs.KeptBack.{RunsStillFor, runs_still}
 use Rattle.workflow_runs.specs.BookSteps.{Leaves}
 use Rattle.workflow_runs.specs.GroupsKept.{AreExact}
 use Rattle.workflow_runs.specs.HolderChanges.{ChangesNobody, EndsOnly, SameHolders, StartsOnly}

@@ -23,7 +23,7 @@ use Rattle.run_states.specs.declared.phases.LegPhase.TheVariants as leg
 use Rattle.run_states.specs.declared.place.LegPlace.{LegPlace}
 use Rattle.run_states.proofs.JobKeeps.{with_job_of, with_leg_of}
 use Rattle.run_bindings.specs.declared.bindings.RunBindings.{RunBindings}
-use Rattle.resuming_laws.proofs.KeptBack.{RunsStillFor}
+use Rattle.settling_laws.proofs.KeptBack.{RunsStillFor}
 use Rattle.settling_laws.proofs.RuleKeeps.{leg_goes, new_ends, newcomer_waits}
 use Rattle.settling_laws.proofs.SoundRuns.{runs_that_fit}
 use Rattle.wf_value.specs.declared.outcome.Outcome.TheVariants as outcome

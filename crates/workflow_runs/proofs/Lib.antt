@@ -1,22 +1,30 @@
 mod Added
-mod ArrivalsToCome
 mod AllSeated
 mod ArrivalEnds
+mod ArrivalsToCome
 mod Arriving
+mod ArrivingLegs
 mod Begun
 mod Cancelled
 pub mod Counting
+mod DecidedThere
 mod Displaced
+mod DueRuns
 mod DueStill
 mod Entered
+mod FirstOffering
 mod FirstRules
+mod FlagsSaid
 mod FoundBySlot
 mod GroupsHeld
+mod HoldersOfRuns
 mod HoldersThere
 pub mod Indexed
 mod JobFinishes
-pub mod LabelsTold
+mod JobResult
 mod KnownGroups
+mod KnownSays
+pub mod LabelsTold
 mod LegArrives
 mod LegEnds
 mod LegsOffered
@@ -24,25 +32,32 @@ mod LegsThere
 pub mod MarkedRuns
 pub mod NextAttempt
 mod NobodyYet
+mod NoneActive
 mod NoneOffered
+mod NoneReady
+mod NumberOfRun
 mod OffersList
 mod OneChange
 mod OneHolder
 mod OpenedJob
 mod Opening
+mod PlannedLegs
 pub mod ReadThere
 mod ReadyBefore
 mod RunAdded
 mod RunComes
 pub mod RunNumbers
-pub mod Seating
 pub mod SeatSteps
+pub mod Seating
 pub mod SeatsInOrder
 mod Shaped
 mod SizesKept
+mod Sought
+mod SpentKeys
 mod SpentThere
+mod Stays
 pub mod StillBound
+mod Stopping
 pub mod Stored
 mod StoredSizes
-mod Stopping
 mod ToldMore

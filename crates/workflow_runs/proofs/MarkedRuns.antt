@@ -18,13 +18,13 @@ use Rattle.run_states.specs.WithinRun.{first_in_run}
 use Rattle.run_states.specs.declared.place.RuleSite.{RuleSite}
 use Rattle.run_states.proofs.Found.{before_the_end}
 use Rattle.run_states.proofs.LegFacts.{SameUpTo}
-use Rattle.resuming_laws.specs.Releases.{ReleasesNone}
+use Rattle.settling_laws.specs.Releases.{ReleasesNone}
 use Rattle.workflow_runs.specs.MarkedRuns.{AreMarked, is_due}
-use Rattle.resuming_laws.specs.RunFacts.{is_so_at}
+use Rattle.settling_laws.specs.RunFacts.{is_so_at}
 use Rattle.settling_laws.proofs.GroupStays.{same_group}
-use Rattle.resuming_laws.proofs.KeptBack.{KeepsBackIn, RunsStillFor, back_still, runs_still}
-use Rattle.resuming_laws.proofs.HoldersOfRuns.{holder_within, same_holds}
-use Rattle.resuming_laws.proofs.Resumed.{run_rests}
+use Rattle.settling_laws.proofs.KeptBack.{KeepsBackIn, RunsStillFor, back_still, runs_still}
+use Rattle.workflow_runs.proofs.HoldersOfRuns.{holder_within, same_holds}
+use Rattle.settling_laws.proofs.Resumed.{run_rests}
 use Rattle.settling_laws.proofs.OneEach.{one_that_holds}
 
 -- ---- one mark

@@ -22,9 +22,9 @@ use Rattle.run_bindings.specs.Bindings.{AreBound}
 use Rattle.run_bindings.specs.KnownLabels.{AreAlike}
 use Rattle.run_bindings.specs.LabelNumbers.{IsReadyAt, LegsAreOffered, MayServe, ServesList, list_number, texts_of}
 use Rattle.run_bindings.specs.declared.bindings.RunBindings.{RunBindings}
-use Rattle.run_bindings.proofs.KnownSays.{KnownLabels, texts_there}
+use Rattle.workflow_runs.proofs.KnownSays.{KnownLabels, texts_there}
 use Rattle.run_bindings.proofs.LabelNumbers.{as_long}
-use Rattle.resuming_laws.proofs.NoneActive.{none_placed}
+use Rattle.workflow_runs.proofs.NoneActive.{none_placed}
 
 unplanned : (runs : List RunState) (p : LegPlace) → plan_at runs p.run p.job ≡ None → labels_at runs p ≡ None
 unplanned runs p none = ap (option_map (λ (planned : PlannedJob). label_texts (context_at runs p) planned.labels)) none

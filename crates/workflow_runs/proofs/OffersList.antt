@@ -14,7 +14,7 @@ use Rattle.run_states.specs.RunState.{JobState, LegState, RunState}
 use Rattle.run_bindings.specs.LabelNumbers.{LegsOffer, is_ready_in, is_ready_leg, job_offers, leg_offers, list_number}
 use Rattle.run_bindings.specs.LabelNumbers.{offers_list}
 use Rattle.run_bindings.specs.declared.label_numbers.ListNumbers.{ListNumbers}
-use Rattle.resuming_laws.proofs.NoneActive.{none_of}
+use Rattle.workflow_runs.proofs.NoneActive.{none_of}
 
 -- ---- a test of the elements of a list with their indices
 

@@ -39,11 +39,11 @@ use Rattle.run_bindings.specs.declared.group_keys.HolderKey.{HolderKey}
 use Rattle.run_bindings.specs.declared.groups.GroupRequest.{GroupRequest}
 use Rattle.group_name.specs.BoundGroup.{group_at as bound_group_at}
 use Rattle.run_bindings.proofs.BoundSays.{SaysBoth, run_says, said_there}
-use Rattle.run_bindings.proofs.FlagsSaid.{some_within}
-use Rattle.resuming_laws.proofs.KeptBack.{RunsStillFor}
+use Rattle.workflow_runs.proofs.FlagsSaid.{some_within}
+use Rattle.settling_laws.proofs.KeptBack.{RunsStillFor}
 use Rattle.settling_laws.proofs.GroupStays.{run_facts_stay}
 use Rattle.settling_laws.proofs.SoundRuns.{runs_that_fit}
-use Rattle.settling_laws.proofs.Stays.{changed_admitted}
+use Rattle.workflow_runs.proofs.Stays.{changed_admitted}
 use Rattle.workflow_runs.specs.GroupsKept.{AreTold, GroupsAreKept, arrivals_to_come, is_blocked_at, is_unopened}
 use Rattle.workflow_runs.specs.MarkedRuns.{AreMarked, is_due}
 use Rattle.workflow_runs.specs.RowsKept.{IsUndecided, keys_decided}

@@ -35,8 +35,8 @@ use Rattle.run_bindings.specs.declared.bindings.JobBindings.{JobBindings}
 use Rattle.run_bindings.specs.declared.bindings.RunBindings.{RunBindings}
 use Rattle.run_bindings.specs.declared.group_keys.HolderKey.{HolderKey}
 use Rattle.run_bindings.proofs.BoundSays.{SaysBoth}
-use Rattle.run_bindings.proofs.DecidedThere.{decided_elsewhere, decided_here, flags_decided_of, keys_decided_of, tickets_decided_of}
-use Rattle.resuming_laws.proofs.KeptBack.{RunsStillFor, runs_still}
+use Rattle.workflow_runs.proofs.DecidedThere.{decided_elsewhere, decided_here, flags_decided_of, keys_decided_of, tickets_decided_of}
+use Rattle.settling_laws.proofs.KeptBack.{RunsStillFor, runs_still}
 use Rattle.settling_laws.proofs.HoldersFade.{by_run, job_passes, leg_passes, passes, run_passes}
 use Rattle.settling_laws.proofs.OneEach.{groups_stay}
 use Rattle.settling_laws.proofs.OneEachRules.{replicate_fails}

@@ -25,8 +25,8 @@ use Rattle.run_states.specs.declared.place.LegPlace.{LegPlace}
 use Rattle.run_states.proofs.Changed.{at_another, at_changed}
 use Rattle.run_states.proofs.Found.{at_the_end, before_the_end}
 use Rattle.run_states.proofs.JobKeeps.{job_is_open, leg_in, open_is_live}
-use Rattle.resuming_laws.proofs.HoldersOfRuns.{same_holds}
-use Rattle.resuming_laws.proofs.KeptBack.{RunsStillFor, runs_still}
+use Rattle.workflow_runs.proofs.HoldersOfRuns.{same_holds}
+use Rattle.settling_laws.proofs.KeptBack.{RunsStillFor, runs_still}
 use Rattle.settling_laws.proofs.GroupStays.{same_group}
 use Rattle.settling_laws.proofs.SoundRuns.{runs_that_fit}
 use Rattle.workflow_runs.specs.Arriving.{ExactBeside, waits_beside}

@@ -15,7 +15,7 @@ use Rattle.run_states.specs.RunState.{RunState}
 use Rattle.run_states.specs.declared.holder.Holder.{Holder}
 use Rattle.run_bindings.specs.GroupKeys.{ticket_in}
 use Rattle.run_bindings.specs.declared.bindings.RunBindings.{RunBindings}
-use Rattle.run_bindings.proofs.SpentKeys.{one_each}
+use Rattle.workflow_runs.proofs.SpentKeys.{one_each}
 use Rattle.settling_laws.proofs.ArrivalKeeps.{itself}
 use Rattle.workflow_runs.specs.GroupsKept.{AreExact, AreTold, is_there}
 use Rattle.workflow_runs.specs.BookSteps.{Begins}

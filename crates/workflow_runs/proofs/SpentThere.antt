@@ -25,7 +25,7 @@ use Rattle.run_bindings.specs.declared.bindings.RunBindings.{RunBindings}
 use Rattle.run_bindings.specs.declared.group_keys.HolderKey.{HolderKey}
 use Rattle.run_bindings.specs.declared.group_keys.HolderKey.TheVariants.{Known}
 use Rattle.run_bindings.specs.declared.group_keys.KnownGroup.{KnownGroup}
-use Rattle.run_bindings.proofs.SpentKeys.{arrivals_spent, key_spent, known_spent, one_each, spent_elsewhere, spent_here, sum_lowered}
+use Rattle.workflow_runs.proofs.SpentKeys.{arrivals_spent, key_spent, known_spent, one_each, spent_elsewhere, spent_here, sum_lowered}
 use Rattle.workflow_runs.specs.GroupsKept.{AreTold, Knows, arrivals_to_come, is_blocked_at, is_there, is_unopened}
 use Rattle.workflow_runs.specs.RowsKept.{holder_key_at, keys_spent}
 use Rattle.workflow_runs.proofs.Shaped.{shaped_spent}

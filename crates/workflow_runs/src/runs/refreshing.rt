@@ -11,7 +11,7 @@ ghost use Rattle.run_states.specs.Places.{run_at};
 ghost use Rattle.run_states.specs.RunState.{RunState};
 ghost use Rattle.run_states.specs.Settling.{first_place};
 ghost use Rattle.run_states.specs.WithinRun.{first_in_run, fit_in_run};
-ghost use Rattle.resuming_laws.specs.RunFacts.{is_so_at};
+ghost use Rattle.settling_laws.specs.RunFacts.{is_so_at};
 
 use crate::first_place::first_in_run_at;
 use crate::fit::first_fit;

@@ -1,8 +1,8 @@
 use Rattle.std.proofs.Common.{sym, subst}
-use Rattle.group_histories.specs.GroupHistories.{all_moves}
-use Rattle.group_histories.specs.GroupHolders.{SayWhoHolds}
-use Rattle.group_histories.proofs.HistoryLaw.{group_keeps_law}
-use Rattle.group_histories.proofs.HoldersSaid.{moves_say_who_holds}
+use Rattle.table_laws.specs.GroupHistories.{all_moves}
+use Rattle.table_laws.specs.GroupHolders.{SayWhoHolds}
+use Rattle.table_laws.proofs.HistoryLaw.{group_keeps_law}
+use Rattle.table_laws.proofs.HoldersSaid.{moves_say_who_holds}
 use Rattle.run_table.specs.TableState.{TableState}
 use Rattle.step_laws.proofs.calls.carry_out.Goals as goal
 

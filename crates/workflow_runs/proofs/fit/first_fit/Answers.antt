@@ -4,7 +4,7 @@ use Rattle.run_states.specs.WithinRun.{fit_in_run}
 use Rattle.settling_laws.proofs.Firsts.{answer_found, answer_passed, none_found}
 use Rattle.workflow_runs.proofs.NoneOffered.{none_before}
 use Rattle.workflow_runs.proofs.ReadThere.{read_there}
-use Rattle.settling_laws.proofs.Sought.{first_fit_by_run}
+use Rattle.workflow_runs.proofs.Sought.{first_fit_by_run}
 use Rattle.workflow_runs.proofs.fit.first_fit.Goals as goal
 
 pub returns-then-is_some-clause-found : goal.returns-then-is_some-clause-found

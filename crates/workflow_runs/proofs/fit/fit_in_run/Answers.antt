@@ -1,4 +1,4 @@
-use Rattle.run_bindings.proofs.PlannedLegs.{have_room}
+use Rattle.workflow_runs.proofs.PlannedLegs.{have_room}
 use Rattle.workflow_runs.proofs.fit.fit_in_run.Goals as goal
 
 pub fit_in_jobs-requires : goal.fit_in_jobs-requires

@@ -3,10 +3,10 @@ use Rattle.std.specs.Prelude.{None, is_some}
 use Rattle.run_states.specs.ActiveRuns.{is_active}
 use Rattle.run_states.specs.Resuming.{apply_at}
 use Rattle.run_states.specs.WithinRun.{lease_in_run}
-use Rattle.resuming_laws.specs.RunFacts.{is_so_at}
+use Rattle.settling_laws.specs.RunFacts.{is_so_at}
 use Rattle.settling_laws.proofs.Firsts.{answer_found, answer_passed, none_found}
-use Rattle.resuming_laws.proofs.NoneActive.{no_lease, none_before}
-use Rattle.settling_laws.proofs.Sought.{place_of_lease_by_run}
+use Rattle.workflow_runs.proofs.NoneActive.{no_lease, none_before}
+use Rattle.workflow_runs.proofs.Sought.{place_of_lease_by_run}
 use Rattle.workflow_runs.proofs.fit.place_of_lease.Goals as goal
 
 pub returns-then-is_some-clause-found : goal.returns-then-is_some-clause-found

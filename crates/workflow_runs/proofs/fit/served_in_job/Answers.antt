@@ -4,7 +4,7 @@ use Rattle.run_states.specs.PlacedLegs.{PlacedLeg}
 use Rattle.run_states.specs.RunState.{JobState}
 use Rattle.run_states.specs.WithinRun.{served_in_job}
 use Rattle.settling_laws.proofs.PlacedLegs.{IsInJob, all_in_job, first_passing, first_passing_in_job}
-use Rattle.settling_laws.proofs.Sought.{serves}
+use Rattle.workflow_runs.proofs.Sought.{serves}
 use Rattle.workflow_runs.proofs.fit.served_in_job.Goals as goal
 
 pub loop-place-init : goal.loop-place-init

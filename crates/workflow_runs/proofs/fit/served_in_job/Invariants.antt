@@ -3,7 +3,7 @@ use Rattle.std.specs.List.{AllByRecursion}
 use Rattle.run_states.specs.PlacedLegs.{PlacedLeg}
 use Rattle.run_states.specs.WithinRun.{served_in_job}
 use Rattle.settling_laws.proofs.PlacedLegs.{IsInJob, first_passing}
-use Rattle.settling_laws.proofs.Sought.{serves}
+use Rattle.workflow_runs.proofs.Sought.{serves}
 use Rattle.workflow_runs.proofs.fit.served_in_job.Given as goal
 
 -- the first that is served is still to come, and all that are to come are legs of the job

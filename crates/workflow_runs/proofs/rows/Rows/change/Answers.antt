@@ -7,7 +7,7 @@ use Rattle.run_states.specs.RunState.{RunState}
 use Rattle.run_states.specs.declared.place.LegPlace.{LegPlace}
 use Rattle.run_states.proofs.Doors.{changed_past, changed_within}
 use Rattle.run_bindings.specs.LabelNumbers.{IsOffered, IsReadyAt, LegsAreOffered}
-use Rattle.settling_laws.proofs.Stays.{changed_admitted, changed_attempt}
+use Rattle.workflow_runs.proofs.Stays.{changed_admitted, changed_attempt}
 use Rattle.workflow_runs.specs.RowsKept.{RowState}
 use Rattle.workflow_runs.proofs.LegsOffered.{has_place, offered_after}
 use Rattle.workflow_runs.proofs.ReadyBefore.{ready_before}

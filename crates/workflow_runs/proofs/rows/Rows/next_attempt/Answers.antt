@@ -3,7 +3,7 @@ use Rattle.std.specs.Prelude.{Some}
 use Rattle.run_states.specs.NewRun.{again}
 use Rattle.run_states.specs.Places.{run_at}
 use Rattle.run_states.specs.RunState.{RunState}
-use Rattle.run_bindings.proofs.NumberOfRun.{number_of_that_run}
+use Rattle.workflow_runs.proofs.NumberOfRun.{number_of_that_run}
 use Rattle.workflow_runs.proofs.rows.Rows.next_attempt.Goals as goal
 
 pub returns-clause-number : goal.returns-clause-number

@@ -1,5 +1,5 @@
 use Rattle.std.proofs.Common.{◌≤◌, ◌<◌, ◌-◌, ◌^◌, IfSome}
-use Rattle.run_bindings.proofs.FirstOffering.{PassedUpTo}
+use Rattle.workflow_runs.proofs.FirstOffering.{PassedUpTo}
 use Rattle.workflow_runs.proofs.rows.offers.first_offering.Given as goal
 
 -- the first run for the lists so far

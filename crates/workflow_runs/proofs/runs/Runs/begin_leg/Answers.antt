@@ -14,7 +14,7 @@ use Rattle.run_states.specs.declared.change.Change.TheVariants as change
 use Rattle.run_states.specs.declared.holder.Holder.TheVariants.{Leg}
 use Rattle.run_states.specs.declared.phases.LegPhase.TheVariants as leg
 use Rattle.run_bindings.specs.declared.bindings.RunBindings.{RunBindings}
-use Rattle.settling_laws.proofs.ArrivingLegs.{arriving_sound, arriving_waits}
+use Rattle.workflow_runs.proofs.ArrivingLegs.{arriving_sound, arriving_waits}
 use Rattle.wf_value.specs.declared.outcome.Outcome.TheVariants as outcome
 use Rattle.workflow_runs.specs.Arriving.{KeptBeside}
 use Rattle.workflow_runs.specs.GroupsKept.{GroupsAreKept}

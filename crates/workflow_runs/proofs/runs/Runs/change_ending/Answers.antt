@@ -6,7 +6,7 @@ use Rattle.run_states.specs.GroupOf.{group_at}
 use Rattle.run_states.specs.Holders.{run_of}
 use Rattle.run_states.specs.Places.{with_run}
 use Rattle.run_states.specs.RunState.{RunState}
-use Rattle.settling_laws.proofs.Stays.{changed_admitted}
+use Rattle.workflow_runs.proofs.Stays.{changed_admitted}
 use Rattle.workflow_runs.specs.HolderChanges.{EndsOnly}
 use Rattle.workflow_runs.specs.RowsKept.{key_at}
 use Rattle.workflow_runs.proofs.DueStill.{due_changed, next_within, still_after_end}

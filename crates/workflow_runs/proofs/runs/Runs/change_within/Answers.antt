@@ -3,7 +3,7 @@ use Rattle.run_marks.specs.Marked.{Covers}
 use Rattle.run_states.specs.Changes.{changed}
 use Rattle.run_states.specs.Places.{with_run}
 use Rattle.run_states.specs.RunState.{RunState}
-use Rattle.settling_laws.proofs.Stays.{changed_admitted}
+use Rattle.workflow_runs.proofs.Stays.{changed_admitted}
 use Rattle.workflow_runs.specs.HolderChanges.{ChangesNobody}
 use Rattle.workflow_runs.proofs.DueStill.{due_changed, still_where_nobody}
 use Rattle.workflow_runs.proofs.GroupsHeld.{kept_where_nobody}

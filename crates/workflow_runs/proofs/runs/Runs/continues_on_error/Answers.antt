@@ -4,7 +4,7 @@ use Rattle.wf_reader.specs.declared.flag.Flag.TheVariants as flag
 use Rattle.run_states.specs.GroupOf.{run_facts_at}
 use Rattle.run_states.specs.Places.{plan_at, run_at}
 use Rattle.run_bindings.specs.Bindings.{flag_for}
-use Rattle.run_bindings.proofs.FlagsSaid.{flag_said, nothing_bound}
+use Rattle.workflow_runs.proofs.FlagsSaid.{flag_said, nothing_bound}
 use Rattle.workflow_runs.proofs.runs.Runs.continues_on_error.Goals as goal
 
 pub returns-in-Some-flag : goal.returns-in-Some-flag

@@ -1,5 +1,5 @@
 use Rattle.std.proofs.Common.{ap, ◌∙◌}
-use Rattle.settling_laws.proofs.JobResult.{fails_at}
+use Rattle.workflow_runs.proofs.JobResult.{fails_at}
 use Rattle.settling_laws.proofs.PlacedLegs.{first_passing, first_passing_in_job}
 use Rattle.workflow_runs.proofs.runs.Runs.failing_leg.Goals as goal
 

@@ -1,7 +1,7 @@
 use Rattle.std.proofs.Common.{ap, ◌∙◌, ◌≡◌, true, rules}
 use Rattle.std.specs.Prelude.{is_some}
 use Rattle.run_states.specs.Settling.{first_place}
-use Rattle.settling_laws.proofs.DueRuns.{none_left, place_found, rest_until}
+use Rattle.workflow_runs.proofs.DueRuns.{none_left, place_found, rest_until}
 use Rattle.workflow_runs.proofs.runs.Runs.first_place.Goals as goal
 
 pub returns-then-is_some-clause-found : goal.returns-then-is_some-clause-found

@@ -11,8 +11,8 @@ use Rattle.run_states.specs.RunState.{RunState}
 use Rattle.run_states.specs.Words.{label_texts}
 use Rattle.run_bindings.specs.Bindings.{KeepsLabelsAt, RunSays}
 use Rattle.run_bindings.specs.BoundGroups.{results_by_place}
-use Rattle.run_bindings.proofs.KnownSays.{labels_kept}
-use Rattle.run_bindings.proofs.PlannedLegs.{planned_leg}
+use Rattle.workflow_runs.proofs.KnownSays.{labels_kept}
+use Rattle.workflow_runs.proofs.PlannedLegs.{planned_leg}
 use Rattle.workflow_runs.proofs.runs.Runs.is_served.Goals as goal
 
 pub returns-in-Some : goal.returns-in-Some

@@ -1,6 +1,6 @@
 use Rattle.std.specs.Prelude.{◌≡◌, true, false, is_some}
 use Rattle.std.proofs.Common.{rules, sym, ◌∙◌}
-use Rattle.settling_laws.proofs.JobResult.{failure_is, other_result_is}
+use Rattle.workflow_runs.proofs.JobResult.{failure_is, other_result_is}
 use Rattle.workflow_runs.proofs.runs.Runs.result.Goals as goal
 
 pub returns-then-is_some : goal.returns-then-is_some

@@ -1,4 +1,4 @@
-use Rattle.resuming_laws.proofs.Resumed.{rest_before_all}
+use Rattle.settling_laws.proofs.Resumed.{rest_before_all}
 use Rattle.workflow_runs.proofs.runs.Runs.settle.Goals as goal
 
 pub settle_from-requires-clause-rest : goal.settle_from-requires-clause-rest

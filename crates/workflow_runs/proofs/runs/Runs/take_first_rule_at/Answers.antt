@@ -10,7 +10,7 @@ use Rattle.run_states.specs.declared.place.JobPlace.{JobPlace}
 use Rattle.run_states.specs.declared.place.RuleSite.{RuleSite}
 use Rattle.run_states.proofs.Optional.{from_map}
 use Rattle.run_states.proofs.Transitions.{first_rule_taken}
-use Rattle.resuming_laws.proofs.Resumed.{rest_after_rule}
+use Rattle.settling_laws.proofs.Resumed.{rest_after_rule}
 use Rattle.settling_laws.proofs.SoundRuns.{runs_that_fit}
 use Rattle.workflow_runs.proofs.runs.Runs.take_first_rule_at.Goals as goal
 

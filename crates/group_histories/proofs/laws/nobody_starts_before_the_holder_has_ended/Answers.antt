@@ -1,5 +1,0 @@
-use Rattle.group_histories.proofs.HistoryWords.{nobody_else_starts}
-use Rattle.group_histories.proofs.laws.nobody_starts_before_the_holder_has_ended.Goals as goal
-
-pub returns : goal.returns
-returns c = nobody_else_starts

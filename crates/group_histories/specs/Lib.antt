@@ -1,2 +1,0 @@
-pub mod GroupHistories
-pub mod GroupHolders

@@ -1,5 +1,0 @@
-use Rattle.group_laws.proofs.GroupFollows.{displaced_never_starts}
-use Rattle.group_laws.proofs.laws.a_displaced_holder_never_starts.Goals as goal
-
-pub returns : goal.returns
-returns c = displaced_never_starts

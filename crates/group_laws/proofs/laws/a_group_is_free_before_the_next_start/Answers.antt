@@ -1,5 +1,0 @@
-use Rattle.group_laws.proofs.GroupFollows.{first_has_ended}
-use Rattle.group_laws.proofs.laws.a_group_is_free_before_the_next_start.Goals as goal
-
-pub returns : goal.returns
-returns c = first_has_ended

@@ -1,5 +1,0 @@
-use Rattle.group_laws.proofs.GroupFollows.{one_waits}
-use Rattle.group_laws.proofs.laws.at_most_one_holder_is_pending.Goals as goal
-
-pub returns : goal.returns
-returns c = one_waits

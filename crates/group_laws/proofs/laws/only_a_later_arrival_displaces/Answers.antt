@@ -1,5 +1,0 @@
-use Rattle.group_laws.proofs.GroupFollows.{displaced_by_a_later_one}
-use Rattle.group_laws.proofs.laws.only_a_later_arrival_displaces.Goals as goal
-
-pub returns : goal.returns
-returns c = displaced_by_a_later_one

@@ -1,8 +1,0 @@
-use Rattle.group_laws.proofs.GroupLawTested.{law_by_test, test_of_law}
-use Rattle.group_laws.proofs.laws.the_test_of_the_law_is_exact.Goals as goal
-
-pub returns-clause-yes : goal.returns-clause-yes
-returns-clause-yes c = law_by_test
-
-pub returns-clause-only : goal.returns-clause-only
-returns-clause-only c = test_of_law

@@ -1,4 +1,0 @@
-pub mod GroupChanges
-pub mod GroupLaw
-pub mod GroupLawTest
-pub mod Names

@@ -1,0 +1,70 @@
+//! Laws of the groups of a table, over any commands.
+
+ghost use Rattle.std.specs.Prelude.{◌≡◌, ◌≤◌, ℕ, List, [], ◌∷◌, ◌++◌, length, false, true, Some, None};
+ghost use Rattle.run_plan.specs.declared.command.Command.{Command};
+ghost use Rattle.group_name.specs.Group.{Group};
+ghost use Rattle.run_states.specs.GroupWords.{has_arrived, has_ended, has_started, next_displaced, was_stopped};
+ghost use Rattle.run_states.specs.Groups.{pending_in, in_progress_in};
+ghost use Rattle.run_table.specs.Histories.{after};
+ghost use Rattle.run_states.specs.Moves.{Move};
+ghost use Rattle.run_states.specs.Places.{leg_at};
+ghost use Rattle.run_states.specs.declared.place.LegPlace.{LegPlace};
+ghost use Rattle.run_table.specs.Sound.{IsSound};
+ghost use Rattle.run_table.specs.TableState.{TableState};
+ghost use Rattle.run_states.specs.RunState.{LegState};
+ghost use Rattle.wf_value.specs.declared.outcome.Outcome.{Outcome};
+ghost use Rattle.table_laws.specs.GroupHistories.{IsOf, NeverBegan, all_moves, requests_cancellation};
+ghost use Rattle.table_laws.specs.GroupHolders.{SayWhoHolds};
+ghost use Rattle.table_laws.specs.GroupLaw.{KeepsLaw};
+ghost use Rattle.table_laws.specs.Names.{Names, attempt_of};
+ghost use Rattle.run_states.specs.declared.holder.Holder.{Holder};
+
+/// Among all runs and legs of the table, at most one is pending and at most one is running in each concurrency group.
+pub fn groups_have_one_holder_of_each_kind()
+    ensures pending { (t : TableState) (cs : List Command) (g : Group) → IsSound t → length (pending_in (after t cs).runs g) ≤ 1 }
+    ensures in_progress { (t : TableState) (cs : List Command) (g : Group) → IsSound t → length (in_progress_in (after t cs).runs g) ≤ 1 }
+{}
+
+/// The law of concurrency groups: from any sound table and over any commands, the moves of each group satisfy it, after the base moves of
+/// the holders that the group already has. Each holder is named with the attempt of its run.
+pub fn every_group_keeps_its_law()
+    ensures { (names : Names) (t : TableState) (cs : List Command) (g : Group) → IsSound t
+        → KeepsLaw (requests_cancellation names g t cs) (all_moves names g t cs) }
+{}
+
+/// The moves of each group determine its holders: from any sound table and after any commands, the holders that the moves show as running,
+/// pending and asked to stop are those that filters over all runs and legs of the table give.
+pub fn the_moves_say_who_holds_each_group()
+    ensures { (names : Names) (t : TableState) (cs : List Command) (g : Group) → IsSound t
+        → SayWhoHolds names (after t cs).runs g (all_moves names g t cs) }
+{}
+
+/// Between the start of a holder and its end no other holder of its group starts.
+pub fn nobody_starts_before_the_holder_has_ended()
+    ensures { (names : Names) (t : TableState) (cs : List Command) (g : Group) (before between after_it : List Move) (h k : Holder)
+        → IsSound t → all_moves names g t cs ≡ before ++ Move.start h ∷ (between ++ Move.start k ∷ after_it) → has_ended h between ≡ true }
+{}
+
+/// A pending holder that a newcomer displaces never begins in that attempt of its run. While the run is at this attempt, a displaced run
+/// ends with all its jobs cancelled and has no leg, and a displaced leg ends as cancelled. In no table on the way in which the run is at
+/// this attempt does a leg of the holder have a lease.
+pub fn displaced_holders_never_begin()
+    ensures cancelled { (names : Names) (t : TableState) (cs : List Command) (g : Group) (before after_it : List Move) (newcomer h : Holder)
+        (attempt : ℕ) → IsSound t → all_moves names g t cs ≡ before ++ Move.arrive newcomer ∷ after_it
+        → next_displaced before ≡ Some (names.name attempt h) → attempt_of (after t cs).runs h ≡ attempt
+        → NeverBegan (after t cs).runs h }
+    ensures unleased { (names : Names) (t : TableState) (first second : List Command) (g : Group) (before after_it : List Move)
+        (newcomer h : Holder) (attempt : ℕ) → IsSound t
+        → all_moves names g t (first ++ second) ≡ before ++ Move.arrive newcomer ∷ after_it
+        → next_displaced before ≡ Some (names.name attempt h) → attempt_of (after t first).runs h ≡ attempt
+        → (p : LegPlace) (leg : LegState) → IsOf h p → leg_at (after t first).runs p ≡ Some leg → leg.lease ≡ None }
+{}
+
+/// Only a later arrival displaces the latest one: a holder that ends without a start and without a stop had arrived before the newcomer,
+/// whose arrival is the move before.
+pub fn only_later_arrivals_displace()
+    ensures { (names : Names) (t : TableState) (cs : List Command) (g : Group) (before after_it : List Move) (r : Outcome) (h : Holder)
+        → IsSound t → all_moves names g t cs ≡ before ++ Move.end_with r h ∷ after_it → has_started h before ≡ false
+        → was_stopped h before ≡ false
+        → (earlier : List Move) × (newcomer : Holder) × (before ≡ earlier ++ Move.arrive newcomer ∷ []) × (has_arrived h earlier ≡ true) }
+{}
