@@ -40,7 +40,7 @@ use Rattle.std.proofs.hash.BuildHasherDefault.TheSendSync as hashers
 use Rattle.std.proofs.hash.FoldHasher.TheSendSync as hasher
 use Rattle.indexmap.proofs.map.IndexMap.TheSendSync as indexed
 use Rattle.label_lists.proofs.lists.LabelLists.TheSendSync as lists
-use Rattle.workflow_runs.proofs.rows.places.DeliveryPlaces.TheSendSync as places
+use Rattle.workflow_runs.proofs.rows.places.DeliveryIndexes.TheSendSync as places
 use Rattle.workflow_runs.proofs.rows.counts.Counted.TheSendSync as counted
 use Rattle.workflow_runs.specs.contracts.rows.workflow.Workflow.{the_row as key}
 use Rattle.workflow_runs.specs.contracts.rows.workflow.Workflow.TheInside.{the_row as key_inside}
@@ -67,7 +67,7 @@ use Rattle.run_table.specs.contracts.table.Table.TheInside.{the_row as table_ins
 use denote.RattleType.{RattleType}
 use Rattle.act_disk.specs.declared.disk.Disk.{Ghosts}
 use Rattle.gated_journal.proofs.area_pair.AreaPair.TheSendSync as standing
-use Rattle.gated_journal.proofs.gate.Gate.TheSendSync as gate
+use Rattle.gated_journal.proofs.gate.GateState.TheSendSync as gate
 use Rattle.act_store.proofs.layout.Layout.TheSendSync as layout
 use Rattle.act_store.proofs.pending_batch.PendingBatch.TheSendSync as pending_batch
 use Rattle.act_store.proofs.begun.Begun.TheSendSync as begun

@@ -9,7 +9,7 @@ use Rattle.act_sessions.specs.declared.transcript.Part.TheVariants.{AwaitsInput,
 use Rattle.act_sessions.specs.declared.transcript.Transcript.{Transcript}
 use Rattle.act_sessions.specs.Ends.{Ends, EndsOver, EndsOverSome, HasEnded, HasFailed, HasFinished}
 use Rattle.act_sessions.specs.Rules.{Rules, Turn, texts, exchanges_of}
-use Rattle.act_sessions.specs.Session.{Moment, moment, Place, start, first, Did, HasStopped, IsDone, IsCut, IsPart, IsWhole}
+use Rattle.act_sessions.specs.Session.{Moment, moment, Position, start, first, Did, HasStopped, IsDone, IsCut, IsPart, IsWhole}
 use Rattle.act_sessions.specs.Exchange.{AreAsked, OnlyLastOpen, Exchange, exchanges_by}
 use Rattle.act_sessions.proofs.Shut.{only_open, only_over}
 
@@ -122,7 +122,7 @@ failed p i i2 output written asked exchanges t cut = (
 
 -- ---- parts
 
-pub part_told : {F : Type 0} (p : Rules F) (from to : Place) (i i2 output written : Option (List ℕ)) (asked now : List Exchange) (old new : Transcript) (end : Part)
+pub part_told : {F : Type 0} (p : Rules F) (from to : Position) (i i2 output written : Option (List ℕ)) (asked now : List Exchange) (old new : Transcript) (end : Part)
     → IsPart p from i i2 (moment output asked old) (moment written now new) to end
     → (exchanges : List Exchange) × AreAsked asked now exchanges × (exchanges_by new ≡ exchanges_by old ++ exchanges) × OnlyLastOpen exchanges
 part_told p from to i i2 output written asked now old new AwaitsInput (goes, waits, end) =
@@ -131,7 +131,7 @@ part_told p from to i i2 output written asked now old new (Over how) (turns, res
     (exchanges_of turns, did.asked_all, did.listed_all, only_over p from.turns how turns rest out ends)
 
 -- the only part of a session, which waits at the end of the input
-pub waited : {F : Type 0} (p : Rules F) (to : Place) (i i2 output written : Option (List ℕ)) (asked exchanges : List Exchange) (t : Transcript)
+pub waited : {F : Type 0} (p : Rules F) (to : Position) (i i2 output written : Option (List ℕ)) (asked exchanges : List Exchange) (t : Transcript)
     → IsPart p first i i2 (start output asked) (moment written exchanges t) to AwaitsInput → IsDone p i i2 (start output asked) (moment written exchanges t)
 waited p to i i2 output written asked exchanges t (goes, waits, end) = (
   goes.turns,
@@ -150,7 +150,7 @@ waited p to i i2 output written asked exchanges t (goes, waits, end) = (
   inr (inl (goes.unended, waits, end, refl)),
 )
 
-pub was_cut : {F : Type 0} (p : Rules F) (how : Ending) (to : Place) (i i2 : Option (List ℕ)) (old new : Moment) → how ≢ Done
+pub was_cut : {F : Type 0} (p : Rules F) (how : Ending) (to : Position) (i i2 : Option (List ℕ)) (old new : Moment) → how ≢ Done
     → IsPart p first i i2 old new to (Over how) → IsCut p how i i2 old new
 was_cut p Done to i i2 old new not part = absurd (not refl)
 was_cut p Memory to i i2 old new not part = part

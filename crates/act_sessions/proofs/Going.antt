@@ -12,15 +12,15 @@ use Rattle.act_sessions.specs.declared.error.SessionError.{SessionError}
 use Rattle.act_sessions.specs.declared.error.SessionError.TheVariants.{Memory, Broken}
 use Rattle.act_sessions.specs.Hearing.{Hears}
 use Rattle.act_sessions.specs.Rules.{Rules, Turn, request_of, exchanges_at, exchanges_of, is_last, Reads, turn_text, texts, IsSteady}
-use Rattle.act_sessions.specs.Session.{Moment, Place, Writes, Did, Goes, IsPart}
+use Rattle.act_sessions.specs.Session.{Moment, Position, Writes, Did, Goes, IsPart}
 use Rattle.act_sessions.specs.Exchange.{AreAsked}
 use Rattle.act_sessions.specs.Turns.{WritesNone, SubmitsTurn, TakesTurn, Aborts, HasPaused}
 use Rattle.act_sessions.proofs.Listing.{Reads_snoc, Reads_grows, IsOpen_snoc, IsEnded_snoc, texts_snoc, exchanges_snoc, all_listed, AreAsked_after, min_twice}
 
-abbrev pub at : ℕ → List ℕ → Place
+abbrev pub at : ℕ → List ℕ → Position
 at n buffer = record { turns = n; held = buffer }
 
-pub goes_start : {F : Type 0} (p : Rules F) (input : Option (List ℕ)) (now : Moment) (from : Place) → from.turns < p.most → length from.held ≤ p.limit
+pub goes_start : {F : Type 0} (p : Rules F) (input : Option (List ℕ)) (now : Moment) (from : Position) → from.turns < p.most → length from.held ≤ p.limit
     → now.count ≤ 2 ^ 64 - 1 → Goes p from input input now now from
 goes_start p input now from some short few = record {
   turns = [];
@@ -45,7 +45,7 @@ Writes_trans old mid new a b v w =
     )
 
 -- more bytes were read
-did_waiting : {F : Type 0} (p : Rules F) → IsSteady p → (from to : Place) (i i1 i2 : Option (List ℕ)) (old new : Moment) (piece : List ℕ)
+did_waiting : {F : Type 0} (p : Rules F) → IsSteady p → (from to : Position) (i i1 i2 : Option (List ℕ)) (old new : Moment) (piece : List ℕ)
     → (goes : Goes p from i i1 old new to) → Consumes i1 i2 piece → length (to.held ++ piece) ≤ p.limit
     → Did p from i i2 old new goes.turns (to.held ++ piece) (texts p from.turns goes.turns)
 did_waiting p steady from to i i1 i2 old new piece goes more short = record {
@@ -62,7 +62,7 @@ did_waiting p steady from to i i1 i2 old new piece goes more short = record {
 }
 
 -- a request was answered
-did_turn : {F : Type 0} (p : Rules F) → IsSteady p → (from to : Place) (i i1 i2 : Option (List ℕ)) (old mid new : Moment)
+did_turn : {F : Type 0} (p : Rules F) → IsSteady p → (from to : Position) (i i1 i2 : Option (List ℕ)) (old mid new : Moment)
     (piece left text : List ℕ) (t : Turn F) → (goes : Goes p from i i1 old mid to) → Consumes i1 i2 piece
     → p.reads (to.held ++ piece) (request_of t) left → length left ≤ p.limit → SubmitsTurn mid new t → Writes mid new text
     → Did p from i i2 old new (goes.turns ++ t ∷ []) left (texts p from.turns goes.turns ++ text)
@@ -86,7 +86,7 @@ still_room : {F : Type 0} (p : Rules F) (n : ℕ) (t : Turn F) → n < p.most �
 still_room p n t room h = grind (arith, nat_tests)
 
 -- a turn that is not the last
-pub goes_on : {F : Type 0} (p : Rules F) → IsSteady p → (from : Place) (i i1 i2 : Option (List ℕ)) (old mid new : Moment) (buffer : List ℕ) (n : ℕ)
+pub goes_on : {F : Type 0} (p : Rules F) → IsSteady p → (from : Position) (i i1 i2 : Option (List ℕ)) (old mid new : Moment) (buffer : List ℕ) (n : ℕ)
     (piece left : List ℕ) (r : Request F) → Goes p from i i1 old mid (at n buffer) → Consumes i1 i2 piece → p.reads (buffer ++ piece) r left
     → length left ≤ p.limit → TakesTurn p n r mid new (Ok false) → Goes p from i i2 old new (at (n + 1) left)
 goes_on p steady from i i1 i2 old mid new buffer n piece left r goes more reads short took =
@@ -110,7 +110,7 @@ goes_on p steady from i i1 i2 old mid new buffer n piece left r goes more reads 
     }
 
 -- the last turn
-pub over_by_last : {F : Type 0} (p : Rules F) → IsSteady p → (from to : Place) (i i1 i2 : Option (List ℕ)) (old mid new : Moment) (buffer : List ℕ) (n : ℕ)
+pub over_by_last : {F : Type 0} (p : Rules F) → IsSteady p → (from to : Position) (i i1 i2 : Option (List ℕ)) (old mid new : Moment) (buffer : List ℕ) (n : ℕ)
     (piece left : List ℕ) (r : Request F) → Goes p from i i1 old mid (at n buffer) → Consumes i1 i2 piece → p.reads (buffer ++ piece) r left
     → length left ≤ p.limit → TakesTurn p n r mid new (Ok true) → IsPart p from i i2 old new to (Over ending.Done)
 over_by_last p steady from to i i1 i2 old mid new buffer n piece left r goes more reads short took =
@@ -120,7 +120,7 @@ over_by_last p steady from to i i1 i2 old mid new buffer n piece left r goes mor
     (goes.turns ++ t ∷ [], left, texts p from.turns goes.turns ++ turn_text p true t, did, inl (IsEnded_snoc p from.turns n goes.turns t goes.unended goes.counted took.2, sym texts_are))
 
 -- the end of the input
-pub waits_at_end : {F : Type 0} (p : Rules F) → IsSteady p → (from : Place) (i i1 i2 : Option (List ℕ)) (old new : Moment) (buffer : List ℕ) (n : ℕ)
+pub waits_at_end : {F : Type 0} (p : Rules F) → IsSteady p → (from : Position) (i i1 i2 : Option (List ℕ)) (old new : Moment) (buffer : List ℕ) (n : ℕ)
     (piece left : List ℕ) → Goes p from i i1 old new (at n buffer) → Consumes i1 i2 piece → length (buffer ++ piece) ≤ p.limit → p.waits left
     → buffer ++ piece ≡ left → IsAtEnd i2 → IsPart p from i i2 old new (at n left) AwaitsInput
 waits_at_end p steady from i i1 i2 old new buffer n piece left goes more short waits e end =
@@ -143,7 +143,7 @@ waits_at_end p steady from i i1 i2 old new buffer n piece left goes more short w
     )
 
 -- no request came
-pub paused_waiting : {F : Type 0} (p : Rules F) → IsSteady p → (from : Place) (i i1 i2 : Option (List ℕ)) (old new : Moment) (buffer : List ℕ) (n : ℕ)
+pub paused_waiting : {F : Type 0} (p : Rules F) → IsSteady p → (from : Position) (i i1 i2 : Option (List ℕ)) (old new : Moment) (buffer : List ℕ) (n : ℕ)
     (piece left : List ℕ) (e : SessionError) → Goes p from i i1 old new (at n buffer) → Consumes i1 i2 piece → length (buffer ++ piece) ≤ p.limit
     → Hears p i2 (buffer ++ piece) left (Err e) → HasPaused p e from i i2 old new
 paused_waiting p steady from i i1 i2 old new buffer n piece left Memory goes more short hears = (
@@ -165,7 +165,7 @@ none_written : (old mid new : Moment) (a : List ℕ) → Writes old mid a → Wr
 none_written old mid new a w none = (subst (λ o. Appends old.output o a) (sym none.0) w.0, none.1 ∙ w.1)
 
 -- no further command was submitted
-same_did : {F : Type 0} (p : Rules F) (from : Place) (i i2 : Option (List ℕ)) (old mid new : Moment) (turns : List (Turn F)) (rest out text all : List ℕ)
+same_did : {F : Type 0} (p : Rules F) (from : Position) (i i2 : Option (List ℕ)) (old mid new : Moment) (turns : List (Turn F)) (rest out text all : List ℕ)
     → Did p from i i2 old mid turns rest out → Writes old new all → all ≡ out ++ text → new.asked ≡ mid.asked → new.listed ≡ mid.listed
     → Did p from i i2 old new turns rest (out ++ text)
 same_did p from i i2 old mid new turns rest out text all did w e asked listed = record {
@@ -179,7 +179,7 @@ same_did p from i i2 old mid new turns rest out text all did w e asked listed = 
   wrote_all = subst (Writes old new) e w;
 }
 
-did_no_more : {F : Type 0} (p : Rules F) (from : Place) (i i2 : Option (List ℕ)) (old mid new : Moment) (turns : List (Turn F)) (rest out : List ℕ)
+did_no_more : {F : Type 0} (p : Rules F) (from : Position) (i i2 : Option (List ℕ)) (old mid new : Moment) (turns : List (Turn F)) (rest out : List ℕ)
     → Did p from i i2 old mid turns rest out → WritesNone mid new → new.asked ≡ mid.asked → new.listed ≡ mid.listed
     → Did p from i i2 old new turns rest out
 did_no_more p from i i2 old mid new turns rest out did none asked listed =
@@ -187,7 +187,7 @@ did_no_more p from i i2 old mid new turns rest out did none asked listed =
     (same_did p from i i2 old mid new turns rest out [] out did (none_written old mid new out did.wrote_all none) (sym (append-nil out)) asked listed)
 
 -- a turn failed
-pub paused_turn : {F : Type 0} (p : Rules F) → IsSteady p → (from : Place) (i i1 i2 : Option (List ℕ)) (old mid new : Moment) (buffer : List ℕ) (n : ℕ)
+pub paused_turn : {F : Type 0} (p : Rules F) → IsSteady p → (from : Position) (i i1 i2 : Option (List ℕ)) (old mid new : Moment) (buffer : List ℕ) (n : ℕ)
     (piece left : List ℕ) (r : Request F) (e : SessionError) → Goes p from i i1 old mid (at n buffer) → Consumes i1 i2 piece
     → p.reads (buffer ++ piece) r left → length (buffer ++ piece) ≤ p.limit → length left ≤ p.limit → TakesTurn p n r mid new (Err e)
     → HasPaused p e from i i2 old new
@@ -219,7 +219,7 @@ paused_turn p steady from i i1 i2 old mid new buffer n piece left r Broken goes 
     )
 
 -- a session that cannot continue is aborted
-pub gave_up : {F : Type 0} (p : Rules F) (e : SessionError) (from to : Place) (i i2 : Option (List ℕ)) (old mid new : Moment) (how : Ending)
+pub gave_up : {F : Type 0} (p : Rules F) (e : SessionError) (from to : Position) (i i2 : Option (List ℕ)) (old mid new : Moment) (how : Ending)
     → HasPaused p e from i i2 old mid → new.asked ≡ mid.asked → Aborts p e mid new how → IsPart p from i i2 old new to (Over how)
 gave_up p Memory from to i i2 old mid new ending.Done (turns, rest, out, did, (passed, are, is)) same (text, words, writes, listed) = (
   turns,

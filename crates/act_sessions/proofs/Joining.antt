@@ -8,7 +8,7 @@ use Rattle.act_sessions.specs.declared.transcript.Part.{Part}
 use Rattle.act_sessions.specs.declared.transcript.Part.TheVariants.{AwaitsInput, Over}
 use Rattle.act_sessions.specs.Exchange.{Exchange, AreAsked}
 use Rattle.act_sessions.specs.Rules.{Rules, Turn, exchanges_at, exchanges_of, is_last, Reads, IsOpen, IsEnded, turn_text, texts, IsSteady}
-use Rattle.act_sessions.specs.Session.{Moment, Place, Writes, Did, Goes, IsPart, ArePassed, IsOver, IsPrefix, IsUnheard, ComesNext, EndsSo}
+use Rattle.act_sessions.specs.Session.{Moment, Position, Writes, Did, Goes, IsPart, ArePassed, IsOver, IsPrefix, IsUnheard, ComesNext, EndsSo}
 use Rattle.act_sessions.specs.Joined.{added, IsJoined}
 use Rattle.act_sessions.proofs.Going.{Writes_trans}
 use Rattle.act_sessions.proofs.Listing.{Reads_grows, AreAsked_after}
@@ -58,7 +58,7 @@ whole_of : Moment → Moment → Moment → List ℕ → Moment
 whole_of mid begin new out =
     record { output = new.output; count = min (mid.count + length out) (2 ^ 64 - 1); asked = mid.asked ++ added begin.asked new.asked; listed = mid.listed ++ added begin.listed new.listed }
 
-module _ (F : Type 0) (p : Rules F) (steady : IsSteady p) (from to : Place) (x y : List ℕ) (i1 i2 : Option (List ℕ)) (old mid begin new : Moment)
+module _ (F : Type 0) (p : Rules F) (steady : IsSteady p) (from to : Position) (x y : List ℕ) (i1 i2 : Option (List ℕ)) (old mid begin new : Moment)
     (goes : Goes p from (Some x) i1 old mid to) (end : IsAtEnd i1) (same : begin.output ≡ mid.output) where
   wrote_on : (out : List ℕ) → Writes begin new out → Writes old (whole_of mid begin new out) (texts p from.turns goes.turns ++ out)
   unfolding whole_of
@@ -86,7 +86,7 @@ module _ (F : Type 0) (p : Rules F) (steady : IsSteady p) (from to : Place) (x y
     wrote_all = wrote_on out did.wrote_all;
   }
 
-  goes_on_from : (last : Place) (more : Goes p to (Some y) i2 begin new last)
+  goes_on_from : (last : Position) (more : Goes p to (Some y) i2 begin new last)
       → Goes p from (Some (x ++ y)) i2 old (whole_of mid begin new (texts p to.turns more.turns)) last
   unfolding whole_of
   goes_on_from last more = record {
@@ -163,7 +163,7 @@ module _ (F : Type 0) (p : Rules F) (steady : IsSteady p) (from to : Place) (x y
   unfolding whole_of
   is_joined out = record { output = refl; asked = refl; listed = refl }
 
-  pub two_parts : (last : Place) (r : Part) → IsPart p to (Some y) i2 begin new last r
+  pub two_parts : (last : Position) (r : Part) → IsPart p to (Some y) i2 begin new last r
       → (whole : Moment) × IsJoined mid begin new whole × IsPart p from (Some (x ++ y)) i2 old whole last r
   two_parts last AwaitsInput (more, waits, at_end) =
       (whole_of mid begin new (texts p to.turns more.turns), is_joined (texts p to.turns more.turns), (goes_on_from last more, waits, at_end))

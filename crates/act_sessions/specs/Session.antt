@@ -28,17 +28,17 @@ abbrev pub Writes : Moment → Moment → List ℕ → Type 0
 Writes old new bytes = Appends old.output new.output bytes × (new.count ≡ min (old.count + length bytes) (2 ^ 64 - 1))
 
 -- The state of a session between two turns: the number of turns so far, and the bytes that it holds, which are not yet a request.
-pub record Place : Type 0 where
+pub record Position : Type 0 where
   pub turns : ℕ
   pub held : List ℕ
 
 -- before a session
-abbrev pub first : Place
+abbrev pub first : Position
 first = record { turns = 0; held = [] }
 
 -- What a session did from a place on. The bytes that it held and those it read are the requests of these turns and a rest within the
 -- limit. The turns' commands were submitted in order, each once, and are listed with their answers. These bytes were written.
-pub record Did {F : Type 0} (p : Rules F) (from : Place) (input input_new : Option (List ℕ)) (old new : Moment) (turns : List (Turn F)) (rest out : List ℕ) : Type 0 where
+pub record Did {F : Type 0} (p : Rules F) (from : Position) (input input_new : Option (List ℕ)) (old new : Moment) (turns : List (Turn F)) (rest out : List ℕ) : Type 0 where
   pub read : List ℕ
   pub consumed : Consumes input input_new read
   pub reads : Reads p (from.held ++ read) turns rest
@@ -49,7 +49,7 @@ pub record Did {F : Type 0} (p : Rules F) (from : Place) (input input_new : Opti
   pub wrote_all : Writes old new out
 
 -- A session between two turns, from one place to another: none of the turns is the last, and all were submitted and recorded.
-pub record Goes {F : Type 0} (p : Rules F) (from : Place) (input input_new : Option (List ℕ)) (old new : Moment) (to : Place) : Type 0 where
+pub record Goes {F : Type 0} (p : Rules F) (from : Position) (input input_new : Option (List ℕ)) (old new : Moment) (to : Position) : Type 0 where
   pub turns : List (Turn F)
   pub read : List ℕ
   pub consumed : Consumes input input_new read
@@ -121,7 +121,7 @@ EndsSo p n Broken turns rest out = HasStopped p n Broken turns rest out
 
 -- A part of a session, from a place on. Either it is at another place, where it waits for more bytes than its input has. Or the session is
 -- over: by its bytes, out of memory, or after a failed read or write.
-abbrev pub IsPart : {F : Type 0} → Rules F → Place → Option (List ℕ) → Option (List ℕ) → Moment → Moment → Place → Part → Type 0
+abbrev pub IsPart : {F : Type 0} → Rules F → Position → Option (List ℕ) → Option (List ℕ) → Moment → Moment → Position → Part → Type 0
 IsPart p from input input_new old new to AwaitsInput = Goes p from input input_new old new to × p.waits to.held × IsAtEnd input_new
 IsPart {F} p from input input_new old new to (Over how) =
     (turns : List (Turn F)) × (rest : List ℕ) × (out : List ℕ) × Did p from input input_new old new turns rest out × EndsSo p from.turns how turns rest out

@@ -7,7 +7,7 @@ use Rattle.act_sessions.specs.declared.transcript.Part.TheVariants.{AwaitsInput,
 use Rattle.act_sessions.specs.declared.error.SessionError.{SessionError}
 use Rattle.act_sessions.specs.declared.error.SessionError.TheVariants as error
 use Rattle.act_sessions.specs.Rules.{Rules, Turn, request_of, exchanges_at, is_last, turn_text, texts}
-use Rattle.act_sessions.specs.Session.{Moment, Place, first, Writes, Did, Goes, ArePassed, HasStopped, IsPart}
+use Rattle.act_sessions.specs.Session.{Moment, Position, first, Writes, Did, Goes, ArePassed, HasStopped, IsPart}
 use Rattle.act_sessions.specs.Exchange.{AreAsked}
 
 -- nothing was written
@@ -55,12 +55,12 @@ abbrev pub Stops : {F : Type 0} → Rules F → SessionError → ℕ → List (T
 Stops {F} p error.Memory n turns rest out = (passed : List (Turn F)) × ArePassed p n turns passed × (out ≡ texts p n passed)
 Stops p error.Broken n turns rest out = HasStopped p n Broken turns rest out
 
-abbrev pub HasPaused : {F : Type 0} → Rules F → SessionError → Place → Option (List ℕ) → Option (List ℕ) → Moment → Moment → Type 0
+abbrev pub HasPaused : {F : Type 0} → Rules F → SessionError → Position → Option (List ℕ) → Option (List ℕ) → Moment → Moment → Type 0
 HasPaused {F} p e from input input_new old new =
     (turns : List (Turn F)) × (rest : List ℕ) × (out : List ℕ) × Did p from input input_new old new turns rest out × Stops p e from.turns turns rest out
 
 -- How one round ends, after n turns: the session is over, or it is between two turns, or it waits for more bytes, or it cannot continue.
-abbrev pub EndsRound : {F : Type 0} → Rules F → Place → Option (List ℕ) → Option (List ℕ) → Moment → Moment → List ℕ → ℕ → Result (Option Bool) SessionError → Type 0
+abbrev pub EndsRound : {F : Type 0} → Rules F → Position → Option (List ℕ) → Option (List ℕ) → Moment → Moment → List ℕ → ℕ → Result (Option Bool) SessionError → Type 0
 EndsRound p from input input_new old new buffer n (Ok (Some true)) = IsPart p from input input_new old new first (Over Done)
 EndsRound p from input input_new old new buffer n (Ok (Some false)) = Goes p from input input_new old new (record { turns = n + 1; held = buffer })
 EndsRound p from input input_new old new buffer n (Ok None) = IsPart p from input input_new old new (record { turns = n; held = buffer }) AwaitsInput

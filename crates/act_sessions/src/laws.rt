@@ -1,7 +1,7 @@
 ghost use Rattle.std.specs.Prelude.{◌≡◌, ◌≢◌, ℕ, List, [], ◌++◌, Option, Some};
 ghost use Rattle.run_plan.specs.declared.command.Command.{Command};
 ghost use Rattle.act_sessions.specs.Joined.{IsJoined};
-ghost use Rattle.act_sessions.specs.Session.{first, start, IsCut, IsDone, IsPart, Moment, Place};
+ghost use Rattle.act_sessions.specs.Session.{first, start, IsCut, IsDone, IsPart, Moment, Position};
 ghost use Rattle.act_sessions.specs.Exchange.{Response, Exchange};
 ghost use Rattle.act_sessions.specs.Rules.{AnsweredBy, HasCome, IsApart, IsEnded, Reads, Turn};
 
@@ -28,7 +28,7 @@ pub fn one_session_to_its_end<P: Protocol>()
 /// from there with the other piece, the same output, another answerer and another transcript. Together they submit and write what one part
 /// does over the whole stream.
 pub fn two_parts<P: Protocol>()
-    ensures { (from to last : Place) (x y : List ℕ) (i1 i2 : Option (List ℕ)) (old mid begin new : Moment) (end : Part)
+    ensures { (from to last : Position) (x y : List ℕ) (i1 i2 : Option (List ℕ)) (old mid begin new : Moment) (end : Part)
         → IsPart P.rules from (Some x) i1 old mid to Part.AwaitsInput → begin.output ≡ mid.output
         → IsPart P.rules to (Some y) i2 begin new last end
         → (whole : Moment) × IsJoined mid begin new whole × IsPart P.rules from (Some (x ++ y)) i2 old whole last end }
@@ -37,10 +37,10 @@ pub fn two_parts<P: Protocol>()
 /// A part that begins a session satisfies what `run` says of a session: it is done if the part waits at the end of its input or is over,
 /// and cut otherwise.
 pub fn first_part<P: Protocol>()
-    ensures waits { (i i2 output : Option (List ℕ)) (asked : List Exchange) (new : Moment) (last : Place)
+    ensures waits { (i i2 output : Option (List ℕ)) (asked : List Exchange) (new : Moment) (last : Position)
         → IsPart P.rules first i i2 (start output asked) new last Part.AwaitsInput → IsDone P.rules i i2 (start output asked) new }
-    ensures over { (i i2 output : Option (List ℕ)) (asked : List Exchange) (new : Moment) (last : Place)
+    ensures over { (i i2 output : Option (List ℕ)) (asked : List Exchange) (new : Moment) (last : Position)
         → IsPart P.rules first i i2 (start output asked) new last (Part.Over Ending.Done) → IsDone P.rules i i2 (start output asked) new }
-    ensures cut { (ending : Ending) → ending ≢ Ending.Done → (i i2 output : Option (List ℕ)) (asked : List Exchange) (new : Moment) (last : Place)
+    ensures cut { (ending : Ending) → ending ≢ Ending.Done → (i i2 output : Option (List ℕ)) (asked : List Exchange) (new : Moment) (last : Position)
         → IsPart P.rules first i i2 (start output asked) new last (Part.Over ending) → IsCut P.rules ending i i2 (start output asked) new }
 {}

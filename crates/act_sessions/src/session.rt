@@ -1,6 +1,6 @@
 ghost use Rattle.std.specs.Prelude.{Option, ◌≡◌, ◌<◌, ◌≤◌, ◌++◌, ℕ, List, IfOk, IfErr, length};
 ghost use Rattle.act_sessions.specs.Ends.{HasFailed, HasFinished};
-ghost use Rattle.act_sessions.specs.Session.{moment, Goes, IsPart, Moment, Place};
+ghost use Rattle.act_sessions.specs.Session.{moment, Goes, IsPart, Moment, Position};
 ghost use Rattle.act_sessions.specs.Exchange.{AreAsked, OnlyLastOpen, Exchange, exchanges_by};
 ghost use Rattle.act_sessions.specs.Turns.{EndsRound, Aborts, Says, TakesTurn};
 
@@ -83,7 +83,7 @@ fn take_round<P: Protocol, R: Read, W: Write, A: Answer>(
 ) -> Result<Option<bool>, SessionError>
     requires room { count < P.rules.most }
     requires held { length held.old ≤ P.rules.limit }
-    ensures { (from : Place) (input : Option (List ℕ)) (begin : Moment)
+    ensures { (from : Position) (input : Option (List ℕ)) (begin : Moment)
         → Goes P.rules from input (R.remaining reader.old) begin (moment (W.contents writer.old) (A.asked answerer.old) transcript.old)
         (record { turns = count; held = held.old })
         → EndsRound P.rules from input (R.remaining reader.new) begin (moment (W.contents writer.new) (A.asked answerer.new) transcript.new)

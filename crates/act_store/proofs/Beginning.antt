@@ -5,8 +5,8 @@ use Rattle.std.proofs.lemmas.List.{take_all}
 use Rattle.gated_journal.specs.Layout.{Head, Fits}
 use Rattle.gated_journal.specs.TwoAreas.{after_gate}
 use Rattle.gated_journal.specs.Whole.{RecoversWhole}
-use Rattle.gated_journal.specs.declared.gate.Gate.{Gate}
-use Rattle.gated_journal.specs.declared.gate.Gate.TheVariants.{Closed}
+use Rattle.gated_journal.specs.declared.gate.GateState.{GateState}
+use Rattle.gated_journal.specs.declared.gate.GateState.TheVariants.{Closed}
 use Rattle.gated_journal.specs.declared.side.Side.{Side}
 use Rattle.gated_journal.specs.declared.side.Side.TheVariants.{First}
 use Rattle.run_table.specs.Sound.{IsSound}
@@ -59,7 +59,7 @@ module _ {D : Type 0} (disk : D) (area : ℕ) (base : TableState) (used generati
         pending_batch_is = nothing;
       })
 
-  pub consistent_begun : (images : D → List ℕ → Type 0) (side : Side) (gate : Gate) → IsAreaLength area
+  pub consistent_begun : (images : D → List ℕ → Type 0) (side : Side) (gate : GateState) → IsAreaLength area
       → IsSettled area side gate generation used layout base (images disk)
       → IsConsistent images side gate (begun disk area base used generation layout checkpoint failed history)
   consistent_begun images side gate size settled =

@@ -7,11 +7,11 @@ use Rattle.act_disk.specs.Images.{EachSince}
 use Rattle.act_disk.proofs.Moments.{weakened}
 use Rattle.gated_journal.specs.Layout.{Head}
 use Rattle.gated_journal.specs.Whole.{RecoversWhole, WholeEither}
-use Rattle.gated_journal.specs.declared.gate.Gate.{Gate}
-use Rattle.gated_journal.specs.declared.gate.Gate.TheVariants.{Open, Closed}
+use Rattle.gated_journal.specs.declared.gate.GateState.{GateState}
+use Rattle.gated_journal.specs.declared.gate.GateState.TheVariants.{Open, Closed}
 use Rattle.gated_journal.specs.declared.side.Side.{Side}
 use Rattle.run_table.specs.Sound.{IsSound}
-use Rattle.stored_tables.specs.Stored.{StoredRunner, stored_runner}
+use Rattle.stored_tables.specs.Stored.{RunnerParts, stored_runner}
 use Rattle.run_table.specs.TableState.{TableState}
 use Rattle.table_laws.proofs.ReachedTables.{after_is_sound}
 use Rattle.command_encodings.specs.Commands.{number}
@@ -31,7 +31,7 @@ use Rattle.act_store.proofs.Settling.{settled_recovers, recovers_to}
 
 -- ---- the text of a table has room for the number of its runners
 
-runner_some : (r : StoredRunner) → 1 ≤ length (runner.encoding r)
+runner_some : (r : RunnerParts) → 1 ≤ length (runner.encoding r)
 runner_some r =
     omega (
       arith,
@@ -39,7 +39,7 @@ runner_some r =
       length-append (text_bytes r.name) ((pair number (pair last_command lease)).encoding (r.number, (r.last, r.holds))),
     )
 
-runners_some : (rs : List StoredRunner) → length rs ≤ length (flat_map runner.encoding rs)
+runners_some : (rs : List RunnerParts) → length rs ≤ length (flat_map runner.encoding rs)
 runners_some [] = omega arith
 runners_some (r ∷ rs) =
     omega (arith, runner_some r, runners_some rs, length-append (runner.encoding r) (flat_map runner.encoding rs))
@@ -100,13 +100,13 @@ module _ {D : Type 0} (s : StoreState D) (table : TableState) (pending_batch : B
     pending_batch_is = counted.pending_batch_is;
   }
 
-  pub consistent_failed : (images : D → List ℕ → Type 0) (side : Side) (gate : Gate) (disk : D) (checkpoint : Option Checkpoint)
+  pub consistent_failed : (images : D → List ℕ → Type 0) (side : Side) (gate : GateState) (disk : D) (checkpoint : Option Checkpoint)
       → ((c : List ℕ) → images disk c → RecoversToEither s c)
       → IsConsistent images side gate (record s { disk = disk; begun = checkpoint; failed = true })
   consistent_failed images side gate disk checkpoint each = record { each = each; settled = λ impossible. absurd (cc impossible) }
 
   -- where all images agree again on the covered entries
-  pub consistent_with : (images : D → List ℕ → Type 0) (side : Side) (gate : Gate) (disk : D) (checkpoint : Option Checkpoint)
+  pub consistent_with : (images : D → List ℕ → Type 0) (side : Side) (gate : GateState) (disk : D) (checkpoint : Option Checkpoint)
       → IsSettled s.area side gate s.generation s.used s.layout (covered_table s) (images disk)
       → IsConsistent images side gate (record s { disk = disk; begun = checkpoint })
   consistent_with images side gate disk checkpoint settled = record {
@@ -114,10 +114,10 @@ module _ {D : Type 0} (s : StoreState D) (table : TableState) (pending_batch : B
     settled = λ _. settled;
   }
 
-  module _ (images : D → List ℕ → Type 0) (side : Side) (gate : Gate)
+  module _ (images : D → List ℕ → Type 0) (side : Side) (gate : GateState)
       (settled : IsSettled s.area side gate s.generation s.used s.layout (covered_table s) (images s.disk)) where
     -- the same head and bodies, with the current state of the other gate
-    pub settled_again : (now : Gate) (disk : D)
+    pub settled_again : (now : GateState) (disk : D)
         → ((c : List ℕ) → images disk c → RecoversWhole s.area side now c settled.head settled.bodies)
         → IsSettled s.area side now s.generation s.used s.layout (covered_table s) (images disk)
     settled_again now disk each = record {
@@ -130,7 +130,7 @@ module _ {D : Type 0} (s : StoreState D) (table : TableState) (pending_batch : B
       means = settled.means;
     }
 
-    whole_recovers : (now : Gate) (c : List ℕ) → RecoversWhole s.area side now c settled.head settled.bodies → RecoversToEither s c
+    whole_recovers : (now : GateState) (c : List ℕ) → RecoversWhole s.area side now c settled.head settled.bodies → RecoversToEither s c
     whole_recovers now c recovers =
         inl (recovers_to s.area side now settled.head settled.bodies (covered_table s) c counted.size recovers settled.means)
 
@@ -140,8 +140,8 @@ module _ {D : Type 0} (s : StoreState D) (table : TableState) (pending_batch : B
         → (c : List ℕ) → images disk c → RecoversWhole s.area side Closed c settled.head settled.bodies)
         → IsSettled s.area side gate s.generation s.used s.layout (covered_table s) (images disk)
     slice_settles disk closed goes_on =
-        settled_again gate disk (λ c now. subst (λ (g : Gate). RecoversWhole s.area side g c settled.head settled.bodies) (sym closed)
-        (goes_on (λ c now. subst (λ (g : Gate). RecoversWhole s.area side g c settled.head settled.bodies) closed (settled.each c now)) c now))
+        settled_again gate disk (λ c now. subst (λ (g : GateState). RecoversWhole s.area side g c settled.head settled.bodies) (sym closed)
+        (goes_on (λ c now. subst (λ (g : GateState). RecoversWhole s.area side g c settled.head settled.bodies) closed (settled.each c now)) c now))
 
     close_recovers : (c : List ℕ) → WholeEither s.area side settled.head settled.bodies c → RecoversToEither s c
     close_recovers c either = ⊎_elim (whole_recovers Open c) (whole_recovers Closed c) either
@@ -173,5 +173,5 @@ module _ {D : Type 0} (honest : D → Type 0) (images : D → List ℕ → Type 
       weakened moment images_since s.disk disk (λ c. RecoversWhole s.areas.len s.areas.side Closed c settled.head settled.bodies)
       (RecoversToEither (as_state s))
       (puts settled.head settled.bodies is_honest (λ c now.
-      subst (λ (g : Gate). RecoversWhole s.areas.len s.areas.side g c settled.head settled.bodies) (closed is_honest) (settled.each c now)))
+      subst (λ (g : GateState). RecoversWhole s.areas.len s.areas.side g c settled.head settled.bodies) (closed is_honest) (settled.each c now)))
       (whole_recovers (as_state s) s.table s.pending_batch counted images s.areas.side s.other settled Closed))

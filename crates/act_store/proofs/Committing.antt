@@ -8,7 +8,7 @@ use Rattle.act_disk.proofs.Moments.{weakened}
 use Rattle.gated_journal.specs.Appends.{record_of}
 use Rattle.gated_journal.specs.Layout.{Head, opened}
 use Rattle.gated_journal.specs.Whole.{RecoversWhole, WholeOrGrew}
-use Rattle.gated_journal.specs.declared.gate.Gate.{Gate}
+use Rattle.gated_journal.specs.declared.gate.GateState.{GateState}
 use Rattle.gated_journal.specs.declared.side.Side.{Side}
 use Rattle.run_table.specs.TableState.{TableState}
 use Rattle.command_encodings.specs.Commands.{IsEncoded, batch}
@@ -82,7 +82,7 @@ module _ {D : Type 0} (s : StoreState D) (table : TableState) (pending_batch : B
           pending_batch_is = none_left left none no_bytes ∙ ap (λ (l : List Entry). batch_state_of (commands_of l)) (sym all);
         }
 
-    module _ (images : D → List ℕ → Type 0) (side : Side) (gate : Gate)
+    module _ (images : D → List ℕ → Type 0) (side : Side) (gate : GateState)
         (settled : IsSettled s.area side gate s.generation s.used s.layout (covered_table s) (images s.disk)) where
       commit_each : (c : List ℕ) → WholeOrGrew s.area side gate settled.head settled.bodies (body_of pending_batch) c → RecoversToEither s c
       commit_each c either =
@@ -111,13 +111,13 @@ module _ {D : Type 0} (honest : D → Type 0) (images : D → List ℕ → Type 
     (record_is : 0 < s.pending_batch.count → bytes ≡ record_of (body_of s.pending_batch))
     (short : 0 < s.pending_batch.count → length (body_of s.pending_batch) < 2 ^ 32) (disk : D) where
   -- what an append of the bytes guarantees, as a record of any body, for any contents of the area
-  abbrev Promises : (Gate → Head → List (List ℕ) → List ℕ → Type 0) → Type 0
+  abbrev Promises : (GateState → Head → List (List ℕ) → List ℕ → Type 0) → Type 0
   Promises what =
-      (gate : Gate) (head : Head) (bodies : List (List ℕ)) (body : List ℕ) → honest s.disk
+      (gate : GateState) (head : Head) (bodies : List (List ℕ)) (body : List ℕ) → honest s.disk
       → ((c : List ℕ) → images s.disk c → RecoversWhole s.areas.len s.areas.side gate c head bodies) → s.used ≡ length (opened head bodies)
       → bytes ≡ record_of body → length body < 2 ^ 32 → what gate head bodies body
 
-  promised : (what : Gate → Head → List (List ℕ) → List ℕ → Type 0) → Promises what → (is_honest : honest s.disk)
+  promised : (what : GateState → Head → List (List ℕ) → List ℕ → Type 0) → Promises what → (is_honest : honest s.disk)
       → what s.other ((active_side is_honest).settled live).head ((active_side is_honest).settled live).bodies (body_of s.pending_batch)
   promised what grows is_honest =
       let settled = (active_side is_honest).settled live in
@@ -125,7 +125,7 @@ module _ {D : Type 0} (honest : D → Type 0) (images : D → List ℕ → Type 
 
   -- each image since the commit began, in terms of the store's view
   module _ (moment : D → ℕ) (images_since : D → ℕ → List ℕ → Type 0) where
-    abbrev grows_since : Gate → Head → List (List ℕ) → List ℕ → Type 0
+    abbrev grows_since : GateState → Head → List (List ℕ) → List ℕ → Type 0
     grows_since gate head bodies body =
         EachSince moment images_since s.disk disk (WholeOrGrew s.areas.len s.areas.side gate head bodies body)
 
@@ -140,7 +140,7 @@ module _ {D : Type 0} (honest : D → Type 0) (images : D → List ℕ → Type 
         (commit_each (as_state s) s.table s.pending_batch counted some images s.areas.side s.other settled))
 
   -- after a completed commit, all images agree on all entries
-  abbrev grown_now : Gate → Head → List (List ℕ) → List ℕ → Type 0
+  abbrev grown_now : GateState → Head → List (List ℕ) → List ℕ → Type 0
   grown_now gate head bodies body =
       (c : List ℕ) → images disk c → RecoversWhole s.areas.len s.areas.side gate c head (bodies ++ body ∷ [])
 

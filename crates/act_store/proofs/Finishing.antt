@@ -11,8 +11,8 @@ use Rattle.act_disk.proofs.Moments.{weakened}
 use Rattle.gated_journal.specs.Layout.{Fits, Head, head_bytes, record_bytes}
 use Rattle.gated_journal.specs.TwoAreas.{other, start_of, Completes}
 use Rattle.gated_journal.specs.Whole.{RecoversWhole, WholeOrSwitched}
-use Rattle.gated_journal.specs.declared.gate.Gate.{Gate}
-use Rattle.gated_journal.specs.declared.gate.Gate.TheVariants.{Open, Closed}
+use Rattle.gated_journal.specs.declared.gate.GateState.{GateState}
+use Rattle.gated_journal.specs.declared.gate.GateState.TheVariants.{Open, Closed}
 use Rattle.run_plan.specs.declared.command.Command.{Command}
 use Rattle.run_table.specs.Histories.{after}
 use Rattle.run_table.specs.TableState.{TableState}
@@ -96,7 +96,7 @@ pub record Finishes {D : Type 0} (honest : D → Type 0) (images : D → List �
   pub snapshot : IsSnapshot s.base.value s.history.items s.generation s.areas.len b
   pub may : MayFinish (as_state s) (as_checkpoint b)
   pub put : honest s.disk → IsPut s.areas.len s.areas.side s.other (seen s.disk) b
-  pub place : at ≡ 1 + length b.prefix.items
+  pub place : at ≡ 1 + length b.head_and_text.items
   pub is : bytes ≡ last_part (commands_of (drop b.place s.history.items))
   pub encoded : AllByRecursion IsEncoded (commands_of (drop b.place s.history.items))
 
@@ -120,7 +120,7 @@ fills_in {D} honest seen s counted begun v view none b some count counts =
       short = omega (
         arith,
         ap (λ (l : List ℕ). length l) so.0.later_is,
-        later_is_short s.areas.len (length b.prefix.items - 17) later counted.size.most may.room,
+        later_is_short s.areas.len (length b.head_and_text.items - 17) later counted.size.most may.room,
       );
     }
 
@@ -128,7 +128,7 @@ fills_in {D} honest seen s counted begun v view none b some count counts =
 pub finishing : {D : Type 0} (honest : D → Type 0) (images : D → List ℕ → Type 0) (seen : D → List ℕ) (s : Inside D)
     → IsCounted (as_state s) s.table s.pending_batch → (honest s.disk → IsConsistent images s.areas.side s.other (as_state s))
     → IfSome s.begun (IsBegun s.base.value s.history.items s.generation s.areas.len s.areas.side s.other (honest s.disk) s.failed (seen s.disk))
-    → (v : StoreState D) → as_state s ≡ v → refusal_of_finish v ≡ None → (b : Begun) → s.begun ≡ Some b → (len : ℕ) → len ≡ length b.prefix.items
+    → (v : StoreState D) → as_state s ≡ v → refusal_of_finish v ≡ None → (b : Begun) → s.begun ≡ Some b → (len : ℕ) → len ≡ length b.head_and_text.items
     → (count : ℕ) → count ≡ length s.history.items - b.place → (bytes : List ℕ)
     → bytes ≡ written_part (record b.last { front = front_of count b.last.encoded }) → Finishes honest images seen s (1 + len) bytes
 finishing {D} honest images seen s counted active_side begun v view none b some len prefix count counts bytes is =
@@ -167,13 +167,13 @@ module _ {D : Type 0} (honest : D → Type 0) (images : D → List ℕ → Type 
   abbrev first : TableState
   first = table_after s.base.value (take f.b.place s.history.items)
 
-  long_prefix : length f.b.prefix.items ≡ 17 + length f.snapshot.text
+  long_prefix : length f.b.head_and_text.items ≡ 17 + length f.snapshot.text
   long_prefix = ap (λ (l : List ℕ). length l) f.snapshot.prefix_is ∙ length_head (s.generation + 1) f.snapshot.text
 
   -- there is space for the gate after the last part
   room : gate_after (length f.snapshot.text) cs + 1 ≤ s.areas.len
   room =
-      let same : length f.b.prefix.items - 17 ≡ length f.snapshot.text = omega (arith, long_prefix) in
+      let same : length f.b.head_and_text.items - 17 ≡ length f.snapshot.text = omega (arith, long_prefix) in
       subst (λ (n : ℕ). gate_after n cs + 1 ≤ s.areas.len) same f.may.room
 
   end : first_gate (length f.snapshot.text) + length (record_bytes others) ≡ gate_after (length f.snapshot.text) cs
@@ -214,16 +214,16 @@ module _ {D : Type 0} (honest : D → Type 0) (images : D → List ℕ → Type 
     settled = (f.active_side is_honest).settled f.may.live
 
     shut : (c : List ℕ) → images s.disk c → RecoversWhole s.areas.len s.areas.side Closed c settled.head settled.bodies
-    shut c now = subst (λ (g : Gate). RecoversWhole s.areas.len s.areas.side g c settled.head settled.bodies) (f.put is_honest).closed
+    shut c now = subst (λ (g : GateState). RecoversWhole s.areas.len s.areas.side g c settled.head settled.bodies) (f.put is_honest).closed
         (settled.each c now)
 
     completes : Completes s.areas.len s.areas.side (seen s.disk) at bytes settled.head next others
     completes =
-        let all : f.b.put ≡ length f.b.prefix.items = omega (arith, f.snapshot.put, f.may.none_left) in
+        let all : f.b.put ≡ length f.b.head_and_text.items = omega (arith, f.snapshot.put, f.may.none_left) in
         record {
-          prefix = f.b.prefix.items;
+          prefix = f.b.head_and_text.items;
           held = subst (λ (l : List ℕ). Holds (seen s.disk) (start_of s.areas.len (other s.areas.side) + 1) l)
-              (take_all f.b.put f.b.prefix.items (omega (arith, all))) (f.put is_honest).held;
+              (take_all f.b.put f.b.head_and_text.items (omega (arith, all))) (f.put is_honest).held;
           place = f.place;
           whole = ap (λ (l : List ℕ). l ++ bytes) f.snapshot.prefix_is ∙ ap (λ (l : List ℕ). head_bytes next ++ l) f.is
               ∙ sym (append_assoc (head_bytes next) (record_bytes others) (0 ∷ []));
@@ -282,7 +282,7 @@ module _ {D : Type 0} (honest : D → Type 0) (images : D → List ℕ → Type 
     -- and it is where the checkpoint says
     pub used_of : at + length bytes - 1 ≡ gate_after (as_checkpoint f.b).text cs
     used_of =
-        let same : length f.b.prefix.items - 17 ≡ length f.snapshot.text = omega (arith, long_prefix) in
+        let same : length f.b.head_and_text.items - 17 ≡ length f.snapshot.text = omega (arith, long_prefix) in
         used_is ∙ ap (λ (n : ℕ). gate_after n cs) (sym same)
 
     pub finish_settles : Turns (λ head next bodies others. (c : List ℕ) → images disk c

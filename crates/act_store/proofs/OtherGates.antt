@@ -3,8 +3,8 @@ use Rattle.std.proofs.Common.{◌≡◌, ℕ, List, [], ◌∷◌, refl, subst}
 use Rattle.std.specs.Prelude.{false}
 use Rattle.gated_journal.specs.Layout.{IsClosed}
 use Rattle.gated_journal.specs.TwoAreas.{IsGate, area_on, other}
-use Rattle.gated_journal.specs.declared.gate.Gate.{Gate}
-use Rattle.gated_journal.specs.declared.gate.Gate.TheVariants.{Open, Closed}
+use Rattle.gated_journal.specs.declared.gate.GateState.{GateState}
+use Rattle.gated_journal.specs.declared.gate.GateState.TheVariants.{Open, Closed}
 use Rattle.act_store.specs.OtherGate.{IsShutBeside}
 use Rattle.act_store.specs.Promise.{IsConsistent}
 use Rattle.act_store.specs.StoreSeen.{as_state}
@@ -12,7 +12,7 @@ use Rattle.act_store.specs.StoreState.{StoreState}
 use Rattle.act_store.specs.declared.store.Store.TheInside.{Inside}
 
 -- a closed gate is not an open one
-gate_of_closed : (gate : Gate) (area : List ℕ) → IsGate gate area → IsClosed area → gate ≡ Closed
+gate_of_closed : (gate : GateState) (area : List ℕ) → IsGate gate area → IsClosed area → gate ≡ Closed
 gate_of_closed Closed area is closed = refl
 gate_of_closed Open [] is closed = absurd is
 gate_of_closed Open (g ∷ suffix) is closed = absurd (closed is)

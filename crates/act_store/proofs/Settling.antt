@@ -6,7 +6,7 @@ use Rattle.std.specs.Int.{to_be_bytes, w32}
 use Rattle.std.specs.List.{AllByRecursion}
 use Rattle.gated_journal.specs.Layout.{Head, framed, opened}
 use Rattle.gated_journal.specs.Whole.{RecoversWhole, WholeOrGrew}
-use Rattle.gated_journal.specs.declared.gate.Gate.{Gate}
+use Rattle.gated_journal.specs.declared.gate.GateState.{GateState}
 use Rattle.gated_journal.specs.declared.side.Side.{Side}
 use Rattle.gated_journal.proofs.Grown.{opened-push}
 use Rattle.run_table.specs.Histories.{after}
@@ -40,7 +40,7 @@ length-opened head bodies body =
     )
 
 -- an image that reads so recovers to the table it means
-pub recovers_to : (len : ℕ) (side : Side) (gate : Gate) (head : Head) (bodies : List (List ℕ)) (table : TableState) (c : List ℕ)
+pub recovers_to : (len : ℕ) (side : Side) (gate : GateState) (head : Head) (bodies : List (List ℕ)) (table : TableState) (c : List ℕ)
     → IsAreaLength len → RecoversWhole len side gate c head bodies → MeansTable head bodies table → RecoversTo table c
 recovers_to len side gate head bodies table c size recovers means = record {
   len = len;
@@ -53,13 +53,13 @@ recovers_to len side gate head bodies table c size recovers means = record {
   means = means;
 }
 
-pub settled_recovers : (len : ℕ) (side : Side) (gate : Gate) (generation used : ℕ) (layout : Layout) (table : TableState) (images : List ℕ → Type 0)
+pub settled_recovers : (len : ℕ) (side : Side) (gate : GateState) (generation used : ℕ) (layout : Layout) (table : TableState) (images : List ℕ → Type 0)
     → IsAreaLength len → IsSettled len side gate generation used layout table images → (c : List ℕ) → images c → RecoversTo table c
 settled_recovers len side gate generation used layout table images size settled c now =
     recovers_to len side gate settled.head settled.bodies table c size (settled.each c now) settled.means
 
 -- and its area has that generation
-pub settled_at_used : (len : ℕ) (side : Side) (gate : Gate) (generation used : ℕ) (layout : Layout) (table : TableState) (images : List ℕ → Type 0)
+pub settled_at_used : (len : ℕ) (side : Side) (gate : GateState) (generation used : ℕ) (layout : Layout) (table : TableState) (images : List ℕ → Type 0)
     → IsAreaLength len → IsSettled len side gate generation used layout table images → (c : List ℕ) → images c → RecoversFrom generation used layout table c
 unfolding settled_recovers recovers_to
 settled_at_used len side gate generation used layout table images size settled c now = record {
@@ -69,18 +69,18 @@ settled_at_used len side gate generation used layout table images size settled c
   layout_is = settled.layout_is;
 }
 
-pub recover_to_covered : {D : Type 0} (images : D → List ℕ → Type 0) (side : Side) (gate : Gate) (s : StoreState D) → IsAreaLength s.area
+pub recover_to_covered : {D : Type 0} (images : D → List ℕ → Type 0) (side : Side) (gate : GateState) (s : StoreState D) → IsAreaLength s.area
     → IsConsistent images side gate s → RecoverToCovered images s
 recover_to_covered images side gate s size active_side live =
     settled_at_used s.area side gate s.generation s.used s.layout (covered_table s) (images s.disk) size (active_side.settled live)
 
 -- an equal table
-pub settled_at : (len : ℕ) (side : Side) (gate : Gate) (generation used : ℕ) (layout : Layout) (one two : TableState) (images : List ℕ → Type 0)
+pub settled_at : (len : ℕ) (side : Side) (gate : GateState) (generation used : ℕ) (layout : Layout) (one two : TableState) (images : List ℕ → Type 0)
     → one ≡ two → IsSettled len side gate generation used layout one images → IsSettled len side gate generation used layout two images
 settled_at len side gate generation used layout one two images same settled =
     subst (λ (t : TableState). IsSettled len side gate generation used layout t images) same settled
 
-module _ {D : Type 0} (images : D → List ℕ → Type 0) (side : Side) (gate : Gate) (s : StoreState D) (size : IsAreaLength s.area) where
+module _ {D : Type 0} (images : D → List ℕ → Type 0) (side : Side) (gate : GateState) (s : StoreState D) (size : IsAreaLength s.area) where
   abbrev body : List ℕ
   body = batch.encoding (pending_commands s)
 

@@ -8,8 +8,8 @@ use Rattle.std.specs.List.{AllByRecursion}
 use Rattle.act_disk.specs.Images.{Holds}
 use Rattle.gated_journal.specs.Layout.{head_bytes}
 use Rattle.gated_journal.specs.TwoAreas.{other, start_of}
-use Rattle.gated_journal.specs.declared.gate.Gate.{Gate}
-use Rattle.gated_journal.specs.declared.gate.Gate.TheVariants.{Closed}
+use Rattle.gated_journal.specs.declared.gate.GateState.{GateState}
+use Rattle.gated_journal.specs.declared.gate.GateState.TheVariants.{Closed}
 use Rattle.gated_journal.specs.declared.side.Side.{Side}
 use Rattle.run_plan.specs.declared.command.Command.{Command}
 use Rattle.run_table.specs.TableState.{TableState}
@@ -67,7 +67,7 @@ length_head generation text =
 pub snapshot_taken : (base table : TableState) (history : List Entry) (generation area : ℕ) (b : Begun)
     → table ≡ table_after base history → b.place ≡ length history → b.put ≡ 0 → generation < 18446744073709551615
     → first_gate (text_length table) + 1 ≤ area
-    → b.prefix.items ≡ head_bytes (record { version = current_version; generation = generation + 1; text = whole_table.encoding table })
+    → b.head_and_text.items ≡ head_bytes (record { version = current_version; generation = generation + 1; text = whole_table.encoding table })
     → EncodesTable layouts.Second table (whole_table.encoding table) → b.last.encoded ≡ [] → IsSnapshot base history generation area b
 snapshot_taken base table history generation area b is place put newer room prefix encodes none =
     let nothing : drop b.place history ≡ [] = drop_all b.place history (omega (arith, place)) in
@@ -105,7 +105,7 @@ slice_on items other from to less is =
     ∙ ap (λ (n : ℕ). take n items) (let whole : from + (to - from) ≡ to = omega (arith, less) in whole)
 
 pub snapshot_sliced : (base : TableState) (history : List Entry) (generation area : ℕ) (b next : Begun)
-    → next.prefix.items ≡ b.prefix.items → next.place ≡ b.place → next.put ≤ length b.prefix.items → next.last.encoded ≡ b.last.encoded
+    → next.head_and_text.items ≡ b.head_and_text.items → next.place ≡ b.place → next.put ≤ length b.head_and_text.items → next.last.encoded ≡ b.last.encoded
     → IsSnapshot base history generation area b → IsSnapshot base history generation area next
 snapshot_sliced base history generation area b next prefix place put last snapshot = record {
   text = snapshot.text;
@@ -120,8 +120,8 @@ snapshot_sliced base history generation area b next prefix place put last snapsh
   later_encoded = subst (λ (n : ℕ). AllByRecursion IsEncoded (commands_of (drop n history))) (sym place) snapshot.later_encoded;
 }
 
-pub put_sliced : (area : ℕ) (side : Side) (gate : Gate) (seen : List ℕ) (b next : Begun) → next.prefix.items ≡ b.prefix.items
-    → gate ≡ Closed → Holds seen (start_of area (other side) + 1) (take next.put b.prefix.items) → IsPut area side gate seen next
+pub put_sliced : (area : ℕ) (side : Side) (gate : GateState) (seen : List ℕ) (b next : Begun) → next.head_and_text.items ≡ b.head_and_text.items
+    → gate ≡ Closed → Holds seen (start_of area (other side) + 1) (take next.put b.head_and_text.items) → IsPut area side gate seen next
 put_sliced area side gate seen b next prefix closed held = record {
   closed = closed;
   held = subst (λ (l : List ℕ). Holds seen (start_of area (other side) + 1) (take next.put l)) (sym prefix) held;
@@ -164,7 +164,7 @@ pub seen_grown : (command : Command) (o next : Option Begun) → next ≡ option
     → option_map as_checkpoint next ≡ option_map as_checkpoint o
 seen_grown command o next grown = ap (λ (x : Option Begun). option_map as_checkpoint x) grown ∙ same_checkpoint (command_bytes command) o
 
-module _ (base : TableState) (history : List Entry) (generation area : ℕ) (side : Side) (gate : Gate) (honest : Type 0) (failed : Bool)
+module _ (base : TableState) (history : List Entry) (generation area : ℕ) (side : Side) (gate : GateState) (honest : Type 0) (failed : Bool)
     (seen : List ℕ) (o : Option Begun)
     (here : IfSome o (IsBegun base history generation area side gate honest failed seen)) where
   pub begun_entered : (more : List Entry) (entry : Entry) (next : Option Begun) → more ≡ history ++ entry ∷ [] → IsEncoded entry.command
@@ -198,7 +198,7 @@ module _ (base : TableState) (history : List Entry) (generation area : ℕ) (sid
             let put = so.1 (before still) live in
             record {
               closed = put.closed;
-              held = beside (before still) 1 (take b.put b.prefix.items) (omega (arith, long (before still) live))
-                  (omega (arith, length-take-le b.put b.prefix.items so.0.put, so.0.put, so.0.fits)) put.held;
+              held = beside (before still) 1 (take b.put b.head_and_text.items) (omega (arith, long (before still) live))
+                  (omega (arith, length-take-le b.put b.head_and_text.items so.0.put, so.0.put, so.0.fits)) put.held;
             },
       )) here

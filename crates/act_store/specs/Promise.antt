@@ -6,8 +6,8 @@ use Rattle.act_disk.specs.Images.{Holds}
 use Rattle.gated_journal.specs.Layout.{Head, head_bytes, opened}
 use Rattle.gated_journal.specs.TwoAreas.{other, start_of}
 use Rattle.gated_journal.specs.Whole.{RecoversWhole}
-use Rattle.gated_journal.specs.declared.gate.Gate.{Gate}
-use Rattle.gated_journal.specs.declared.gate.Gate.TheVariants.{Closed}
+use Rattle.gated_journal.specs.declared.gate.GateState.{GateState}
+use Rattle.gated_journal.specs.declared.gate.GateState.TheVariants.{Closed}
 use Rattle.gated_journal.specs.declared.side.Side.{Side}
 use Rattle.run_table.specs.Sound.{IsSound}
 use Rattle.run_table.specs.TableState.{TableState}
@@ -26,7 +26,7 @@ use Rattle.act_store.specs.declared.layout.Layout.{Layout}
 use Rattle.act_store.specs.declared.layout.Layout.TheVariants as layouts
 
 -- All images read as the same head, of this layout, and the same bodies. They recover to this table, and the gate in use comes after them.
-pub record IsSettled (len : ℕ) (side : Side) (gate : Gate) (generation used : ℕ) (layout : Layout)
+pub record IsSettled (len : ℕ) (side : Side) (gate : GateState) (generation used : ℕ) (layout : Layout)
     (table : TableState) (images : List ℕ → Type 0) : Type 0 where
   pub head : Head
   pub bodies : List (List ℕ)
@@ -38,7 +38,7 @@ pub record IsSettled (len : ℕ) (side : Side) (gate : Gate) (generation used : 
 
 -- Each image recovers to the covered entries or to all. This also holds for a failed store, since its history grows no more. Until the
 -- store fails, all images agree on the covered entries, as the next record requires.
-pub record IsConsistent {D : Type 0} (images : D → List ℕ → Type 0) (side : Side) (gate : Gate) (s : StoreState D) : Type 0 where
+pub record IsConsistent {D : Type 0} (images : D → List ℕ → Type 0) (side : Side) (gate : GateState) (s : StoreState D) : Type 0 where
   pub each : (c : List ℕ) → images s.disk c → RecoversToEither s c
   pub settled : s.failed ≡ false → IsSettled s.area side gate s.generation s.used s.layout (covered_table s) (images s.disk)
 
@@ -62,20 +62,20 @@ pub record IsCounted {D : Type 0} (s : StoreState D) (table : TableState) (pendi
 pub record IsSnapshot (base : TableState) (history : List Entry) (generation area : ℕ) (b : Begun) : Type 0 where
   pub text : List ℕ
   pub encodes : EncodesTable layouts.Second (table_after base (take b.place history)) text
-  pub prefix_is : b.prefix.items ≡ head_bytes (record { version = current_version; generation = generation + 1; text = text })
+  pub prefix_is : b.head_and_text.items ≡ head_bytes (record { version = current_version; generation = generation + 1; text = text })
   pub place : b.place ≤ length history
-  pub put : b.put ≤ length b.prefix.items
+  pub put : b.put ≤ length b.head_and_text.items
   pub newer : generation + 1 < 2 ^ 64
-  pub fits : 2 + length b.prefix.items ≤ area
+  pub fits : 2 + length b.head_and_text.items ≤ area
   pub later_is : b.last.encoded ≡ flat_map command_bytes (commands_of (drop b.place history))
   pub later_encoded : AllByRecursion IsEncoded (commands_of (drop b.place history))
 
 -- Its state on the disk: the gate of the other area is closed, and a read finds what was put after that gate.
-pub record IsPut (area : ℕ) (side : Side) (gate : Gate) (seen : List ℕ) (b : Begun) : Type 0 where
+pub record IsPut (area : ℕ) (side : Side) (gate : GateState) (seen : List ℕ) (b : Begun) : Type 0 where
   pub closed : gate ≡ Closed
-  pub held : Holds seen (start_of area (other side) + 1) (take b.put b.prefix.items)
+  pub held : Holds seen (start_of area (other side) + 1) (take b.put b.head_and_text.items)
 
 -- Both, for a checkpoint of a store on an honest or dishonest disk. Once the store has failed, nothing is known of the disk.
-abbrev pub IsBegun : TableState → List Entry → ℕ → ℕ → Side → Gate → Type 0 → Bool → List ℕ → Begun → Type 0
+abbrev pub IsBegun : TableState → List Entry → ℕ → ℕ → Side → GateState → Type 0 → Bool → List ℕ → Begun → Type 0
 IsBegun base history generation area side gate honest failed seen b =
     IsSnapshot base history generation area b × (honest → failed ≡ false → IsPut area side gate seen b)

@@ -8,8 +8,8 @@ use Rattle.act_store.specs.declared.store.Store.TheInside.{Inside}
 abbrev pub as_checkpoint : Begun → Checkpoint
 as_checkpoint b = record {
   place = b.place;
-  text = length b.prefix.items - 17;
-  left = length b.prefix.items - b.put;
+  text = length b.head_and_text.items - 17;
+  left = length b.head_and_text.items - b.put;
 }
 
 abbrev pub as_state : {D : Type 0} → Inside D → StoreState D

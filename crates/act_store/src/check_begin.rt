@@ -19,7 +19,7 @@ use crate::last_part::LastPart;
 use crate::layout::Layout;
 use crate::store::Store;
 use act_disk::Disk;
-use gated_journal::Gate;
+use gated_journal::GateState;
 use gated_journal::lengths::{GATE, HEAD};
 use run_table::Table;
 use std::alloc::Global;
@@ -63,8 +63,8 @@ impl<D: Disk> Store<D> {
                 Err(Refusal::from(fault))
             }
             Ok(()) => {
-                let left = begun.prefix.len() as u64;
-                self.other = Gate::Closed;
+                let left = begun.head_and_text.len() as u64;
+                self.other = GateState::Closed;
                 self.begun = Some(begun);
                 Ok(left)
             }
@@ -121,7 +121,7 @@ fn take_text(
     requires sound { IsSound table.now }
     requires text { text ≡ text_length table.now }
     requires short { text < 2 ^ 32 }
-    ensures prefix { IfOk result (λ b. b.prefix.items
+    ensures prefix { IfOk result (λ b. b.head_and_text.items
         ≡ head_bytes (record { version = current_version; generation = generation; text = whole_table.encoding table.now })) }
     ensures encodes { OnOk result (EncodesTable layouts.Second table.now (whole_table.encoding table.now)) }
     ensures place { IfOk result (λ b. b.place ≡ place) }
@@ -129,11 +129,11 @@ fn take_text(
     ensures none { IfOk result (λ b. b.last.encoded ≡ []) }
     ensures refused { IfErr result (λ e. e ≡ no_memory) }
 {
-    let prefix = area_header(alloc, generation, text, table)?;
+    let head_and_text = area_header(alloc, generation, text, table)?;
     let last = LastPart::new(alloc)?;
     Ok(Begun {
         place,
-        prefix,
+        head_and_text,
         put: 0,
         last,
     })

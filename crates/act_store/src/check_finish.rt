@@ -17,7 +17,7 @@ use crate::pending_batch::COUNT;
 use crate::store::Store;
 use act_disk::Disk;
 use gated_journal::lengths::{GATE, HEAD, LENGTH};
-use gated_journal::{AreaPair, Gate};
+use gated_journal::{AreaPair, GateState};
 use std::alloc::Global;
 use wf_value::{Code, Refusal};
 
@@ -60,7 +60,7 @@ impl<D: Disk> Store<D> {
         let mut begun = begun;
         let later = self.history.len() - begun.place;
         begun.last.fill_in(later);
-        let at = 1 + begun.prefix.len() as u64;
+        let at = 1 + begun.head_and_text.len() as u64;
         let last = begun.last.as_slice();
         let end = at + last.len() as u64;
         let switched = areas.switch(&mut self.disk, at, last);
@@ -75,7 +75,7 @@ impl<D: Disk> Store<D> {
                     len: areas.len,
                     side: areas.side.other(),
                 };
-                self.other = Gate::Open;
+                self.other = GateState::Open;
                 self.used = end - 1;
                 self.generation += 1;
                 self.layout = Layout::Second;
@@ -97,7 +97,7 @@ impl<D: Disk> Store<D> {
         let Some(begun) = &self.begun else {
             return Some(Refusal::Numbered(Code::CheckpointTurn));
         };
-        if begun.put < begun.prefix.len() {
+        if begun.put < begun.head_and_text.len() {
             return Some(Refusal::Numbered(Code::CheckpointTurn));
         }
         if !self.last_fits(begun) {
@@ -109,8 +109,8 @@ impl<D: Disk> Store<D> {
     /// Whether the record of the entries since a checkpoint was begun fits after its text.
     fn last_fits(&self, begun: &Begun) -> bool
         requires place { begun.now.place ≤ length self.now.history }
-        requires head { HEAD ≤ length begun.now.prefix.items }
-        requires fits { 2 + length begun.now.prefix.items ≤ self.now.area }
+        requires head { HEAD ≤ length begun.now.head_and_text.items }
+        requires fits { 2 + length begun.now.head_and_text.items ≤ self.now.area }
         requires later { begun.now.last.encoded ≡ flat_map command_bytes (commands_of (drop begun.now.place self.now.history)) }
         ensures { result ≡ not (has_no_room self.now (as_checkpoint begun.now)) }
     {
@@ -118,6 +118,6 @@ impl<D: Disk> Store<D> {
             return true;
         }
         let record = GATE + LENGTH + COUNT + begun.last.encoded_len() + GATE;
-        begun.prefix.len() as u64 + record < self.areas.len
+        begun.head_and_text.len() as u64 + record < self.areas.len
     }
 }

@@ -4,7 +4,7 @@ ghost use Rattle.act_disk.specs.Images.{CountsFault, EachSince, Holds};
 ghost use Rattle.gated_journal.specs.Layout.{Head};
 ghost use Rattle.gated_journal.specs.TwoAreas.{other, start_of};
 ghost use Rattle.gated_journal.specs.Whole.{RecoversWhole};
-ghost use Rattle.gated_journal.specs.declared.gate.Gate.TheVariants.{Closed};
+ghost use Rattle.gated_journal.specs.declared.gate.GateState.TheVariants.{Closed};
 ghost use Rattle.act_store.specs.Checkpoints.{left_of, refusal_of_slice, sliced};
 ghost use Rattle.act_store.specs.StoreState.{RecoversToEither};
 ghost use Rattle.act_store.specs.Plain.{broken};
@@ -53,7 +53,7 @@ impl<D: Disk> Store<D> {
                 Err(Refusal::from(fault))
             }
             Ok(()) => {
-                let left = begun.prefix.len() - begun.put;
+                let left = begun.head_and_text.len() - begun.put;
                 self.begun = Some(begun);
                 Ok(left as u64)
             }
@@ -68,7 +68,7 @@ impl<D: Disk> Store<D> {
             return Some(Refusal::Numbered(Code::FailedEarlier));
         }
         match &self.begun {
-            Some(begun) if begun.put < begun.prefix.len() => None,
+            Some(begun) if begun.put < begun.head_and_text.len() => None,
             _ => Some(Refusal::Numbered(Code::CheckpointTurn)),
         }
     }
@@ -78,26 +78,26 @@ impl<D: Disk> Store<D> {
 fn put_slice<D: Disk>(areas: AreaPair, disk: &mut D, begun: &mut Begun) -> Result<(), DiskFault>
     requires countable { D.fault_count disk.old < u64.MAX }
     requires addressed { areas.len + areas.len < 2 ^ 64 }
-    requires put { begun.old.put ≤ length begun.old.prefix.items }
-    requires fits { 2 + length begun.old.prefix.items ≤ areas.len }
+    requires put { begun.old.put ≤ length begun.old.head_and_text.items }
+    requires fits { 2 + length begun.old.head_and_text.items ≤ areas.len }
     ensures any_moment { (head : Head) (bodies : List (List ℕ)) → D.honest disk.old
         → ((c : List ℕ) → D.images disk.old c → RecoversWhole areas.len areas.side Closed c head bodies)
         → EachSince D.moment D.images_since disk.old disk.new (λ c. RecoversWhole areas.len areas.side Closed c head bodies) }
     ensures held { OnOk result (D.honest disk.old → areas.len + areas.len ≤ length (D.seen disk.old)
-        → Holds (D.seen disk.old) (start_of areas.len (other areas.side) + 1) (take begun.old.put begun.old.prefix.items)
-        → Holds (D.seen disk.new) (start_of areas.len (other areas.side) + 1) (take begun.new.put begun.old.prefix.items)) }
-    ensures same_prefix { begun.new.prefix.items ≡ begun.old.prefix.items }
+        → Holds (D.seen disk.old) (start_of areas.len (other areas.side) + 1) (take begun.old.put begun.old.head_and_text.items)
+        → Holds (D.seen disk.new) (start_of areas.len (other areas.side) + 1) (take begun.new.put begun.old.head_and_text.items)) }
+    ensures same_text { begun.new.head_and_text.items ≡ begun.old.head_and_text.items }
     ensures same_place { begun.new.place ≡ begun.old.place }
     ensures same_last { begun.new.last ≡ begun.old.last }
-    ensures put { OnOk result (begun.new.put ≡ min (begun.old.put + max_slice) (length begun.old.prefix.items)) }
+    ensures put { OnOk result (begun.new.put ≡ min (begun.old.put + max_slice) (length begun.old.head_and_text.items)) }
     ensures same { OnErr result (begun.new ≡ begun.old) }
     ensures calls { D.calls disk.new ≡ D.calls disk.old + 1 }
     ensures faults { CountsFault result (D.fault_count disk.old) (D.fault_count disk.new) }
     ensures honest { D.honest disk.new ↔ D.honest disk.old }
 {
     let from = begun.put;
-    let to = begun.prefix.len().min(from + SLICE);
-    areas.put(disk, 1 + from as u64, &begun.prefix[from..to])?;
+    let to = begun.head_and_text.len().min(from + SLICE);
+    areas.put(disk, 1 + from as u64, &begun.head_and_text[from..to])?;
     begun.put = to;
     Ok(())
 }

@@ -9,7 +9,7 @@ use crate::layout::Layout;
 use crate::pending_batch::PendingBatch;
 use crate::store::Store;
 use act_disk::Disk;
-use gated_journal::{AreaPair, Gate, Side, make_areas};
+use gated_journal::{AreaPair, GateState, Side, make_areas};
 use run_table::Table;
 use std::alloc::Global;
 use std::snapshot::Snapshot;
@@ -61,7 +61,7 @@ impl<D: Disk> Store<D> {
                         len: area,
                         side: Side::First,
                     },
-                    other: Gate::Closed,
+                    other: GateState::Closed,
                     base: Snapshot::of(&table),
                     table,
                     history: Vec::new(alloc),

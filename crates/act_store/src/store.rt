@@ -12,7 +12,7 @@ use crate::layout::Layout;
 use crate::pending_batch::PendingBatch;
 use act_disk::Disk;
 use gated_journal::lengths::{GATE, LENGTH};
-use gated_journal::{AreaPair, Gate};
+use gated_journal::{AreaPair, GateState};
 use run_plan::Number;
 use run_table::{RunView, Table};
 use std::marker::Model;
@@ -27,7 +27,7 @@ pub struct Store<D: Disk> {
     pub(crate) disk: D,
     pub(crate) areas: AreaPair,
     /// The state of the other area's gate.
-    pub(crate) other: Gate,
+    pub(crate) other: GateState,
     /// The table at the start of the history, as ghost data.
     pub(crate) base: Snapshot<Table>,
     pub(crate) table: Table,

@@ -8,7 +8,7 @@ use acts_rounds::serve_rounds;
 use acts_serve::{Board, Limits, Ports, ViewPort, serve_forever};
 use command_words::{Serving, Span, VERSION};
 use local_commands::{Failure, ended, output};
-use process_io::{Fault, HeldStreams, RealDisk, file_in, listener};
+use process_io::{ResourceFault, HeldStreams, RealDisk, file_in, listener};
 use std::alloc::Global;
 use std::fs::{File, Files};
 use std::io::{ErrorKind, Write};
@@ -57,7 +57,7 @@ fn view_port(span: &Span<'_>) -> Option<u16> {
 fn view_listener<'a, S: Net<Listener = TcpListener, Stream = TcpStream>>(
     system: &S,
     port: Option<u16>,
-) -> Result<Option<TcpListener>, Fault<'a>> {
+) -> Result<Option<TcpListener>, ResourceFault<'a>> {
     match port {
         Some(port) => Ok(Some(listener(system, port)?)),
         None => Ok(None),
@@ -67,7 +67,7 @@ fn view_listener<'a, S: Net<Listener = TcpListener, Stream = TcpStream>>(
 fn bound_listeners<'a, S: Net<Listener = TcpListener, Stream = TcpStream>>(
     system: &S,
     serving: &Serving<'_>,
-) -> Result<Listeners, Fault<'a>> {
+) -> Result<Listeners, ResourceFault<'a>> {
     Ok(Listeners {
         hooks: listener(system, serving.hook_port)?,
         runners: listener(system, serving.runner_port)?,
@@ -84,7 +84,7 @@ fn board_file<'a, R: Files<File = File> + AllocGlobal>(
     match file_in(rt, folder, name, MAX_BOARD_FILE) {
         Ok(bytes) => Ok(bytes),
         Err(error) if error.kind() == ErrorKind::OutOfMemory => Err(Failure::no_memory()),
-        Err(error) => Err(Failure::from(Fault::File(folder, error))),
+        Err(error) => Err(Failure::from(ResourceFault::File(folder, error))),
     }
 }
 

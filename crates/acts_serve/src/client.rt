@@ -46,11 +46,11 @@ pub(crate) struct Released {
     pub(crate) next: Next,
 }
 
-/// Whether the client in a place may have sent whole requests that are not answered yet.
-fn has_more<D: Disk>(service: &Service<D, Hooks, RunnerLines>, place: usize) -> bool
-    requires { place < length service.now.slots.all }
+/// Whether the client in a slot may have sent whole requests that are not answered yet.
+fn has_more<D: Disk>(service: &Service<D, Hooks, RunnerLines>, slot: usize) -> bool
+    requires { slot < length service.now.slots.all }
 {
-    match service.status(place) {
+    match service.status(slot) {
         Some(status) => status.more,
         None => false,
     }
@@ -133,18 +133,18 @@ impl Client {
         &mut self,
         alloc: Global,
         service: &mut Service<D, Hooks, RunnerLines>,
-        place: usize,
+        slot: usize,
         buffer: &mut Vec<u8>,
         now: Instant,
     ) -> usize
-        requires { place < length service.old.slots.all }
+        requires { slot < length service.old.slots.all }
     {
-        if has_more(service, place) {
-            service.go_on(alloc, place);
+        if has_more(service, slot) {
+            service.go_on(alloc, slot);
             return 0;
         }
         let mut reader = ClientReader::new(&self.stream, self.is_closing);
-        let count = service.hear_from(alloc, place, &mut reader, buffer);
+        let count = service.hear_from(alloc, slot, &mut reader, buffer);
         self.input = reader.input;
         let count = count.unwrap_or(0);
         if count > 0 {
@@ -163,19 +163,19 @@ impl Client {
     pub(crate) fn release<D: Disk>(
         &mut self,
         service: &mut Service<D, Hooks, RunnerLines>,
-        place: usize,
+        slot: usize,
         now: Instant,
     ) -> Released
-        requires { place < length service.old.slots.all }
+        requires { slot < length service.old.slots.all }
     {
-        let (count, has_failed) = self.send(service, place);
+        let (count, has_failed) = self.send(service, slot);
         if count > 0 {
             self.moved = now;
         }
         let next = if has_failed {
             Next::Closes
         } else {
-            self.next_in(service, place)
+            self.next_in(service, slot)
         };
         Released { count, next }
     }
@@ -184,12 +184,12 @@ impl Client {
     pub(crate) fn next_in<D: Disk>(
         &mut self,
         service: &Service<D, Hooks, RunnerLines>,
-        place: usize,
+        slot: usize,
     ) -> Next {
-        if !service.has_slot(place) {
+        if !service.has_slot(slot) {
             return Next::Closes;
         }
-        match service.status(place) {
+        match service.status(slot) {
             Some(status) => self.next_after(status),
             None => Next::Closes,
         }
@@ -199,12 +199,12 @@ impl Client {
     fn send<D: Disk>(
         &self,
         service: &mut Service<D, Hooks, RunnerLines>,
-        place: usize,
+        slot: usize,
     ) -> (usize, bool)
-        requires { place < length service.old.slots.all }
+        requires { slot < length service.old.slots.all }
     {
         let mut writer = ClientWriter::new(&self.stream);
-        let count = service.send_to(place, &mut writer);
+        let count = service.send_to(slot, &mut writer);
         (count, writer.has_failed)
     }
 

@@ -1,4 +1,4 @@
-//! The clients of both ports, each in its place, and those that are heard or answered in a turn.
+//! The clients of both ports, each in its slot, and those that are heard or answered in a turn.
 
 use crate::client::Client;
 use client_ports::{MAX_CLIENTS, Port};
@@ -10,11 +10,11 @@ use std::net::{TcpListener, TcpStream};
 use std::time::Instant;
 use std::{io, mem};
 
-/// The number of ports. The tokens of their listeners come first, then those of the places.
+/// The number of ports. The tokens of their listeners come first, then those of the slots.
 const PORTS: usize = 2;
 
-fn token_of(place: usize) -> Token {
-    Token(place.wrapping_add(PORTS))
+fn token_of(slot: usize) -> Token {
+    Token(slot.wrapping_add(PORTS))
 }
 
 /// The clients.
@@ -24,11 +24,11 @@ pub(crate) struct Clients<'a> {
     runners: Port<'a>,
     registry: Registry,
     slots: Vec<Option<Client>>,
-    /// The places of those that are heard next.
+    /// The slots of those that are heard next.
     queue: Vec<usize>,
-    /// The places of those that are being heard.
+    /// The slots of those that are being heard.
     batch: Vec<usize>,
-    /// The places of those that were heard in this turn, or whose answers waited.
+    /// The slots of those that were heard in this turn, or whose answers waited.
     spoke: Vec<usize>,
 }
 
@@ -41,7 +41,7 @@ fn empty_slots(alloc: Global) -> Result<Vec<Option<Client>>, AllocError> {
     Ok(slots)
 }
 
-/// An empty list with room for all places.
+/// An empty list with room for all slots.
 fn list(alloc: Global) -> Result<Vec<usize>, AllocError> {
     Vec::with_capacity(alloc, PORTS * MAX_CLIENTS)
 }
@@ -71,7 +71,7 @@ impl<'a> Clients<'a> {
         self.runners.watch(&self.registry, Token(1))
     }
 
-    /// How many places there are.
+    /// How many slots there are.
     pub(crate) fn len(&self) -> usize {
         self.slots.len()
     }
@@ -96,8 +96,8 @@ impl<'a> Clients<'a> {
         self.spoke.len()
     }
 
-    pub(crate) fn get(&mut self, place: usize) -> Option<&mut Client> {
-        self.slots.get_mut(place)?.as_mut()
+    pub(crate) fn get(&mut self, slot: usize) -> Option<&mut Client> {
+        self.slots.get_mut(slot)?.as_mut()
     }
 
     /// Whether a connection can be accepted at once.
@@ -111,78 +111,78 @@ impl<'a> Clients<'a> {
         self.runners.reports();
     }
 
-    /// Accepts a connection to a port, if one has come, and returns the place of the new client.
+    /// Accepts a connection to a port, if one has come, and returns the slot of the new client.
     pub(crate) fn accept(&mut self, number: usize, now: Instant) -> io::Result<Option<usize>> {
         let accepted = if number == 0 {
             self.hooks.accept()?
         } else {
             self.runners.accept()?
         };
-        let Some((stream, place)) = accepted else {
+        let Some((stream, slot)) = accepted else {
             return Ok(None);
         };
-        if self.add(stream, place, now).is_err() {
-            self.vacate(place);
+        if self.add(stream, slot, now).is_err() {
+            self.vacate(slot);
             return Ok(None);
         }
-        Ok(Some(place))
+        Ok(Some(slot))
     }
 
-    /// Puts a client into its place, and registers its stream, so that its input is reported, and that it takes more of
+    /// Puts a client into its slot, and registers its stream, so that its input is reported, and that it takes more of
     /// its answers.
-    fn add(&mut self, stream: TcpStream, place: usize, now: Instant) -> io::Result<()> {
+    fn add(&mut self, stream: TcpStream, slot: usize, now: Instant) -> io::Result<()> {
         let client = Client::new(stream, now)?;
         let fd = client.fd();
         let interest = Interest::READABLE | Interest::WRITABLE;
         self.registry
-            .register(&mut SourceFd(&fd), token_of(place), interest)?;
-        if let Some(slot) = self.slots.get_mut(place) {
-            *slot = Some(client);
+            .register(&mut SourceFd(&fd), token_of(slot), interest)?;
+        if let Some(cell) = self.slots.get_mut(slot) {
+            *cell = Some(client);
         }
         Ok(())
     }
 
-    /// Frees a place.
-    fn vacate(&mut self, place: usize) {
-        if place < MAX_CLIENTS {
-            self.hooks.vacate(place);
+    /// Frees a slot.
+    fn vacate(&mut self, slot: usize) {
+        if slot < MAX_CLIENTS {
+            self.hooks.vacate(slot);
         } else {
-            self.runners.vacate(place);
+            self.runners.vacate(slot);
         }
     }
 
-    /// Closes the stream of the client in a place, and frees the place.
-    pub(crate) fn close(&mut self, place: usize) {
-        if let Some(slot) = self.slots.get_mut(place) {
-            *slot = None;
+    /// Closes the stream of the client in a slot, and frees the slot.
+    pub(crate) fn close(&mut self, slot: usize) {
+        if let Some(cell) = self.slots.get_mut(slot) {
+            *cell = None;
         }
-        self.vacate(place);
+        self.vacate(slot);
     }
 
     /// A listener or the stream of a client has reported something.
     pub(crate) fn note(&mut self, event: &Event) {
         let Token(number) = event.token();
         match number.checked_sub(PORTS) {
-            Some(place) => self.note_client(place, event),
+            Some(slot) => self.note_client(slot, event),
             None if number == 0 => self.hooks.reports(),
             None => self.runners.reports(),
         }
     }
 
-    fn note_client(&mut self, place: usize, event: &Event) {
-        if let Some(client) = self.get(place) {
+    fn note_client(&mut self, slot: usize, event: &Event) {
+        if let Some(client) = self.get(slot) {
             if client.is_concerned(event) {
-                self.enqueue(place);
+                self.enqueue(slot);
             }
         }
     }
 
-    /// Queues the client in a place, if it is not queued yet.
-    pub(crate) fn enqueue(&mut self, place: usize) {
-        if let Some(client) = self.get(place) {
+    /// Queues the client in a slot, if it is not queued yet.
+    pub(crate) fn enqueue(&mut self, slot: usize) {
+        if let Some(client) = self.get(slot) {
             if !client.is_queued {
                 client.is_queued = true;
-                let _ = self.queue.push(place);
+                let _ = self.queue.push(slot);
             }
         }
     }
@@ -196,29 +196,29 @@ impl<'a> Clients<'a> {
 
     /// One of those that are being heard, unless it was heard in this turn: then it is queued again.
     pub(crate) fn called(&mut self, index: usize) -> Option<usize> {
-        let place = *self.batch.get(index)?;
-        let client = self.get(place)?;
+        let slot = *self.batch.get(index)?;
+        let client = self.get(slot)?;
         client.is_queued = false;
         if client.has_spoken {
-            self.enqueue(place);
+            self.enqueue(slot);
             return None;
         }
-        Some(place)
+        Some(slot)
     }
 
-    /// The client in a place is answered at the end of this turn.
-    pub(crate) fn speaks(&mut self, place: usize) {
-        if let Some(client) = self.get(place) {
+    /// The client in a slot is answered at the end of this turn.
+    pub(crate) fn speaks(&mut self, slot: usize) {
+        if let Some(client) = self.get(slot) {
             client.has_spoken = true;
-            let _ = self.spoke.push(place);
+            let _ = self.spoke.push(slot);
         }
     }
 
     /// One of those that are answered in this turn.
     pub(crate) fn spoken_at(&mut self, index: usize) -> Option<usize> {
-        let place = *self.spoke.get(index)?;
-        self.get(place)?.has_spoken = false;
-        Some(place)
+        let slot = *self.spoke.get(index)?;
+        self.get(slot)?.has_spoken = false;
+        Some(slot)
     }
 
     /// All clients were answered.

@@ -13,8 +13,8 @@ use std::net::TcpStream;
 use webhook_sessions::Hooks;
 use wf_value::{Code, Refusal};
 
-/// How many times waiting connections are accepted. The system's queue holds fewer than a port has places, so the second
-/// round accepts those for which there was no place in the first.
+/// How many times waiting connections are accepted. The system's queue holds fewer than a port has slots, so the second
+/// round accepts those for which there was no slot in the first.
 const ROUNDS: u64 = 2;
 
 /// How many parts of what a client has sent are heard.
@@ -29,10 +29,10 @@ fn refuse<P: Protocol>(alloc: Global, stream: &TcpStream) {
 }
 
 impl<D: Disk> Turns<'_, D> {
-    /// Hears the client in a place until something is withheld from it, or it has sent nothing more.
-    fn hear_out(&mut self, place: usize) {
+    /// Hears the client in a slot until something is withheld from it, or it has sent nothing more.
+    fn hear_out(&mut self, slot: usize) {
         for _ in 0..PARTS {
-            if self.withheld(place) > 0 || self.hear_more(place) == 0 {
+            if self.withheld(slot) > 0 || self.hear_more(slot) == 0 {
                 return;
             }
         }
@@ -40,11 +40,11 @@ impl<D: Disk> Turns<'_, D> {
 
     /// Answers what a client has asked so far, and ends its session. No answer is sent to a command that the device has
     /// lost, except that the device has failed.
-    fn answer_last(&mut self, place: usize) {
-        if self.service.may_send(place) {
-            self.release(place);
-        } else if let Some(client) = self.clients.get(place) {
-            if place < MAX_CLIENTS {
+    fn answer_last(&mut self, slot: usize) {
+        if self.service.may_send(slot) {
+            self.release(slot);
+        } else if let Some(client) = self.clients.get(slot) {
+            if slot < MAX_CLIENTS {
                 refuse::<Hooks>(self.alloc, client.stream());
             } else {
                 refuse::<RunnerLines>(self.alloc, client.stream());
@@ -54,9 +54,9 @@ impl<D: Disk> Turns<'_, D> {
     }
 
     /// Discards what a client sends after its last answer, so that it can read that.
-    fn see_off(&mut self, place: usize) {
+    fn see_off(&mut self, slot: usize) {
         for _ in 0..PARTS {
-            let Some(client) = self.clients.get(place) else {
+            let Some(client) = self.clients.get(slot) else {
                 return;
             };
             if client.discard(&mut self.buffer, self.now) != Next::Again {
@@ -65,17 +65,17 @@ impl<D: Disk> Turns<'_, D> {
         }
     }
 
-    /// Ends the session of the client in a place.
-    fn part_with(&mut self, place: usize) {
-        let Some(client) = self.clients.get(place) else {
+    /// Ends the session of the client in a slot.
+    fn part_with(&mut self, slot: usize) {
+        let Some(client) = self.clients.get(slot) else {
             return;
         };
         if client.stage() == Stage::Talks {
-            self.hear_out(place);
-            self.answer_last(place);
-            self.see_off(place);
+            self.hear_out(slot);
+            self.answer_last(slot);
+            self.see_off(slot);
         }
-        self.close(place);
+        self.close(slot);
     }
 }
 
@@ -83,8 +83,8 @@ impl<D: Disk> Turns<'_, D> {
 pub(crate) fn part_with_all<D: Disk>(turns: &mut Turns<'_, D>) {
     for _ in 0..ROUNDS {
         turns.accept_all();
-        for place in 0..turns.clients.len() {
-            turns.part_with(place);
+        for slot in 0..turns.clients.len() {
+            turns.part_with(slot);
         }
     }
     turns.part_with_viewers();

@@ -166,7 +166,7 @@ impl<'a, D: Disk> Turns<'a, D> {
     pub(crate) fn accept(&mut self, number: usize) -> Result<(), Refusal> {
         for _ in 0..ACCEPTED {
             match self.clients.accept(number, self.now) {
-                Ok(Some(place)) => self.join(place),
+                Ok(Some(slot)) => self.join(slot),
                 Ok(None) => break,
                 Err(_) => return Err(Refusal::Numbered(Code::StreamFailed)),
             }
@@ -184,18 +184,18 @@ impl<'a, D: Disk> Turns<'a, D> {
         }
     }
 
-    /// Begins the session of the client in a place.
-    fn join(&mut self, place: usize) {
-        if self.service.has_slot(place) {
-            self.service.join(self.alloc, place);
+    /// Begins the session of the client in a slot.
+    fn join(&mut self, slot: usize) {
+        if self.service.has_slot(slot) {
+            self.service.join(self.alloc, slot);
         }
     }
 
-    /// Closes the stream of the client in a place, and frees the place.
-    pub(crate) fn close(&mut self, place: usize) {
-        self.clients.close(place);
-        if self.service.has_slot(place) {
-            self.service.leave(place);
+    /// Closes the stream of the client in a slot, and frees the slot.
+    pub(crate) fn close(&mut self, slot: usize) {
+        self.clients.close(slot);
+        if self.service.has_slot(slot) {
+            self.service.leave(slot);
         }
     }
 
@@ -210,46 +210,46 @@ impl<'a, D: Disk> Turns<'a, D> {
     /// Hears those that wait to be heard. For those for whom there is no room this is later.
     pub(crate) fn hear_all(&mut self) {
         for index in 0..self.clients.call_up() {
-            if let Some(place) = self.clients.called(index) {
+            if let Some(slot) = self.clients.called(index) {
                 if self.has_room() {
-                    self.hear(place);
+                    self.hear(slot);
                 } else {
-                    self.clients.enqueue(place);
+                    self.clients.enqueue(slot);
                 }
             }
         }
     }
 
-    /// Hears the client in a place, or has it take its answers.
-    fn hear(&mut self, place: usize) {
-        let Some(client) = self.clients.get(place) else {
+    /// Hears the client in a slot, or has it take its answers.
+    fn hear(&mut self, slot: usize) {
+        let Some(client) = self.clients.get(slot) else {
             return;
         };
         match client.stage() {
             Stage::Talks => {
-                self.hear_more(place);
-                self.after_hearing(place);
+                self.hear_more(slot);
+                self.after_hearing(slot);
             }
-            Stage::Owes => self.clients.speaks(place),
+            Stage::Owes => self.clients.speaks(slot),
             Stage::Leaves => {
                 let next = client.discard(&mut self.buffer, self.now);
-                self.go_on(place, next);
+                self.go_on(slot, next);
             }
         }
     }
 
-    /// Hears the next part of the session of the client in a place. Returns how many bytes were read.
-    pub(crate) fn hear_more(&mut self, place: usize) -> usize {
-        if !self.service.has_slot(place) {
+    /// Hears the next part of the session of the client in a slot. Returns how many bytes were read.
+    pub(crate) fn hear_more(&mut self, slot: usize) -> usize {
+        if !self.service.has_slot(slot) {
             return 0;
         }
-        let Some(client) = self.clients.get(place) else {
+        let Some(client) = self.clients.get(slot) else {
             return 0;
         };
         let count = client.hear(
             self.alloc,
             &mut self.service,
-            place,
+            slot,
             &mut self.buffer,
             self.now,
         );
@@ -258,38 +258,38 @@ impl<'a, D: Disk> Turns<'a, D> {
     }
 
     /// A client that was heard is answered at the end of the turn, if there is an answer.
-    fn after_hearing(&mut self, place: usize) {
-        let is_answered = self.withheld(place) > 0;
-        let Some(client) = self.clients.get(place) else {
+    fn after_hearing(&mut self, slot: usize) {
+        let is_answered = self.withheld(slot) > 0;
+        let Some(client) = self.clients.get(slot) else {
             return;
         };
         if is_answered {
             self.pending = self.pending.saturating_add(client.was_answered() as u64);
-            self.clients.speaks(place);
+            self.clients.speaks(slot);
         } else {
-            let next = client.next_in(&self.service, place);
+            let next = client.next_in(&self.service, slot);
             self.is_restless = self.is_restless || client.stage() != Stage::Talks;
-            self.go_on(place, next);
+            self.go_on(slot, next);
         }
     }
 
-    /// How many bytes of answers are withheld from the client in a place.
-    pub(crate) fn withheld(&self, place: usize) -> usize {
-        if !self.service.has_slot(place) {
+    /// How many bytes of answers are withheld from the client in a slot.
+    pub(crate) fn withheld(&self, slot: usize) -> usize {
+        if !self.service.has_slot(slot) {
             return 0;
         }
-        match self.service.status(place) {
+        match self.service.status(slot) {
             Some(status) => status.withheld,
             None => 0,
         }
     }
 
-    /// What happens next to the client in a place.
-    fn go_on(&mut self, place: usize, next: Next) {
+    /// What happens next to the client in a slot.
+    fn go_on(&mut self, slot: usize, next: Next) {
         match next {
-            Next::Again => self.clients.enqueue(place),
+            Next::Again => self.clients.enqueue(slot),
             Next::Waits => {}
-            Next::Closes => self.close(place),
+            Next::Closes => self.close(slot),
         }
     }
 
@@ -302,26 +302,26 @@ impl<'a, D: Disk> Turns<'a, D> {
     /// Answers those that were heard.
     pub(crate) fn release_all(&mut self) {
         for index in 0..self.clients.spoken() {
-            if let Some(place) = self.clients.spoken_at(index) {
-                self.release(place);
+            if let Some(slot) = self.clients.spoken_at(index) {
+                self.release(slot);
             }
         }
         self.clients.end_turn();
         self.pending = 0;
     }
 
-    /// Sends the client in a place its answers, as many as it takes.
-    pub(crate) fn release(&mut self, place: usize) {
-        if !self.service.has_slot(place) {
+    /// Sends the client in a slot its answers, as many as it takes.
+    pub(crate) fn release(&mut self, slot: usize) {
+        if !self.service.has_slot(slot) {
             return;
         }
-        let Some(client) = self.clients.get(place) else {
+        let Some(client) = self.clients.get(slot) else {
             return;
         };
-        let released = client.release(&mut self.service, place, self.now);
+        let released = client.release(&mut self.service, slot, self.now);
         self.is_restless = self.is_restless || client.stage() != Stage::Talks;
         self.bytes = self.bytes.saturating_add(released.count as u64);
-        self.go_on(place, released.next);
+        self.go_on(slot, released.next);
     }
 
     /// A commit took so long.
@@ -447,20 +447,20 @@ impl<'a, D: Disk> Turns<'a, D> {
         }
         self.swept = self.now;
         self.is_restless = false;
-        for place in 0..self.clients.len() {
-            self.look_at(place);
+        for slot in 0..self.clients.len() {
+            self.look_at(slot);
         }
         if let Some(views) = &mut self.views {
             self.is_restless = views.sweep(self.now, self.limits.idle) || self.is_restless;
         }
     }
 
-    fn look_at(&mut self, place: usize) {
-        let Some(client) = self.clients.get(place) else {
+    fn look_at(&mut self, slot: usize) {
+        let Some(client) = self.clients.get(slot) else {
             return;
         };
         if client.is_idle(self.now, self.limits.idle) {
-            self.close(place);
+            self.close(slot);
         } else if client.stage() != Stage::Talks {
             self.is_restless = true;
         }

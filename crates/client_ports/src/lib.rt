@@ -1,4 +1,4 @@
-//! The ports of a service: their listeners, with places for clients, and the streams of clients, which are read and written without waiting.
+//! The ports of a service: their listeners, with slots for clients, and the streams of clients, which are read and written without waiting.
 #![tactic(auto)]
 
 mod exchange;

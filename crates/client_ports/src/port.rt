@@ -1,4 +1,4 @@
-//! A port: its listener, and the free places for its clients.
+//! A port: its listener, and the free slots for its clients.
 
 use mio::unix::SourceFd;
 use mio::{Interest, Registry, Token};
@@ -42,7 +42,7 @@ enum Callers {
     Stuck,
 }
 
-/// A port with its free places.
+/// A port with its free slots.
 #[derive(Drop)]
 pub struct Port<'a> {
     listener: &'a TcpListener,
@@ -51,15 +51,15 @@ pub struct Port<'a> {
 }
 
 impl<'a> Port<'a> {
-    /// A port whose clients have the places from `first` on.
+    /// A port whose clients have the slots from `first` on.
     pub fn new(
         alloc: Global,
         listener: &'a TcpListener,
         first: usize,
     ) -> Result<Port<'a>, AllocError> {
         let mut free = Vec::new(alloc);
-        for place in 0..MAX_CLIENTS {
-            free.push(first.saturating_add(MAX_CLIENTS - 1 - place))?;
+        for slot in 0..MAX_CLIENTS {
+            free.push(first.saturating_add(MAX_CLIENTS - 1 - slot))?;
         }
         Ok(Port {
             listener,
@@ -90,24 +90,24 @@ impl<'a> Port<'a> {
         MAX_CLIENTS.saturating_sub(self.free.len())
     }
 
-    /// Frees a place.
-    pub fn vacate(&mut self, place: usize) {
-        let _ = self.free.push(place);
+    /// Frees a slot.
+    pub fn vacate(&mut self, slot: usize) {
+        let _ = self.free.push(slot);
     }
 
-    /// The next connection, with a place for it. If there is no place, or the system has no room at the moment, it waits
+    /// The next connection, with a slot for it. If there is no slot, or the system has no room at the moment, it waits
     /// and is tried again in the next turn.
     pub fn accept(&mut self) -> io::Result<Option<(TcpStream, usize)>> {
         if self.callers == Callers::None {
             return Ok(None);
         }
-        let Some(place) = self.free.pop() else {
+        let Some(slot) = self.free.pop() else {
             return Ok(None);
         };
         match self.listener.accept() {
-            Ok((stream, _)) => Ok(Some((stream, place))),
+            Ok((stream, _)) => Ok(Some((stream, slot))),
             Err(e) => {
-                self.vacate(place);
+                self.vacate(slot);
                 self.callers = callers_after(&e);
                 if is_over(&e) { Err(e) } else { Ok(None) }
             }

@@ -11,10 +11,10 @@ use Rattle.table_text.specs.Writing.{JobHasBytes}
 job_byte_fits : (p : JobPhase) → job_byte p < 256
 job_byte_fits job_phase.Blocked = omega arith
 job_byte_fits job_phase.Open = omega arith
-job_byte_fits (job_phase.Settled result.Success) = omega arith
-job_byte_fits (job_phase.Settled result.Failure) = omega arith
-job_byte_fits (job_phase.Settled result.Cancelled) = omega arith
-job_byte_fits (job_phase.Settled result.Skipped) = omega arith
+job_byte_fits (job_phase.Finished result.Success) = omega arith
+job_byte_fits (job_phase.Finished result.Failure) = omega arith
+job_byte_fits (job_phase.Finished result.Cancelled) = omega arith
+job_byte_fits (job_phase.Finished result.Skipped) = omega arith
 
 pub job_takes : (j : JobState) → JobHasBytes j → AllByRecursion leg.Takes j.legs → job.Takes j
 job_takes j has all = (job_byte_fits j.phase, (omega arith, omega (arith, has.0), all))

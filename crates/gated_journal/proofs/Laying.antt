@@ -8,7 +8,7 @@ use Rattle.gated_journal.specs.Layout.{Head, IsClosed, Fits}
 use Rattle.gated_journal.specs.OnDisk.{WouldReadAt}
 use Rattle.gated_journal.specs.TwoAreas.{after_gate}
 use Rattle.gated_journal.specs.Whole.{RecoversWhole}
-use Rattle.gated_journal.specs.declared.gate.Gate.TheVariants.{Closed}
+use Rattle.gated_journal.specs.declared.gate.GateState.TheVariants.{Closed}
 use Rattle.gated_journal.specs.declared.side.Side.TheVariants.{First}
 use Rattle.gated_journal.proofs.Filled.{would_of}
 use Rattle.gated_journal.proofs.Frames.{length-part, part_held}

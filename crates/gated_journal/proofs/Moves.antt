@@ -5,8 +5,8 @@ use Rattle.act_disk.proofs.Moments.{started, weakened, joined}
 use Rattle.gated_journal.specs.Layout.{Head}
 use Rattle.gated_journal.specs.TwoAreas.{start_of, other, Completes}
 use Rattle.gated_journal.specs.Whole.{RecoversWhole, WholeEither, WholeOrSwitched}
-use Rattle.gated_journal.specs.declared.gate.Gate.{Gate}
-use Rattle.gated_journal.specs.declared.gate.Gate.TheVariants.{Open, Closed}
+use Rattle.gated_journal.specs.declared.gate.GateState.{GateState}
+use Rattle.gated_journal.specs.declared.gate.GateState.TheVariants.{Open, Closed}
 use Rattle.gated_journal.specs.declared.side.Side.{Side}
 use Rattle.gated_journal.proofs.Filled.{completed}
 use Rattle.gated_journal.proofs.Whole.{put_whole, close_whole, closed_whole, open_whole, opened_whole}
@@ -17,10 +17,10 @@ module _ (len : ℕ) (side : Side) (head : Head) (bodies : List (List ℕ)) {D :
   beyond = start_of len (other side)
 
   -- each image of the disk reads this way, with the other gate in this state
-  abbrev Each : Gate → D → Type 0
+  abbrev Each : GateState → D → Type 0
   Each gate disk = (c : List ℕ) → images disk c → RecoversWhole len side gate c head bodies
 
-  pub close_moments : (gate : Gate) (new : D) (start : ℕ) → start ≡ beyond → (gate ≡ Closed → new ≡ old)
+  pub close_moments : (gate : GateState) (new : D) (start : ℕ) → start ≡ beyond → (gate ≡ Closed → new ≡ old)
       → (gate ≡ Open → EachSince moment images_since old new (From (Torn start 1) (images old)))
       → ((c : List ℕ) → images_since old (moment old) c → images old c) → Each gate old
       → EachSince moment images_since old new (WholeEither len side head bodies)
@@ -31,7 +31,7 @@ module _ (len : ℕ) (side : Side) (head : Head) (bodies : List (List ℕ)) {D :
       subst (λ (d : D). EachSince moment images_since old d (WholeEither len side head bodies)) (sym (same refl))
       (started moment images_since old (WholeEither len side head bodies) (λ c left. inr (each c (now c left))))
 
-  pub close_done : (gate : Gate) (new : D) (start : ℕ) (seen_old seen_new : List ℕ) → start ≡ beyond → (gate ≡ Closed → new ≡ old)
+  pub close_done : (gate : GateState) (new : D) (start : ℕ) (seen_old seen_new : List ℕ) → start ≡ beyond → (gate ≡ Closed → new ≡ old)
       → (gate ≡ Open → Only seen_new (images new)) → (gate ≡ Open → IsWritten start (0 ∷ []) seen_old seen_new)
       → images old seen_old → Each gate old → Each Closed new
   close_done Open new start seen_old seen_new begins same only written here each c now =

@@ -9,8 +9,8 @@ use Rattle.gated_journal.specs.Appends.{record_of, Appends}
 use Rattle.gated_journal.specs.Choice.{open_generation}
 use Rattle.gated_journal.specs.Layout.{Head, opened, IsClosed, Reads, WouldRead}
 use Rattle.gated_journal.specs.TwoAreas.{start_of, other, area_on, IsGate, Recovers}
-use Rattle.gated_journal.specs.declared.gate.Gate.{Gate}
-use Rattle.gated_journal.specs.declared.gate.Gate.TheVariants.{Open, Closed}
+use Rattle.gated_journal.specs.declared.gate.GateState.{GateState}
+use Rattle.gated_journal.specs.declared.gate.GateState.TheVariants.{Open, Closed}
 use Rattle.gated_journal.specs.declared.side.Side.{Side}
 use Rattle.gated_journal.specs.declared.side.Side.TheVariants.{First, Second}
 use Rattle.gated_journal.proofs.Choosing.{generation_read, closed_none, alone, same_active_side, greater}
@@ -19,7 +19,7 @@ use Rattle.gated_journal.proofs.Gates.{gate_torn, would_read}
 use Rattle.gated_journal.proofs.Grown.{appends_reads}
 
 -- a gate keeps its state if its byte does not change
-gate_same : (gate : Gate) (a b : List ℕ) → take 1 b ≡ take 1 a → IsGate gate a → IsGate gate b
+gate_same : (gate : GateState) (a b : List ℕ) → take 1 b ≡ take 1 a → IsGate gate a → IsGate gate b
 gate_same Open [] b same is = absurd is
 gate_same Closed [] b same is = absurd is
 gate_same Open (x ∷ a) [] same is = absurd (cc same)
@@ -27,7 +27,7 @@ gate_same Closed (x ∷ a) [] same is = absurd (cc same)
 gate_same Open (x ∷ a) (y ∷ b) same is = let first : y ≡ x = cc same in first ∙ is
 gate_same Closed (x ∷ a) (y ∷ b) same is = let first : y ≡ x = cc same in λ open_there. is (sym first ∙ open_there)
 
-not_empty : (gate : Gate) (a : List ℕ) → IsGate gate a → 0 < length a
+not_empty : (gate : GateState) (a : List ℕ) → IsGate gate a → 0 < length a
 not_empty Open [] is = absurd is
 not_empty Closed [] is = absurd is
 not_empty gate (x ∷ a) is = omega arith
@@ -97,7 +97,7 @@ module _ (len : ℕ) (side : Side) (head : Head) (bodies : List (List ℕ)) (d c
   }
 
   -- with the other area unchanged
-  same_beside : (gate : Gate) (more : List (List ℕ)) → Recovers len side gate d head bodies → length d ≤ length c
+  same_beside : (gate : GateState) (more : List (List ℕ)) → Recovers len side gate d head bodies → length d ≤ length c
       → area_on len (other side) c ≡ area_on len (other side) d
       → Reads (area_on len side c) head more → Recovers len side gate c head more
   same_beside gate more recovers longer same reads =
@@ -113,7 +113,7 @@ module _ (len : ℕ) (side : Side) (head : Head) (bodies : List (List ℕ)) (d c
       }
 
   -- a write in the active area leaves the other one unchanged
-  pub append_grew : (gate : Gate) (at n : ℕ) (more : List (List ℕ)) → Recovers len side gate d head bodies → at + n ≤ len
+  pub append_grew : (gate : GateState) (at n : ℕ) (more : List (List ℕ)) → Recovers len side gate d head bodies → at + n ≤ len
       → Torn (start_of len side + at) n d c → Reads (area_on len side c) head more → Recovers len side gate c head more
   append_grew gate at n more recovers inside torn reads =
       same_beside gate more recovers torn.no_shorter
@@ -121,7 +121,7 @@ module _ (len : ℕ) (side : Side) (head : Head) (bodies : List (List ℕ)) (d c
       (subst (λ (s : Side). Torn (start_of len s + at) n d c) (sym (other_twice side)) torn)) reads
 
   -- an append to the active area
-  pub append_keeps : (gate : Gate) (at : ℕ) (bytes body : List ℕ) → Recovers len side gate d head bodies → at ≡ length (opened head bodies)
+  pub append_keeps : (gate : GateState) (at : ℕ) (bytes body : List ℕ) → Recovers len side gate d head bodies → at ≡ length (opened head bodies)
       → bytes ≡ record_of body → length body < 2 ^ 32 → at + (length bytes + 1) ≤ len → Appends (start_of len side + at) bytes d c
       → Recovers len side gate c head bodies ⊎ Recovers len side gate c head (bodies ++ body ∷ [])
   append_keeps gate at bytes body recovers place is short inside appends =
@@ -150,7 +150,7 @@ module _ (len : ℕ) (side : Side) (head : Head) (bodies : List (List ℕ)) (d c
       (gate_same Closed a b prefix recovers.other_gate)
 
   -- a write of the other area's gate
-  module _ (gate : Gate) (recovers : Recovers len side gate d head bodies) (torn : Torn (start_of len (other side)) 1 d c) where
+  module _ (gate : GateState) (recovers : Recovers len side gate d head bodies) (torn : Torn (start_of len (other side)) 1 d c) where
     long_before : len + len ≤ length d
     long_before = recovers.encodes.long
 

@@ -9,8 +9,8 @@ use Rattle.gated_journal.specs.Layout.{Head, opened, WouldRead}
 use Rattle.gated_journal.specs.OnDisk.{ReadsAt}
 use Rattle.gated_journal.specs.TwoAreas.{start_of, other, area_on, Recovers}
 use Rattle.gated_journal.specs.Whole.{RecoversWhole, WholeOrGrew, WholeEither, WholeOrSwitched}
-use Rattle.gated_journal.specs.declared.gate.Gate.{Gate}
-use Rattle.gated_journal.specs.declared.gate.Gate.TheVariants.{Open, Closed}
+use Rattle.gated_journal.specs.declared.gate.GateState.{GateState}
+use Rattle.gated_journal.specs.declared.gate.GateState.TheVariants.{Open, Closed}
 use Rattle.gated_journal.specs.declared.side.Side.{Side}
 use Rattle.gated_journal.proofs.Areas.{has_grown}
 use Rattle.gated_journal.proofs.TwoAreas.{within, apart_between, append_keeps, append_grew, one}
@@ -37,7 +37,7 @@ whole_beside len side start at from bytes put old new begins long below inside w
     (⊎_elim (λ after. inr (omega (arith, after))) (λ before. inl (omega (arith, before, below)))
     (apart_between len side from (length put) at (length bytes + 1) below inside)) ∙ held
 
-module _ (len : ℕ) (side : Side) (head : Head) (bodies : List (List ℕ)) (gate : Gate) (start at : ℕ) (bytes body : List ℕ)
+module _ (len : ℕ) (side : Side) (head : Head) (bodies : List (List ℕ)) (gate : GateState) (start at : ℕ) (bytes body : List ℕ)
     (begins : start ≡ start_of len side) (place : at ≡ length (opened head bodies)) (is : bytes ≡ record_of body)
     (short : length body < 2 ^ 32) (inside : at + (length bytes + 1) ≤ len) where
   below_end : (d : List ℕ) → RecoversWhole len side gate d head bodies → (start + at) + (length bytes + 1) ≤ length d
@@ -100,7 +100,7 @@ module _ (len : ℕ) (side : Side) (head : Head) (bodies : List (List ℕ)) (d c
         (omega (arith, within len (other side) d recovers.recovers.encodes.long, inside)) ∙ recovers.whole;
   }
 
-  gate_long : (gate : Gate) → RecoversWhole len side gate d head bodies → Torn (start_of len (other side)) 1 d c → length c ≡ len + len
+  gate_long : (gate : GateState) → RecoversWhole len side gate d head bodies → Torn (start_of len (other side)) 1 d c → length c ≡ len + len
   gate_long gate recovers torn =
       torn_long (start_of len (other side)) 1 d c torn
       (omega (arith, within len (other side) d recovers.recovers.encodes.long, one len side head bodies d c gate recovers.recovers torn))

@@ -3,8 +3,8 @@ use Rattle.std.specs.Prelude.{◌≡◌, ℕ, ◌+◌, ◌≤◌, ◌<◌, List,
 use Rattle.act_disk.specs.Images.{Holds}
 use Rattle.gated_journal.specs.Choice.{part, chosen}
 use Rattle.gated_journal.specs.Layout.{Head, head_bytes, record_bytes, IsClosed, Fits, Reads}
-use Rattle.gated_journal.specs.declared.gate.Gate.{Gate}
-use Rattle.gated_journal.specs.declared.gate.Gate.TheVariants.{Open, Closed}
+use Rattle.gated_journal.specs.declared.gate.GateState.{GateState}
+use Rattle.gated_journal.specs.declared.gate.GateState.TheVariants.{Open, Closed}
 use Rattle.gated_journal.specs.declared.side.Side.{Side}
 use Rattle.gated_journal.specs.declared.side.Side.TheVariants.{First, Second}
 
@@ -26,7 +26,7 @@ abbrev pub active_side : ℕ → List ℕ → Option Side
 active_side len disk = chosen (area_on len First disk) (area_on len Second disk)
 
 -- the state of an area's gate
-abbrev pub IsGate : Gate → List ℕ → Type 0
+abbrev pub IsGate : GateState → List ℕ → Type 0
 IsGate Open [] = ⊥
 IsGate Open (gate ∷ suffix) = gate ≡ 0xA5
 IsGate Closed area = IsClosed area
@@ -38,7 +38,7 @@ pub record Encodes (len : ℕ) (side : Side) (disk : List ℕ) (head : Head) (bo
   pub reads : Reads (area_on len side disk) head bodies
 
 -- The same, and the gate of the other area is in this state.
-pub record Recovers (len : ℕ) (side : Side) (gate : Gate) (disk : List ℕ) (head : Head) (bodies : List (List ℕ)) : Type 0 where
+pub record Recovers (len : ℕ) (side : Side) (gate : GateState) (disk : List ℕ) (head : Head) (bodies : List (List ℕ)) : Type 0 where
   pub encodes : Encodes len side disk head bodies
   pub other_gate : IsGate gate (area_on len (other side) disk)
 

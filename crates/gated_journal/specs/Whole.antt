@@ -4,18 +4,18 @@ use Rattle.gated_journal.specs.Choice.{newer}
 use Rattle.gated_journal.specs.Layout.{Head}
 use Rattle.gated_journal.specs.TwoAreas.{area_on, other, active_side, IsGate, Recovers}
 use Rattle.gated_journal.specs.declared.chosen.Chosen.{Chosen}
-use Rattle.gated_journal.specs.declared.gate.Gate.{Gate}
-use Rattle.gated_journal.specs.declared.gate.Gate.TheVariants.{Open, Closed}
+use Rattle.gated_journal.specs.declared.gate.GateState.{GateState}
+use Rattle.gated_journal.specs.declared.gate.GateState.TheVariants.{Open, Closed}
 use Rattle.gated_journal.specs.declared.side.Side.{Side}
 use Rattle.gated_journal.specs.declared.side.Side.TheVariants.{First, Second}
 
 -- It encodes this state, and ends where its second area ends.
-pub record RecoversWhole (len : ℕ) (side : Side) (gate : Gate) (disk : List ℕ) (head : Head) (bodies : List (List ℕ)) : Type 0 where
+pub record RecoversWhole (len : ℕ) (side : Side) (gate : GateState) (disk : List ℕ) (head : Head) (bodies : List (List ℕ)) : Type 0 where
   pub recovers : Recovers len side gate disk head bodies
   pub whole : length disk ≡ len + len
 
 -- at each moment of an append: with the old bodies, or with the new one appended
-abbrev pub WholeOrGrew : ℕ → Side → Gate → Head → List (List ℕ) → List ℕ → List ℕ → Type 0
+abbrev pub WholeOrGrew : ℕ → Side → GateState → Head → List (List ℕ) → List ℕ → List ℕ → Type 0
 WholeOrGrew len side gate head bodies body disk =
     RecoversWhole len side gate disk head bodies ⊎ RecoversWhole len side gate disk head (bodies ++ body ∷ [])
 
@@ -35,7 +35,7 @@ IsChosen len (Some chosen) disk =
     (active_side len disk ≡ Some chosen.side) × IsGate chosen.other (area_on len (other chosen.side) disk)
 
 -- the gate of an area whose `open_generation` is this
-abbrev pub gate_of : Option ℕ → Gate
+abbrev pub gate_of : Option ℕ → GateState
 gate_of (Some generation) = Open
 gate_of None = Closed
 

@@ -5,7 +5,7 @@ ghost use Rattle.gated_journal.specs.Layout.{Head};
 ghost use Rattle.gated_journal.specs.OnDisk.{ReadsAt, MayHaveGrown, Awaits, WouldReadAt, ShutAt, OpenOrShut};
 
 use crate::append::{OPEN, append_after};
-use crate::gate::{CLOSED, Gate};
+use crate::gate::{CLOSED, GateState};
 use act_disk::{Disk, DiskFault, write_synced};
 
 /// A range of a disk that holds a head and records.
@@ -47,7 +47,7 @@ impl Area {
     pub fn put<D: Disk>(&self, disk: &mut D, at: u64, bytes: &[u8]) -> Result<(), DiskFault>
         requires countable { D.fault_count disk.old < u64.MAX }
         requires addressed { self.now.start + self.now.len < 2 ^ 64 }
-        requires suffix { 0 < at }
+        requires after_gate { 0 < at }
         requires fits { at + length bytes.now ≤ self.now.len }
         ensures any_moment { D.honest disk.old → EachSince D.moment D.images_since disk.old disk.new
             (From (Torn (self.now.start + at) (length bytes.now)) (D.images disk.old)) }
@@ -87,18 +87,18 @@ impl Area {
 
     /// Closes the area's own gate and syncs. For a gate that is already closed it makes no call, since a crash inside such a write might
     /// leave the gate open.
-    pub fn close_gate<D: Disk>(&self, disk: &mut D, gate: Gate) -> Result<(), DiskFault>
+    pub fn close_gate<D: Disk>(&self, disk: &mut D, gate: GateState) -> Result<(), DiskFault>
         requires countable { D.fault_count disk.old < u64.MAX }
-        ensures same { gate ≡ Gate.Closed → (disk.new ≡ disk.old) × IsOk result }
-        ensures any_moment { gate ≡ Gate.Open → D.honest disk.old → EachSince D.moment D.images_since disk.old disk.new
+        ensures same { gate ≡ GateState.Closed → (disk.new ≡ disk.old) × IsOk result }
+        ensures any_moment { gate ≡ GateState.Open → D.honest disk.old → EachSince D.moment D.images_since disk.old disk.new
             (From (Torn self.now.start 1) (D.images disk.old)) }
-        ensures stable { OnOk result (gate ≡ Gate.Open → D.honest disk.old → Only (D.seen disk.new) (D.images disk.new)) }
-        ensures closed { OnOk result (gate ≡ Gate.Open → D.honest disk.old
+        ensures stable { OnOk result (gate ≡ GateState.Open → D.honest disk.old → Only (D.seen disk.new) (D.images disk.new)) }
+        ensures closed { OnOk result (gate ≡ GateState.Open → D.honest disk.old
             → IsWritten self.now.start (0 ∷ []) (D.seen disk.old) (D.seen disk.new)) }
-        ensures reads { (head : Head) (bodies : List (List ℕ)) → gate ≡ Gate.Open → D.honest disk.old
+        ensures reads { (head : Head) (bodies : List (List ℕ)) → gate ≡ GateState.Open → D.honest disk.old
             → ((c : List ℕ) → D.images disk.old c → WouldReadAt self.now.start self.now.len c head bodies)
             → EachSince D.moment D.images_since disk.old disk.new (OpenOrShut self.now.start self.now.len head bodies) }
-        ensures shut { OnOk result ((head : Head) (bodies : List (List ℕ)) → gate ≡ Gate.Open → D.honest disk.old
+        ensures shut { OnOk result ((head : Head) (bodies : List (List ℕ)) → gate ≡ GateState.Open → D.honest disk.old
             → WouldReadAt self.now.start self.now.len (D.seen disk.old) head bodies
             → ShutAt self.now.start self.now.len (D.seen disk.new) head bodies) }
         ensures no_shorter { D.size disk.old ≤ D.size disk.new }
@@ -107,8 +107,8 @@ impl Area {
         ensures honest { D.honest disk.new ↔ D.honest disk.old }
     {
         match gate {
-            Gate::Open => write_synced(disk, self.start, &[CLOSED]),
-            Gate::Closed => Ok(()),
+            GateState::Open => write_synced(disk, self.start, &[CLOSED]),
+            GateState::Closed => Ok(()),
         }
     }
 }

@@ -6,7 +6,7 @@ ghost use Rattle.gated_journal.specs.Whole.{RecoversWhole, WholeEither, WholeOrS
 
 use crate::append::OPEN;
 use crate::area::Area;
-use crate::gate::Gate;
+use crate::gate::GateState;
 use crate::side::Side;
 use act_disk::{Disk, DiskFault, write_synced};
 
@@ -44,7 +44,7 @@ impl AreaPair {
 
     /// Closes the gate of the other area, whose state is `gate`, and syncs. For a gate that is already closed it makes no call, since a
     /// crash inside such a write might leave the gate open.
-    pub fn close_other<D: Disk>(&self, disk: &mut D, gate: Gate) -> Result<(), DiskFault>
+    pub fn close_other<D: Disk>(&self, disk: &mut D, gate: GateState) -> Result<(), DiskFault>
         requires countable { D.fault_count disk.old < u64.MAX }
         requires addressed { self.now.len + self.now.len < 2 ^ 64 }
         ensures any_moment { (head : Head) (bodies : List (List ℕ)) → D.honest disk.old
@@ -52,8 +52,8 @@ impl AreaPair {
             → EachSince D.moment D.images_since disk.old disk.new (WholeEither self.now.len self.now.side head bodies) }
         ensures closed { OnOk result ((head : Head) (bodies : List (List ℕ)) → D.honest disk.old
             → ((c : List ℕ) → D.images disk.old c → RecoversWhole self.now.len self.now.side gate c head bodies)
-            → (c : List ℕ) → D.images disk.new c → RecoversWhole self.now.len self.now.side Gate.Closed c head bodies) }
-        ensures same { gate ≡ Gate.Closed → (disk.new ≡ disk.old) × IsOk result }
+            → (c : List ℕ) → D.images disk.new c → RecoversWhole self.now.len self.now.side GateState.Closed c head bodies) }
+        ensures same { gate ≡ GateState.Closed → (disk.new ≡ disk.old) × IsOk result }
         ensures calls { D.calls disk.new ≤ D.calls disk.old + 2 }
         ensures faults { CountsFault result (D.fault_count disk.old) (D.fault_count disk.new) }
         ensures honest { D.honest disk.new ↔ D.honest disk.old }
@@ -65,12 +65,12 @@ impl AreaPair {
     pub fn put<D: Disk>(&self, disk: &mut D, at: u64, bytes: &[u8]) -> Result<(), DiskFault>
         requires countable { D.fault_count disk.old < u64.MAX }
         requires addressed { self.now.len + self.now.len < 2 ^ 64 }
-        requires suffix { 0 < at }
+        requires after_gate { 0 < at }
         requires fits { at + length bytes.now ≤ self.now.len }
         ensures any_moment { (head : Head) (bodies : List (List ℕ)) → D.honest disk.old
-            → ((c : List ℕ) → D.images disk.old c → RecoversWhole self.now.len self.now.side Gate.Closed c head bodies)
+            → ((c : List ℕ) → D.images disk.old c → RecoversWhole self.now.len self.now.side GateState.Closed c head bodies)
             → EachSince D.moment D.images_since disk.old disk.new
-            (λ c. RecoversWhole self.now.len self.now.side Gate.Closed c head bodies) }
+            (λ c. RecoversWhole self.now.len self.now.side GateState.Closed c head bodies) }
         ensures grown { OnOk result ((prefix : List ℕ) → D.honest disk.old → at ≡ 1 + length prefix
             → self.now.len + self.now.len ≤ length (D.seen disk.old)
             → Holds (D.seen disk.old) (start_of self.now.len (other self.now.side) + 1) prefix
@@ -88,18 +88,18 @@ impl AreaPair {
     pub fn switch<D: Disk>(&self, disk: &mut D, at: u64, bytes: &[u8]) -> Result<(), DiskFault>
         requires countable { D.fault_count disk.old < u64.MAX }
         requires addressed { self.now.len + self.now.len < 2 ^ 64 }
-        requires suffix { 0 < at }
+        requires after_gate { 0 < at }
         requires fits { at + length bytes.now ≤ self.now.len }
         ensures any_moment { (head next : Head) (bodies others : List (List ℕ)) → D.honest disk.old
-            → ((c : List ℕ) → D.images disk.old c → RecoversWhole self.now.len self.now.side Gate.Closed c head bodies)
+            → ((c : List ℕ) → D.images disk.old c → RecoversWhole self.now.len self.now.side GateState.Closed c head bodies)
             → Completes self.now.len self.now.side (D.seen disk.old) at bytes.now head next others
             → EachSince D.moment D.images_since disk.old disk.new
             (WholeOrSwitched self.now.len self.now.side head bodies next others) }
         ensures stable { OnOk result (D.honest disk.old → Only (D.seen disk.new) (D.images disk.new)) }
         ensures switched { OnOk result ((head next : Head) (bodies others : List (List ℕ)) → D.honest disk.old
-            → ((c : List ℕ) → D.images disk.old c → RecoversWhole self.now.len self.now.side Gate.Closed c head bodies)
+            → ((c : List ℕ) → D.images disk.old c → RecoversWhole self.now.len self.now.side GateState.Closed c head bodies)
             → Completes self.now.len self.now.side (D.seen disk.old) at bytes.now head next others
-            → (c : List ℕ) → D.images disk.new c → RecoversWhole self.now.len (other self.now.side) Gate.Open c next others) }
+            → (c : List ℕ) → D.images disk.new c → RecoversWhole self.now.len (other self.now.side) GateState.Open c next others) }
         ensures calls { D.calls disk.new ≤ D.calls disk.old + 4 }
         ensures faults { CountsFault result (D.fault_count disk.old) (D.fault_count disk.new) }
         ensures honest { D.honest disk.new ↔ D.honest disk.old }

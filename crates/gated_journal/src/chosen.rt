@@ -6,7 +6,7 @@ ghost use Rattle.gated_journal.specs.Whole.{IsChosen, IsChosenFrom, gate_of};
 
 use crate::append::OPEN;
 use crate::area::Area;
-use crate::gate::Gate;
+use crate::gate::GateState;
 use crate::lengths::PREFIX_LEN;
 use crate::side::Side;
 use act_disk::{Disk, DiskFault};
@@ -15,7 +15,7 @@ use act_disk::{Disk, DiskFault};
 #[derive(Clone, Copy)]
 pub struct Chosen {
     pub side: Side,
-    pub other: Gate,
+    pub other: GateState,
 }
 
 /// The generation, if the gate is open.
@@ -43,12 +43,12 @@ fn chosen_of(first: Option<u64>, second: Option<u64>) -> Option<Chosen>
 }
 
 /// The gate of an area that has this generation if it is open.
-fn gate_of(generation: Option<u64>) -> Gate
+fn gate_of(generation: Option<u64>) -> GateState
     ensures { result ≡ gate_of generation }
 {
     match generation {
-        Some(_) => Gate::Open,
-        None => Gate::Closed,
+        Some(_) => GateState::Open,
+        None => GateState::Closed,
     }
 }
 

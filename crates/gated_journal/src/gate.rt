@@ -1,6 +1,6 @@
 /// The state of an area's gate.
 #[derive(Clone, Copy)]
-pub enum Gate {
+pub enum GateState {
     Open,
     Closed,
 }

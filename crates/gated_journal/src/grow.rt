@@ -7,7 +7,7 @@ ghost use Rattle.gated_journal.specs.Whole.{RecoversWhole, WholeOrGrew};
 
 use crate::append::append_after;
 use crate::area_pair::AreaPair;
-use crate::gate::Gate;
+use crate::gate::GateState;
 use act_disk::{Disk, DiskFault};
 
 impl AreaPair {
@@ -17,11 +17,11 @@ impl AreaPair {
         requires countable { D.fault_count disk.old < u64.MAX }
         requires addressed { self.now.len + self.now.len < 2 ^ 64 }
         requires fits { at + (length bytes.now + 1) ≤ self.now.len }
-        ensures any_moment { (gate : Gate) (head : Head) (bodies : List (List ℕ)) (body : List ℕ) → D.honest disk.old
+        ensures any_moment { (gate : GateState) (head : Head) (bodies : List (List ℕ)) (body : List ℕ) → D.honest disk.old
             → ((c : List ℕ) → D.images disk.old c → RecoversWhole self.now.len self.now.side gate c head bodies)
             → at ≡ length (opened head bodies) → bytes.now ≡ record_of body → length body < 2 ^ 32
             → EachSince D.moment D.images_since disk.old disk.new (WholeOrGrew self.now.len self.now.side gate head bodies body) }
-        ensures grown { OnOk result ((gate : Gate) (head : Head) (bodies : List (List ℕ)) (body : List ℕ) → D.honest disk.old
+        ensures grown { OnOk result ((gate : GateState) (head : Head) (bodies : List (List ℕ)) (body : List ℕ) → D.honest disk.old
             → ((c : List ℕ) → D.images disk.old c → RecoversWhole self.now.len self.now.side gate c head bodies)
             → at ≡ length (opened head bodies) → bytes.now ≡ record_of body → length body < 2 ^ 32
             → (c : List ℕ) → D.images disk.new c → RecoversWhole self.now.len self.now.side gate c head (bodies ++ body ∷ [])) }

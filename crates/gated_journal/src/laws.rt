@@ -6,8 +6,8 @@ ghost use Rattle.gated_journal.specs.Appends.{record_of, Appends};
 ghost use Rattle.gated_journal.specs.CutOff.{EncodesNothing};
 ghost use Rattle.gated_journal.specs.Layout.{Head, IsClosed, Reads, ReadsNothing, WouldRead, opened};
 ghost use Rattle.gated_journal.specs.TwoAreas.{start_of, other, area_on, Recovers};
-ghost use Rattle.gated_journal.specs.declared.gate.Gate.{Gate};
-ghost use Rattle.gated_journal.specs.declared.gate.Gate.TheVariants.{Open, Closed};
+ghost use Rattle.gated_journal.specs.declared.gate.GateState.{GateState};
+ghost use Rattle.gated_journal.specs.declared.gate.GateState.TheVariants.{Open, Closed};
 ghost use Rattle.gated_journal.specs.declared.side.Side.{Side};
 
 /// An area reads as at most one head and one list of bodies.
@@ -37,7 +37,7 @@ pub fn the_only_open_area_is_active()
 
 /// An append to the active area, complete or not, keeps it active, with the old bodies or with the new one appended.
 pub fn an_append_changes_no_choice()
-    ensures { (len : ℕ) (side : Side) (gate : Gate) (old new : List ℕ) (head : Head) (bodies : List (List ℕ)) (body : List ℕ)
+    ensures { (len : ℕ) (side : Side) (gate : GateState) (old new : List ℕ) (head : Head) (bodies : List (List ℕ)) (body : List ℕ)
         → Recovers len side gate old head bodies → length body < 2 ^ 32
         → length (opened head bodies) + (length (record_of body) + 1) ≤ len
         → Appends (start_of len side + length (opened head bodies)) (record_of body) old new

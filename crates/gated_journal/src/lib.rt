@@ -22,7 +22,7 @@ pub use append::OPEN;
 pub use area::Area;
 pub use area_pair::AreaPair;
 pub use chosen::{Chosen, choose};
-pub use gate::Gate;
+pub use gate::GateState;
 pub use head::AreaHead;
 pub use made::make_areas;
 pub use record::Record;

@@ -3,7 +3,7 @@ ghost use Rattle.act_disk.specs.Images.{CountsFault};
 ghost use Rattle.gated_journal.specs.Layout.{Head, Fits};
 ghost use Rattle.gated_journal.specs.TwoAreas.{after_gate};
 ghost use Rattle.gated_journal.specs.Whole.{RecoversWhole};
-ghost use Rattle.gated_journal.specs.declared.gate.Gate.TheVariants.{Closed};
+ghost use Rattle.gated_journal.specs.declared.gate.GateState.TheVariants.{Closed};
 ghost use Rattle.gated_journal.specs.declared.side.Side.TheVariants.{First};
 
 use crate::append::OPEN;

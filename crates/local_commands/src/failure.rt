@@ -1,4 +1,4 @@
-use process_io::Fault;
+use process_io::ResourceFault;
 use std::alloc::AllocError;
 use wf_value::{Code, Refusal};
 
@@ -7,7 +7,7 @@ use wf_value::{Code, Refusal};
 pub struct Failure<'a> {
     refusal: Refusal,
     /// What of the system is the reason, if that is known.
-    fault: Option<Fault<'a>>,
+    fault: Option<ResourceFault<'a>>,
 }
 
 impl Failure<'_> {
@@ -29,8 +29,8 @@ impl Failure<'_> {
 /// What a command has ended with. If a stream has failed, the reason is the first of these faults.
 pub fn ended<'a, T: Drop>(
     ended: Result<T, Refusal>,
-    first: Option<Fault<'a>>,
-    second: Option<Fault<'a>>,
+    first: Option<ResourceFault<'a>>,
+    second: Option<ResourceFault<'a>>,
 ) -> Result<T, Failure<'a>> {
     match ended {
         Ok(value) => Ok(value),
@@ -62,8 +62,8 @@ impl From<Refusal> for Failure<'_> {
     }
 }
 
-impl<'a> From<Fault<'a>> for Failure<'a> {
-    fn from(fault: Fault<'a>) -> Self {
+impl<'a> From<ResourceFault<'a>> for Failure<'a> {
+    fn from(fault: ResourceFault<'a>) -> Self {
         Failure {
             refusal: fault.refusal(),
             fault: Some(fault),

@@ -1,7 +1,7 @@
 //! The standard streams of the commands.
 
 use crate::failure::Failure;
-use process_io::{Fault, Noted};
+use process_io::{ResourceFault, Noted};
 use std::io;
 use std::io::{BufWriter, Printer};
 
@@ -26,5 +26,5 @@ pub fn output<'a, R: Print + AllocGlobal>(
 
 /// What has come of a print to standard output.
 pub(crate) fn printed(printed: io::Result<()>) -> Result<(), Failure<'static>> {
-    printed.map_err(|error| Failure::from(Fault::Stream(STANDARD_OUTPUT, error)))
+    printed.map_err(|error| Failure::from(ResourceFault::Stream(STANDARD_OUTPUT, error)))
 }

@@ -60,12 +60,12 @@ places_of jobs needs none =
 known_if_none : (jobs : List JobNeeds) (needs : List (List ℕ)) → (length needs == 0) ≡ true → list_all (is_job jobs) needs ≡ true
 known_if_none jobs needs none = subst (λ (ids : List (List ℕ)). list_all (is_job jobs) ids ≡ true) (sym (is_nil needs none)) refl
 
-all_places : (all jobs : List JobNeeds) → list_nothing jobs ≡ true
+all_indexes : (all jobs : List JobNeeds) → list_nothing jobs ≡ true
     → map (λ job. places (λ other. is_listed job.needs other.id) all) jobs ≡ nothing (length jobs)
-all_places all [] none = refl
-all_places all (job ∷ jobs) none =
+all_indexes all [] none = refl
+all_indexes all (job ∷ jobs) none =
     let parts = and_parts (length job.needs == 0) (list_nothing jobs) none in
-    rw (places_of all job.needs parts.0, all_places all jobs parts.1) refl
+    rw (places_of all job.needs parts.0, all_indexes all jobs parts.1) refl
 
 all_known : (all jobs : List JobNeeds) → list_nothing jobs ≡ true → list_all (λ job. list_all (is_job all) job.needs) jobs ≡ true
 all_known all [] none = refl
@@ -75,7 +75,7 @@ all_known all (job ∷ jobs) none =
 
 pub graph_of_nothing : (jobs : List JobNeeds) → list_nothing jobs ≡ true → graph_of jobs ≡ Ok (nothing (length jobs))
 graph_of_nothing jobs none =
-    let needs : needs_of jobs ≡ nothing (length jobs) = all_places jobs jobs none in
+    let needs : needs_of jobs ≡ nothing (length jobs) = all_indexes jobs jobs none in
     let own : own_ancestors jobs ≡ [] =
     ap (map (λ e. e.1.id))
     (filter_keeps_none (λ e. is_ancestor (needs_of jobs) e.0 e.0)

@@ -11,7 +11,7 @@ use crate::ended::HasResult;
 use crate::job_needs::JobNeeds;
 use crate::job_set::{JobSet, set_has};
 use crate::marks::JobBitmap;
-use crate::rows::{all_dependents, all_places, all_sets, closed_rows, needs_rows, no_places};
+use crate::rows::{all_dependents, all_indexes, all_sets, closed_rows, needs_rows, no_places};
 use std::alloc::Global;
 use std::marker::Model;
 use wf_value::{Chars, Condition, Refusal, Sequence, TryCopy};
@@ -73,7 +73,7 @@ impl Graph {
         ensures { Gives (λ g. g) result (graph_of jobs.now) }
     {
         let direct = needs_rows(alloc, jobs)?;
-        let needs = all_places(alloc, direct.as_slice())?;
+        let needs = all_indexes(alloc, direct.as_slice())?;
         let dependents = all_dependents(alloc, direct.as_slice())?;
         let reached = closed_rows(alloc, direct)?;
         let ids = own_ids(alloc, jobs, reached.as_slice())?;

@@ -37,7 +37,7 @@ impl<'a> Lookup<'a> {
     {
         Ok(Lookup {
             jobs,
-            places: places_by_id(alloc, jobs)?,
+            places: indexes_by_id(alloc, jobs)?,
         })
     }
 
@@ -48,7 +48,7 @@ impl<'a> Lookup<'a> {
     }
 
     /// The index of the job with this id. It first tries the likely index, since ids are mostly listed in order.
-    pub(crate) fn place_from(&self, id: &Chars, likely: usize) -> Option<usize>
+    pub(crate) fn index_from(&self, id: &Chars, likely: usize) -> Option<usize>
         ensures { Finds self.now id.now result }
     {
         if likely < self.jobs.len() && self.jobs[likely].id().same(id) {
@@ -58,7 +58,7 @@ impl<'a> Lookup<'a> {
     }
 }
 
-fn places_by_id<'a>(
+fn indexes_by_id<'a>(
     alloc: Global,
     jobs: &'a [JobNeeds<'a>],
 ) -> Result<HashMap<&'a str, usize>, AllocError>

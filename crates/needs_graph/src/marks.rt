@@ -83,7 +83,7 @@ impl JobBitmap {
     pub(crate) fn places(&self, alloc: Global) -> Result<Sequence<usize>, Refusal>
         ensures { Gives (λ p. p) result (Ok (marked self.now)) }
     {
-        Ok(Sequence::new(marked_places(alloc, self.marks.as_slice())?))
+        Ok(Sequence::new(marked_indexes(alloc, self.marks.as_slice())?))
     }
 }
 
@@ -107,7 +107,7 @@ fn add_marks(marks: &mut [bool], others: &[bool])
     }
 }
 
-fn marked_places(alloc: Global, marks: &[bool]) -> Result<Vec<usize>, AllocError>
+fn marked_indexes(alloc: Global, marks: &[bool]) -> Result<Vec<usize>, AllocError>
     ensures { IfOk result (λ places. places.items ≡ marked marks.now) }
 {
     let first = &marks[..end_of(marks)];

@@ -19,7 +19,7 @@ fn needs_row(alloc: Global, jobs: &Lookup<'_>, ids: &[Chars]) -> Result<JobBitma
     let mut row = JobBitmap::none(alloc, jobs.job_count())?;
     let mut next = 0;
     for id in ids {
-        match jobs.place_from(id, next) {
+        match jobs.index_from(id, next) {
             Some(place) => {
                 row.insert(place);
                 next = place + 1;
@@ -75,7 +75,7 @@ pub(crate) fn no_places(alloc: Global, count: usize) -> Result<Sequence<Sequence
 }
 
 /// The jobs of each row, in order.
-pub(crate) fn all_places(
+pub(crate) fn all_indexes(
     alloc: Global,
     rows: &[JobBitmap],
 ) -> Result<Sequence<Sequence<usize>>, Refusal>

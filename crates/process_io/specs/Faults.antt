@@ -1,11 +1,11 @@
 -- The number of what can't be used.
 use Rattle.wf_value.specs.declared.code.Code.{Code}
 use Rattle.wf_value.specs.declared.code.Code.TheVariants.{DeviceFailed, StreamFailed}
-use Rattle.process_io.specs.declared.fault.Fault.{Fault}
-use Rattle.process_io.specs.declared.fault.Fault.TheVariants.{File, Locked, Port, Stream, TooLong, Unmeasured}
+use Rattle.process_io.specs.declared.fault.ResourceFault.{ResourceFault}
+use Rattle.process_io.specs.declared.fault.ResourceFault.TheVariants.{File, Locked, Port, Stream, TooLong, Unmeasured}
 
 -- 51 for a file that is longer than the system lets the process write, and 61 for all else
-abbrev pub code_of_fault : Fault → Code
+abbrev pub code_of_fault : ResourceFault → Code
 code_of_fault (File path error) = StreamFailed
 code_of_fault (Locked path) = StreamFailed
 code_of_fault (Unmeasured path) = StreamFailed

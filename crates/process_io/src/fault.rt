@@ -6,7 +6,7 @@ use wf_value::{Code, Refusal};
 
 /// What can't be used, and why. Its text is what standard error shows after the refusal.
 #[derive(Drop)]
-pub enum Fault<'a> {
+pub enum ResourceFault<'a> {
     /// A file, its lock, or its folder, or `/dev/null`.
     File(&'a str, io::Error),
     /// Another process has the lock of this file.
@@ -20,29 +20,29 @@ pub enum Fault<'a> {
     Stream(&'static str, io::Error),
 }
 
-impl Fault<'_> {
+impl ResourceFault<'_> {
     /// The refusal: 51 for a file that is too long, and else 61.
     pub fn refusal(&self) -> Refusal
         ensures { result ≡ Refusal.Numbered (code_of_fault self.now) }
     {
         Refusal::Numbered(match self {
-            Fault::TooLong(_) => Code::DeviceFailed,
+            ResourceFault::TooLong(_) => Code::DeviceFailed,
             _ => Code::StreamFailed,
         })
     }
 }
 
-impl fmt::Display for Fault<'_> {
+impl fmt::Display for ResourceFault<'_> {
     fn fmt<W: fmt::Write>(&self, f: &mut fmt::Formatter<W>) -> fmt::Result {
         match self {
-            Fault::File(path, error) => write!(f, "{path}: {error}"),
-            Fault::Locked(path) => write!(f, "{path}: another process has its lock"),
-            Fault::Unmeasured(path) => write!(f, "{path}: its length is not known"),
-            Fault::TooLong(path) => {
+            ResourceFault::File(path, error) => write!(f, "{path}: {error}"),
+            ResourceFault::Locked(path) => write!(f, "{path}: another process has its lock"),
+            ResourceFault::Unmeasured(path) => write!(f, "{path}: its length is not known"),
+            ResourceFault::TooLong(path) => {
                 write!(f, "{path}: longer than this process may write (ulimit -f)")
             }
-            Fault::Port(port, error) => write!(f, "port {port}: {error}"),
-            Fault::Stream(name, error) => write!(f, "{name}: {error}"),
+            ResourceFault::Port(port, error) => write!(f, "port {port}: {error}"),
+            ResourceFault::Stream(name, error) => write!(f, "{name}: {error}"),
         }
     }
 }

@@ -11,7 +11,7 @@ mod ports;
 mod streams;
 mod waiting;
 
-pub use fault::Fault;
+pub use fault::ResourceFault;
 pub use files::file_in;
 pub use noted::Noted;
 pub use opening::RealDisk;

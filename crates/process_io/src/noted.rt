@@ -1,4 +1,4 @@
-use crate::fault::Fault;
+use crate::fault::ResourceFault;
 use std::io;
 use std::io::{Read, Write};
 
@@ -20,10 +20,10 @@ impl<T: Drop> Noted<T> {
     }
 
     /// The error of the last call, if that has failed.
-    pub fn into_fault<'a>(self) -> Option<Fault<'a>> {
+    pub fn into_fault<'a>(self) -> Option<ResourceFault<'a>> {
         let Noted { name, error, .. } = self;
         match error {
-            Some(error) => Some(Fault::Stream(name, error)),
+            Some(error) => Some(ResourceFault::Stream(name, error)),
             None => None,
         }
     }

@@ -7,7 +7,7 @@ ghost use Rattle.act_disk.specs.FileDisk.{faults_of, honest_of, len_of};
 ghost use Rattle.act_disk.specs.SystemCalls.{FileCall, IsHonest};
 ghost use Rattle.process_io.specs.Answered.{IsReadFrom};
 
-use crate::fault::Fault;
+use crate::fault::ResourceFault;
 use crate::length_limit::may_write;
 use crate::streams::HeldStreams;
 use crate::waiting::Opening;
@@ -32,7 +32,7 @@ impl HeldStreams {
         B: Start,
         R: Files<File = File>,
         S: Threads + Wait + Clock + Eprint + Sync,
-    >(&self, rt: &R, system: &S, path: &'a str) -> Result<RealDisk<B>, Fault<'a>>
+    >(&self, rt: &R, system: &S, path: &'a str) -> Result<RealDisk<B>, ResourceFault<'a>>
         ensures faults { IfOk result (λ disk. faults_of disk ≡ 0) }
         ensures honest { IfOk result (λ disk. honest_of disk ↔ (len_of disk ≡ length B.Start.held)) }
         ensures reads { (calls : List FileCall) → IsReadFrom B.Start.held calls → IsHonest B.Start.held calls }
@@ -50,7 +50,7 @@ impl HeldStreams {
         B: Start,
         R: Files<File = File>,
         S: Threads + Wait + Clock + Eprint + Sync,
-    >(&self, rt: &R, system: &S, path: &'a str, len: u64) -> Result<RealDisk<B>, Fault<'a>>
+    >(&self, rt: &R, system: &S, path: &'a str, len: u64) -> Result<RealDisk<B>, ResourceFault<'a>>
         ensures faults { IfOk result (λ disk. faults_of disk ≡ 0) }
         ensures honest { IfOk result (λ disk. honest_of disk ↔ (len_of disk ≡ length B.Start.held)) }
     {
@@ -59,7 +59,7 @@ impl HeldStreams {
         let how = options.read(true).write(true).create(true);
         let file = opened_in_time(rt, system, how, path)?;
         let disk = disk_over(file, path)?;
-        sync_folder(rt, path).map_err(|error| Fault::File(path, error))?;
+        sync_folder(rt, path).map_err(|error| ResourceFault::File(path, error))?;
         Ok(disk)
     }
 
@@ -69,34 +69,34 @@ impl HeldStreams {
         &self,
         rt: &R,
         path: &'a str,
-    ) -> Result<RealDisk<B>, Fault<'a>>
+    ) -> Result<RealDisk<B>, ResourceFault<'a>>
         ensures faults { IfOk result (λ disk. faults_of disk ≡ 0) }
         ensures honest { IfOk result (λ disk. honest_of disk ↔ (len_of disk ≡ length B.Start.held)) }
         ensures reads { (calls : List FileCall) → IsReadFrom B.Start.held calls → IsHonest B.Start.held calls }
     {
         let opened = OpenOptions::new().read(true).open(rt, path);
-        disk_over(opened.map_err(|error| Fault::File(path, error))?, path)
+        disk_over(opened.map_err(|error| ResourceFault::File(path, error))?, path)
     }
 }
 
 /// A disk over an open file.
 #[tactic(auto, using(crate::proofs::Opened::honest_at_first))]
-fn disk_over<B: Start>(file: File, path: &str) -> Result<RealDisk<B>, Fault<'_>>
+fn disk_over<B: Start>(file: File, path: &str) -> Result<RealDisk<B>, ResourceFault<'_>>
     ensures faults { IfOk result (λ disk. faults_of disk ≡ 0) }
     ensures honest { IfOk result (λ disk. honest_of disk ↔ (len_of disk ≡ length B.Start.held)) }
 {
     match FileDisk::opened(Ok(file)) {
         Ok(disk) => Ok(disk),
-        Err(_) => Err(Fault::Unmeasured(path)),
+        Err(_) => Err(ResourceFault::Unmeasured(path)),
     }
 }
 
 /// Refuses a length that the system does not let this process write.
-fn refuse_beyond_limit(len: u64, path: &str) -> Result<(), Fault<'_>> {
+fn refuse_beyond_limit(len: u64, path: &str) -> Result<(), ResourceFault<'_>> {
     if may_write(len) {
         Ok(())
     } else {
-        Err(Fault::TooLong(path))
+        Err(ResourceFault::TooLong(path))
     }
 }
 
@@ -106,7 +106,7 @@ fn opened_in_time<'a, R: Files<File = File>, S: Threads + Wait + Clock + Eprint 
     system: &S,
     how: &OpenOptions,
     path: &'a str,
-) -> Result<File, Fault<'a>> {
+) -> Result<File, ResourceFault<'a>> {
     let opening = Opening::new();
     let shared = &opening;
     thread::scope(thread::scope_env(), system, |scope| {
@@ -125,13 +125,13 @@ fn opened_and_locked<'a, R: Files<File = File>>(
     rt: &R,
     how: &OpenOptions,
     path: &'a str,
-) -> Result<File, Fault<'a>> {
+) -> Result<File, ResourceFault<'a>> {
     let file = how
         .open(rt, path)
-        .map_err(|error| Fault::File(path, error))?;
+        .map_err(|error| ResourceFault::File(path, error))?;
     match file.try_lock() {
         Ok(()) => Ok(file),
-        Err(TryLockError::WouldBlock) => Err(Fault::Locked(path)),
-        Err(TryLockError::Error(error)) => Err(Fault::File(path, error)),
+        Err(TryLockError::WouldBlock) => Err(ResourceFault::Locked(path)),
+        Err(TryLockError::Error(error)) => Err(ResourceFault::File(path, error)),
     }
 }

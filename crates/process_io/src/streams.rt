@@ -1,6 +1,6 @@
 //! The descriptors of the standard streams.
 
-use crate::fault::Fault;
+use crate::fault::ResourceFault;
 use std::fs::{File, Files};
 use std::io;
 use std::io::ErrorKind;
@@ -20,19 +20,19 @@ pub struct HeldStreams(());
 impl HeldStreams {
     /// Opens `/dev/null` for standard input and standard error if they are closed. A closed standard output is a fault, since
     /// no command has anything to say there.
-    pub fn hold<'a, R: Files<File = File>>(rt: &R) -> Result<Self, Fault<'a>> {
+    pub fn hold<'a, R: Files<File = File>>(rt: &R) -> Result<Self, ResourceFault<'a>> {
         for _ in 0..=libc::STDERR_FILENO {
-            let file = File::open(rt, NOTHING).map_err(|error| Fault::File(NOTHING, error))?;
+            let file = File::open(rt, NOTHING).map_err(|error| ResourceFault::File(NOTHING, error))?;
             let number = file.as_raw_fd();
             if number > libc::STDERR_FILENO {
                 return Ok(HeldStreams(()));
             }
             if number == libc::STDOUT_FILENO {
                 let error = io::Error::from_raw_os_error(libc::EBADF);
-                return Err(Fault::Stream("standard output", error));
+                return Err(ResourceFault::Stream("standard output", error));
             }
             let _ = file.into_raw_fd();
         }
-        Err(Fault::File(NOTHING, io::Error::from(ErrorKind::Other)))
+        Err(ResourceFault::File(NOTHING, io::Error::from(ErrorKind::Other)))
     }
 }

@@ -19,12 +19,12 @@ use Rattle.run_states.specs.Holders.{run_of}
 use Rattle.run_states.specs.JobResults.{direct_needs}
 use Rattle.run_states.specs.LegContext.{LegFacts, context_of, facts_at}
 use Rattle.run_states.specs.Places.{run_at}
-use Rattle.run_states.specs.declared.place.LegPlace.{LegPlace}
+use Rattle.run_states.specs.declared.place.LegSite.{LegSite}
 use Rattle.run_states.specs.RunNumber.{events, run_number}
 use Rattle.run_states.specs.RunState.{RunState}
 use Rattle.run_states.specs.Words.{is_set}
 use Rattle.run_bindings.specs.Bindings.{AreBound, RunSays, group_request_of}
-use Rattle.run_bindings.specs.BoundGroups.{SaysSo, facts_by, is_set_by, results_by_place}
+use Rattle.run_bindings.specs.BoundGroups.{SaysSo, facts_by, is_set_by, results_by_index}
 use Rattle.run_bindings.specs.declared.bindings.JobBindings.{JobBindings}
 use Rattle.run_bindings.specs.declared.bindings.RunBindings.{RunBindings}
 use Rattle.run_bindings.specs.declared.groups.GroupRequest.{GroupRequest}
@@ -64,10 +64,10 @@ pub run_told : (runs : List RunState) (r : ℕ) (x : RunState) → run_at runs r
 unfolding run_facts_at
 run_told runs r x at = ap (option_map (facts_of_run runs r)) at
 
-abbrev pub leg_facts_of : List RunState → LegPlace → RunState → PlannedJob → LegFacts
-leg_facts_of runs p x job = facts_by (facts_of_run runs p.run x) p.job job p.leg (results_by_place x)
+abbrev pub leg_facts_of : List RunState → LegSite → RunState → PlannedJob → LegFacts
+leg_facts_of runs p x job = facts_by (facts_of_run runs p.run x) p.job job p.leg (results_by_index x)
 
-pub leg_told : (runs : List RunState) (p : LegPlace) (x : RunState) (job : PlannedJob) → run_at runs p.run ≡ Some x
+pub leg_told : (runs : List RunState) (p : LegSite) (x : RunState) (job : PlannedJob) → run_at runs p.run ≡ Some x
     → slice_get (plan_of x.admitted.body) p.job ≡ Some job → facts_at runs p ≡ Some (leg_facts_of runs p x job)
 unfolding facts_at direct_needs
 leg_told runs p x job at planned =
@@ -78,12 +78,12 @@ run_untold : (runs : List RunState) (r : ℕ) → run_at runs r ≡ None → run
 unfolding run_facts_at
 run_untold runs r none = ap (option_map (facts_of_run runs r)) none
 
-pub leg_untold : (runs : List RunState) (p : LegPlace) → run_at runs p.run ≡ None → facts_at runs p ≡ None
+pub leg_untold : (runs : List RunState) (p : LegSite) → run_at runs p.run ≡ None → facts_at runs p ≡ None
 unfolding facts_at direct_needs
 leg_untold runs p none =
     ap (option_and_then (λ (run : RunState). option_map (leg_facts_of runs p run) (slice_get (plan_of run.admitted.body) p.job))) none
 
-pub job_untold : (runs : List RunState) (p : LegPlace) (x : RunState) → run_at runs p.run ≡ Some x
+pub job_untold : (runs : List RunState) (p : LegSite) (x : RunState) → run_at runs p.run ≡ Some x
     → slice_get (plan_of x.admitted.body) p.job ≡ None → facts_at runs p ≡ None
 unfolding facts_at direct_needs
 job_untold runs p x at unplanned =
@@ -111,10 +111,10 @@ as_short (x ∷ xs) (y ∷ ys) (suc k) same none = as_short xs ys k (omega (arit
 -- ---- the bindings give the group and the flag, given the results of the run's jobs
 
 abbrev pub group_by : RunState → Option GroupRequest → Option Group
-group_by x o = option_and_then (λ a. bound_group_at (results_by_place x) a.group) o
+group_by x o = option_and_then (λ a. bound_group_at (results_by_index x) a.group) o
 
 abbrev pub flag_by : RunState → Option GroupRequest → Bool
-flag_by x o = option_map_or (λ a. is_set_by (results_by_place x) a.cancels) o false
+flag_by x o = option_map_or (λ a. is_set_by (results_by_index x) a.cancels) o false
 
 -- both for a holder of this run
 abbrev pub SaysBoth : List RunState → Holder → RunState → RunBindings → Type 0
@@ -126,7 +126,7 @@ module _ (runs : List RunState) (kept : List RunBindings) (bound : AreBound runs
   run_says r x k at is = bound.each r (facts_of_run runs r x) k (run_told runs r x at) is
 
 module _ (runs : List RunState) where
-  leg_says : (p : LegPlace) (x : RunState) (k : RunBindings) → run_at runs p.run ≡ Some x
+  leg_says : (p : LegSite) (x : RunState) (k : RunBindings) → run_at runs p.run ≡ Some x
       → RunSays (facts_of_run runs p.run x) k → (o : Option PlannedJob) → slice_get (plan_of x.admitted.body) p.job ≡ o
       → group_by x (group_request_of k (Leg p)) ≡ option_and_then leg_group (facts_at runs p)
       × flag_by x (group_request_of k (Leg p)) ≡ option_map_or leg_cancels (facts_at runs p) false
@@ -147,9 +147,9 @@ module _ (runs : List RunState) where
       (λ (o : Option JobBindings). SaysSo repo values (concurrency_of_leg job p.leg) (option_and_then (λ (a : JobBindings). slice_get a.groups p.leg) o))
       (sym bindings.1) ((run.jobs p.job bindings.0 bindings.1 job planned).groups p.leg) in
       let identity = leg_told runs p x job at planned in (
-        says_group repo values (concurrency_of_leg job p.leg) (group_request_of k (Leg p)) says (results_by_place x)
+        says_group repo values (concurrency_of_leg job p.leg) (group_request_of k (Leg p)) says (results_by_index x)
             ∙ sym (ap (option_and_then leg_group) identity),
-        says_flag repo values (concurrency_of_leg job p.leg) (group_request_of k (Leg p)) says (results_by_place x)
+        says_flag repo values (concurrency_of_leg job p.leg) (group_request_of k (Leg p)) says (results_by_index x)
             ∙ sym (ap (λ o. option_map_or leg_cancels o false) identity),
       )
 
@@ -160,9 +160,9 @@ module _ (runs : List RunState) where
       let f = facts_of_run runs r x in
       let event = event_of f.event.body in
       let identity = run_told runs r x at in (
-        says_group event.repo (λ results. run_context f) event.workflow.concurrency k.own says.own (results_by_place x)
+        says_group event.repo (λ results. run_context f) event.workflow.concurrency k.own says.own (results_by_index x)
             ∙ sym (ap (option_and_then run_group) identity),
-        says_flag event.repo (λ results. run_context f) event.workflow.concurrency k.own says.own (results_by_place x)
+        says_flag event.repo (λ results. run_context f) event.workflow.concurrency k.own says.own (results_by_index x)
             ∙ sym (ap (λ o. option_map_or run_cancels o false) identity),
       )
   both_said (Leg p) x k at says = leg_says p x k at says (slice_get (plan_of x.admitted.body) p.job) refl

@@ -75,5 +75,5 @@ facts_by run j job l results =
     }
 
 -- the results of a run's jobs, by index
-abbrev pub results_by_place : RunState → Results
-results_by_place run j = slice_index_or (results_so_far run.jobs) j None
+abbrev pub results_by_index : RunState → Results
+results_by_index run j = slice_index_or (results_so_far run.jobs) j None

@@ -8,7 +8,7 @@ use Rattle.label_lists.specs.Lists.{HasPlace, ListsState, labels_of, may_offer}
 use Rattle.run_states.specs.FirstOf.{placed}
 use Rattle.run_states.specs.Fitting.{has_labels, is_ready}
 use Rattle.run_states.specs.Places.{leg_at}
-use Rattle.run_states.specs.declared.place.LegPlace.{LegPlace}
+use Rattle.run_states.specs.declared.place.LegSite.{LegSite}
 use Rattle.run_states.specs.RunState.{JobState, LegState, RunState}
 use Rattle.run_bindings.specs.KnownLabels.{AreAlike}
 use Rattle.run_bindings.specs.declared.bindings.JobBindings.{JobBindings}
@@ -73,11 +73,11 @@ offers_list run numbers number = list_any (job_offers numbers number) (placed ru
 -- ---- which runs are marked
 
 -- the leg there is ready
-abbrev pub IsReadyAt : List RunState → LegPlace → Type 0
+abbrev pub IsReadyAt : List RunState → LegSite → Type 0
 IsReadyAt runs p = option_map_or (λ l. is_ready l.phase) (leg_at runs p) false ≡ true
 
 -- the run is marked for the list of the leg
-abbrev pub IsOffered : ListsState → RunBindings → LegPlace → Type 0
+abbrev pub IsOffered : ListsState → RunBindings → LegSite → Type 0
 IsOffered lists kept p = may_offer lists (list_number kept.lists p.job p.leg) p.run ≡ true
 
 -- the run is marked for the lists of the ready legs of a job, and of all its jobs
@@ -89,7 +89,7 @@ JobsOffer lists numbers r jobs = (j l : ℕ) → is_ready_in jobs j l ≡ true �
 
 pub record LegsAreOffered (runs : List RunState) (bindings : List RunBindings) (lists : ListsState) : Type 0 where
   pub numbers : (r : ℕ) (kept : RunBindings) → slice_get bindings r ≡ Some kept → AreListsOf lists r kept.jobs kept.lists
-  pub offered : (p : LegPlace) (kept : RunBindings) → IsReadyAt runs p → slice_get bindings p.run ≡ Some kept → IsOffered lists kept p
+  pub offered : (p : LegSite) (kept : RunBindings) → IsReadyAt runs p → slice_get bindings p.run ≡ Some kept → IsOffered lists kept p
 
 -- ---- what a runner may be offered
 

@@ -13,7 +13,7 @@ ghost use Rattle.run_plan.specs.PlanOf.{plan_of};
 ghost use Rattle.run_plan.specs.declared.planned.PlannedJob.{PlannedJob as Planned};
 ghost use Rattle.run_states.specs.Fitting.{has_labels};
 ghost use Rattle.run_bindings.specs.Bindings.{JobSays, KeepsLabels, KeepsLabelsAt, RunSays, group_request_of, flag_for};
-ghost use Rattle.run_bindings.specs.BoundGroups.{results_by_place};
+ghost use Rattle.run_bindings.specs.BoundGroups.{results_by_index};
 ghost use Rattle.run_bindings.specs.BoundJobs.{AddsOne, AreBeside, AreNumbersOf};
 ghost use Rattle.run_bindings.specs.GroupKeys.{AllAreLater, AreLater, decided};
 ghost use Rattle.run_bindings.specs.LabelNumbers.{AreListsOf};
@@ -138,7 +138,7 @@ impl RunBindings {
               run_number = decimal number;
               run_attempt = decimal run.now.attempt;
             })) }
-        ensures own { IfOk result (λ b. b.keys.own ≡ option_map_or (decided (results_by_place run.now)) b.own NoGroup) }
+        ensures own { IfOk result (λ b. b.keys.own ≡ option_map_or (decided (results_by_index run.now)) b.own NoGroup) }
         ensures as_many { IfOk result (λ b. length b.keys.jobs ≡ length b.jobs) }
         ensures later { IfOk result (λ b. AllAreLater b.jobs b.keys.jobs) }
         ensures lists { IfOk result (λ b. AreListsOf lists.new r b.jobs b.lists) }
@@ -168,7 +168,7 @@ fn bind_identity(
     ensures err { ErrsOnlyByMemory result }
     ensures grows { OnlyGrows lists.old lists.new }
     ensures says { IfOk result (RunSays identity.now) }
-    ensures own { IfOk result (λ b. b.keys.own ≡ option_map_or (decided (results_by_place run.now)) b.own NoGroup) }
+    ensures own { IfOk result (λ b. b.keys.own ≡ option_map_or (decided (results_by_index run.now)) b.own NoGroup) }
     ensures as_many { IfOk result (λ b. length b.keys.jobs ≡ length b.jobs) }
     ensures later { IfOk result (λ b. AllAreLater b.jobs b.keys.jobs) }
     ensures lists { IfOk result (λ b. AreListsOf lists.new r b.jobs b.lists) }

@@ -9,7 +9,7 @@ use Rattle.std.proofs.lemmas.Option.{gets, slice_get-map}
 use Rattle.run_plan.specs.declared.planned.PlannedJob.{PlannedJob}
 use Rattle.run_states.specs.Cells.{JobCells, cells_of, in_state, states, rooms, legs_planned, blocked_cells, result_of}
 use Rattle.run_states.specs.FirstOf.{changed_at}
-use Rattle.run_states.specs.JobResults.{settled_result}
+use Rattle.run_states.specs.JobResults.{finished_result}
 use Rattle.run_states.specs.JobResults.{results_of}
 use Rattle.run_states.specs.NewRun.{blocked_job}
 use Rattle.run_states.specs.RunState.{LegState}
@@ -116,4 +116,4 @@ blocked_states (p ∷ plan) = ap (λ js. blocked_job ∷ js) (blocked_states pla
 
 pub results_of_cells : (xs : List JobCells) → filter_map result_of xs ≡ results_of (states xs)
 results_of_cells [] = refl
-results_of_cells (x ∷ xs) = ap (cons_option (settled_result x.state.phase)) (results_of_cells xs)
+results_of_cells (x ∷ xs) = ap (cons_option (finished_result x.state.phase)) (results_of_cells xs)

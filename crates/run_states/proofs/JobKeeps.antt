@@ -5,11 +5,11 @@ use Rattle.std.proofs.lemmas.Bool.{cases_eq}
 use Rattle.wf_value.specs.declared.outcome.JobResult.{JobResult}
 use Rattle.run_states.specs.FirstOf.{changed_at}
 use Rattle.run_states.specs.Places.{run_at, job_at, leg_at, with_leg}
-use Rattle.run_states.specs.declared.place.LegPlace.{LegPlace}
-use Rattle.run_states.specs.Rules.{leg_has_ended, is_settled, result_at}
+use Rattle.run_states.specs.declared.place.LegSite.{LegSite}
+use Rattle.run_states.specs.Rules.{leg_has_ended, is_finished, result_at}
 use Rattle.run_states.specs.RunState.{LegState, JobState, RunState}
 use Rattle.run_states.specs.SoundRuns.{PhaseFits, LegsFit, LeaseFits}
-use Rattle.run_states.specs.Words.{needs_have_settled, planned_legs, settled_result}
+use Rattle.run_states.specs.Words.{needs_have_finished, planned_legs, finished_result}
 use Rattle.run_states.specs.declared.phases.JobPhase.{JobPhase}
 use Rattle.run_states.specs.declared.phases.JobPhase.TheVariants as job
 use Rattle.run_states.specs.declared.phases.RunPhase.{RunPhase}
@@ -33,12 +33,12 @@ job_in runs r j y e =
     let f = from_and_then (λ (x : RunState). slice_get x.jobs j) (run_at runs r) y e in
     record { run = f.value; run_is = f.is; job_is = f.gives }
 
-pub record LegIn (runs : List RunState) (p : LegPlace) (z : LegState) : Type 0 where
+pub record LegIn (runs : List RunState) (p : LegSite) (z : LegState) : Type 0 where
   pub job : JobState
   pub place : JobIn runs p.run p.job job
   pub leg_is : slice_get job.legs p.leg ≡ Some z
 
-pub leg_in : (runs : List RunState) (p : LegPlace) (z : LegState) → leg_at runs p ≡ Some z → LegIn runs p z
+pub leg_in : (runs : List RunState) (p : LegSite) (z : LegState) → leg_at runs p ≡ Some z → LegIn runs p z
 leg_in runs p z e =
     let f = from_and_then (λ (x : JobState). slice_get x.legs p.leg) (job_at runs p.run p.job) z e in
     record { job = f.value; place = job_in runs p.run p.job f.value f.is; leg_is = f.gives }
@@ -56,9 +56,9 @@ pub open_is_live : (phase : RunPhase) (stopping : Bool) (jobs : List JobState) (
 open_is_live run.Waiting stopping jobs j y fits e is_open = let blocked : y.phase ≡ job.Blocked = fits.1 j y e in cc
 open_is_live run.Live stopping jobs j y fits e is_open = refl
 open_is_live run.Ended stopping jobs j y fits e is_open =
-    let settled : is_settled y ≡ true = fits j y e in
-    let absurdly : is_settled (record y { phase = job.Open }) ≡ true =
-    subst (λ (ph : JobPhase). is_settled (record y { phase = ph }) ≡ true) is_open settled in
+    let settled : is_finished y ≡ true = fits j y e in
+    let absurdly : is_finished (record y { phase = job.Open }) ≡ true =
+    subst (λ (ph : JobPhase). is_finished (record y { phase = ph }) ≡ true) is_open settled in
     cc
 
 pub record OpenWith (planned : ℕ) (phase : JobPhase) (legs : List LegState) : Type 0 where
@@ -73,7 +73,7 @@ pub unended_is_open : (planned : ℕ) (result : JobResult) (phase : JobPhase) (l
     → LegsFit planned result phase legs → slice_get legs l ≡ Some z → leg_has_ended z ≡ false → OpenWith planned phase legs
 unended_is_open planned result job.Blocked legs l z fits e un = absurd (no_leg legs l z fits e)
 unended_is_open planned result job.Open legs l z fits e un = record { open_is = refl; as_planned = fits }
-unended_is_open planned result (job.Settled r) legs l z fits e un =
+unended_is_open planned result (job.Finished r) legs l z fits e un =
     elim fits [
       | inl h ↦ absurd (no_leg legs l z h.0 e)
       | inr h ↦ let ended = each_passes leg_has_ended legs l z h.1 e in cc
@@ -83,8 +83,8 @@ unended_is_open planned result (job.Settled r) legs l z fits e un =
 
 -- a changed job that keeps its result, and has legs only if its needs have finished
 pub record NeedsStay (runs : List RunState) (r j : ℕ) (y z : JobState) : Type 0 where
-  pub keeps_result : (a : JobResult) → settled_result y.phase ≡ Some a → settled_result z.phase ≡ Some a
-  pub needs_first : (z.legs ≡ [] → ⊥) → needs_have_settled runs r j ≡ true
+  pub keeps_result : (a : JobResult) → finished_result y.phase ≡ Some a → finished_result z.phase ≡ Some a
+  pub needs_first : (z.legs ≡ [] → ⊥) → needs_have_finished runs r j ≡ true
 
 module _ (runs : List RunState) (r : ℕ) (x : RunState) (fit : RunFits runs r x) (j : ℕ) (y : JobState) (f : JobState → JobState)
     (was : slice_get x.jobs j ≡ Some y) where
@@ -93,12 +93,12 @@ module _ (runs : List RunState) (r : ℕ) (x : RunState) (fit : RunFits runs r x
   job_stays phase fits needs = record {
     same_admitted = refl;
     same_attempt = refl;
-    keeps_results = (λ k a e. reads_stay j f x.jobs y (λ z. settled_result z.phase) a was (needs.keeps_result a) k e);
+    keeps_results = (λ k a e. reads_stay j f x.jobs y (λ z. finished_result z.phase) a was (needs.keeps_result a) k e);
     fits = record {
       has_its_jobs = length-changed_at j f x.jobs ∙ fit.has_its_jobs;
       phase_fits = phase;
       jobs_fit = holds_of_each j f x.jobs y (λ k z. JobFits (planned_legs runs r k) (result_at runs r k z) z) was fits fit.jobs_fit;
-      needs_first = holds_of_each j f x.jobs y (λ k z. (z.legs ≡ [] → ⊥) → needs_have_settled runs r k ≡ true) was needs.needs_first
+      needs_first = holds_of_each j f x.jobs y (λ k z. (z.legs ≡ [] → ⊥) → needs_have_finished runs r k ≡ true) was needs.needs_first
           fit.needs_first;
     };
   }
@@ -131,7 +131,7 @@ leg_fits planned before result y l z f fits was un lease =
       leases_fit = holds_of_each l f y.legs z (λ _ v. LeaseFits v.phase v.lease) was lease fits.leases_fit;
     }
 
-module _ (runs : List RunState) (fit : RunsFit runs) (p : LegPlace) (z : LegState) (f : LegState → LegState) (is_in : LegIn runs p z)
+module _ (runs : List RunState) (fit : RunsFit runs) (p : LegSite) (z : LegState) (f : LegState → LegState) (is_in : LegIn runs p z)
     (un : leg_has_ended z ≡ false) (lease : LeaseFits (f z).phase (f z).lease) where
   run_fits : RunFits runs p.run is_in.place.run
   run_fits = fit p.run is_in.place.run is_in.place.run_is
@@ -182,7 +182,7 @@ module _ (runs : List RunState) (fit : RunsFit runs) (p : LegPlace) (z : LegStat
 
 -- ---- the legs after a change of one leg
 
-module _ (runs : List RunState) (p : LegPlace) (z : LegState) (f : LegState → LegState) (is_in : LegIn runs p z) where
+module _ (runs : List RunState) (p : LegSite) (z : LegState) (f : LegState → LegState) (is_in : LegIn runs p z) where
   run_now : run_at (with_leg p f runs) p.run ≡ Some (with_job_of p.job (with_leg_of p.leg f) is_in.place.run)
   run_now = at_changed p.run (with_job_of p.job (with_leg_of p.leg f)) runs
       ∙ ap (option_map (with_job_of p.job (with_leg_of p.leg f))) is_in.place.run_is
@@ -212,7 +212,7 @@ module _ (runs : List RunState) (p : LegPlace) (z : LegState) (f : LegState → 
       legs_now p.job p.leg ∙ ap (option_and_then (λ (y : JobState). slice_get y.legs p.leg)) job_now
       ∙ at_changed p.leg f is_in.job.legs ∙ ap (option_map f) is_in.leg_is
 
-  in_another_run : (q : LegPlace) → (q.run ≡ p.run → ⊥) → leg_at (with_leg p f runs) q ≡ leg_at runs q
+  in_another_run : (q : LegSite) → (q.run ≡ p.run → ⊥) → leg_at (with_leg p f runs) q ≡ leg_at runs q
   in_another_run q n =
       ap (λ o. option_and_then (λ (y : JobState). slice_get y.legs q.leg) (option_and_then (λ (x : RunState). slice_get x.jobs q.job) o))
       (at_another p.run (with_job_of p.job (with_leg_of p.leg f)) runs q.run n)
@@ -231,7 +231,7 @@ module _ (runs : List RunState) (p : LegPlace) (z : LegState) (f : LegState → 
       legs_now p.job l ∙ ap legs job_now ∙ at_another p.leg f is_in.job.legs l n ∙ sym (ap legs is_in.place.job_is)
       ∙ sym (legs_before p.job l)
 
-  pub leg_elsewhere : (q : LegPlace) → (q ≡ p → ⊥) → leg_at (with_leg p f runs) q ≡ leg_at runs q
+  pub leg_elsewhere : (q : LegSite) → (q ≡ p → ⊥) → leg_at (with_leg p f runs) q ≡ leg_at runs q
   leg_elsewhere q n =
       elim (cases_eq q.run p.run) [
         | inr r ↦ in_another_run q r

@@ -5,19 +5,19 @@ use Rattle.std.proofs.Common.{arith, ap, sym, ◌∙◌, inl, inr}
 use Rattle.std.proofs.lemmas.Bool.{cases_eq, true≢false}
 use Rattle.std.proofs.lemmas.Option.{none-some}
 use Rattle.std.proofs.lemmas.Slice.Eq.{bytes_eq-Decides}
-use Rattle.run_states.specs.declared.place.LegPlace.{LegPlace}
+use Rattle.run_states.specs.declared.place.LegSite.{LegSite}
 
-pub same_place : (p q : LegPlace) → p.run ≡ q.run → p.job ≡ q.job → p.leg ≡ q.leg → p ≡ q
+pub same_place : (p q : LegSite) → p.run ≡ q.run → p.job ≡ q.job → p.leg ≡ q.leg → p ≡ q
 same_place p q a b c = λ i. record { run = a i; job = b i; leg = c i }
 
-pub place_or_another : (p q : LegPlace) → (p ≡ q) ⊎ (p ≡ q → ⊥)
+pub place_or_another : (p q : LegSite) → (p ≡ q) ⊎ (p ≡ q → ⊥)
 place_or_another p q =
     elim (cases_eq p.run q.run) [
-      | inr n ↦ inr (λ e. n (ap (λ (x : LegPlace). x.run) e))
+      | inr n ↦ inr (λ e. n (ap (λ (x : LegSite). x.run) e))
       | inl a ↦ elim (cases_eq p.job q.job) [
-        | inr n ↦ inr (λ e. n (ap (λ (x : LegPlace). x.job) e))
+        | inr n ↦ inr (λ e. n (ap (λ (x : LegSite). x.job) e))
         | inl b ↦ elim (cases_eq p.leg q.leg) [
-          | inr n ↦ inr (λ e. n (ap (λ (x : LegPlace). x.leg) e))
+          | inr n ↦ inr (λ e. n (ap (λ (x : LegSite). x.leg) e))
           | inl c ↦ inl (same_place p q a b c)
         ]
       ]
@@ -33,12 +33,12 @@ names_same a b =
 
 -- `had` gives the lease of each leg, `works` the lease of each leg with a runner at work, and `holds` the lease that the runner of each
 -- name holds
-pub record LeasesAgree (last : ℕ) (had works : LegPlace → Option ℕ) (holds : List ℕ → Option ℕ) : Type 0 where
-  pub given : (p : LegPlace) (n : ℕ) → had p ≡ Some n → (1 ≤ n) × (n ≤ last)
-  pub differ : (p q : LegPlace) (n : ℕ) → had p ≡ Some n → had q ≡ Some n → p ≡ q
-  pub work_is_had : (p : LegPlace) (n : ℕ) → works p ≡ Some n → had p ≡ Some n
-  pub work_is_held : (p : LegPlace) (n : ℕ) → works p ≡ Some n → (k : List ℕ) × (holds k ≡ Some n)
-  pub held_is_work : (k : List ℕ) (n : ℕ) → holds k ≡ Some n → (p : LegPlace) × (works p ≡ Some n)
+pub record LeasesAgree (last : ℕ) (had works : LegSite → Option ℕ) (holds : List ℕ → Option ℕ) : Type 0 where
+  pub given : (p : LegSite) (n : ℕ) → had p ≡ Some n → (1 ≤ n) × (n ≤ last)
+  pub differ : (p q : LegSite) (n : ℕ) → had p ≡ Some n → had q ≡ Some n → p ≡ q
+  pub work_is_had : (p : LegSite) (n : ℕ) → works p ≡ Some n → had p ≡ Some n
+  pub work_is_held : (p : LegSite) (n : ℕ) → works p ≡ Some n → (k : List ℕ) × (holds k ≡ Some n)
+  pub held_is_work : (k : List ℕ) (n : ℕ) → holds k ≡ Some n → (p : LegSite) × (works p ≡ Some n)
   pub held_once : (a b : List ℕ) (n : ℕ) → holds a ≡ Some n → holds b ≡ Some n → a ≡ b
 
 -- a reading changes at one place only
@@ -79,29 +79,29 @@ read_elsewhere one_or_another before after at change p n e =
 
 -- ---- a lease is given
 
-module _ (last : ℕ) (had works had' works' : LegPlace → Option ℕ) (holds holds' : List ℕ → Option ℕ) (at : LegPlace) (runner : List ℕ)
+module _ (last : ℕ) (had works had' works' : LegSite → Option ℕ) (holds holds' : List ℕ → Option ℕ) (at : LegSite) (runner : List ℕ)
     (agree : LeasesAgree last had works holds)
     (free_leg : had at ≡ None) (free_runner : holds runner ≡ None)
     (h : ChangesAt had had' at (Some (last + 1))) (w : ChangesAt works works' at (Some (last + 1)))
     (r : ChangesAt holds holds' runner (Some (last + 1))) where
-  new_not_had : (p : LegPlace) → had p ≡ Some (last + 1) → ⊥
+  new_not_had : (p : LegSite) → had p ≡ Some (last + 1) → ⊥
   new_not_had p e = let g = (agree.given p (last + 1) e).1 in omega (arith, g)
 
-  given' : (p : LegPlace) (n : ℕ) → had' p ≡ Some n → (1 ≤ n) × (n ≤ last + 1)
+  given' : (p : LegSite) (n : ℕ) → had' p ≡ Some n → (1 ≤ n) × (n ≤ last + 1)
   given' p n e =
       elim (place_or_another p at) [
         | inl s ↦ let is = is_new (last + 1) n (sym h.here ∙ ap had' (sym s) ∙ e) in omega (arith, is)
         | inr s ↦ let g = agree.given p n (sym (h.elsewhere p s) ∙ e) in omega (arith, g)
       ]
 
-  work_is_had' : (p : LegPlace) (n : ℕ) → works' p ≡ Some n → had' p ≡ Some n
+  work_is_had' : (p : LegSite) (n : ℕ) → works' p ≡ Some n → had' p ≡ Some n
   work_is_had' p n e =
       elim (place_or_another p at) [
         | inl s ↦ ap had' s ∙ h.here ∙ sym w.here ∙ ap works' (sym s) ∙ e
         | inr s ↦ h.elsewhere p s ∙ agree.work_is_had p n (sym (w.elsewhere p s) ∙ e)
       ]
 
-  work_is_held' : (p : LegPlace) (n : ℕ) → works' p ≡ Some n → (k : List ℕ) × (holds' k ≡ Some n)
+  work_is_held' : (p : LegSite) (n : ℕ) → works' p ≡ Some n → (k : List ℕ) × (holds' k ≡ Some n)
   work_is_held' p n e =
       elim (place_or_another p at) [
         | inl s ↦ (runner, r.here ∙ sym w.here ∙ ap works' (sym s) ∙ e)
@@ -110,7 +110,7 @@ module _ (last : ℕ) (had works had' works' : LegPlace → Option ℕ) (holds h
             (k, r.elsewhere k (λ t. none-some n (sym free_runner ∙ ap holds (sym t) ∙ f)) ∙ f)
       ]
 
-  held_is_work' : (k : List ℕ) (n : ℕ) → holds' k ≡ Some n → (p : LegPlace) × (works' p ≡ Some n)
+  held_is_work' : (k : List ℕ) (n : ℕ) → holds' k ≡ Some n → (p : LegSite) × (works' p ≡ Some n)
   held_is_work' k n e =
       elim (names_same k runner) [
         | inl s ↦ (at, w.here ∙ sym r.here ∙ ap holds' (sym s) ∙ e)
@@ -135,18 +135,18 @@ module _ (last : ℕ) (had works had' works' : LegPlace → Option ℕ) (holds h
 
 -- ---- the leg with a lease ends
 
-module _ (last : ℕ) (had works works' : LegPlace → Option ℕ) (holds holds' : List ℕ → Option ℕ) (at : LegPlace)
+module _ (last : ℕ) (had works works' : LegSite → Option ℕ) (holds holds' : List ℕ → Option ℕ) (at : LegSite)
     (runner : List ℕ) (lease : ℕ)
     (agree : LeasesAgree last had works holds)
     (work_here : works at ≡ Some lease) (held_here : holds runner ≡ Some lease) (w : ChangesAt works works' at None)
     (r : ChangesAt holds holds' runner None) where
-  works_elsewhere : (p : LegPlace) (n : ℕ) → works' p ≡ Some n → (p ≡ at → ⊥) × (works p ≡ Some n)
+  works_elsewhere : (p : LegSite) (n : ℕ) → works' p ≡ Some n → (p ≡ at → ⊥) × (works p ≡ Some n)
   works_elsewhere = read_elsewhere place_or_another works works' at w
 
   holds_elsewhere : (k : List ℕ) (n : ℕ) → holds' k ≡ Some n → (k ≡ runner → ⊥) × (holds k ≡ Some n)
   holds_elsewhere = read_elsewhere names_same holds holds' runner r
 
-  still_held : (p : LegPlace) (n : ℕ) → works' p ≡ Some n → (k : List ℕ) × (holds' k ≡ Some n)
+  still_held : (p : LegSite) (n : ℕ) → works' p ≡ Some n → (k : List ℕ) × (holds' k ≡ Some n)
   still_held p n e =
       let before = works_elsewhere p n e in
       let (k, f) = agree.work_is_held p n before.1 in (
@@ -157,7 +157,7 @@ module _ (last : ℕ) (had works works' : LegPlace → Option ℕ) (holds holds'
             (agree.work_is_had at n (work_here ∙ sym held_here ∙ ap holds (sym t) ∙ f)))) ∙ f,
       )
 
-  still_at_work : (k : List ℕ) (n : ℕ) → holds' k ≡ Some n → (p : LegPlace) × (works' p ≡ Some n)
+  still_at_work : (k : List ℕ) (n : ℕ) → holds' k ≡ Some n → (p : LegSite) × (works' p ≡ Some n)
   still_at_work k n e =
       let before = holds_elsewhere k n e in
       let (p, f) = agree.held_is_work k n before.1 in
@@ -175,8 +175,8 @@ module _ (last : ℕ) (had works works' : LegPlace → Option ℕ) (holds holds'
 
 -- ---- nothing that is read changes
 
-pub leases_same : (last : ℕ) (had works had' works' : LegPlace → Option ℕ) (holds holds' : List ℕ → Option ℕ)
-    → ((p : LegPlace) → had' p ≡ had p) → ((p : LegPlace) → works' p ≡ works p) → ((k : List ℕ) → holds' k ≡ holds k)
+pub leases_same : (last : ℕ) (had works had' works' : LegSite → Option ℕ) (holds holds' : List ℕ → Option ℕ)
+    → ((p : LegSite) → had' p ≡ had p) → ((p : LegSite) → works' p ≡ works p) → ((k : List ℕ) → holds' k ≡ holds k)
     → LeasesAgree last had works holds → LeasesAgree last had' works' holds'
 leases_same last had works had' works' holds holds' h w r agree = record {
   given = (λ p n e. agree.given p n (sym (h p) ∙ e));

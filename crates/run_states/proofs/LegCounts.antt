@@ -13,7 +13,7 @@ use Rattle.run_states.specs.Fitting.{is_ready}
 use Rattle.run_states.specs.Groups.{leg_holds, leg_waits}
 use Rattle.run_states.specs.LegCounts.{AreCounted, is_unready_leg, legs_in}
 use Rattle.run_states.specs.Parallel.{is_at_work}
-use Rattle.run_states.specs.Places.{leg_place}
+use Rattle.run_states.specs.Places.{leg_site}
 use Rattle.run_states.specs.RunState.{LegState, RunState}
 use Rattle.run_states.specs.StateWords.{is_new, leg_has_ended, new_leg, outcome_of}
 use Rattle.run_states.specs.WithinRun.{first_of_legs, goes_on, goes_on_in}
@@ -172,23 +172,23 @@ all_new_counted n counts newcomers waiting ready at_work = record {
 
 module _ (runs : List RunState) (r j : ℕ) where
   no_rule : (phase : LegPhase) (n : ℕ) (l : LegState) → l.phase ≡ phase → is_new phase ≡ false → leg_waits phase ≡ false
-      → goes_on runs (leg_place r j n) l ≡ false
+      → goes_on runs (leg_site r j n) l ≡ false
   no_rule leg.New n l is new waits = absurd (true≢false new)
   no_rule leg.Waiting n l is new waits = absurd (true≢false waits)
-  no_rule leg.Ready n l is new waits = ap (λ p. goes_on_in p runs (leg_place r j n)) is
-  no_rule leg.Running n l is new waits = ap (λ p. goes_on_in p runs (leg_place r j n)) is
-  no_rule leg.Stopping n l is new waits = ap (λ p. goes_on_in p runs (leg_place r j n)) is
-  no_rule (leg.Ended o) n l is new waits = ap (λ p. goes_on_in p runs (leg_place r j n)) is
+  no_rule leg.Ready n l is new waits = ap (λ p. goes_on_in p runs (leg_site r j n)) is
+  no_rule leg.Running n l is new waits = ap (λ p. goes_on_in p runs (leg_site r j n)) is
+  no_rule leg.Stopping n l is new waits = ap (λ p. goes_on_in p runs (leg_site r j n)) is
+  no_rule (leg.Ended o) n l is new waits = ap (λ p. goes_on_in p runs (leg_site r j n)) is
 
   abbrev of_leg : ℕ × LegState → Option RuleSite
-  of_leg l = if goes_on runs (leg_place r j l.0) l.1 then Some (AtLeg (leg_place r j l.0)) else None
+  of_leg l = if goes_on runs (leg_site r j l.0) l.1 then Some (AtLeg (leg_site r j l.0)) else None
 
   none_from : (n : ℕ) (legs : List LegState) → list_any is_unready_leg legs ≡ false → first_some of_leg (enumerate_from n legs) ≡ None
   none_from n [] none = refl
   none_from n (l ∷ legs) none =
       let parts = or_parts (is_unready_leg l) (list_any is_unready_leg legs) none in
       let leg = or_parts (is_new l.phase) (leg_waits l.phase) parts.0 in
-      ap (λ b. option_or (if b then Some (AtLeg (leg_place r j n)) else None) (first_some of_leg (enumerate_from (n + 1) legs)))
+      ap (λ b. option_or (if b then Some (AtLeg (leg_site r j n)) else None) (first_some of_leg (enumerate_from (n + 1) legs)))
       (no_rule l.phase n l refl leg.0 leg.1)
       ∙ none_from (n + 1) legs parts.1
 

@@ -18,15 +18,15 @@ use Rattle.run_states.specs.FirstOf.{placed}
 use Rattle.run_states.specs.JobResults.{direct_needs, needs_in, results_so_far, with_result}
 use Rattle.run_states.specs.LegContext.{LegFacts, context_of, context_at, facts_at, nothing}
 use Rattle.run_states.specs.Places.{plan_at, run_at}
-use Rattle.run_states.specs.declared.place.LegPlace.{LegPlace}
+use Rattle.run_states.specs.declared.place.LegSite.{LegSite}
 use Rattle.run_states.specs.Rules.{leg_end, outcome_of, result_at}
 use Rattle.run_states.specs.RunNumber.{events, same_workflow}
 use Rattle.run_states.specs.RunState.{LegState, JobState, RunState}
-use Rattle.run_states.specs.Words.{all_have_results, is_set_for, needs_have_settled, continues_on_error}
+use Rattle.run_states.specs.Words.{all_have_results, is_set_for, needs_have_finished, continues_on_error}
 use Rattle.run_states.proofs.NeedsSettled.{KeepsResults, result_of_job}
 
 -- the facts of a leg, from its run's event and attempt, the events up to it, and the needs of its job
-abbrev pub leg_facts_of : LegPlace → Admitted → ℕ → List Admitted → List (List ℕ × Option JobResult) → PlannedJob → LegFacts
+abbrev pub leg_facts_of : LegSite → Admitted → ℕ → List Admitted → List (List ℕ × Option JobResult) → PlannedJob → LegFacts
 leg_facts_of p event attempt all needs job = record {
   event = event;
   run_id = decimal (p.run + 1);
@@ -37,31 +37,31 @@ leg_facts_of p event attempt all needs job = record {
   needs = needs;
 }
 
-abbrev pub leg_facts : LegPlace → Admitted → ℕ → List Admitted → List (List ℕ × Option JobResult) → Option LegFacts
+abbrev pub leg_facts : LegSite → Admitted → ℕ → List Admitted → List (List ℕ × Option JobResult) → Option LegFacts
 leg_facts p event attempt all needs = option_map (leg_facts_of p event attempt all needs) (slice_get (plan_of event.body) p.job)
 
-abbrev pub leg_facts_in : LegPlace → List Admitted → RunState → Option LegFacts
+abbrev pub leg_facts_in : LegSite → List Admitted → RunState → Option LegFacts
 leg_facts_in p all run = leg_facts p run.admitted run.attempt all (direct_needs run p.job)
 
-pub facts_are : (runs : List RunState) (p : LegPlace)
+pub facts_are : (runs : List RunState) (p : LegSite)
     → facts_at runs p ≡ option_and_then (leg_facts_in p (take (p.run + 1) (events runs))) (run_at runs p.run)
 unfolding facts_at
 facts_are runs p = refl
 
 -- ---- if a leg has facts, its job is planned
 
-job_told : (p : LegPlace) (event : Admitted) (attempt : ℕ) (all : List Admitted) (needs : List (List ℕ × Option JobResult)) (o : Option PlannedJob)
+job_told : (p : LegSite) (event : Admitted) (attempt : ℕ) (all : List Admitted) (needs : List (List ℕ × Option JobResult)) (o : Option PlannedJob)
     → o ≡ option_map (λ (f : LegFacts). f.job) (option_map (leg_facts_of p event attempt all needs) o)
 job_told p event attempt all needs None = refl
 job_told p event attempt all needs (Some job) = refl
 
-plan_in : (p : LegPlace) (all : List Admitted) (o : Option RunState)
+plan_in : (p : LegSite) (all : List Admitted) (o : Option RunState)
     → option_and_then (λ run. slice_get (plan_of run.admitted.body) p.job) o
     ≡ option_map (λ f. f.job) (option_and_then (leg_facts_in p all) o)
 plan_in p all None = refl
 plan_in p all (Some run) = job_told p run.admitted run.attempt all (direct_needs run p.job) (slice_get (plan_of run.admitted.body) p.job)
 
-pub plan_of_facts : (runs : List RunState) (p : LegPlace) → plan_at runs p.run p.job ≡ option_map (λ f. f.job) (facts_at runs p)
+pub plan_of_facts : (runs : List RunState) (p : LegSite) → plan_at runs p.run p.job ≡ option_map (λ f. f.job) (facts_at runs p)
 plan_of_facts runs p =
     plan_in p (take (p.run + 1) (events runs)) (run_at runs p.run) ∙ ap (option_map (λ (f : LegFacts). f.job)) (sym (facts_are runs p))
 
@@ -70,13 +70,13 @@ plan_of_facts runs p =
 abbrev pub passes_in : LegFacts → Bool
 passes_in f = is_set_for (context_of f) f.job f.leg
 
-passes_by : (p : LegPlace) (event : Admitted) (attempt : ℕ) (all : List Admitted) (needs : List (List ℕ × Option JobResult)) (o : Option PlannedJob)
+passes_by : (p : LegSite) (event : Admitted) (attempt : ℕ) (all : List Admitted) (needs : List (List ℕ × Option JobResult)) (o : Option PlannedJob)
     → option_map_or (λ planned. is_set_for (option_map_or context_of (option_map (leg_facts_of p event attempt all needs) o) nothing) planned p.leg) o false
     ≡ option_map_or passes_in (option_map (leg_facts_of p event attempt all needs) o) false
 passes_by p event attempt all needs None = refl
 passes_by p event attempt all needs (Some job) = refl
 
-passes_of_run : (p : LegPlace) (all : List Admitted) (o : Option RunState)
+passes_of_run : (p : LegSite) (all : List Admitted) (o : Option RunState)
     → option_map_or (λ planned. is_set_for (option_map_or context_of (option_and_then (leg_facts_in p all) o) nothing) planned p.leg)
     (option_and_then (λ run. slice_get (plan_of run.admitted.body) p.job) o) false
     ≡ option_map_or passes_in (option_and_then (leg_facts_in p all) o) false
@@ -84,7 +84,7 @@ passes_of_run p all None = refl
 passes_of_run p all (Some run) =
     passes_by p run.admitted run.attempt all (direct_needs run p.job) (slice_get (plan_of run.admitted.body) p.job)
 
-pub passes_told : (runs : List RunState) (p : LegPlace) → continues_on_error runs p ≡ option_map_or passes_in (facts_at runs p) false
+pub passes_told : (runs : List RunState) (p : LegSite) → continues_on_error runs p ≡ option_map_or passes_in (facts_at runs p) false
 unfolding context_at
 passes_told runs p =
     let leg_facts = facts_are runs p in
@@ -148,7 +148,7 @@ attempt_in o = option_map (λ run. run.attempt) o
 abbrev pub attempt_at : List RunState → ℕ → Option ℕ
 attempt_at runs r = attempt_in (run_at runs r)
 
-leg_facts_same : (p : LegPlace) (all others : List Admitted) (o u : Option RunState) → admitted_in u ≡ admitted_in o
+leg_facts_same : (p : LegSite) (all others : List Admitted) (o u : Option RunState) → admitted_in u ≡ admitted_in o
     → attempt_in u ≡ attempt_in o → others ≡ all
     → all_have_results (option_map_or (λ run. results_so_far run.jobs) o []) (needs_at (option_map_or needs_in o []) p.job) ≡ true
     → KeepResults (option_map_or (λ run. results_so_far run.jobs) o []) (option_map_or (λ run. results_so_far run.jobs) u [])
@@ -164,8 +164,8 @@ leg_facts_same p all others (Some x) (Some y) same attempt prefix settled kept =
     ∙ ap (leg_facts p x.admitted x.attempt all) (needs_kept x y p.job event settled kept)
 
 -- The facts of a leg do not change once the needs of its job have finished, as long as these keep their results.
-pub facts_stay : (runs next : List RunState) (p : LegPlace) → SameUpTo p.run (events next) (events runs)
-    → attempt_at next p.run ≡ attempt_at runs p.run → needs_have_settled runs p.run p.job ≡ true → KeepsResults runs next p.run
+pub facts_stay : (runs next : List RunState) (p : LegSite) → SameUpTo p.run (events next) (events runs)
+    → attempt_at next p.run ≡ attempt_at runs p.run → needs_have_finished runs p.run p.job ≡ true → KeepsResults runs next p.run
     → facts_at next p ≡ facts_at runs p
 facts_stay runs next p same attempt settled kept =
     let admitted = λ (run : RunState). run.admitted in
@@ -176,8 +176,8 @@ facts_stay runs next p same attempt settled kept =
     (λ k r e. result_of_job next p.run k ∙ kept k r (sym (result_of_job runs p.run k) ∙ e))
     ∙ sym (facts_are runs p)
 
-passes_stay : (runs next : List RunState) (p : LegPlace) → SameUpTo p.run (events next) (events runs)
-    → attempt_at next p.run ≡ attempt_at runs p.run → needs_have_settled runs p.run p.job ≡ true → KeepsResults runs next p.run
+passes_stay : (runs next : List RunState) (p : LegSite) → SameUpTo p.run (events next) (events runs)
+    → attempt_at next p.run ≡ attempt_at runs p.run → needs_have_finished runs p.run p.job ≡ true → KeepsResults runs next p.run
     → continues_on_error next p ≡ continues_on_error runs p
 passes_stay runs next p same attempt settled kept =
     passes_told next p
@@ -194,7 +194,7 @@ ends_same f g (x ∷ xs) same =
 
 result_of_legs : (runs next : List RunState) (r j : ℕ) (legs : List LegState) → SameUpTo r (events next) (events runs)
     → attempt_at next r ≡ attempt_at runs r
-    → ((legs ≡ [] → ⊥) → needs_have_settled runs r j ≡ true) → KeepsResults runs next r
+    → ((legs ≡ [] → ⊥) → needs_have_finished runs r j ≡ true) → KeepsResults runs next r
     → gathered (filter_map (leg_end next r j) (placed legs)) ≡ gathered (filter_map (leg_end runs r j) (placed legs))
 result_of_legs runs next r j [] same attempt first kept = refl
 result_of_legs runs next r j (x ∷ legs) same attempt first kept =
@@ -206,6 +206,6 @@ result_of_legs runs next r j (x ∷ legs) same attempt first kept =
 -- the result of a job from its legs, if its needs have finished whenever it has legs
 pub result_stays : (runs next : List RunState) (r j : ℕ) (y : JobState) → SameUpTo r (events next) (events runs)
     → attempt_at next r ≡ attempt_at runs r
-    → ((y.legs ≡ [] → ⊥) → needs_have_settled runs r j ≡ true) → KeepsResults runs next r
+    → ((y.legs ≡ [] → ⊥) → needs_have_finished runs r j ≡ true) → KeepsResults runs next r
     → result_at next r j y ≡ result_at runs r j y
 result_stays runs next r j y same attempt first kept = result_of_legs runs next r j y.legs same attempt first kept

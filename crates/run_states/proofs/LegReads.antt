@@ -3,7 +3,7 @@ use Rattle.std.specs.Prelude.{◌≡◌, ℕ, List, Bool, true, false, Option, S
 use Rattle.std.proofs.Common.{ap, sym, ◌∙◌}
 use Rattle.run_states.specs.Parallel.{is_at_work}
 use Rattle.run_states.specs.Places.{run_at, job_at, leg_at}
-use Rattle.run_states.specs.declared.place.LegPlace.{LegPlace}
+use Rattle.run_states.specs.declared.place.LegSite.{LegSite}
 use Rattle.run_states.specs.RunState.{LegState, JobState, RunState}
 use Rattle.run_states.proofs.Optional.{From, from_and_then}
 
@@ -23,10 +23,10 @@ had_in run j l = option_and_then (λ job. had_in_job job l) (slice_get run.jobs 
 abbrev pub works_in : RunState → ℕ → ℕ → Option ℕ
 works_in run j l = option_and_then (λ job. works_in_job job l) (slice_get run.jobs j)
 
-abbrev pub had_at : List RunState → LegPlace → Option ℕ
+abbrev pub had_at : List RunState → LegSite → Option ℕ
 had_at runs p = option_and_then (λ run. had_in run p.job p.leg) (run_at runs p.run)
 
-abbrev pub works_at : List RunState → LegPlace → Option ℕ
+abbrev pub works_at : List RunState → LegSite → Option ℕ
 works_at runs p = option_and_then (λ run. works_in run p.job p.leg) (run_at runs p.run)
 
 -- ---- between the leg at a place and what is read there
@@ -36,27 +36,27 @@ and_then_twice : {X Y Z : Type 0} (f : Y → Option Z) (g : X → Option Y) (o :
 and_then_twice f g None = refl
 and_then_twice f g (Some x) = refl
 
-pub had_is : (runs : List RunState) (p : LegPlace) → option_and_then (λ (y : LegState). y.lease) (leg_at runs p) ≡ had_at runs p
+pub had_is : (runs : List RunState) (p : LegSite) → option_and_then (λ (y : LegState). y.lease) (leg_at runs p) ≡ had_at runs p
 had_is runs p =
     and_then_twice (λ (y : LegState). y.lease) (λ (job : JobState). slice_get job.legs p.leg) (job_at runs p.run p.job)
     ∙ and_then_twice (λ (job : JobState). had_in_job job p.leg) (λ (run : RunState). slice_get run.jobs p.job) (run_at runs p.run)
 
-pub works_is : (runs : List RunState) (p : LegPlace) → option_and_then work_of (leg_at runs p) ≡ works_at runs p
+pub works_is : (runs : List RunState) (p : LegSite) → option_and_then work_of (leg_at runs p) ≡ works_at runs p
 works_is runs p =
     and_then_twice work_of (λ (job : JobState). slice_get job.legs p.leg) (job_at runs p.run p.job)
     ∙ and_then_twice (λ (job : JobState). works_in_job job p.leg) (λ (run : RunState). slice_get run.jobs p.job) (run_at runs p.run)
 
-pub had_from_leg : (runs : List RunState) (p : LegPlace) (x : LegState) → leg_at runs p ≡ Some x → had_at runs p ≡ x.lease
+pub had_from_leg : (runs : List RunState) (p : LegSite) (x : LegState) → leg_at runs p ≡ Some x → had_at runs p ≡ x.lease
 had_from_leg runs p x e = sym (had_is runs p) ∙ ap (option_and_then (λ (y : LegState). y.lease)) e
 
-pub works_from_leg : (runs : List RunState) (p : LegPlace) (x : LegState) → leg_at runs p ≡ Some x → works_at runs p ≡ work_of x
+pub works_from_leg : (runs : List RunState) (p : LegSite) (x : LegState) → leg_at runs p ≡ Some x → works_at runs p ≡ work_of x
 works_from_leg runs p x e = sym (works_is runs p) ∙ ap (option_and_then work_of) e
 
-pub leg_from_had : (runs : List RunState) (p : LegPlace) (n : ℕ) → had_at runs p ≡ Some n
+pub leg_from_had : (runs : List RunState) (p : LegSite) (n : ℕ) → had_at runs p ≡ Some n
     → From (λ (y : LegState). y.lease) (leg_at runs p) n
 leg_from_had runs p n e = from_and_then (λ (y : LegState). y.lease) (leg_at runs p) n (had_is runs p ∙ e)
 
-pub leg_from_works : (runs : List RunState) (p : LegPlace) (n : ℕ) → works_at runs p ≡ Some n → From work_of (leg_at runs p) n
+pub leg_from_works : (runs : List RunState) (p : LegSite) (n : ℕ) → works_at runs p ≡ Some n → From work_of (leg_at runs p) n
 leg_from_works runs p n e = from_and_then work_of (leg_at runs p) n (works_is runs p ∙ e)
 
 -- a leg with a runner at work has a lease

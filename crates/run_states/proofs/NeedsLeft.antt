@@ -12,17 +12,17 @@ use Rattle.run_plan.specs.declared.planned.PlannedJob.{PlannedJob}
 use Rattle.needs_graph.specs.JobBitmap.{places}
 use Rattle.run_states.specs.Cells.{JobCells, states}
 use Rattle.run_states.specs.FirstOf.{changed_at}
-use Rattle.run_states.specs.JobResults.{results_so_far, settled_result}
+use Rattle.run_states.specs.JobResults.{results_so_far, finished_result}
 use Rattle.run_states.specs.LegCounts.{one_where}
-use Rattle.run_states.specs.NeedsLeft.{ArePlanned, NamedOnce, NeedsAreLeft, needs_left_at, unsettled}
-use Rattle.run_states.specs.Rules.{settled_as}
+use Rattle.run_states.specs.NeedsLeft.{ArePlanned, NamedOnce, NeedsAreLeft, needs_left_at, unfinished}
+use Rattle.run_states.specs.Rules.{finished_as}
 use Rattle.run_states.specs.RunState.{JobState}
 use Rattle.run_states.specs.Words.{all_have_results}
 use Rattle.run_states.proofs.NamedOnce.{as_often, count_cons, count_no, count_yes, not_same}
 
 -- whether the job at an index has not finished
-abbrev pub is_unsettled : List JobState → ℕ → Bool
-is_unsettled jobs k = is_none (slice_index_or (results_so_far jobs) k None)
+abbrev pub is_unfinished : List JobState → ℕ → Bool
+is_unfinished jobs k = is_none (slice_index_or (results_so_far jobs) k None)
 
 -- ---- what a count says
 
@@ -35,10 +35,10 @@ first_has (Some r) n b rest = let same : n ≡ 0 + n = omega arith in rest ∙ a
 
 -- the count is 0 exactly if all needs have finished
 pub none_left : (results : List (Option JobResult)) (places : List ℕ)
-    → all_have_results results places ≡ nat_eq (unsettled results places) 0
+    → all_have_results results places ≡ nat_eq (unfinished results places) 0
 none_left results [] = refl
 none_left results (p ∷ ps) =
-    first_has (slice_index_or results p None) (unsettled results ps) (all_have_results results ps) (none_left results ps)
+    first_has (slice_index_or results p None) (unfinished results ps) (all_have_results results ps) (none_left results ps)
     ∙ ap (λ n. nat_eq n 0) (sym (count_cons (λ place. is_none (slice_index_or results place None)) p ps))
 
 pub settled_by_count : (needs : List (List ℕ)) (jobs : List JobCells) (j n : ℕ) → NeedsAreLeft needs jobs → needs_left_at jobs j ≡ n
@@ -55,25 +55,25 @@ none_past jobs j past =
 
 module _ (old new : List (Option JobResult)) where
   pub unsettled_same : ((k : ℕ) → is_none (slice_index_or new k None) ≡ is_none (slice_index_or old k None)) → (places : List ℕ)
-      → unsettled new places ≡ unsettled old places
+      → unfinished new places ≡ unfinished old places
   unsettled_same same [] = refl
   unsettled_same same (p ∷ ps) =
       count_cons (λ place. is_none (slice_index_or new place None)) p ps
       ∙ ap (λ n. cond (is_none (slice_index_or new p None)) 1 0 + n) (unsettled_same same ps)
-      ∙ ap (λ b. cond b 1 0 + unsettled old ps) (same p)
+      ∙ ap (λ b. cond b 1 0 + unfinished old ps) (same p)
       ∙ sym (count_cons (λ place. is_none (slice_index_or old place None)) p ps)
 
   -- once one more job has finished, the count falls by the number of times that the job is listed
   pub unsettled_less : (j : ℕ) → is_none (slice_index_or old j None) ≡ true → is_none (slice_index_or new j None) ≡ false
       → ((k : ℕ) → (k ≡ j → ⊥) → slice_index_or new k None ≡ slice_index_or old k None) → (places : List ℕ)
-      → unsettled old places ≡ unsettled new places + count_by (nat_eq j) places
+      → unfinished old places ≡ unfinished new places + count_by (nat_eq j) places
   unsettled_less j was is others [] = refl
   unsettled_less j was is others (p ∷ ps) =
       let rest = unsettled_less j was is others ps in
       let cons_old = count_cons (λ place. is_none (slice_index_or old place None)) p ps in
       let cons_new = count_cons (λ place. is_none (slice_index_or new place None)) p ps in
       elim (nat_eq j p)
-      as (λ b. nat_eq j p ≡ b → unsettled old (p ∷ ps) ≡ unsettled new (p ∷ ps) + count_by (nat_eq j) (p ∷ ps)) [
+      as (λ b. nat_eq j p ≡ b → unfinished old (p ∷ ps) ≡ unfinished new (p ∷ ps) + count_by (nat_eq j) (p ∷ ps)) [
         | true ↦
             λ there.
             let same = eqb-true j p there in
@@ -102,7 +102,7 @@ result_elsewhere f (x ∷ xs) (suc j) zero differ = refl
 result_elsewhere f (x ∷ xs) (suc j) (suc k) differ = result_elsewhere f xs j k (λ e. differ (ap suc e))
 
 pub settled_there : (settled : JobResult) (jobs : List JobState) (j : ℕ) → j < length jobs
-    → is_unsettled (changed_at j (settled_as settled) jobs) j ≡ false
+    → is_unfinished (changed_at j (finished_as settled) jobs) j ≡ false
 settled_there settled [] j lt = absurd (omega arith)
 settled_there settled (x ∷ xs) zero lt = refl
 settled_there settled (x ∷ xs) (suc j) lt = settled_there settled xs j (omega arith)
@@ -110,7 +110,7 @@ settled_there settled (x ∷ xs) (suc j) lt = settled_there settled xs j (omega 
 -- ---- the counts after a change
 
 pub left_same : (needs : List (List ℕ)) (old new : List JobCells) → NeedsAreLeft needs old
-    → ((k : ℕ) → needs_left_at new k ≡ needs_left_at old k) → ((k : ℕ) → is_unsettled (states new) k ≡ is_unsettled (states old) k)
+    → ((k : ℕ) → needs_left_at new k ≡ needs_left_at old k) → ((k : ℕ) → is_unfinished (states new) k ≡ is_unfinished (states old) k)
     → NeedsAreLeft needs new
 left_same needs old new left counts same d =
     counts d ∙ left d
@@ -121,21 +121,21 @@ less a b c is = omega (arith, is)
 
 -- one more job has finished, and each job that needs it counts one less
 pub left_settled : (needs : List (List ℕ)) (old new : List JobCells) (j : ℕ) (settled : JobResult) → NamedOnce needs
-    → NeedsAreLeft needs old → j < length old → is_unsettled (states old) j ≡ true
-    → states new ≡ changed_at j (settled_as settled) (states old)
+    → NeedsAreLeft needs old → j < length old → is_unfinished (states old) j ≡ true
+    → states new ≡ changed_at j (finished_as settled) (states old)
     → ((d : ℕ) → needs_left_at new d ≡ needs_left_at old d - count_by (nat_eq d) (dependents_of needs j)) → NeedsAreLeft needs new
 left_settled needs old new j settled once left lt was are counts d =
     let before = states old in
     let within : j < length before = omega (arith, lt, length-map old (λ (x : JobCells). x.state)) in
-    let fewer = unsettled_less (results_so_far before) (results_so_far (changed_at j (settled_as settled) before)) j was
-    (settled_there settled before j within) (result_elsewhere (settled_as settled) before j) (needs_at needs d) in
+    let fewer = unsettled_less (results_so_far before) (results_so_far (changed_at j (finished_as settled) before)) j was
+    (settled_there settled before j within) (result_elsewhere (finished_as settled) before j) (needs_at needs d) in
     counts d
     ∙ ap (λ n. needs_left_at old d - n) (as_often needs once j d)
     ∙ ap (λ n. n - count_by (nat_eq j) (needs_at needs d)) (left d)
-    ∙ less (unsettled (results_so_far before) (needs_at needs d))
-    (unsettled (results_so_far (changed_at j (settled_as settled) before)) (needs_at needs d))
+    ∙ less (unfinished (results_so_far before) (needs_at needs d))
+    (unfinished (results_so_far (changed_at j (finished_as settled) before)) (needs_at needs d))
     (count_by (nat_eq j) (needs_at needs d)) fewer
-    ∙ ap (λ js. unsettled (results_so_far js) (needs_at needs d)) (sym are)
+    ∙ ap (λ js. unfinished (results_so_far js) (needs_at needs d)) (sym are)
 
 -- ---- a job that is written
 
@@ -172,23 +172,23 @@ written_changed f (z ∷ xs) zero x y lt is so = ap (λ s. s ∷ states xs) (so 
 written_changed f (z ∷ xs) (suc j) x y lt is so = ap (λ ss. z.state ∷ ss) (written_changed f xs j x y (omega arith) is so)
 
 pub unsettled_read : (xs : List JobCells) (j : ℕ) (x : JobCells) → j < length xs → x ≡ get_or xs j x
-    → is_unsettled (states xs) j ≡ is_none (settled_result x.state.phase)
+    → is_unfinished (states xs) j ≡ is_none (finished_result x.state.phase)
 unsettled_read [] j x lt is = absurd (omega arith)
-unsettled_read (z ∷ xs) zero x lt is = ap (λ (v : JobCells). is_none (settled_result v.state.phase)) (sym is)
+unsettled_read (z ∷ xs) zero x lt is = ap (λ (v : JobCells). is_none (finished_result v.state.phase)) (sym is)
 unsettled_read (z ∷ xs) (suc j) x lt is = unsettled_read xs j x (omega arith) is
 
 unsettled_written : (xs : List JobCells) (j k : ℕ) (x y : JobCells) → x ≡ get_or xs j x
-    → is_none (settled_result y.state.phase) ≡ is_none (settled_result x.state.phase)
-    → is_unsettled (states (slice_set xs j y)) k ≡ is_unsettled (states xs) k
+    → is_none (finished_result y.state.phase) ≡ is_none (finished_result x.state.phase)
+    → is_unfinished (states (slice_set xs j y)) k ≡ is_unfinished (states xs) k
 unsettled_written [] j k x y is same = refl
-unsettled_written (z ∷ xs) zero zero x y is same = same ∙ ap (λ (v : JobCells). is_none (settled_result v.state.phase)) is
+unsettled_written (z ∷ xs) zero zero x y is same = same ∙ ap (λ (v : JobCells). is_none (finished_result v.state.phase)) is
 unsettled_written (z ∷ xs) zero (suc k) x y is same = refl
 unsettled_written (z ∷ xs) (suc j) zero x y is same = refl
 unsettled_written (z ∷ xs) (suc j) (suc k) x y is same = unsettled_written xs j k x y is same
 
 -- the written job keeps its count, and is finished exactly if it was before
 pub left_kept : (needs : List (List ℕ)) (xs : List JobCells) (j : ℕ) (x y : JobCells) → NeedsAreLeft needs xs → x ≡ get_or xs j x
-    → y.needs_left ≡ x.needs_left → is_none (settled_result y.state.phase) ≡ is_none (settled_result x.state.phase)
+    → y.needs_left ≡ x.needs_left → is_none (finished_result y.state.phase) ≡ is_none (finished_result x.state.phase)
     → NeedsAreLeft needs (slice_set xs j y)
 left_kept needs xs j x y left is count settled =
     left_same needs xs (slice_set xs j y) left
@@ -204,7 +204,7 @@ none_where (Some r) b is = ap not is
 -- the written job keeps its room and its count, and is finished exactly if it was before
 pub still_planned : (plan : List PlannedJob) (xs : List JobCells) (j : ℕ) (x y : JobCells) → ArePlanned plan xs → x ≡ get_or xs j x
     → y.room ≡ x.room → y.needs_left ≡ x.needs_left
-    → is_none (settled_result y.state.phase) ≡ is_none (settled_result x.state.phase) → ArePlanned plan (slice_set xs j y)
+    → is_none (finished_result y.state.phase) ≡ is_none (finished_result x.state.phase) → ArePlanned plan (slice_set xs j y)
 still_planned plan xs j x y are is room count settled = (
   written_same (λ (v : JobCells). v.room) xs j x y is room ∙ are.0,
   left_kept (plan_graph plan) xs j x y are.1 is count settled,

@@ -16,21 +16,21 @@ use Rattle.run_plan.specs.PlanOf.{plan_of, plan_graph}
 use Rattle.run_states.specs.Cells.{JobCells, result_of, states}
 use Rattle.run_states.specs.Places.{run_at}
 use Rattle.run_states.specs.RunState.{JobState, RunState}
-use Rattle.run_states.specs.WithinRun.{condition_in, may_run_in, needs_settled_in}
-use Rattle.run_states.specs.Words.{all_have_results, job_results, needs_graph_at, needs_have_settled, needs_in, results_so_far}
-use Rattle.run_states.specs.Words.{settled_result}
+use Rattle.run_states.specs.WithinRun.{condition_in, may_run_in, needs_finished_in}
+use Rattle.run_states.specs.Words.{all_have_results, job_results, needs_graph_at, needs_have_finished, needs_in, results_so_far}
+use Rattle.run_states.specs.Words.{finished_result}
 
 -- ---- by the run alone
 
 pub needs_by_run : (runs : List RunState) (r j : ℕ) (run : RunState) → run_at runs r ≡ Some run
-    → needs_have_settled runs r j ≡ needs_settled_in run j
+    → needs_have_finished runs r j ≡ needs_finished_in run j
 needs_by_run runs r j run at =
     ap (λ o. all_have_results (option_map_or (λ x. results_so_far x.jobs) o []) (needs_at (option_map_or needs_in o []) j)) at
 
 -- the results of jobs with their rooms
 results_of_cells : (cells : List JobCells) → map result_of cells ≡ results_so_far (states cells)
 results_of_cells [] = refl
-results_of_cells (x ∷ xs) = ap (λ os. settled_result x.state.phase ∷ os) (results_of_cells xs)
+results_of_cells (x ∷ xs) = ap (λ os. finished_result x.state.phase ∷ os) (results_of_cells xs)
 
 -- the condition's value from the data that a run holds
 pub decided_in : (run : RunState) (j : ℕ) (requested : Condition) (graph : List (List ℕ)) (cells : List JobCells) (stopping : Bool)
@@ -47,13 +47,13 @@ decided_in run j requested graph cells stopping is_requested is_graph is_jobs is
 
 -- the result so far of a job of a run
 abbrev pub result_in : RunState → ℕ → Option JobResult
-result_in run j = option_and_then (λ y. settled_result y.phase) (slice_get run.jobs j)
+result_in run j = option_and_then (λ y. finished_result y.phase) (slice_get run.jobs j)
 
 abbrev pub result_so_far : List RunState → ℕ → ℕ → Option JobResult
 result_so_far runs r j = option_and_then (λ run. result_in run j) (run_at runs r)
 
 pub result_among : (jobs : List JobState) (j : ℕ)
-    → slice_index_or (results_so_far jobs) j None ≡ option_and_then (λ (y : JobState). settled_result y.phase) (slice_get jobs j)
+    → slice_index_or (results_so_far jobs) j None ≡ option_and_then (λ (y : JobState). finished_result y.phase) (slice_get jobs j)
 result_among [] j = refl
 result_among (y ∷ ys) zero = refl
 result_among (y ∷ ys) (suc j) = result_among ys j
@@ -70,13 +70,13 @@ pub result_of_job : (runs : List RunState) (r j : ℕ) → slice_index_or (job_r
 result_of_job runs r j = among_where (run_at runs r) j
 
 result_there : (jobs : List JobCells) (j : ℕ) (cells : JobCells) → slice_get jobs j ≡ Some cells
-    → slice_index_or (results_so_far (states jobs)) j None ≡ settled_result cells.state.phase
+    → slice_index_or (results_so_far (states jobs)) j None ≡ finished_result cells.state.phase
 result_there [] j cells at = cc
-result_there (x ∷ xs) zero cells at = let same : x ≡ cells = cc in ap (λ v. settled_result v.state.phase) same
+result_there (x ∷ xs) zero cells at = let same : x ≡ cells = cc in ap (λ v. finished_result v.state.phase) same
 result_there (x ∷ xs) (suc j) cells at = result_there xs j cells at
 
 pub result_read : (jobs : List JobCells) (j : ℕ) (cells : JobCells) → j < length jobs → cells ≡ get_or jobs j cells
-    → slice_index_or (results_so_far (states jobs)) j None ≡ settled_result cells.state.phase
+    → slice_index_or (results_so_far (states jobs)) j None ≡ finished_result cells.state.phase
 result_read jobs j cells within is = result_there jobs j cells (slice_get-get_or jobs j cells within ∙ ap Some (sym is))
 
 -- ---- a finished job keeps its result
@@ -115,7 +115,7 @@ graph_same runs next r same =
 -- so needs that have finished stay finished
 pub needs_stay_settled : (runs next : List RunState) (r j : ℕ)
     → option_map (λ (run : RunState). run.admitted) (run_at next r) ≡ option_map (λ (run : RunState). run.admitted) (run_at runs r)
-    → KeepsResults runs next r → needs_have_settled runs r j ≡ true → needs_have_settled next r j ≡ true
+    → KeepsResults runs next r → needs_have_finished runs r j ≡ true → needs_have_finished next r j ≡ true
 needs_stay_settled runs next r j same keeps settled =
     all_still (job_results runs r) (job_results next r)
     (λ k a e. result_of_job next r k ∙ keeps k a (sym (result_of_job runs r k) ∙ e)) (needs_at (needs_graph_at next r) j)

@@ -7,11 +7,11 @@ use Rattle.run_plan.specs.Admitted.{Admitted}
 use Rattle.run_plan.specs.PlanOf.{plan_of}
 use Rattle.run_plan.specs.declared.planned.PlannedJob.{PlannedJob}
 use Rattle.run_states.specs.Places.{run_at, job_at, leg_at, plan_at}
-use Rattle.run_states.specs.declared.place.LegPlace.{LegPlace}
+use Rattle.run_states.specs.declared.place.LegSite.{LegSite}
 use Rattle.run_states.specs.Rules.{result_at}
 use Rattle.run_states.specs.RunState.{LegState, JobState, RunState}
 use Rattle.run_states.specs.SoundRuns.{JobsAreThePlans, RunPhasesFit, PhaseFits, JobsFit, LegsFit, NeedsComeFirst, LeasesFit, LeaseFits}
-use Rattle.run_states.specs.Words.{needs_have_settled, planned_legs}
+use Rattle.run_states.specs.Words.{needs_have_finished, planned_legs}
 use Rattle.run_states.proofs.Optional.{from_and_then, and_then-option_map}
 
 pub record JobFits (planned : ℕ) (result : JobResult) (x : JobState) : Type 0 where
@@ -22,7 +22,7 @@ pub record RunFits (runs : List RunState) (r : ℕ) (x : RunState) : Type 0 wher
   pub has_its_jobs : length x.jobs ≡ length (plan_of x.admitted.body)
   pub phase_fits : PhaseFits x.phase x.stopping x.jobs
   pub jobs_fit : (j : ℕ) (y : JobState) → slice_get x.jobs j ≡ Some y → JobFits (planned_legs runs r j) (result_at runs r j y) y
-  pub needs_first : (j : ℕ) (y : JobState) → slice_get x.jobs j ≡ Some y → (y.legs ≡ [] → ⊥) → needs_have_settled runs r j ≡ true
+  pub needs_first : (j : ℕ) (y : JobState) → slice_get x.jobs j ≡ Some y → (y.legs ≡ [] → ⊥) → needs_have_finished runs r j ≡ true
 
 abbrev pub RunsFit : List RunState → Type 0
 RunsFit runs = (r : ℕ) (x : RunState) → run_at runs r ≡ Some x → RunFits runs r x
@@ -32,7 +32,7 @@ RunsFit runs = (r : ℕ) (x : RunState) → run_at runs r ≡ Some x → RunFits
 pub job_in_run : (runs : List RunState) (r j : ℕ) (x : RunState) → run_at runs r ≡ Some x → job_at runs r j ≡ slice_get x.jobs j
 job_in_run runs r j x e = ap (option_and_then (λ (run : RunState). slice_get run.jobs j)) e
 
-pub leg_in_job : (runs : List RunState) (p : LegPlace) (y : JobState) → job_at runs p.run p.job ≡ Some y
+pub leg_in_job : (runs : List RunState) (p : LegSite) (y : JobState) → job_at runs p.run p.job ≡ Some y
     → leg_at runs p ≡ slice_get y.legs p.leg
 leg_in_job runs p y e = ap (option_and_then (λ (job : JobState). slice_get job.legs p.leg)) e
 

@@ -5,7 +5,7 @@ use Rattle.std.proofs.lemmas.Option.{slice_get-map}
 use Rattle.wf_value.specs.declared.outcome.JobResult.{JobResult}
 use Rattle.run_states.specs.FirstOf.{changed_at}
 use Rattle.run_states.specs.Places.{run_at}
-use Rattle.run_states.specs.declared.place.LegPlace.{LegPlace}
+use Rattle.run_states.specs.declared.place.LegSite.{LegSite}
 use Rattle.run_states.specs.Rules.{result_at}
 use Rattle.run_states.specs.RunNumber.{events}
 use Rattle.run_states.specs.RunState.{RunState}
@@ -40,8 +40,8 @@ pub record StayFit (runs next : List RunState) : Type 0 where
 -- and all leases stay the same, as after each settling rule
 pub record Settles (runs next : List RunState) : Type 0 where
   pub stay : StayFit runs next
-  pub same_had : (p : LegPlace) → had_at next p ≡ had_at runs p
-  pub same_works : (p : LegPlace) → works_at next p ≡ works_at runs p
+  pub same_had : (p : LegSite) → had_at next p ≡ had_at runs p
+  pub same_works : (p : LegSite) → works_at next p ≡ works_at runs p
 
 pub settles_nothing : (runs : List RunState) → RunsFit runs → Settles runs runs
 settles_nothing runs fit =

@@ -9,10 +9,10 @@ use Rattle.std.proofs.lemmas.Option.{slice_get-map}
 use Rattle.wf_value.specs.declared.outcome.JobResult.{JobResult}
 use Rattle.wf_value.specs.declared.outcome.JobResult.TheVariants as result
 use Rattle.run_states.specs.FirstOf.{changed_at, placed}
-use Rattle.run_states.specs.JobResults.{settled_result}
+use Rattle.run_states.specs.JobResults.{finished_result}
 use Rattle.run_states.specs.Parallel.{is_at_work}
 use Rattle.run_states.specs.Places.{run_at, job_at, with_job, with_run}
-use Rattle.run_states.specs.Rules.{is_open, is_settled, result_at, settled_as}
+use Rattle.run_states.specs.Rules.{is_open, is_finished, result_at, finished_as}
 use Rattle.run_states.specs.RunState.{LegState, JobState, RunState}
 use Rattle.run_states.specs.SoundRuns.{LegsFit, LeaseFits, PhaseFits}
 use Rattle.run_states.specs.Stops.{cancelled, stopped_in, stopped_phase, stopped_run, stopped, stopped_where, with_stop_requested}
@@ -141,9 +141,9 @@ where_reads f same b l y =
     ]
 
 -- a stop changes no job's result, and gives no job legs
-pub where_result : (b : Bool) (y : JobState) → settled_result (stopped_where b y).phase ≡ settled_result y.phase
+pub where_result : (b : Bool) (y : JobState) → finished_result (stopped_where b y).phase ≡ finished_result y.phase
 where_result b y =
-    elim (is_open y.phase && b) as (λ c. settled_result (if c then with_stopped_legs y else y).phase ≡ settled_result y.phase) [
+    elim (is_open y.phase && b) as (λ c. finished_result (if c then with_stopped_legs y else y).phase ≡ finished_result y.phase) [
       | true ↦ refl
       | false ↦ refl
     ]
@@ -171,8 +171,8 @@ leg_facts_keep runs r x fits live =
       stays = record {
         same_admitted = refl;
         same_attempt = refl;
-        keeps_results = (λ j a e. ap (option_and_then (λ (y : JobState). settled_result y.phase)) (get_placed f x.jobs j)
-            ∙ mapped_reads (λ y. settled_result y.phase) (λ z. f (j, z)) (where_result (not (may_run_in leg_facts j))) (slice_get x.jobs j) ∙ e);
+        keeps_results = (λ j a e. ap (option_and_then (λ (y : JobState). finished_result y.phase)) (get_placed f x.jobs j)
+            ∙ mapped_reads (λ y. finished_result y.phase) (λ z. f (j, z)) (where_result (not (may_run_in leg_facts j))) (slice_get x.jobs j) ∙ e);
         fits = record {
           needs_first = (λ j y e some.
               let from = from_map (λ z. f (j, z)) (slice_get x.jobs j) y (sym (get_placed f x.jobs j) ∙ e) in
@@ -202,20 +202,20 @@ all_blocked run.Waiting stopping jobs fits e = fits.1
 all_blocked run.Live stopping jobs fits e = cc
 all_blocked run.Ended stopping jobs fits e = cc
 
-blocked_has_none : (phase : JobPhase) (a : JobResult) → phase ≡ job.Blocked → settled_result phase ≡ Some a → ⊥
+blocked_has_none : (phase : JobPhase) (a : JobResult) → phase ≡ job.Blocked → finished_result phase ≡ Some a → ⊥
 blocked_has_none job.Blocked a is e = cc
 blocked_has_none job.Open a is e = cc
-blocked_has_none (job.Settled r) a is e = cc
+blocked_has_none (job.Finished r) a is e = cc
 
 cancelled_keeps : (runs : List RunState) (r : ℕ) (x : RunState) → RunFits runs r x → x.phase ≡ run.Waiting → Keeps runs r x (cancelled x)
 cancelled_keeps runs r x fits waiting =
-    let f = settled_as result.Cancelled in
+    let f = finished_as result.Cancelled in
     record {
       stays = record {
         same_admitted = refl;
         same_attempt = refl;
         keeps_results = (λ j a e.
-            let was = from_and_then (λ (y : JobState). settled_result y.phase) (slice_get x.jobs j) a e in
+            let was = from_and_then (λ (y : JobState). finished_result y.phase) (slice_get x.jobs j) a e in
             absurd (blocked_has_none was.value.phase a
             (all_blocked x.phase x.stopping x.jobs fits.phase_fits waiting j was.value was.is) was.gives));
         fits = record {
@@ -225,7 +225,7 @@ cancelled_keeps runs r x fits waiting =
           has_its_jobs = length-map x.jobs f ∙ fits.has_its_jobs;
           phase_fits = (λ j y e.
               let from = from_map f (slice_get x.jobs j) y (sym (slice_get-map f x.jobs j) ∙ e) in
-              ap is_settled (sym from.gives));
+              ap is_finished (sym from.gives));
           jobs_fit = (λ j y e.
               let from = from_map f (slice_get x.jobs j) y (sym (slice_get-map f x.jobs j) ∙ e) in
               let z = from.value in

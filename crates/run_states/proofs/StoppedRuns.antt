@@ -7,8 +7,8 @@ use Rattle.std.proofs.Common.{arith, ap, sym, ◌∙◌}
 use Rattle.wf_value.specs.declared.outcome.JobResult.{JobResult}
 use Rattle.needs_graph.specs.Conditions.{condition_value, ancestor_results as results_of_ancestors}
 use Rattle.run_states.specs.FirstOf.{changed_at}
-use Rattle.run_states.specs.JobResults.{needs_in, settled_result}
-use Rattle.run_states.specs.Rules.{is_open, settled_as}
+use Rattle.run_states.specs.JobResults.{needs_in, finished_result}
+use Rattle.run_states.specs.Rules.{is_open, finished_as}
 use Rattle.run_states.specs.RunState.{JobState, RunState}
 use Rattle.run_states.specs.Stops.{is_open_at, stopped_in, stopped_run, stopped_where, with_stop_requested, with_job_stopped, with_jobs_stopped}
 use Rattle.run_states.specs.Stops.{with_stopped_legs}
@@ -58,7 +58,7 @@ leg_facts_upto n leg_facts = record leg_facts { jobs = upto (job_stopped leg_fac
 same_condition : (leg_facts : RunState) (n j : ℕ) → may_run_in (leg_facts_upto n leg_facts) j ≡ may_run_in leg_facts j
 same_condition leg_facts n j =
     ap (λ rs. condition_value (condition_in leg_facts j) (results_of_ancestors (needs_in leg_facts) rs j) leg_facts.stopping)
-    (upto_same (job_stopped leg_facts) (λ y. settled_result y.phase) (λ k y. where_result (not (may_run_in leg_facts k)) y) 0 n leg_facts.jobs)
+    (upto_same (job_stopped leg_facts) (λ y. finished_result y.phase) (λ k y. where_result (not (may_run_in leg_facts k)) y) 0 n leg_facts.jobs)
 
 pub next_job_stopped : (leg_facts : RunState) (n : ℕ) → with_job_stopped n (leg_facts_upto n leg_facts) ≡ leg_facts_upto (n + 1) leg_facts
 next_job_stopped leg_facts n =
@@ -76,24 +76,24 @@ all_jobs_stopped leg_facts n past = ap (λ js. record leg_facts { jobs = js }) (
 -- ---- the jobs of a run finish with the same result
 
 abbrev pub settled_upto : JobResult → ℕ → RunState → RunState
-settled_upto result n run = record run { jobs = upto (λ j. settled_as result j.1) 0 n run.jobs }
+settled_upto result n run = record run { jobs = upto (λ j. finished_as result j.1) 0 n run.jobs }
 
 pub next_settled : (result : JobResult) (run : RunState) (n : ℕ)
-    → record run { jobs = changed_at n (settled_as result) (upto (λ j. settled_as result j.1) 0 n run.jobs) }
+    → record run { jobs = changed_at n (finished_as result) (upto (λ j. finished_as result j.1) 0 n run.jobs) }
     ≡ settled_upto result (n + 1) run
 next_settled result run n =
     let next : suc n ≡ n + 1 = omega arith in
-    ap (λ js. record run { jobs = js }) (upto_more (λ j. settled_as result j.1) 0 n run.jobs) ∙ ap (λ m. settled_upto result m run) next
+    ap (λ js. record run { jobs = js }) (upto_more (λ j. finished_as result j.1) 0 n run.jobs) ∙ ap (λ m. settled_upto result m run) next
 
 without_places : {X : Type 0} (f : X → X) (n : ℕ) (xs : List X) → map (λ e. f e.1) (enumerate_from n xs) ≡ map f xs
 without_places f n [] = refl
 without_places f n (x ∷ xs) = ap (λ ys. f x ∷ ys) (without_places f (n + 1) xs)
 
 pub all_settled : (result : JobResult) (run : RunState) (n : ℕ) → length run.jobs ≤ n
-    → settled_upto result n run ≡ record run { jobs = map (settled_as result) run.jobs }
+    → settled_upto result n run ≡ record run { jobs = map (finished_as result) run.jobs }
 all_settled result run n past =
     ap (λ js. record run { jobs = js })
-    (upto_all (λ j. settled_as result j.1) 0 n run.jobs past ∙ without_places (settled_as result) 0 run.jobs)
+    (upto_all (λ j. finished_as result j.1) 0 n run.jobs past ∙ without_places (finished_as result) 0 run.jobs)
 
 -- ---- one job of the run
 

@@ -6,12 +6,12 @@ use Rattle.std.proofs.lemmas.Option.{same_Some}
 use Rattle.run_states.specs.FirstOf.{changed_at}
 use Rattle.run_states.specs.Moves.{Transition, without_moves}
 use Rattle.run_states.specs.Places.{job_at, leg_at, with_job, with_leg}
-use Rattle.run_states.specs.declared.place.LegPlace.{LegPlace}
-use Rattle.run_states.specs.Rules.{is_done, settled_as, result_at, closing_rule}
+use Rattle.run_states.specs.declared.place.LegSite.{LegSite}
+use Rattle.run_states.specs.Rules.{is_done, finished_as, result_at, closing_rule}
 use Rattle.run_states.specs.Rules.{places}
 use Rattle.run_states.specs.Rules.{rule_at}
 use Rattle.run_states.specs.RunState.{LegState, JobState, RunState}
-use Rattle.run_states.specs.Settling.{applies, first_place, first_rule}
+use Rattle.run_states.specs.Settling.{applies, first_site, first_rule}
 use Rattle.run_states.specs.declared.place.RuleSite.{RuleSite}
 use Rattle.run_states.proofs.Found.{find_passes}
 
@@ -22,13 +22,13 @@ changed_same [] i f g same = refl
 changed_same (x ∷ xs) zero f g same = ap (λ w. w ∷ xs) (same x refl)
 changed_same (x ∷ xs) (suc i) f g same = ap (λ ws. x ∷ ws) (changed_same xs i f g same)
 
-leg_there : (runs : List RunState) (p : LegPlace) (run : RunState) (job : JobState) (leg : LegState) → slice_get runs p.run ≡ Some run
+leg_there : (runs : List RunState) (p : LegSite) (run : RunState) (job : JobState) (leg : LegState) → slice_get runs p.run ≡ Some run
     → slice_get run.jobs p.job ≡ Some job → slice_get job.legs p.leg ≡ Some leg → leg_at runs p ≡ Some leg
 leg_there runs p run job leg at_run at_job at_leg =
     ap (λ o. option_and_then (λ x. slice_get x.legs p.leg) (option_and_then (λ x. slice_get x.jobs p.job) o)) at_run
     ∙ ap (option_and_then (λ x. slice_get x.legs p.leg)) at_job ∙ at_leg
 
-with_leg_same : (runs : List RunState) (p : LegPlace) (f g : LegState → LegState)
+with_leg_same : (runs : List RunState) (p : LegSite) (f g : LegState → LegState)
     → ((leg : LegState) → leg_at runs p ≡ Some leg → f leg ≡ g leg) → with_leg p f runs ≡ with_leg p g runs
 with_leg_same runs p f g same =
     let in_job : (LegState → LegState) → JobState → JobState = λ h job. record job { legs = changed_at p.leg h job.legs } in
@@ -40,7 +40,7 @@ with_leg_same runs p f g same =
     (changed_same job.legs p.leg f g (λ leg at_leg. same leg (leg_there runs p run job leg at_run at_job at_leg))))))
 
 -- the leg that was read, changed and put back
-pub with_leg_read : (runs : List RunState) (p : LegPlace) (x : LegState) (f : LegState → LegState) → leg_at runs p ≡ Some x
+pub with_leg_read : (runs : List RunState) (p : LegSite) (x : LegState) (f : LegState → LegState) → leg_at runs p ≡ Some x
     → with_leg p (λ _. f x) runs ≡ with_leg p f runs
 with_leg_read runs p x f at = with_leg_same runs p (λ _. f x) f (λ leg is. ap f (same_Some x leg (sym at ∙ is)))
 
@@ -53,7 +53,7 @@ changed_none (x ∷ xs) zero f same = ap (λ w. w ∷ xs) (sym (same x refl))
 changed_none (x ∷ xs) (suc i) f same = ap (λ ws. x ∷ ws) (changed_none xs i f same)
 
 -- a change that leaves the leg as it is leaves the runs as they are
-pub with_leg_stays : (runs : List RunState) (p : LegPlace) (f : LegState → LegState)
+pub with_leg_stays : (runs : List RunState) (p : LegSite) (f : LegState → LegState)
     → ((leg : LegState) → leg_at runs p ≡ Some leg → f leg ≡ leg) → runs ≡ with_leg p f runs
 with_leg_stays runs p f same =
     let in_job : JobState → JobState = λ job. record job { legs = changed_at p.leg f job.legs } in
@@ -66,18 +66,18 @@ with_leg_stays runs p f same =
     (λ leg at_leg. same leg (leg_there runs p run job leg at_run at_job at_leg))))))))
 
 -- if there is no leg, nothing changes
-pub with_leg_none : (runs : List RunState) (p : LegPlace) (f : LegState → LegState) → leg_at runs p ≡ None → runs ≡ with_leg p f runs
+pub with_leg_none : (runs : List RunState) (p : LegSite) (f : LegState → LegState) → leg_at runs p ≡ None → runs ≡ with_leg p f runs
 with_leg_none runs p f at = with_leg_stays runs p f (λ leg is. nothing_there leg (f leg) (sym at ∙ is))
 
 -- ---- the rule where a job finishes
 
-closes : (runs new : List RunState) (r j : ℕ) (x : JobState) (done : Bool) → new ≡ with_job r j (settled_as (result_at runs r j x)) runs
-    → IfSome (if done then Some (without_moves (with_job r j (settled_as (result_at runs r j x)) runs)) else None) (λ next. new ≡ next.runs)
+closes : (runs new : List RunState) (r j : ℕ) (x : JobState) (done : Bool) → new ≡ with_job r j (finished_as (result_at runs r j x)) runs
+    → IfSome (if done then Some (without_moves (with_job r j (finished_as (result_at runs r j x)) runs)) else None) (λ next. new ≡ next.runs)
 closes runs new r j x true so = so
 closes runs new r j x false so = tt
 
 pub job_closed : (runs new : List RunState) (r j : ℕ) (x : JobState) → job_at runs r j ≡ Some x
-    → new ≡ with_job r j (settled_as (result_at runs r j x)) runs
+    → new ≡ with_job r j (finished_as (result_at runs r j x)) runs
     → IfSome (option_and_then (closing_rule runs r j) (job_at runs r j)) (λ next. new ≡ next.runs)
 job_closed runs new r j x at so =
     subst (λ o. IfSome (option_and_then (closing_rule runs r j) o) (λ next. new ≡ next.runs)) (sym at)
@@ -90,7 +90,7 @@ rule_taken : (new : List RunState) (o : Option Transition) → is_some o ≡ tru
 rule_taken new None some so = cc
 rule_taken new (Some next) some so = ap Some (sym so)
 
-pub first_rule_taken : (runs new : List RunState) (place : RuleSite) → first_place runs ≡ Some place
+pub first_rule_taken : (runs new : List RunState) (place : RuleSite) → first_site runs ≡ Some place
     → IfSome (rule_at runs place) (λ next. new ≡ next.runs) → option_map (λ (m : Transition). m.runs) (first_rule runs) ≡ Some new
 first_rule_taken runs new place is so =
     ap (λ o. option_map (λ (m : Transition). m.runs) (option_and_then (rule_at runs) o)) is

@@ -9,7 +9,7 @@ use Rattle.run_states.specs.GroupOf.{cancels_in_progress, group_at}
 use Rattle.run_states.specs.GroupWords.{same_holder}
 use Rattle.run_states.specs.Groups.{all_holders, is_in, is_pending_in, in_progress_in}
 use Rattle.run_states.specs.Moves.{Move, Transition, and_then, at_each, without_moves}
-use Rattle.run_states.specs.declared.place.LegPlace.{LegPlace}
+use Rattle.run_states.specs.declared.place.LegSite.{LegSite}
 use Rattle.run_states.specs.RunState.{RunState}
 use Rattle.run_states.specs.StopMoves.{displace, stop_holder}
 use Rattle.run_states.specs.declared.holder.Holder.{Holder}
@@ -49,7 +49,7 @@ arrived newcomer runs =
 -- ---- a leg that does not arrive
 
 -- whether its group is the group of its own run
-abbrev pub is_in_group_of_run : List RunState → LegPlace → Bool
+abbrev pub is_in_group_of_run : List RunState → LegSite → Bool
 is_in_group_of_run runs p = option_map_or (λ g. is_in runs g (Leg p)) (group_at runs (Run p.run)) false
 
 -- ---- the start

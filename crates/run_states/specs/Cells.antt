@@ -2,7 +2,7 @@
 use Rattle.std.specs.Prelude.{◌≡◌, ℕ, List, [], length, map, Bool, Option, Some, slice_get, if◌then◌else◌}
 use Rattle.wf_value.specs.declared.outcome.JobResult.{JobResult}
 use Rattle.run_plan.specs.declared.planned.PlannedJob.{PlannedJob}
-use Rattle.run_states.specs.JobResults.{settled_result}
+use Rattle.run_states.specs.JobResults.{finished_result}
 use Rattle.run_states.specs.RunState.{LegState, JobState, RunState}
 use Rattle.run_states.specs.Words.{planned_legs}
 use Rattle.run_states.specs.declared.phases.JobPhase.{JobPhase}
@@ -43,4 +43,4 @@ abbrev pub blocked_cells : PlannedJob → JobCells
 blocked_cells planned = record { state = record { phase = job.Blocked; legs = [] }; room = length planned.legs; needs_left = 0 }
 
 abbrev pub result_of : JobCells → Option JobResult
-result_of j = settled_result j.state.phase
+result_of j = finished_result j.state.phase

@@ -6,8 +6,8 @@ use Rattle.std.specs.List.{list_all, list_any}
 use Rattle.std.specs.Option.{option_map_or}
 use Rattle.std.specs.Str.{str_eq_ignore_ascii_case}
 use Rattle.run_states.specs.Parallel.{has_room, is_at_work}
-use Rattle.run_states.specs.Places.{job_at, leg_at, leg_places}
-use Rattle.run_states.specs.declared.place.LegPlace.{LegPlace}
+use Rattle.run_states.specs.Places.{job_at, leg_at, leg_sites}
+use Rattle.run_states.specs.declared.place.LegSite.{LegSite}
 use Rattle.run_states.specs.RunState.{LegState, RunState}
 use Rattle.run_states.specs.Words.{labels_at}
 use Rattle.run_states.specs.declared.phases.LegPhase.{LegPhase}
@@ -26,30 +26,30 @@ is_ready leg.Ready = true
 is_ready _ = false
 
 -- whether the leg at a place asks only for labels that the runner has
-abbrev pub is_served : List (List ℕ) → List RunState → LegPlace → Bool
+abbrev pub is_served : List (List ℕ) → List RunState → LegSite → Bool
 is_served labels runs p = option_map_or (has_labels labels) (labels_at runs p) false
 
 -- whether one more leg of its job may run
-abbrev pub may_run_too : List RunState → LegPlace → Bool
+abbrev pub may_run_too : List RunState → LegSite → Bool
 may_run_too runs p = option_map_or (has_room runs p.run p.job) (job_at runs p.run p.job) false
 
 -- the leg is ready, its job has room for it, and the runner has all labels that it asks for
-abbrev pub fits : List (List ℕ) → List RunState → LegPlace → Bool
+abbrev pub fits : List (List ℕ) → List RunState → LegSite → Bool
 fits labels runs p = option_map_or (λ l. is_ready l.phase) (leg_at runs p) false && (may_run_too runs p && is_served labels runs p)
 
-abbrev pub first_fit : List (List ℕ) → List RunState → Option LegPlace
-first_fit labels runs = find (fits labels runs) (leg_places runs)
+abbrev pub first_fit : List (List ℕ) → List RunState → Option LegSite
+first_fit labels runs = find (fits labels runs) (leg_sites runs)
 
 abbrev pub has_lease : ℕ → LegState → Bool
 has_lease lease l = option_map_or (λ held. nat_eq held lease) l.lease false
 
 -- the place of the leg with this lease
-abbrev pub place_of_lease : List RunState → ℕ → Option LegPlace
-place_of_lease runs lease = find (λ p. option_map_or (has_lease lease) (leg_at runs p) false) (leg_places runs)
+abbrev pub site_of_lease : List RunState → ℕ → Option LegSite
+site_of_lease runs lease = find (λ p. option_map_or (has_lease lease) (leg_at runs p) false) (leg_sites runs)
 
 -- each leg that has the lease has a runner at work
 abbrev pub OnlyAtWork : List RunState → ℕ → Type 0
-OnlyAtWork runs lease = (p : LegPlace) (l : LegState) → leg_at runs p ≡ Some l → l.lease ≡ Some lease → is_at_work l.phase ≡ true
+OnlyAtWork runs lease = (p : LegSite) (l : LegState) → leg_at runs p ≡ Some l → l.lease ≡ Some lease → is_at_work l.phase ≡ true
 
 -- ---- a leg that is asked to stop
 
@@ -60,4 +60,4 @@ is_stopping_leg _ = false
 -- whether the leg with this lease is asked to stop
 abbrev pub is_lease_stopping : List RunState → ℕ → Bool
 is_lease_stopping runs lease =
-    option_map_or (λ p. option_map_or (λ l. is_stopping_leg l.phase) (leg_at runs p) false) (place_of_lease runs lease) false
+    option_map_or (λ p. option_map_or (λ l. is_stopping_leg l.phase) (leg_at runs p) false) (site_of_lease runs lease) false

@@ -5,13 +5,13 @@ use Rattle.std.specs.Prelude.{if◌then◌else◌}
 use Rattle.std.specs.List.{last_or, list_any}
 use Rattle.std.specs.Option.{option_map_or}
 use Rattle.run_states.specs.Moves.{Move}
-use Rattle.run_states.specs.declared.place.LegPlace.{LegPlace}
+use Rattle.run_states.specs.declared.place.LegSite.{LegSite}
 use Rattle.run_states.specs.declared.holder.Holder.{Holder}
 use Rattle.run_states.specs.declared.holder.Holder.TheVariants.{Run, Leg}
 
 -- ---- one holder, one move
 
-abbrev pub same_place : LegPlace → LegPlace → Bool
+abbrev pub same_place : LegSite → LegSite → Bool
 same_place p q = nat_eq p.run q.run && (nat_eq p.job q.job && nat_eq p.leg q.leg)
 
 abbrev pub same_holder : Holder → Holder → Bool

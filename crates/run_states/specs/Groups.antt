@@ -8,7 +8,7 @@ use Rattle.run_states.specs.FirstOf.{placed}
 use Rattle.run_states.specs.Fitting.{is_stopping_leg}
 use Rattle.run_states.specs.GroupOf.{group_at}
 use Rattle.run_states.specs.GroupState.{GroupState}
-use Rattle.run_states.specs.Places.{leg_at, leg_places, run_at}
+use Rattle.run_states.specs.Places.{leg_at, leg_sites, run_at}
 use Rattle.run_states.specs.RunState.{RunState}
 use Rattle.run_states.specs.StateWords.{is_live}
 use Rattle.run_states.specs.declared.phases.LegPhase.{LegPhase}
@@ -60,7 +60,7 @@ is_in_progress_in runs g h = is_in runs g h && holds runs h
 
 -- all runs and legs
 abbrev pub all_holders : List RunState → List Holder
-all_holders runs = map (λ r. Run r.0) (placed runs) ++ map (λ p. Leg p) (leg_places runs)
+all_holders runs = map (λ r. Run r.0) (placed runs) ++ map (λ p. Leg p) (leg_sites runs)
 
 abbrev pub holders_in : List RunState → Group → List Holder
 holders_in runs g = filter (λ h. is_pending_in runs g h || is_in_progress_in runs g h) (all_holders runs)

@@ -14,18 +14,18 @@ use Rattle.run_states.specs.declared.phases.JobPhase.{JobPhase}
 use Rattle.run_states.specs.declared.phases.JobPhase.TheVariants as job
 
 -- the result of a job, once it has finished
-abbrev pub settled_result : JobPhase → Option JobResult
-settled_result job.Blocked = None
-settled_result job.Open = None
-settled_result (job.Settled r) = Some r
+abbrev pub finished_result : JobPhase → Option JobResult
+finished_result job.Blocked = None
+finished_result job.Open = None
+finished_result (job.Finished r) = Some r
 
 -- the results that jobs have so far, in order
 abbrev pub results_so_far : List JobState → List (Option JobResult)
-results_so_far jobs = map (λ j. settled_result j.phase) jobs
+results_so_far jobs = map (λ j. finished_result j.phase) jobs
 
 -- the results of the jobs that have finished
 abbrev pub results_of : List JobState → List JobResult
-results_of jobs = filter_map (λ j. settled_result j.phase) jobs
+results_of jobs = filter_map (λ j. finished_result j.phase) jobs
 
 -- the results that the jobs of run `r` have so far
 abbrev pub job_results : List RunState → ℕ → List (Option JobResult)

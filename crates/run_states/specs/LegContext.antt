@@ -18,7 +18,7 @@ use Rattle.run_plan.specs.PlanOf.{plan_of}
 use Rattle.run_plan.specs.declared.planned.PlannedJob.{PlannedJob}
 use Rattle.run_states.specs.JobResults.{direct_needs}
 use Rattle.run_states.specs.Places.{run_at}
-use Rattle.run_states.specs.declared.place.LegPlace.{LegPlace}
+use Rattle.run_states.specs.declared.place.LegSite.{LegSite}
 use Rattle.run_states.specs.RunNumber.{events, run_number}
 use Rattle.run_states.specs.RunState.{RunState}
 
@@ -101,7 +101,7 @@ abbrev pub context_of : LegFacts → Values
 context_of leg = over (service_value leg) (sent_value (event_of leg.event.body).contexts)
 
 -- the facts of the leg at a place, if the plan of its run has its job
-unfoldable pub facts_at : List RunState → LegPlace → Option LegFacts
+unfoldable pub facts_at : List RunState → LegSite → Option LegFacts
 facts_at runs p =
     option_and_then (λ run. option_map (λ job. record {
       event = run.admitted;
@@ -118,5 +118,5 @@ abbrev pub nothing : Values
 nothing path = None
 
 -- the context of the leg at a place of a table
-unfoldable pub context_at : List RunState → LegPlace → Values
+unfoldable pub context_at : List RunState → LegSite → Values
 context_at runs p = option_map_or context_of (facts_at runs p) nothing

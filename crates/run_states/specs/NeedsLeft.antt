@@ -9,8 +9,8 @@ use Rattle.run_states.specs.Cells.{JobCells, legs_planned, rooms, states}
 use Rattle.run_states.specs.JobResults.{results_so_far}
 
 -- how many of the jobs at these indices have no result so far
-abbrev pub unsettled : List (Option JobResult) → List ℕ → ℕ
-unsettled results places = count_by (λ place. is_none (slice_index_or results place None)) places
+abbrev pub unfinished : List (Option JobResult) → List ℕ → ℕ
+unfinished results places = count_by (λ place. is_none (slice_index_or results place None)) places
 
 -- the count that job `j` keeps
 abbrev pub needs_left_at : List JobCells → ℕ → ℕ
@@ -18,7 +18,7 @@ needs_left_at jobs j = slice_index_or (map (λ x. x.needs_left) jobs) j 0
 
 -- each job counts those of its direct needs that have not finished
 abbrev pub NeedsAreLeft : List (List ℕ) → List JobCells → Type 0
-NeedsAreLeft needs jobs = (j : ℕ) → needs_left_at jobs j ≡ unsettled (results_so_far (states jobs)) (needs_at needs j)
+NeedsAreLeft needs jobs = (j : ℕ) → needs_left_at jobs j ≡ unfinished (results_so_far (states jobs)) (needs_at needs j)
 
 -- the needs of a job name no job twice
 abbrev pub NamedOnce : List (List ℕ) → Type 0

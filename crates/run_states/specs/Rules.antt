@@ -16,11 +16,11 @@ use Rattle.run_states.specs.Groups.{may_start}
 use Rattle.run_states.specs.JobResults.{results_of}
 use Rattle.run_states.specs.Moves.{Move, Transition, without_moves}
 use Rattle.run_states.specs.Places.{run_at, job_at, leg_at, with_run, with_job, with_leg}
-use Rattle.run_states.specs.declared.place.LegPlace.{LegPlace}
+use Rattle.run_states.specs.declared.place.LegSite.{LegSite}
 use Rattle.run_states.specs.RunState.{LegState, JobState, RunState}
-pub use Rattle.run_states.specs.StateWords.{leg_has_ended, is_blocked, is_done, is_live, is_open, is_settled, leg_in_phase, new_leg, opened}
-pub use Rattle.run_states.specs.StateWords.{outcome_of, run_in_phase, settled_as}
-use Rattle.run_states.specs.Words.{condition_of, ancestor_results, needs_have_settled, is_stopping, planned_legs, continues_on_error}
+pub use Rattle.run_states.specs.StateWords.{leg_has_ended, is_blocked, is_done, is_live, is_open, is_finished, leg_in_phase, new_leg, opened}
+pub use Rattle.run_states.specs.StateWords.{outcome_of, run_in_phase, finished_as}
+use Rattle.run_states.specs.Words.{condition_of, ancestor_results, needs_have_finished, is_stopping, planned_legs, continues_on_error}
 use Rattle.run_states.specs.declared.phases.LegPhase.{LegPhase}
 use Rattle.run_states.specs.declared.phases.LegPhase.TheVariants as leg
 use Rattle.run_states.specs.declared.phases.RunPhase.{RunPhase}
@@ -33,16 +33,16 @@ use Rattle.run_states.specs.declared.holder.Holder.TheVariants.{Run, Leg}
 -- itself
 
 -- where the job opens, its legs by index, and where it finishes
-abbrev pub job_places : ℕ → ℕ × JobState → List RuleSite
-job_places r j = Opening r j.0 ∷ map (λ l. AtLeg (record { run = r; job = j.0; leg = l.0 })) (placed j.1.legs) ++ Closing r j.0 ∷ []
+abbrev pub job_sites : ℕ → ℕ × JobState → List RuleSite
+job_sites r j = Opening r j.0 ∷ map (λ l. AtLeg (record { run = r; job = j.0; leg = l.0 })) (placed j.1.legs) ++ Closing r j.0 ∷ []
 
 -- in a live run its jobs in order; then the run itself
-abbrev pub run_places : ℕ × RunState → List RuleSite
-run_places r = (if is_live r.1.phase then flat_map (job_places r.0) (placed r.1.jobs) else []) ++ Whole r.0 ∷ []
+abbrev pub run_sites : ℕ × RunState → List RuleSite
+run_sites r = (if is_live r.1.phase then flat_map (job_sites r.0) (placed r.1.jobs) else []) ++ Whole r.0 ∷ []
 
 -- all places, with the runs in the order of their ids
 abbrev pub places : List RunState → List RuleSite
-places runs = flat_map run_places (placed runs)
+places runs = flat_map run_sites (placed runs)
 
 -- ---- a job opens
 
@@ -56,37 +56,37 @@ abbrev pub decided : List RunState → ℕ → ℕ → JobState → JobState
 decided runs r j =
     if may_run runs r j
     then opened (planned_legs runs r j)
-    else settled_as (if is_stopping runs r then result.Cancelled else result.Skipped)
+    else finished_as (if is_stopping runs r then result.Cancelled else result.Skipped)
 
 abbrev pub opening_rule : List RunState → ℕ → ℕ → JobState → Option Transition
 opening_rule runs r j job =
-    if is_blocked job.phase && needs_have_settled runs r j
+    if is_blocked job.phase && needs_have_finished runs r j
     then Some (without_moves (with_job r j (decided runs r j) runs))
     else None
 
 -- ---- a leg advances
 
-abbrev pub with_leg_in : LegPhase → LegPlace → List RunState → List RunState
+abbrev pub with_leg_in : LegPhase → LegSite → List RunState → List RunState
 with_leg_in phase p runs = with_leg p (leg_in_phase phase) runs
 
 -- A new leg arrives in its group and waits. If its group is its own run's, it is cancelled instead, which this project defines.
-abbrev pub newcomer_rule : List RunState → LegPlace → Transition
+abbrev pub newcomer_rule : List RunState → LegSite → Transition
 newcomer_rule runs p =
     if is_in_group_of_run runs p
     then without_moves (with_leg_in (leg.Ended outcome.Cancelled) p runs)
     else arrived (Leg p) (with_leg_in leg.Waiting p runs)
 
 -- a waiting leg becomes ready if its group, where it has one, is free
-abbrev pub waiting_leg_rule : List RunState → LegPlace → Option Transition
+abbrev pub waiting_leg_rule : List RunState → LegSite → Option Transition
 waiting_leg_rule runs p =
     if may_start runs (Leg p) then Some (started (Leg p) (with_leg_in leg.Ready p runs)) else None
 
-abbrev pub leg_rule_in : LegPhase → List RunState → LegPlace → Option Transition
+abbrev pub leg_rule_in : LegPhase → List RunState → LegSite → Option Transition
 leg_rule_in leg.New runs p = Some (newcomer_rule runs p)
 leg_rule_in leg.Waiting runs p = waiting_leg_rule runs p
 leg_rule_in _ runs p = None
 
-abbrev pub leg_rule : List RunState → LegPlace → LegState → Option Transition
+abbrev pub leg_rule : List RunState → LegSite → LegState → Option Transition
 leg_rule runs p l = leg_rule_in l.phase runs p
 
 -- ---- a job finishes
@@ -106,7 +106,7 @@ result_at runs r j job = gathered (leg_ends runs r j job)
 
 abbrev pub closing_rule : List RunState → ℕ → ℕ → JobState → Option Transition
 closing_rule runs r j job =
-    if is_done job then Some (without_moves (with_job r j (settled_as (result_at runs r j job)) runs)) else None
+    if is_done job then Some (without_moves (with_job r j (finished_as (result_at runs r j job)) runs)) else None
 
 -- ---- a run advances
 
@@ -118,7 +118,7 @@ waiting_run_rule runs r =
 -- a live run ends with its conclusion once all its jobs have finished
 abbrev pub live_run_rule : List RunState → ℕ → RunState → Option Transition
 live_run_rule runs r x =
-    if list_all is_settled x.jobs
+    if list_all is_finished x.jobs
     then Some (record {
       runs = with_run r (run_in_phase run.Ended) runs;
       moves = Move.end_with (conclusion_of (results_of x.jobs)) (Run r) ∷ [];
@@ -149,8 +149,8 @@ IsNoArrival runs (AtLeg p) = (l : LegState) → leg_at runs p ≡ Some l → l.p
 IsNoArrival runs (Closing r j) = Unit {0}
 IsNoArrival runs (Whole r) = Unit {0}
 
-abbrev pub run_of_place : RuleSite → ℕ
-run_of_place (Opening r j) = r
-run_of_place (AtLeg p) = p.run
-run_of_place (Closing r j) = r
-run_of_place (Whole r) = r
+abbrev pub run_of_site : RuleSite → ℕ
+run_of_site (Opening r j) = r
+run_of_site (AtLeg p) = p.run
+run_of_site (Closing r j) = r
+run_of_site (Whole r) = r

@@ -12,8 +12,8 @@ use Rattle.run_states.specs.RunState.{RunState}
 use Rattle.run_states.specs.Words.{all_have_results}
 
 -- whether all jobs that it needs directly have finished
-abbrev pub needs_settled_in : RunState → ℕ → Bool
-needs_settled_in run j = all_have_results (results_so_far run.jobs) (needs_at (needs_in run) j)
+abbrev pub needs_finished_in : RunState → ℕ → Bool
+needs_finished_in run j = all_have_results (results_so_far run.jobs) (needs_at (needs_in run) j)
 
 -- the condition that the run's plan gives it
 abbrev pub condition_in : RunState → ℕ → Condition

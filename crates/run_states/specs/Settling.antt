@@ -19,12 +19,12 @@ abbrev pub applies : List RunState → RuleSite → Bool
 applies runs place = is_some (rule_at runs place)
 
 -- the first place where a rule applies
-abbrev pub first_place : List RunState → Option RuleSite
-first_place runs = find (applies runs) (places runs)
+abbrev pub first_site : List RunState → Option RuleSite
+first_site runs = find (applies runs) (places runs)
 
 -- the transition of the rule there
 abbrev pub first_rule : List RunState → Option Transition
-first_rule runs = option_and_then (rule_at runs) (first_place runs)
+first_rule runs = option_and_then (rule_at runs) (first_site runs)
 
 -- ---- the remaining work, which each rule lowers
 
@@ -43,7 +43,7 @@ leg_left l = leg_phases_left l.phase
 abbrev pub job_phases_left : ℕ → JobPhase → ℕ
 job_phases_left planned job.Blocked = 2 + 5 * planned
 job_phases_left planned job.Open = 1
-job_phases_left planned (job.Settled r) = 0
+job_phases_left planned (job.Finished r) = 0
 
 abbrev pub job_left : ℕ → JobState → ℕ
 job_left planned j = job_phases_left planned j.phase + sum_by leg_left j.legs

@@ -7,10 +7,10 @@ use Rattle.wf_value.specs.declared.outcome.JobResult.TheVariants as result
 use Rattle.wf_value.specs.declared.outcome.Outcome.TheVariants as outcome
 use Rattle.run_plan.specs.PlanOf.{plan_of}
 use Rattle.run_states.specs.Places.{run_at, job_at, leg_at}
-use Rattle.run_states.specs.declared.place.LegPlace.{LegPlace}
-use Rattle.run_states.specs.Rules.{leg_has_ended, is_settled, result_at}
+use Rattle.run_states.specs.declared.place.LegSite.{LegSite}
+use Rattle.run_states.specs.Rules.{leg_has_ended, is_finished, result_at}
 use Rattle.run_states.specs.RunState.{LegState, JobState, RunState}
-use Rattle.run_states.specs.Words.{needs_have_settled, planned_legs}
+use Rattle.run_states.specs.Words.{needs_have_finished, planned_legs}
 use Rattle.run_states.specs.declared.phases.JobPhase.{JobPhase}
 use Rattle.run_states.specs.declared.phases.JobPhase.TheVariants as job
 use Rattle.run_states.specs.declared.phases.LegPhase.{LegPhase}
@@ -26,7 +26,7 @@ JobsAreThePlans runs = (r : ℕ) (x : RunState) → run_at runs r ≡ Some x →
 abbrev pub PhaseFits : RunPhase → Bool → List JobState → Type 0
 PhaseFits run.Waiting stopping jobs = (stopping ≡ false) × ((j : ℕ) (x : JobState) → slice_get jobs j ≡ Some x → x.phase ≡ job.Blocked)
 PhaseFits run.Live stopping jobs = Unit {0}
-PhaseFits run.Ended stopping jobs = (j : ℕ) (x : JobState) → slice_get jobs j ≡ Some x → is_settled x ≡ true
+PhaseFits run.Ended stopping jobs = (j : ℕ) (x : JobState) → slice_get jobs j ≡ Some x → is_finished x ≡ true
 
 abbrev pub RunPhasesFit : List RunState → Type 0
 RunPhasesFit runs = (r : ℕ) (x : RunState) → run_at runs r ≡ Some x → PhaseFits x.phase x.stopping x.jobs
@@ -43,7 +43,7 @@ MayLackLegs result.Skipped = Unit {0}
 abbrev pub LegsFit : ℕ → JobResult → JobPhase → List LegState → Type 0
 LegsFit planned gathered job.Blocked legs = legs ≡ []
 LegsFit planned gathered job.Open legs = length legs ≡ planned
-LegsFit planned gathered (job.Settled r) legs =
+LegsFit planned gathered (job.Finished r) legs =
     ((legs ≡ []) × MayLackLegs r) ⊎ ((length legs ≡ planned) × (list_all leg_has_ended legs ≡ true) × (r ≡ gathered))
 
 abbrev pub JobsFit : List RunState → Type 0
@@ -51,7 +51,7 @@ JobsFit runs = (r j : ℕ) (x : JobState) → job_at runs r j ≡ Some x → Leg
 
 -- all needs of a job that has legs have finished
 abbrev pub NeedsComeFirst : List RunState → Type 0
-NeedsComeFirst runs = (r j : ℕ) (x : JobState) → job_at runs r j ≡ Some x → (x.legs ≡ [] → ⊥) → needs_have_settled runs r j ≡ true
+NeedsComeFirst runs = (r j : ℕ) (x : JobState) → job_at runs r j ≡ Some x → (x.legs ≡ [] → ⊥) → needs_have_finished runs r j ≡ true
 
 -- a leg that no runner has claimed has no lease; a leg that runs, or has ended as a success or a failure, has one
 abbrev pub LeaseFits : LegPhase → Option ℕ → Type 0
@@ -65,12 +65,12 @@ LeaseFits (leg.Ended outcome.Failure) lease = IsSome lease
 LeaseFits (leg.Ended outcome.Cancelled) lease = Unit {0}
 
 abbrev pub LeasesFit : List RunState → Type 0
-LeasesFit runs = (p : LegPlace) (x : LegState) → leg_at runs p ≡ Some x → LeaseFits x.phase x.lease
+LeasesFit runs = (p : LegSite) (x : LegState) → leg_at runs p ≡ Some x → LeaseFits x.phase x.lease
 
 -- this holds within a step too, while the runs settle
 pub record RunsAreSound (runs : List RunState) : Type 0 where
   pub jobs_are_the_plans : JobsAreThePlans runs
   pub run_phases_fit : RunPhasesFit runs
   pub jobs_fit : JobsFit runs
-  pub needs_settled_first : NeedsComeFirst runs
+  pub needs_finished_first : NeedsComeFirst runs
   pub leases_fit : LeasesFit runs

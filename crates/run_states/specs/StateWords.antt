@@ -3,7 +3,7 @@ use Rattle.std.specs.Prelude.{ℕ, ◌&&◌, replicate, Bool, true, false, is_so
 use Rattle.std.specs.List.{list_all}
 use Rattle.wf_value.specs.declared.outcome.JobResult.{JobResult}
 use Rattle.wf_value.specs.declared.outcome.Outcome.{Outcome}
-use Rattle.run_states.specs.JobResults.{settled_result}
+use Rattle.run_states.specs.JobResults.{finished_result}
 use Rattle.run_states.specs.RunState.{LegState, JobState, RunState}
 use Rattle.run_states.specs.declared.phases.JobPhase.{JobPhase}
 use Rattle.run_states.specs.declared.phases.JobPhase.TheVariants as job
@@ -51,8 +51,8 @@ abbrev pub is_open : JobPhase → Bool
 is_open job.Open = true
 is_open _ = false
 
-abbrev pub is_settled : JobState → Bool
-is_settled j = is_some (settled_result j.phase)
+abbrev pub is_finished : JobState → Bool
+is_finished j = is_some (finished_result j.phase)
 
 -- an open job whose legs have all ended
 abbrev pub is_done : JobState → Bool
@@ -62,5 +62,5 @@ is_done j = is_open j.phase && list_all leg_has_ended j.legs
 abbrev pub opened : ℕ → JobState → JobState
 opened planned j = record { phase = job.Open; legs = replicate planned new_leg }
 
-abbrev pub settled_as : JobResult → JobState → JobState
-settled_as r j = record j { phase = job.Settled r }
+abbrev pub finished_as : JobResult → JobState → JobState
+finished_as r j = record j { phase = job.Finished r }

@@ -6,10 +6,10 @@ use Rattle.std.specs.Option.{option_map_or}
 use Rattle.wf_value.specs.declared.outcome.Outcome.{Outcome}
 use Rattle.wf_value.specs.declared.outcome.Outcome.TheVariants.{Cancelled}
 use Rattle.run_states.specs.FirstOf.{placed}
-use Rattle.run_states.specs.Fitting.{place_of_lease}
+use Rattle.run_states.specs.Fitting.{site_of_lease}
 use Rattle.run_states.specs.Moves.{Move, Transition}
-use Rattle.run_states.specs.Places.{job_at, leg_at, leg_place, run_at, with_leg, with_run}
-use Rattle.run_states.specs.declared.place.LegPlace.{LegPlace}
+use Rattle.run_states.specs.Places.{job_at, leg_at, leg_site, run_at, with_leg, with_run}
+use Rattle.run_states.specs.declared.place.LegSite.{LegSite}
 use Rattle.run_states.specs.RunConditions.{may_run_in}
 use Rattle.run_states.specs.RunState.{LegState, JobState, RunState}
 use Rattle.run_states.specs.StateWords.{is_open, leg_in_phase}
@@ -24,7 +24,7 @@ use Rattle.run_states.specs.declared.holder.Holder.TheVariants.{Run, Leg}
 -- ---- legs are stopped
 
 -- a leg that waits or is ready ends; a leg that is already asked to stop makes no second move
-abbrev pub leg_stop_moves : LegPlace → LegPhase → List Move
+abbrev pub leg_stop_moves : LegSite → LegPhase → List Move
 leg_stop_moves p leg.New = []
 leg_stop_moves p leg.Waiting = Move.stop (Leg p) ∷ Move.end_with Cancelled (Leg p) ∷ []
 leg_stop_moves p leg.Ready = Move.stop (Leg p) ∷ Move.end_with Cancelled (Leg p) ∷ []
@@ -34,7 +34,7 @@ leg_stop_moves p (leg.Ended r) = []
 
 -- all legs of a job
 abbrev pub legs_stop_moves : ℕ → ℕ → List LegState → List Move
-legs_stop_moves r j legs = flat_map (λ l. leg_stop_moves (leg_place r j l.0) l.1.phase) (placed legs)
+legs_stop_moves r j legs = flat_map (λ l. leg_stop_moves (leg_site r j l.0) l.1.phase) (placed legs)
 
 -- ---- a run is stopped
 
@@ -76,11 +76,11 @@ displace h runs = record { runs = (stop_holder h runs).runs; moves = Move.end_wi
 -- ---- a leg ends
 
 -- its end, and then the stops of the other legs of its job, if its end stops them
-abbrev pub others_stop_moves : LegPlace → Outcome → List RunState → List Move
+abbrev pub others_stop_moves : LegSite → Outcome → List RunState → List Move
 others_stop_moves p outcome runs =
     option_map_or (λ job. legs_stop_moves p.run p.job job.legs) (job_at (with_leg p (leg_in_phase (leg.Ended outcome)) runs) p.run p.job) []
 
-abbrev pub end_moves : LegPlace → Outcome → List RunState → List Move
+abbrev pub end_moves : LegSite → Outcome → List RunState → List Move
 end_moves p outcome runs =
     Move.end_with outcome (Leg p) ∷ (if stops_others runs p outcome then others_stop_moves p outcome runs else [])
 
@@ -88,8 +88,8 @@ end_moves p outcome runs =
 
 -- the runs after the leg with the lease has ended
 abbrev pub with_ended : ℕ → Outcome → List RunState → List RunState
-with_ended lease outcome runs = option_map_or (λ p. after_end p outcome runs) (place_of_lease runs lease) runs
+with_ended lease outcome runs = option_map_or (λ p. after_end p outcome runs) (site_of_lease runs lease) runs
 
 -- the moves that this makes
 abbrev pub lease_end_moves : ℕ → Outcome → List RunState → List Move
-lease_end_moves lease outcome runs = option_map_or (λ p. end_moves p outcome runs) (place_of_lease runs lease) []
+lease_end_moves lease outcome runs = option_map_or (λ p. end_moves p outcome runs) (site_of_lease runs lease) []

@@ -10,10 +10,10 @@ use Rattle.needs_graph.specs.Results.{is_failure}
 use Rattle.run_states.specs.FirstOf.{changed_at, placed}
 use Rattle.run_states.specs.Fitting.{is_lease_stopping}
 use Rattle.run_states.specs.Places.{plan_at, with_job, with_leg}
-use Rattle.run_states.specs.declared.place.LegPlace.{LegPlace}
+use Rattle.run_states.specs.declared.place.LegSite.{LegSite}
 use Rattle.run_states.specs.RunConditions.{may_run_in}
 use Rattle.run_states.specs.RunState.{LegState, JobState, RunState}
-use Rattle.run_states.specs.StateWords.{is_open, leg_in_phase, settled_as}
+use Rattle.run_states.specs.StateWords.{is_open, leg_in_phase, finished_as}
 use Rattle.run_states.specs.Words.{continues_on_error}
 use Rattle.run_states.specs.declared.phases.LegPhase.{LegPhase}
 use Rattle.run_states.specs.declared.phases.LegPhase.TheVariants as leg
@@ -61,7 +61,7 @@ with_job_stopped j run = record run { jobs = changed_at j (stopped_where (not (m
 
 -- a waiting run ends, and all its jobs finish as cancelled
 abbrev pub cancelled : RunState → RunState
-cancelled r = record r { phase = run.Ended; jobs = map (settled_as result.Cancelled) r.jobs }
+cancelled r = record r { phase = run.Ended; jobs = map (finished_as result.Cancelled) r.jobs }
 
 -- a run that is already stopping, or has ended, stays as it is
 abbrev pub stopped_in : RunPhase → RunState → RunState
@@ -79,11 +79,11 @@ abbrev pub fails_fast : List RunState → ℕ → ℕ → Bool
 fails_fast runs r j = option_map_or (λ planned. planned.fail_fast) (plan_at runs r j) false
 
 -- a failure stops the other legs of its job if the job fails fast and the leg does not continue on error
-abbrev pub stops_others : List RunState → LegPlace → Outcome → Bool
+abbrev pub stops_others : List RunState → LegSite → Outcome → Bool
 stops_others runs p outcome = is_failure outcome && (fails_fast runs p.run p.job && not (continues_on_error runs p))
 
 -- the runs after the leg has ended, and after the other legs of its job are stopped, if its end stops them
-abbrev pub after_end : LegPlace → Outcome → List RunState → List RunState
+abbrev pub after_end : LegSite → Outcome → List RunState → List RunState
 after_end p outcome runs =
     let ended = with_leg p (leg_in_phase (leg.Ended outcome)) runs in
     if stops_others runs p outcome then with_job p.run p.job with_stopped_legs ended else ended

@@ -10,12 +10,12 @@ use Rattle.run_states.specs.Fitting.{is_ready, is_served, has_lease}
 use Rattle.run_states.specs.Groups.{may_start}
 use Rattle.run_states.specs.Parallel.{has_room}
 use Rattle.run_states.specs.PlacedLegs.{PlacedLeg, placed_legs_of_run}
-pub use Rattle.run_states.specs.Places.{leg_place}
-use Rattle.run_states.specs.declared.place.LegPlace.{LegPlace}
+pub use Rattle.run_states.specs.Places.{leg_site}
+use Rattle.run_states.specs.declared.place.LegSite.{LegSite}
 use Rattle.run_states.specs.Rules.{leg_end}
-pub use Rattle.run_states.specs.RunConditions.{condition_in, may_run_in, needs_settled_in}
+pub use Rattle.run_states.specs.RunConditions.{condition_in, may_run_in, needs_finished_in}
 use Rattle.run_states.specs.RunState.{LegState, JobState, RunState}
-use Rattle.run_states.specs.StateWords.{is_live, is_blocked, is_done, is_settled}
+use Rattle.run_states.specs.StateWords.{is_live, is_blocked, is_done, is_finished}
 use Rattle.run_states.specs.declared.phases.LegPhase.{LegPhase}
 use Rattle.run_states.specs.declared.phases.LegPhase.TheVariants as leg
 use Rattle.run_states.specs.declared.phases.RunPhase.{RunPhase}
@@ -27,17 +27,17 @@ use Rattle.run_states.specs.declared.holder.Holder.TheVariants.{Run, Leg}
 -- ---- the first place where a rule applies
 
 -- whether a rule applies to the leg there
-abbrev pub goes_on_in : LegPhase → List RunState → LegPlace → Bool
+abbrev pub goes_on_in : LegPhase → List RunState → LegSite → Bool
 goes_on_in leg.New runs p = true
 goes_on_in leg.Waiting runs p = may_start runs (Leg p)
 goes_on_in _ runs p = false
 
-abbrev pub goes_on : List RunState → LegPlace → LegState → Bool
+abbrev pub goes_on : List RunState → LegSite → LegState → Bool
 goes_on runs p l = goes_on_in l.phase runs p
 
 abbrev pub first_of_legs : List RunState → ℕ → ℕ → List LegState → Option RuleSite
 first_of_legs runs r j legs =
-    first_some (λ l. if goes_on runs (leg_place r j l.0) l.1 then Some (AtLeg (leg_place r j l.0)) else None) (placed legs)
+    first_some (λ l. if goes_on runs (leg_site r j l.0) l.1 then Some (AtLeg (leg_site r j l.0)) else None) (placed legs)
 
 -- in a job that does not open: its first leg to which a rule applies, or else where it finishes
 abbrev pub first_of_open : List RunState → ℕ → ℕ → JobState → Option RuleSite
@@ -45,7 +45,7 @@ first_of_open runs r j job = option_or (first_of_legs runs r j job.legs) (if is_
 
 abbrev pub first_in_job : List RunState → ℕ → RunState → ℕ → JobState → Option RuleSite
 first_in_job runs r run j job =
-    if is_blocked job.phase && needs_settled_in run j then Some (Opening r j) else first_of_open runs r j job
+    if is_blocked job.phase && needs_finished_in run j then Some (Opening r j) else first_of_open runs r j job
 
 abbrev pub first_in_jobs : List RunState → ℕ → RunState → List JobState → Option RuleSite
 first_in_jobs runs r run jobs = first_some (λ j. first_in_job runs r run j.0 j.1) (placed jobs)
@@ -53,7 +53,7 @@ first_in_jobs runs r run jobs = first_some (λ j. first_in_job runs r run j.0 j.
 -- whether a rule applies to the run itself
 abbrev pub whole_goes_on_in : RunPhase → List RunState → ℕ → RunState → Bool
 whole_goes_on_in run.Waiting runs r x = may_start runs (Run r)
-whole_goes_on_in run.Live runs r x = list_all is_settled x.jobs
+whole_goes_on_in run.Live runs r x = list_all is_finished x.jobs
 whole_goes_on_in run.Ended runs r x = false
 
 abbrev pub first_of_whole : List RunState → ℕ → RunState → Option RuleSite
@@ -65,18 +65,18 @@ first_in_run runs r x = option_or (if is_live x.phase then first_in_jobs runs r 
 -- ---- the first leg that fits
 
 -- the first ready leg that the runner can serve
-abbrev pub served_in_job : List (List ℕ) → List RunState → ℕ → ℕ → JobState → Option LegPlace
+abbrev pub served_in_job : List (List ℕ) → List RunState → ℕ → ℕ → JobState → Option LegSite
 served_in_job labels runs r j job =
-    first_some (λ l. if is_ready l.1.phase && is_served labels runs (leg_place r j l.0) then Some (leg_place r j l.0) else None)
+    first_some (λ l. if is_ready l.1.phase && is_served labels runs (leg_site r j l.0) then Some (leg_site r j l.0) else None)
     (placed job.legs)
 
-abbrev pub fit_in_job : List (List ℕ) → List RunState → ℕ → ℕ → JobState → Option LegPlace
+abbrev pub fit_in_job : List (List ℕ) → List RunState → ℕ → ℕ → JobState → Option LegSite
 fit_in_job labels runs r j job = if has_room runs r j job then served_in_job labels runs r j job else None
 
-abbrev pub fit_in_jobs : List (List ℕ) → List RunState → ℕ → List JobState → Option LegPlace
+abbrev pub fit_in_jobs : List (List ℕ) → List RunState → ℕ → List JobState → Option LegSite
 fit_in_jobs labels runs r jobs = first_some (λ j. fit_in_job labels runs r j.0 j.1) (placed jobs)
 
-abbrev pub fit_in_run : List (List ℕ) → List RunState → ℕ → RunState → Option LegPlace
+abbrev pub fit_in_run : List (List ℕ) → List RunState → ℕ → RunState → Option LegSite
 fit_in_run labels runs r run = fit_in_jobs labels runs r run.jobs
 
 -- ---- the first leg that fails its job
@@ -88,8 +88,8 @@ failing runs r j l = if option_map_or fails_job (leg_end runs r j l) false then 
 -- ---- the leg with a lease
 
 -- the place of the first of these legs that has the lease
-abbrev pub first_leased : ℕ → List PlacedLeg → Option LegPlace
+abbrev pub first_leased : ℕ → List PlacedLeg → Option LegSite
 first_leased lease legs = first_some (λ x. if has_lease lease x.leg then Some x.place else None) legs
 
-abbrev pub lease_in_run : ℕ → ℕ → RunState → Option LegPlace
+abbrev pub lease_in_run : ℕ → ℕ → RunState → Option LegSite
 lease_in_run lease r run = first_leased lease (placed_legs_of_run (r, run))

@@ -17,10 +17,10 @@ use Rattle.wf_reader.specs.declared.flag.Flag.TheVariants as flag
 use Rattle.needs_graph.specs.Ancestors.{needs_at}
 use Rattle.needs_graph.specs.Conditions.{ancestor_results as results_of_ancestors}
 use Rattle.run_plan.specs.declared.planned.PlannedJob.{PlannedJob}
-pub use Rattle.run_states.specs.JobResults.{job_results, needs_graph_at, needs_in, results_so_far, settled_result}
+pub use Rattle.run_states.specs.JobResults.{job_results, needs_graph_at, needs_in, results_so_far, finished_result}
 use Rattle.run_states.specs.LegContext.{context_at}
 use Rattle.run_states.specs.Places.{run_at, plan_at}
-use Rattle.run_states.specs.declared.place.LegPlace.{LegPlace}
+use Rattle.run_states.specs.declared.place.LegSite.{LegSite}
 use Rattle.run_states.specs.RunState.{RunState}
 
 -- ---- of a run
@@ -44,8 +44,8 @@ abbrev pub all_have_results : List (Option JobResult) → List ℕ → Bool
 all_have_results results places = list_all (λ place. is_some (slice_index_or results place None)) places
 
 -- whether all jobs that the job needs directly have finished
-abbrev pub needs_have_settled : List RunState → ℕ → ℕ → Bool
-needs_have_settled runs r j = all_have_results (job_results runs r) (needs_at (needs_graph_at runs r) j)
+abbrev pub needs_have_finished : List RunState → ℕ → ℕ → Bool
+needs_have_finished runs r j = all_have_results (job_results runs r) (needs_at (needs_graph_at runs r) j)
 
 abbrev pub job_id : List RunState → ℕ → ℕ → List ℕ
 job_id runs r j = option_map_or (λ planned. planned.id) (plan_at runs r j) []
@@ -61,11 +61,11 @@ abbrev pub label_texts : Values → List (List Piece) → List (List ℕ)
 label_texts values labels = map (λ label. scalar_text (template_value values label)) labels
 
 -- the labels that the leg asks for: its job's labels in its context
-abbrev pub labels_at : List RunState → LegPlace → Option (List (List ℕ))
+abbrev pub labels_at : List RunState → LegSite → Option (List (List ℕ))
 labels_at runs p = option_map (λ planned. label_texts (context_at runs p) planned.labels) (plan_at runs p.run p.job)
 
 -- the combination of the leg
-abbrev pub combo_at : List RunState → LegPlace → List (List ℕ × Scalar)
+abbrev pub combo_at : List RunState → LegSite → List (List ℕ × Scalar)
 combo_at runs p = option_map_or (λ leg. leg.combo) (option_and_then (λ planned. slice_get planned.legs p.leg) (plan_at runs p.run p.job)) []
 
 -- whether a flag is set in a context
@@ -78,5 +78,5 @@ abbrev pub is_set_for : Values → PlannedJob → ℕ → Bool
 is_set_for values planned l = is_some (slice_get planned.legs l) && is_set values planned.continue_on_error
 
 -- whether a failure of the leg is ignored: whether its job's continue-on-error is set in its context
-abbrev pub continues_on_error : List RunState → LegPlace → Bool
+abbrev pub continues_on_error : List RunState → LegSite → Bool
 continues_on_error runs p = option_map_or (λ planned. is_set_for (context_at runs p) planned p.leg) (plan_at runs p.run p.job) false

@@ -5,7 +5,7 @@ ghost use Rattle.run_states.specs.Changes.{offered_by};
 
 use crate::leg::Leg;
 use crate::phases::RunPhase;
-use crate::place::LegPlace;
+use crate::place::LegSite;
 use wf_value::JobResult;
 
 /// One change of a run. Within an attempt, a table changes its runs only by these. Each changes at most one holder of a group.
@@ -27,11 +27,11 @@ pub enum Change {
 
 impl Change {
     /// The leg that the change of run `r` makes ready.
-    pub fn offered(&self, r: usize) -> Option<LegPlace>
+    pub fn offered(&self, r: usize) -> Option<LegSite>
         ensures { result ≡ offered_by r self.now }
     {
         match self {
-            Change::PutLeg(j, l, leg) if leg.phase.is_ready() => Some(LegPlace::new(r, *j, *l)),
+            Change::PutLeg(j, l, leg) if leg.phase.is_ready() => Some(LegSite::new(r, *j, *l)),
             _ => None,
         }
     }

@@ -2,14 +2,14 @@
 
 ghost use Rattle.std.specs.Prelude.{◌≡◌};
 
-use crate::place::LegPlace;
+use crate::place::LegSite;
 use wf_value::Same;
 
 /// A run, by its index in the table, or a leg.
 #[derive(Clone, Copy)]
 pub enum Holder {
     Run(usize),
-    Leg(LegPlace),
+    Leg(LegSite),
 }
 
 /// Which holders of a group a search looks for.

@@ -7,7 +7,7 @@ ghost use Rattle.run_states.specs.FirstOf.{changed_at};
 ghost use Rattle.run_states.specs.LegCounts.{AreCounted, has_unready_leg};
 ghost use Rattle.run_states.specs.NewRun.{blocked_job};
 ghost use Rattle.run_states.specs.Parallel.{legs_at_work};
-ghost use Rattle.run_states.specs.Rules.{leg_has_ended, is_done, is_settled, opened, settled_as};
+ghost use Rattle.run_states.specs.Rules.{leg_has_ended, is_done, is_finished, opened, finished_as};
 
 mod of;
 
@@ -129,9 +129,9 @@ impl Job {
     }
 
     pub fn settle(&mut self, settled: JobResult)
-        ensures { self.new ≡ in_state (settled_as settled self.old.state) self.old }
+        ensures { self.new ≡ in_state (finished_as settled self.old.state) self.old }
     {
-        self.phase = JobPhase::Settled(settled);
+        self.phase = JobPhase::Finished(settled);
     }
 
     /// Replaces leg `l`, if the job has it.
@@ -152,8 +152,8 @@ impl Job {
         self.counts().at_work
     }
 
-    pub fn is_settled(&self) -> bool
-        ensures { result ≡ is_settled self.now.state }
+    pub fn is_finished(&self) -> bool
+        ensures { result ≡ is_finished self.now.state }
     {
         self.phase.result().is_some()
     }

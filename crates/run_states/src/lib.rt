@@ -19,6 +19,6 @@ pub use job::Job;
 pub use leg::Leg;
 pub use limits::{LAST_ATTEMPT, MAX_RUNS};
 pub use phases::{JobPhase, LegPhase, RunPhase};
-pub use place::{JobPlace, LegPlace, RuleSite};
+pub use place::{JobSite, LegSite, RuleSite};
 pub use run::Run;
 pub use run_parts::{JobParts, RunParts};

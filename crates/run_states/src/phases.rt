@@ -22,7 +22,7 @@ pub enum JobPhase {
     /// It waits for the jobs that it needs.
     Blocked,
     Open,
-    Settled(JobResult),
+    Finished(JobResult),
 }
 
 /// The phase of a run.
@@ -129,7 +129,7 @@ impl LegPhase {
 }
 
 impl JobPhase {
-    ghost use Rattle.run_states.specs.JobResults.{settled_result};
+    ghost use Rattle.run_states.specs.JobResults.{finished_result};
     ghost use Rattle.run_states.specs.StateWords.{is_blocked, is_open};
 
     pub fn is_blocked(self) -> bool
@@ -137,7 +137,7 @@ impl JobPhase {
     {
         match self {
             JobPhase::Blocked => true,
-            JobPhase::Open | JobPhase::Settled(_) => false,
+            JobPhase::Open | JobPhase::Finished(_) => false,
         }
     }
 
@@ -146,16 +146,16 @@ impl JobPhase {
     {
         match self {
             JobPhase::Open => true,
-            JobPhase::Blocked | JobPhase::Settled(_) => false,
+            JobPhase::Blocked | JobPhase::Finished(_) => false,
         }
     }
 
     /// The result of the job, once it has finished.
     pub fn result(self) -> Option<JobResult>
-        ensures { result ≡ settled_result self }
+        ensures { result ≡ finished_result self }
     {
         match self {
-            JobPhase::Settled(settled) => Some(settled),
+            JobPhase::Finished(settled) => Some(settled),
             JobPhase::Blocked | JobPhase::Open => None,
         }
     }

@@ -2,25 +2,25 @@ ghost use Rattle.std.specs.Prelude.{◌≡◌};
 
 /// The place of a leg: the index of its run in the table, of its job in the run and of the leg in the job, each from 0.
 #[derive(Clone, Copy)]
-pub struct LegPlace {
+pub struct LegSite {
     pub run: usize,
     pub job: usize,
     pub leg: usize,
 }
 
-impl LegPlace {
-    ghost use Rattle.run_states.specs.Places.{leg_place};
+impl LegSite {
+    ghost use Rattle.run_states.specs.Places.{leg_site};
 
     pub fn new(run: usize, job: usize, leg: usize) -> Self
-        ensures { result ≡ leg_place run job leg }
+        ensures { result ≡ leg_site run job leg }
     {
-        LegPlace { run, job, leg }
+        LegSite { run, job, leg }
     }
 }
 
 /// The place of a job: the index of its run in the table and of the job in the run, each from 0.
 #[derive(Clone, Copy)]
-pub struct JobPlace {
+pub struct JobSite {
     pub run: usize,
     pub job: usize,
 }
@@ -30,7 +30,7 @@ pub struct JobPlace {
 pub enum RuleSite {
     /// Where a job opens: the indices of its run and of the job.
     Opening(usize, usize),
-    AtLeg(LegPlace),
+    AtLeg(LegSite),
     /// Where a job finishes with its result: the indices of its run and of the job.
     Closing(usize, usize),
     /// The run itself.

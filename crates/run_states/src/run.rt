@@ -10,10 +10,10 @@ ghost use Rattle.run_states.specs.FirstOf.{changed_at};
 ghost use Rattle.run_states.specs.JobResults.{results_so_far};
 ghost use Rattle.run_states.specs.Resuming.{job_again};
 ghost use Rattle.run_states.specs.NewRun.{again, new_run, run_in_attempt};
-ghost use Rattle.run_states.specs.Rules.{opened, settled_as, run_in_phase};
+ghost use Rattle.run_states.specs.Rules.{opened, finished_as, run_in_phase};
 ghost use Rattle.run_states.specs.Settling.{legs_in_plan};
 ghost use Rattle.run_states.specs.Stops.{cancelled, is_open_at};
-ghost use Rattle.run_states.specs.WithinRun.{condition_in, may_run_in, needs_settled_in};
+ghost use Rattle.run_states.specs.WithinRun.{condition_in, may_run_in, needs_finished_in};
 
 mod needs;
 mod of;
@@ -143,8 +143,8 @@ impl Run {
     }
 
     /// Whether all jobs that job `j` needs directly have finished.
-    pub fn needs_have_settled(&self, j: usize) -> bool
-        ensures { result ≡ needs_settled_in self.now j }
+    pub fn needs_have_finished(&self, j: usize) -> bool
+        ensures { result ≡ needs_finished_in self.now j }
     {
         match self.jobs.get(j) {
             Some(job) => job.needs_left() == 0,
@@ -157,7 +157,7 @@ impl Run {
     pub fn job_again(&self, j: usize) -> usize
         ensures { result ≡ job_again self.now j }
     {
-        if !is_settled_at(self.jobs(), j) {
+        if !is_finished_at(self.jobs(), j) {
             return j;
         }
         match self.prepared.plan().graph().first_dependent(j) {
@@ -235,9 +235,9 @@ impl Run {
     {
         if j < self.jobs.len() {
             let job = &mut self.jobs[j];
-            let had_settled = job.is_settled();
+            let had_finished = job.is_finished();
             job.open();
-            if had_settled {
+            if had_finished {
                 count_needs(&mut self.jobs, self.prepared.plan().graph());
             }
         }
@@ -245,7 +245,7 @@ impl Run {
 
     /// Finishes job `j` with this result.
     pub(crate) fn settle_job(&mut self, j: usize, settled: JobResult)
-        ensures { self.new ≡ record self.old { jobs = changed_at j (settled_as settled) self.old.jobs } }
+        ensures { self.new ≡ record self.old { jobs = changed_at j (finished_as settled) self.old.jobs } }
     {
         settle_among(&mut self.jobs, self.prepared.plan().graph(), j, settled);
     }
@@ -260,7 +260,7 @@ impl Run {
 
     /// Finishes all jobs with the same result.
     fn settle_all(&mut self, settled: JobResult)
-        ensures { self.new ≡ record self.old { jobs = map (settled_as settled) self.old.jobs } }
+        ensures { self.new ≡ record self.old { jobs = map (finished_as settled) self.old.jobs } }
     {
         for j in 0..self.job_count() {
             self.settle_job(j, settled);
@@ -340,11 +340,11 @@ fn have_active_leg(jobs: &[Job]) -> bool
 }
 
 /// Whether the job at this index has finished.
-fn is_settled_at(jobs: &[Job], place: usize) -> bool
+fn is_finished_at(jobs: &[Job], place: usize) -> bool
     ensures { result ≡ is_some (slice_index_or (results_so_far (states jobs.now)) place None) }
 {
     match jobs.get(place) {
-        Some(job) => job.is_settled(),
+        Some(job) => job.is_finished(),
         None => false,
     }
 }

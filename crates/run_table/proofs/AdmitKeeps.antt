@@ -16,7 +16,7 @@ use Rattle.run_plan.specs.declared.planned.PlannedJob.{PlannedJob}
 use Rattle.run_plan.specs.declared.reply.Reply.TheVariants as reply
 use Rattle.run_states.specs.Parallel.{legs_at_work}
 use Rattle.run_states.specs.Places.{run_at}
-use Rattle.run_states.specs.declared.place.LegPlace.{LegPlace}
+use Rattle.run_states.specs.declared.place.LegSite.{LegSite}
 use Rattle.run_states.specs.Rules.{result_at}
 use Rattle.run_table.specs.Sound.{AttemptsAreGiven, DeliveriesDiffer, ParallelIsBounded}
 use Rattle.run_table.specs.Step.{admission_answer, refused}
@@ -101,7 +101,7 @@ module _ (runs : List RunState) (event : Admitted) where
             (option_and_then (λ (v : RunState). slice_get (plan_of v.admitted.body) j) o)) before) ∙ is)
       ]
 
-  pub same_reads : (f : LegState → Option ℕ) (p : LegPlace)
+  pub same_reads : (f : LegState → Option ℕ) (p : LegSite)
       → option_and_then
       (λ (x : RunState). option_and_then (λ (y : JobState). option_and_then f (slice_get y.legs p.leg)) (slice_get x.jobs p.job))
       (run_at (runs ++ new_run event ∷ []) p.run)

@@ -7,8 +7,8 @@ use Rattle.std.proofs.lemmas.List.Sums.{sum_by-cons}
 use Rattle.std.proofs.lemmas.Option.{none-some}
 use Rattle.run_plan.specs.declared.planned.PlannedJob.{PlannedJob}
 use Rattle.run_states.specs.Parallel.{is_at_work, legs_at_work, most_at_work}
-use Rattle.run_states.specs.Places.{job_at, leg_place}
-use Rattle.run_states.specs.declared.place.LegPlace.{LegPlace}
+use Rattle.run_states.specs.Places.{job_at, leg_site}
+use Rattle.run_states.specs.declared.place.LegSite.{LegSite}
 use Rattle.run_table.specs.Sound.{ParallelIsBounded}
 use Rattle.run_states.specs.RunState.{LegState, JobState, RunState}
 use Rattle.run_states.specs.SoundRuns.{LeaseFits}
@@ -110,9 +110,9 @@ read_of_job : (o : Option JobState) (l : ℕ) → option_and_then (λ (job : Job
 read_of_job None l = refl
 read_of_job (Some job) l = refl
 
-reads : (runs : List RunState) (r j l : ℕ) → works_at runs (leg_place r j l) ≡ work_at (legs_of (job_at runs r j)) l
+reads : (runs : List RunState) (r j l : ℕ) → works_at runs (leg_site r j l) ≡ work_at (legs_of (job_at runs r j)) l
 reads runs r j l =
-    sym (works_is runs (leg_place r j l)) ∙ ap (option_and_then work_of) (read_of_job (job_at runs r j) l)
+    sym (works_is runs (leg_site r j l)) ∙ ap (option_and_then work_of) (read_of_job (job_at runs r j) l)
 
 bounded_of : (o : Option JobState) (most : ℕ) → ((x : JobState) → o ≡ Some x → legs_at_work x ≤ most) → count_by at_work (legs_of o) ≤ most
 bounded_of None most b = omega arith
@@ -120,12 +120,12 @@ bounded_of (Some x) most b = b x refl
 
 -- a job that is at work on no leg besides those before is bounded as before
 pub fewer_in_job : (runs next : List RunState) → RunsFit next → (r j : ℕ) (y : JobState) (most : ℕ) → job_at next r j ≡ Some y
-    → ((l n : ℕ) → works_at next (leg_place r j l) ≡ Some n → works_at runs (leg_place r j l) ≡ Some n)
+    → ((l n : ℕ) → works_at next (leg_site r j l) ≡ Some n → works_at runs (leg_site r j l) ≡ Some n)
     → ((x : JobState) → job_at runs r j ≡ Some x → legs_at_work x ≤ most)
     → legs_at_work y ≤ most
 fewer_in_job runs next fit r j y most at still bounded =
-    let now : (l : ℕ) → works_at next (leg_place r j l) ≡ work_at y.legs l = λ l. reads next r j l ∙ ap (λ o. work_at (legs_of o) l) at in
-    let have : HaveLeases y.legs = λ l z e. leases_fit next fit (leg_place r j l) z (leg_in_job next (leg_place r j l) y at ∙ e) in
+    let now : (l : ℕ) → works_at next (leg_site r j l) ≡ work_at y.legs l = λ l. reads next r j l ∙ ap (λ o. work_at (legs_of o) l) at in
+    let have : HaveLeases y.legs = λ l z e. leases_fit next fit (leg_site r j l) z (leg_in_job next (leg_site r j l) y at ∙ e) in
     let less = fewer y.legs (legs_of (job_at runs r j)) have (λ l n e. sym (reads runs r j l) ∙ still l n (now l ∙ e)) in
     let before = bounded_of (job_at runs r j) most bounded in
     omega (arith, less, before)
@@ -136,9 +136,9 @@ most_same runs next r j same = ap (option_and_then (λ (planned : PlannedJob). p
 
 -- if no leg is at work that was not before, the bounds still hold
 pub fewer_at_work : (runs next : List RunState) → RunsFit next → ((r : ℕ) → admitted_at next r ≡ admitted_at runs r)
-    → ((p : LegPlace) (n : ℕ) → works_at next p ≡ Some n → works_at runs p ≡ Some n) → ParallelIsBounded runs → ParallelIsBounded next
+    → ((p : LegSite) (n : ℕ) → works_at next p ≡ Some n → works_at runs p ≡ Some n) → ParallelIsBounded runs → ParallelIsBounded next
 fewer_at_work runs next fit same still bounded r j y most at is =
-    fewer_in_job runs next fit r j y most at (λ l n e. still (leg_place r j l) n e)
+    fewer_in_job runs next fit r j y most at (λ l n e. still (leg_site r j l) n e)
     (λ x was. bounded r j x most was (sym (most_same runs next r j (same r)) ∙ is))
 
 pub settling_bounded : (runs next : List RunState) → Settles runs next → ParallelIsBounded runs → ParallelIsBounded next

@@ -10,7 +10,7 @@ use Rattle.run_states.specs.Arrivals.{arrived}
 use Rattle.run_states.specs.Fitting.{first_fit}
 use Rattle.run_states.specs.Groups.{HasOneBeside, HasOneEach, waits}
 use Rattle.run_states.specs.Places.{run_at, with_leg, with_run}
-use Rattle.run_states.specs.declared.place.LegPlace.{LegPlace}
+use Rattle.run_states.specs.declared.place.LegSite.{LegSite}
 use Rattle.run_table.specs.Sound.{IsSound}
 use Rattle.run_states.specs.SoundRuns.{RunsAreSound}
 use Rattle.run_states.specs.StateWords.{leg_has_ended}
@@ -176,7 +176,7 @@ begun_settles {t} {requested} {begun} {place} b new new_is =
 
 -- ---- a leg is leased
 
-pub leased_may_settle : (t : TableState) (labels : List (List ℕ)) (p : LegPlace) (lease : ℕ) → IsSound t
+pub leased_may_settle : (t : TableState) (labels : List (List ℕ)) (p : LegSite) (lease : ℕ) → IsSound t
     → first_fit labels t.runs ≡ Some p → MaySettle (with_leg p (λ _. leased_leg lease) t.runs)
 leased_may_settle t labels p lease s fits =
     let ready = fitting_leg labels t.runs p fits in

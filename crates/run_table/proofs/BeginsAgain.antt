@@ -10,13 +10,13 @@ use Rattle.wf_value.specs.declared.outcome.JobResult.{JobResult}
 use Rattle.wf_value.specs.declared.refusal.Refusal.TheVariants.{Turn}
 use Rattle.run_plan.specs.declared.command.Attempt.{Attempt}
 use Rattle.run_plan.specs.declared.reply.Reply.TheVariants as reply
-use Rattle.run_states.specs.JobResults.{settled_result}
+use Rattle.run_states.specs.JobResults.{finished_result}
 use Rattle.run_states.specs.Parallel.{is_at_work}
 use Rattle.run_states.specs.Places.{run_at}
 use Rattle.run_states.specs.Rules.{result_at}
 use Rattle.run_states.specs.RunState.{LegState, JobState, RunState}
 use Rattle.run_states.specs.SoundRuns.{LegsFit, PhaseFits}
-use Rattle.run_states.specs.StateWords.{is_settled, leg_has_ended, outcome_of}
+use Rattle.run_states.specs.StateWords.{is_finished, leg_has_ended, outcome_of}
 use Rattle.run_states.specs.Words.{planned_legs}
 use Rattle.run_states.specs.declared.phases.JobPhase.{JobPhase}
 use Rattle.run_states.specs.declared.phases.JobPhase.TheVariants as job
@@ -78,10 +78,10 @@ begins_again t requested none = begins_at t.runs (requested.run - 1) requested (
 -- ---- the legs of a run that has ended
 
 legs_of_settled : (planned : ℕ) (result : JobResult) (phase : JobPhase) (legs : List LegState) (l : ℕ) (z : LegState)
-    → LegsFit planned result phase legs → is_some (settled_result phase) ≡ true → slice_get legs l ≡ Some z → leg_has_ended z ≡ true
+    → LegsFit planned result phase legs → is_some (finished_result phase) ≡ true → slice_get legs l ≡ Some z → leg_has_ended z ≡ true
 legs_of_settled planned result job.Blocked legs l z fits settled e = cc
 legs_of_settled planned result job.Open legs l z fits settled e = cc
-legs_of_settled planned result (job.Settled r) legs l z fits settled e =
+legs_of_settled planned result (job.Finished r) legs l z fits settled e =
     elim fits [
       | inl h ↦ absurd (no_leg legs l z h.0 e)
       | inr h ↦ each_passes leg_has_ended legs l z h.1 e
@@ -99,7 +99,7 @@ module _ (runs : List RunState) (r : ℕ) (x : RunState) (fits : RunFits runs r 
   pub legs_ended : (j : ℕ) (y : JobState) (l : ℕ) (z : LegState) → slice_get x.jobs j ≡ Some y → slice_get y.legs l ≡ Some z
       → leg_has_ended z ≡ true
   legs_ended j y l z at is =
-      let settled : is_settled y ≡ true = subst (λ (phase : RunPhase). PhaseFits phase x.stopping x.jobs) ended fits.phase_fits j y at in
+      let settled : is_finished y ≡ true = subst (λ (phase : RunPhase). PhaseFits phase x.stopping x.jobs) ended fits.phase_fits j y at in
       legs_of_settled (planned_legs runs r j) (result_at runs r j y) y.phase y.legs l z (fits.jobs_fit j y at).legs_fit settled is
 
   no_work_on : (j : ℕ) (y : JobState) (l : ℕ) (o : Option LegState) → slice_get x.jobs j ≡ Some y → slice_get y.legs l ≡ o

@@ -30,7 +30,7 @@ run_of phase stopping jobs =
     }
 
 abbrev pub cancelled_job : JobState
-cancelled_job = record { phase = job.Settled result.Cancelled; legs = [] }
+cancelled_job = record { phase = job.Finished result.Cancelled; legs = [] }
 
 -- a waiting run ends, all its jobs cancelled, and its stop flag is not set
 waiting_run_ends : stopped_run (run_of run.Waiting false (blocked_job ∷ blocked_job ∷ []))

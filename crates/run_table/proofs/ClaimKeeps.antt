@@ -14,8 +14,8 @@ use Rattle.run_plan.specs.declared.reply.Reply.{Reply}
 use Rattle.run_states.specs.FirstOf.{changed_at}
 use Rattle.run_states.specs.Fitting.{is_ready, is_served, may_run_too, fits, first_fit}
 use Rattle.run_states.specs.Parallel.{has_room, legs_at_work, most_at_work}
-use Rattle.run_states.specs.Places.{job_at, leg_at, leg_places, run_at, with_leg}
-use Rattle.run_states.specs.declared.place.LegPlace.{LegPlace}
+use Rattle.run_states.specs.Places.{job_at, leg_at, leg_sites, run_at, with_leg}
+use Rattle.run_states.specs.declared.place.LegSite.{LegSite}
 use Rattle.run_states.specs.Rules.{leg_has_ended, result_at}
 use Rattle.run_plan.specs.LastCommand.{is_last_claim}
 use Rattle.run_table.specs.Sound.{IsLastOf, ParallelIsBounded}
@@ -62,7 +62,7 @@ holds_none (Some x) e =
 
 -- ---- the leg that fits
 
-pub record ReadyLeg (runs : List RunState) (p : LegPlace) : Type 0 where
+pub record ReadyLeg (runs : List RunState) (p : LegSite) : Type 0 where
   pub leg_of : LegState
   pub is : leg_at runs p ≡ Some leg_of
   pub ready : leg_of.phase ≡ leg.Ready
@@ -75,30 +75,30 @@ is_ready_ready leg.Running e = cc
 is_ready_ready leg.Stopping e = cc
 is_ready_ready (leg.Ended r) e = cc
 
-ready_at : (runs : List RunState) (p : LegPlace) (o : Option LegState) → leg_at runs p ≡ o
+ready_at : (runs : List RunState) (p : LegSite) (o : Option LegState) → leg_at runs p ≡ o
     → option_map_or (λ l. is_ready l.phase) o false ≡ true → ReadyLeg runs p
 ready_at runs p None is e = cc
 ready_at runs p (Some z) is e = record { leg_of = z; is = is; ready = is_ready_ready z.phase e }
 
-pub fitting_leg : (labels : List (List ℕ)) (runs : List RunState) (p : LegPlace) → first_fit labels runs ≡ Some p → ReadyLeg runs p
+pub fitting_leg : (labels : List (List ℕ)) (runs : List RunState) (p : LegSite) → first_fit labels runs ≡ Some p → ReadyLeg runs p
 fitting_leg labels runs p e =
     ready_at runs p (leg_at runs p) refl
     (and_parts (option_map_or (λ l. is_ready l.phase) (leg_at runs p) false) (may_run_too runs p && is_served labels runs p)
-    (find_passes (fits labels runs) (leg_places runs) p e)).0
+    (find_passes (fits labels runs) (leg_sites runs) p e)).0
 
 -- and its job has room
-fitting_room : (labels : List (List ℕ)) (runs : List RunState) (p : LegPlace) → first_fit labels runs ≡ Some p → may_run_too runs p ≡ true
+fitting_room : (labels : List (List ℕ)) (runs : List RunState) (p : LegSite) → first_fit labels runs ≡ Some p → may_run_too runs p ≡ true
 fitting_room labels runs p e =
     (and_parts (may_run_too runs p) (is_served labels runs p)
     (and_parts (option_map_or (λ l. is_ready l.phase) (leg_at runs p) false) (may_run_too runs p && is_served labels runs p)
-    (find_passes (fits labels runs) (leg_places runs) p e)).1).0
+    (find_passes (fits labels runs) (leg_sites runs) p e)).1).0
 
 pub ready_has_no_lease : (phase : LegPhase) (lease : Option ℕ) → phase ≡ leg.Ready → LeaseFits phase lease → lease ≡ None
 ready_has_no_lease phase lease e fits = subst (λ (x : LegPhase). LeaseFits x lease) e fits
 
 -- ---- what is read after a leg has changed
 
-pub had_changes : (runs : List RunState) (p : LegPlace) (z : LegState) (f : LegState → LegState) → leg_at runs p ≡ Some z
+pub had_changes : (runs : List RunState) (p : LegSite) (z : LegState) (f : LegState → LegState) → leg_at runs p ≡ Some z
     → ChangesAt (had_at runs) (had_at (with_leg p f runs)) p (f z).lease
 had_changes runs p z f is =
     let at = leg_in runs p z is in
@@ -108,7 +108,7 @@ had_changes runs p z f is =
           ∙ ap (option_and_then (λ (y : LegState). y.lease)) (leg_elsewhere runs p z f at q n) ∙ had_is runs q);
     }
 
-pub works_changes : (runs : List RunState) (p : LegPlace) (z : LegState) (f : LegState → LegState) → leg_at runs p ≡ Some z
+pub works_changes : (runs : List RunState) (p : LegSite) (z : LegState) (f : LegState → LegState) → leg_at runs p ≡ Some z
     → ChangesAt (works_at runs) (works_at (with_leg p f runs)) p (work_of (f z))
 works_changes runs p z f is =
     let at = leg_in runs p z is in
@@ -132,7 +132,7 @@ one_more legs l f z was =
     let most = at_most_one (at_work (f z)) in
     omega (arith, sum, most)
 
-module _ (runs : List RunState) (p : LegPlace) (z : LegState) (f : LegState → LegState) (is : leg_at runs p ≡ Some z)
+module _ (runs : List RunState) (p : LegSite) (z : LegState) (f : LegState → LegState) (is : leg_at runs p ≡ Some z)
     (room : may_run_too runs p ≡ true) (same : (r : ℕ) → admitted_at (with_leg p f runs) r ≡ admitted_at runs r)
     (fit : RunsFit (with_leg p f runs)) (bounded : ParallelIsBounded runs) where
   -- its own job had room
@@ -164,9 +164,9 @@ module _ (runs : List RunState) (p : LegPlace) (z : LegState) (f : LegState → 
   leased_bounded r j y most at bound =
       let bound_before = sym (most_same runs (with_leg p f runs) r j (same r)) ∙ bound in
       elim (cases_eq r p.run) [
-        | inr n ↦ bounded_elsewhere r j y most (λ l e. n (ap (λ (q : LegPlace). q.run) e)) at bound_before
+        | inr n ↦ bounded_elsewhere r j y most (λ l e. n (ap (λ (q : LegSite). q.run) e)) at bound_before
         | inl s ↦ elim (cases_eq j p.job) [
-          | inr n ↦ bounded_elsewhere r j y most (λ l e. n (ap (λ (q : LegPlace). q.job) e)) at bound_before
+          | inr n ↦ bounded_elsewhere r j y most (λ l e. n (ap (λ (q : LegSite). q.job) e)) at bound_before
           | inl t ↦ bounded_here y most
               (ap (λ (i : ℕ). job_at (with_leg p f runs) i p.job) (sym s) ∙ ap (λ (i : ℕ). job_at (with_leg p f runs) r i) (sym t) ∙ at)
               (ap (λ (i : ℕ). most_at_work runs i p.job) (sym s) ∙ ap (λ (i : ℕ). most_at_work runs r i) (sym t) ∙ bound_before)
@@ -213,12 +213,12 @@ serving_keeps t claim s none =
 
 -- ---- a leg is leased
 
-no_lease_left : (o : Option LegPlace) (p : LegPlace) (b : Bool) → o ≡ Some p → (is_some o && b) ≡ false → b ≡ false
-no_lease_left o p b is e = sym (ap (λ (v : Option LegPlace). is_some v && b) is) ∙ e
+no_lease_left : (o : Option LegSite) (p : LegSite) (b : Bool) → o ≡ Some p → (is_some o && b) ≡ false → b ≡ false
+no_lease_left o p b is e = sym (ap (λ (v : Option LegSite). is_some v && b) is) ∙ e
 
 -- a leg that had no lease has the new one, and the others keep theirs
-still_had : (before after : LegPlace → Option ℕ) (at : LegPlace) (new : Option ℕ) → ChangesAt before after at new → before at ≡ None
-    → (p : LegPlace) (n : ℕ) → before p ≡ Some n → after p ≡ Some n
+still_had : (before after : LegSite → Option ℕ) (at : LegSite) (new : Option ℕ) → ChangesAt before after at new → before at ≡ None
+    → (p : LegSite) (n : ℕ) → before p ≡ Some n → after p ≡ Some n
 still_had before after at new changes free p n e =
     elim (place_or_another p at) [
       | inl s ↦ absurd (none-some n (sym free ∙ ap before (sym s) ∙ e))
@@ -230,20 +230,20 @@ within_plan : (planned : ℕ) (gathered : JobResult) (phase : JobPhase) (legs : 
 within_plan planned gathered job.Blocked legs l z fits at =
     let no : slice_get [] l ≡ Some z = subst (λ (ls : List LegState). slice_get ls l ≡ Some z) fits at in cc
 within_plan planned gathered job.Open legs l z fits at = let within = slice_get_within legs l z at in omega (arith, within, fits)
-within_plan planned gathered (job.Settled r) legs l z (inl none) at =
+within_plan planned gathered (job.Finished r) legs l z (inl none) at =
     let no : slice_get [] l ≡ Some z = subst (λ (ls : List LegState). slice_get ls l ≡ Some z) none.0 at in cc
-within_plan planned gathered (job.Settled r) legs l z (inr all) at =
+within_plan planned gathered (job.Finished r) legs l z (inr all) at =
     let within = slice_get_within legs l z at in let as_many = all.0 in omega (arith, within, as_many)
 
 -- a leg that exists is one of the plan's
-pub leg_is_planned : (runs : List RunState) → RunsFit runs → (p : LegPlace) (z : LegState) → leg_at runs p ≡ Some z
+pub leg_is_planned : (runs : List RunState) → RunsFit runs → (p : LegSite) (z : LegState) → leg_at runs p ≡ Some z
     → p.leg < planned_legs runs p.run p.job
 leg_is_planned runs fit p z e =
     let f = from_and_then (λ (x : JobState). slice_get x.legs p.leg) (job_at runs p.run p.job) z e in
     within_plan (planned_legs runs p.run p.job) (result_at runs p.run p.job f.value) f.value.phase f.value.legs p.leg z
     (jobs_fit runs fit p.run p.job f.value f.is) f.gives
 
-pub leasing_keeps : (t : TableState) (claim : Claimed) (p : LegPlace) → IsKept t → claim_answer t claim ≡ None
+pub leasing_keeps : (t : TableState) (claim : Claimed) (p : LegSite) → IsKept t → claim_answer t claim ≡ None
     → first_fit claim.labels t.runs ≡ Some p
     → IsKept (record {
       last_lease = t.last_lease + 1;

@@ -4,11 +4,11 @@ use Rattle.std.specs.Option.{option_map_or}
 use Rattle.std.proofs.Common.{ap, inl, inr, ◌∙◌}
 use Rattle.std.proofs.lemmas.Bool.{false≢true}
 use Rattle.wf_value.specs.declared.outcome.Outcome.{Outcome}
-use Rattle.run_states.specs.Fitting.{first_fit, place_of_lease}
+use Rattle.run_states.specs.Fitting.{first_fit, site_of_lease}
 use Rattle.run_states.specs.Groups.{HasOneEach, holds, leg_holds}
 use Rattle.run_states.specs.NewRun.{leased_leg}
 use Rattle.run_states.specs.Places.{with_job, with_leg, with_run}
-use Rattle.run_states.specs.declared.place.LegPlace.{LegPlace}
+use Rattle.run_states.specs.declared.place.LegSite.{LegSite}
 use Rattle.run_states.specs.RunState.{RunState}
 use Rattle.run_states.specs.StateWords.{leg_has_ended, leg_in_phase}
 use Rattle.run_states.specs.StopMoves.{with_ended}
@@ -27,7 +27,7 @@ use Rattle.run_states.specs.declared.holder.Holder.TheVariants.{Leg}
 
 -- ---- a leg is leased: it held its group already
 
-module _ (runs : List RunState) (fit : RunsFit runs) (labels : List (List ℕ)) (p : LegPlace) (lease : ℕ)
+module _ (runs : List RunState) (fit : RunsFit runs) (labels : List (List ℕ)) (p : LegSite) (lease : ℕ)
     (fits : first_fit labels runs ≡ Some p) where
   ready_held : holds runs (Leg p) ≡ true
   ready_held =
@@ -57,7 +57,7 @@ module _ (runs : List RunState) (fit : RunsFit runs) (labels : List (List ℕ)) 
 
 -- ---- a leg ends
 
-after_end_fades : (p : LegPlace) (o : Outcome) (runs : List RunState) → Fades runs (after_end p o runs)
+after_end_fades : (p : LegSite) (o : Outcome) (runs : List RunState) → Fades runs (after_end p o runs)
 after_end_fades p o runs =
     let ended = with_leg p (leg_in_phase (leg.Ended o)) runs in
     let first = leg_fades (leg_in_phase (leg.Ended o)) p runs (λ z e. absurd (false≢true e)) (λ z e. absurd (false≢true e)) in
@@ -68,7 +68,7 @@ after_end_fades p o runs =
 
 with_ended_fades : (lease : ℕ) (o : Outcome) (runs : List RunState) → Fades runs (with_ended lease o runs)
 with_ended_fades lease o runs =
-    elim (place_of_lease runs lease) as (λ place. Fades runs (option_map_or (λ p. after_end p o runs) place runs)) [
+    elim (site_of_lease runs lease) as (λ place. Fades runs (option_map_or (λ p. after_end p o runs) place runs)) [
       | None ↦ fades_not runs
       | Some p ↦ after_end_fades p o runs
     ]

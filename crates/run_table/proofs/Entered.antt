@@ -10,7 +10,7 @@ use Rattle.run_plan.specs.declared.planned.PlannedJob.{PlannedJob}
 use Rattle.run_states.specs.Arrivals.{arrived}
 use Rattle.run_states.specs.Groups.{HasOneBeside, HasOneEach, holds, leg_holds, leg_waits, run_waits, waits}
 use Rattle.run_states.specs.Places.{leg_at}
-use Rattle.run_states.specs.declared.place.LegPlace.{LegPlace}
+use Rattle.run_states.specs.declared.place.LegSite.{LegSite}
 use Rattle.run_states.specs.RunNumber.{events}
 use Rattle.run_states.specs.StateWords.{is_live}
 use Rattle.run_table.specs.Step.{admission_answer, entered}
@@ -22,7 +22,7 @@ use Rattle.run_table.proofs.AdmitKeeps.{admit_keeps, all_fit}
 use Rattle.run_states.proofs.Found.{at_the_end, before_the_end}
 use Rattle.run_states.proofs.JobKeeps.{leg_in}
 use Rattle.settling_laws.proofs.ArrivalKeeps.{arrival_one_each}
-use Rattle.settling_laws.proofs.GroupStays.{leg_group_same, leg_needs_settled, run_group_stays}
+use Rattle.settling_laws.proofs.GroupStays.{leg_group_same, leg_needs_finished, run_group_stays}
 use Rattle.settling_laws.proofs.HoldersFade.{by_run, job_passes, leg_passes, passes, run_passes}
 use Rattle.settling_laws.proofs.HoldersKeep.{arrival_settles}
 use Rattle.run_table.proofs.Kept.{IsKept, kept_settles}
@@ -47,7 +47,7 @@ no_leg_of_new_run test j l event =
     ∙ no_leg_of_blocked test l (slice_get (plan_of event.body) j)
 
 module _ (runs : List RunState) (event : Admitted) where
-  leg_before_it : (test : LegPhase → Bool) (p : LegPlace)
+  leg_before_it : (test : LegPhase → Bool) (p : LegSite)
       → passes (leg_passes test) (leg_at (runs ++ new_run event ∷ []) p) ≡ true → passes (leg_passes test) (leg_at runs p) ≡ true
   leg_before_it test p e =
       let next = runs ++ new_run event ∷ [] in
@@ -101,7 +101,7 @@ module _ (runs : List RunState) (event : Admitted) where
       let within = slice_get_within runs p.run at.place.run at.place.run_is in
       let before = before_the_end runs (new_run event) p.run (λ m. absurd (omega (arith, within, m))) in
       leg_group_same runs next p
-      (facts_stay runs next p (same_up_to p.run within) (ap (option_map (λ (v : RunState). v.attempt)) before) (leg_needs_settled runs fit p there.0 there.1)
+      (facts_stay runs next p (same_up_to p.run within) (ap (option_map (λ (v : RunState). v.attempt)) before) (leg_needs_finished runs fit p there.0 there.1)
       (λ j a had. ap (option_and_then (λ (v : RunState). result_in v j)) before ∙ had))
 
   pub beside_new_run : RunsFit runs → HasOneEach runs → HasOneBeside (runs ++ new_run event ∷ []) (Run (length runs))

@@ -15,7 +15,7 @@ use Rattle.run_states.specs.Groups.{waits}
 use Rattle.run_states.specs.Holders.{run_of}
 use Rattle.run_states.specs.NewRun.{again}
 use Rattle.run_states.specs.Places.{leg_at, run_at, with_run}
-use Rattle.run_states.specs.declared.place.LegPlace.{LegPlace}
+use Rattle.run_states.specs.declared.place.LegSite.{LegSite}
 use Rattle.run_states.specs.RunNumber.{events}
 use Rattle.run_states.specs.RunState.{LegState, JobState, RunState}
 use Rattle.run_states.specs.StateWords.{is_live}
@@ -32,7 +32,7 @@ use Rattle.run_states.proofs.Optional.{from_map}
 use Rattle.run_states.proofs.RunFits.{RunFits, RunsFit, admitted_at}
 use Rattle.run_states.proofs.Settles.{Settles, fits_beside, same_events}
 use Rattle.settling_laws.proofs.ArrivalKeeps.{arrival_one_each}
-use Rattle.settling_laws.proofs.GroupStays.{leg_group_same, leg_needs_settled, run_group_stays}
+use Rattle.settling_laws.proofs.GroupStays.{leg_group_same, leg_needs_finished, run_group_stays}
 use Rattle.settling_laws.proofs.HoldersFade.{by_run, leg_passes, passes, run_passes}
 use Rattle.settling_laws.proofs.HoldersKeep.{arrival_settles}
 use Rattle.settling_laws.proofs.OneEach.{IsOneOf, one_that_holds, one_that_waits}
@@ -48,9 +48,9 @@ use Rattle.run_states.specs.declared.holder.Holder.TheVariants.{Run, Leg}
 -- ---- leases of legs that are gone
 
 -- if the legs that no runner was at work on are gone
-leases_fewer : (last : ℕ) (had works had' works' : LegPlace → Option ℕ) (holds : List ℕ → Option ℕ)
-    → ((p : LegPlace) (n : ℕ) → had' p ≡ Some n → had p ≡ Some n) → ((p : LegPlace) → works' p ≡ works p)
-    → ((p : LegPlace) (n : ℕ) → works p ≡ Some n → had' p ≡ Some n) → LeasesAgree last had works holds → LeasesAgree last had' works' holds
+leases_fewer : (last : ℕ) (had works had' works' : LegSite → Option ℕ) (holds : List ℕ → Option ℕ)
+    → ((p : LegSite) (n : ℕ) → had' p ≡ Some n → had p ≡ Some n) → ((p : LegSite) → works' p ≡ works p)
+    → ((p : LegSite) (n : ℕ) → works p ≡ Some n → had' p ≡ Some n) → LeasesAgree last had works holds → LeasesAgree last had' works' holds
 leases_fewer last had works had' works' holds before same still agree = record {
   given = (λ p n e. agree.given p n (before p n e));
   differ = (λ p q n e f. agree.differ p q n (before p n e) (before q n f));
@@ -153,7 +153,7 @@ module _ (runs : List RunState) (r : ℕ) where
 
   -- ---- leases of its legs
 
-  had_before : (p : LegPlace) (n : ℕ) → had_at next p ≡ Some n → had_at runs p ≡ Some n
+  had_before : (p : LegSite) (n : ℕ) → had_at next p ≡ Some n → had_at runs p ≡ Some n
   had_before p n e =
       let read = option_and_then (λ (run : RunState). had_in run p.job p.leg) in
       elim (cases_eq p.run r) [
@@ -163,11 +163,11 @@ module _ (runs : List RunState) (r : ℕ) where
       ]
 
   module _ (x : RunState) (at : run_at runs r ≡ Some x) (idle : (j l : ℕ) → works_in x j l ≡ None) where
-    no_work_there : (p : LegPlace) → p.run ≡ r → works_at runs p ≡ None
+    no_work_there : (p : LegSite) → p.run ≡ r → works_at runs p ≡ None
     no_work_there p same =
         ap (option_and_then (λ (run : RunState). works_in run p.job p.leg)) (ap (run_at runs) same ∙ at) ∙ idle p.job p.leg
 
-    same_work : (p : LegPlace) → works_at next p ≡ works_at runs p
+    same_work : (p : LegSite) → works_at next p ≡ works_at runs p
     same_work p =
         let read = option_and_then (λ (run : RunState). works_in run p.job p.leg) in
         elim (cases_eq p.run r) [
@@ -175,7 +175,7 @@ module _ (runs : List RunState) (r : ℕ) where
           | inr other ↦ ap read (elsewhere p.run other)
         ]
 
-    work_still_had : ((p : LegPlace) (n : ℕ) → works_at runs p ≡ Some n → had_at runs p ≡ Some n) → (p : LegPlace) (n : ℕ)
+    work_still_had : ((p : LegSite) (n : ℕ) → works_at runs p ≡ Some n → had_at runs p ≡ Some n) → (p : LegSite) (n : ℕ)
         → works_at runs p ≡ Some n → had_at next p ≡ Some n
     work_still_had had p n e =
         elim (cases_eq p.run r) [
@@ -191,7 +191,7 @@ module _ (runs : List RunState) (r : ℕ) where
 
   -- ---- holders that wait and holders in progress
 
-  leg_beside : (test : LegPhase → Bool) (p : LegPlace) → passes (leg_passes test) (leg_at next p) ≡ true
+  leg_beside : (test : LegPhase → Bool) (p : LegSite) → passes (leg_passes test) (leg_at next p) ≡ true
       → (p.run ≡ r → ⊥) × (passes (leg_passes test) (leg_at runs p) ≡ true)
   leg_beside test p e =
       let requested = run_passes test p.job p.leg in
@@ -231,7 +231,7 @@ module _ (runs : List RunState) (r : ℕ) where
   group_beside fit (Run k) there other = run_group_stays runs next k (events_stay k) (same_attempt k other)
   group_beside fit (Leg p) there other =
       leg_group_same runs next p
-      (facts_stay runs next p (events_stay p.run) (same_attempt p.run other) (leg_needs_settled runs fit p there.0 there.1)
+      (facts_stay runs next p (events_stay p.run) (same_attempt p.run other) (leg_needs_finished runs fit p there.0 there.1)
       (results_stay p.run other))
 
   was_in : RunsFit runs → (g : Group) (h : Holder) → IsOneOf runs h → (run_of h ≡ r → ⊥) → is_in next g h ≡ true → is_in runs g h ≡ true

@@ -10,14 +10,14 @@ use Rattle.run_states.specs.GroupOf.{cancels_in_progress, group_at}
 use Rattle.run_states.specs.Groups.{leg_holds}
 use Rattle.run_states.specs.Resuming.{NoneBefore, RestBefore, resume_at_arrival}
 use Rattle.run_states.specs.Moves.{without_moves}
-use Rattle.run_states.specs.Settling.{first_place}
+use Rattle.run_states.specs.Settling.{first_site}
 use Rattle.run_table.specs.Sound.{IsSound}
 use Rattle.run_states.specs.NewRun.{new_run}
 use Rattle.run_states.specs.StateWords.{is_live}
 use Rattle.run_table.specs.TableState.{TableState}
 use Rattle.run_states.specs.RunState.{RunState}
 use Rattle.run_states.specs.WithinRun.{first_in_run}
-use Rattle.run_states.specs.declared.place.JobPlace.{JobPlace}
+use Rattle.run_states.specs.declared.place.JobSite.{JobSite}
 use Rattle.run_table.proofs.BeforeSettling.{Enters}
 use Rattle.run_table.proofs.Entered.{groups_before}
 use Rattle.run_states.proofs.Found.{before_the_end}
@@ -48,7 +48,7 @@ still_hold runs event (Leg p) g at held =
     ∙ ap (passes (run_passes leg_holds p.job p.leg)) (before_the_end runs (new_run event) p.run (past p.run (length runs) within))
     ∙ sym (by_run leg_holds runs p) ∙ held
 
-rested : (runs : List RunState) → first_place runs ≡ None → (n : ℕ) → NoneBefore (first_in_run runs) runs n
+rested : (runs : List RunState) → first_site runs ≡ None → (n : ℕ) → NoneBefore (first_in_run runs) runs n
 rested runs rests n k lt = requested_none (first_in_run runs) runs
     (each_none (first_in_run runs) runs (sym (first_place_by_run runs) ∙ rests)) k _ refl
 
@@ -65,7 +65,7 @@ new_run_rests t event s =
 
 -- the same for the values that the code has
 pub entering_rests : {t : TableState} {event : Admitted} {added : List RunState} {place : ℕ} → Enters t event added place
-    → (new : List RunState) (from : JobPlace) → new ≡ (arrived (Run place) added).runs → from ≡ resume_at_arrival added place
+    → (new : List RunState) (from : JobSite) → new ≡ (arrived (Run place) added).runs → from ≡ resume_at_arrival added place
     → RestBefore new from
 entering_rests {t} {event} {added} {place} e new from new_is from_is =
     let h = Run place in

@@ -8,8 +8,8 @@ use Rattle.stated_limits.specs.Limits.{last_attempt, last_number}
 use Rattle.run_states.specs.Groups.{HasOneEach}
 use Rattle.run_plan.specs.declared.planned.PlannedJob.{PlannedJob}
 use Rattle.run_states.specs.Places.{run_at, leg_at, plan_at}
-use Rattle.run_states.specs.declared.place.LegPlace.{LegPlace}
-use Rattle.run_states.specs.Settling.{first_place, settled}
+use Rattle.run_states.specs.declared.place.LegSite.{LegSite}
+use Rattle.run_states.specs.Settling.{first_site, settled}
 use Rattle.run_table.specs.Sound.{DeliveriesDiffer, LeasesAreGiven, LeasesDiffer, IsHeld, IsAtWork, WorkIsHeld}
 use Rattle.run_states.specs.Parallel.{is_at_work}
 use Rattle.run_states.specs.Words.{planned_legs}
@@ -38,7 +38,7 @@ use Rattle.settling_laws.proofs.SettlingKeeps.{settling_settles}
 -- A kept lease was granted and names a leg of the run's plan, in an attempt up to the current one. If that is the
 -- current attempt, the leg had it.
 pub record WasHad (most : ℕ) (runs : List RunState) (kept : KeptLease) : Type 0 where
-  pub place : LegPlace
+  pub place : LegSite
   pub run : RunState
   pub run_is : run_at runs place.run ≡ Some run
   pub job_is : kept.job ≡ place.job
@@ -70,11 +70,11 @@ pub record IsKept (t : TableState) : Type 0 where
 
 -- ---- the leases, by legs and by places
 
-some_lease : (runs : List RunState) (p : LegPlace) (x : LegState) (n : ℕ) → leg_at runs p ≡ Some x → x.lease ≡ Some n
+some_lease : (runs : List RunState) (p : LegSite) (x : LegState) (n : ℕ) → leg_at runs p ≡ Some x → x.lease ≡ Some n
     → had_at runs p ≡ Some n
 some_lease runs p x n at e = had_from_leg runs p x at ∙ e
 
-some_work : (runs : List RunState) (p : LegPlace) (x : LegState) (n : ℕ) → leg_at runs p ≡ Some x → is_at_work x.phase ≡ true
+some_work : (runs : List RunState) (p : LegSite) (x : LegState) (n : ℕ) → leg_at runs p ≡ Some x → is_at_work x.phase ≡ true
     → x.lease ≡ Some n → works_at runs p ≡ Some n
 some_work runs p x n at working e = works_from_leg runs p x at ∙ ap (λ (b : Bool). if b then x.lease else None) working ∙ e
 
@@ -90,7 +90,7 @@ held_by_name : (runners : List RunnerState) (n : ℕ) (k : ℕ) (x : RunnerState
 held_by_name runners n k x rise at holds =
     ap (option_and_then (λ (v : RunnerState). v.holds)) (found_by_name runners rise k x at) ∙ holds
 
-work_somewhere : (runs : List RunState) (n : ℕ) (p : LegPlace) → works_at runs p ≡ Some n → IsAtWork runs n
+work_somewhere : (runs : List RunState) (n : ℕ) (p : LegSite) → works_at runs p ≡ Some n → IsAtWork runs n
 work_somewhere runs n p e =
     let f = leg_from_works runs p n e in
     let both = work_parts (is_at_work f.value.phase) f.value.lease n f.gives in
@@ -161,7 +161,7 @@ kept_is_of_a_leg most runs (last.Claim claim (given.Lease kept)) h = record {
 kept_is_of_a_leg most runs (last.Done report) h = tt
 
 -- the lease that is sent follows from the plan
-pub lease_reply_same : (runs next : List RunState) (p : LegPlace) (n : ℕ) → plan_at next p.run p.job ≡ plan_at runs p.run p.job
+pub lease_reply_same : (runs next : List RunState) (p : LegSite) (n : ℕ) → plan_at next p.run p.job ≡ plan_at runs p.run p.job
     → lease_at runs p n ≡ lease_at next p n
 lease_reply_same runs next p n same =
     ap (λ (o : Option PlannedJob). record {
@@ -177,7 +177,7 @@ lease_reply_same runs next p n same =
 pub record StillHad (runs next : List RunState) : Type 0 where
   pub runs_stay : (r : ℕ) (x : RunState) → run_at runs r ≡ Some x
       → (y : RunState) × (run_at next r ≡ Some y) × (x.attempt ≤ y.attempt)
-  pub had : (p : LegPlace) (n : ℕ) (x y : RunState) → run_at runs p.run ≡ Some x → run_at next p.run ≡ Some y → y.attempt ≡ x.attempt
+  pub had : (p : LegSite) (n : ℕ) (x y : RunState) → run_at runs p.run ≡ Some x → run_at next p.run ≡ Some y → y.attempt ≡ x.attempt
       → had_at runs p ≡ Some n → had_at next p ≡ Some n
   pub plans : (r j : ℕ) (x : RunState) → run_at runs r ≡ Some x → plan_at next r j ≡ plan_at runs r j
 
@@ -212,7 +212,7 @@ attempts_still_given runs next same given r y at =
 
 -- runs of the same events at the same attempts
 pub stay_still_had : (runs next : List RunState) → ((r : ℕ) → admitted_at next r ≡ admitted_at runs r)
-    → ((r : ℕ) → attempt_at next r ≡ attempt_at runs r) → ((p : LegPlace) (n : ℕ) → had_at runs p ≡ Some n → had_at next p ≡ Some n)
+    → ((r : ℕ) → attempt_at next r ≡ attempt_at runs r) → ((p : LegSite) (n : ℕ) → had_at runs p ≡ Some n → had_at next p ≡ Some n)
     → StillHad runs next
 stay_still_had runs next events attempts had =
     let attempt = λ (v : RunState). v.attempt in
@@ -231,7 +231,7 @@ kept_from_sound t s = record {
   few_runs = s.few_runs;
   deliveries_differ = s.deliveries_differ;
   attempts_are_given = s.attempts_are_given;
-  fit = runs_fit t.runs s.jobs_are_the_plans s.run_phases_fit s.jobs_fit s.needs_settled_first s.leases_fit;
+  fit = runs_fit t.runs s.jobs_are_the_plans s.run_phases_fit s.jobs_fit s.needs_finished_first s.leases_fit;
   parallel_bounded = s.parallel_bounded;
   agree = leases_agree t.last_lease t.runs t.runners s.runners_in_order s.leases_are_given s.leases_differ s.work_is_held
       s.held_is_at_work s.held_once;
@@ -241,7 +241,7 @@ kept_from_sound t s = record {
   kept_are_had = (λ k x e. kept_is_had t.last_lease t.runs x.last (s.kept_leases_are_of_legs k x e));
 }
 
-pub sound_from_kept : (t : TableState) → IsKept t → HasOneEach t.runs → first_place t.runs ≡ None → IsSound t
+pub sound_from_kept : (t : TableState) → IsKept t → HasOneEach t.runs → first_site t.runs ≡ None → IsSound t
 sound_from_kept t s each rests = record {
   few_runs = s.few_runs;
   deliveries_differ = s.deliveries_differ;
@@ -249,7 +249,7 @@ sound_from_kept t s each rests = record {
   jobs_are_the_plans = jobs_are_the_plans t.runs s.fit;
   run_phases_fit = run_phases_fit t.runs s.fit;
   jobs_fit = jobs_fit t.runs s.fit;
-  needs_settled_first = needs_come_first t.runs s.fit;
+  needs_finished_first = needs_come_first t.runs s.fit;
   parallel_bounded = s.parallel_bounded;
   one_of_each_group = each;
   leases_fit = leases_fit t.runs s.fit;

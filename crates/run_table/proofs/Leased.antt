@@ -7,7 +7,7 @@ use Rattle.run_plan.specs.declared.reply.Lease.{Lease as Leased}
 use Rattle.run_plan.specs.declared.reply.Reply.{Reply}
 use Rattle.run_plan.specs.declared.reply.Reply.TheVariants as reply
 use Rattle.run_states.specs.Places.{with_leg}
-use Rattle.run_states.specs.declared.place.LegPlace.{LegPlace}
+use Rattle.run_states.specs.declared.place.LegSite.{LegSite}
 use Rattle.run_states.specs.Settling.{settled}
 use Rattle.run_table.specs.Step.{claiming_runner, kept_lease_at, lease_at, leasing, outcome}
 use Rattle.run_states.specs.NewRun.{leased_leg}
@@ -18,7 +18,7 @@ use Rattle.run_table.specs.SequenceNumbers.{with_runner}
 abbrev made : ℕ → List RunState → List RunnerState → Leased → TableState × Reply
 made last runs runners lease_reply = (record { last_lease = last; runs = runs; runners = runners }, reply.Lease lease_reply)
 
-pub leased_table : (last : ℕ) (runs : List RunState) (runners : List RunnerState) (now : TableState) (claim : Claimed) (p : LegPlace)
+pub leased_table : (last : ℕ) (runs : List RunState) (runners : List RunnerState) (now : TableState) (claim : Claimed) (p : LegSite)
     (lease got : ℕ) (lease_reply : Leased) (runner : RunnerState) (put : List RunnerState) (moved rest : List RunState)
     → record { last_lease = last; runs = runs; runners = runners } ≡ now → lease ≡ last + 1 → got ≡ lease → lease_at runs p lease ≡ lease_reply
     → claiming_runner claim (Some lease) (given.Lease (kept_lease_at runs p lease)) ≡ runner → with_runner runners runner ≡ put

@@ -5,10 +5,10 @@ use Rattle.std.proofs.Common.{arith, ap, sym, ◌∙◌}
 use Rattle.std.proofs.lemmas.Bool.{true≢false}
 use Rattle.std.proofs.lemmas.Option.{same_Some, slice_get_within}
 use Rattle.wf_value.specs.declared.outcome.Outcome.{Outcome}
-use Rattle.run_states.specs.Fitting.{OnlyAtWork, has_lease, place_of_lease}
+use Rattle.run_states.specs.Fitting.{OnlyAtWork, has_lease, site_of_lease}
 use Rattle.run_states.specs.Parallel.{is_at_work}
-use Rattle.run_states.specs.Places.{leg_at, leg_places}
-use Rattle.run_states.specs.declared.place.LegPlace.{LegPlace}
+use Rattle.run_states.specs.Places.{leg_at, leg_sites}
+use Rattle.run_states.specs.declared.place.LegSite.{LegSite}
 use Rattle.run_states.specs.RunState.{LegState, RunState}
 use Rattle.run_states.specs.StopMoves.{with_ended}
 use Rattle.run_states.specs.Stops.{after_end}
@@ -22,29 +22,29 @@ use Rattle.run_table.specs.TableState.{TableState}
 use Rattle.run_table.proofs.ReportKeeps.{has_it}
 use Rattle.run_table.proofs.Storable.{legs_few}
 
-abbrev pub has_lease_at : List RunState → ℕ → LegPlace → Bool
+abbrev pub has_lease_at : List RunState → ℕ → LegSite → Bool
 has_lease_at runs lease p = option_map_or (has_lease lease) (leg_at runs p) false
 
 -- a leg that has the lease
-with_it : (runs : List RunState) (lease : ℕ) (p : LegPlace) → has_lease_at runs lease p ≡ true → From (λ (y : LegState). y.lease) (leg_at runs p) lease
+with_it : (runs : List RunState) (lease : ℕ) (p : LegSite) → has_lease_at runs lease p ≡ true → From (λ (y : LegState). y.lease) (leg_at runs p) lease
 with_it runs lease p has = from_and_then (λ (y : LegState). y.lease) (leg_at runs p) lease (has_it lease (leg_at runs p) has)
 
 -- it is the first one, since there is no other
-pub leg_found : (t : TableState) (lease : ℕ) (p : LegPlace) → IsSound t → has_lease_at t.runs lease p ≡ true
-    → Some p ≡ place_of_lease t.runs lease
+pub leg_found : (t : TableState) (lease : ℕ) (p : LegSite) → IsSound t → has_lease_at t.runs lease p ≡ true
+    → Some p ≡ site_of_lease t.runs lease
 leg_found t lease p s has =
     let test = has_lease_at t.runs lease in
     let this = with_it t.runs lease p has in
-    elim (place_of_lease t.runs lease) as (λ o. place_of_lease t.runs lease ≡ o → Some p ≡ o) [
+    elim (site_of_lease t.runs lease) as (λ o. site_of_lease t.runs lease ≡ o → Some p ≡ o) [
       | None ↦ λ none.
-          let fails = each_leg_place (λ q. test q ≡ false) t.runs p this.value (none_found test (leg_places t.runs) none) this.is in
+          let fails = each_leg_place (λ q. test q ≡ false) t.runs p this.value (none_found test (leg_sites t.runs) none) this.is in
           absurd (true≢false (sym has ∙ fails))
       | Some q ↦ λ found.
-          let first = with_it t.runs lease q (find_passes test (leg_places t.runs) q found) in
+          let first = with_it t.runs lease q (find_passes test (leg_sites t.runs) q found) in
           ap Some (s.leases_differ p q this.value first.value lease this.is first.is this.gives first.gives)
     ] refl
 
-pub leg_below : (t : TableState) (lease : ℕ) (p : LegPlace) → IsSound t → has_lease_at t.runs lease p ≡ true → p.leg < 2 ^ 63
+pub leg_below : (t : TableState) (lease : ℕ) (p : LegSite) → IsSound t → has_lease_at t.runs lease p ≡ true → p.leg < 2 ^ 63
 leg_below t lease p s has =
     let this = with_it t.runs lease p has in
     let at = leg_in t.runs p this.value this.is in
@@ -54,25 +54,25 @@ leg_below t lease p s has =
 
 -- a runner is at work on it
 pub held_is_at_work : (runs : List RunState) (lease : ℕ) → OnlyAtWork runs lease
-    → IfSome (place_of_lease runs lease) (λ p. IfSome (leg_at runs p) (λ z. is_at_work z.phase ≡ true))
-held_is_at_work runs lease work = by (place_of_lease runs lease) refl
+    → IfSome (site_of_lease runs lease) (λ p. IfSome (leg_at runs p) (λ z. is_at_work z.phase ≡ true))
+held_is_at_work runs lease work = by (site_of_lease runs lease) refl
   where
-    at_it : (p : LegPlace) (this : From (λ (y : LegState). y.lease) (leg_at runs p) lease) → (o : Option LegState) → leg_at runs p ≡ o
+    at_it : (p : LegSite) (this : From (λ (y : LegState). y.lease) (leg_at runs p) lease) → (o : Option LegState) → leg_at runs p ≡ o
         → IfSome o (λ z. is_at_work z.phase ≡ true)
     at_it p this None at = tt
     at_it p this (Some z) at =
         work p z at (ap (λ (y : LegState). y.lease) (same_Some z this.value (sym at ∙ this.is)) ∙ this.gives)
 
-    by : (o : Option LegPlace) → place_of_lease runs lease ≡ o → IfSome o (λ p. IfSome (leg_at runs p) (λ z. is_at_work z.phase ≡ true))
+    by : (o : Option LegSite) → site_of_lease runs lease ≡ o → IfSome o (λ p. IfSome (leg_at runs p) (λ z. is_at_work z.phase ≡ true))
     by None none = tt
-    by (Some p) found = at_it p (with_it runs lease p (find_passes (has_lease_at runs lease) (leg_places runs) p found)) (leg_at runs p) refl
+    by (Some p) found = at_it p (with_it runs lease p (find_passes (has_lease_at runs lease) (leg_sites runs) p found)) (leg_at runs p) refl
 
 -- ---- the leg ends
 
 -- the end of the leg that is found is the end of the lease's leg
-pub ended_at : (lease : ℕ) (outcome : Outcome) (t : TableState) (runs ended : List RunState) (leg : Option LegPlace) → runs ≡ t.runs
-    → leg ≡ place_of_lease t.runs lease → ended ≡ option_map_or (λ p. after_end p outcome runs) leg runs
+pub ended_at : (lease : ℕ) (outcome : Outcome) (t : TableState) (runs ended : List RunState) (leg : Option LegSite) → runs ≡ t.runs
+    → leg ≡ site_of_lease t.runs lease → ended ≡ option_map_or (λ p. after_end p outcome runs) leg runs
     → ended ≡ with_ended lease outcome t.runs
 ended_at lease outcome t runs ended leg runs_are leg_is ended_is =
     ended_is ∙ ap (λ (xs : List RunState). option_map_or (λ p. after_end p outcome xs) leg xs) runs_are
-    ∙ ap (λ (o : Option LegPlace). option_map_or (λ p. after_end p outcome t.runs) o t.runs) leg_is
+    ∙ ap (λ (o : Option LegSite). option_map_or (λ p. after_end p outcome t.runs) o t.runs) leg_is

@@ -12,9 +12,9 @@ use Rattle.wf_value.specs.declared.outcome.Outcome.TheVariants as outcome
 use Rattle.wf_value.proofs.OptionOr.{or_nothing}
 use Rattle.run_plan.specs.declared.command.Done.{Done as Reported}
 use Rattle.run_plan.specs.declared.reply.Reply.{Reply}
-use Rattle.run_states.specs.Fitting.{has_lease, place_of_lease}
-use Rattle.run_states.specs.Places.{leg_at, leg_places, with_job, with_leg}
-use Rattle.run_states.specs.declared.place.LegPlace.{LegPlace}
+use Rattle.run_states.specs.Fitting.{has_lease, site_of_lease}
+use Rattle.run_states.specs.Places.{leg_at, leg_sites, with_job, with_leg}
+use Rattle.run_states.specs.declared.place.LegSite.{LegSite}
 use Rattle.run_states.specs.Rules.{leg_in_phase, outcome_of}
 use Rattle.run_plan.specs.LastCommand.{is_last_report}
 use Rattle.run_table.specs.Sound.{IsLastOf}
@@ -95,12 +95,12 @@ module _ (t : TableState) (new : RunnerState) (lease : ℕ) (result : Outcome) (
       (holds_changes t.runners new)
 
   -- a leg with the lease is the one at work
-  pub work_at : (p : LegPlace) → had_at t.runs p ≡ Some lease → works_at t.runs p ≡ Some lease
+  pub work_at : (p : LegSite) → had_at t.runs p ≡ Some lease → works_at t.runs p ≡ Some lease
   work_at p had =
       let (q, works) = s.agree.held_is_work new.name lease held_here in
       ap (works_at t.runs) (s.agree.differ p q lease had (s.agree.work_is_had q lease works)) ∙ works
 
-  ended_keeps : (p : LegPlace) → had_at t.runs p ≡ Some lease
+  ended_keeps : (p : LegSite) → had_at t.runs p ≡ Some lease
       → IsKept (record t {
         runs = with_leg p (leg_in_phase (leg.Ended result)) t.runs;
         runners =
@@ -139,7 +139,7 @@ module _ (t : TableState) (new : RunnerState) (lease : ℕ) (result : Outcome) (
             (λ k x e. kept_still_had t.last_lease t.last_lease t.runs next (omega arith) still x.last (s.kept_are_had k x e));
       }
     where
-      worked_before : (q p : LegPlace) (n : ℕ)
+      worked_before : (q p : LegSite) (n : ℕ)
           → ChangesAt (works_at t.runs) (works_at (with_leg p (leg_in_phase (leg.Ended result)) t.runs)) p None
           → works_at (with_leg p (leg_in_phase (leg.Ended result)) t.runs) q ≡ Some n → works_at t.runs q ≡ Some n
       worked_before q p n changes e =
@@ -149,9 +149,9 @@ module _ (t : TableState) (new : RunnerState) (lease : ℕ) (result : Outcome) (
             | inr other ↦ sym (changes.elsewhere q other) ∙ e
           ]
 
-      same_had : (p : LegPlace) (z : LegState) → leg_at t.runs p ≡ Some z
+      same_had : (p : LegSite) (z : LegState) → leg_at t.runs p ≡ Some z
           → ChangesAt (had_at t.runs) (had_at (with_leg p (leg_in_phase (leg.Ended result)) t.runs)) p z.lease
-          → (q : LegPlace) → had_at (with_leg p (leg_in_phase (leg.Ended result)) t.runs) q ≡ had_at t.runs q
+          → (q : LegSite) → had_at (with_leg p (leg_in_phase (leg.Ended result)) t.runs) q ≡ had_at t.runs q
       same_had p z is changes q =
           elim (place_or_another q p) [
             | inl e ↦ ap (had_at (with_leg p (leg_in_phase (leg.Ended result)) t.runs)) e ∙ changes.here
@@ -160,7 +160,7 @@ module _ (t : TableState) (new : RunnerState) (lease : ℕ) (result : Outcome) (
           ]
 
   -- whether or not the other legs of its job are stopped
-  after_end_keeps : (p : LegPlace) → had_at t.runs p ≡ Some lease
+  after_end_keeps : (p : LegSite) → had_at t.runs p ≡ Some lease
       → IsKept (record t { runs = after_end p result t.runs; runners = with_runner t.runners new })
   after_end_keeps p had =
       let f = leg_in_phase (leg.Ended result) in
@@ -181,7 +181,7 @@ module _ (t : TableState) (new : RunnerState) (lease : ℕ) (result : Outcome) (
             (stop_settles ended kept.fit p.run p.job (with_leg_of p.leg f is_in.job) (job_is_now t.runs p z f is_in) is_open)
       ]
 
-  after_end_stays : (p : LegPlace) → had_at t.runs p ≡ Some lease → StayFit t.runs (after_end p result t.runs)
+  after_end_stays : (p : LegSite) → had_at t.runs p ≡ Some lease → StayFit t.runs (after_end p result t.runs)
   after_end_stays p had =
       let f = leg_in_phase (leg.Ended result) in
       let ended = with_leg p f t.runs in
@@ -202,12 +202,12 @@ module _ (t : TableState) (new : RunnerState) (lease : ℕ) (result : Outcome) (
       ]
 
   -- that leg is found
-  lost_lease : place_of_lease t.runs lease ≡ None → ⊥
+  lost_lease : site_of_lease t.runs lease ≡ None → ⊥
   lost_lease none =
       let (p, works) = s.agree.held_is_work new.name lease held_here in
       let from = leg_from_had t.runs p lease (s.agree.work_is_had p lease works) in
-      let test = λ (q : LegPlace). option_map_or (has_lease lease) (leg_at t.runs q) false in
-      let fails = each_leg_place (λ q. test q ≡ false) t.runs p from.value (none_found test (leg_places t.runs) none) from.is in
+      let test = λ (q : LegSite). option_map_or (has_lease lease) (leg_at t.runs q) false in
+      let fails = each_leg_place (λ q. test q ≡ false) t.runs p from.value (none_found test (leg_sites t.runs) none) from.is in
       let passes : test p ≡ true =
       ap (λ o. option_map_or (has_lease lease) o false) from.is ∙ is_it lease from.value from.gives in
       true≢false (sym passes ∙ fails)
@@ -215,7 +215,7 @@ module _ (t : TableState) (new : RunnerState) (lease : ℕ) (result : Outcome) (
   pub lease_ends : IsKept
       (record t { runs = with_ended lease result t.runs; runners = with_runner t.runners new })
   lease_ends =
-      elim (place_of_lease t.runs lease) as (λ o. place_of_lease t.runs lease ≡ o
+      elim (site_of_lease t.runs lease) as (λ o. site_of_lease t.runs lease ≡ o
       → IsKept (record t {
         runs = option_map_or (λ p. after_end p result t.runs) o t.runs;
         runners =
@@ -223,19 +223,19 @@ module _ (t : TableState) (new : RunnerState) (lease : ℕ) (result : Outcome) (
       })) [
         | None ↦ λ is. absurd (lost_lease is)
         | Some p ↦ λ is.
-            let test = λ (q : LegPlace). option_map_or (has_lease lease) (leg_at t.runs q) false in
-            let has = has_it lease (leg_at t.runs p) (find_passes test (leg_places t.runs) p is) in
+            let test = λ (q : LegSite). option_map_or (has_lease lease) (leg_at t.runs q) false in
+            let has = has_it lease (leg_at t.runs p) (find_passes test (leg_sites t.runs) p is) in
             after_end_keeps p (sym (had_is t.runs p) ∙ has)
       ] refl
 
   pub lease_end_stays : StayFit t.runs (with_ended lease result t.runs)
   lease_end_stays =
-      elim (place_of_lease t.runs lease) as
-      (λ o. place_of_lease t.runs lease ≡ o → StayFit t.runs (option_map_or (λ p. after_end p result t.runs) o t.runs)) [
+      elim (site_of_lease t.runs lease) as
+      (λ o. site_of_lease t.runs lease ≡ o → StayFit t.runs (option_map_or (λ p. after_end p result t.runs) o t.runs)) [
         | None ↦ λ is. absurd (lost_lease is)
         | Some p ↦ λ is.
-            let test = λ (q : LegPlace). option_map_or (has_lease lease) (leg_at t.runs q) false in
-            let has = has_it lease (leg_at t.runs p) (find_passes test (leg_places t.runs) p is) in
+            let test = λ (q : LegSite). option_map_or (has_lease lease) (leg_at t.runs q) false in
+            let has = has_it lease (leg_at t.runs p) (find_passes test (leg_sites t.runs) p is) in
             after_end_stays p (sym (had_is t.runs p) ∙ has)
       ] refl
 

@@ -8,7 +8,7 @@ use Rattle.std.proofs.lemmas.Bool.{cases_Bool}
 use Rattle.std.proofs.lemmas.List.{length-take, take_all}
 use Rattle.std.proofs.lemmas.List.Sums.{get_or-le-sum_by, sum_by-cons, sum_by-insert, sum_by-set, sum_by_more}
 use Rattle.run_states.proofs.Found.{each_at}
-use Rattle.run_table.specs.PlaceNamed.{place_named}
+use Rattle.run_table.specs.IndexNamed.{index_named}
 use Rattle.run_table.specs.RunnerSizes.{AreSized, max_runner_size, runner_size}
 use Rattle.run_table.specs.SequenceNumbers.{is_named, kept_named, names_rise, runner_named, with_runner}
 use Rattle.run_table.specs.TableState.{RunnerState}
@@ -33,14 +33,14 @@ at_place (y ∷ ys) zero x e = (omega arith, cc)
 at_place (y ∷ ys) (suc k) x e = let more = at_place ys k x e in (omega (arith, more.0), more.1)
 
 module _ (runners : List RunnerState) (rise : names_rise runners ≡ true) (new : RunnerState) where
-  there : option_and_then (kept_named new.name) (slice_get runners (place_named runners new.name)) ≡ runner_named runners new.name
-  there = found_there runners new.name rise (place_named runners new.name) refl
+  there : option_and_then (kept_named new.name) (slice_get runners (index_named runners new.name)) ≡ runner_named runners new.name
+  there = found_there runners new.name rise (index_named runners new.name) refl
 
   -- with one in its place
   pub size_with : sum_by runner_size (with_runner runners new) + size_of (runner_named runners new.name)
       ≡ sum_by runner_size runners + runner_size new
   size_with =
-      let i = place_named runners new.name in
+      let i = index_named runners new.name in
       elim (runner_named runners new.name)
       as (λ o. runner_named runners new.name ≡ o → sum_by runner_size (with_runner runners new) + size_of o ≡ sum_by runner_size runners + runner_size new) [
         | None ↦ λ is.
@@ -62,7 +62,7 @@ size_within runners rise new =
     as (λ o. runner_named runners new.name ≡ o → size_of o ≤ sum_by runner_size runners) [
       | None ↦ λ is. omega arith
       | Some x ↦ λ is.
-          let i = place_named runners new.name in
+          let i = index_named runners new.name in
           let at = at_place runners i x (kept_is new.name (slice_get runners i) x (there runners rise new ∙ is)) in
           omega (arith, get_or-le-sum_by runner_size runners i x at.0, ap runner_size at.1)
     ] refl

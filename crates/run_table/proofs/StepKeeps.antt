@@ -14,7 +14,7 @@ use Rattle.run_plan.specs.declared.reply.Reply.{Reply}
 use Rattle.run_states.specs.Fitting.{first_fit}
 use Rattle.run_table.specs.TableState.{Step, TableState}
 use Rattle.run_states.specs.Places.{run_at, with_leg, with_run}
-use Rattle.run_states.specs.declared.place.LegPlace.{LegPlace}
+use Rattle.run_states.specs.declared.place.LegSite.{LegSite}
 use Rattle.run_table.specs.Sound.{IsSound}
 use Rattle.run_table.specs.Step.{empty, entered, unchanged, admission_answer, admitting, admitted, claim_answer, claiming_runner}
 use Rattle.run_table.specs.Step.{kept_lease_at, leasing, serving_nothing, claiming, claimed, report_answer, reporting_runner}
@@ -57,7 +57,7 @@ claiming_is_sound t claim s none =
       | Some p ↦ λ is. leased_is_sound p is
     ] refl
   where
-    leased_is_sound : (p : LegPlace) → first_fit claim.labels t.runs ≡ Some p → IsSound (leasing t claim p).table
+    leased_is_sound : (p : LegSite) → first_fit claim.labels t.runs ≡ Some p → IsSound (leasing t claim p).table
     leased_is_sound p is =
         rest_is_sound
         (record {
@@ -156,7 +156,7 @@ empty_is_sound = record {
   jobs_are_the_plans = (λ r x e. cc);
   run_phases_fit = (λ r x e. absurd (none-some x e));
   jobs_fit = (λ r j x e. absurd (none-some x e));
-  needs_settled_first = (λ r j x e. absurd (none-some x e));
+  needs_finished_first = (λ r j x e. absurd (none-some x e));
   parallel_bounded = (λ r j x most e f. absurd (none-some x e));
   leases_fit = (λ p x e. absurd (none-some x e));
   leases_are_given = (λ p x n e f. cc);

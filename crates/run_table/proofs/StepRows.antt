@@ -18,18 +18,18 @@ use Rattle.run_plan.specs.declared.command.Claim.{Claim as Claimed}
 use Rattle.run_plan.specs.declared.command.Command.TheVariants as command
 use Rattle.run_plan.specs.declared.reply.Reply.TheVariants as reply
 use Rattle.run_states.specs.Arrivals.{started}
-use Rattle.run_states.specs.Fitting.{place_of_lease}
+use Rattle.run_states.specs.Fitting.{site_of_lease}
 use Rattle.run_states.specs.LegContext.{context_at}
 use Rattle.run_states.specs.Moves.{without_moves}
 use Rattle.run_states.specs.Places.{with_job}
-use Rattle.run_states.specs.Rules.{decided, may_run, new_leg, opened, rule_at, settled_as}
-use Rattle.run_states.specs.Settling.{settled, first_place, first_rule, remaining_phases}
+use Rattle.run_states.specs.Rules.{decided, may_run, new_leg, opened, rule_at, finished_as}
+use Rattle.run_states.specs.Settling.{settled, first_site, first_rule, remaining_phases}
 use Rattle.run_table.specs.Step.{step, empty, claiming_runner, reporting_runner, refused}
 use Rattle.run_states.specs.NewRun.{blocked_job, leased_leg}
 use Rattle.run_states.specs.Stops.{with_stopped_legs}
 use Rattle.run_table.specs.TableState.{RunnerState, TableState}
 use Rattle.run_states.specs.RunState.{LegState, JobState, RunState}
-use Rattle.run_states.specs.Words.{all_have_results, is_set_for, needs_have_settled, planned_legs}
+use Rattle.run_states.specs.Words.{all_have_results, is_set_for, needs_have_finished, planned_legs}
 use Rattle.run_plan.specs.declared.last_command.ClaimReply.TheVariants as given
 use Rattle.run_states.specs.declared.phases.JobPhase.TheVariants as job
 use Rattle.run_states.specs.declared.phases.LegPhase.TheVariants as leg
@@ -97,7 +97,7 @@ failed_live body = run_with body run.Live (open_job (failed_leg ∷ []) ∷ [])
 
 -- the same run once its job is finished
 abbrev failed_ended : List ℕ → JobResult → RunState
-failed_ended body r = run_with body run.Ended (record { phase = job.Settled r; legs = failed_leg ∷ [] } ∷ [])
+failed_ended body r = run_with body run.Ended (record { phase = job.Finished r; legs = failed_leg ∷ [] } ∷ [])
 
 -- the result of its job, by the plan
 abbrev result_by : List ℕ → List PlannedJob → JobResult
@@ -119,17 +119,17 @@ passed_over_failure_ends_its_run : (body : List ℕ) → plan_of body ≡ plan_w
 passed_over_failure_ends_its_run body planned_so = ap (λ plan. failed_ended body (result_by body plan) ∷ []) planned_so
 
 -- a running leg keeps its job open
-running_leg_rests : first_place (one_job (leased_leg 1 ∷ []) ∷ []) ≡ None
+running_leg_rests : first_site (one_job (leased_leg 1 ∷ []) ∷ []) ≡ None
 running_leg_rests = refl
 
 -- a waiting run without a group becomes live, and none of its jobs opens before that
-waiting_run_becomes_live : first_place (run_of run.Waiting (record { phase = job.Blocked; legs = [] } ∷ []) ∷ []) ≡ Some (Whole 0)
+waiting_run_becomes_live : first_site (run_of run.Waiting (record { phase = job.Blocked; legs = [] } ∷ []) ∷ []) ≡ Some (Whole 0)
 unfolding on_tables
 waiting_run_becomes_live = refl
 
 -- a blocked job of a live run opens if it needs no other
 blocked_job_opens : (body : List ℕ) → needs_at (plan_graph (plan_of body)) 0 ≡ []
-    → first_place (run_with body run.Live (blocked_job ∷ []) ∷ []) ≡ Some (Opening 0 0)
+    → first_site (run_with body run.Live (blocked_job ∷ []) ∷ []) ≡ Some (Opening 0 0)
 blocked_job_opens body needs =
     let runs = run_with body run.Live (blocked_job ∷ []) ∷ [] in
     ap (λ places. if is_some (if all_have_results (None ∷ []) places then Some
@@ -138,7 +138,7 @@ blocked_job_opens body needs =
 
 -- and waits if it needs a job that is open
 blocked_job_waits : (body : List ℕ) → needs_at (plan_graph (plan_of body)) 0 ≡ 1 ∷ []
-    → first_place (run_with body run.Live (blocked_job ∷ open_job (leased_leg 1 ∷ []) ∷ []) ∷ []) ≡ None
+    → first_site (run_with body run.Live (blocked_job ∷ open_job (leased_leg 1 ∷ []) ∷ []) ∷ []) ≡ None
 blocked_job_waits body needs =
     let runs = run_with body run.Live (blocked_job ∷ open_job (leased_leg 1 ∷ []) ∷ []) ∷ [] in
     ap (λ places. if is_some (if all_have_results (None ∷ None ∷ []) places then Some
@@ -154,14 +154,14 @@ abbrev stopping_with : List ℕ → JobState → List RunState
 stopping_with body job = record (run_with body run.Live (job ∷ [])) { stopping = true } ∷ []
 
 -- the blocked job of a stopping run finishes as cancelled if its condition is false
-stopping_job_is_cancelled : (body : List ℕ) → needs_have_settled (stopping_with body blocked_job) 0 0 ≡ true
+stopping_job_is_cancelled : (body : List ℕ) → needs_have_finished (stopping_with body blocked_job) 0 0 ≡ true
     → may_run (stopping_with body blocked_job) 0 0 ≡ false
     → rule_at (stopping_with body blocked_job) (Opening 0 0)
-    ≡ Some (without_moves (stopping_with body (record { phase = job.Settled result.Cancelled; legs = [] })))
+    ≡ Some (without_moves (stopping_with body (record { phase = job.Finished result.Cancelled; legs = [] })))
 stopping_job_is_cancelled body needs may =
     let runs = stopping_with body blocked_job in
     ap (λ b. if b then Some (without_moves (with_job 0 0 (decided runs 0 0) runs)) else None) needs
-    ∙ ap (λ b. Some (without_moves (with_job 0 0 (if b then opened (planned_legs runs 0 0) else settled_as result.Cancelled) runs))) may
+    ∙ ap (λ b. Some (without_moves (with_job 0 0 (if b then opened (planned_legs runs 0 0) else finished_as result.Cancelled) runs))) may
 
 -- each rule lowers the measure: a job that finishes by one, a leg that advances by one
 left_of_one_job : remaining_phases (one_job (new_leg ∷ []) ∷ []) ≡ 7
@@ -236,7 +236,7 @@ report_of_a_failure body planned_so =
     ∙ ap (λ plan. (failed body (result_by body plan), reply.Ok)) planned_so
 
 -- the lease of a leg is found in any job
-lease_is_found : place_of_lease
+lease_is_found : site_of_lease
     (one_job (leased_leg 1 ∷ []) ∷ run_of run.Live (open_job (leased_leg 2 ∷ []) ∷ open_job (failed_leg ∷ leased_leg 3 ∷ []) ∷ []) ∷ []) 3
     ≡ Some (record { run = 1; job = 1; leg = 1 })
 lease_is_found = refl

@@ -10,12 +10,12 @@ use Rattle.run_plan.specs.PlanOf.{plan_of}
 use Rattle.run_plan.specs.declared.planned.PlannedJob.{PlannedJob}
 use Rattle.run_plan.proofs.FewLegs.{few_planned}
 use Rattle.run_states.specs.FirstOf.{placed}
-use Rattle.run_states.specs.JobResults.{settled_result}
+use Rattle.run_states.specs.JobResults.{finished_result}
 use Rattle.run_states.specs.Places.{job_at, leg_at, run_at}
-use Rattle.run_states.specs.declared.place.LegPlace.{LegPlace}
-use Rattle.run_states.specs.Rules.{leg_has_ended, is_live, is_settled, job_places, leg_rule, leg_rule_in, outcome_of, places, result_at}
-use Rattle.run_states.specs.Rules.{run_places}
-use Rattle.run_states.specs.Settling.{applies, first_place}
+use Rattle.run_states.specs.declared.place.LegSite.{LegSite}
+use Rattle.run_states.specs.Rules.{leg_has_ended, is_live, is_finished, job_sites, leg_rule, leg_rule_in, outcome_of, places, result_at}
+use Rattle.run_states.specs.Rules.{run_sites}
+use Rattle.run_states.specs.Settling.{applies, first_site}
 use Rattle.run_table.specs.Sound.{IsSound}
 use Rattle.run_states.specs.SoundRuns.{LegsFit, PhaseFits}
 use Rattle.run_table.specs.Storable.{IsStorable, LegsAreFew}
@@ -53,8 +53,8 @@ few_fit : (planned : ℕ) (gathered : JobResult) (phase : JobPhase) (legs : List
     → LegsFit planned gathered phase legs → length legs ≤ 256
 few_fit planned gathered job.Blocked legs few fits = let none : length legs ≡ 0 = ap length fits in omega (arith, none)
 few_fit planned gathered job.Open legs few fits = omega (arith, fits, few)
-few_fit planned gathered (job.Settled r) legs few (inl none) = let empty : length legs ≡ 0 = ap length none.0 in omega (arith, empty)
-few_fit planned gathered (job.Settled r) legs few (inr all) = let same = all.0 in omega (arith, same, few)
+few_fit planned gathered (job.Finished r) legs few (inl none) = let empty : length legs ≡ 0 = ap length none.0 in omega (arith, empty)
+few_fit planned gathered (job.Finished r) legs few (inr all) = let same = all.0 in omega (arith, same, few)
 
 pub legs_few : (t : TableState) → IsSound t → LegsAreFew t.runs
 legs_few t s r j x at = few_fit (planned_legs t.runs r j) (result_at t.runs r j x) x.phase x.legs (planned_few t.runs r j)
@@ -63,14 +63,14 @@ legs_few t s r j x at = few_fit (planned_legs t.runs r j) (result_at t.runs r j 
 -- ---- no leg is new
 
 -- the leg at a place, with its run and its job
-record LegFound (runs : List RunState) (p : LegPlace) (x : LegState) : Type 0 where
+record LegFound (runs : List RunState) (p : LegSite) (x : LegState) : Type 0 where
   pub in_run : RunState
   pub in_job : JobState
   pub run_is : run_at runs p.run ≡ Some in_run
   pub job_is : slice_get in_run.jobs p.job ≡ Some in_job
   pub leg_is : slice_get in_job.legs p.leg ≡ Some x
 
-leg_found : (runs : List RunState) (p : LegPlace) (x : LegState) → leg_at runs p ≡ Some x → LegFound runs p x
+leg_found : (runs : List RunState) (p : LegSite) (x : LegState) → leg_at runs p ≡ Some x → LegFound runs p x
 leg_found runs p x at =
     elim (run_at runs p.run) as (λ o. run_at runs p.run ≡ o
     → option_and_then (λ (y : JobState). slice_get y.legs p.leg) (option_and_then (λ (z : RunState). slice_get z.jobs p.job) o) ≡ Some x
@@ -84,24 +84,24 @@ leg_found runs p x at =
     ] refl at
 
 -- if no rule applies at the places of a live run, none applies to a leg of it
-rests_at : (runs : List RunState) (p : LegPlace) (z : RunState) (y : JobState) (x : LegState) → first_place runs ≡ None
+rests_at : (runs : List RunState) (p : LegSite) (z : RunState) (y : JobState) (x : LegState) → first_site runs ≡ None
     → run_at runs p.run ≡ Some z
     → slice_get z.jobs p.job ≡ Some y → slice_get y.legs p.leg ≡ Some x → is_live z.phase ≡ true → applies runs (AtLeg p) ≡ false
 rests_at runs p z y x none run_is job_is leg_is live =
     let Rests = λ (place : RuleSite). applies runs place ≡ false in
-    let by_run = each_of_flat_map Rests run_places (placed runs) (none_found (applies runs) (places runs) none) in
-    let of_run = each_of_placed (λ e. AllByRecursion Rests (run_places e)) runs p.run z by_run run_is in
-    let jobs = (each_of_append Rests (if is_live z.phase then flat_map (job_places p.run) (placed z.jobs) else [])
+    let by_run = each_of_flat_map Rests run_sites (placed runs) (none_found (applies runs) (places runs) none) in
+    let of_run = each_of_placed (λ e. AllByRecursion Rests (run_sites e)) runs p.run z by_run run_is in
+    let jobs = (each_of_append Rests (if is_live z.phase then flat_map (job_sites p.run) (placed z.jobs) else [])
     (Whole p.run ∷ []) of_run).0 in
-    let of_jobs = subst (λ b. AllByRecursion Rests (if b then flat_map (job_places p.run) (placed z.jobs) else [])) live jobs in
-    let by_job = each_of_flat_map Rests (job_places p.run) (placed z.jobs) of_jobs in
-    let of_job = each_of_placed (λ e. AllByRecursion Rests (job_places p.run e)) z.jobs p.job y by_job job_is in
+    let of_jobs = subst (λ b. AllByRecursion Rests (if b then flat_map (job_sites p.run) (placed z.jobs) else [])) live jobs in
+    let by_job = each_of_flat_map Rests (job_sites p.run) (placed z.jobs) of_jobs in
+    let of_job = each_of_placed (λ e. AllByRecursion Rests (job_sites p.run e)) z.jobs p.job y by_job job_is in
     let at = λ (l : ℕ × LegState). AtLeg (record { run = p.run; job = p.job; leg = l.0 }) in
     let legs = (each_of_append Rests (map at (placed y.legs)) (Closing p.run p.job ∷ []) of_job.1).0 in
     each_of_placed (λ e. Rests (at e)) y.legs p.leg x (each_of_map Rests at (placed y.legs) legs) leg_is
 
 -- a rule applies to a new leg
-new_goes_on : (runs : List RunState) (p : LegPlace) (x : LegState) → leg_at runs p ≡ Some x → x.phase ≡ leg.New
+new_goes_on : (runs : List RunState) (p : LegSite) (x : LegState) → leg_at runs p ≡ Some x → x.phase ≡ leg.New
     → applies runs (AtLeg p) ≡ true
 new_goes_on runs p x at new =
     ap (λ o. is_some (option_and_then (leg_rule runs p) o)) at
@@ -117,28 +117,28 @@ is_not_blocked : (planned : ℕ) (gathered : JobResult) (phase : JobPhase) (legs
     → slice_get legs l ≡ Some x → phase ≡ job.Blocked → ⊥
 is_not_blocked planned gathered job.Blocked legs l x fits at is = none_at legs l x fits at
 is_not_blocked planned gathered job.Open legs l x fits at is = cc
-is_not_blocked planned gathered (job.Settled r) legs l x fits at is = cc
+is_not_blocked planned gathered (job.Finished r) legs l x fits at is = cc
 
 has_not_settled : (planned : ℕ) (gathered : JobResult) (phase : JobPhase) (legs : List LegState) (l : ℕ) (x : LegState)
     → LegsFit planned gathered phase legs
-    → slice_get legs l ≡ Some x → x.phase ≡ leg.New → is_some (settled_result phase) ≡ true → ⊥
+    → slice_get legs l ≡ Some x → x.phase ≡ leg.New → is_some (finished_result phase) ≡ true → ⊥
 has_not_settled planned gathered job.Blocked legs l x fits at new is = cc
 has_not_settled planned gathered job.Open legs l x fits at new is = cc
-has_not_settled planned gathered (job.Settled r) legs l x (inl none) at new is = none_at legs l x none.0 at
-has_not_settled planned gathered (job.Settled r) legs l x (inr all) at new is =
+has_not_settled planned gathered (job.Finished r) legs l x (inl none) at new is = none_at legs l x none.0 at
+has_not_settled planned gathered (job.Finished r) legs l x (inr all) at new is =
     let ended : is_some (outcome_of x.phase) ≡ true = each_passes leg_has_ended legs l x all.1 at in
     let not_ended : is_some (outcome_of x.phase) ≡ false = ap (λ phase. is_some (outcome_of phase)) new in
     cc
 
 live_by_jobs : (phase : RunPhase) (stopping : Bool) (jobs : List JobState) (j : ℕ) (y : JobState) → PhaseFits phase stopping jobs
     → slice_get jobs j ≡ Some y
-    → (y.phase ≡ job.Blocked → ⊥) → (is_settled y ≡ true → ⊥) → is_live phase ≡ true
+    → (y.phase ≡ job.Blocked → ⊥) → (is_finished y ≡ true → ⊥) → is_live phase ≡ true
 live_by_jobs run.Waiting stopping jobs j y fits at not_blocked not_settled = absurd (not_blocked (fits.1 j y at))
 live_by_jobs run.Live stopping jobs j y fits at not_blocked not_settled = refl
 live_by_jobs run.Ended stopping jobs j y fits at not_blocked not_settled = absurd (not_settled (fits j y at))
 
 -- so no leg is new
-not_new : (t : TableState) → IsSound t → (p : LegPlace) (x : LegState) → leg_at t.runs p ≡ Some x → x.phase ≡ leg.New → ⊥
+not_new : (t : TableState) → IsSound t → (p : LegSite) (x : LegState) → leg_at t.runs p ≡ Some x → x.phase ≡ leg.New → ⊥
 not_new t s p x at new =
     let f = leg_found t.runs p x at in
     let y = f.in_job in

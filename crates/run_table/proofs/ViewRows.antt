@@ -50,7 +50,7 @@ go = planned (codes "go") ∷ []
 abbrev three : List PlannedJob
 three = planned (codes "a") ∷ planned (codes "b") ∷ planned (codes "c") ∷ []
 
-completed : run_text build phase.Ended (job (state.Settled result.Success) (claimed (leg.Ended outcome.Success) ∷ []) ∷ [])
+completed : run_text build phase.Ended (job (state.Finished result.Success) (claimed (leg.Ended outcome.Success) ∷ []) ∷ [])
     ≡ codes "completed success build:success(success)"
 completed = refl
 
@@ -63,7 +63,7 @@ in_progress = refl
 pending : run_text go phase.Waiting (job state.Blocked [] ∷ []) ≡ codes "pending - go:blocked"
 pending = refl
 
-cancelled_while_pending : run_text go phase.Ended (job (state.Settled result.Cancelled) [] ∷ [])
+cancelled_while_pending : run_text go phase.Ended (job (state.Finished result.Cancelled) [] ∷ [])
     ≡ codes "completed cancelled go:cancelled()"
 cancelled_while_pending = refl
 
@@ -74,8 +74,8 @@ three_legs : run_text (planned (codes "m") ∷ []) phase.Live
 three_legs = refl
 
 failed_with_skipped : run_text three phase.Ended
-    (job (state.Settled result.Failure) (claimed (leg.Ended outcome.Failure) ∷ [])
-    ∷ job (state.Settled result.Success) (claimed (leg.Ended outcome.Success) ∷ []) ∷ job (state.Settled result.Skipped) [] ∷ [])
+    (job (state.Finished result.Failure) (claimed (leg.Ended outcome.Failure) ∷ [])
+    ∷ job (state.Finished result.Success) (claimed (leg.Ended outcome.Success) ∷ []) ∷ job (state.Finished result.Skipped) [] ∷ [])
     ≡ codes "completed failure a:failure(failure) b:success(success) c:skipped()"
 failed_with_skipped = refl
 
@@ -97,7 +97,7 @@ completed_run body =
       phase = phase.Ended;
       stopping = false;
       jobs =
-          job (state.Settled result.Success) (claimed (leg.Ended outcome.Success) ∷ []) ∷ [];
+          job (state.Finished result.Success) (claimed (leg.Ended outcome.Success) ∷ []) ∷ [];
     }
 
 look_at_a_completed_run : (body : List ℕ) → plan_of body ≡ build

@@ -1,11 +1,11 @@
 pub mod Claims
 pub mod Histories
-pub mod KeptPlace
-pub mod PlaceNamed
+pub mod IndexNamed
+pub mod KeptSite
 pub mod RunnerSizes
+pub mod SequenceNumbers
 pub mod Sound
 pub mod Step
 pub mod Storable
 pub mod TableState
-pub mod SequenceNumbers
 pub mod ViewText

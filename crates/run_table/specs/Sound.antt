@@ -6,8 +6,8 @@ use Rattle.stated_limits.specs.Limits.{last_attempt, last_number, max_runs}
 use Rattle.run_states.specs.Groups.{HasOneEach}
 use Rattle.run_states.specs.Parallel.{is_at_work, legs_at_work, most_at_work}
 use Rattle.run_states.specs.Places.{run_at, job_at, leg_at}
-use Rattle.run_states.specs.declared.place.LegPlace.{LegPlace}
-use Rattle.run_states.specs.Settling.{first_place}
+use Rattle.run_states.specs.declared.place.LegSite.{LegSite}
+use Rattle.run_states.specs.Settling.{first_site}
 use Rattle.run_table.specs.Step.{lease_at}
 use Rattle.run_table.specs.TableState.{RunnerState, TableState}
 use Rattle.run_states.specs.RunState.{LegState, JobState, RunState}
@@ -44,12 +44,12 @@ ParallelIsBounded runs =
 
 -- a lease is a number from 1 to the last
 abbrev pub LeasesAreGiven : ℕ → List RunState → Type 0
-LeasesAreGiven last runs = (p : LegPlace) (x : LegState) (n : ℕ) → leg_at runs p ≡ Some x → x.lease ≡ Some n → (1 ≤ n) × (n ≤ last)
+LeasesAreGiven last runs = (p : LegSite) (x : LegState) (n : ℕ) → leg_at runs p ≡ Some x → x.lease ≡ Some n → (1 ≤ n) × (n ≤ last)
 
 -- no two legs have the same lease
 abbrev pub LeasesDiffer : List RunState → Type 0
 LeasesDiffer runs =
-    (p q : LegPlace) (x y : LegState) (n : ℕ) → leg_at runs p ≡ Some x → leg_at runs q ≡ Some y → x.lease ≡ Some n → y.lease ≡ Some n
+    (p q : LegSite) (x y : LegState) (n : ℕ) → leg_at runs p ≡ Some x → leg_at runs q ≡ Some y → x.lease ≡ Some n → y.lease ≡ Some n
     → p ≡ q
 
 -- ---- runners
@@ -60,12 +60,12 @@ IsHeld runners n = (k : ℕ) × (x : RunnerState) × (slice_get runners k ≡ So
 
 -- a leg on which a runner is at work has the lease
 abbrev pub IsAtWork : List RunState → ℕ → Type 0
-IsAtWork runs n = (p : LegPlace) × (x : LegState) × (leg_at runs p ≡ Some x) × (x.lease ≡ Some n) × (is_at_work x.phase ≡ true)
+IsAtWork runs n = (p : LegSite) × (x : LegState) × (leg_at runs p ≡ Some x) × (x.lease ≡ Some n) × (is_at_work x.phase ≡ true)
 
 -- every lease of a leg at work is held
 abbrev pub WorkIsHeld : List RunState → List RunnerState → Type 0
 WorkIsHeld runs runners =
-    (p : LegPlace) (x : LegState) (n : ℕ) → leg_at runs p ≡ Some x → is_at_work x.phase ≡ true → x.lease ≡ Some n → IsHeld runners n
+    (p : LegSite) (x : LegState) (n : ℕ) → leg_at runs p ≡ Some x → is_at_work x.phase ≡ true → x.lease ≡ Some n → IsHeld runners n
 
 -- every lease that is held is that of a leg at work
 abbrev pub HeldIsAtWork : List RunState → List RunnerState → Type 0
@@ -88,7 +88,7 @@ LastsAreOwn runners = (k : ℕ) (x : RunnerState) → slice_get runners k ≡ So
 -- A kept lease was granted for a leg of the run's plan, in an attempt up to the current one. It names that run, that
 -- job, the leg's number and its combination. If it was granted in the current attempt, the leg has it.
 pub record IsOfALeg (most : ℕ) (runs : List RunState) (kept : KeptLease) : Type 0 where
-  pub place : LegPlace
+  pub place : LegSite
   pub run : RunState
   pub run_is : run_at runs place.run ≡ Some run
   pub job_is : kept.job ≡ place.job
@@ -115,7 +115,7 @@ pub record IsSound (t : TableState) : Type 0 where
   pub jobs_are_the_plans : JobsAreThePlans t.runs
   pub run_phases_fit : RunPhasesFit t.runs
   pub jobs_fit : JobsFit t.runs
-  pub needs_settled_first : NeedsComeFirst t.runs
+  pub needs_finished_first : NeedsComeFirst t.runs
   pub parallel_bounded : ParallelIsBounded t.runs
   pub one_of_each_group : HasOneEach t.runs
   pub leases_fit : LeasesFit t.runs
@@ -126,6 +126,6 @@ pub record IsSound (t : TableState) : Type 0 where
   pub work_is_held : WorkIsHeld t.runs t.runners
   pub held_is_at_work : HeldIsAtWork t.runs t.runners
   pub held_once : HeldOnce t.runners
-  pub no_rule_applies : first_place t.runs ≡ None
+  pub no_rule_applies : first_site t.runs ≡ None
   pub lasts_are_own : LastsAreOwn t.runners
   pub kept_leases_are_of_legs : KeptLeasesAreOfLegs t.last_lease t.runs t.runners

@@ -28,7 +28,7 @@ use Rattle.run_states.specs.Fitting.{first_fit, is_lease_stopping}
 use Rattle.run_states.specs.Moves.{Move, Transition}
 use Rattle.run_table.specs.TableState.{Step, RunnerState, TableState}
 use Rattle.run_states.specs.Places.{run_at, with_leg, with_run}
-use Rattle.run_states.specs.declared.place.LegPlace.{LegPlace}
+use Rattle.run_states.specs.declared.place.LegSite.{LegSite}
 use Rattle.run_states.specs.RunState.{RunState}
 use Rattle.run_states.specs.Settling.{settled, settling_moves}
 use Rattle.run_states.specs.StopMoves.{stop_holder, with_ended, lease_end_moves}
@@ -102,19 +102,19 @@ abbrev pub claiming_runner : Claimed → Option ℕ → ClaimReply → RunnerSta
 claiming_runner claim holds given = record { name = claim.runner; number = claim.number; last = last.Claim claim given; holds = holds }
 
 -- the lease as it is sent to the runner that gets the leg
-abbrev pub lease_at : List RunState → LegPlace → ℕ → Leased
+abbrev pub lease_at : List RunState → LegSite → ℕ → Leased
 lease_at runs p lease = record { lease = lease; run = p.run + 1; job = job_id runs p.run p.job; leg = p.leg; combo = combo_at runs p }
 
 -- its kept form: the lease as sent, the attempt of the leg's run in which it was granted, and the job's index
-abbrev pub kept_lease : List RunState → ℕ → LegPlace → ℕ → KeptLease
+abbrev pub kept_lease : List RunState → ℕ → LegSite → ℕ → KeptLease
 kept_lease runs attempt p lease = record { lease_reply = lease_at runs p lease; attempt = attempt; job = p.job }
 
 -- a kept lease of the run's current attempt
-abbrev pub kept_lease_at : List RunState → LegPlace → ℕ → KeptLease
+abbrev pub kept_lease_at : List RunState → LegSite → ℕ → KeptLease
 kept_lease_at runs p lease = kept_lease runs (option_map_or (λ x. x.attempt) (run_at runs p.run) 0) p lease
 
 -- the leg runs under the lease after the last
-abbrev pub leasing : TableState → Claimed → LegPlace → Step
+abbrev pub leasing : TableState → Claimed → LegSite → Step
 leasing t claim p =
     let lease = t.last_lease + 1 in
     let lease_reply = lease_at t.runs p lease in

@@ -3,7 +3,7 @@
 use Rattle.std.specs.Prelude.{◌≡◌, ℕ, ◌≤◌, List, length, false, Some}
 use Rattle.stated_limits.specs.Limits.{max_runs}
 use Rattle.run_states.specs.Places.{job_at, leg_at}
-use Rattle.run_states.specs.declared.place.LegPlace.{LegPlace}
+use Rattle.run_states.specs.declared.place.LegSite.{LegSite}
 use Rattle.run_states.specs.RunState.{LegState, JobState, RunState}
 use Rattle.run_states.specs.SoundRuns.{JobsAreThePlans}
 use Rattle.run_states.specs.StateWords.{is_new}
@@ -11,7 +11,7 @@ use Rattle.run_table.specs.Sound.{AttemptsAreGiven}
 
 -- after settling none is
 abbrev pub NoLegIsNew : List RunState → Type 0
-NoLegIsNew runs = (p : LegPlace) (x : LegState) → leg_at runs p ≡ Some x → is_new x.phase ≡ false
+NoLegIsNew runs = (p : LegSite) (x : LegState) → leg_at runs p ≡ Some x → is_new x.phase ≡ false
 
 -- a job has at most 256 legs
 abbrev pub LegsAreFew : List RunState → Type 0

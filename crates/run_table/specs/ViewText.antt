@@ -43,7 +43,7 @@ legs_text legs = codes "(" ++ join_with_byte 44 (map (λ l. leg_text l.phase) le
 abbrev pub phase_text : JobPhase → List LegState → List ℕ
 phase_text job.Blocked legs = codes "blocked"
 phase_text job.Open legs = codes "open" ++ legs_text legs
-phase_text (job.Settled r) legs = result_word r ++ legs_text legs
+phase_text (job.Finished r) legs = result_word r ++ legs_text legs
 
 abbrev pub job_text : JobState → List ℕ
 job_text j = phase_text j.phase j.legs

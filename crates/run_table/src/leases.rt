@@ -10,7 +10,7 @@ ghost use Rattle.run_table.specs.Step.{kept_lease, lease_at};
 
 use crate::table_data::id_of;
 use run_plan::{KeptLease, Lease, Number};
-use run_states::LegPlace;
+use run_states::LegSite;
 use std::alloc::Global;
 use wf_value::Refusal;
 use workflow_runs::runs::Runs;
@@ -20,7 +20,7 @@ pub fn kept_lease(
     alloc: Global,
     runs: &Runs,
     attempt: Number,
-    place: LegPlace,
+    place: LegSite,
     lease: Number,
 ) -> Result<KeptLease, Refusal>
     requires { place.run < max_runs }
@@ -34,7 +34,7 @@ pub fn kept_lease(
 }
 
 /// The lease as it is sent to the runner that gets the leg.
-fn lease_at(alloc: Global, runs: &Runs, place: LegPlace, lease: Number) -> Result<Lease, Refusal>
+fn lease_at(alloc: Global, runs: &Runs, place: LegSite, lease: Number) -> Result<Lease, Refusal>
     requires { place.run < max_runs }
     ensures { Gives (λ l. l) result (Ok (lease_at runs.now place lease)) }
 {
@@ -48,7 +48,7 @@ fn lease_at(alloc: Global, runs: &Runs, place: LegPlace, lease: Number) -> Resul
 }
 
 /// Whether the leg at a place has the lease.
-pub fn leg_has_lease(runs: &Runs, place: LegPlace, lease: Number) -> bool
+pub fn leg_has_lease(runs: &Runs, place: LegSite, lease: Number) -> bool
     ensures { result ≡ option_map_or (has_lease lease) (leg_at runs.now place) false }
 {
     match runs.leg(place) {

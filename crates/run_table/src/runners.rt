@@ -2,7 +2,7 @@ ghost use Rattle.std.specs.Prelude.{◌≡◌, ◌<◌, ◌≤◌, ◌*◌, [], 
 ghost use Rattle.std.specs.Option.{option_map_or};
 ghost use Rattle.std.specs.Prelude.{sum_by, true};
 ghost use Rattle.wf_value.specs.Gives.{Gives};
-ghost use Rattle.run_table.specs.PlaceNamed.{place_named};
+ghost use Rattle.run_table.specs.IndexNamed.{index_named};
 ghost use Rattle.run_table.specs.RunnerSizes.{max_runner_size, runner_size};
 ghost use Rattle.run_table.specs.SequenceNumbers.{is_below, is_named, kept_named, names_rise, runner_named, with_runner};
 
@@ -69,15 +69,15 @@ impl Runners {
     }
 
     /// The index of the runner with this name, or the index where it would be inserted.
-    pub(crate) fn place_named(&self, name: &RunnerName) -> usize
-        ensures { result ≡ place_named self.now name.now }
+    pub(crate) fn index_named(&self, name: &RunnerName) -> usize
+        ensures { result ≡ index_named self.now name.now }
     {
         count_below(self.as_slice(), name)
     }
 
     /// The runner with this name, given its index.
     pub(crate) fn at(&self, place: usize, name: &RunnerName) -> Option<&Runner>
-        requires { place ≡ place_named self.now name.now }
+        requires { place ≡ index_named self.now name.now }
         ensures { option_map (λ r. r.now) result ≡ runner_named self.now name.now }
     {
         named_at(self.as_slice(), place, name)
@@ -86,7 +86,7 @@ impl Runners {
     /// Inserts the runner at the index of its name, or replaces the runner of that name. On error the runners are
     /// unchanged.
     pub(crate) fn put(&mut self, place: usize, runner: Runner) -> Result<(), Refusal>
-        requires { place ≡ place_named self.old runner.name }
+        requires { place ≡ index_named self.old runner.name }
         ensures put { Gives (λ _. self.new) result (Ok (with_runner self.old runner)) }
         ensures err { OnErr result (self.new ≡ self.old) }
     {
@@ -99,7 +99,7 @@ impl Runners {
 
     /// The size of the runner with this name, given its index; 0 if there is none.
     fn size_at(&self, place: usize, name: &RunnerName) -> u64
-        requires { place ≡ place_named self.now name.now }
+        requires { place ≡ index_named self.now name.now }
         ensures { result ≡ option_map_or runner_size (runner_named self.now name.now) 0 }
     {
         match self.at(place, name) {
@@ -133,7 +133,7 @@ fn is_named(runner: &Runner, name: &RunnerName) -> bool
 /// The number of runners whose name is below this one. The runners are sorted by name.
 fn count_below(runners: &[Runner], name: &RunnerName) -> usize
     requires { names_rise runners.now ≡ true }
-    ensures { result ≡ place_named runners.now name.now }
+    ensures { result ≡ index_named runners.now name.now }
 {
     runners.partition_point(|runner| is_below(runner, name))
 }
@@ -159,7 +159,7 @@ fn replace(runners: &mut Vec<Runner>, place: usize, runner: Runner)
 
 fn put_in(runners: &mut Vec<Runner>, place: usize, runner: Runner) -> Result<(), Refusal>
     requires rise { names_rise runners.old.items ≡ true }
-    requires place { place ≡ place_named runners.old.items runner.name }
+    requires place { place ≡ index_named runners.old.items runner.name }
     ensures put { Gives (λ _. runners.new.items) result (Ok (with_runner runners.old.items runner)) }
     ensures err { OnErr result (runners.new.items ≡ runners.old.items) }
 {

@@ -101,7 +101,7 @@ fn push_job(job: &Job, text: &mut String) -> Result<(), AllocError>
     let word = match job.phase() {
         JobPhase::Blocked => return text.push_str("blocked"),
         JobPhase::Open => "open",
-        JobPhase::Settled(settled) => settled.word(),
+        JobPhase::Finished(settled) => settled.word(),
     };
     text.push_str(word)?;
     push_legs(job.legs(), text)

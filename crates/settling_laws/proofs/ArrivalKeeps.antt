@@ -12,7 +12,7 @@ use Rattle.run_states.specs.GroupOf.{cancels_in_progress, group_at}
 use Rattle.run_states.specs.GroupWords.{same_holder, same_place as is_same_place}
 use Rattle.run_states.specs.Groups.{HasOneBeside, HasOneEach, all_holders, is_in, is_pending_in, in_progress_in, waits}
 use Rattle.run_states.specs.Moves.{at_each, without_moves}
-use Rattle.run_states.specs.declared.place.LegPlace.{LegPlace}
+use Rattle.run_states.specs.declared.place.LegSite.{LegSite}
 use Rattle.run_states.specs.RunState.{RunState}
 use Rattle.run_states.specs.StopMoves.{displace, stop_holder}
 use Rattle.run_states.proofs.LeaseReads.{same_place}
@@ -26,7 +26,7 @@ use Rattle.run_states.specs.declared.holder.Holder.TheVariants.{Run, Leg}
 
 -- ---- the test of two holders for equality
 
-place_tested : (p q : LegPlace) → is_same_place p q ≡ true → p ≡ q
+place_tested : (p q : LegSite) → is_same_place p q ≡ true → p ≡ q
 place_tested p q e =
     let first = and_parts (nat_eq p.run q.run) (nat_eq p.job q.job && nat_eq p.leg q.leg) e in
     let rest = and_parts (nat_eq p.job q.job) (nat_eq p.leg q.leg) first.1 in

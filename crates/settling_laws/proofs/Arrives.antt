@@ -110,7 +110,7 @@ no_other h newcomer other same =
 module _ (runs : List RunState) (newcomer : Holder) (g : Group) (its : group_at runs newcomer ≡ Some g)
     (waiting : waits runs newcomer ≡ true) (sound : RunsAreSound runs) (one : HasOneBeside runs newcomer) where
   fit : RunsFit runs
-  fit = runs_fit runs sound.jobs_are_the_plans sound.run_phases_fit sound.jobs_fit sound.needs_settled_first sound.leases_fit
+  fit = runs_fit runs sound.jobs_are_the_plans sound.run_phases_fit sound.jobs_fit sound.needs_finished_first sound.leases_fit
 
   one_other : (h k : Holder) → (is_pending_in runs g h && not (same_holder h newcomer)) ≡ true
       → (is_pending_in runs g k && not (same_holder k newcomer)) ≡ true → h ≡ k

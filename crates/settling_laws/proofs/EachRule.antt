@@ -10,12 +10,12 @@ use Rattle.run_states.specs.Groups.{may_start}
 use Rattle.run_states.specs.JobResults.{results_of}
 use Rattle.run_states.specs.Moves.{Move, Transition, without_moves}
 use Rattle.run_states.specs.Places.{job_at, leg_at, run_at, with_job, with_run}
-use Rattle.run_states.specs.declared.place.LegPlace.{LegPlace}
+use Rattle.run_states.specs.declared.place.LegSite.{LegSite}
 use Rattle.run_states.specs.Rules.{closing_rule, decided, leg_rule, leg_rule_in, newcomer_rule, opening_rule, result_at, rule_at}
 use Rattle.run_states.specs.Rules.{whole_rule, whole_rule_in, with_leg_in}
 use Rattle.run_states.specs.RunState.{JobState, LegState, RunState}
-use Rattle.run_states.specs.StateWords.{is_blocked, is_done, is_settled, run_in_phase, settled_as}
-use Rattle.run_states.specs.Words.{needs_have_settled}
+use Rattle.run_states.specs.StateWords.{is_blocked, is_done, is_finished, run_in_phase, finished_as}
+use Rattle.run_states.specs.Words.{needs_have_finished}
 use Rattle.run_states.specs.declared.phases.LegPhase.{LegPhase}
 use Rattle.run_states.specs.declared.phases.LegPhase.TheVariants as leg
 use Rattle.run_states.specs.declared.phases.RunPhase.{RunPhase}
@@ -34,19 +34,19 @@ run_ended runs r x = record {
 
 -- `P` holds of the transition of each rule that applies to these runs.
 pub record EachRule (runs : List RunState) (P : RuleSite → Transition → Type 0) : Type 0 where
-  pub job_opens : (r j : ℕ) (y : JobState) → job_at runs r j ≡ Some y → is_blocked y.phase ≡ true → needs_have_settled runs r j ≡ true
+  pub job_opens : (r j : ℕ) (y : JobState) → job_at runs r j ≡ Some y → is_blocked y.phase ≡ true → needs_have_finished runs r j ≡ true
       → P (Opening r j) (without_moves (with_job r j (decided runs r j) runs))
-  pub leg_is_cancelled : (p : LegPlace) (z : LegState) → leg_at runs p ≡ Some z → z.phase ≡ leg.New
+  pub leg_is_cancelled : (p : LegSite) (z : LegState) → leg_at runs p ≡ Some z → z.phase ≡ leg.New
       → P (AtLeg p) (without_moves (with_leg_in (leg.Ended outcome.Cancelled) p runs))
-  pub leg_arrives : (p : LegPlace) (z : LegState) → leg_at runs p ≡ Some z → z.phase ≡ leg.New
+  pub leg_arrives : (p : LegSite) (z : LegState) → leg_at runs p ≡ Some z → z.phase ≡ leg.New
       → P (AtLeg p) (arrived (Leg p) (with_leg_in leg.Waiting p runs))
-  pub leg_starts : (p : LegPlace) (z : LegState) → leg_at runs p ≡ Some z → z.phase ≡ leg.Waiting
+  pub leg_starts : (p : LegSite) (z : LegState) → leg_at runs p ≡ Some z → z.phase ≡ leg.Waiting
       → may_start runs (Leg p) ≡ true → P (AtLeg p) (started (Leg p) (with_leg_in leg.Ready p runs))
   pub job_settles : (r j : ℕ) (y : JobState) → job_at runs r j ≡ Some y → is_done y ≡ true
-      → P (Closing r j) (without_moves (with_job r j (settled_as (result_at runs r j y)) runs))
+      → P (Closing r j) (without_moves (with_job r j (finished_as (result_at runs r j y)) runs))
   pub run_starts : (r : ℕ) (x : RunState) → run_at runs r ≡ Some x → x.phase ≡ run.Waiting → may_start runs (Run r) ≡ true
       → P (Whole r) (started (Run r) (with_run r (run_in_phase run.Live) runs))
-  pub run_ends : (r : ℕ) (x : RunState) → run_at runs r ≡ Some x → x.phase ≡ run.Live → list_all is_settled x.jobs ≡ true
+  pub run_ends : (r : ℕ) (x : RunState) → run_at runs r ≡ Some x → x.phase ≡ run.Live → list_all is_finished x.jobs ≡ true
       → P (Whole r) (run_ended runs r x)
 
 -- what holds of both alternatives holds of the one that is chosen
@@ -55,7 +55,7 @@ either true x y P of_x of_y = of_x
 either false x y P of_x of_y = of_y
 
 module _ (runs : List RunState) (P : RuleSite → Transition → Type 0) (each : EachRule runs P) where
-  at_leg : (m : Transition) (p : LegPlace) (z : LegState) (phase : LegPhase) → leg_at runs p ≡ Some z → z.phase ≡ phase
+  at_leg : (m : Transition) (p : LegSite) (z : LegState) (phase : LegPhase) → leg_at runs p ≡ Some z → z.phase ≡ phase
       → leg_rule_in phase runs p ≡ Some m → P (AtLeg p) m
   at_leg m p z leg.New was is h =
       let same : newcomer_rule runs p ≡ m = cc in
@@ -77,7 +77,7 @@ module _ (runs : List RunState) (P : RuleSite → Transition → Type 0) (each :
       let taken = if_some (may_start runs (Run r)) (started (Run r) (with_run r (run_in_phase run.Live) runs)) m h in
       subst (P (Whole r)) taken.1 (each.run_starts r x was is taken.0)
   at_run m r x run.Live was is h =
-      let taken = if_some (list_all is_settled x.jobs) (run_ended runs r x) m h in
+      let taken = if_some (list_all is_finished x.jobs) (run_ended runs r x) m h in
       subst (P (Whole r)) taken.1 (each.run_ends r x was is taken.0)
   at_run m r x run.Ended was is h = absurd (cc h)
 
@@ -85,16 +85,16 @@ module _ (runs : List RunState) (P : RuleSite → Transition → Type 0) (each :
   by_rule m (Opening r j) h =
       let made = from_and_then (opening_rule runs r j) (job_at runs r j) m h in
       let y = made.value in
-      let taken = if_some (is_blocked y.phase && needs_have_settled runs r j) (without_moves (with_job r j (decided runs r j) runs)) m
+      let taken = if_some (is_blocked y.phase && needs_have_finished runs r j) (without_moves (with_job r j (decided runs r j) runs)) m
       made.gives in
-      let both = and_parts (is_blocked y.phase) (needs_have_settled runs r j) taken.0 in
+      let both = and_parts (is_blocked y.phase) (needs_have_finished runs r j) taken.0 in
       subst (P (Opening r j)) taken.1 (each.job_opens r j y made.is both.0 both.1)
   by_rule m (AtLeg p) h =
       let made = from_and_then (leg_rule runs p) (leg_at runs p) m h in
       at_leg m p made.value made.value.phase made.is refl made.gives
   by_rule m (Closing r j) h =
       let made = from_and_then (closing_rule runs r j) (job_at runs r j) m h in
-      let next = with_job r j (settled_as (result_at runs r j made.value)) runs in
+      let next = with_job r j (finished_as (result_at runs r j made.value)) runs in
       let taken = if_some (is_done made.value) (without_moves next) m made.gives in
       subst (P (Closing r j)) taken.1 (each.job_settles r j made.value made.is taken.0)
   by_rule m (Whole r) h =

@@ -10,10 +10,10 @@ use Rattle.run_states.specs.GroupOf.{RunFacts, cancels_in_progress, group_at, le
 use Rattle.run_states.specs.Holders.{run_of}
 use Rattle.run_states.specs.LegContext.{facts_at}
 use Rattle.run_states.specs.Places.{leg_at, run_at}
-use Rattle.run_states.specs.declared.place.LegPlace.{LegPlace}
+use Rattle.run_states.specs.declared.place.LegSite.{LegSite}
 use Rattle.run_states.specs.RunNumber.{events, same_workflow}
 use Rattle.run_states.specs.RunState.{LegState, RunState}
-use Rattle.run_states.specs.Words.{needs_have_settled}
+use Rattle.run_states.specs.Words.{needs_have_finished}
 use Rattle.run_states.proofs.JobKeeps.{leg_in, no_leg}
 use Rattle.run_states.proofs.LegFacts.{SameUpTo, attempt_at, facts_are, facts_stay, taken_same, leg_facts_in}
 use Rattle.run_states.proofs.RunFits.{RunsFit}
@@ -80,35 +80,35 @@ run_group_stays runs next r same attempt = ap (option_and_then run_group) (run_f
 -- ---- a leg
 
 -- if a leg exists, the needs of its job have finished
-pub leg_needs_settled : (runs : List RunState) → RunsFit runs → (p : LegPlace) (z : LegState) → leg_at runs p ≡ Some z
-    → needs_have_settled runs p.run p.job ≡ true
-leg_needs_settled runs fit p z was =
+pub leg_needs_finished : (runs : List RunState) → RunsFit runs → (p : LegSite) (z : LegState) → leg_at runs p ≡ Some z
+    → needs_have_finished runs p.run p.job ≡ true
+leg_needs_finished runs fit p z was =
     let at = leg_in runs p z was in
     (fit p.run at.place.run at.place.run_is).needs_first p.job at.job at.place.job_is (λ none. no_leg at.job.legs p.leg z none at.leg_is)
 
-pub leg_group_same : (runs next : List RunState) (p : LegPlace) → facts_at next p ≡ facts_at runs p
+pub leg_group_same : (runs next : List RunState) (p : LegSite) → facts_at next p ≡ facts_at runs p
     → group_at next (Leg p) ≡ group_at runs (Leg p)
 unfolding group_at
 leg_group_same runs next p same = ap (option_and_then leg_group) same
 
-leg_facts_stay : (runs next : List RunState) → RunsFit runs → StayFit runs next → (p : LegPlace) (z : LegState)
+leg_facts_stay : (runs next : List RunState) → RunsFit runs → StayFit runs next → (p : LegSite) (z : LegState)
     → leg_at runs p ≡ Some z → facts_at next p ≡ facts_at runs p
 leg_facts_stay runs next fit stay p z was =
-    facts_stay runs next p (same_events runs next p.run (λ s le. stay.same_admitted s)) (stay.same_attempt p.run) (leg_needs_settled runs fit p z was)
+    facts_stay runs next p (same_events runs next p.run (λ s le. stay.same_admitted s)) (stay.same_attempt p.run) (leg_needs_finished runs fit p z was)
     (stay.keeps_results p.run)
 
-pub leg_group_stays : (runs next : List RunState) → RunsFit runs → StayFit runs next → (p : LegPlace) (z : LegState)
+pub leg_group_stays : (runs next : List RunState) → RunsFit runs → StayFit runs next → (p : LegSite) (z : LegState)
     → leg_at runs p ≡ Some z → group_at next (Leg p) ≡ group_at runs (Leg p)
 leg_group_stays runs next fit stay p z was = leg_group_same runs next p (leg_facts_stay runs next fit stay p z was)
 
 -- whether its arrival cancels what is in progress
-pub leg_cancels_stays : (runs next : List RunState) → RunsFit runs → StayFit runs next → (p : LegPlace) (z : LegState)
+pub leg_cancels_stays : (runs next : List RunState) → RunsFit runs → StayFit runs next → (p : LegSite) (z : LegState)
     → leg_at runs p ≡ Some z → cancels_in_progress next (Leg p) ≡ cancels_in_progress runs (Leg p)
 unfolding cancels_in_progress
 leg_cancels_stays runs next fit stay p z was = ap (λ o. option_map_or leg_cancels o false) (leg_facts_stay runs next fit stay p z was)
 
 -- the facts of a leg whose run and the events up to it are unchanged
-facts_of_same_run : (runs next : List RunState) (p : LegPlace) → SameUpTo p.run (events next) (events runs)
+facts_of_same_run : (runs next : List RunState) (p : LegSite) → SameUpTo p.run (events next) (events runs)
     → run_at next p.run ≡ run_at runs p.run → facts_at next p ≡ facts_at runs p
 facts_of_same_run runs next p same at =
     facts_are next p

@@ -10,10 +10,10 @@ use Rattle.run_states.specs.FirstOf.{changed_at, placed}
 use Rattle.run_states.specs.Groups.{holds, leg_holds, leg_waits, run_waits, waits}
 use Rattle.run_states.specs.Moves.{Transition, at_each}
 use Rattle.run_states.specs.Places.{job_at, leg_at, run_at, with_job, with_leg, with_run}
-use Rattle.run_states.specs.declared.place.LegPlace.{LegPlace}
+use Rattle.run_states.specs.declared.place.LegSite.{LegSite}
 use Rattle.run_states.specs.RunConditions.{may_run_in}
 use Rattle.run_states.specs.RunState.{LegState, JobState, RunState}
-use Rattle.run_states.specs.StateWords.{is_live, is_open, settled_as}
+use Rattle.run_states.specs.StateWords.{is_live, is_open, finished_as}
 use Rattle.run_states.specs.StopMoves.{stop_holder}
 use Rattle.run_states.specs.Stops.{cancelled, stopped, stopped_in, stopped_phase, stopped_run, stopped_where, with_stop_requested}
 use Rattle.run_states.specs.Stops.{with_stopped_legs}
@@ -75,7 +75,7 @@ through : {X Y : Type 0} (test : Y → Bool) (f : X → Option Y) (o : Option X)
 through test f None = refl
 through test f (Some x) = refl
 
-pub by_run : (test : LegPhase → Bool) (runs : List RunState) (p : LegPlace)
+pub by_run : (test : LegPhase → Bool) (runs : List RunState) (p : LegSite)
     → passes (leg_passes test) (leg_at runs p) ≡ passes (run_passes test p.job p.leg) (run_at runs p.run)
 by_run test runs p =
     through (leg_passes test) (λ (y : JobState). slice_get y.legs p.leg) (job_at runs p.run p.job)
@@ -89,7 +89,7 @@ pub record RunFades (f : RunState → RunState) : Type 0 where
   pub leg_waited : (j l : ℕ) → Weakens (run_passes leg_waits j l) f
   pub leg_held : (j l : ℕ) → Weakens (run_passes leg_holds j l) f
 
-pub leg_before : (test : LegPhase → Bool) (f : RunState → RunState) (r : ℕ) (runs : List RunState) (p : LegPlace)
+pub leg_before : (test : LegPhase → Bool) (f : RunState → RunState) (r : ℕ) (runs : List RunState) (p : LegSite)
     → Weakens (run_passes test p.job p.leg) f → passes (leg_passes test) (leg_at (with_run r f runs) p) ≡ true
     → passes (leg_passes test) (leg_at runs p) ≡ true
 leg_before test f r runs p weak e =
@@ -124,7 +124,7 @@ job_fades f r j runs fades =
       leg_held = (λ i l x e. passed_changed (job_passes leg_holds l) f (fades.held l) j x.jobs i e);
     })
 
-pub leg_fades : (f : LegState → LegState) (p : LegPlace) (runs : List RunState) → Weakens (leg_passes leg_waits) f
+pub leg_fades : (f : LegState → LegState) (p : LegSite) (runs : List RunState) → Weakens (leg_passes leg_waits) f
     → Weakens (leg_passes leg_holds) f → Fades runs (with_leg p f runs)
 leg_fades f p runs waited held =
     job_fades (with_leg_of p.leg f) p.run p.job runs
@@ -141,24 +141,24 @@ leg_change_weakens test f weak j l i k x e =
     passed_changed (job_passes test k) (with_leg_of l f) (λ y now. passed_changed (leg_passes test) f weak l y.legs k now) j x.jobs i e
 
 -- the tests of a run itself are unchanged
-pub run_waited_still : (f : LegState → LegState) (p : LegPlace) (runs : List RunState) (s : ℕ)
+pub run_waited_still : (f : LegState → LegState) (p : LegSite) (runs : List RunState) (s : ℕ)
     → waits (with_leg p f runs) (Run s) ≡ true → waits runs (Run s) ≡ true
 run_waited_still f p runs s e =
     passed_changed (λ x. run_waits x.phase) (with_job_of p.job (with_leg_of p.leg f)) (λ x now. now) p.run runs s e
 
-pub run_held_still : (f : LegState → LegState) (p : LegPlace) (runs : List RunState) (s : ℕ)
+pub run_held_still : (f : LegState → LegState) (p : LegSite) (runs : List RunState) (s : ℕ)
     → holds (with_leg p f runs) (Run s) ≡ true → holds runs (Run s) ≡ true
 run_held_still f p runs s e =
     passed_changed (λ x. is_live x.phase) (with_job_of p.job (with_leg_of p.leg f)) (λ x now. now) p.run runs s e
 
-pub waits_before_leg : (f : LegState → LegState) (p : LegPlace) (runs : List RunState) → Weakens (leg_passes leg_waits) f → (h : Holder)
+pub waits_before_leg : (f : LegState → LegState) (p : LegSite) (runs : List RunState) → Weakens (leg_passes leg_waits) f → (h : Holder)
     → waits (with_leg p f runs) h ≡ true → waits runs h ≡ true
 waits_before_leg f p runs weak (Run s) e = run_waited_still f p runs s e
 waits_before_leg f p runs weak (Leg q) e =
     leg_before leg_waits (with_job_of p.job (with_leg_of p.leg f)) p.run runs q
     (leg_change_weakens leg_waits f weak p.job p.leg q.job q.leg) e
 
-pub holds_before_leg : (f : LegState → LegState) (p : LegPlace) (runs : List RunState) → Weakens (leg_passes leg_holds) f → (h : Holder)
+pub holds_before_leg : (f : LegState → LegState) (p : LegSite) (runs : List RunState) → Weakens (leg_passes leg_holds) f → (h : Holder)
     → holds (with_leg p f runs) h ≡ true → holds runs h ≡ true
 holds_before_leg f p runs weak (Run s) e = run_held_still f p runs s e
 holds_before_leg f p runs weak (Leg q) e =
@@ -183,7 +183,7 @@ stopped_held leg.Running e = refl
 stopped_held leg.Stopping e = refl
 stopped_held (leg.Ended r) e = cc
 
-pub leg_stop_fades : (p : LegPlace) (runs : List RunState) → Fades runs (with_leg p stopped runs)
+pub leg_stop_fades : (p : LegSite) (runs : List RunState) → Fades runs (with_leg p stopped runs)
 leg_stop_fades p runs = leg_fades stopped p runs (λ z e. stopped_waited z.phase e) (λ z e. stopped_held z.phase e)
 
 pub legs_weaken : (test : LegPhase → Bool) → Weakens (leg_passes test) stopped → (l : ℕ) → Weakens (job_passes test l) with_stopped_legs
@@ -213,7 +213,7 @@ told_weakens test weak j l x e =
     (λ k. where_weakens test weak l (not (may_run_in leg_facts k))) x.jobs j e
 
 cancelled_weakens : (test : LegPhase → Bool) (j l : ℕ) → Weakens (run_passes test j l) cancelled
-cancelled_weakens test j l x e = passed_map (job_passes test l) (settled_as result.Cancelled) (λ y now. now) x.jobs j e
+cancelled_weakens test j l x e = passed_map (job_passes test l) (finished_as result.Cancelled) (λ y now. now) x.jobs j e
 
 pub stop_weakens : (test : LegPhase → Bool) → Weakens (leg_passes test) stopped → (j l : ℕ) (phase : RunPhase)
     → Weakens (run_passes test j l) (stopped_in phase)

@@ -8,7 +8,7 @@ use Rattle.run_states.specs.GroupOf.{cancels_in_progress, group_at}
 use Rattle.run_states.specs.Groups.{in_progress_in}
 use Rattle.run_states.specs.Moves.{Transition, at_each, without_moves}
 use Rattle.run_states.specs.Places.{leg_at, run_at, with_leg, with_run}
-use Rattle.run_states.specs.declared.place.LegPlace.{LegPlace}
+use Rattle.run_states.specs.declared.place.LegSite.{LegSite}
 use Rattle.run_states.specs.RunState.{LegState, RunState}
 use Rattle.run_states.specs.StateWords.{leg_has_ended, outcome_of}
 use Rattle.run_states.specs.StopMoves.{displace, stop_holder}
@@ -52,7 +52,7 @@ stopped_stays z x same e =
     let ended : leg_has_ended x ≡ true = ap leg_has_ended (sym is) ∙ e in
     ap (λ (phase : LegPhase). record x { phase = phase }) (ended_stays x.phase ended)
 
-pub leg_stop_settles : (runs : List RunState) (p : LegPlace) → RunsFit runs → Settles runs (with_leg p stopped runs)
+pub leg_stop_settles : (runs : List RunState) (p : LegSite) → RunsFit runs → Settles runs (with_leg p stopped runs)
 leg_stop_settles runs p fit =
     elim (leg_at runs p) as (λ o. leg_at runs p ≡ o → Settles runs (with_leg p stopped runs)) [
       | None ↦ λ is. subst (Settles runs) (with_leg_none runs p stopped is) (settles_nothing runs fit)

@@ -11,7 +11,7 @@ use Rattle.run_states.specs.GroupOf.{group_at}
 use Rattle.run_states.specs.Groups.{all_holders, holds, is_in, is_in_progress_in, is_taken, leg_holds, may_start, waits}
 use Rattle.run_states.specs.Holders.{run_of}
 use Rattle.run_states.specs.Places.{job_at, leg_at, run_at, with_job, with_leg, with_run}
-use Rattle.run_states.specs.declared.place.LegPlace.{LegPlace}
+use Rattle.run_states.specs.declared.place.LegSite.{LegSite}
 use Rattle.run_states.specs.RunState.{LegState, JobState, RunState}
 use Rattle.run_states.specs.StateWords.{is_live}
 use Rattle.run_states.proofs.JobKeeps.{with_job_of, with_leg_of}
@@ -111,7 +111,7 @@ passed_on test f (suc i) (x ∷ xs) strong (suc k) e = passed_on test f i xs str
 
 -- ---- a change of one run, of one job and of one leg
 
-pub legs_still_hold : (f : RunState → RunState) (r : ℕ) (runs : List RunState) (p : LegPlace)
+pub legs_still_hold : (f : RunState → RunState) (r : ℕ) (runs : List RunState) (p : LegSite)
     → ((x : RunState) → run_at runs r ≡ Some x → run_passes leg_holds p.job p.leg x ≡ true → run_passes leg_holds p.job p.leg (f x) ≡ true)
     → holds runs (Leg p) ≡ true → holds (with_run r f runs) (Leg p) ≡ true
 legs_still_hold f r runs p strong e =
@@ -133,7 +133,7 @@ module _ (runs : List RunState) (r j : ℕ) (f : JobState → JobState)
         legs_still_hold (with_job_of j f) r runs p (λ x at now. in_run p.job p.leg x at now) e
 
 -- a leg that does not hold its group enters any phase
-pub leg_still_holds : (runs : List RunState) (p : LegPlace) (z : LegState) (f : LegState → LegState) → leg_at runs p ≡ Some z
+pub leg_still_holds : (runs : List RunState) (p : LegSite) (z : LegState) (f : LegState → LegState) → leg_at runs p ≡ Some z
     → leg_holds z.phase ≡ false → (h : Holder) → holds runs h ≡ true → holds (with_leg p f runs) h ≡ true
 leg_still_holds runs p z f was held_not =
     job_still_holds runs p.run p.job (with_leg_of p.leg f)

@@ -3,9 +3,9 @@ use Rattle.std.specs.Prelude.{◌≡◌, ℕ, List, [], ◌∷◌, map, flat_map
 use Rattle.std.specs.List.{AllByRecursion}
 use Rattle.run_states.specs.FirstOf.{placed}
 use Rattle.run_states.specs.Places.{run_at}
-use Rattle.run_states.specs.Rules.{is_live, job_places, run_places, places}
+use Rattle.run_states.specs.Rules.{is_live, job_sites, run_sites, places}
 use Rattle.run_states.specs.RunState.{LegState, JobState, RunState}
-use Rattle.run_states.specs.Settling.{applies, first_place}
+use Rattle.run_states.specs.Settling.{applies, first_site}
 use Rattle.run_states.specs.declared.phases.RunPhase.{RunPhase}
 use Rattle.run_states.specs.declared.phases.RunPhase.TheVariants as run
 use Rattle.run_states.specs.declared.place.RuleSite.{RuleSite}
@@ -24,7 +24,7 @@ is_live_live run.Live e = refl
 is_live_live run.Ended e = cc
 
 of_a_job : (runs : List RunState) (r : ℕ) (x : RunState) → run_at runs r ≡ Some x → x.phase ≡ run.Live → (e : ℕ × JobState)
-    → AllByRecursion (LivePlace runs) (job_places r e)
+    → AllByRecursion (LivePlace runs) (job_sites r e)
 of_a_job runs r x was live e = (
   (x, was, live),
   all_append (LivePlace runs) (map (λ l. AtLeg (record { run = r; job = e.0; leg = l.0 })) (placed e.1.legs)) (Closing r e.0 ∷ [])
@@ -33,25 +33,25 @@ of_a_job runs r x was live e = (
 )
 
 of_the_jobs : (runs : List RunState) (r : ℕ) (x : RunState) → run_at runs r ≡ Some x → (b : Bool) → is_live x.phase ≡ b
-    → AllByRecursion (LivePlace runs) (if b then flat_map (job_places r) (placed x.jobs) else [])
+    → AllByRecursion (LivePlace runs) (if b then flat_map (job_sites r) (placed x.jobs) else [])
 of_the_jobs runs r x was true e =
-    all_flat_map (LivePlace runs) (job_places r) (placed x.jobs)
-    (all_of (λ j. AllByRecursion (LivePlace runs) (job_places r j)) (of_a_job runs r x was (is_live_live x.phase e)) (placed x.jobs))
+    all_flat_map (LivePlace runs) (job_sites r) (placed x.jobs)
+    (all_of (λ j. AllByRecursion (LivePlace runs) (job_sites r j)) (of_a_job runs r x was (is_live_live x.phase e)) (placed x.jobs))
 of_the_jobs runs r x was false e = tt
 
-of_a_run : (runs : List RunState) (e : ℕ × RunState) → slice_get runs e.0 ≡ Some e.1 → AllByRecursion (LivePlace runs) (run_places e)
+of_a_run : (runs : List RunState) (e : ℕ × RunState) → slice_get runs e.0 ≡ Some e.1 → AllByRecursion (LivePlace runs) (run_sites e)
 of_a_run runs e was =
-    all_append (LivePlace runs) (if is_live e.1.phase then flat_map (job_places e.0) (placed e.1.jobs) else []) (Whole e.0 ∷ [])
+    all_append (LivePlace runs) (if is_live e.1.phase then flat_map (job_sites e.0) (placed e.1.jobs) else []) (Whole e.0 ∷ [])
     (of_the_jobs runs e.0 e.1 was (is_live e.1.phase) refl) (tt, tt)
 
 all_live : (runs : List RunState) → AllByRecursion (LivePlace runs) (places runs)
 all_live runs =
-    all_flat_map (LivePlace runs) run_places (placed runs)
-    (all_weaken (λ (e : ℕ × RunState). slice_get runs e.0 ≡ Some e.1) (λ e. AllByRecursion (LivePlace runs) (run_places e)) (of_a_run runs)
+    all_flat_map (LivePlace runs) run_sites (placed runs)
+    (all_weaken (λ (e : ℕ × RunState). slice_get runs e.0 ≡ Some e.1) (λ e. AllByRecursion (LivePlace runs) (run_sites e)) (of_a_run runs)
     (placed runs) (placed_get runs))
 
-pub first_place_is_live : (runs : List RunState) (place : RuleSite) → first_place runs ≡ Some place → LivePlace runs place
+pub first_place_is_live : (runs : List RunState) (place : RuleSite) → first_site runs ≡ Some place → LivePlace runs place
 first_place_is_live runs place e = (found (LivePlace runs) (applies runs) (places runs) place (all_live runs) e).is_element
 
-pub first_place_applies : (runs : List RunState) (place : RuleSite) → first_place runs ≡ Some place → applies runs place ≡ true
+pub first_place_applies : (runs : List RunState) (place : RuleSite) → first_site runs ≡ Some place → applies runs place ≡ true
 first_place_applies runs place e = (found (LivePlace runs) (applies runs) (places runs) place (all_live runs) e).passes

@@ -14,13 +14,13 @@ use Rattle.run_plan.specs.declared.planned.PlannedJob.{PlannedJob}
 use Rattle.run_states.specs.FirstOf.{changed_at}
 use Rattle.run_states.specs.Moves.{Transition}
 use Rattle.run_states.specs.Places.{run_at, job_at, leg_at, with_run, with_job}
-use Rattle.run_states.specs.declared.place.LegPlace.{LegPlace}
+use Rattle.run_states.specs.declared.place.LegSite.{LegSite}
 use Rattle.run_states.specs.Rules.{decided, may_run, result_at, rule_at, with_leg_in}
 use Rattle.run_states.specs.RunState.{LegState, JobState, RunState}
-use Rattle.run_states.specs.Settling.{first_place, first_rule, leg_phases_left, leg_left, job_phases_left, job_left, legs_in_plan}
+use Rattle.run_states.specs.Settling.{first_site, first_rule, leg_phases_left, leg_left, job_phases_left, job_left, legs_in_plan}
 use Rattle.run_states.specs.Settling.{run_phases_left, run_left, remaining_phases}
 use Rattle.run_states.specs.StateWords.{leg_has_ended, is_blocked, is_done, is_open, leg_in_phase, new_leg, opened, run_in_phase}
-use Rattle.run_states.specs.StateWords.{settled_as}
+use Rattle.run_states.specs.StateWords.{finished_as}
 use Rattle.run_states.specs.Words.{is_stopping, planned_legs}
 use Rattle.run_states.specs.declared.phases.JobPhase.TheVariants as job
 use Rattle.run_states.specs.declared.phases.LegPhase.{LegPhase}
@@ -116,7 +116,7 @@ job_lowers_all runs r j f y at less =
 
 -- ---- the rules
 
-leg_goes_lower : (runs : List RunState) (p : LegPlace) (z : LegState) (to : LegPhase) → leg_at runs p ≡ Some z
+leg_goes_lower : (runs : List RunState) (p : LegSite) (z : LegState) (to : LegPhase) → leg_at runs p ≡ Some z
     → leg_phases_left to < leg_phases_left z.phase → remaining_phases (with_leg_in to p runs) < remaining_phases runs
 leg_goes_lower runs p z to was lower =
     let at = leg_in runs p z was in
@@ -127,7 +127,7 @@ left_by : (phase is : LegPhase) (to : ℕ) → phase ≡ is → to < leg_phases_
 left_by phase is to e less = subst (λ (v : LegPhase). to < leg_phases_left v) (sym e) less
 
 decided_lowered : (may : Bool) (planned : ℕ) (stopping : Bool) (y : JobState) → y.phase ≡ job.Blocked
-    → job_left planned ((if may then opened planned else settled_as (if stopping then result.Cancelled else result.Skipped)) y)
+    → job_left planned ((if may then opened planned else finished_as (if stopping then result.Cancelled else result.Skipped)) y)
     < job_left planned y
 decided_lowered true planned stopping y blocked =
     let before : job_phases_left planned y.phase ≡ 2 + 5 * planned = ap (job_phases_left planned) blocked in
@@ -143,9 +143,9 @@ opening_lowers runs r j y was blocked =
     (decided_lowered (may_run runs r j) (planned_legs runs r j) (is_stopping runs r) y (is_blocked_blocked y.phase blocked))
 
 closing_lowers : (runs : List RunState) (r j : ℕ) (y : JobState) → job_at runs r j ≡ Some y → is_done y ≡ true
-    → remaining_phases (with_job r j (settled_as (result_at runs r j y)) runs) < remaining_phases runs
+    → remaining_phases (with_job r j (finished_as (result_at runs r j y)) runs) < remaining_phases runs
 closing_lowers runs r j y was done =
-    let close = settled_as (result_at runs r j y) in
+    let close = finished_as (result_at runs r j y) in
     let is_open = is_open_open y.phase (and_parts (is_open y.phase) (list_all leg_has_ended y.legs) done).0 in
     let before : job_phases_left (planned_legs runs r j) y.phase ≡ 1 = ap (job_phases_left (planned_legs runs r j)) is_open in
     let less : job_left (planned_legs runs r j) (close y) < job_left (planned_legs runs r j) y = omega (arith, before) in
@@ -179,5 +179,5 @@ rule_lowers runs m place h = by_rule runs (λ at made. remaining_phases made.run
 
 pub first_rule_lowers : (runs : List RunState) (m : Transition) → first_rule runs ≡ Some m → remaining_phases m.runs < remaining_phases runs
 first_rule_lowers runs m h =
-    let made = from_and_then (rule_at runs) (first_place runs) m h in
+    let made = from_and_then (rule_at runs) (first_site runs) m h in
     rule_lowers runs m made.value made.gives

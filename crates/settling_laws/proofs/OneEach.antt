@@ -11,8 +11,8 @@ use Rattle.run_states.specs.GroupOf.{group_at}
 use Rattle.run_states.specs.Groups.{HasOneBeside, HasOneEach, all_holders, holds, is_in, is_pending_in, is_in_progress_in, is_taken}
 use Rattle.run_states.specs.Groups.{may_start}
 use Rattle.run_states.specs.Groups.{waits}
-use Rattle.run_states.specs.Places.{leg_at, leg_places, run_at}
-use Rattle.run_states.specs.declared.place.LegPlace.{LegPlace}
+use Rattle.run_states.specs.Places.{leg_at, leg_sites, run_at}
+use Rattle.run_states.specs.declared.place.LegSite.{LegSite}
 use Rattle.run_states.specs.RunState.{LegState, RunState}
 use Rattle.run_states.proofs.Found.{each_of_append, each_of_map, each_of_placed}
 use Rattle.run_states.proofs.RunFits.{RunsFit}
@@ -38,7 +38,7 @@ abbrev pub IsOneOf : List RunState → Holder → Type 0
 IsOneOf runs (Run r) = (x : RunState) × (run_at runs r ≡ Some x)
 IsOneOf runs (Leg p) = (z : LegState) × (leg_at runs p ≡ Some z)
 
-leg_there : (runs : List RunState) (p : LegPlace) (test : LegState → Bool) (o : Option LegState) → leg_at runs p ≡ o
+leg_there : (runs : List RunState) (p : LegSite) (test : LegState → Bool) (o : Option LegState) → leg_at runs p ≡ o
     → option_map_or test o false ≡ true → IsOneOf runs (Leg p)
 leg_there runs p test None is e = cc
 leg_there runs p test (Some z) is e = (z, is)
@@ -118,12 +118,12 @@ none_of test (x ∷ xs) e =
 -- a property of all runs and legs holds of each
 pub each_holder : (P : Holder → Type 0) (runs : List RunState) (h : Holder) → AllByRecursion P (all_holders runs) → IsOneOf runs h → P h
 each_holder P runs (Run r) all there =
-    let of_runs = (each_of_append P (map (λ x. Run x.0) (placed runs)) (map (λ p. Leg p) (leg_places runs)) all).0 in
+    let of_runs = (each_of_append P (map (λ x. Run x.0) (placed runs)) (map (λ p. Leg p) (leg_sites runs)) all).0 in
     each_of_placed (λ (x : ℕ × RunState). P (Run x.0)) runs r there.0
     (each_of_map P (λ (x : ℕ × RunState). Run x.0) (placed runs) of_runs) there.1
 each_holder P runs (Leg p) all there =
-    let of_legs = (each_of_append P (map (λ x. Run x.0) (placed runs)) (map (λ p. Leg p) (leg_places runs)) all).1 in
-    each_leg_place (λ q. P (Leg q)) runs p there.0 (each_of_map P (λ q. Leg q) (leg_places runs) of_legs) there.1
+    let of_legs = (each_of_append P (map (λ x. Run x.0) (placed runs)) (map (λ p. Leg p) (leg_sites runs)) all).1 in
+    each_leg_place (λ q. P (Leg q)) runs p there.0 (each_of_map P (λ q. Leg q) (leg_sites runs) of_legs) there.1
 
 pub not_taken : (runs : List RunState) (g : Group) (h : Holder) → is_taken runs g ≡ false → is_in_progress_in runs g h ≡ true → ⊥
 not_taken runs g h free e =

@@ -9,12 +9,12 @@ use Rattle.run_states.specs.Arrivals.{arrived}
 use Rattle.run_states.specs.Groups.{HasOneEach, holds, leg_holds, leg_waits, may_start, run_waits, waits}
 use Rattle.run_states.specs.Moves.{Transition}
 use Rattle.run_states.specs.Places.{leg_at, run_at, with_job, with_leg, with_run}
-use Rattle.run_states.specs.declared.place.LegPlace.{LegPlace}
+use Rattle.run_states.specs.declared.place.LegSite.{LegSite}
 use Rattle.run_states.specs.Rules.{decided, may_run, result_at, rule_at, with_leg_in}
 use Rattle.run_states.specs.RunState.{LegState, RunState}
 use Rattle.run_states.specs.Settling.{first_rule, settled}
 use Rattle.run_states.specs.StateWords.{is_live, leg_in_phase, new_leg, opened, run_in_phase}
-use Rattle.run_states.specs.StateWords.{settled_as}
+use Rattle.run_states.specs.StateWords.{finished_as}
 use Rattle.run_states.specs.Words.{is_stopping, planned_legs}
 use Rattle.run_states.specs.declared.phases.LegPhase.{LegPhase}
 use Rattle.run_states.specs.declared.phases.LegPhase.TheVariants as leg
@@ -48,7 +48,7 @@ never : (b c : Bool) → b ≡ false → b ≡ true → c ≡ true
 never b c fails e = let both : false ≡ true = sym fails ∙ e in cc
 
 pub made_fades : (may stopping : Bool) (planned : ℕ)
-    → JobFades (if may then opened planned else settled_as (if stopping then result.Cancelled else result.Skipped))
+    → JobFades (if may then opened planned else finished_as (if stopping then result.Cancelled else result.Skipped))
 made_fades true stopping planned = record {
   waited = (λ l y e. never (passes (leg_passes leg_waits) (slice_get (replicate planned new_leg) l)) (job_passes leg_waits l y)
       (replicate_fails leg_waits refl planned l) e);
@@ -62,9 +62,9 @@ decided_fades runs r j = job_fades (decided runs r j) r j runs (made_fades (may_
 
 -- ---- a leg is set to a phase
 
-module _ (runs : List RunState) (p : LegPlace) (z : LegState) (was : leg_at runs p ≡ Some z) (f : LegState → LegState) where
+module _ (runs : List RunState) (p : LegSite) (z : LegState) (was : leg_at runs p ≡ Some z) (f : LegState → LegState) where
   -- a leg passes a test of its phase as before, unless it is the one whose phase is set
-  set_passes : (test : LegPhase → Bool) (q : LegPlace) → passes (leg_passes test) (leg_at (with_leg p f runs) q) ≡ true
+  set_passes : (test : LegPhase → Bool) (q : LegSite) → passes (leg_passes test) (leg_at (with_leg p f runs) q) ≡ true
       → (Leg q ≡ Leg p) ⊎ (passes (leg_passes test) (leg_at runs q) ≡ true)
   set_passes test q e =
       elim (place_or_another q p) [
@@ -89,7 +89,7 @@ module _ (runs : List RunState) (p : LegPlace) (z : LegState) (was : leg_at runs
 fades_one_each : (runs next : List RunState) → RunsFit runs → Settles runs next → Fades runs next → HasOneEach runs → HasOneEach next
 fades_one_each runs next fit settles fades each = fading_keeps runs next (groups_stay runs next fit settles.stay) fades each
 
-own_cancelled_one_each : (runs : List RunState) (p : LegPlace) (z : LegState) → RunsFit runs → leg_at runs p ≡ Some z → z.phase ≡ leg.New
+own_cancelled_one_each : (runs : List RunState) (p : LegSite) (z : LegState) → RunsFit runs → leg_at runs p ≡ Some z → z.phase ≡ leg.New
     → HasOneEach runs → HasOneEach (with_leg_in (leg.Ended outcome.Cancelled) p runs)
 own_cancelled_one_each runs p z fit was is each =
     fades_one_each runs (with_leg_in (leg.Ended outcome.Cancelled) p runs) fit
@@ -97,14 +97,14 @@ own_cancelled_one_each runs p z fit was is each =
     (leg_fades (leg_in_phase (leg.Ended outcome.Cancelled)) p runs (λ v e. absurd (false≢true e)) (λ v e. absurd (false≢true e))) each
 
 -- the leg waits, and every other holder waits or holds only if it did before
-pub newcomer_comes : (runs : List RunState) (p : LegPlace) (z : LegState) → leg_at runs p ≡ Some z
+pub newcomer_comes : (runs : List RunState) (p : LegSite) (z : LegState) → leg_at runs p ≡ Some z
     → Comes runs (with_leg_in leg.Waiting p runs) (Leg p)
 newcomer_comes runs p z was = record {
   waited = set_waits runs p z was (leg_in_phase leg.Waiting);
   held = holds_before_leg (leg_in_phase leg.Waiting) p runs (λ v e. absurd (false≢true e));
 }
 
-arrived_one_each : (runs : List RunState) (p : LegPlace) (z : LegState) → RunsFit runs → leg_at runs p ≡ Some z → z.phase ≡ leg.New
+arrived_one_each : (runs : List RunState) (p : LegSite) (z : LegState) → RunsFit runs → leg_at runs p ≡ Some z → z.phase ≡ leg.New
     → HasOneEach runs → HasOneEach (arrived (Leg p) (with_leg_in leg.Waiting p runs)).runs
 arrived_one_each runs p z fit was is each =
     let next = with_leg_in leg.Waiting p runs in
@@ -115,7 +115,7 @@ arrived_one_each runs p z fit was is each =
 
 -- ---- a leg starts
 
-starting_one_each : (runs : List RunState) (p : LegPlace) (z : LegState) → RunsFit runs → leg_at runs p ≡ Some z → z.phase ≡ leg.Waiting
+starting_one_each : (runs : List RunState) (p : LegSite) (z : LegState) → RunsFit runs → leg_at runs p ≡ Some z → z.phase ≡ leg.Waiting
     → may_start runs (Leg p) ≡ true → HasOneEach runs → HasOneEach (with_leg_in leg.Ready p runs)
 starting_one_each runs p z fit was is may each =
     let starts : Starts runs (with_leg_in leg.Ready p runs) (Leg p) = record {
@@ -174,7 +174,7 @@ each_one_each runs fit =
       leg_arrives = (λ p z was is live each. arrived_one_each runs p z fit was is each);
       leg_starts = (λ p z was is may live each. starting_one_each runs p z fit was is may each);
       job_settles = (λ r j y was done live each.
-          let close = settled_as (result_at runs r j y) in
+          let close = finished_as (result_at runs r j y) in
           fades_one_each runs (with_job r j close runs) fit (settles.job_settles r j y was done live)
           (job_fades close r j runs (record { waited = (λ l v e. e); held = (λ l v e. e) })) each);
       run_starts = (λ r x was is may live each. run_starts_one_each runs r x fit was may each);

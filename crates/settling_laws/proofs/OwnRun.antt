@@ -2,10 +2,10 @@
 use Rattle.std.specs.Prelude.{◌≡◌, ℕ, List, Some}
 use Rattle.run_states.specs.Moves.{Transition}
 use Rattle.run_states.specs.Places.{run_at}
-use Rattle.run_states.specs.Rules.{rule_at, run_of_place}
+use Rattle.run_states.specs.Rules.{rule_at, run_of_site}
 use Rattle.run_states.specs.Rules.{IsNoArrival, decided, result_at}
 use Rattle.run_states.specs.RunState.{RunState}
-use Rattle.run_states.specs.StateWords.{leg_in_phase, run_in_phase, settled_as}
+use Rattle.run_states.specs.StateWords.{leg_in_phase, run_in_phase, finished_as}
 use Rattle.run_states.specs.declared.phases.LegPhase.TheVariants as leg
 use Rattle.run_states.specs.declared.phases.RunPhase.TheVariants as run
 use Rattle.run_states.specs.declared.place.RuleSite.{RuleSite}
@@ -14,15 +14,15 @@ use Rattle.run_states.proofs.JobKeeps.{with_job_of, with_leg_of}
 use Rattle.settling_laws.proofs.EachRule.{by_rule}
 
 pub own_run_alone : (runs : List RunState) (m : Transition) (place : RuleSite) (r : ℕ) → rule_at runs place ≡ Some m → IsNoArrival runs place
-    → (r ≡ run_of_place place → ⊥) → run_at m.runs r ≡ run_at runs r
+    → (r ≡ run_of_site place → ⊥) → run_at m.runs r ≡ run_at runs r
 own_run_alone runs m place r =
-    by_rule runs (λ at made. IsNoArrival runs at → (r ≡ run_of_place at → ⊥) → run_at made.runs r ≡ run_at runs r)
+    by_rule runs (λ at made. IsNoArrival runs at → (r ≡ run_of_site at → ⊥) → run_at made.runs r ≡ run_at runs r)
     (record {
       job_opens = (λ i j y was blocked needs plain. at_another i (with_job_of j (decided runs i j)) runs r);
       leg_is_cancelled = (λ p z was is plain. absurd (plain z was is));
       leg_arrives = (λ p z was is plain. absurd (plain z was is));
       leg_starts = (λ p z was is may plain. at_another p.run (with_job_of p.job (with_leg_of p.leg (leg_in_phase leg.Ready))) runs r);
-      job_settles = (λ i j y was done plain. at_another i (with_job_of j (settled_as (result_at runs i j y))) runs r);
+      job_settles = (λ i j y was done plain. at_another i (with_job_of j (finished_as (result_at runs i j y))) runs r);
       run_starts = (λ i x was is may plain. at_another i (run_in_phase run.Live) runs r);
       run_ends = (λ i x was is settled plain. at_another i (run_in_phase run.Ended) runs r);
     }) m place

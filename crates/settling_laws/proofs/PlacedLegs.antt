@@ -6,8 +6,8 @@ use Rattle.std.proofs.Common.{arith, ap, ap₂, ◌∙◌}
 use Rattle.std.proofs.lemmas.List.{map-append}
 use Rattle.run_states.specs.FirstOf.{first_some, placed}
 use Rattle.run_states.specs.PlacedLegs.{PlacedLeg, placed_leg, placed_legs, placed_legs_of_job, placed_legs_of_run}
-use Rattle.run_states.specs.Places.{leg_at, leg_place, leg_places_of_job, leg_places_of_run}
-use Rattle.run_states.specs.declared.place.LegPlace.{LegPlace}
+use Rattle.run_states.specs.Places.{leg_at, leg_site, leg_sites_of_job, leg_sites_of_run}
+use Rattle.run_states.specs.declared.place.LegSite.{LegSite}
 use Rattle.run_states.specs.RunState.{LegState, JobState, RunState}
 use Rattle.run_states.proofs.Found.{all_flat_map, all_weaken, each_of_flat_map, each_of_map, each_of_placed, placed_get}
 use Rattle.run_states.proofs.JobKeeps.{leg_in}
@@ -15,20 +15,20 @@ use Rattle.run_states.proofs.JobKeeps.{leg_in}
 -- ---- the first leg of a job that passes a test
 
 -- what is given for the first of these legs that passes it
-abbrev pub first_passing : {Y : Type 0} → (LegPlace → LegState → Bool) → (LegPlace → Y) → List PlacedLeg → Option Y
+abbrev pub first_passing : {Y : Type 0} → (LegSite → LegState → Bool) → (LegSite → Y) → List PlacedLeg → Option Y
 first_passing test give legs = first_some (λ x. if test x.place x.leg then Some (give x.place) else None) legs
 
 first_some-map : {X Y Z : Type 0} (f : Y → Option Z) (g : X → Y) (xs : List X) → first_some f (map g xs) ≡ first_some (λ x. f (g x)) xs
 first_some-map f g [] = refl
 first_some-map f g (x ∷ xs) = ap (option_or (f (g x))) (first_some-map f g xs)
 
-pub first_passing_in_job : {Y : Type 0} (test : LegPlace → LegState → Bool) (give : LegPlace → Y) (r j : ℕ) (legs : List LegState)
+pub first_passing_in_job : {Y : Type 0} (test : LegSite → LegState → Bool) (give : LegSite → Y) (r j : ℕ) (legs : List LegState)
     → first_passing test give (map (placed_leg r j) (placed legs))
-    ≡ first_some (λ l. if test (leg_place r j l.0) l.1 then Some (give (leg_place r j l.0)) else None) (placed legs)
+    ≡ first_some (λ l. if test (leg_site r j l.0) l.1 then Some (give (leg_site r j l.0)) else None) (placed legs)
 first_passing_in_job test give r j legs = first_some-map (λ x. if test x.place x.leg then Some (give x.place) else None) (placed_leg r j) (placed legs)
 
 -- a place of one of the first legs of a job
-pub record IsInJob (r j most : ℕ) (p : LegPlace) : Type 0 where
+pub record IsInJob (r j most : ℕ) (p : LegSite) : Type 0 where
   pub run : p.run ≡ r
   pub job : p.job ≡ j
   pub leg : p.leg < most
@@ -54,9 +54,9 @@ map_flat_map : {X Y Z : Type 0} (g : Y → Z) (f : X → List Y) (h : X → List
 map_flat_map g f h same [] = refl
 map_flat_map g f h same (x ∷ xs) = map-append g (f x) (flat_map f xs) ∙ ap₂ (λ ys zs. ys ++ zs) (same x) (map_flat_map g f h same xs)
 
-pub places_of_run : (r : ℕ × RunState) → map (λ (x : PlacedLeg). x.place) (placed_legs_of_run r) ≡ leg_places_of_run r
+pub places_of_run : (r : ℕ × RunState) → map (λ (x : PlacedLeg). x.place) (placed_legs_of_run r) ≡ leg_sites_of_run r
 places_of_run r =
-    map_flat_map (λ (x : PlacedLeg). x.place) (placed_legs_of_job r.0) (leg_places_of_job r.0)
+    map_flat_map (λ (x : PlacedLeg). x.place) (placed_legs_of_job r.0) (leg_sites_of_job r.0)
     (λ j. map_map (λ (x : PlacedLeg). x.place) (placed_leg r.0 j.0) (placed j.1.legs)) (placed r.1.jobs)
 
 -- ---- each is at its place
@@ -83,7 +83,7 @@ module _ (P : PlacedLeg → Type 0) (r : ℕ) (run : RunState)
 
 pub leg_there : (runs : List RunState) (r j : ℕ) (run : RunState) (job : JobState) → slice_get runs r ≡ Some run
     → slice_get run.jobs j ≡ Some job → (l : ℕ) (leg : LegState) → slice_get job.legs l ≡ Some leg
-    → leg_at runs (leg_place r j l) ≡ Some leg
+    → leg_at runs (leg_site r j l) ≡ Some leg
 leg_there runs r j run job at_run at_job l leg at =
     ap (λ o. option_and_then (λ x. slice_get x.legs l) (option_and_then (λ x. slice_get x.jobs j) o)) at_run
     ∙ ap (option_and_then (λ x. slice_get x.legs l)) at_job ∙ at
@@ -101,7 +101,7 @@ module _ (runs : List RunState) where
 
 -- ---- a property of all of them holds of each leg of the table
 
-pub each_placed : (P : PlacedLeg → Type 0) (runs : List RunState) (p : LegPlace) (z : LegState) → AllByRecursion P (placed_legs runs)
+pub each_placed : (P : PlacedLeg → Type 0) (runs : List RunState) (p : LegSite) (z : LegState) → AllByRecursion P (placed_legs runs)
     → leg_at runs p ≡ Some z → P (record { place = p; leg = z })
 each_placed P runs p z all e =
     let at = leg_in runs p z e in

@@ -11,11 +11,11 @@ use Rattle.run_states.specs.Groups.{holds, leg_holds}
 use Rattle.run_states.specs.Resuming.{is_new_at, makes_room, may_invalidate_others}
 use Rattle.run_states.specs.Moves.{Transition}
 use Rattle.run_states.specs.Places.{job_at, leg_at, with_job, with_run}
-use Rattle.run_states.specs.declared.place.LegPlace.{LegPlace}
+use Rattle.run_states.specs.declared.place.LegSite.{LegSite}
 use Rattle.run_states.specs.Rules.{decided, result_at, rule_at, with_leg_in}
 use Rattle.run_states.specs.RunState.{LegState, JobState, RunState}
-use Rattle.run_states.specs.Settling.{first_place}
-use Rattle.run_states.specs.StateWords.{is_blocked, is_live, is_new, leg_in_phase, run_in_phase, settled_as}
+use Rattle.run_states.specs.Settling.{first_site}
+use Rattle.run_states.specs.StateWords.{is_blocked, is_live, is_new, leg_in_phase, run_in_phase, finished_as}
 use Rattle.run_states.specs.Words.{planned_legs}
 use Rattle.run_states.specs.declared.phases.LegPhase.{LegPhase}
 use Rattle.run_states.specs.declared.phases.LegPhase.TheVariants as leg
@@ -52,7 +52,7 @@ no_room true makes e quiet = quiet
 no_room false makes e quiet = cc
 
 -- a leg whose arrival affects no other holder leaves all others as they are
-arrives_alone : (runs : List RunState) (p : LegPlace) (z : LegState) → RunsFit runs → leg_at runs p ≡ Some z → z.phase ≡ leg.New
+arrives_alone : (runs : List RunState) (p : LegSite) (z : LegState) → RunsFit runs → leg_at runs p ≡ Some z → z.phase ≡ leg.New
     → may_invalidate_others runs (AtLeg p) ≡ false → with_leg_in leg.Waiting p runs ≡ (arrived (Leg p) (with_leg_in leg.Waiting p runs)).runs
 arrives_alone runs p z fit was is quiet =
     let next = with_leg_in leg.Waiting p runs in
@@ -86,7 +86,7 @@ each_changes runs fit = record {
   leg_arrives = (λ p z was is quiet.
       record { change = with_leg_of p.leg (leg_in_phase leg.Waiting); is = arrives_alone runs p z fit was is quiet });
   leg_starts = (λ p z was is may quiet. record { change = with_leg_of p.leg (leg_in_phase leg.Ready); is = refl });
-  job_settles = (λ r j y was done quiet. record { change = settled_as (result_at runs r j y); is = refl });
+  job_settles = (λ r j y was done quiet. record { change = finished_as (result_at runs r j y); is = refl });
   run_starts = (λ r x was is may quiet. record { change = run_in_phase run.Live; is = refl });
   run_ends = (λ r x was is all quiet. record { change = run_in_phase run.Ended; is = refl });
 }
@@ -155,7 +155,7 @@ ended_still_holds runs r none (Run s) g of e =
 ended_still_holds runs r none (Leg p) g of e = legs_still_hold (run_in_phase run.Ended) r runs p (λ x at now. now) e
 
 -- a leg that does not hold its group advances
-leg_goes_still : (runs : List RunState) (p : LegPlace) (z : LegState) (to : LegPhase) → leg_at runs p ≡ Some z → leg_holds z.phase ≡ false
+leg_goes_still : (runs : List RunState) (p : LegSite) (z : LegState) (to : LegPhase) → leg_at runs p ≡ Some z → leg_holds z.phase ≡ false
     → StillHold runs (with_leg_in to p runs)
 leg_goes_still runs p z to was held_not h g of e = leg_still_holds runs p z (leg_in_phase to) was held_not h e
 
@@ -168,14 +168,14 @@ each_still_holds runs fit = record {
       (leg_goes_still runs p z leg.Waiting was (ap leg_holds is)));
   leg_starts = (λ p z was is may quiet. leg_goes_still runs p z leg.Ready was (ap leg_holds is));
   job_settles = (λ r j y was done quiet h g of e.
-      job_still_holds runs r j (settled_as (result_at runs r j y)) (λ v at l now. now) h e);
+      job_still_holds runs r j (finished_as (result_at runs r j y)) (λ v at l now. now) h e);
   run_starts = (λ r x was is may quiet h g of e. live_still_holds runs r h e);
   run_ends = (λ r x was is all quiet.
       let live : holds runs (Run r) ≡ true = ap (passes (λ (v : RunState). is_live v.phase)) was ∙ ap is_live is in
       ended_still_holds runs r (no_group (holds runs (Run r)) (group_at runs (Run r)) live quiet));
 }
 
-pub quiet_keeps_back : (runs : List RunState) (m : Transition) (p : RuleSite) → RunsFit runs → first_place runs ≡ Some p → rule_at runs p ≡ Some m
+pub quiet_keeps_back : (runs : List RunState) (m : Transition) (p : RuleSite) → RunsFit runs → first_site runs ≡ Some p → rule_at runs p ≡ Some m
     → may_invalidate_others runs p ≡ false → KeepsBack runs m.runs
 quiet_keeps_back runs m p fit first is quiet =
     kept_back runs m.runs (groups_stay runs m.runs fit (rule_settles runs m p fit (first_place_is_live runs p first) is).stay)

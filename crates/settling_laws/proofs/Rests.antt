@@ -5,7 +5,7 @@ use Rattle.std.proofs.Common.{arith, ap, sym, ◌∙◌}
 use Rattle.run_states.specs.Moves.{Transition, and_then, without_moves}
 use Rattle.run_states.specs.Rules.{rule_at}
 use Rattle.run_states.specs.RunState.{RunState}
-use Rattle.run_states.specs.Settling.{applies, first_place, first_rule, remaining_phases, settled_within, settled, settling}
+use Rattle.run_states.specs.Settling.{applies, first_site, first_rule, remaining_phases, settled_within, settled, settling}
 use Rattle.settling_laws.proofs.LivePlaces.{first_place_applies}
 use Rattle.settling_laws.proofs.Lowered.{first_rule_lowers}
 
@@ -77,14 +77,14 @@ some_rule : (b : Bool) → b ≡ true → (X : Type 0) (o : Option X) → is_som
 some_rule b e X None is none = cc
 some_rule b e X (Some x) is none = cc
 
-pub no_place : (runs : List RunState) → first_rule runs ≡ None → first_place runs ≡ None
+pub no_place : (runs : List RunState) → first_rule runs ≡ None → first_site runs ≡ None
 no_place runs h =
-    elim (first_place runs) as (λ o. first_place runs ≡ o → o ≡ None) [
+    elim (first_site runs) as (λ o. first_site runs ≡ o → o ≡ None) [
       | None ↦ λ is. refl
       | Some place ↦ λ is.
           absurd (some_rule (applies runs place) (first_place_applies runs place is) Transition (rule_at runs place) refl
           (sym (ap (option_and_then (rule_at runs)) is) ∙ h))
     ] refl
 
-pub settled_has_no_place : (runs : List RunState) → first_place (settled runs) ≡ None
+pub settled_has_no_place : (runs : List RunState) → first_site (settled runs) ≡ None
 settled_has_no_place runs = no_place (settled runs) (settled_rests runs)

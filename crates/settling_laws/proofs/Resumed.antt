@@ -12,16 +12,16 @@ use Rattle.wf_value.proofs.OptionOr.{or_nothing}
 use Rattle.needs_graph.specs.Ancestors.{dependents_of, needs_at}
 use Rattle.run_states.specs.FirstOf.{changed_at, first_some, placed}
 use Rattle.run_states.specs.Groups.{leg_waits, run_waits}
-use Rattle.run_states.specs.JobResults.{needs_in, results_so_far, settled_result}
-use Rattle.run_states.specs.Resuming.{NoneBefore, RestBefore, may_invalidate_others, has_settled, job_again, resume_point, resume_near}
+use Rattle.run_states.specs.JobResults.{needs_in, results_so_far, finished_result}
+use Rattle.run_states.specs.Resuming.{NoneBefore, RestBefore, may_invalidate_others, has_finished, job_again, resume_point, resume_near}
 use Rattle.run_states.specs.Moves.{Transition}
 use Rattle.run_states.specs.Places.{leg_at, run_at}
 use Rattle.run_states.specs.Rules.{rule_at}
 use Rattle.run_states.specs.RunState.{LegState, JobState, RunState}
-use Rattle.run_states.specs.Settling.{first_place}
+use Rattle.run_states.specs.Settling.{first_site}
 use Rattle.run_states.specs.StateWords.{is_blocked, is_done, is_live}
 use Rattle.run_states.specs.WithinRun.{first_in_job, first_in_jobs, first_in_run, first_of_legs, first_of_open, first_of_whole, goes_on}
-use Rattle.run_states.specs.WithinRun.{goes_on_in, leg_place, needs_settled_in, whole_goes_on_in}
+use Rattle.run_states.specs.WithinRun.{goes_on_in, leg_site, needs_finished_in, whole_goes_on_in}
 use Rattle.run_states.specs.Words.{all_have_results}
 use Rattle.run_states.specs.declared.phases.LegPhase.{LegPhase}
 use Rattle.run_states.specs.declared.phases.LegPhase.TheVariants as leg
@@ -49,10 +49,10 @@ at_end r j false p e = cc
 
 leg_is_at : (runs : List RunState) (r j : ℕ) (legs : List LegState) (p : RuleSite) → first_of_legs runs r j legs ≡ Some p → IsAt r j p
 leg_is_at runs r j legs p e =
-    let test : ℕ → LegState → Option RuleSite = λ l z. if goes_on runs (leg_place r j l) z then Some (AtLeg (leg_place r j l)) else None in
+    let test : ℕ → LegState → Option RuleSite = λ l z. if goes_on runs (leg_site r j l) z then Some (AtLeg (leg_site r j l)) else None in
     let first = first_at test legs p e in
     let from = from_and_then (test first.at) (slice_get legs first.at) p first.here in
-    let taken = if_some (goes_on runs (leg_place r j first.at) from.value) (AtLeg (leg_place r j first.at)) p from.gives in
+    let taken = if_some (goes_on runs (leg_site r j first.at) from.value) (AtLeg (leg_site r j first.at)) p from.gives in
     subst (IsAt r j) taken.1 (refl, refl)
 
 open_is_at : (runs : List RunState) (r j : ℕ) (y : JobState) (p : RuleSite) → first_of_open runs r j y ≡ Some p → IsAt r j p
@@ -71,7 +71,7 @@ at_the_job r j false later p other e = other e
 first_is_at : (runs : List RunState) (r : ℕ) (x : RunState) (j : ℕ) (y : JobState) (p : RuleSite) → first_in_job runs r x j y ≡ Some p
     → IsAt r j p
 first_is_at runs r x j y p e =
-    at_the_job r j (is_blocked y.phase && needs_settled_in x j) (first_of_open runs r j y) p (open_is_at runs r j y p) e
+    at_the_job r j (is_blocked y.phase && needs_finished_in x j) (first_of_open runs r j y) p (open_is_at runs r j y p) e
 
 -- the first place, if it is in a job or is the run itself
 record FoundInJob (runs : List RunState) (r : ℕ) (x : RunState) (p : RuleSite) : Type 0 where
@@ -109,7 +109,7 @@ record Found (runs : List RunState) (p : RuleSite) : Type 0 where
   was : run_at runs run ≡ Some state
   found : FoundIn runs run state p
 
-place_found : (runs : List RunState) (p : RuleSite) → first_place runs ≡ Some p → Found runs p
+place_found : (runs : List RunState) (p : RuleSite) → first_site runs ≡ Some p → Found runs p
 place_found runs p e =
     let first = first_at (first_in_run runs) runs p (sym (first_place_by_run runs) ∙ e) in
     let from = from_and_then (first_in_run runs first.at) (slice_get runs first.at) p first.here in
@@ -191,7 +191,7 @@ module _ (x : RunState) (j : ℕ) (change : JobState → JobState) where
   same_results : SameBut j (results_so_far (changed_at j change x.jobs)) (results_so_far x.jobs)
   same_results i apart =
       result_among (changed_at j change x.jobs) i
-      ∙ ap (option_and_then (λ (y : JobState). settled_result y.phase)) (at_another j change x.jobs i apart) ∙ sym (result_among x.jobs i)
+      ∙ ap (option_and_then (λ (y : JobState). finished_result y.phase)) (at_another j change x.jobs i apart) ∙ sym (result_among x.jobs i)
 
   -- if the needs of a job before the resume point have finished, they had finished before the change
   needs_had_settled : (k : ℕ) (settled : Bool) → is_some (slice_index_or (results_so_far (changed_at j change x.jobs)) j None) ≡ settled
@@ -241,11 +241,11 @@ still_none true false true p later after was rests e = let is : false ≡ true =
 still_none true false false p later after was rests e = rests e
 
 module _ (runs next : List RunState) (r : ℕ) (keeps : KeepsBackIn runs next r) where
-  leg_rests : (phase : LegPhase) (j l : ℕ) (z : LegState) → z.phase ≡ phase → leg_at runs (leg_place r j l) ≡ Some z
-      → goes_on_in phase runs (leg_place r j l) ≡ false → goes_on_in phase next (leg_place r j l) ≡ false
+  leg_rests : (phase : LegPhase) (j l : ℕ) (z : LegState) → z.phase ≡ phase → leg_at runs (leg_site r j l) ≡ Some z
+      → goes_on_in phase runs (leg_site r j l) ≡ false → goes_on_in phase next (leg_site r j l) ≡ false
   leg_rests leg.New j l z is at e = cc
   leg_rests leg.Waiting j l z is at e =
-      keeps (Leg (leg_place r j l)) refl
+      keeps (Leg (leg_site r j l)) refl
       (ap (λ o. option_map_or (λ (x : LegState). leg_waits x.phase) o false) at ∙ ap leg_waits is) e
   leg_rests leg.Ready j l z is at e = refl
   leg_rests leg.Running j l z is at e = refl
@@ -258,20 +258,20 @@ module _ (runs next : List RunState) (r : ℕ) (keeps : KeepsBackIn runs next r)
       let parts = or_nothing (first_of_legs runs r j y.legs) (if is_done y then Some (Closing r j) else None) e in
       let at = job_in_run runs r j x at_run ∙ at_job in
       or_neither_some (first_of_legs next r j y.legs) (if is_done y then Some (Closing r j) else None)
-      (none_placed (λ l. if goes_on runs (leg_place r j l.0) l.1 then Some (AtLeg (leg_place r j l.0)) else None)
-      (λ l. if goes_on next (leg_place r j l.0) l.1 then Some (AtLeg (leg_place r j l.0)) else None) y.legs
+      (none_placed (λ l. if goes_on runs (leg_site r j l.0) l.1 then Some (AtLeg (leg_site r j l.0)) else None)
+      (λ l. if goes_on next (leg_site r j l.0) l.1 then Some (AtLeg (leg_site r j l.0)) else None) y.legs
       (λ l z was none.
-      nothing_if (goes_on next (leg_place r j l) z) (AtLeg (leg_place r j l))
-      (leg_rests z.phase j l z refl (leg_in_job runs (leg_place r j l) y at ∙ was)
-      (if_none (goes_on runs (leg_place r j l) z) (AtLeg (leg_place r j l)) none))) parts.0)
+      nothing_if (goes_on next (leg_site r j l) z) (AtLeg (leg_site r j l))
+      (leg_rests z.phase j l z refl (leg_in_job runs (leg_site r j l) y at ∙ was)
+      (if_none (goes_on runs (leg_site r j l) z) (AtLeg (leg_site r j l)) none))) parts.0)
       parts.1
 
   -- a job of whose needs none has finished since
   job_rests : (j : ℕ) (x now : RunState) (y : JobState) → run_at runs r ≡ Some x → slice_get x.jobs j ≡ Some y
-      → (needs_settled_in now j ≡ true → needs_settled_in x j ≡ true)
+      → (needs_finished_in now j ≡ true → needs_finished_in x j ≡ true)
       → first_in_job runs r x j y ≡ None → first_in_job next r now j y ≡ None
   job_rests j x now y at_run at_job had e =
-      still_none (is_blocked y.phase) (needs_settled_in x j) (needs_settled_in now j) (Opening r j) (first_of_open runs r j y)
+      still_none (is_blocked y.phase) (needs_finished_in x j) (needs_finished_in now j) (Opening r j) (first_of_open runs r j y)
       (first_of_open next r j y) had (open_rests j x y at_run at_job) e
 
   jobs_of_run_rest : (x : RunState) (live : Bool) → run_at runs r ≡ Some x
@@ -317,7 +317,7 @@ module _ (runs next : List RunState) (keeps : KeepsBack runs next) where
       (job_again (record x { jobs = changed_at j change x.jobs }) j)
   jobs_rest r x j change at before k lt =
       let now : RunState = record x { jobs = changed_at j change x.jobs } in
-      let had = needs_had_settled x j change k (has_settled now j) refl lt in
+      let had = needs_had_settled x j change k (has_finished now j) refl lt in
       ap (option_and_then (first_in_job next r now k)) (at_another j change x.jobs k (λ e. absurd (omega (arith, had.0, e))))
       ∙ elim (slice_get x.jobs k) as
       (λ o. slice_get x.jobs k ≡ o → option_and_then (first_in_job runs r x k) o ≡ None
@@ -352,7 +352,7 @@ again_at next r j y (Closing s k) at is =
     ∙ ap (λ o. record { run = r; job = option_map_or (λ run. job_again run j) o j }) is
 again_at next r j y (Whole s) at is = absurd at
 
-module _ (runs : List RunState) (m : Transition) (p : RuleSite) (fit : RunsFit runs) (first : first_place runs ≡ Some p)
+module _ (runs : List RunState) (m : Transition) (p : RuleSite) (fit : RunsFit runs) (first : first_site runs ≡ Some p)
     (is : rule_at runs p ≡ Some m) (quiet : may_invalidate_others runs p ≡ false) where
   after_job : (r j : ℕ) (x : RunState) → IsAt r j p → run_at runs r ≡ Some x → NoneBefore (first_in_run runs) runs r
       → NoneBefore (first_in_job runs r x) x.jobs j → RestBefore m.runs (resume_near m.runs p)
@@ -391,7 +391,7 @@ module _ (runs : List RunState) (m : Transition) (p : RuleSite) (fit : RunsFit r
 pub rest_before_all : (runs : List RunState) → RestBefore runs (record { run = 0; job = 0 })
 rest_before_all runs = (λ k lt. absurd (omega (arith, lt)), λ run at live k lt. absurd (omega (arith, lt)))
 
-pub rest_after_rule : (runs : List RunState) (m : Transition) (p : RuleSite) → RunsFit runs → first_place runs ≡ Some p → rule_at runs p ≡ Some m
+pub rest_after_rule : (runs : List RunState) (m : Transition) (p : RuleSite) → RunsFit runs → first_site runs ≡ Some p → rule_at runs p ≡ Some m
     → RestBefore m.runs (resume_point (may_invalidate_others runs p) m.runs p)
 rest_after_rule runs m p fit first is =
     elim (may_invalidate_others runs p) as (λ b. may_invalidate_others runs p ≡ b → RestBefore m.runs (resume_point b m.runs p)) [

@@ -13,14 +13,14 @@ use Rattle.run_states.specs.FirstOf.{changed_at}
 use Rattle.run_states.specs.Moves.{Transition}
 use Rattle.run_states.specs.Parallel.{is_at_work}
 use Rattle.run_states.specs.Places.{run_at, job_at, leg_at, with_run, with_job}
-use Rattle.run_states.specs.declared.place.LegPlace.{LegPlace}
+use Rattle.run_states.specs.declared.place.LegSite.{LegSite}
 use Rattle.run_states.specs.Rules.{decided, may_run, result_at, rule_at, with_leg_in}
 use Rattle.run_states.specs.RunState.{LegState, JobState, RunState}
 use Rattle.run_states.specs.SoundRuns.{PhaseFits, MayLackLegs, LeaseFits}
-use Rattle.run_states.specs.StateWords.{leg_has_ended, is_done, is_open, is_settled, leg_in_phase, new_leg, opened, outcome_of}
+use Rattle.run_states.specs.StateWords.{leg_has_ended, is_done, is_open, is_finished, leg_in_phase, new_leg, opened, outcome_of}
 use Rattle.run_states.specs.StateWords.{run_in_phase}
-use Rattle.run_states.specs.StateWords.{settled_as}
-use Rattle.run_states.specs.Words.{needs_have_settled, is_stopping, planned_legs, settled_result}
+use Rattle.run_states.specs.StateWords.{finished_as}
+use Rattle.run_states.specs.Words.{needs_have_finished, is_stopping, planned_legs, finished_result}
 use Rattle.run_states.specs.declared.phases.JobPhase.{JobPhase}
 use Rattle.run_states.specs.declared.phases.JobPhase.TheVariants as job
 use Rattle.run_states.specs.declared.phases.LegPhase.{LegPhase}
@@ -47,7 +47,7 @@ pub record GoesOn (before after : LegPhase) (lease : Option ℕ) : Type 0 where
   pub fits : LeaseFits after lease
   pub works : is_at_work after ≡ is_at_work before
 
-pub leg_goes : (runs : List RunState) (p : LegPlace) (z : LegState) (to : LegPhase) → RunsFit runs → leg_at runs p ≡ Some z
+pub leg_goes : (runs : List RunState) (p : LegSite) (z : LegState) (to : LegPhase) → RunsFit runs → leg_at runs p ≡ Some z
     → GoesOn z.phase to z.lease → Settles runs (with_leg_in to p runs)
 leg_goes runs p z to fit was on =
     leg_settles runs fit p z (leg_in_phase to) (leg_in runs p z was) on.unended on.fits refl
@@ -78,7 +78,7 @@ waiting_starts leg.Stopping lease e fits = cc
 waiting_starts (leg.Ended r) lease e fits = cc
 
 -- the runs in which a new leg has begun to wait
-pub newcomer_waits : (runs : List RunState) (p : LegPlace) (z : LegState) → RunsFit runs → leg_at runs p ≡ Some z → z.phase ≡ leg.New
+pub newcomer_waits : (runs : List RunState) (p : LegSite) (z : LegState) → RunsFit runs → leg_at runs p ≡ Some z → z.phase ≡ leg.New
     → Settles runs (with_leg_in leg.Waiting p runs)
 newcomer_waits runs p z fit was is = leg_goes runs p z leg.Waiting fit was (new_waits z.phase z.lease is (leases_fit runs fit p z was))
 
@@ -99,7 +99,7 @@ nothing_there f legs l none = ap (λ (xs : List LegState). option_and_then f (sl
 
 -- what becomes of a blocked job
 abbrev made : Bool → ℕ → Bool → JobState → JobState
-made may planned stopping = if may then opened planned else settled_as (if stopping then result.Cancelled else result.Skipped)
+made may planned stopping = if may then opened planned else finished_as (if stopping then result.Cancelled else result.Skipped)
 
 may_lack_legs : (stopping : Bool) → MayLackLegs (if stopping then result.Cancelled else result.Skipped)
 may_lack_legs true = tt
@@ -122,12 +122,12 @@ made_reads : (f : LegState → Option ℕ) → f new_leg ≡ None → (may : Boo
 made_reads f new true planned stopping y none l = nothing_new f new planned l ∙ sym (nothing_there f y.legs l none)
 made_reads f new false planned stopping y none l = refl
 
-no_result : (phase : JobPhase) (a : JobResult) (o : Option JobResult) → settled_result phase ≡ None → settled_result phase ≡ Some a
+no_result : (phase : JobPhase) (a : JobResult) (o : Option JobResult) → finished_result phase ≡ None → finished_result phase ≡ Some a
     → o ≡ Some a
 no_result phase a o none some = cc
 
 opening_settles : (runs : List RunState) (r j : ℕ) (y : JobState) → RunsFit runs → LivePlace runs (Opening r j) → job_at runs r j ≡ Some y
-    → y.phase ≡ job.Blocked → needs_have_settled runs r j ≡ true → Settles runs (with_job r j (decided runs r j) runs)
+    → y.phase ≡ job.Blocked → needs_have_finished runs r j ≡ true → Settles runs (with_job r j (decided runs r j) runs)
 opening_settles runs r j y fit live was blocked settled =
     let at = job_in runs r j y was in
     let x = at.run in
@@ -140,7 +140,7 @@ opening_settles runs r j y fit live was blocked settled =
     (live_fits x.phase x.stopping (changed_at j (decided runs r j) x.jobs) is_live)
     (made_fits (may_run runs r j) (planned_legs runs r j) (is_stopping runs r) y (result_at runs r j (decided runs r j y)) none)
     (record {
-      keeps_result = (λ a e. no_result y.phase a (settled_result (decided runs r j y).phase) (ap settled_result blocked) e);
+      keeps_result = (λ a e. no_result y.phase a (finished_result (decided runs r j y).phase) (ap finished_result blocked) e);
       needs_first = (λ some. settled);
     })
     (made_reads (λ (z : LegState). z.lease) refl (may_run runs r j) (planned_legs runs r j) (is_stopping runs r) y none)
@@ -149,9 +149,9 @@ opening_settles runs r j y fit live was blocked settled =
 -- ---- a job finishes
 
 closing_settles : (runs : List RunState) (r j : ℕ) (y : JobState) → RunsFit runs → job_at runs r j ≡ Some y → is_done y ≡ true
-    → Settles runs (with_job r j (settled_as (result_at runs r j y)) runs)
+    → Settles runs (with_job r j (finished_as (result_at runs r j y)) runs)
 closing_settles runs r j y fit was is =
-    let close = settled_as (result_at runs r j y) in
+    let close = finished_as (result_at runs r j y) in
     let done = and_parts (is_open y.phase) (list_all leg_has_ended y.legs) is in
     let at = job_in runs r j y was in
     let x = at.run in
@@ -164,7 +164,7 @@ closing_settles runs r j y fit was is =
     (job_keeps runs r x run_fits j y close at.job_is (live_fits x.phase x.stopping (changed_at j close x.jobs) live)
     (record { legs_fit = inr (planned, done.1, refl); leases_fit = fits.leases_fit })
     (record {
-      keeps_result = (λ a e. no_result y.phase a (settled_result (close y).phase) (ap settled_result is_open) e);
+      keeps_result = (λ a e. no_result y.phase a (finished_result (close y).phase) (ap finished_result is_open) e);
       needs_first = (λ some. run_fits.needs_first j y at.job_is some);
     }) (λ l. refl) (λ l. refl))
 
@@ -205,7 +205,7 @@ each_settles runs fit = record {
       leg_goes runs p z leg.Ready fit was (waiting_starts z.phase z.lease is (leases_fit runs fit p z was)));
   job_settles = (λ r j y was done live. closing_settles runs r j y fit was done);
   run_starts = (λ r x was is may live. phase_settles runs r x run.Live fit was tt);
-  run_ends = (λ r x was is all live. phase_settles runs r x run.Ended fit was (λ j y at. each_passes is_settled x.jobs j y all at));
+  run_ends = (λ r x was is all live. phase_settles runs r x run.Ended fit was (λ j y at. each_passes is_finished x.jobs j y all at));
 }
 
 pub rule_settles : (runs : List RunState) (m : Transition) (place : RuleSite) → RunsFit runs → LivePlace runs place → rule_at runs place ≡ Some m

@@ -4,7 +4,7 @@ use Rattle.std.specs.Option.{option_map_or}
 use Rattle.run_states.specs.Moves.{Transition, and_then, without_moves}
 use Rattle.run_states.specs.Rules.{rule_at}
 use Rattle.run_states.specs.RunState.{RunState}
-use Rattle.run_states.specs.Settling.{first_place, first_rule, remaining_phases, settled_within, settled}
+use Rattle.run_states.specs.Settling.{first_site, first_rule, remaining_phases, settled_within, settled}
 use Rattle.run_states.specs.declared.place.RuleSite.{RuleSite}
 use Rattle.run_states.proofs.Optional.{from_and_then}
 use Rattle.run_states.proofs.RunFits.{RunsFit}
@@ -14,7 +14,7 @@ use Rattle.settling_laws.proofs.RuleKeeps.{rule_settles}
 
 pub first_rule_settles : (runs : List RunState) (m : Transition) → RunsFit runs → first_rule runs ≡ Some m → Settles runs m.runs
 first_rule_settles runs m fit h =
-    let made = from_and_then (rule_at runs) (first_place runs) m h in
+    let made = from_and_then (rule_at runs) (first_site runs) m h in
     rule_settles runs m made.value fit (first_place_is_live runs made.value made.is) made.gives
 
 pub settles_within : (n : ℕ) (runs : List RunState) → RunsFit runs → Settles runs (settled_within n runs).runs
@@ -42,7 +42,7 @@ pub first_rule_keeps : (Keeps : List RunState → Type 0) → RulesKeep Keeps �
     → first_rule runs ≡ Some m
     → Keeps runs → Keeps m.runs
 first_rule_keeps Keeps each_rule runs m fit h kept =
-    let made = from_and_then (rule_at runs) (first_place runs) m h in
+    let made = from_and_then (rule_at runs) (first_site runs) m h in
     each_rule runs m made.value fit (first_place_is_live runs made.value made.is) made.gives kept
 
 keeps_within : (Keeps : List RunState → Type 0) → RulesKeep Keeps → (n : ℕ) (runs : List RunState) → RunsFit runs → Keeps runs

@@ -5,13 +5,13 @@ use Rattle.run_states.specs.SoundRuns.{RunsAreSound}
 use Rattle.run_states.proofs.RunFits.{RunsFit, jobs_are_the_plans, jobs_fit, leases_fit, needs_come_first, run_phases_fit, runs_fit}
 
 pub runs_that_fit : (runs : List RunState) → RunsAreSound runs → RunsFit runs
-runs_that_fit runs s = runs_fit runs s.jobs_are_the_plans s.run_phases_fit s.jobs_fit s.needs_settled_first s.leases_fit
+runs_that_fit runs s = runs_fit runs s.jobs_are_the_plans s.run_phases_fit s.jobs_fit s.needs_finished_first s.leases_fit
 
 pub sound_runs : (runs : List RunState) → RunsFit runs → RunsAreSound runs
 sound_runs runs fit = record {
   jobs_are_the_plans = jobs_are_the_plans runs fit;
   run_phases_fit = run_phases_fit runs fit;
   jobs_fit = jobs_fit runs fit;
-  needs_settled_first = needs_come_first runs fit;
+  needs_finished_first = needs_come_first runs fit;
   leases_fit = leases_fit runs fit;
 }

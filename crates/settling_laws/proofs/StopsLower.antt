@@ -16,7 +16,7 @@ use Rattle.run_states.specs.Moves.{Transition, at_each, without_moves}
 use Rattle.run_states.specs.RunConditions.{may_run_in}
 use Rattle.run_states.specs.RunState.{LegState, JobState, RunState}
 use Rattle.run_states.specs.Settling.{job_left, leg_left, leg_phases_left, remaining_phases, legs_in_plan, run_left}
-use Rattle.run_states.specs.StateWords.{is_open, settled_as}
+use Rattle.run_states.specs.StateWords.{is_open, finished_as}
 use Rattle.run_states.specs.StopMoves.{displace, stop_holder}
 use Rattle.run_states.specs.Stops.{cancelled, stopped, stopped_in, stopped_phase, stopped_run, stopped_where, with_stop_requested}
 use Rattle.run_states.specs.Stops.{with_stopped_legs}
@@ -122,7 +122,7 @@ where_stopped planned b y =
       | false ↦ omega arith
     ]
 
-settled_lowers : (planned : ℕ) (y : JobState) → job_left planned (settled_as result.Cancelled y) ≤ job_left planned y
+settled_lowers : (planned : ℕ) (y : JobState) → job_left planned (finished_as result.Cancelled y) ≤ job_left planned y
 settled_lowers planned y = omega arith
 
 -- the phases that remain for job `j` of a run
@@ -138,7 +138,7 @@ told_lowers x =
 
 cancelled_lowers : (x : RunState) → run_left (cancelled x) ≤ run_left x
 cancelled_lowers x =
-    let less = placed_sum_of_map (left_in x) (settled_as result.Cancelled) x.jobs 0
+    let less = placed_sum_of_map (left_in x) (finished_as result.Cancelled) x.jobs 0
     (λ m y. settled_lowers (legs_in_plan (plan_of x.admitted.body) m) y) in
     omega (arith, less)
 

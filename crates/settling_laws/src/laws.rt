@@ -3,8 +3,8 @@
 ghost use Rattle.std.specs.Prelude.{◌≡◌, ◌<◌, ℕ, List, Some, None};
 ghost use Rattle.run_states.specs.Moves.{Transition, and_then};
 ghost use Rattle.run_states.specs.Places.{run_at};
-ghost use Rattle.run_states.specs.Rules.{IsNoArrival, rule_at, run_of_place};
-ghost use Rattle.run_states.specs.Settling.{first_place, first_rule, remaining_phases, settled, settling};
+ghost use Rattle.run_states.specs.Rules.{IsNoArrival, rule_at, run_of_site};
+ghost use Rattle.run_states.specs.Settling.{first_site, first_rule, remaining_phases, settled, settling};
 ghost use Rattle.run_states.specs.RunState.{RunState};
 ghost use Rattle.run_states.specs.declared.place.RuleSite.{RuleSite};
 
@@ -15,7 +15,7 @@ pub fn each_rule_lowers()
 
 /// After settling no rule applies.
 pub fn settled_runs_rest()
-    ensures { (runs : List RunState) → first_place (settled runs) ≡ None }
+    ensures { (runs : List RunState) → first_site (settled runs) ≡ None }
 {}
 
 /// Applying the first rule and then settling gives the same as settling.
@@ -27,5 +27,5 @@ pub fn rules_lead_to_one_end()
 /// other runs.
 pub fn rules_touch_one_run()
     ensures { (runs : List RunState) (next : Transition) (place : RuleSite) (r : ℕ) → rule_at runs place ≡ Some next
-        → IsNoArrival runs place → (r ≡ run_of_place place → ⊥) → run_at next.runs r ≡ run_at runs r }
+        → IsNoArrival runs place → (r ≡ run_of_site place → ⊥) → run_at next.runs r ≡ run_at runs r }
 {}

@@ -29,7 +29,7 @@ use Rattle.run_states.specs.Places.{run_at}
 use Rattle.run_states.specs.RunState.{RunState}
 use Rattle.run_states.specs.declared.phases.RunPhase.{RunPhase}
 use Rattle.run_states.specs.declared.phases.RunPhase.TheVariants as phase
-use Rattle.run_states.specs.declared.place.LegPlace.{LegPlace}
+use Rattle.run_states.specs.declared.place.LegSite.{LegSite}
 use Rattle.run_states.specs.Fitting.{first_fit, is_lease_stopping}
 use Rattle.run_table.specs.SequenceNumbers.{answer_by_number, holds_lease, holds_this, number_refusal, runner_named}
 use Rattle.run_table.specs.Step.{admitting, admission_answer, answer_of_attempt, answer_of_next, answer_of_run, beat_answer, cancel_answer, cancelling, claim_answer, claiming, fetch_answer, is_allocation_free, lease_answer, leasing, look_answer, losing, read_only_reply, refused, released, report_answer, reporting, rerun_answer, rerunning, serving_nothing, stepped, unchanged}
@@ -46,7 +46,7 @@ from_table (Some x) t s r is never = ap (λ (y : Reply). Some y) is
 free_of : (o : Option Reply) (r : Reply) → carries_text r ≡ false → o ≡ Some r → is_allocation_free o ≡ true
 free_of o r e is = ap is_allocation_free is ∙ ap not e
 
-claiming_is_no_refusal : (t : TableState) (claim : Claim) (o : Option LegPlace) (e : Refusal)
+claiming_is_no_refusal : (t : TableState) (claim : Claim) (o : Option LegSite) (e : Refusal)
     → (option_map_or (leasing t claim) o (serving_nothing t claim)).reply ≡ reply.Refused e → ⊥
 claiming_is_no_refusal t claim None e is = cc
 claiming_is_no_refusal t claim (Some p) e is = cc

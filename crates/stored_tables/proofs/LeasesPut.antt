@@ -7,7 +7,7 @@ use Rattle.stored_tables.specs.ByLease.{lease_in_job, lease_of_leg, lease_of_run
 use Rattle.stored_tables.specs.ByNumber.{Adds}
 use Rattle.run_states.specs.PlacedLegs.{PlacedLeg, placed_legs}
 use Rattle.run_states.specs.Places.{job_at, leg_at, run_at}
-use Rattle.run_states.specs.declared.place.LegPlace.{LegPlace}
+use Rattle.run_states.specs.declared.place.LegSite.{LegSite}
 use Rattle.run_table.specs.TableState.{RunnerState}
 use Rattle.run_states.specs.RunState.{LegState, JobState, RunState}
 use Rattle.stored_tables.proofs.ByNumberRead.{adds_next, adds_on, adds_same, all_added, nothing_added}
@@ -16,7 +16,7 @@ use Rattle.run_states.proofs.Optional.{from_and_then}
 use Rattle.settling_laws.proofs.PlacedLegs.{each_is_there, each_placed}
 
 -- one of these legs is at the place and has the lease
-abbrev pub HasLease : List PlacedLeg → LegPlace → ℕ → Type 0
+abbrev pub HasLease : List PlacedLeg → LegSite → ℕ → Type 0
 HasLease [] p n = ⊥
 HasLease (x ∷ xs) p n = ((p ≡ x.place) × (x.leg.lease ≡ Some n)) ⊎ HasLease xs p n
 
@@ -26,7 +26,7 @@ SoFarOfRunners runners i k n = (lease_of_runner runners k ≡ Some n) × (k < i)
 
 -- ---- one leg after another
 
-pub leg_put : (place : LegPlace) (x : LegState) (rest left : List PlacedLeg) (a b c : ℕ → Option LegPlace)
+pub leg_put : (place : LegSite) (x : LegState) (rest left : List PlacedLeg) (a b c : ℕ → Option LegSite)
     → left ≡ record { place = place; leg = x } ∷ rest → Adds a b (λ p n. (p ≡ place) × (x.lease ≡ Some n)) → Adds b c (HasLease rest)
     → Adds a c (HasLease left)
 leg_put place x rest left a b c is one more =
@@ -34,7 +34,7 @@ leg_put place x rest left a b c is one more =
     (adds_on a b c (λ p n. (p ≡ place) × (x.lease ≡ Some n)) (HasLease rest) (HasLease (record { place = place; leg = x } ∷ rest)) one more
     (λ p n h. inl h) (λ p n h. inr h) (λ p n h. h))
 
-pub none_left : (left : List PlacedLeg) (a : ℕ → Option LegPlace) → left ≡ [] → Adds a a (HasLease left)
+pub none_left : (left : List PlacedLeg) (a : ℕ → Option LegSite) → left ≡ [] → Adds a a (HasLease left)
 none_left left a is = nothing_added a (HasLease left) (λ p n h. subst (λ xs. HasLease xs p n) is h)
 
 -- ---- those of a table
@@ -44,12 +44,12 @@ then_then : {X Y Z : Type 0} (f : Y → Option Z) (g : X → Option Y) (o : Opti
 then_then f g None = refl
 then_then f g (Some x) = refl
 
-lease_is : (runs : List RunState) (p : LegPlace) → option_and_then (λ (x : LegState). x.lease) (leg_at runs p) ≡ lease_of_leg runs p
+lease_is : (runs : List RunState) (p : LegSite) → option_and_then (λ (x : LegState). x.lease) (leg_at runs p) ≡ lease_of_leg runs p
 lease_is runs p =
     then_then (λ (x : LegState). x.lease) (λ (job : JobState). slice_get job.legs p.leg) (job_at runs p.run p.job)
     ∙ then_then (λ (job : JobState). lease_in_job job.legs p.leg) (λ (run : RunState). slice_get run.jobs p.job) (run_at runs p.run)
 
-has_lease : (runs : List RunState) (xs : List PlacedLeg) (p : LegPlace) (n : ℕ)
+has_lease : (runs : List RunState) (xs : List PlacedLeg) (p : LegSite) (n : ℕ)
     → AllByRecursion (λ (x : PlacedLeg). leg_at runs x.place ≡ Some x.leg) xs → HasLease xs p n → lease_of_leg runs p ≡ Some n
 has_lease runs [] p n all h = absurd h
 has_lease runs (x ∷ xs) p n all (inl h) =
@@ -64,8 +64,8 @@ among (x ∷ xs) = (
       (λ y. (n : ℕ) → y.leg.lease ≡ Some n → HasLease (x ∷ xs) y.place n) (λ y h n e. inr (h n e)) xs (among xs),
 )
 
-pub all_put : (runs : List RunState) (left : List PlacedLeg) (a b : ℕ → Option LegPlace) → left ≡ []
-    → ((after : ℕ → Option LegPlace) → Adds b after (HasLease left) → Adds a after (HasLease (placed_legs runs)))
+pub all_put : (runs : List RunState) (left : List PlacedLeg) (a b : ℕ → Option LegSite) → left ≡ []
+    → ((after : ℕ → Option LegSite) → Adds b after (HasLease left) → Adds a after (HasLease (placed_legs runs)))
     → Adds a b (λ p n. lease_of_leg runs p ≡ Some n)
 all_put runs left a b is adds =
     adds_same a b (HasLease (placed_legs runs)) (λ p n. lease_of_leg runs p ≡ Some n) (adds b (none_left left b is))

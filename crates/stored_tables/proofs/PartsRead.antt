@@ -18,10 +18,10 @@ use Rattle.stored_tables.specs.ByNumber.{Finds}
 use Rattle.run_states.specs.AsPlanned.{AreAsPlanned, HasRoom}
 use Rattle.run_states.specs.Fitting.{has_lease}
 use Rattle.run_states.specs.Places.{leg_at, plan_at, run_at}
-use Rattle.run_states.specs.declared.place.LegPlace.{LegPlace}
+use Rattle.run_states.specs.declared.place.LegSite.{LegSite}
 use Rattle.run_table.specs.Sound.{IsOfALeg, KeptIsOfALeg, KeptLeasesAreOfLegs}
 use Rattle.run_table.specs.Step.{kept_lease, lease_at}
-use Rattle.stored_tables.specs.Stored.{StoredRunner, place_in_runs, stored_place}
+use Rattle.stored_tables.specs.Stored.{RunnerParts, site_in_runs, stored_site}
 use Rattle.stored_tables.specs.TableOf.{AreRunnersAs, IsLastAs, IsLeaseAs, IsReplyAs, IsRunnerAs}
 use Rattle.run_table.specs.TableState.{RunnerState}
 use Rattle.run_states.specs.RunState.{LegState, RunState}
@@ -29,7 +29,7 @@ use Rattle.run_states.specs.Words.{planned_legs}
 use Rattle.stored_tables.specs.declared.parts.LastParts.{LastParts}
 use Rattle.stored_tables.specs.declared.parts.LastParts.TheVariants as stored
 use Rattle.stored_tables.specs.declared.parts.StoredLease.{StoredLease}
-use Rattle.stored_tables.specs.declared.parts.StoredPlace.{StoredPlace}
+use Rattle.stored_tables.specs.declared.parts.StoredSite.{StoredSite}
 use Rattle.stored_tables.proofs.StoredOnce.{leg_told, present_has_it, run_told, same_place}
 use Rattle.run_states.proofs.JobKeeps.{leg_in}
 use Rattle.run_states.proofs.LegReads.{had_from_leg, leg_from_had}
@@ -46,7 +46,7 @@ within_room n legs l z (inl none) at =
     let no : slice_get [] l ≡ Some z = subst (λ (ls : List LegState). slice_get ls l ≡ Some z) none at in cc
 within_room n legs l z (inr all) at = let within = slice_get_within legs l z at in omega (arith, within, all)
 
-leg_planned : (runs : List RunState) → AreAsPlanned runs → (p : LegPlace) (z : LegState) → leg_at runs p ≡ Some z
+leg_planned : (runs : List RunState) → AreAsPlanned runs → (p : LegSite) (z : LegState) → leg_at runs p ≡ Some z
     → p.leg < planned_legs runs p.run p.job
 leg_planned runs planned p z at =
     let i = leg_in runs p z at in
@@ -68,7 +68,7 @@ leg_planned runs planned p z at =
 -- ---- a lease of which only the number is stored
 
 -- the leg that is found has it
-pub present_lease : (most n attempt : ℕ) (runs : List RunState) (p : LegPlace) (kept : KeptLease) → AreAsPlanned runs → 1 ≤ n
+pub present_lease : (most n attempt : ℕ) (runs : List RunState) (p : LegSite) (kept : KeptLease) → AreAsPlanned runs → 1 ≤ n
     → n ≤ most → 1 ≤ attempt → lease_of_leg runs p ≡ Some n → Some attempt ≡ option_map (λ (x : RunState). x.attempt) (run_at runs p.run)
     → kept_lease runs attempt p n ≡ kept → IsLeaseAs most runs (record { lease = n; place = None }) kept
 present_lease most n attempt runs p kept planned low le first has at is =
@@ -96,7 +96,7 @@ present_lease most n attempt runs p kept planned low le first has at is =
     })
 
 -- and if none is found, there is none
-pub no_present : (most n : ℕ) (runs : List RunState) (o : Option LegPlace) → Finds (lease_of_leg runs) n o → o ≡ None → (kept : KeptLease)
+pub no_present : (most n : ℕ) (runs : List RunState) (o : Option LegSite) → Finds (lease_of_leg runs) n o → o ≡ None → (kept : KeptLease)
     → IsLeaseAs most runs (record { lease = n; place = None }) kept → ⊥
 no_present most n runs o finds is kept lease =
     let none = subst (Finds (lease_of_leg runs) n) is finds in
@@ -105,7 +105,7 @@ no_present most n runs o finds is kept lease =
     none of.place (had_from_leg runs of.place x at ∙ has ∙ ap Some lease.lease)
 
 -- the run of the leg that is found exists
-pub run_is_there : (runs : List RunState) (p : LegPlace) (n : ℕ) → lease_of_leg runs p ≡ Some n
+pub run_is_there : (runs : List RunState) (p : LegSite) (n : ℕ) → lease_of_leg runs p ≡ Some n
     → None ≡ option_map (λ (x : RunState). x.attempt) (run_at runs p.run) → ⊥
 run_is_there runs p n has none =
     let f = leg_from_had runs p n has in
@@ -115,20 +115,20 @@ run_is_there runs p n has none =
 -- ---- a lease whose place is stored
 
 -- the leg at a place may have been granted the lease in this attempt
-pub record MayHave (runs : List RunState) (attempt : ℕ) (p : LegPlace) (lease : ℕ) : Type 0 where
+pub record MayHave (runs : List RunState) (attempt : ℕ) (p : LegSite) (lease : ℕ) : Type 0 where
   pub run : RunState
   pub run_is : run_at runs p.run ≡ Some run
   pub planned : p.leg < planned_legs runs p.run p.job
   pub begun : (1 ≤ attempt) × (attempt ≤ run.attempt)
   pub has_it : attempt ≡ run.attempt → (x : LegState) × (leg_at runs p ≡ Some x) × (x.lease ≡ Some lease)
 
-pub may_have : (most : ℕ) (runs : List RunState) (attempt : ℕ) (p : LegPlace) (lease : ℕ) → IsOfALeg most runs (kept_lease runs attempt p lease)
+pub may_have : (most : ℕ) (runs : List RunState) (attempt : ℕ) (p : LegSite) (lease : ℕ) → IsOfALeg most runs (kept_lease runs attempt p lease)
     → MayHave runs attempt p lease
 may_have most runs attempt p lease of =
     let kept = kept_lease runs attempt p lease in
     let run = run_told most runs kept of in
     let same : of.place ≡ p = same_place of.place p (omega (arith, run)) (sym of.job_is) (sym (leg_told most runs kept of)) in
-    subst (λ (q : LegPlace). MayHave runs attempt q lease) same (record {
+    subst (λ (q : LegSite). MayHave runs attempt q lease) same (record {
       run = of.run;
       run_is = of.run_is;
       planned = of.planned;
@@ -136,7 +136,7 @@ may_have most runs attempt p lease of =
       has_it = of.has_it;
     })
 
-pub is_of_a_leg : (most : ℕ) (runs : List RunState) (attempt : ℕ) (p : LegPlace) (lease : ℕ) → 1 ≤ lease → lease ≤ most
+pub is_of_a_leg : (most : ℕ) (runs : List RunState) (attempt : ℕ) (p : LegSite) (lease : ℕ) → 1 ≤ lease → lease ≤ most
     → MayHave runs attempt p lease → IsOfALeg most runs (kept_lease runs attempt p lease)
 is_of_a_leg most runs attempt p lease low le may = record {
   place = p;
@@ -155,17 +155,17 @@ lease_is : (o : Option ℕ) (n : ℕ) → option_map_or (λ held. nat_eq held n)
 lease_is None n e = cc
 lease_is (Some m) n e = ap Some (eqb-true m n e)
 
-has_by : (runs : List RunState) (p : LegPlace) (n : ℕ) (o : Option LegState) → leg_at runs p ≡ o
+has_by : (runs : List RunState) (p : LegSite) (n : ℕ) (o : Option LegState) → leg_at runs p ≡ o
     → option_map_or (has_lease n) o false ≡ true → (x : LegState) × (leg_at runs p ≡ Some x) × (x.lease ≡ Some n)
 has_by runs p n None is e = cc
 has_by runs p n (Some x) is e = (x, is, lease_is x.lease n e)
 
-has_so : (runs : List RunState) (p : LegPlace) (n : ℕ) (x : LegState) → leg_at runs p ≡ Some x → x.lease ≡ Some n
+has_so : (runs : List RunState) (p : LegSite) (n : ℕ) (x : LegState) → leg_at runs p ≡ Some x → x.lease ≡ Some n
     → option_map_or (has_lease n) (leg_at runs p) false ≡ true
 has_so runs p n x is has =
     ap (λ o. option_map_or (has_lease n) o false) is ∙ ap (λ o. option_map_or (λ held. nat_eq held n) o false) has ∙ eq-eqb n n refl
 
-pub present_decides : (most : ℕ) (runs : List RunState) (attempt : ℕ) (p : LegPlace) (lease present : ℕ) (b : Bool)
+pub present_decides : (most : ℕ) (runs : List RunState) (attempt : ℕ) (p : LegSite) (lease present : ℕ) (b : Bool)
     → Some present ≡ option_map (λ (x : RunState). x.attempt) (run_at runs p.run) → p.leg < planned_legs runs p.run p.job → 1 ≤ lease
     → lease ≤ most → 1 ≤ attempt → attempt ≡ present → b ≡ option_map_or (has_lease lease) (leg_at runs p) false
     → Decides b (IsOfALeg most runs (kept_lease runs attempt p lease))
@@ -186,16 +186,16 @@ present_decides most runs attempt p lease present b at planned low le first now 
           is ∙ has_so runs p lease z has_leg has),
     )
 
-pub run_within : (most : ℕ) (runs : List RunState) (attempt : ℕ) (p : LegPlace) (lease : ℕ) → length runs ≤ 100000
+pub run_within : (most : ℕ) (runs : List RunState) (attempt : ℕ) (p : LegSite) (lease : ℕ) → length runs ≤ 100000
     → IsOfALeg most runs (kept_lease runs attempt p lease) → p.run < 100000
 run_within most runs attempt p lease few of =
     let may = may_have most runs attempt p lease of in
     let within = slice_get_within runs p.run may.run may.run_is in
     omega (arith, within, few)
 
-pub given_lease : (most n : ℕ) (runs : List RunState) (place : StoredPlace) (kept : KeptLease) → 1 ≤ place.run
-    → IsOfALeg most runs (kept_lease runs place.attempt (place_in_runs place) n)
-    → kept_lease runs place.attempt (place_in_runs place) n ≡ kept → IsLeaseAs most runs (record { lease = n; place = Some place }) kept
+pub given_lease : (most n : ℕ) (runs : List RunState) (place : StoredSite) (kept : KeptLease) → 1 ≤ place.run
+    → IsOfALeg most runs (kept_lease runs place.attempt (site_in_runs place) n)
+    → kept_lease runs place.attempt (site_in_runs place) n ≡ kept → IsLeaseAs most runs (record { lease = n; place = Some place }) kept
 given_lease most n runs place kept low of is =
     let run : place.run - 1 + 1 ≡ place.run = omega (arith, low) in
     subst (IsLeaseAs most runs (record { lease = n; place = Some place })) is (record {
@@ -205,24 +205,24 @@ given_lease most n runs place kept low of is =
     })
 
 -- it is the only one of these parts
-kept_is : (most n : ℕ) (runs : List RunState) (place : StoredPlace) (kept : KeptLease)
-    → IsLeaseAs most runs (record { lease = n; place = Some place }) kept → kept ≡ kept_lease runs place.attempt (place_in_runs place) n
+kept_is : (most n : ℕ) (runs : List RunState) (place : StoredSite) (kept : KeptLease)
+    → IsLeaseAs most runs (record { lease = n; place = Some place }) kept → kept ≡ kept_lease runs place.attempt (site_in_runs place) n
 kept_is most n runs place kept is =
     let of = is.is_of_a_leg in
-    let stored : stored_place kept ≡ place = is.place in
-    let run : kept.lease_reply.run ≡ place.run = ap (λ (s : StoredPlace). s.run) stored in
-    let attempt : kept.attempt ≡ place.attempt = ap (λ (s : StoredPlace). s.attempt) stored in
-    let job : kept.job ≡ place.job = ap (λ (s : StoredPlace). s.job) stored in
-    let leg : kept.lease_reply.leg ≡ place.leg = ap (λ (s : StoredPlace). s.leg) stored in
+    let stored : stored_site kept ≡ place = is.place in
+    let run : kept.lease_reply.run ≡ place.run = ap (λ (s : StoredSite). s.run) stored in
+    let attempt : kept.attempt ≡ place.attempt = ap (λ (s : StoredSite). s.attempt) stored in
+    let job : kept.job ≡ place.job = ap (λ (s : StoredSite). s.job) stored in
+    let leg : kept.lease_reply.leg ≡ place.leg = ap (λ (s : StoredSite). s.leg) stored in
     let its = run_told most runs kept of in
-    let same : of.place ≡ place_in_runs place = same_place of.place (place_in_runs place) (omega (arith, run, its)) (sym of.job_is ∙ job)
+    let same : of.place ≡ site_in_runs place = same_place of.place (site_in_runs place) (omega (arith, run, its)) (sym of.job_is ∙ job)
     (sym (leg_told most runs kept of) ∙ leg) in
-    let lease_reply : kept.lease_reply ≡ lease_at runs (place_in_runs place) n =
-    of.tells ∙ ap (λ p. lease_at runs p kept.lease_reply.lease) same ∙ ap (lease_at runs (place_in_runs place)) is.lease in
+    let lease_reply : kept.lease_reply ≡ lease_at runs (site_in_runs place) n =
+    of.tells ∙ ap (λ p. lease_at runs p kept.lease_reply.lease) same ∙ ap (lease_at runs (site_in_runs place)) is.lease in
     λ i. record { lease_reply = lease_reply i; attempt = attempt i; job = job i }
 
-pub no_given : (most n : ℕ) (runs : List RunState) (place : StoredPlace)
-    → (IsOfALeg most runs (kept_lease runs place.attempt (place_in_runs place) n) → ⊥) → (kept : KeptLease)
+pub no_given : (most n : ℕ) (runs : List RunState) (place : StoredSite)
+    → (IsOfALeg most runs (kept_lease runs place.attempt (site_in_runs place) n) → ⊥) → (kept : KeptLease)
     → IsLeaseAs most runs (record { lease = n; place = Some place }) kept → ⊥
 no_given most n runs place none kept is = none (subst (IsOfALeg most runs) (kept_is most n runs place kept is) is.is_of_a_leg)
 
@@ -240,7 +240,7 @@ no_last most runs claim parts none (last.Done report) is = is
 
 -- ---- runners
 
-pub no_runners : (most : ℕ) (runs : List RunState) (parts : List StoredRunner) (k : ℕ) (part : StoredRunner) → slice_get parts k ≡ Some part
+pub no_runners : (most : ℕ) (runs : List RunState) (parts : List RunnerParts) (k : ℕ) (part : RunnerParts) → slice_get parts k ≡ Some part
     → ((x : RunnerState) → IsRunnerAs most runs part x → ⊥) → (runners : List RunnerState) → AreRunnersAs most runs parts runners → ⊥
 no_runners most runs parts k part at none runners are =
     let within = slice_get_within parts k part at in
@@ -259,7 +259,7 @@ last_of_leg most runs (stored.Done report) (last.Claim claim reply) is = absurd 
 last_of_leg most runs (stored.Done report) (last.Done other) is = tt
 
 -- their kept leases are of legs
-pub kept_of_legs : (most : ℕ) (runs : List RunState) (parts : List StoredRunner) (runners : List RunnerState)
+pub kept_of_legs : (most : ℕ) (runs : List RunState) (parts : List RunnerParts) (runners : List RunnerState)
     → AreRunnersAs most runs parts runners → KeptLeasesAreOfLegs most runs runners
 kept_of_legs most runs parts runners are k x at =
     let within = slice_get_within runners k x at in
@@ -270,7 +270,7 @@ kept_of_legs most runs parts runners are k x at =
 
 -- ---- places
 
-pub run_in_range : (runs : List RunState) (p : LegPlace) (n : ℕ) → length runs ≤ 100000 → lease_of_leg runs p ≡ Some n → p.run < 100000
+pub run_in_range : (runs : List RunState) (p : LegSite) (n : ℕ) → length runs ≤ 100000 → lease_of_leg runs p ≡ Some n → p.run < 100000
 run_in_range runs p n few has =
     let f = leg_from_had runs p n has in
     let place = (leg_in runs p f.value f.is).place in

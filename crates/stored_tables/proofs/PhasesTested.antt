@@ -5,7 +5,7 @@ use Rattle.std.specs.List.{list_all}
 use Rattle.std.proofs.Common.{ap, sym, subst, ◌∙◌}
 use Rattle.run_states.specs.RunState.{JobState}
 use Rattle.run_states.specs.SoundRuns.{PhaseFits}
-use Rattle.run_states.specs.StateWords.{is_blocked, is_settled}
+use Rattle.run_states.specs.StateWords.{is_blocked, is_finished}
 use Rattle.run_states.specs.declared.phases.JobPhase.TheVariants as job
 use Rattle.run_states.specs.declared.phases.RunPhase.{RunPhase}
 use Rattle.run_states.specs.declared.phases.RunPhase.TheVariants as run
@@ -20,9 +20,9 @@ are_blocked jobs = (
   (λ each. all_pass (λ (y : JobState). is_blocked y.phase) jobs (λ j x at. ap is_blocked (each j x at))),
 )
 
-are_settled : (jobs : List JobState) → Decides (list_all is_settled jobs)
-    ((j : ℕ) (x : JobState) → slice_get jobs j ≡ Some x → is_settled x ≡ true)
-are_settled jobs = ((λ all j x at. each_passes is_settled jobs j x all at), (λ each. all_pass is_settled jobs each))
+are_finished : (jobs : List JobState) → Decides (list_all is_finished jobs)
+    ((j : ℕ) (x : JobState) → slice_get jobs j ≡ Some x → is_finished x ≡ true)
+are_finished jobs = ((λ all j x at. each_passes is_finished jobs j x all at), (λ each. all_pass is_finished jobs each))
 
 pub waiting_fits : (phase : RunPhase) (stopping b : Bool) (jobs : List JobState) → phase ≡ run.Waiting → stopping ≡ false
     → b ≡ list_all (λ (y : JobState). is_blocked y.phase) jobs → Decides b (PhaseFits phase stopping jobs)
@@ -33,9 +33,9 @@ waiting_fits phase stopping b jobs is not_stopping test =
     )
 
 pub ended_fits : (phase : RunPhase) (stopping b : Bool) (jobs : List JobState) → phase ≡ run.Ended
-    → b ≡ list_all is_settled jobs → Decides b (PhaseFits phase stopping jobs)
+    → b ≡ list_all is_finished jobs → Decides b (PhaseFits phase stopping jobs)
 ended_fits phase stopping b jobs is test =
     subst (λ (ph : RunPhase). Decides b (PhaseFits ph stopping jobs)) (sym is) (
-      (λ e. (are_settled jobs).0 (sym test ∙ e)),
-      (λ fits. test ∙ (are_settled jobs).1 fits),
+      (λ e. (are_finished jobs).0 (sym test ∙ e)),
+      (λ fits. test ∙ (are_finished jobs).1 fits),
     )

@@ -9,8 +9,8 @@ use Rattle.run_states.specs.Groups.{HasOneEach}
 use Rattle.stored_tables.specs.OneByOne.{EachLegIsSound, EachRunIsSound, EachRunnerIsSound, HoldsWork, IsFound, is_worked_on, leg_of, runner_of}
 use Rattle.run_states.specs.Parallel.{is_at_work}
 use Rattle.run_states.specs.Places.{leg_at}
-use Rattle.run_states.specs.declared.place.LegPlace.{LegPlace}
-use Rattle.run_states.specs.Settling.{first_place}
+use Rattle.run_states.specs.declared.place.LegSite.{LegSite}
+use Rattle.run_states.specs.Settling.{first_site}
 use Rattle.run_table.specs.Sound.{DeliveriesDiffer, IsAtWork, IsHeld, IsSound, KeptLeasesAreOfLegs}
 use Rattle.run_states.specs.AsPlanned.{AreAsPlanned}
 use Rattle.run_table.specs.TableState.{RunnerState, TableState}
@@ -30,7 +30,7 @@ holds_at : (runners : List RunnerState) (k n : ℕ) (x : RunnerState) → slice_
     → lease_of_runner runners k ≡ Some n
 holds_at runners k n x at e = ap (option_and_then (λ (y : RunnerState). y.holds)) at ∙ e
 
-lease_at_leg : (runs : List RunState) (p : LegPlace) (n : ℕ) (x : LegState) → leg_at runs p ≡ Some x → x.lease ≡ Some n
+lease_at_leg : (runs : List RunState) (p : LegSite) (n : ℕ) (x : LegState) → leg_at runs p ≡ Some x → x.lease ≡ Some n
     → lease_of_leg runs p ≡ Some n
 lease_at_leg runs p n x at e = had_from_leg runs p x at ∙ e
 
@@ -40,12 +40,12 @@ module _ (leases : Leases) (runs : List RunState) (runners : List RunnerState)
   -- ---- from the table
 
   module _ (s : IsSound (table_with leases runs runners)) where
-    leg_found : (p : LegPlace) (x : LegState) (n : ℕ) → leg_at runs p ≡ Some x → x.lease ≡ Some n → leg_of leases n ≡ Some p
+    leg_found : (p : LegSite) (x : LegState) (n : ℕ) → leg_at runs p ≡ Some x → x.lease ≡ Some n → leg_of leases n ≡ Some p
     leg_found p x n at e =
         found_is (lease_of_leg runs) n (leg_of leases n) p (legs n) (lease_at_leg runs p n x at e)
         (λ q has. let f = leg_from_had runs q n has in s.leases_differ q p f.value x n f.is at f.gives e)
 
-    its_lease : (p : LegPlace) (x : LegState) → leg_at runs p ≡ Some x → IsFound leases p x
+    its_lease : (p : LegSite) (x : LegState) → leg_at runs p ≡ Some x → IsFound leases p x
     its_lease p x at n e = (
       leg_found p x n at e,
       (λ work. let (k, y, at_k, holds) = s.work_is_held p x n at work e in
@@ -67,7 +67,7 @@ module _ (leases : Leases) (runs : List RunState) (runners : List RunnerState)
           let job = job_in_run runs r j x at ∙ at_j in
           record {
             legs_fit = s.jobs_fit r j y job;
-            needs_first = s.needs_settled_first r j y job;
+            needs_first = s.needs_finished_first r j y job;
             within_parallel = (λ most e. s.parallel_bounded r j y most job e);
           });
     }
@@ -92,7 +92,7 @@ module _ (leases : Leases) (runs : List RunState) (runners : List RunnerState)
   -- ---- to the table
 
   module _ (each_leg : EachLegIsSound leases runs) (each : EachRunIsSound runs) (each_of_runners : EachRunnerIsSound leases runs runners) where
-    is_held : (p : LegPlace) (x : LegState) (n : ℕ) → leg_at runs p ≡ Some x → is_at_work x.phase ≡ true → x.lease ≡ Some n
+    is_held : (p : LegSite) (x : LegState) (n : ℕ) → leg_at runs p ≡ Some x → is_at_work x.phase ≡ true → x.lease ≡ Some n
         → IsHeld runners n
     is_held p x n at work e =
         let k = there (runner_of leases n) (((each_leg p x at).is_found n e).1 work) in
@@ -100,7 +100,7 @@ module _ (leases : Leases) (runs : List RunState) (runners : List RunnerState)
         let f = from_and_then (λ (y : RunnerState). y.holds) (slice_get runners k.value) n has in
         (k.value, f.value, f.is, f.gives)
 
-    at_work : (n : ℕ) (o : Option LegPlace) → leg_of leases n ≡ o
+    at_work : (n : ℕ) (o : Option LegSite) → leg_of leases n ≡ o
         → option_map_or (λ q. option_map_or (λ y. is_at_work y.phase) (leg_at runs q) false) o false ≡ true → IsAtWork runs n
     at_work n None is e = cc
     at_work n (Some p) is e =
@@ -109,7 +109,7 @@ module _ (leases : Leases) (runs : List RunState) (runners : List RunnerState)
 
     pub to_sound : AreAsPlanned runs → names_rise runners ≡ true → KeptLeasesAreOfLegs leases.last runs runners
         → leases.last ≤ 999999999
-        → HasOneEach runs → first_place runs ≡ None → DeliveriesDiffer runs → IsSound (table_with leases runs runners)
+        → HasOneEach runs → first_site runs ≡ None → DeliveriesDiffer runs → IsSound (table_with leases runs runners)
     to_sound planned rise kept last one rests differ = record {
       few_runs = planned.few;
       deliveries_differ = differ;
@@ -117,7 +117,7 @@ module _ (leases : Leases) (runs : List RunState) (runners : List RunnerState)
       jobs_are_the_plans = (λ r x at. (planned.each r x at).as_many);
       run_phases_fit = (λ r x at. (each r x at).phase_fits);
       jobs_fit = (λ r j x at. let i = job_in runs r j x at in ((each r i.run i.run_is).each_job j x i.job_is).legs_fit);
-      needs_settled_first = (λ r j x at. let i = job_in runs r j x at in ((each r i.run i.run_is).each_job j x i.job_is).needs_first);
+      needs_finished_first = (λ r j x at. let i = job_in runs r j x at in ((each r i.run i.run_is).each_job j x i.job_is).needs_first);
       parallel_bounded = (λ r j x most at e.
           let i = job_in runs r j x at in ((each r i.run i.run_is).each_job j x i.job_is).within_parallel most e);
       one_of_each_group = one;

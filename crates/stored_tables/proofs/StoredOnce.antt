@@ -16,11 +16,11 @@ use Rattle.run_plan.specs.declared.last_command.LastCommand.TheVariants as last
 use Rattle.run_plan.specs.declared.planned.PlannedJob.{PlannedJob}
 use Rattle.run_plan.specs.declared.reply.Lease.{Lease}
 use Rattle.run_states.specs.Places.{leg_at, plan_at, run_at}
-use Rattle.run_states.specs.declared.place.LegPlace.{LegPlace}
+use Rattle.run_states.specs.declared.place.LegSite.{LegSite}
 use Rattle.run_table.specs.Sound.{IsOfALeg, IsSound, LeasesDiffer}
 use Rattle.run_states.specs.SoundRuns.{LegsFit}
 use Rattle.run_table.specs.Step.{lease_at}
-use Rattle.stored_tables.specs.Stored.{StoredRunner, StoredTable, stored_place}
+use Rattle.stored_tables.specs.Stored.{RunnerParts, TableParts, stored_site}
 use Rattle.stored_tables.specs.TableOf.{AreRunnersAs, IsLastAs, IsLeaseAs, IsNoTable, IsPlacedAs, IsReplyAs, IsRunnerAs, IsStoredAs}
 use Rattle.run_states.specs.AsPlanned.{AreAsPlanned, HasRoom}
 use Rattle.run_table.specs.TableState.{RunnerState, TableState}
@@ -30,7 +30,7 @@ use Rattle.run_table.specs.SequenceNumbers.{names_rise}
 use Rattle.stored_tables.specs.declared.parts.LastParts.{LastParts}
 use Rattle.stored_tables.specs.declared.parts.LastParts.TheVariants as stored
 use Rattle.stored_tables.specs.declared.parts.StoredLease.{StoredLease}
-use Rattle.stored_tables.specs.declared.parts.StoredPlace.{StoredPlace}
+use Rattle.stored_tables.specs.declared.parts.StoredSite.{StoredSite}
 use Rattle.run_states.specs.declared.phases.JobPhase.{JobPhase}
 use Rattle.run_states.specs.declared.phases.JobPhase.TheVariants as job
 use Rattle.run_states.proofs.RunFits.{job_in_run}
@@ -52,10 +52,10 @@ present_has_it most runs kept of present =
     of.has_it (present ∙ ap (λ k. option_map_or (λ (x : RunState). x.attempt) (run_at runs k) 0) r
     ∙ ap (λ o. option_map_or (λ (x : RunState). x.attempt) o 0) of.run_is)
 
-pub same_place : (p q : LegPlace) → p.run ≡ q.run → p.job ≡ q.job → p.leg ≡ q.leg → p ≡ q
+pub same_place : (p q : LegSite) → p.run ≡ q.run → p.job ≡ q.job → p.leg ≡ q.leg → p ≡ q
 same_place p q run job leg = λ i. record { run = run i; job = job i; leg = leg i }
 
-place_is : (most : ℕ) (runs : List RunState) → LeasesDiffer runs → (parts : StoredLease) (o : Option StoredPlace) (a b : KeptLease)
+place_is : (most : ℕ) (runs : List RunState) → LeasesDiffer runs → (parts : StoredLease) (o : Option StoredSite) (a b : KeptLease)
     → (of_a : IsOfALeg most runs a) (of_b : IsOfALeg most runs b) → a.lease_reply.lease ≡ b.lease_reply.lease → IsPlacedAs runs o a → IsPlacedAs runs o b
     → (of_a.place ≡ of_b.place) × (a.attempt ≡ b.attempt)
 place_is most runs differ parts None a b of_a of_b same at_a at_b =
@@ -63,17 +63,17 @@ place_is most runs differ parts None a b of_a of_b same at_a at_b =
     let (y, is_y, has_y) = present_has_it most runs b of_b at_b in
     let place : of_a.place ≡ of_b.place = differ of_a.place of_b.place x y b.lease_reply.lease is_x is_y (has_x ∙ ap Some same) has_y in
     let run : a.lease_reply.run ≡ b.lease_reply.run =
-    run_told most runs a of_a ∙ ap (λ (p : LegPlace). p.run + 1) place ∙ sym (run_told most runs b of_b) in
+    run_told most runs a of_a ∙ ap (λ (p : LegSite). p.run + 1) place ∙ sym (run_told most runs b of_b) in
     (place, at_a ∙ ap (λ n. option_map_or (λ (x : RunState). x.attempt) (run_at runs (n - 1)) 0) run ∙ sym at_b)
 place_is most runs differ parts (Some stored) a b of_a of_b same at_a at_b =
-    let one : stored_place a ≡ stored_place b = at_a ∙ sym at_b in
-    let run : a.lease_reply.run ≡ b.lease_reply.run = ap (λ (p : StoredPlace). p.run) one in
+    let one : stored_site a ≡ stored_site b = at_a ∙ sym at_b in
+    let run : a.lease_reply.run ≡ b.lease_reply.run = ap (λ (p : StoredSite). p.run) one in
     let first = run_told most runs a of_a in
     let second = run_told most runs b of_b in (
       same_place of_a.place of_b.place (omega (arith, run, first, second))
-          (sym of_a.job_is ∙ ap (λ (p : StoredPlace). p.job) one ∙ of_b.job_is)
-          (sym (leg_told most runs a of_a) ∙ ap (λ (p : StoredPlace). p.leg) one ∙ leg_told most runs b of_b),
-      ap (λ (p : StoredPlace). p.attempt) one,
+          (sym of_a.job_is ∙ ap (λ (p : StoredSite). p.job) one ∙ of_b.job_is)
+          (sym (leg_told most runs a of_a) ∙ ap (λ (p : StoredSite). p.leg) one ∙ leg_told most runs b of_b),
+      ap (λ (p : StoredSite). p.attempt) one,
     )
 
 same_lease : (most : ℕ) (runs : List RunState) → LeasesDiffer runs → (parts : StoredLease) (a b : KeptLease)
@@ -85,7 +85,7 @@ same_lease most runs differ parts a b is_a is_b =
     let both = place_is most runs differ parts parts.place a b of_a of_b number is_a.place is_b.place in
     let lease_reply : a.lease_reply ≡ b.lease_reply = of_a.tells ∙ ap₂ (lease_at runs) both.0 number ∙ sym of_b.tells in
     let attempt : a.attempt ≡ b.attempt = both.1 in
-    let job : a.job ≡ b.job = of_a.job_is ∙ ap (λ (p : LegPlace). p.job) both.0 ∙ sym of_b.job_is in
+    let job : a.job ≡ b.job = of_a.job_is ∙ ap (λ (p : LegSite). p.job) both.0 ∙ sym of_b.job_is in
     λ i. record { lease_reply = lease_reply i; attempt = attempt i; job = job i }
 
 same_reply : (most : ℕ) (runs : List RunState) → LeasesDiffer runs → (parts : Option StoredLease) (a b : ClaimReply)
@@ -110,7 +110,7 @@ same_last most runs differ (stored.Done report) (last.Claim c r) b is_a is_b = a
 same_last most runs differ (stored.Done report) (last.Done c) (last.Claim d s) is_a is_b = absurd is_b
 same_last most runs differ (stored.Done report) (last.Done c) (last.Done d) is_a is_b = ap last.Done (is_a ∙ sym is_b)
 
-same_runner : (most : ℕ) (runs : List RunState) → LeasesDiffer runs → (part : StoredRunner) (x y : RunnerState)
+same_runner : (most : ℕ) (runs : List RunState) → LeasesDiffer runs → (part : RunnerParts) (x y : RunnerState)
     → IsRunnerAs most runs part x → IsRunnerAs most runs part y → x ≡ y
 same_runner most runs differ part x y is_x is_y =
     let name : x.name ≡ y.name = is_x.name ∙ sym is_y.name in
@@ -120,14 +120,14 @@ same_runner most runs differ part x y is_x is_y =
     λ i. record { name = name i; number = number i; last = the_last i; holds = holds i }
 
 -- those after the first
-others : (most : ℕ) (runs : List RunState) (part : StoredRunner) (parts : List StoredRunner) (x : RunnerState) (xs : List RunnerState)
+others : (most : ℕ) (runs : List RunState) (part : RunnerParts) (parts : List RunnerParts) (x : RunnerState) (xs : List RunnerState)
     → AreRunnersAs most runs (part ∷ parts) (x ∷ xs) → AreRunnersAs most runs parts xs
 others most runs part parts x xs are = record {
   as_many = omega (arith, are.as_many);
   each = (λ k p y at_p at_y. are.each (suc k) p y at_p at_y);
 }
 
-pub same_runners : (most : ℕ) (runs : List RunState) → LeasesDiffer runs → (parts : List StoredRunner) (xs ys : List RunnerState)
+pub same_runners : (most : ℕ) (runs : List RunState) → LeasesDiffer runs → (parts : List RunnerParts) (xs ys : List RunnerState)
     → AreRunnersAs most runs parts xs → AreRunnersAs most runs parts ys → xs ≡ ys
 same_runners most runs differ [] [] [] are_x are_y = refl
 same_runners most runs differ [] [] (y ∷ ys) are_x are_y = absurd (omega (arith, are_y.as_many))
@@ -140,8 +140,8 @@ same_runners most runs differ (part ∷ parts) (x ∷ xs) (y ∷ ys) are_x are_y
 
 -- ---- names
 
-pub names_stored : (most : ℕ) (runs : List RunState) (parts : List StoredRunner) (xs : List RunnerState) → AreRunnersAs most runs parts xs
-    → names_rise xs ≡ rises_by (λ (r : StoredRunner). r.name) parts
+pub names_stored : (most : ℕ) (runs : List RunState) (parts : List RunnerParts) (xs : List RunnerState) → AreRunnersAs most runs parts xs
+    → names_rise xs ≡ rises_by (λ (r : RunnerParts). r.name) parts
 names_stored most runs [] [] are = refl
 names_stored most runs [] (x ∷ xs) are = absurd (omega (arith, are.as_many))
 names_stored most runs (part ∷ parts) [] are = absurd (omega (arith, are.as_many))
@@ -155,8 +155,8 @@ names_stored most runs (part ∷ other ∷ parts) (x ∷ y ∷ ys) are =
     (names_stored most runs (other ∷ parts) (y ∷ ys) (others most runs part (other ∷ parts) x (y ∷ ys) are))
 
 -- whether runners are found or not, where the names of their parts rise
-pub names_told : {V E : Type 0} (items : V → List RunnerState) (most : ℕ) (runs : List RunState) (parts : List StoredRunner)
-    (r : Result (Option V) E) → rises_by (λ (p : StoredRunner). p.name) parts ≡ true
+pub names_told : {V E : Type 0} (items : V → List RunnerState) (most : ℕ) (runs : List RunState) (parts : List RunnerParts)
+    (r : Result (Option V) E) → rises_by (λ (p : RunnerParts). p.name) parts ≡ true
     → IfOk r (λ found. MatchOption found ((xs : List RunnerState) → AreRunnersAs most runs parts xs → ⊥)
     (λ v. AreRunnersAs most runs parts (items v)))
     → IfOk r (λ found. MatchOption found ((xs : List RunnerState) → AreRunnersAs most runs parts xs → names_rise xs ≡ true → ⊥)
@@ -171,7 +171,7 @@ has_room : (planned : ℕ) (result : JobResult) (phase : JobPhase) (legs : List 
     → HasRoom planned legs
 has_room planned result job.Blocked legs fits = inl fits
 has_room planned result job.Open legs fits = inr fits
-has_room planned result (job.Settled r) legs fits = elim fits [ inl none ↦ inl none.0 | inr all ↦ inr all.0 ]
+has_room planned result (job.Finished r) legs fits = elim fits [ inl none ↦ inl none.0 | inr all ↦ inr all.0 ]
 
 pub as_planned : (t : TableState) → IsSound t → AreAsPlanned t.runs
 as_planned t s = record {
@@ -191,7 +191,7 @@ as_planned t s = record {
 
 -- ---- the table of the parts
 
-module _ (parts : StoredTable) where
+module _ (parts : TableParts) where
   -- there is none if the runs are not as planned, or two wait or are in progress in a group
   pub none_planned : (AreAsPlanned parts.runs → HasOneEach parts.runs → ⊥) → IsNoTable parts
   none_planned not_planned t is =
@@ -225,7 +225,7 @@ module _ (parts : StoredTable) where
 
 -- ---- the table that is made
 
-pub stored_as : (parts : StoredTable) (last : ℕ) (runs next : List RunState) (runners seen : List RunnerState) (t : TableState)
+pub stored_as : (parts : TableParts) (last : ℕ) (runs next : List RunState) (runners seen : List RunnerState) (t : TableState)
     → t ≡ record { last_lease = last; runs = next; runners = runners } → next ≡ runs → seen ≡ runners
     → IsSound (record { last_lease = last; runs = runs; runners = seen }) → last ≡ parts.last_lease → runs ≡ parts.runs
     → AreRunnersAs last runs parts.runners runners → IsStoredAs parts t

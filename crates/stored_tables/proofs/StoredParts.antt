@@ -10,12 +10,12 @@ use Rattle.run_plan.specs.declared.last_command.LastCommand.{LastCommand}
 use Rattle.run_plan.specs.declared.last_command.LastCommand.TheVariants as last
 use Rattle.run_states.specs.RunState.{RunState}
 use Rattle.run_table.specs.Sound.{IsSound, KeptIsOfALeg}
-use Rattle.stored_tables.specs.Stored.{StoredRunner, StoredTable, stored_last, stored_lease, stored_place, stored_runner, stored_table}
+use Rattle.stored_tables.specs.Stored.{RunnerParts, TableParts, stored_last, stored_lease, stored_site, stored_runner, stored_table}
 use Rattle.stored_tables.specs.TableOf.{AreRunnersAs, IsLastAs, IsPlacedAs, IsRunnerAs, IsStoredAs}
 use Rattle.run_table.specs.TableState.{RunnerState, TableState}
 use Rattle.stored_tables.specs.declared.parts.LastParts.{LastParts}
 use Rattle.stored_tables.specs.declared.parts.LastParts.TheVariants as stored
-use Rattle.stored_tables.specs.declared.parts.StoredPlace.{StoredPlace}
+use Rattle.stored_tables.specs.declared.parts.StoredSite.{StoredSite}
 
 -- ---- from a sound table
 
@@ -35,7 +35,7 @@ is_stored t s = record {
         let is : stored_runner x ≡ part =
         same_Some (stored_runner x) part
         (sym (slice_get-map stored_runner t.runners k ∙ ap (option_map stored_runner) at_x) ∙ at_part) in
-        subst (λ (p : StoredRunner). IsRunnerAs t.last_lease t.runs p x) is (record {
+        subst (λ (p : RunnerParts). IsRunnerAs t.last_lease t.runs p x) is (record {
           name = refl;
           number = refl;
           last = last_is t.last_lease t.runs x.last (s.kept_leases_are_of_legs k x at_x);
@@ -52,11 +52,11 @@ HasPlace (stored.Claim claim None) = Unit {0}
 HasPlace (stored.Claim claim (Some parts)) = is_some parts.place ≡ true
 HasPlace (stored.Done report) = Unit {0}
 
-abbrev pub HavePlaces : List StoredRunner → Type 0
-HavePlaces runners = (k : ℕ) (part : StoredRunner) → slice_get runners k ≡ Some part → HasPlace part.last
+abbrev pub HavePlaces : List RunnerParts → Type 0
+HavePlaces runners = (k : ℕ) (part : RunnerParts) → slice_get runners k ≡ Some part → HasPlace part.last
 
-placed_again : (runs : List RunState) (kept : KeptLease) (o : Option StoredPlace) → is_some o ≡ true → IsPlacedAs runs o kept
-    → Some (stored_place kept) ≡ o
+placed_again : (runs : List RunState) (kept : KeptLease) (o : Option StoredSite) → is_some o ≡ true → IsPlacedAs runs o kept
+    → Some (stored_site kept) ≡ o
 placed_again runs kept None has is = cc
 placed_again runs kept (Some place) has is = ap Some is
 
@@ -67,14 +67,14 @@ last_again most runs (stored.Claim claim None) (last.Claim other (given.Lease ke
 last_again most runs (stored.Claim claim (Some parts)) (last.Claim other given.Nothing) has is = absurd is.1
 last_again most runs (stored.Claim claim (Some parts)) (last.Claim other (given.Lease kept)) has is =
     let lease : kept.lease_reply.lease ≡ parts.lease = is.1.lease in
-    let place : Some (stored_place kept) ≡ parts.place = placed_again runs kept parts.place has is.1.place in
+    let place : Some (stored_site kept) ≡ parts.place = placed_again runs kept parts.place has is.1.place in
     let both : stored_lease kept ≡ parts = λ i. record { lease = lease i; place = place i } in
     ap₂ (λ c s. stored.Claim c (Some s)) is.0 both
 last_again most runs (stored.Claim claim parts) (last.Done report) has is = absurd is
 last_again most runs (stored.Done report) (last.Claim claim reply) has is = absurd is
 last_again most runs (stored.Done report) (last.Done other) has is = ap stored.Done is
 
-runners_again : (most : ℕ) (runs : List RunState) (parts : List StoredRunner) (xs : List RunnerState) → HavePlaces parts
+runners_again : (most : ℕ) (runs : List RunState) (parts : List RunnerParts) (xs : List RunnerState) → HavePlaces parts
     → AreRunnersAs most runs parts xs → map stored_runner xs ≡ parts
 runners_again most runs [] [] have are = refl
 runners_again most runs [] (x ∷ xs) have are = absurd (omega (arith, are.as_many))
@@ -87,7 +87,7 @@ runners_again most runs (part ∷ parts) (x ∷ xs) have are =
     (runners_again most runs parts xs (λ k p at. have (suc k) p at)
     (record { as_many = omega (arith, are.as_many); each = (λ k p y at_p at_y. are.each (suc k) p y at_p at_y) }))
 
-pub stored_again : (parts : StoredTable) (t : TableState) → HavePlaces parts.runners → IsStoredAs parts t → stored_table t ≡ parts
+pub stored_again : (parts : TableParts) (t : TableState) → HavePlaces parts.runners → IsStoredAs parts t → stored_table t ≡ parts
 stored_again parts t have is =
     let runners = runners_again t.last_lease t.runs parts.runners t.runners have is.runners in
     λ i. record { last_lease = is.last_lease i; runs = is.runs i; runners = runners i }

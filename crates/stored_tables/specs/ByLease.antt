@@ -3,7 +3,7 @@ use Rattle.std.specs.Prelude.{ℕ, ◌≤◌, List, Option, length, option_and_t
 use Rattle.stated_limits.specs.Limits.{max_runs}
 use Rattle.stored_tables.specs.ByNumber.{Finds}
 use Rattle.run_states.specs.Places.{run_at}
-use Rattle.run_states.specs.declared.place.LegPlace.{LegPlace}
+use Rattle.run_states.specs.declared.place.LegSite.{LegSite}
 use Rattle.run_table.specs.TableState.{RunnerState}
 use Rattle.run_states.specs.RunState.{LegState, JobState, RunState}
 
@@ -14,11 +14,11 @@ lease_in_job legs l = option_and_then (λ x. x.lease) (slice_get legs l)
 abbrev pub lease_in_run : List JobState → ℕ → ℕ → Option ℕ
 lease_in_run jobs j l = option_and_then (λ job. lease_in_job job.legs l) (slice_get jobs j)
 
-abbrev pub lease_of_leg : List RunState → LegPlace → Option ℕ
+abbrev pub lease_of_leg : List RunState → LegSite → Option ℕ
 lease_of_leg runs p = option_and_then (λ run. lease_in_run run.jobs p.job p.leg) (run_at runs p.run)
 
 -- leg_of finds the legs by their leases, and there are at most as many runs as a table may have
-pub record FindsLegs (runs : List RunState) (leg_of : ℕ → Option LegPlace) : Type 0 where
+pub record FindsLegs (runs : List RunState) (leg_of : ℕ → Option LegSite) : Type 0 where
   pub legs : (n : ℕ) → Finds (lease_of_leg runs) n (leg_of n)
   pub few : length runs ≤ max_runs
 

@@ -6,18 +6,18 @@ use Rattle.std.specs.Option.{option_map_or}
 use Rattle.std.specs.Ordering.{nat_cmp}
 use Rattle.run_states.specs.Parallel.{is_at_work, legs_at_work, most_at_work}
 use Rattle.run_states.specs.Places.{leg_at, run_at}
-use Rattle.run_states.specs.declared.place.LegPlace.{LegPlace}
+use Rattle.run_states.specs.declared.place.LegSite.{LegSite}
 use Rattle.run_states.specs.Rules.{result_at}
 use Rattle.run_table.specs.Sound.{AttemptIsGiven, IsLastOf}
 use Rattle.run_states.specs.SoundRuns.{LeaseFits, LegsFit, PhaseFits}
 use Rattle.run_table.specs.TableState.{RunnerState}
 use Rattle.run_states.specs.RunState.{LegState, JobState, RunState}
-use Rattle.run_states.specs.Words.{needs_have_settled, planned_legs}
+use Rattle.run_states.specs.Words.{needs_have_finished, planned_legs}
 use Rattle.stored_tables.specs.declared.sound.leases.Leases.{Leases}
 
 -- ---- look-ups by lease
 
-abbrev pub leg_of : Leases → ℕ → Option LegPlace
+abbrev pub leg_of : Leases → ℕ → Option LegSite
 leg_of leases n = get nat_cmp leases.legs n
 
 abbrev pub runner_of : Leases → ℕ → Option ℕ
@@ -34,23 +34,23 @@ abbrev pub IsGiven : ℕ → Option ℕ → Type 0
 IsGiven last lease = (n : ℕ) → lease ≡ Some n → (1 ≤ n) × (n ≤ last)
 
 -- a look-up by the leg's lease finds the leg, and a runner holds the lease while the leg is at work
-abbrev pub IsFound : Leases → LegPlace → LegState → Type 0
+abbrev pub IsFound : Leases → LegSite → LegState → Type 0
 IsFound leases p x = (n : ℕ) → x.lease ≡ Some n → (leg_of leases n ≡ Some p)
     × (is_at_work x.phase ≡ true → is_some (runner_of leases n) ≡ true)
 
-pub record LegIsSound (leases : Leases) (p : LegPlace) (x : LegState) : Type 0 where
+pub record LegIsSound (leases : Leases) (p : LegSite) (x : LegState) : Type 0 where
   pub lease_fits : LeaseFits x.phase x.lease
   pub lease_is_given : IsGiven leases.last x.lease
   pub is_found : IsFound leases p x
 
 abbrev pub EachLegIsSound : Leases → List RunState → Type 0
-EachLegIsSound leases runs = (p : LegPlace) (x : LegState) → leg_at runs p ≡ Some x → LegIsSound leases p x
+EachLegIsSound leases runs = (p : LegSite) (x : LegState) → leg_at runs p ≡ Some x → LegIsSound leases p x
 
 -- ---- a job
 
 -- it has legs only if its needed jobs are finished
 abbrev pub NeedsAreFirst : List RunState → ℕ → ℕ → JobState → Type 0
-NeedsAreFirst runs r j x = (x.legs ≡ [] → ⊥) → needs_have_settled runs r j ≡ true
+NeedsAreFirst runs r j x = (x.legs ≡ [] → ⊥) → needs_have_finished runs r j ≡ true
 
 -- at most max-parallel of its legs are at work
 abbrev pub IsWithinParallel : List RunState → ℕ → ℕ → JobState → Type 0

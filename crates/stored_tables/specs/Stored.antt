@@ -5,47 +5,47 @@ use Rattle.run_plan.specs.declared.last_command.ClaimReply.TheVariants as given
 use Rattle.run_plan.specs.declared.last_command.KeptLease.{KeptLease}
 use Rattle.run_plan.specs.declared.last_command.LastCommand.{LastCommand}
 use Rattle.run_plan.specs.declared.last_command.LastCommand.TheVariants as last
-use Rattle.run_states.specs.Places.{leg_place}
-use Rattle.run_states.specs.declared.place.LegPlace.{LegPlace}
+use Rattle.run_states.specs.Places.{leg_site}
+use Rattle.run_states.specs.declared.place.LegSite.{LegSite}
 pub use Rattle.run_states.specs.StateWords.{is_new}
 use Rattle.run_table.specs.TableState.{RunnerState, TableState}
 use Rattle.run_states.specs.RunState.{RunState}
 use Rattle.stored_tables.specs.declared.parts.LastParts.{LastParts}
 use Rattle.stored_tables.specs.declared.parts.LastParts.TheVariants as stored
 use Rattle.stored_tables.specs.declared.parts.StoredLease.{StoredLease}
-use Rattle.stored_tables.specs.declared.parts.StoredPlace.{StoredPlace}
+use Rattle.stored_tables.specs.declared.parts.StoredSite.{StoredSite}
 
 -- a runner: its last numbered command with the lease that it was granted, and the lease that it holds
-pub record StoredRunner : Type 0 where
+pub record RunnerParts : Type 0 where
   pub name : List ℕ
   pub number : ℕ
   pub last : LastParts
   pub holds : Option ℕ
 
-pub record StoredTable : Type 0 where
+pub record TableParts : Type 0 where
   pub last_lease : ℕ
   pub runs : List RunState
-  pub runners : List StoredRunner
+  pub runners : List RunnerParts
 
 -- ---- from a table
 
-abbrev pub stored_place : KeptLease → StoredPlace
-stored_place kept = record { run = kept.lease_reply.run; attempt = kept.attempt; job = kept.job; leg = kept.lease_reply.leg }
+abbrev pub stored_site : KeptLease → StoredSite
+stored_site kept = record { run = kept.lease_reply.run; attempt = kept.attempt; job = kept.job; leg = kept.lease_reply.leg }
 
 -- the leg's place in the runs
-abbrev pub place_in_runs : StoredPlace → LegPlace
-place_in_runs stored = leg_place (stored.run - 1) stored.job stored.leg
+abbrev pub site_in_runs : StoredSite → LegSite
+site_in_runs stored = leg_site (stored.run - 1) stored.job stored.leg
 
 abbrev pub stored_lease : KeptLease → StoredLease
-stored_lease kept = record { lease = kept.lease_reply.lease; place = Some (stored_place kept) }
+stored_lease kept = record { lease = kept.lease_reply.lease; place = Some (stored_site kept) }
 
 abbrev pub stored_last : LastCommand → LastParts
 stored_last (last.Claim claim given.Nothing) = stored.Claim claim None
 stored_last (last.Claim claim (given.Lease kept)) = stored.Claim claim (Some (stored_lease kept))
 stored_last (last.Done report) = stored.Done report
 
-abbrev pub stored_runner : RunnerState → StoredRunner
+abbrev pub stored_runner : RunnerState → RunnerParts
 stored_runner r = record { name = r.name; number = r.number; last = stored_last r.last; holds = r.holds }
 
-abbrev pub stored_table : TableState → StoredTable
+abbrev pub stored_table : TableState → TableParts
 stored_table t = record { last_lease = t.last_lease; runs = t.runs; runners = map stored_runner t.runners }

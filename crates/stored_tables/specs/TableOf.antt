@@ -9,19 +9,19 @@ use Rattle.run_plan.specs.declared.last_command.LastCommand.TheVariants as last
 use Rattle.run_states.specs.Places.{run_at}
 use Rattle.run_states.specs.RunState.{RunState}
 use Rattle.run_table.specs.Sound.{IsOfALeg, IsSound}
-use Rattle.stored_tables.specs.Stored.{StoredRunner, StoredTable, stored_place}
+use Rattle.stored_tables.specs.Stored.{RunnerParts, TableParts, stored_site}
 use Rattle.run_table.specs.TableState.{RunnerState, TableState}
 use Rattle.stored_tables.specs.declared.parts.LastParts.{LastParts}
 use Rattle.stored_tables.specs.declared.parts.LastParts.TheVariants as stored
 use Rattle.stored_tables.specs.declared.parts.StoredLease.{StoredLease}
-use Rattle.stored_tables.specs.declared.parts.StoredPlace.{StoredPlace}
+use Rattle.stored_tables.specs.declared.parts.StoredSite.{StoredSite}
 
 -- ---- kept leases
 
 -- the lease has the stored place; if none is stored, the lease is of its run's current attempt, so a leg has it
-abbrev pub IsPlacedAs : List RunState → Option StoredPlace → KeptLease → Type 0
+abbrev pub IsPlacedAs : List RunState → Option StoredSite → KeptLease → Type 0
 IsPlacedAs runs None kept = kept.attempt ≡ option_map_or (λ x. x.attempt) (run_at runs (kept.lease_reply.run - 1)) 0
-IsPlacedAs runs (Some place) kept = stored_place kept ≡ place
+IsPlacedAs runs (Some place) kept = stored_site kept ≡ place
 
 pub record IsLeaseAs (most : ℕ) (runs : List RunState) (parts : StoredLease) (kept : KeptLease) : Type 0 where
   pub lease : kept.lease_reply.lease ≡ parts.lease
@@ -43,26 +43,26 @@ IsLastAs most runs (stored.Claim claim given) (last.Done report) = ⊥
 IsLastAs most runs (stored.Done report) (last.Claim claim reply) = ⊥
 IsLastAs most runs (stored.Done report) (last.Done other) = other ≡ report
 
-pub record IsRunnerAs (most : ℕ) (runs : List RunState) (parts : StoredRunner) (x : RunnerState) : Type 0 where
+pub record IsRunnerAs (most : ℕ) (runs : List RunState) (parts : RunnerParts) (x : RunnerState) : Type 0 where
   pub name : x.name ≡ parts.name
   pub number : x.number ≡ parts.number
   pub last : IsLastAs most runs parts.last x.last
   pub holds : x.holds ≡ parts.holds
 
 -- each at its index
-pub record AreRunnersAs (most : ℕ) (runs : List RunState) (parts : List StoredRunner) (runners : List RunnerState) : Type 0 where
+pub record AreRunnersAs (most : ℕ) (runs : List RunState) (parts : List RunnerParts) (runners : List RunnerState) : Type 0 where
   pub as_many : length runners ≡ length parts
-  pub each : (k : ℕ) (part : StoredRunner) (x : RunnerState) → slice_get parts k ≡ Some part → slice_get runners k ≡ Some x
+  pub each : (k : ℕ) (part : RunnerParts) (x : RunnerState) → slice_get parts k ≡ Some part → slice_get runners k ≡ Some x
       → IsRunnerAs most runs part x
 
 -- ---- the table of the parts
 
-pub record IsStoredAs (parts : StoredTable) (t : TableState) : Type 0 where
+pub record IsStoredAs (parts : TableParts) (t : TableState) : Type 0 where
   pub is_sound : IsSound t
   pub last_lease : t.last_lease ≡ parts.last_lease
   pub runs : t.runs ≡ parts.runs
   pub runners : AreRunnersAs t.last_lease t.runs parts.runners t.runners
 
 -- no table is stored so
-abbrev pub IsNoTable : StoredTable → Type 0
+abbrev pub IsNoTable : TableParts → Type 0
 IsNoTable parts = (t : TableState) → IsStoredAs parts t → ⊥

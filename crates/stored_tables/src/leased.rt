@@ -10,16 +10,16 @@ ghost use Rattle.run_plan.specs.declared.last_command.KeptLease.{KeptLease as Ke
 ghost use Rattle.stored_tables.specs.ByLease.{FindsLegs};
 ghost use Rattle.run_table.specs.Sound.{IsOfALeg};
 ghost use Rattle.run_table.specs.Step.{kept_lease};
-ghost use Rattle.stored_tables.specs.Stored.{place_in_runs};
+ghost use Rattle.stored_tables.specs.Stored.{site_in_runs};
 ghost use Rattle.stored_tables.specs.TableOf.{IsLeaseAs};
 ghost use Rattle.run_states.specs.AsPlanned.{AreAsPlanned};
 ghost use Rattle.run_states.specs.Places.{run_at};
 ghost use Rattle.run_states.specs.Words.{planned_legs};
 
-use crate::parts::{StoredLease, StoredPlace};
+use crate::parts::{StoredLease, StoredSite};
 use crate::sound::jobs::planned_legs;
 use run_plan::{KeptLease, Number};
-use run_states::LegPlace;
+use run_states::LegSite;
 use run_table::{kept_lease, leg_has_lease};
 use std::alloc::Global;
 use std::collections::BTreeMap;
@@ -32,7 +32,7 @@ pub(crate) struct Leased<'a> {
     pub alloc: Global,
     pub last: u32,
     pub runs: &'a Runs,
-    pub legs: &'a BTreeMap<u32, LegPlace>,
+    pub legs: &'a BTreeMap<u32, LegSite>,
 }
 
 impl<'a> Leased<'a> {
@@ -76,7 +76,7 @@ impl<'a> Leased<'a> {
     }
 
     /// The lease, at the place where it was granted, or `None` if there is no such leg.
-    fn given_at(&self, lease: Number, stored: &StoredPlace) -> Result<Option<KeptLease>, Refusal>
+    fn given_at(&self, lease: Number, stored: &StoredSite) -> Result<Option<KeptLease>, Refusal>
         requires last { lease ≤ self.now.last }
         requires few { length self.now.runs.now ≤ max_runs }
         ensures err { ErrsOnlyByMemory result }
@@ -84,7 +84,7 @@ impl<'a> Leased<'a> {
             ((kept : Kept) → IsLeaseAs self.now.last self.now.runs.now (record { lease = lease; place = Some stored.now }) kept → ⊥)
             (λ kept. IsLeaseAs self.now.last self.now.runs.now (record { lease = lease; place = Some stored.now }) kept)) }
     {
-        let place = place_in_runs(stored);
+        let place = site_in_runs(stored);
         let attempt = stored.attempt;
         if !self.is_of_a_leg(lease, attempt, place) {
             return Ok(None);
@@ -94,7 +94,7 @@ impl<'a> Leased<'a> {
     }
 
     /// Whether the plan has the leg at the place, and the leg may have been granted the lease in this attempt.
-    fn is_of_a_leg(&self, lease: Number, attempt: Number, place: LegPlace) -> bool
+    fn is_of_a_leg(&self, lease: Number, attempt: Number, place: LegSite) -> bool
         requires { lease ≤ self.now.last }
         ensures { Decides result (IsOfALeg self.now.last self.now.runs.now (kept_lease self.now.runs.now attempt place lease)) }
     {
@@ -111,21 +111,21 @@ impl<'a> Leased<'a> {
     }
 }
 
-fn place_in_runs(stored: &StoredPlace) -> LegPlace
-    ensures place { result ≡ place_in_runs stored.now }
+fn site_in_runs(stored: &StoredSite) -> LegSite
+    ensures place { result ≡ site_in_runs stored.now }
     ensures run { 1 ≤ stored.now.run }
 {
-    LegPlace::new(stored.run.get() as usize - 1, stored.job, stored.leg)
+    LegSite::new(stored.run.get() as usize - 1, stored.job, stored.leg)
 }
 
-fn is_planned(runs: &Runs, place: LegPlace) -> bool
+fn is_planned(runs: &Runs, place: LegSite) -> bool
     ensures { result ≡ nat_lt place.leg (planned_legs runs.now place.run place.job) }
 {
     place.leg < planned_legs(runs, place.run, place.job)
 }
 
 /// The current attempt of a leg's run.
-fn attempt_of(runs: &Runs, place: LegPlace) -> Option<Number>
+fn attempt_of(runs: &Runs, place: LegSite) -> Option<Number>
     ensures { result ≡ option_map (λ x. x.attempt) (run_at runs.now place.run) }
 {
     let run = runs.as_slice().get(place.run)?;

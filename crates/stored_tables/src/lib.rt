@@ -7,4 +7,4 @@ mod runners;
 mod sound;
 mod table;
 
-pub use parts::{LastParts, RunnerParts, StoredLease, StoredPlace, TableParts, do_names_rise};
+pub use parts::{LastParts, RunnerParts, StoredLease, StoredSite, TableParts, do_names_rise};

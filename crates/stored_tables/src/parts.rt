@@ -13,7 +13,7 @@ use wf_value::Sequence;
 
 /// The place of a leg in an attempt of its run.
 #[derive(Clone, Copy)]
-pub struct StoredPlace {
+pub struct StoredSite {
     /// The run's id.
     pub run: Number,
     pub attempt: Number,
@@ -28,7 +28,7 @@ pub struct StoredPlace {
 pub struct StoredLease {
     pub lease: Number,
     /// The place of its leg. If it is absent, the leg is the one that has the lease.
-    pub place: Option<StoredPlace>,
+    pub place: Option<StoredSite>,
 }
 
 /// A runner's last numbered command, with what is stored of its kept reply.
@@ -51,9 +51,9 @@ pub struct RunnerParts {
 }
 
 impl Model for RunnerParts {
-    ghost use Rattle.stored_tables.specs.Stored.{StoredRunner};
+    ghost use Rattle.stored_tables.specs.Stored.{RunnerParts};
 
-    ghost Value = { StoredRunner };
+    ghost Value = { RunnerParts };
 
     ghost view = { λ r. record { name = r.name; number = r.number; last = r.last; holds = r.holds } };
 }
@@ -69,9 +69,9 @@ pub struct TableParts {
 }
 
 impl Model for TableParts {
-    ghost use Rattle.stored_tables.specs.Stored.{StoredTable};
+    ghost use Rattle.stored_tables.specs.Stored.{TableParts};
 
-    ghost Value = { StoredTable };
+    ghost Value = { TableParts };
 
     ghost view = { λ t. record { last_lease = t.last_lease; runs = t.runs; runners = t.runners } };
 }

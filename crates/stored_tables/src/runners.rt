@@ -15,7 +15,7 @@ ghost use Rattle.run_states.specs.AsPlanned.{AreAsPlanned};
 use crate::leased::Leased;
 use crate::parts::{LastParts, RunnerParts, StoredLease, do_names_rise};
 use run_plan::{ClaimReply, LastCommand};
-use run_states::LegPlace;
+use run_states::LegSite;
 use run_table::Runner;
 use std::alloc::Global;
 use std::collections::BTreeMap;
@@ -27,7 +27,7 @@ pub(crate) fn runners_of(
     alloc: Global,
     last: u32,
     runs: &Runs,
-    legs: &BTreeMap<u32, LegPlace>,
+    legs: &BTreeMap<u32, LegSite>,
     parts: &[RunnerParts],
 ) -> Result<Option<Vec<Runner>>, Refusal>
     requires legs { FindsLegs runs.now (get nat_cmp legs.now) }

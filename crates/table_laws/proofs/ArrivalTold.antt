@@ -7,7 +7,7 @@ use Rattle.wf_value.specs.declared.outcome.Outcome.TheVariants.{Cancelled}
 use Rattle.run_states.specs.FirstOf.{changed_at}
 use Rattle.run_states.specs.Moves.{Move, Transition, and_then, at_each, without_moves}
 use Rattle.run_states.specs.Places.{leg_at, run_at, with_leg}
-use Rattle.run_states.specs.declared.place.LegPlace.{LegPlace}
+use Rattle.run_states.specs.declared.place.LegSite.{LegSite}
 use Rattle.run_states.specs.RunState.{LegState, RunState}
 use Rattle.run_states.specs.StopMoves.{displace, jobs_stop_moves, leg_stop_moves, run_stop_moves_in, stop_holder, stop_request_moves}
 use Rattle.run_states.specs.Stops.{stopped, stopped_in, stopped_run}
@@ -55,7 +55,7 @@ run_stop_when_waiting r run.Waiting b x e = refl
 run_stop_when_waiting r run.Live b x e = cc
 run_stop_when_waiting r run.Ended b x e = cc
 
-leg_stop_when_waiting : (p : LegPlace) (phase : LegPhase) → leg_status phase ≡ Status.waiting
+leg_stop_when_waiting : (p : LegSite) (phase : LegPhase) → leg_status phase ≡ Status.waiting
     → leg_stop_moves p phase ≡ Move.stop (Leg p) ∷ Move.end_with Cancelled (Leg p) ∷ []
 leg_stop_when_waiting p leg.New e = cc
 leg_stop_when_waiting p leg.Waiting e = refl
@@ -146,7 +146,7 @@ run_begins r run.Live x is e =
 run_begins r run.Ended x is e = let no : Status.over ≡ Status.in_progress false = sym (ap (λ
     (phase : RunPhase). run_status phase x.stopping) is) ∙ e in cc
 
-leg_begins : (p : LegPlace) (phase : LegPhase) → leg_status phase ≡ Status.in_progress false
+leg_begins : (p : LegSite) (phase : LegPhase) → leg_status phase ≡ Status.in_progress false
     → BeginsWith (Move.stop (Leg p) ∷ []) (leg_stop_moves p phase)
 leg_begins p leg.New e = cc
 leg_begins p leg.Waiting e = cc

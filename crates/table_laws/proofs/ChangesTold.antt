@@ -7,8 +7,8 @@ use Rattle.std.proofs.Common.{ap, inl, inr, sym, ◌∙◌, subst}
 use Rattle.std.proofs.lemmas.Bool.{cases_eq}
 use Rattle.run_states.specs.GroupWords.{holder_of, same_holder}
 use Rattle.run_states.specs.Moves.{Move}
-use Rattle.run_states.specs.Places.{job_at, leg_at, leg_place, run_at, with_job, with_leg, with_run}
-use Rattle.run_states.specs.declared.place.LegPlace.{LegPlace}
+use Rattle.run_states.specs.Places.{job_at, leg_at, leg_site, run_at, with_job, with_leg, with_run}
+use Rattle.run_states.specs.declared.place.LegSite.{LegSite}
 use Rattle.run_states.specs.RunState.{LegState, JobState, RunState}
 use Rattle.run_states.specs.StateWords.{new_leg}
 use Rattle.run_states.specs.StopMoves.{leg_stop_moves, legs_stop_moves, stop_holder}
@@ -45,7 +45,7 @@ only_none k h other = refl
 
 -- ---- a job
 
-status_by_job : (runs : List RunState) (q : LegPlace)
+status_by_job : (runs : List RunState) (q : LegSite)
     → status runs (Leg q) ≡ status_by (status_in_job q.leg) (job_at runs q.run q.job)
 status_by_job runs q = through status_of_leg (λ (y : JobState). slice_get y.legs q.leg) (job_at runs q.run q.job)
 
@@ -93,9 +93,9 @@ run_status_same r j f runs s =
 -- what has to be shown for a change of a job
 pub record TellsOfJob (r j : ℕ) (f : JobState → JobState) (runs : List RunState) (moves : List Move) : Type 0 where
   pub there : (l : ℕ) (y : JobState) → job_at runs r j ≡ Some y
-      → Goes (Leg (leg_place r j l)) (status_in_job l y) (own (Leg (leg_place r j l)) moves) (status_in_job l (f y))
-  pub nowhere : (l : ℕ) → job_at runs r j ≡ None → own (Leg (leg_place r j l)) moves ≡ []
-  pub only : (h : Holder) → ((l : ℕ) → h ≡ Leg (leg_place r j l) → ⊥) → own h moves ≡ []
+      → Goes (Leg (leg_site r j l)) (status_in_job l y) (own (Leg (leg_site r j l)) moves) (status_in_job l (f y))
+  pub nowhere : (l : ℕ) → job_at runs r j ≡ None → own (Leg (leg_site r j l)) moves ≡ []
+  pub only : (h : Holder) → ((l : ℕ) → h ≡ Leg (leg_site r j l) → ⊥) → own h moves ≡ []
 
 module _ (r j : ℕ) (f : JobState → JobState) (runs : List RunState) (moves : List Move) (tells : TellsOfJob r j f runs moves) where
   no_move : (h : Holder) → own h moves ≡ [] → status (with_job r j f runs) h ≡ status runs h
@@ -105,20 +105,20 @@ module _ (r j : ℕ) (f : JobState → JobState) (runs : List RunState) (moves :
       (goes_same h (status runs h) (status (with_job r j f runs) h) same)
 
   goes_in_job : (l : ℕ) (o : Option JobState) → job_at runs r j ≡ o
-      → Goes (Leg (leg_place r j l)) (status_by (status_in_job l) o) (own (Leg (leg_place r j l)) moves)
+      → Goes (Leg (leg_site r j l)) (status_by (status_in_job l) o) (own (Leg (leg_site r j l)) moves)
       (status_by (status_in_job l) (option_map f o))
   goes_in_job l None is =
-      goes_by (Leg (leg_place r j l)) Status.unarrived Status.unarrived (own (Leg (leg_place r j l)) moves) []
-      (sym (tells.nowhere l is)) (goes_not (Leg (leg_place r j l)) Status.unarrived)
+      goes_by (Leg (leg_site r j l)) Status.unarrived Status.unarrived (own (Leg (leg_site r j l)) moves) []
+      (sym (tells.nowhere l is)) (goes_not (Leg (leg_site r j l)) Status.unarrived)
   goes_in_job l (Some y) is = tells.there l y is
 
   leg_goes : (l : ℕ)
-      → Goes (Leg (leg_place r j l)) (status runs (Leg (leg_place r j l))) (own (Leg (leg_place r j l)) moves)
-      (status (with_job r j f runs) (Leg (leg_place r j l)))
+      → Goes (Leg (leg_site r j l)) (status runs (Leg (leg_site r j l))) (own (Leg (leg_site r j l)) moves)
+      (status (with_job r j f runs) (Leg (leg_site r j l)))
   leg_goes l =
-      let h = Leg (leg_place r j l) in
-      let before = status_by_job runs (leg_place r j l) in
-      let after = status_by_job (with_job r j f runs) (leg_place r j l) ∙ ap (status_by (status_in_job l)) (job_changed r j f runs) in
+      let h = Leg (leg_site r j l) in
+      let before = status_by_job runs (leg_site r j l) in
+      let after = status_by_job (with_job r j f runs) (leg_site r j l) ∙ ap (status_by (status_in_job l)) (job_changed r j f runs) in
       subst (λ (s : Status). Goes h s (own h moves) (status (with_job r j f runs) h)) (sym before)
       (subst (λ (s : Status). Goes h (status_by (status_in_job l) (job_at runs r j)) (own h moves) s) (sym after)
       (goes_in_job l (job_at runs r j) refl))
@@ -129,32 +129,32 @@ module _ (r j : ℕ) (f : JobState → JobState) (runs : List RunState) (moves :
   job_tells (Leg q) =
       elim (cases_eq q.run r) [
         | inr other ↦
-            no_move (Leg q) (tells.only (Leg q) (λ l e. other (run_is q (leg_place r j l) e)))
+            no_move (Leg q) (tells.only (Leg q) (λ l e. other (run_is q (leg_site r j l) e)))
             (status_by_job (with_job r j f runs) q ∙ ap (status_by (status_in_job q.leg)) (another_run r j f runs q.run q.job other)
             ∙ sym (status_by_job runs q))
         | inl same ↦ elim (cases_eq q.job j) [
           | inr other ↦
-              no_move (Leg q) (tells.only (Leg q) (λ l e. other (job_is q (leg_place r j l) e)))
+              no_move (Leg q) (tells.only (Leg q) (λ l e. other (job_is q (leg_site r j l) e)))
               (status_by_job (with_job r j f runs) q
               ∙ ap (λ (s : ℕ). status_by (status_in_job q.leg) (job_at (with_job r j f runs) s q.job)) same
               ∙ ap (status_by (status_in_job q.leg)) (another_job r j f runs q.job other)
               ∙ ap (λ (s : ℕ). status_by (status_in_job q.leg) (job_at runs s q.job)) (sym same)
               ∙ sym (status_by_job runs q))
           | inl too ↦ subst
-              (λ (p : LegPlace). Goes (Leg p) (status runs (Leg p)) (own (Leg p) moves)
+              (λ (p : LegSite). Goes (Leg p) (status runs (Leg p)) (own (Leg p) moves)
               (status (with_job r j f runs) (Leg p))) (place_is q same too) (leg_goes q.leg)
         ]
       ]
     where
-      run_is : (p q : LegPlace) → Leg p ≡ Leg q → p.run ≡ q.run
-      run_is p q e = let same : p ≡ q = cc in ap (λ (x : LegPlace). x.run) same
+      run_is : (p q : LegSite) → Leg p ≡ Leg q → p.run ≡ q.run
+      run_is p q e = let same : p ≡ q = cc in ap (λ (x : LegSite). x.run) same
 
-      job_is : (p q : LegPlace) → Leg p ≡ Leg q → p.job ≡ q.job
-      job_is p q e = let same : p ≡ q = cc in ap (λ (x : LegPlace). x.job) same
+      job_is : (p q : LegSite) → Leg p ≡ Leg q → p.job ≡ q.job
+      job_is p q e = let same : p ≡ q = cc in ap (λ (x : LegSite). x.job) same
 
-      place_is : (q : LegPlace) → q.run ≡ r → q.job ≡ j → leg_place r j q.leg ≡ q
+      place_is : (q : LegSite) → q.run ≡ r → q.job ≡ j → leg_site r j q.leg ≡ q
       place_is q same too =
-          ap (λ (a : ℕ). leg_place a j q.leg) (sym same) ∙ ap (λ (b : ℕ). leg_place q.run b q.leg) (sym too)
+          ap (λ (a : ℕ). leg_site a j q.leg) (sym same) ∙ ap (λ (b : ℕ). leg_site q.run b q.leg) (sym too)
 
 -- a job that keeps the status of its legs
 pub quiet_job_tells : (r j : ℕ) (f : JobState → JobState) (runs : List RunState)
@@ -163,7 +163,7 @@ pub quiet_job_tells : (r j : ℕ) (f : JobState → JobState) (runs : List RunSt
 quiet_job_tells r j f runs same =
     job_tells r j f runs []
     (record {
-      there = (λ l y is. goes_same (Leg (leg_place r j l)) (status_in_job l y) (status_in_job l (f y)) (same l y is));
+      there = (λ l y is. goes_same (Leg (leg_site r j l)) (status_in_job l y) (status_in_job l (f y)) (same l y is));
       nowhere = (λ l none. refl);
       only = (λ h other. refl);
     })
@@ -180,7 +180,7 @@ new_legs_same n l legs none = no_new_leg_there n l ∙ sym (ap (λ (ls : List Le
 
 -- ---- a leg
 
-pub leg_tells : (p : LegPlace) (f : LegState → LegState) (runs : List RunState) (moves : List Move)
+pub leg_tells : (p : LegSite) (f : LegState → LegState) (runs : List RunState) (moves : List Move)
     → ((z : LegState) → leg_at runs p ≡ Some z → Goes (Leg p) (status_of_leg z) (own (Leg p) moves) (status_of_leg (f z)))
     → (leg_at runs p ≡ None → own (Leg p) moves ≡ []) → OnlyOf (Leg p) moves
     → Tells runs (record { runs = with_leg p f runs; moves = moves })
@@ -189,26 +189,26 @@ leg_tells p f runs moves there nowhere only =
     (record {
       there = (λ l y is. elim (cases_eq l p.leg) [
         | inl same ↦ subst
-            (λ (k : ℕ). Goes (Leg (leg_place p.run p.job k)) (status_in_job k y) (own (Leg
-            (leg_place p.run p.job k)) moves)
+            (λ (k : ℕ). Goes (Leg (leg_site p.run p.job k)) (status_in_job k y) (own (Leg
+            (leg_site p.run p.job k)) moves)
             (status_in_job k (with_leg_of p.leg f y))) (sym same) (in_job y is)
         | inr other ↦
-            let h = Leg (leg_place p.run p.job l) in
+            let h = Leg (leg_site p.run p.job l) in
             goes_by h (status_in_job l y) (status_in_job l (with_leg_of p.leg f y)) (own h moves) []
-            (sym (only h (λ e. other (leg_is (leg_place p.run p.job l) p e))))
+            (sym (only h (λ e. other (leg_is (leg_site p.run p.job l) p e))))
             (goes_same h (status_in_job l y) (status_in_job l (with_leg_of p.leg f y)) (ap (status_by status_of_leg)
             (at_another p.leg f y.legs l other)))
       ]);
       nowhere = (λ l none. elim (cases_eq l p.leg) [
-        | inl same ↦ ap (λ (k : ℕ). own (Leg (leg_place p.run p.job k)) moves) same
+        | inl same ↦ ap (λ (k : ℕ). own (Leg (leg_site p.run p.job k)) moves) same
             ∙ nowhere (ap (option_and_then (λ (y : JobState). slice_get y.legs p.leg)) none)
-        | inr other ↦ only (Leg (leg_place p.run p.job l)) (λ e. other (leg_is (leg_place p.run p.job l) p e))
+        | inr other ↦ only (Leg (leg_site p.run p.job l)) (λ e. other (leg_is (leg_site p.run p.job l) p e))
       ]);
       only = (λ h none. only h (λ e. none p.leg e));
     })
   where
-    leg_is : (p q : LegPlace) → Leg p ≡ Leg q → p.leg ≡ q.leg
-    leg_is p q e = let same : p ≡ q = cc in ap (λ (x : LegPlace). x.leg) same
+    leg_is : (p q : LegSite) → Leg p ≡ Leg q → p.leg ≡ q.leg
+    leg_is p q e = let same : p ≡ q = cc in ap (λ (x : LegSite). x.leg) same
 
     at_leg : (y : JobState) → job_at runs p.run p.job ≡ Some y → leg_at runs p ≡ slice_get y.legs p.leg
     at_leg y is = ap (option_and_then (λ (y : JobState). slice_get y.legs p.leg)) is
@@ -227,16 +227,16 @@ leg_tells p f runs moves there nowhere only =
         (status_by status_of_leg o))
         (sym (at_changed p.leg f y.legs)) (by_leg y (slice_get y.legs p.leg) (at_leg y is))
 
-leg_stop_by : (p : LegPlace) (o : Option LegState) (z : LegState) → o ≡ Some z
+leg_stop_by : (p : LegSite) (o : Option LegState) (z : LegState) → o ≡ Some z
     → own (Leg p) (leg_stop_moves p z.phase) ≡ own (Leg p) (option_map_or (λ l. leg_stop_moves p l.phase) o [])
 leg_stop_by p o z is = ap (λ u. own (Leg p) (option_map_or (λ l. leg_stop_moves p l.phase) u [])) (sym is)
 
-not_own_stop : (h : Holder) (p : LegPlace) (o : Option LegState) → same_holder h (Leg p) ≡ false
+not_own_stop : (h : Holder) (p : LegSite) (o : Option LegState) → same_holder h (Leg p) ≡ false
     → own h (option_map_or (λ l. leg_stop_moves p l.phase) o []) ≡ []
 not_own_stop h p None other = refl
 not_own_stop h p (Some z) other = not_own_leg_stop h p z.phase other
 
-pub leg_stop_tells : (p : LegPlace) (runs : List RunState) → Tells runs (stop_holder (Leg p) runs)
+pub leg_stop_tells : (p : LegSite) (runs : List RunState) → Tells runs (stop_holder (Leg p) runs)
 leg_stop_tells p runs =
     let moves : List Move = option_map_or (λ l. leg_stop_moves p l.phase) (leg_at runs p) [] in
     leg_tells p stopped runs moves
@@ -262,18 +262,18 @@ legs_stop_tells r j runs =
     job_tells r j with_stopped_legs runs moves
     (record {
       there = (λ l y is.
-          let h = Leg (leg_place r j l) in
+          let h = Leg (leg_site r j l) in
           goes_by h (status_in_job l y) (status_in_job l (with_stopped_legs y)) (own h moves) (own h (legs_stop_moves r j y.legs))
-          (ap (λ o. own h (option_map_or (λ (job : JobState). legs_stop_moves r j job.legs) o [])) (sym is)) (legs_go (leg_place r j l) y));
-      nowhere = (λ l none. ap (λ o. own (Leg (leg_place r j l)) (option_map_or (λ
+          (ap (λ o. own h (option_map_or (λ (job : JobState). legs_stop_moves r j job.legs) o [])) (sym is)) (legs_go (leg_site r j l) y));
+      nowhere = (λ l none. ap (λ o. own (Leg (leg_site r j l)) (option_map_or (λ
           (job : JobState). legs_stop_moves r j job.legs) o [])) none);
       only = (λ h none. not_own h none (job_at runs r j));
     })
   where
-    not_own : (h : Holder) → ((l : ℕ) → h ≡ Leg (leg_place r j l) → ⊥) → (o : Option JobState)
+    not_own : (h : Holder) → ((l : ℕ) → h ≡ Leg (leg_site r j l) → ⊥) → (o : Option JobState)
         → own h (option_map_or (λ job. legs_stop_moves r j job.legs) o []) ≡ []
     not_own h none None = refl
-    not_own h none (Some y) = not_own_legs h r j y.legs (λ l. apart_by h (Leg (leg_place r j l)) (none l))
+    not_own h none (Some y) = not_own_legs h r j y.legs (λ l. apart_by h (Leg (leg_site r j l)) (none l))
 
 -- ---- a run
 
@@ -313,12 +313,12 @@ run_tells r f runs moves same_jobs there nowhere only (Leg q) =
     (goes_same h (status runs h) (status (with_run r f runs) h)
     (status_by_run (with_run r f runs) q ∙ still q ∙ sym (status_by_run runs q)))
   where
-    same_legs : (q : LegPlace) (o : Option RunState)
+    same_legs : (q : LegSite) (o : Option RunState)
         → status_by (status_in_run q.job q.leg) (option_map f o) ≡ status_by (status_in_run q.job q.leg) o
     same_legs q None = refl
     same_legs q (Some x) = ap (λ (jobs : List JobState). status_by (status_in_job q.leg) (slice_get jobs q.job)) (same_jobs x)
 
-    still : (q : LegPlace)
+    still : (q : LegSite)
         → status_by (status_in_run q.job q.leg) (run_at (with_run r f runs) q.run) ≡ status_by (status_in_run q.job q.leg)
         (run_at runs q.run)
     still q =

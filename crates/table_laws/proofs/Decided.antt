@@ -14,9 +14,9 @@ use Rattle.needs_graph.specs.Conditions.{condition_value, results_at}
 use Rattle.run_plan.specs.declared.planned.PlannedJob.{PlannedJob}
 use Rattle.run_states.specs.FirstOf.{changed_at}
 use Rattle.run_states.specs.Places.{run_at, job_at, with_job, with_leg}
-use Rattle.run_states.specs.declared.place.LegPlace.{LegPlace}
+use Rattle.run_states.specs.declared.place.LegSite.{LegSite}
 use Rattle.run_states.specs.RunState.{LegState, JobState, RunState}
-use Rattle.run_states.specs.Words.{ancestor_results, condition_of, job_results, needs_graph_at, needs_have_settled, settled_result}
+use Rattle.run_states.specs.Words.{ancestor_results, condition_of, job_results, needs_graph_at, needs_have_finished, finished_result}
 use Rattle.run_states.specs.declared.phases.JobPhase.{JobPhase}
 use Rattle.run_states.specs.declared.phases.JobPhase.TheVariants as job
 use Rattle.run_states.proofs.Changed.{holds_of_each}
@@ -29,9 +29,9 @@ use Rattle.table_laws.proofs.AncestorsSettled.{NeedsBefore, ancestors_settled, r
 -- what holds of a job once it is not blocked
 abbrev pub JobDecided : List RunState → ℕ → ℕ → JobPhase → Type 0
 JobDecided runs r j job.Blocked = Unit {0}
-JobDecided runs r j job.Open = needs_have_settled runs r j ≡ true
-JobDecided runs r j (job.Settled s) =
-    (needs_have_settled runs r j ≡ true)
+JobDecided runs r j job.Open = needs_have_finished runs r j ≡ true
+JobDecided runs r j (job.Finished s) =
+    (needs_have_finished runs r j ≡ true)
     × (s ≡ result.Skipped → condition_value (condition_of runs r j) (ancestor_results runs r j) false ≡ false)
 
 abbrev pub Decided : List RunState → Type 0
@@ -39,24 +39,24 @@ Decided runs = (r j : ℕ) (y : JobState) → job_at runs r j ≡ Some y → Job
 
 -- ---- what was decided does not change
 
-needs_of_settled : (runs : List RunState) (r j : ℕ) (phase : JobPhase) (a : JobResult) → settled_result phase ≡ Some a
-    → JobDecided runs r j phase → needs_have_settled runs r j ≡ true
+needs_of_settled : (runs : List RunState) (r j : ℕ) (phase : JobPhase) (a : JobResult) → finished_result phase ≡ Some a
+    → JobDecided runs r j phase → needs_have_finished runs r j ≡ true
 needs_of_settled runs r j job.Blocked a e d = cc
 needs_of_settled runs r j job.Open a e d = d
-needs_of_settled runs r j (job.Settled s) a e d = d.0
+needs_of_settled runs r j (job.Finished s) a e d = d.0
 
 needs_before : (runs : List RunState) → Decided runs → (r : ℕ) → NeedsBefore (needs_graph_at runs r) (job_results runs r)
 needs_before runs all r j h =
     let (a, is) = some_of (slice_index_or (job_results runs r) j None) h in
     let of_run = from_and_then (λ (run : RunState). result_in run j) (run_at runs r) a (sym (result_of_job runs r j) ∙ is) in
-    let of_job = from_and_then (λ (y : JobState). settled_result y.phase) (slice_get of_run.value.jobs j) a of_run.gives in
+    let of_job = from_and_then (λ (y : JobState). finished_result y.phase) (slice_get of_run.value.jobs j) a of_run.gives in
     needs_of_settled runs r j of_job.value.phase a of_job.gives
     (all r j of_job.value (job_in_run runs r j of_run.value of_run.is ∙ of_job.is))
 
 module _ (runs next : List RunState) (all : Decided runs) (r : ℕ) (same : admitted_at next r ≡ admitted_at runs r)
     (keeps : KeepsResults runs next r) where
   -- the results of a job's ancestors
-  pub ancestors_stay : (j : ℕ) → needs_have_settled runs r j ≡ true → ancestor_results next r j ≡ ancestor_results runs r j
+  pub ancestors_stay : (j : ℕ) → needs_have_finished runs r j ≡ true → ancestor_results next r j ≡ ancestor_results runs r j
   ancestors_stay j needs =
       ap (λ graph. results_at (job_results next r) (ancestors_of graph j)) (graph_same runs next r same)
       ∙ results_stay (job_results runs r) (job_results next r)
@@ -66,7 +66,7 @@ module _ (runs next : List RunState) (all : Decided runs) (r : ℕ) (same : admi
   pub decided_stays : (j : ℕ) (phase : JobPhase) → JobDecided runs r j phase → JobDecided next r j phase
   decided_stays j job.Blocked d = tt
   decided_stays j job.Open d = needs_stay_settled runs next r j same keeps d
-  decided_stays j (job.Settled s) d = (
+  decided_stays j (job.Finished s) d = (
     needs_stay_settled runs next r j same keeps d.0,
     (λ e. ap (λ o. condition_value (option_map_or (λ (planned : PlannedJob). planned.condition) o condition.Never)
         (ancestor_results next r j) false) (plan_at_same runs next r j same)
@@ -122,14 +122,14 @@ PhasesSame runs next =
     (r j : ℕ) → option_and_then (λ run. phase_in run j) (run_at next r) ≡ option_and_then (λ run. phase_in run j) (run_at runs r)
 
 result_of_phase : (o : Option JobState)
-    → option_and_then (λ (y : JobState). settled_result y.phase) o
-    ≡ option_and_then settled_result (option_and_then (λ (y : JobState). Some y.phase) o)
+    → option_and_then (λ (y : JobState). finished_result y.phase) o
+    ≡ option_and_then finished_result (option_and_then (λ (y : JobState). Some y.phase) o)
 result_of_phase None = refl
 result_of_phase (Some y) = refl
 
 result_by_phase : (o : Option RunState) (j : ℕ)
     → option_and_then (λ (run : RunState). result_in run j) o
-    ≡ option_and_then settled_result (option_and_then (λ (run : RunState). phase_in run j) o)
+    ≡ option_and_then finished_result (option_and_then (λ (run : RunState). phase_in run j) o)
 result_by_phase None j = refl
 result_by_phase (Some run) j = result_of_phase (slice_get run.jobs j)
 
@@ -137,7 +137,7 @@ pub same_phases_decided : (runs next : List RunState) → ((r : ℕ) → admitte
     → Decided runs → Decided next
 same_phases_decided runs next same phases all =
     all_decided runs next all same
-    (λ r j a e. result_by_phase (run_at next r) j ∙ ap (option_and_then settled_result) (phases r j)
+    (λ r j a e. result_by_phase (run_at next r) j ∙ ap (option_and_then finished_result) (phases r j)
     ∙ sym (result_by_phase (run_at runs r) j) ∙ e)
     (λ r j y at. as_before r j y (job_in next r j y at))
   where
@@ -159,6 +159,6 @@ job_change_decided runs r j f same all =
     (λ s i. reads_alike r (with_job_of j f) runs (λ (run : RunState). phase_in run i)
     (λ x. reads_alike j f x.jobs (λ (y : JobState). Some y.phase) (λ y. ap Some (same y)) i) s) all
 
-pub leg_change_decided : (runs : List RunState) (p : LegPlace) (f : LegState → LegState) → Decided runs → Decided (with_leg p f runs)
+pub leg_change_decided : (runs : List RunState) (p : LegSite) (f : LegState → LegState) → Decided runs → Decided (with_leg p f runs)
 leg_change_decided runs p f all =
     job_change_decided runs p.run p.job (λ y. record y { legs = changed_at p.leg f y.legs }) (λ y. refl) all

@@ -13,7 +13,7 @@ use Rattle.run_states.specs.Holders.{run_of}
 use Rattle.run_states.specs.LegContext.{facts_at}
 use Rattle.run_states.specs.NewRun.{new_run}
 use Rattle.run_states.specs.Places.{leg_at, run_at}
-use Rattle.run_states.specs.declared.place.LegPlace.{LegPlace}
+use Rattle.run_states.specs.declared.place.LegSite.{LegSite}
 use Rattle.run_states.specs.RunNumber.{events}
 use Rattle.run_states.specs.RunState.{LegState, RunState}
 use Rattle.run_states.proofs.Found.{at_the_end, before_the_end}
@@ -22,7 +22,7 @@ use Rattle.run_states.proofs.LegFacts.{SameUpTo, attempt_at, facts_stay}
 use Rattle.run_states.proofs.NeedsSettled.{KeepsResults, result_in, result_so_far}
 use Rattle.run_states.proofs.RunFits.{RunsFit, admitted_at}
 use Rattle.run_states.proofs.Settles.{StayFit}
-use Rattle.settling_laws.proofs.GroupStays.{leg_group_same, leg_needs_settled, run_facts_stay, run_group_stays}
+use Rattle.settling_laws.proofs.GroupStays.{leg_group_same, leg_needs_finished, run_facts_stay, run_group_stays}
 use Rattle.settling_laws.proofs.OneEach.{IsOneOf}
 use Rattle.table_laws.specs.Names.{attempt_of}
 use Rattle.run_states.specs.declared.holder.Holder.{Holder}
@@ -105,7 +105,7 @@ same_up_to runs later grows r within s le =
 
 -- ---- a holder that exists
 
-leg_cancels_same : (runs later : List RunState) (p : LegPlace) → facts_at later p ≡ facts_at runs p
+leg_cancels_same : (runs later : List RunState) (p : LegSite) → facts_at later p ≡ facts_at runs p
     → cancels_in_progress later (Leg p) ≡ cancels_in_progress runs (Leg p)
 unfolding cancels_in_progress
 leg_cancels_same runs later p same = ap (λ o. option_map_or leg_cancels o false) same
@@ -121,12 +121,12 @@ module _ (runs later : List RunState) (fit : RunsFit runs) (grows : Grows runs l
       let is : attempt_at runs r ≡ Some x.attempt = ap (option_map (λ (y : RunState). y.attempt)) at in
       grows.same_attempt r x.attempt is ∙ sym is
 
-  leg_facts_kept : (p : LegPlace) (z : LegState) → leg_at runs p ≡ Some z → facts_at later p ≡ facts_at runs p
+  leg_facts_kept : (p : LegSite) (z : LegState) → leg_at runs p ≡ Some z → facts_at later p ≡ facts_at runs p
   leg_facts_kept p z at =
       let place = leg_in runs p z at in
       facts_stay runs later p (same_up_to runs later grows p.run (slice_get_within runs p.run place.place.run place.place.run_is))
       (attempt_kept p.run place.place.run place.place.run_is)
-      (leg_needs_settled runs fit p z at) (grows.keeps_results p.run)
+      (leg_needs_finished runs fit p z at) (grows.keeps_results p.run)
 
   run_events_kept : (r : ℕ) (x : RunState) → run_at runs r ≡ Some x → SameUpTo r (events later) (events runs)
   run_events_kept r x at = same_up_to runs later grows r (slice_get_within runs r x at)

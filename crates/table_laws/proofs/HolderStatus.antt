@@ -11,7 +11,7 @@ use Rattle.run_states.specs.GroupWords.{has_arrived, has_ended, has_started, is_
 use Rattle.run_states.specs.Groups.{holds, is_stop_requested, leg_holds, leg_waits, run_waits, waits}
 use Rattle.run_states.specs.Moves.{Move}
 use Rattle.run_states.specs.Places.{job_at, leg_at, run_at}
-use Rattle.run_states.specs.declared.place.LegPlace.{LegPlace}
+use Rattle.run_states.specs.declared.place.LegSite.{LegSite}
 use Rattle.run_states.specs.RunState.{LegState, JobState, RunState}
 use Rattle.run_states.specs.StateWords.{is_live}
 use Rattle.run_states.specs.declared.phases.LegPhase.{LegPhase}
@@ -167,7 +167,7 @@ status_in_job l y = status_by status_of_leg (slice_get y.legs l)
 abbrev pub status_in_run : ℕ → ℕ → RunState → Status
 status_in_run j l x = status_by (status_in_job l) (slice_get x.jobs j)
 
-pub status_by_run : (runs : List RunState) (p : LegPlace)
+pub status_by_run : (runs : List RunState) (p : LegSite)
     → status runs (Leg p) ≡ status_by (status_in_run p.job p.leg) (run_at runs p.run)
 status_by_run runs p =
     through status_of_leg (λ (y : JobState). slice_get y.legs p.leg) (job_at runs p.run p.job)

@@ -10,8 +10,8 @@ use Rattle.std.proofs.lemmas.List.Elements.{filter-append}
 use Rattle.group_name.specs.Group.{Group}
 use Rattle.run_states.specs.FirstOf.{placed}
 use Rattle.run_states.specs.Groups.{HasOneEach, all_holders, holds, is_in, is_pending_in, is_in_progress_in, pending_in, in_progress_in, waits}
-use Rattle.run_states.specs.Places.{leg_at, leg_place, leg_places, leg_places_of_job, leg_places_of_run}
-use Rattle.run_states.specs.declared.place.LegPlace.{LegPlace}
+use Rattle.run_states.specs.Places.{leg_at, leg_site, leg_sites, leg_sites_of_job, leg_sites_of_run}
+use Rattle.run_states.specs.declared.place.LegSite.{LegSite}
 use Rattle.run_states.specs.RunState.{LegState, JobState, RunState}
 use Rattle.run_states.proofs.JobKeeps.{leg_in}
 use Rattle.settling_laws.proofs.OneEach.{IsOneOf, each_holder, one_that_holds, one_that_waits}
@@ -48,74 +48,74 @@ one_made {X} {Y} test make xs i x at is others =
 
 -- ---- the place of a leg
 
-module _ (runs : List RunState) (test : LegPlace → Bool) (p : LegPlace) (is : test p ≡ true) (others : (q : LegPlace) → (q ≡ p → ⊥)
+module _ (runs : List RunState) (test : LegSite → Bool) (p : LegSite) (is : test p ≡ true) (others : (q : LegSite) → (q ≡ p → ⊥)
     → test q ≡ false)
   where
-    none_of_job : (r : ℕ) (j : ℕ × JobState) → ((l : ℕ) → leg_place r j.0 l ≡ p → ⊥) → filter test (leg_places_of_job r j) ≡ []
+    none_of_job : (r : ℕ) (j : ℕ × JobState) → ((l : ℕ) → leg_site r j.0 l ≡ p → ⊥) → filter test (leg_sites_of_job r j) ≡ []
     none_of_job r j other =
-        filter_of_map test (λ (l : ℕ × LegState). leg_place r j.0 l.0) (placed j.1.legs)
-        ∙ ap (map (λ (l : ℕ × LegState). leg_place r j.0 l.0))
-        (filter_to_none (λ (l : ℕ × LegState). test (leg_place r j.0 l.0)) (placed j.1.legs) (λ l. others (leg_place r j.0 l.0)
+        filter_of_map test (λ (l : ℕ × LegState). leg_site r j.0 l.0) (placed j.1.legs)
+        ∙ ap (map (λ (l : ℕ × LegState). leg_site r j.0 l.0))
+        (filter_to_none (λ (l : ℕ × LegState). test (leg_site r j.0 l.0)) (placed j.1.legs) (λ l. others (leg_site r j.0 l.0)
         (other l.0)))
 
-    none_of_run : (r : ℕ × RunState) → (r.0 ≡ p.run → ⊥) → filter test (leg_places_of_run r) ≡ []
+    none_of_run : (r : ℕ × RunState) → (r.0 ≡ p.run → ⊥) → filter test (leg_sites_of_run r) ≡ []
     none_of_run r other =
-        filter_flat_map test (leg_places_of_job r.0) (placed r.1.jobs)
-        ∙ none_of_all (λ (j : ℕ × JobState). filter test (leg_places_of_job r.0 j)) (placed r.1.jobs)
-        (λ j. none_of_job r.0 j (λ l e. other (ap (λ (q : LegPlace). q.run) e)))
+        filter_flat_map test (leg_sites_of_job r.0) (placed r.1.jobs)
+        ∙ none_of_all (λ (j : ℕ × JobState). filter test (leg_sites_of_job r.0 j)) (placed r.1.jobs)
+        (λ j. none_of_job r.0 j (λ l e. other (ap (λ (q : LegSite). q.run) e)))
 
-    one_of_job : (y : JobState) (z : LegState) → slice_get y.legs p.leg ≡ Some z → filter test (leg_places_of_job p.run (p.job, y)) ≡ p ∷ []
+    one_of_job : (y : JobState) (z : LegState) → slice_get y.legs p.leg ≡ Some z → filter test (leg_sites_of_job p.run (p.job, y)) ≡ p ∷ []
     one_of_job y z at =
-        one_made test (λ l. leg_place p.run p.job l) y.legs p.leg z at is
-        (λ k other. others (leg_place p.run p.job k) (λ e. other (ap (λ (q : LegPlace). q.leg) e)))
+        one_made test (λ l. leg_site p.run p.job l) y.legs p.leg z at is
+        (λ k other. others (leg_site p.run p.job k) (λ e. other (ap (λ (q : LegSite). q.leg) e)))
 
     one_of_run : (x : RunState) (y : JobState) (z : LegState) → slice_get x.jobs p.job ≡ Some y → slice_get y.legs p.leg ≡ Some z
-        → filter test (leg_places_of_run (p.run, x)) ≡ p ∷ []
+        → filter test (leg_sites_of_run (p.run, x)) ≡ p ∷ []
     one_of_run x y z job_is leg_is =
-        filter_flat_map test (leg_places_of_job p.run) (placed x.jobs)
-        ∙ one_of_placed (λ (j : ℕ × JobState). filter test (leg_places_of_job p.run j)) p.job x.jobs
-        (λ k w other. none_of_job p.run (k, w) (λ l e. other (ap (λ (q : LegPlace). q.job) e)))
-        ∙ ap (λ (o : Option JobState). option_map_or (λ w. filter test (leg_places_of_job p.run (p.job, w))) o []) job_is
+        filter_flat_map test (leg_sites_of_job p.run) (placed x.jobs)
+        ∙ one_of_placed (λ (j : ℕ × JobState). filter test (leg_sites_of_job p.run j)) p.job x.jobs
+        (λ k w other. none_of_job p.run (k, w) (λ l e. other (ap (λ (q : LegSite). q.job) e)))
+        ∙ ap (λ (o : Option JobState). option_map_or (λ w. filter test (leg_sites_of_job p.run (p.job, w))) o []) job_is
         ∙ one_of_job y z leg_is
 
-    one_leg_place : (z : LegState) → leg_at runs p ≡ Some z → filter test (leg_places runs) ≡ p ∷ []
+    one_leg_place : (z : LegState) → leg_at runs p ≡ Some z → filter test (leg_sites runs) ≡ p ∷ []
     one_leg_place z at =
         let place = leg_in runs p z at in
-        filter_flat_map test leg_places_of_run (placed runs)
-        ∙ one_of_placed (λ (r : ℕ × RunState). filter test (leg_places_of_run r)) p.run runs (λ k w other. none_of_run (k, w) other)
-        ∙ ap (λ (o : Option RunState). option_map_or (λ w. filter test (leg_places_of_run (p.run, w))) o []) place.place.run_is
+        filter_flat_map test leg_sites_of_run (placed runs)
+        ∙ one_of_placed (λ (r : ℕ × RunState). filter test (leg_sites_of_run r)) p.run runs (λ k w other. none_of_run (k, w) other)
+        ∙ ap (λ (o : Option RunState). option_map_or (λ w. filter test (leg_sites_of_run (p.run, w))) o []) place.place.run_is
         ∙ one_of_run place.place.run place.job z place.place.job_is place.leg_is
 
 -- ---- a holder
 
-pub leg_is : (a b : LegPlace) → Leg a ≡ Leg b → a ≡ b
+pub leg_is : (a b : LegSite) → Leg a ≡ Leg b → a ≡ b
 leg_is a b e = cc
 
 pub one_holder_kept : (runs : List RunState) (test : Holder → Bool) (h : Holder) → IsOneOf runs h → test h ≡ true
     → ((k : Holder) → test k ≡ true → k ≡ h) → filter test (all_holders runs) ≡ h ∷ []
 one_holder_kept runs test (Run r) there is only =
     let runs_of = map (λ (x : ℕ × RunState). Run x.0) (placed runs) in
-    let legs_of = map (λ p. Leg p) (leg_places runs) in
+    let legs_of = map (λ p. Leg p) (leg_sites runs) in
     filter-append test runs_of legs_of
     ∙ ap₂ (λ a b. a ++ b)
     (one_made test (λ k. Run k) runs r there.0 there.1 is
     (λ k other. fails_else test (Run r) only (Run k) (λ e. other (run_is k r e))))
-    (filter_of_map test (λ p. Leg p) (leg_places runs)
+    (filter_of_map test (λ p. Leg p) (leg_sites runs)
     ∙ ap (map (λ p. Leg p))
-    (filter_to_none (λ p. test (Leg p)) (leg_places runs) (λ p. fails_else test (Run r) only (Leg p) (λ e. cc))))
+    (filter_to_none (λ p. test (Leg p)) (leg_sites runs) (λ p. fails_else test (Run r) only (Leg p) (λ e. cc))))
   where
     run_is : (a b : ℕ) → Run a ≡ Run b → a ≡ b
     run_is a b e = cc
 one_holder_kept runs test (Leg p) there is only =
     let runs_of = map (λ (x : ℕ × RunState). Run x.0) (placed runs) in
-    let legs_of = map (λ q. Leg q) (leg_places runs) in
+    let legs_of = map (λ q. Leg q) (leg_sites runs) in
     filter-append test runs_of legs_of
     ∙ ap₂ (λ a b. a ++ b)
     (filter_of_map test (λ (x : ℕ × RunState). Run x.0) (placed runs)
     ∙ ap (map (λ (x : ℕ × RunState). Run x.0))
     (filter_to_none (λ (x : ℕ × RunState). test (Run x.0)) (placed runs)
     (λ x. fails_else test (Leg p) only (Run x.0) (λ e. cc))))
-    (filter_of_map test (λ q. Leg q) (leg_places runs)
+    (filter_of_map test (λ q. Leg q) (leg_sites runs)
     ∙ ap (map (λ q. Leg q))
     (one_leg_place runs (λ q. test (Leg q)) p is
     (λ q other. fails_else test (Leg p) only (Leg q) (λ e. other (leg_is q p e))) there.0 there.1))

@@ -14,7 +14,7 @@ use Rattle.run_states.specs.Fitting.{first_fit}
 use Rattle.run_table.specs.Histories.{after}
 use Rattle.run_table.specs.TableState.{Step, TableState}
 use Rattle.run_states.specs.Places.{with_leg, with_run}
-use Rattle.run_states.specs.declared.place.LegPlace.{LegPlace}
+use Rattle.run_states.specs.declared.place.LegSite.{LegSite}
 use Rattle.run_states.specs.Settling.{settled}
 use Rattle.run_table.specs.Sound.{IsSound}
 use Rattle.run_table.specs.Step.{admission_answer, admitting, cancel_answer, cancelling, claim_answer, claimed, claiming, entered}
@@ -44,7 +44,7 @@ use Rattle.table_laws.proofs.ReachedTables.{with_ended_keeps_leases}
 use Rattle.run_states.specs.declared.holder.Holder.TheVariants.{Leg}
 
 abbrev pub HadStays : List RunState → List RunState → Type 0
-HadStays runs next = (p : LegPlace) (n : ℕ) → had_at runs p ≡ Some n → had_at next p ≡ Some n
+HadStays runs next = (p : LegSite) (n : ℕ) → had_at runs p ≡ Some n → had_at next p ≡ Some n
 
 had_by : (t : TableState) (answer : Option Reply) (change : Step) → (answer ≡ None → HadStays t.runs change.table.runs)
     → HadStays t.runs (option_map_or (unchanged t) answer change).table.runs
@@ -55,7 +55,7 @@ had_at_rest : (runs next : List RunState) → RunsFit next → HadStays runs nex
 had_at_rest runs next fit stays p n e = (settling_settles next fit).same_had p ∙ stays p n e
 
 -- a ready leg, which has no lease, is leased
-lease_had : (runs : List RunState) (labels : List (List ℕ)) (p : LegPlace) (lease : ℕ) → RunsFit runs → first_fit labels runs ≡ Some p
+lease_had : (runs : List RunState) (labels : List (List ℕ)) (p : LegSite) (lease : ℕ) → RunsFit runs → first_fit labels runs ≡ Some p
     → HadStays runs (with_leg p (λ _. leased_leg lease) runs)
 lease_had runs labels p lease fit fits q n e =
     let ready = fitting_leg labels runs p fits in
@@ -98,7 +98,7 @@ loss_had t name s =
     ] refl
 
 -- the legs of a run that begins again are gone, and the run is at another attempt
-again_had : (t : TableState) (requested : Attempt) → IsSound t → (p : LegPlace) (n : ℕ)
+again_had : (t : TableState) (requested : Attempt) → IsSound t → (p : LegSite) (n : ℕ)
     → attempt_of (rerun t requested).table.runs (Leg p) ≡ attempt_of t.runs (Leg p) → had_at t.runs p ≡ Some n
     → had_at (rerun t requested).table.runs p ≡ Some n
 again_had t requested s p n =
@@ -126,7 +126,7 @@ again_had t requested s p n =
     ] refl
 
 -- for a run that keeps its attempt
-pub step_had : (t : TableState) (c : Command) → IsSound t → (p : LegPlace) (n : ℕ)
+pub step_had : (t : TableState) (c : Command) → IsSound t → (p : LegSite) (n : ℕ)
     → attempt_of (stepped t c).table.runs (Leg p) ≡ attempt_of t.runs (Leg p) → had_at t.runs p ≡ Some n
     → had_at (stepped t c).table.runs p ≡ Some n
 step_had t (command.Admit event) s p n same =

@@ -10,7 +10,7 @@ use Rattle.run_plan.specs.declared.command.Command.{Command}
 use Rattle.run_states.specs.GroupWords.{has_arrived, has_started, next_displaced}
 use Rattle.run_states.specs.Moves.{Move}
 use Rattle.run_states.specs.Places.{leg_at, run_at}
-use Rattle.run_states.specs.declared.place.LegPlace.{LegPlace}
+use Rattle.run_states.specs.declared.place.LegSite.{LegSite}
 use Rattle.run_states.specs.RunState.{LegState, RunState}
 use Rattle.run_states.proofs.JobKeeps.{leg_in, no_leg}
 use Rattle.run_states.proofs.LegReads.{had_at, had_from_leg, leg_from_had}
@@ -34,7 +34,7 @@ use Rattle.run_states.specs.declared.holder.Holder.TheVariants.{Run, Leg}
 
 -- ---- a holder that has not begun has no lease
 
-unbegun_had_none : (runs : List RunState) (h : Holder) → Unbegun runs h → (p : LegPlace) → IsOf h p → (n : ℕ) → had_at runs p ≡ Some n → ⊥
+unbegun_had_none : (runs : List RunState) (h : Holder) → Unbegun runs h → (p : LegSite) → IsOf h p → (n : ℕ) → had_at runs p ≡ Some n → ⊥
 unbegun_had_none runs (Run r) un p of_it n e =
     let from = leg_from_had runs p n e in
     let place = leg_in runs p from.value from.is in
@@ -47,9 +47,9 @@ unbegun_had_none runs (Leg q) un p of_it n e =
 
 -- ---- the attempt of a leg is the attempt of its holder
 
-same_attempt : (runs : List RunState) (h : Holder) (p : LegPlace) → IsOf h p → attempt_of runs (Leg p) ≡ attempt_of runs h
+same_attempt : (runs : List RunState) (h : Holder) (p : LegSite) → IsOf h p → attempt_of runs (Leg p) ≡ attempt_of runs h
 same_attempt runs (Run r) p of_it = ap (λ (k : ℕ). option_map_or (λ x. x.attempt) (run_at runs k) 1) of_it
-same_attempt runs (Leg q) p of_it = ap (λ (k : LegPlace). option_map_or (λ x. x.attempt) (run_at runs k.run) 1) of_it
+same_attempt runs (Leg q) p of_it = ap (λ (k : LegSite). option_map_or (λ x. x.attempt) (run_at runs k.run) 1) of_it
 
 module _ (names : Names) (g : Group) (a : ℕ) (h : Holder) where
   abbrev name : Holder
@@ -87,7 +87,7 @@ module _ (names : Names) (g : Group) (a : ℕ) (h : Holder) where
   unstarted_before whole more unstarted =
       (or_parts (has_started name whole) (has_started name more) (sym (started_on name whole more) ∙ unstarted)).0
 
-  has_not_come : (p : LegPlace) (n : ℕ) → IsOf h p → (t : TableState) (whole : List Move) → SoFar names g (λ k. false) t.runs whole
+  has_not_come : (p : LegSite) (n : ℕ) → IsOf h p → (t : TableState) (whole : List Move) → SoFar names g (λ k. false) t.runs whole
       → attempt_of t.runs h ≡ a → had_at t.runs p ≡ Some n → has_started name whole ≡ false → has_arrived name whole ≡ false
   has_not_come p n of_it t whole so_far at had unstarted =
       let named : name_in names t.runs h ≡ name = ap (λ k. names.name k h) at in
@@ -101,7 +101,7 @@ module _ (names : Names) (g : Group) (a : ℕ) (h : Holder) where
       ] refl
 
   -- nor does it arrive later
-  never_comes : (p : LegPlace) (n : ℕ) → IsOf h p → (t : TableState) (cs : List Command) (whole : List Move) → IsSound t
+  never_comes : (p : LegSite) (n : ℕ) → IsOf h p → (t : TableState) (cs : List Command) (whole : List Move) → IsSound t
       → SoFar names g (λ k. false) t.runs whole → attempt_of t.runs h ≡ a → had_at t.runs p ≡ Some n
       → has_started name (whole ++ group_moves names g t cs) ≡ false → has_arrived name (whole ++ group_moves names g t cs) ≡ false
   never_comes p n of_it t [] whole s so_far at had unstarted =
@@ -153,7 +153,7 @@ pub displaced_never_leased : (names : Names) (t : TableState) (first second : Li
     (newcomer h : Holder) (attempt : ℕ) → IsSound t
     → all_moves names g t (first ++ second) ≡ before ++ Move.arrive newcomer ∷ after_it
     → next_displaced before ≡ Some (names.name attempt h) → attempt_of (after t first).runs h ≡ attempt
-    → (p : LegPlace) (z : LegState) → IsOf h p → leg_at (after t first).runs p ≡ Some z → z.lease ≡ None
+    → (p : LegSite) (z : LegState) → IsOf h p → leg_at (after t first).runs p ≡ Some z → z.lease ≡ None
 displaced_never_leased names t first second g before after_it newcomer h attempt s e is at p z of_it there =
     let name = names.name attempt h in
     let whole = all_moves names g t first in

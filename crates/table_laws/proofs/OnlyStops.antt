@@ -9,8 +9,8 @@ use Rattle.wf_value.specs.declared.outcome.Outcome.TheVariants.{Cancelled}
 use Rattle.run_states.specs.FirstOf.{placed}
 use Rattle.run_states.specs.GroupWords.{arrival_of, was_stopped}
 use Rattle.run_states.specs.Moves.{Move}
-use Rattle.run_states.specs.Places.{job_at, leg_at, leg_place, run_at}
-use Rattle.run_states.specs.declared.place.LegPlace.{LegPlace}
+use Rattle.run_states.specs.Places.{job_at, leg_at, leg_site, run_at}
+use Rattle.run_states.specs.declared.place.LegSite.{LegSite}
 use Rattle.run_states.specs.RunConditions.{may_run_in}
 use Rattle.run_states.specs.RunState.{LegState, JobState, RunState}
 use Rattle.run_states.specs.StateWords.{is_open}
@@ -103,7 +103,7 @@ stop_and_end h = record {
 
 -- ---- stops of legs, jobs and runs
 
-leg_stops : (p : LegPlace) (phase : LegPhase) → OnlyStops (leg_stop_moves p phase)
+leg_stops : (p : LegSite) (phase : LegPhase) → OnlyStops (leg_stop_moves p phase)
 leg_stops p leg.New = no_stops
 leg_stops p leg.Waiting = stop_and_end (Leg p)
 leg_stops p leg.Ready = stop_and_end (Leg p)
@@ -113,7 +113,7 @@ leg_stops p (leg.Ended r) = no_stops
 
 pub legs_stops : (r j : ℕ) (legs : List LegState) → OnlyStops (legs_stop_moves r j legs)
 legs_stops r j legs =
-    stops_of_all (λ (l : ℕ × LegState). leg_stop_moves (leg_place r j l.0) l.1.phase) (λ l. leg_stops (leg_place r j l.0) l.1.phase)
+    stops_of_all (λ (l : ℕ × LegState). leg_stop_moves (leg_site r j l.0) l.1.phase) (λ l. leg_stops (leg_site r j l.0) l.1.phase)
     (placed legs)
 
 where_stops : (b : Bool) (r j : ℕ) (y : JobState) → OnlyStops (where_stop_moves b r j y)
@@ -143,7 +143,7 @@ by_run : (r : ℕ) (o : Option RunState) → OnlyStops (option_map_or (λ x. run
 by_run r None = no_stops
 by_run r (Some x) = run_stops r x.phase x
 
-by_leg : (p : LegPlace) (o : Option LegState) → OnlyStops (option_map_or (λ z. leg_stop_moves p z.phase) o [])
+by_leg : (p : LegSite) (o : Option LegState) → OnlyStops (option_map_or (λ z. leg_stop_moves p z.phase) o [])
 by_leg p None = no_stops
 by_leg p (Some z) = leg_stops p z.phase
 

@@ -2,7 +2,7 @@
 use Rattle.std.specs.Prelude.{◌≡◌, ℕ, zero, suc, ◌+◌, ◌≤◌, ◌<◌, refl}
 use Rattle.std.proofs.Common.{arith, ap, inl, inr, sym, ◌∙◌}
 use Rattle.std.proofs.lemmas.Bool.{cases_eq}
-use Rattle.run_states.specs.declared.place.LegPlace.{LegPlace}
+use Rattle.run_states.specs.declared.place.LegSite.{LegSite}
 use Rattle.table_laws.specs.Names.{Names}
 use Rattle.run_states.specs.declared.holder.Holder.{Holder}
 use Rattle.run_states.specs.declared.holder.Holder.TheVariants.{Run, Leg}
@@ -58,10 +58,10 @@ packed_differ a b (Run r) (Leg q) e = cc
 packed_differ a b (Leg p) (Run s) e = cc
 packed_differ a b (Leg p) (Leg q) e =
     let places : record p { run = two a p.run } ≡ record q { run = two b q.run } = cc in
-    let one : two a p.run ≡ two b q.run = ap (λ (x : LegPlace). x.run) places in
+    let one : two a p.run ≡ two b q.run = ap (λ (x : LegSite). x.run) places in
     let same = two_same a p.run b q.run one in
-    let jobs : p.job ≡ q.job = ap (λ (x : LegPlace). x.job) places in
-    let legs : p.leg ≡ q.leg = ap (λ (x : LegPlace). x.leg) places in (
+    let jobs : p.job ≡ q.job = ap (λ (x : LegSite). x.job) places in
+    let legs : p.leg ≡ q.leg = ap (λ (x : LegSite). x.leg) places in (
       same.0,
       ap (λ r. Leg (record { run = r; job = p.job; leg = p.leg })) same.1
           ∙ ap (λ j. Leg (record { run = q.run; job = j; leg = p.leg })) jobs

@@ -10,7 +10,7 @@ use Rattle.run_states.specs.Holders.{run_of}
 use Rattle.run_states.specs.Moves.{Move}
 use Rattle.run_states.specs.NewRun.{again}
 use Rattle.run_states.specs.Places.{leg_at, run_at, with_run}
-use Rattle.run_states.specs.declared.place.LegPlace.{LegPlace}
+use Rattle.run_states.specs.declared.place.LegSite.{LegSite}
 use Rattle.run_states.specs.RunState.{LegState, JobState, RunState}
 use Rattle.run_states.specs.StateWords.{is_live, outcome_of}
 use Rattle.run_states.specs.declared.phases.LegPhase.{LegPhase}
@@ -62,7 +62,7 @@ is_another r h kept same =
 -- ---- a change of one run keeps the holders of other runs
 
 module _ (runs : List RunState) (r : ℕ) (f : RunState → RunState) where
-  pub leg_elsewhere : (p : LegPlace) → (p.run ≡ r → ⊥) → leg_at (with_run r f runs) p ≡ leg_at runs p
+  pub leg_elsewhere : (p : LegSite) → (p.run ≡ r → ⊥) → leg_at (with_run r f runs) p ≡ leg_at runs p
   leg_elsewhere p other =
       ap (λ o. option_and_then (λ (y : JobState). slice_get y.legs p.leg) (option_and_then (λ (x : RunState). slice_get x.jobs p.job) o))
       (at_another r f runs p.run other)
@@ -132,7 +132,7 @@ module _ (runs : List RunState) (r : ℕ) (x : RunState) (there : run_at runs r 
 
   -- ---- while it is parked, and then while it waits
 
-  leg_unseen : (f : RunState → RunState) → ((j l : ℕ) → status_in_run j l (f x) ≡ Status.unarrived) → (p : LegPlace) → p.run ≡ r
+  leg_unseen : (f : RunState → RunState) → ((j l : ℕ) → status_in_run j l (f x) ≡ Status.unarrived) → (p : LegSite) → p.run ≡ r
       → status (with_run r f runs) (Leg p) ≡ Status.unarrived
   leg_unseen f none p same =
       status_by_run (with_run r f runs) p
@@ -140,7 +140,7 @@ module _ (runs : List RunState) (r : ℕ) (x : RunState) (there : run_at runs r 
       (ap (run_at (with_run r f runs)) same ∙ at_changed r f runs ∙ ap (option_map f) there)
       ∙ none p.job p.leg
 
-  parked_leg : (p : LegPlace) → p.run ≡ r → status parked (Leg p) ≡ Status.unarrived
+  parked_leg : (p : LegSite) → p.run ≡ r → status parked (Leg p) ≡ Status.unarrived
   parked_leg p same = leg_unseen parked_run (λ j l. no_leg_yet j l x.admitted) p same
 
   pub parked_is_over : (h : Holder) → run_of h ≡ r → (status parked h ≡ Status.over) ⊎ (status parked h ≡ Status.unarrived)

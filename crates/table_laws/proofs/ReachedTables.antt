@@ -17,12 +17,12 @@ use Rattle.run_plan.specs.declared.last_command.ClaimReply.TheVariants as given
 use Rattle.run_plan.specs.declared.reply.Reply.{Reply}
 use Rattle.run_plan.specs.declared.reply.Reply.TheVariants as reply
 use Rattle.run_states.specs.FirstOf.{changed_at}
-use Rattle.run_states.specs.Fitting.{first_fit, place_of_lease}
+use Rattle.run_states.specs.Fitting.{first_fit, site_of_lease}
 use Rattle.run_table.specs.Histories.{after, replies}
 use Rattle.run_states.specs.Moves.{Move}
 use Rattle.run_table.specs.TableState.{Step, TableState}
 use Rattle.run_states.specs.Places.{leg_at, run_at, with_job, with_leg, with_run}
-use Rattle.run_states.specs.declared.place.LegPlace.{LegPlace}
+use Rattle.run_states.specs.declared.place.LegSite.{LegSite}
 use Rattle.run_states.specs.Rules.{leg_in_phase}
 use Rattle.run_table.specs.Sound.{IsSound}
 use Rattle.run_table.specs.Step.{empty, at_rest_after, entered, unchanged, admission_answer, admitting, admitted}
@@ -78,23 +78,23 @@ mapped_by_change h f same (suc i) (x ∷ xs) (suc k) = mapped_by_change h f same
 
 -- ---- no end and no stop changes a lease or an event
 
-job_keeps_leases : (r j : ℕ) (f : JobState → JobState) (q : LegPlace) → ((y : JobState) → had_in_job (f y) q.leg ≡ had_in_job y q.leg)
+job_keeps_leases : (r j : ℕ) (f : JobState → JobState) (q : LegSite) → ((y : JobState) → had_in_job (f y) q.leg ≡ had_in_job y q.leg)
     → (runs : List RunState) → had_at (with_job r j f runs) q ≡ had_at runs q
 job_keeps_leases r j f q same runs =
     kept_by_change (λ (x : RunState). had_in x q.job q.leg) (with_job_of j f)
     (λ x. kept_by_change (λ (y : JobState). had_in_job y q.leg) f same j x.jobs q.job) r runs q.run
 
-end_keeps_leases : (p : LegPlace) (o : Outcome) (q : LegPlace) (runs : List RunState)
+end_keeps_leases : (p : LegSite) (o : Outcome) (q : LegSite) (runs : List RunState)
     → had_at (with_leg p (leg_in_phase (leg.Ended o)) runs) q ≡ had_at runs q
 end_keeps_leases p o q runs =
     job_keeps_leases p.run p.job (with_leg_of p.leg (leg_in_phase (leg.Ended o))) q
     (λ y. kept_by_change (λ (z : LegState). z.lease) (leg_in_phase (leg.Ended o)) (λ z. refl) p.leg y.legs q.leg) runs
 
-stop_keeps_leases : (r j : ℕ) (q : LegPlace) (runs : List RunState) → had_at (with_job r j with_stopped_legs runs) q ≡ had_at runs q
+stop_keeps_leases : (r j : ℕ) (q : LegSite) (runs : List RunState) → had_at (with_job r j with_stopped_legs runs) q ≡ had_at runs q
 stop_keeps_leases r j q runs =
     job_keeps_leases r j with_stopped_legs q (λ y. stopped_reads (λ z. z.lease) (λ z. refl) y.legs q.leg) runs
 
-after_end_keeps_leases : (p : LegPlace) (o : Outcome) (q : LegPlace) (runs : List RunState) → had_at (after_end p o runs) q ≡ had_at runs q
+after_end_keeps_leases : (p : LegSite) (o : Outcome) (q : LegSite) (runs : List RunState) → had_at (after_end p o runs) q ≡ had_at runs q
 after_end_keeps_leases p o q runs =
     let ended = with_leg p (leg_in_phase (leg.Ended o)) runs in
     elim (stops_others runs p o) as
@@ -103,7 +103,7 @@ after_end_keeps_leases p o q runs =
       | false ↦ end_keeps_leases p o q runs
     ]
 
-after_end_keeps_events : (p : LegPlace) (o : Outcome) (r : ℕ) (runs : List RunState)
+after_end_keeps_events : (p : LegSite) (o : Outcome) (r : ℕ) (runs : List RunState)
     → admitted_at (after_end p o runs) r ≡ admitted_at runs r
 after_end_keeps_events p o r runs =
     let ended = with_leg p (leg_in_phase (leg.Ended o)) runs in
@@ -115,10 +115,10 @@ after_end_keeps_events p o r runs =
       | false ↦ one
     ]
 
-pub with_ended_keeps_leases : (lease : ℕ) (o : Outcome) (q : LegPlace) (runs : List RunState)
+pub with_ended_keeps_leases : (lease : ℕ) (o : Outcome) (q : LegSite) (runs : List RunState)
     → had_at (with_ended lease o runs) q ≡ had_at runs q
 with_ended_keeps_leases lease o q runs =
-    elim (place_of_lease runs lease) as (λ place. had_at (option_map_or (λ p. after_end p o runs) place runs) q ≡ had_at runs q) [
+    elim (site_of_lease runs lease) as (λ place. had_at (option_map_or (λ p. after_end p o runs) place runs) q ≡ had_at runs q) [
       | None ↦ refl
       | Some p ↦ after_end_keeps_leases p o q runs
     ]
@@ -126,7 +126,7 @@ with_ended_keeps_leases lease o q runs =
 with_ended_keeps_events : (lease : ℕ) (o : Outcome) (r : ℕ) (runs : List RunState)
     → admitted_at (with_ended lease o runs) r ≡ admitted_at runs r
 with_ended_keeps_events lease o r runs =
-    elim (place_of_lease runs lease) as (λ place. admitted_at (option_map_or (λ p. after_end p o runs) place runs) r ≡ admitted_at runs r) [
+    elim (site_of_lease runs lease) as (λ place. admitted_at (option_map_or (λ p. after_end p o runs) place runs) r ≡ admitted_at runs r) [
       | None ↦ refl
       | Some p ↦ after_end_keeps_events p o r runs
     ]
@@ -134,7 +134,7 @@ with_ended_keeps_events lease o r runs =
 -- ---- what a step leaves
 
 -- the lease of a leg existed before, or is the answer to this claim
-record NewLease (t : TableState) (c : Command) (s : Step) (p : LegPlace) (n : ℕ) : Type 0 where
+record NewLease (t : TableState) (c : Command) (s : Step) (p : LegSite) (n : ℕ) : Type 0 where
   claim : Claimed
   claims : c ≡ command.Claim claim
   answer : s.reply ≡ reply.Lease (lease_at t.runs p n)
@@ -143,7 +143,7 @@ record NewLease (t : TableState) (c : Command) (s : Step) (p : LegPlace) (n : �
 
 record Reads (t : TableState) (c : Command) (s : Step) : Type 0 where
   same_admitted : (r : ℕ) (a : Admitted) → admitted_at t.runs r ≡ Some a → admitted_at s.table.runs r ≡ Some a
-  had_before : (p : LegPlace) (n : ℕ) → had_at s.table.runs p ≡ Some n → (had_at t.runs p ≡ Some n) ⊎ NewLease t c s p n
+  had_before : (p : LegSite) (n : ℕ) → had_at s.table.runs p ≡ Some n → (had_at t.runs p ≡ Some n) ⊎ NewLease t c s p n
 
 unchanged_reads : (t : TableState) (c : Command) (r : Reply) → Reads t c (unchanged t r)
 unchanged_reads t c r = record { same_admitted = (λ i a e. e); had_before = (λ p n e. inl e) }
@@ -156,7 +156,7 @@ either_reads t c (Some r) change h = unchanged_reads t c r
 -- the table settles and keeps its leases
 rest_reads : (t : TableState) (c : Command) (moves : List Move) (mid : TableState) (r : Reply) → IsKept mid
     → ((i : ℕ) (a : Admitted) → admitted_at t.runs i ≡ Some a → admitted_at mid.runs i ≡ Some a)
-    → ((p : LegPlace) (n : ℕ) → had_at mid.runs p ≡ Some n → (had_at t.runs p ≡ Some n) ⊎ NewLease t c (at_rest_after moves mid r) p n)
+    → ((p : LegSite) (n : ℕ) → had_at mid.runs p ≡ Some n → (had_at t.runs p ≡ Some n) ⊎ NewLease t c (at_rest_after moves mid r) p n)
     → Reads t c (at_rest_after moves mid r)
 rest_reads t c moves mid r kept events leases =
     let settling = settling_settles mid.runs kept.fit in
@@ -183,7 +183,7 @@ admit_reads t event s =
           | inr other ↦ ap (option_map (λ (x : RunState). x.admitted)) (before_the_end t.runs (new_run event) i other) ∙ e
         ]
 
-leasing_reads : (t : TableState) (claim : Claimed) (p : LegPlace) → IsSound t → claim_answer t claim ≡ None
+leasing_reads : (t : TableState) (claim : Claimed) (p : LegSite) → IsSound t → claim_answer t claim ≡ None
     → first_fit claim.labels t.runs ≡ Some p → Reads t (command.Claim claim) (leasing t claim p)
 leasing_reads t claim p s none fit =
     let lease = t.last_lease + 1 in
@@ -207,10 +207,10 @@ leasing_reads t claim p s none fit =
           inr (record {
             claim = claim;
             claims = refl;
-            answer = ap (λ (v : LegPlace). reply.Lease (lease_at t.runs v lease)) (sym same)
+            answer = ap (λ (v : LegSite). reply.Lease (lease_at t.runs v lease)) (sym same)
                 ∙ ap (λ (m : ℕ). reply.Lease (lease_at t.runs q m)) number;
             event = at.place.run.admitted;
-            event_is = ap (λ (v : LegPlace). admitted_at t.runs v.run) same
+            event_is = ap (λ (v : LegSite). admitted_at t.runs v.run) same
                 ∙ ap (option_map (λ (x : RunState). x.admitted)) at.place.run_is;
           })
       | inr other ↦ inl (sym (changes.elsewhere q other) ∙ e)
@@ -248,7 +248,7 @@ cancel_reads t id s =
     (λ i a e. stop.stay.same_admitted i ∙ e) (λ p n e. inl (sym (stop.same_had p) ∙ e)))
 
 -- the legs of the run that begins again are gone
-legs_before : (runs : List RunState) (r : ℕ) (p : LegPlace) (n : ℕ) → had_at (with_run r again runs) p ≡ Some n → had_at runs p ≡ Some n
+legs_before : (runs : List RunState) (r : ℕ) (p : LegSite) (n : ℕ) → had_at (with_run r again runs) p ≡ Some n → had_at runs p ≡ Some n
 legs_before runs r p n e =
     let read = option_and_then (λ (v : RunState). had_in v p.job p.leg) in
     elim (cases_eq p.run r) [
@@ -316,12 +316,12 @@ events_after t (c ∷ cs) s r a e =
     events_after (stepped t c).table cs (stepped_is_sound t c s) r a ((step_reads t c s).same_admitted r a e)
 
 -- what a runner learns about a leg follows from the plan
-same_lease : (runs next : List RunState) (p : LegPlace) (n : ℕ) (a : Admitted) → admitted_at runs p.run ≡ Some a
+same_lease : (runs next : List RunState) (p : LegSite) (n : ℕ) (a : Admitted) → admitted_at runs p.run ≡ Some a
     → admitted_at next p.run ≡ Some a → lease_at runs p n ≡ lease_at next p n
 same_lease runs next p n a before now =
     lease_reply_same runs next p n (plan_at_same runs next p.run p.job (now ∙ sym before))
 
-leased_from : (t : TableState) (commands : List Command) → IsSound t → (p : LegPlace) (n : ℕ) → had_at (after t commands).runs p ≡ Some n
+leased_from : (t : TableState) (commands : List Command) → IsSound t → (p : LegSite) (n : ℕ) → had_at (after t commands).runs p ≡ Some n
     → (had_at t.runs p ≡ Some n) ⊎ WasAnswered commands (replies t commands) (lease_at (after t commands).runs p n)
 leased_from t [] s p n e = inl e
 leased_from t (c ∷ cs) s p n e =
@@ -343,7 +343,7 @@ leased_from t (c ∷ cs) s p n e =
       ]
     ]
 
-pub leased_by_a_claim : (commands : List Command) (p : LegPlace) (leg : LegState) (n : ℕ) → leg_at (after empty commands).runs p ≡ Some leg
+pub leased_by_a_claim : (commands : List Command) (p : LegSite) (leg : LegState) (n : ℕ) → leg_at (after empty commands).runs p ≡ Some leg
     → leg.lease ≡ Some n → WasAnswered commands (replies empty commands) (lease_at (after empty commands).runs p n)
 leased_by_a_claim commands p leg n at is =
     elim (leased_from empty commands empty_is_sound p n (had_from_leg (after empty commands).runs p leg at ∙ is)) [

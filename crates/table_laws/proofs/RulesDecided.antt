@@ -18,10 +18,10 @@ use Rattle.run_states.specs.Rules.{rule_at}
 use Rattle.run_states.specs.Rules.{decided, leg_ends, may_run, result_at, with_leg_in}
 use Rattle.run_states.specs.RunState.{JobState, RunState}
 use Rattle.run_states.specs.Settling.{settled}
-use Rattle.run_states.specs.StateWords.{leg_has_ended, is_done, is_open, leg_in_phase, opened, run_in_phase, settled_as}
+use Rattle.run_states.specs.StateWords.{leg_has_ended, is_done, is_open, leg_in_phase, opened, run_in_phase, finished_as}
 use Rattle.run_states.specs.StopMoves.{displace, stop_holder}
 use Rattle.run_states.specs.Stops.{stopped, stopped_run}
-use Rattle.run_states.specs.Words.{ancestor_results, condition_of, is_stopping, needs_have_settled, planned_legs}
+use Rattle.run_states.specs.Words.{ancestor_results, condition_of, is_stopping, needs_have_finished, planned_legs}
 use Rattle.run_states.specs.declared.phases.JobPhase.{JobPhase}
 use Rattle.run_states.specs.declared.phases.JobPhase.TheVariants as job
 use Rattle.run_states.specs.declared.phases.LegPhase.TheVariants as leg
@@ -47,8 +47,8 @@ use Rattle.run_states.specs.declared.holder.Holder.TheVariants.{Run, Leg}
 -- ---- the rules
 
 made_decided : (runs : List RunState) (r j n : ℕ) (y : JobState) (may stopping : Bool) → may_run runs r j ≡ may
-    → is_stopping runs r ≡ stopping → needs_have_settled runs r j ≡ true
-    → JobDecided runs r j ((if may then opened n else settled_as (if stopping then result.Cancelled else result.Skipped)) y).phase
+    → is_stopping runs r ≡ stopping → needs_have_finished runs r j ≡ true
+    → JobDecided runs r j ((if may then opened n else finished_as (if stopping then result.Cancelled else result.Skipped)) y).phase
 made_decided runs r j n y true stopping is_may is_stop needs = needs
 made_decided runs r j n y false true is_may is_stop needs = (needs, (λ e. cc))
 made_decided runs r j n y false false is_may is_stop needs = (
@@ -62,20 +62,20 @@ never_skipped false true e = cc
 never_skipped false false e = cc
 
 open_needs : (runs : List RunState) (r j : ℕ) (phase : JobPhase) → phase ≡ job.Open → JobDecided runs r j phase
-    → needs_have_settled runs r j ≡ true
+    → needs_have_finished runs r j ≡ true
 open_needs runs r j phase e d = subst (JobDecided runs r j) e d
 
-opening_now : (runs : List RunState) (r j : ℕ) (y : JobState) → job_at runs r j ≡ Some y → needs_have_settled runs r j ≡ true
+opening_now : (runs : List RunState) (r j : ℕ) (y : JobState) → job_at runs r j ≡ Some y → needs_have_finished runs r j ≡ true
     → Decided runs → NowDecided runs (with_job r j (decided runs r j) runs)
 opening_now runs r j y was needs =
     one_decided runs r j (decided runs r j) y was
     (made_decided runs r j (planned_legs runs r j) y (may_run runs r j) (is_stopping runs r) refl refl needs)
 
 closing_now : (runs : List RunState) (r j : ℕ) (y : JobState) → job_at runs r j ≡ Some y → is_done y ≡ true → Decided runs
-    → NowDecided runs (with_job r j (settled_as (result_at runs r j y)) runs)
+    → NowDecided runs (with_job r j (finished_as (result_at runs r j y)) runs)
 closing_now runs r j y was done all =
     let is_open = is_open_open y.phase (and_parts (is_open y.phase) (list_all leg_has_ended y.legs) done).0 in
-    one_decided runs r j (settled_as (result_at runs r j y)) y was (
+    one_decided runs r j (finished_as (result_at runs r j y)) y was (
       open_needs runs r j y.phase is_open (all r j y was),
       (λ e. absurd (never_skipped (list_any fails_job (leg_ends runs r j y)) (list_any was_cancelled (leg_ends runs r j y)) e)),
     ) all
@@ -146,7 +146,7 @@ rule_decided runs m place fit live h all =
           (leg_change_decided runs p (leg_in_phase leg.Waiting) all));
       leg_starts = (λ p z was is may settles. leg_change_decided runs p (leg_in_phase leg.Ready) all);
       job_settles = (λ r j y was done.
-          decided_after runs (with_job r j (settled_as (result_at runs r j y)) runs) all (closing_now runs r j y was done all));
+          decided_after runs (with_job r j (finished_as (result_at runs r j y)) runs) all (closing_now runs r j y was done all));
       run_starts = (λ r x was is may. phase_decided r x run.Live was);
       run_ends = (λ r x was is settled. phase_decided r x run.Ended was);
     }) m place h (rule_settles runs m place fit live h)

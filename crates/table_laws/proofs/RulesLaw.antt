@@ -17,15 +17,15 @@ use Rattle.run_states.specs.Groups.{HasOneBeside, HasOneEach, holds, is_in, leg_
 use Rattle.run_states.specs.JobResults.{results_of}
 use Rattle.run_states.specs.Moves.{Move, Transition, and_then, without_moves}
 use Rattle.run_states.specs.Places.{job_at, leg_at, run_at, with_job, with_run}
-use Rattle.run_states.specs.declared.place.LegPlace.{LegPlace}
+use Rattle.run_states.specs.declared.place.LegSite.{LegSite}
 use Rattle.run_states.specs.Rules.{decided, may_run, result_at}
 use Rattle.run_states.specs.Rules.{rule_at}
 use Rattle.run_states.specs.Rules.{with_leg_in}
 use Rattle.run_states.specs.RunState.{LegState, JobState, RunState}
-use Rattle.run_states.specs.Settling.{first_place, first_rule, settled_within}
+use Rattle.run_states.specs.Settling.{first_site, first_rule, settled_within}
 use Rattle.run_states.specs.SoundRuns.{PhaseFits}
 use Rattle.run_states.specs.StateWords.{leg_has_ended, is_blocked, is_done, is_live, is_open, leg_in_phase, opened}
-use Rattle.run_states.specs.StateWords.{run_in_phase, settled_as}
+use Rattle.run_states.specs.StateWords.{run_in_phase, finished_as}
 use Rattle.run_states.specs.Words.{is_stopping, planned_legs}
 use Rattle.run_states.specs.declared.phases.LegPhase.{LegPhase}
 use Rattle.run_states.specs.declared.phases.LegPhase.TheVariants as leg
@@ -62,7 +62,7 @@ use Rattle.run_states.specs.declared.holder.Holder.TheVariants.{Run, Leg}
 -- ---- a job opens
 
 decided_same : (may stopping : Bool) (n l : ℕ) (y : JobState) → y.legs ≡ []
-    → status_in_job l ((if may then opened n else settled_as (if stopping then result.Cancelled else result.Skipped)) y) ≡ status_in_job l y
+    → status_in_job l ((if may then opened n else finished_as (if stopping then result.Cancelled else result.Skipped)) y) ≡ status_in_job l y
 decided_same true stopping n l y none = new_legs_same n l y.legs none
 decided_same false stopping n l y none = refl
 
@@ -81,7 +81,7 @@ opening_tells runs fit r j y was blocked =
 -- ---- a leg
 
 -- a leg in this phase changes as its moves say
-leg_goes_by : (runs : List RunState) (p : LegPlace) (z : LegState) (phase : LegPhase) (to : LegPhase) (moves : List Move)
+leg_goes_by : (runs : List RunState) (p : LegSite) (z : LegState) (phase : LegPhase) (to : LegPhase) (moves : List Move)
     → leg_at runs p ≡ Some z → z.phase ≡ phase → Goes (Leg p) (leg_status phase) (own (Leg p) moves) (leg_status to)
     → (y : LegState) → leg_at runs p ≡ Some y
     → Goes (Leg p) (status_of_leg y) (own (Leg p) moves) (status_of_leg (leg_in_phase to y))
@@ -92,7 +92,7 @@ leg_goes_by runs p z phase to moves was is goes y at =
 own_itself : (h : Holder) (m : Move) → holder_of m ≡ h → own h (m ∷ []) ≡ m ∷ []
 own_itself h m is = ap (λ b. if b then m ∷ [] else []) (ap (same_holder h) is ∙ itself h)
 
-leg_set_tells : (runs : List RunState) (p : LegPlace) (z : LegState) (phase to : LegPhase) (m : Move) → leg_at runs p ≡ Some z
+leg_set_tells : (runs : List RunState) (p : LegSite) (z : LegState) (phase to : LegPhase) (m : Move) → leg_at runs p ≡ Some z
     → z.phase ≡ phase
     → holder_of m ≡ Leg p → Goes (Leg p) (leg_status phase) (m ∷ []) (leg_status to)
     → Tells runs (record { runs = with_leg_in to p runs; moves = m ∷ [] })
@@ -104,7 +104,7 @@ leg_set_tells runs p z phase to m was is of_it goes =
     goes))
     (λ none. absurd (none-some z (sym none ∙ was))) (only_one (Leg p) m of_it)
 
-unseen_tells : (runs : List RunState) (p : LegPlace) (z : LegState) → leg_at runs p ≡ Some z → z.phase ≡ leg.New
+unseen_tells : (runs : List RunState) (p : LegSite) (z : LegState) → leg_at runs p ≡ Some z → z.phase ≡ leg.New
     → Tells runs (without_moves (with_leg_in (leg.Ended outcome.Cancelled) p runs))
 unseen_tells runs p z was is =
     leg_tells p (leg_in_phase (leg.Ended outcome.Cancelled)) runs []
@@ -117,7 +117,7 @@ ended_unbegun : (z : LegState) → LegUnbegun z → LegUnbegun (leg_in_phase (le
 ended_unbegun z un = record { no_lease = un.no_lease; cancelled = (λ o e. cc) }
 
 decided_unbegun : (may stopping : Bool) (n l : ℕ) (y : JobState) → There LegUnbegun (slice_get y.legs l)
-    → There LegUnbegun (slice_get ((if may then opened n else settled_as (if stopping then result.Cancelled else result.Skipped)) y).legs l)
+    → There LegUnbegun (slice_get ((if may then opened n else finished_as (if stopping then result.Cancelled else result.Skipped)) y).legs l)
 decided_unbegun true stopping n l y all = new_leg_unbegun n l
 decided_unbegun false stopping n l y all = all
 
@@ -200,7 +200,7 @@ module _ (reached : List RunState) (g : Group) (cancels : Holder → Bool)
   -- ---- a leg advances
 
   -- the newcomer's group is held by its own run
-  own_group_keeps : (runs : List RunState) (p : LegPlace) (z : LegState) → leg_at runs p ≡ Some z → z.phase ≡ leg.New
+  own_group_keeps : (runs : List RunState) (p : LegSite) (z : LegState) → leg_at runs p ≡ Some z → z.phase ≡ leg.New
       → Keeps runs (without_moves (with_leg_in (leg.Ended outcome.Cancelled) p runs))
   own_group_keeps runs p z was is =
       let next = with_leg_in (leg.Ended outcome.Cancelled) p runs in
@@ -210,7 +210,7 @@ module _ (reached : List RunState) (g : Group) (cancels : Holder → Bool)
       (still_of_all runs next (leg_all_still runs p (leg_in_phase (leg.Ended outcome.Cancelled)) ended_unbegun)))
 
   -- or the newcomer arrives
-  leg_arrival_keeps : (runs : List RunState) (p : LegPlace) (z : LegState) → RunsFit runs → leg_at runs p ≡ Some z → z.phase ≡ leg.New
+  leg_arrival_keeps : (runs : List RunState) (p : LegSite) (z : LegState) → RunsFit runs → leg_at runs p ≡ Some z → z.phase ≡ leg.New
       → HasOneEach runs → Grows (arrived (Leg p) (with_leg_in leg.Waiting p runs)).runs reached
       → Keeps runs (arrived (Leg p) (with_leg_in leg.Waiting p runs))
   leg_arrival_keeps runs p z fit was is each grows =
@@ -222,7 +222,7 @@ module _ (reached : List RunState) (g : Group) (cancels : Holder → Bool)
       (ap (passes (leg_passes leg_waits)) (set_itself runs p z was (leg_in_phase leg.Waiting))) (groups_stay runs now fit stay) each
       (leg_all_still runs p (leg_in_phase leg.Waiting) (λ v un. record { no_lease = un.no_lease; cancelled = (λ o e. cc) })) grows
 
-  leg_start_keeps : (runs : List RunState) (p : LegPlace) (z : LegState) → RunsFit runs → Grows runs reached → leg_at runs p ≡ Some z
+  leg_start_keeps : (runs : List RunState) (p : LegSite) (z : LegState) → RunsFit runs → Grows runs reached → leg_at runs p ≡ Some z
       → z.phase ≡ leg.Waiting → may_start runs (Leg p) ≡ true
       → Keeps runs (started (Leg p) (with_leg_in leg.Ready p runs))
   leg_start_keeps runs p z fit from was is may =
@@ -284,9 +284,9 @@ module _ (reached : List RunState) (g : Group) (cancels : Holder → Bool)
       (decided_unbegun (may_run runs r j) (is_stopping runs r) (planned_legs runs r j))))
 
   closing_keeps : (runs : List RunState) (r j : ℕ) (y : JobState) → RunsFit runs → job_at runs r j ≡ Some y → is_done y ≡ true
-      → Keeps runs (without_moves (with_job r j (settled_as (result_at runs r j y)) runs))
+      → Keeps runs (without_moves (with_job r j (finished_as (result_at runs r j y)) runs))
   closing_keeps runs r j y fit was done =
-      let close = settled_as (result_at runs r j y) in
+      let close = finished_as (result_at runs r j y) in
       let next = with_job r j close runs in
       quiet_goes_on (is_in reached g) cancels runs (without_moves next)
       (unmoved_is_quiet (is_in reached g) cancels runs next (quiet_job_tells r j close runs (λ l y is. refl))
@@ -315,7 +315,7 @@ module _ (reached : List RunState) (g : Group) (cancels : Holder → Bool)
   first_rule_keeps : (runs : List RunState) (m : Transition) → RunsFit runs → first_rule runs ≡ Some m → HasOneEach runs → Grows runs reached
       → Grows m.runs reached → Keeps runs m
   first_rule_keeps runs m fit h each from grows =
-      let made = from_and_then (rule_at runs) (first_place runs) m h in
+      let made = from_and_then (rule_at runs) (first_site runs) m h in
       rule_keeps runs m made.value fit (first_place_is_live runs made.value made.is) made.gives each from grows
 
   pub settled_keeps : (n : ℕ) (runs : List RunState) → RunsFit runs → HasOneEach runs → Grows (settled_within n runs).runs reached

@@ -7,17 +7,17 @@ use Rattle.wf_value.specs.declared.outcome.Outcome.{Outcome}
 use Rattle.wf_value.specs.declared.outcome.Outcome.TheVariants as outcome
 use Rattle.run_states.specs.Arrivals.{arrived, displaced, others_pending, room_made, stopped_where_requested}
 use Rattle.run_states.specs.FirstOf.{changed_at}
-use Rattle.run_states.specs.Fitting.{place_of_lease}
+use Rattle.run_states.specs.Fitting.{site_of_lease}
 use Rattle.run_states.specs.GroupOf.{cancels_in_progress, group_at}
 use Rattle.run_states.specs.Groups.{in_progress_in}
 use Rattle.run_states.specs.Moves.{Transition, and_then, at_each, without_moves}
 use Rattle.run_states.specs.Places.{with_job, with_leg, with_run}
-use Rattle.run_states.specs.declared.place.LegPlace.{LegPlace}
+use Rattle.run_states.specs.declared.place.LegSite.{LegSite}
 use Rattle.run_states.specs.Rules.{decided, leg_in_phase}
-use Rattle.run_states.specs.Rules.{result_at, rule_at, run_in_phase, settled_as}
+use Rattle.run_states.specs.Rules.{result_at, rule_at, run_in_phase, finished_as}
 use Rattle.run_states.specs.Rules.{with_leg_in}
 use Rattle.run_states.specs.RunState.{JobState, LegState, RunState}
-use Rattle.run_states.specs.Settling.{first_place, first_rule, remaining_phases, settled, settled_within}
+use Rattle.run_states.specs.Settling.{first_site, first_rule, remaining_phases, settled, settled_within}
 use Rattle.run_states.specs.StopMoves.{with_ended, displace, stop_holder}
 use Rattle.run_states.specs.Stops.{after_end, stopped, stopped_in, stopped_run, stops_others, with_stop_requested, with_stopped_legs}
 use Rattle.run_states.specs.declared.phases.LegPhase.TheVariants as leg
@@ -49,7 +49,7 @@ module _ {X : Type 0} (read : RunState → X) (of_course : IsOfCourse read) wher
   job_stays r j f runs = run_stays r (λ (x : RunState). record x { jobs = changed_at j f x.jobs }) runs
       (λ x. of_course x (record x { jobs = changed_at j f x.jobs }) refl refl)
 
-  pub leg_stays : (p : LegPlace) (f : LegState → LegState) (runs : List RunState) → reads (with_leg p f runs) ≡ reads runs
+  pub leg_stays : (p : LegSite) (f : LegState → LegState) (runs : List RunState) → reads (with_leg p f runs) ≡ reads runs
   leg_stays p f runs = job_stays p.run p.job (λ (job : JobState). record job { legs = changed_at p.leg f job.legs }) runs
 
   -- ---- a stop
@@ -103,7 +103,7 @@ module _ {X : Type 0} (read : RunState → X) (of_course : IsOfCourse read) wher
         leg_arrives = (λ p z was is.
             arrived_stays (Leg p) (with_leg_in leg.Waiting p runs) ∙ leg_stays p (leg_in_phase leg.Waiting) runs);
         leg_starts = (λ p z was is may. leg_stays p (leg_in_phase leg.Ready) runs);
-        job_settles = (λ r j y was done. job_stays r j (settled_as (result_at runs r j y)) runs);
+        job_settles = (λ r j y was done. job_stays r j (finished_as (result_at runs r j y)) runs);
         run_starts = (λ r x was is may. phase_stays runs r run.Live);
         run_ends = (λ r x was is settled. phase_stays runs r run.Ended);
       })
@@ -118,7 +118,7 @@ module _ {X : Type 0} (read : RunState → X) (of_course : IsOfCourse read) wher
       → reads (option_map_or (λ (m : Transition). and_then m (settled_within n)) o (without_moves runs)).runs ≡ reads runs) [
         | None ↦ λ is. refl
         | Some next ↦ λ is.
-            let made = from_and_then (rule_at runs) (first_place runs) next is in
+            let made = from_and_then (rule_at runs) (first_site runs) next is in
             within_stays n next.runs ∙ rule_stays runs next made.value made.gives
       ] refl
 
@@ -127,7 +127,7 @@ module _ {X : Type 0} (read : RunState → X) (of_course : IsOfCourse read) wher
 
   -- ---- a leg ends
 
-  end_stays : (p : LegPlace) (outcome : Outcome) (runs : List RunState) → reads (after_end p outcome runs) ≡ reads runs
+  end_stays : (p : LegSite) (outcome : Outcome) (runs : List RunState) → reads (after_end p outcome runs) ≡ reads runs
   end_stays p outcome runs =
       let ended = with_leg p (leg_in_phase (leg.Ended outcome)) runs in
       let one : reads ended ≡ reads runs = leg_stays p (leg_in_phase (leg.Ended outcome)) runs in
@@ -139,7 +139,7 @@ module _ {X : Type 0} (read : RunState → X) (of_course : IsOfCourse read) wher
 
   pub ended_stays : (lease : ℕ) (outcome : Outcome) (runs : List RunState) → reads (with_ended lease outcome runs) ≡ reads runs
   ended_stays lease outcome runs =
-      elim (place_of_lease runs lease) as (λ o. reads (option_map_or (λ p. after_end p outcome runs) o runs) ≡ reads runs) [
+      elim (site_of_lease runs lease) as (λ o. reads (option_map_or (λ p. after_end p outcome runs) o runs) ≡ reads runs) [
         | None ↦ refl
         | Some p ↦ end_stays p outcome runs
       ]

@@ -15,11 +15,11 @@ use Rattle.run_plan.specs.declared.command.Done.{Done as Reported}
 use Rattle.run_plan.specs.declared.command.Command.{Command}
 use Rattle.run_plan.specs.declared.command.Command.TheVariants as command
 use Rattle.run_plan.specs.declared.reply.Reply.{Reply}
-use Rattle.run_states.specs.Fitting.{first_fit, place_of_lease}
+use Rattle.run_states.specs.Fitting.{first_fit, site_of_lease}
 use Rattle.run_table.specs.Histories.{after}
 use Rattle.run_table.specs.TableState.{Step, TableState}
 use Rattle.run_states.specs.Places.{run_at, with_job, with_leg, with_run}
-use Rattle.run_states.specs.declared.place.LegPlace.{LegPlace}
+use Rattle.run_states.specs.declared.place.LegSite.{LegSite}
 use Rattle.run_states.specs.Rules.{leg_in_phase}
 use Rattle.run_table.specs.Sound.{IsSound}
 use Rattle.run_table.specs.Step.{empty, entered, unchanged, admission_answer, admitting, admitted, claim_answer, leasing}
@@ -131,7 +131,7 @@ claimed_decided : (t : TableState) (claim : Claimed) → IsSound t → Decided t
 claimed_decided t claim s all =
     answered_or_changed t (claim_answer t claim) (claiming t claim) all (claiming_decided t claim s all)
 
-after_end_decided : (runs : List RunState) (p : LegPlace) (o : Outcome) → Decided runs → Decided (after_end p o runs)
+after_end_decided : (runs : List RunState) (p : LegSite) (o : Outcome) → Decided runs → Decided (after_end p o runs)
 after_end_decided runs p o all =
     let ended = with_leg p (leg_in_phase (leg.Ended o)) runs in
     let ended_decided = leg_change_decided runs p (leg_in_phase (leg.Ended o)) all in
@@ -140,7 +140,7 @@ after_end_decided runs p o all =
       | false ↦ ended_decided
     ]
 
-ended_decided : (runs : List RunState) (outcome : Outcome) (o : Option LegPlace) → Decided runs
+ended_decided : (runs : List RunState) (outcome : Outcome) (o : Option LegSite) → Decided runs
     → Decided (option_map_or (λ p. after_end p outcome runs) o runs)
 ended_decided runs outcome None all = all
 ended_decided runs outcome (Some p) all = after_end_decided runs p outcome all
@@ -149,7 +149,7 @@ reported_decided : (t : TableState) (report : Reported) → IsSound t → Decide
 reported_decided t report s all =
     answered_or_changed t (report_answer t report) (reporting t report) all
     (λ none. settled_decided (with_ended report.lease report.result t.runs) (report_keeps t report (kept_from_sound t s) none).fit
-    (ended_decided t.runs report.result (place_of_lease t.runs report.lease) all))
+    (ended_decided t.runs report.result (site_of_lease t.runs report.lease) all))
 
 cancelled_decided : (t : TableState) (id : ℕ) → IsSound t → Decided t.runs → Decided (cancelled t id).table.runs
 cancelled_decided t id s all =
@@ -182,7 +182,7 @@ lost_decided t name s all =
             | Some lease ↦ λ holds.
                 let outcome = outcome_of_loss t.runs lease in
                 settled_decided (with_ended lease outcome t.runs) (loss_keeps t name runner lease (kept_from_sound t s) is holds).fit
-                (ended_decided t.runs outcome (place_of_lease t.runs lease) all)
+                (ended_decided t.runs outcome (site_of_lease t.runs lease) all)
           ] refl
     ] refl
 

@@ -20,14 +20,14 @@ use Rattle.run_plan.specs.declared.planned.PlannedJob.{PlannedJob}
 use Rattle.run_plan.specs.declared.reply.Reply.{Reply}
 use Rattle.run_plan.specs.declared.reply.Reply.TheVariants as reply
 use Rattle.wf_value.specs.declared.code.Code.TheVariants.{LeaseNotHeld, NoRunner}
-use Rattle.run_states.specs.Fitting.{first_fit, has_lease, place_of_lease}
+use Rattle.run_states.specs.Fitting.{first_fit, has_lease, site_of_lease}
 use Rattle.run_states.specs.GroupOf.{cancels_in_progress}
 use Rattle.run_states.specs.Groups.{HasOneEach, holds, is_in, leg_holds}
 use Rattle.run_states.specs.Moves.{Move, Transition, without_moves}
 use Rattle.run_table.specs.TableState.{Step, RunnerState, TableState}
 use Rattle.run_states.specs.Parallel.{is_at_work}
-use Rattle.run_states.specs.Places.{job_at, leg_at, leg_places, run_at, with_job, with_leg}
-use Rattle.run_states.specs.declared.place.LegPlace.{LegPlace}
+use Rattle.run_states.specs.Places.{job_at, leg_at, leg_sites, run_at, with_job, with_leg}
+use Rattle.run_states.specs.declared.place.LegSite.{LegSite}
 use Rattle.run_states.specs.Settling.{remaining_phases, settled, settling}
 use Rattle.run_table.specs.Sound.{IsSound}
 use Rattle.run_states.specs.StateWords.{leg_has_ended, leg_in_phase}
@@ -120,7 +120,7 @@ module _ (runs : List RunState) (event : Admitted) where
       goes_by h (status runs h) (status next h) (own h arrives) [] (sym (only_one n (Move.arrive n) refl h (λ e. cc)))
       (goes_same h (status runs h) (status next h) (status_by_run next q ∙ same_leg q ∙ sym (status_by_run runs q)))
     where
-      same_leg : (q : LegPlace)
+      same_leg : (q : LegSite)
           → status_by (status_in_run q.job q.leg) (run_at (runs ++ new_run event ∷ []) q.run) ≡ status_by (status_in_run q.job q.leg)
           (run_at runs q.run)
       same_leg q =
@@ -142,7 +142,7 @@ at_work_holds leg.Running e = refl
 at_work_holds leg.Stopping e = refl
 at_work_holds (leg.Ended r) e = cc
 
-module _ (in_group cancels : Holder → Bool) (runs : List RunState) (p : LegPlace) (o : Outcome) (lease : ℕ) (works : works_at runs p
+module _ (in_group cancels : Holder → Bool) (runs : List RunState) (p : LegSite) (o : Outcome) (lease : ℕ) (works : works_at runs p
     ≡ Some lease) where
   it_holds : holds runs (Leg p) ≡ true
   it_holds =
@@ -201,11 +201,11 @@ module _ (in_group cancels : Holder → Bool) (runs : List RunState) (p : LegPla
       ]
 
 lease_end_goes_on : (in_group cancels : Holder → Bool) (runs : List RunState) (lease : ℕ) (o : Outcome)
-    → ((p : LegPlace) → place_of_lease runs lease ≡ Some p → works_at runs p ≡ Some lease)
+    → ((p : LegSite) → site_of_lease runs lease ≡ Some p → works_at runs p ≡ Some lease)
     → GoesOn in_group cancels runs (record { runs = with_ended lease o runs; moves = lease_end_moves lease o runs })
 lease_end_goes_on in_group cancels runs lease o works =
-    elim (place_of_lease runs lease) as
-    (λ x. place_of_lease runs lease ≡ x → GoesOn in_group cancels runs (record {
+    elim (site_of_lease runs lease) as
+    (λ x. site_of_lease runs lease ≡ x → GoesOn in_group cancels runs (record {
       runs = option_map_or (λ p. after_end p o runs) x runs;
       moves =
           option_map_or (λ p. end_moves p o runs) x [];
@@ -215,11 +215,11 @@ lease_end_goes_on in_group cancels runs lease o works =
     ] refl
 
 -- the leg with a lease that a runner holds is at work
-found_has : (runs : List RunState) (lease : ℕ) (p : LegPlace) → place_of_lease runs lease ≡ Some p → had_at runs p ≡ Some lease
+found_has : (runs : List RunState) (lease : ℕ) (p : LegSite) → site_of_lease runs lease ≡ Some p → had_at runs p ≡ Some lease
 found_has runs lease p is =
     sym (had_is runs p)
     ∙ has_it lease (leg_at runs p)
-    (find_passes (λ (q : LegPlace). option_map_or (has_lease lease) (leg_at runs q) false) (leg_places runs) p is)
+    (find_passes (λ (q : LegSite). option_map_or (has_lease lease) (leg_at runs q) false) (leg_sites runs) p is)
 
 -- ---- the steps
 
@@ -282,7 +282,7 @@ module _ (g : Group) where
       (new_run_still t.runs event (all_fit t.runs event kept.fit) (new_run_waits t.runs event))
       (stays_grows u.runs (settled u.runs) (settling_settles u.runs fit_u).stay)))
 
-  lease_says : (t : TableState) (claim : Claimed) (p : LegPlace) → IsSound t → claim_answer t claim ≡ None
+  lease_says : (t : TableState) (claim : Claimed) (p : LegSite) → IsSound t → claim_answer t claim ≡ None
       → first_fit claim.labels t.runs ≡ Some p
       → StepSays t (leasing t claim p)
   lease_says t claim p s none is =
@@ -324,7 +324,7 @@ module _ (g : Group) where
       ] refl)
 
   end_says : (t : TableState) (runners : List RunnerState) (lease : ℕ) (o : Outcome) → IsSound t → RunsFit (with_ended lease o t.runs)
-      → StayFit t.runs (with_ended lease o t.runs) → ((p : LegPlace) → place_of_lease t.runs lease ≡ Some p
+      → StayFit t.runs (with_ended lease o t.runs) → ((p : LegSite) → site_of_lease t.runs lease ≡ Some p
       → works_at t.runs p ≡ Some lease)
       → StepSays t (at_rest_after (lease_end_moves lease o t.runs)
       (record t { runs = with_ended lease o t.runs; runners = runners }) reply.Ok)

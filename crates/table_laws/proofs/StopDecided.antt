@@ -14,11 +14,11 @@ use Rattle.needs_graph.specs.JobBitmap.{places}
 use Rattle.needs_graph.specs.Needs.{is_listed, needs_of}
 use Rattle.run_plan.specs.PlanOf.{needs_listed, needs_of_planned, plan_of}
 use Rattle.run_states.specs.Places.{run_at, job_at, with_run}
-use Rattle.run_states.specs.Rules.{is_open, settled_as}
+use Rattle.run_states.specs.Rules.{is_open, finished_as}
 use Rattle.run_states.specs.RunState.{JobState, RunState}
 use Rattle.run_states.specs.Stops.{cancelled, stopped_in, stopped_run, stopped_where, with_stop_requested, with_stopped_legs}
-use Rattle.run_states.specs.WithinRun.{may_run_in, needs_settled_in}
-use Rattle.run_states.specs.Words.{all_have_results, needs_have_settled, results_so_far}
+use Rattle.run_states.specs.WithinRun.{may_run_in, needs_finished_in}
+use Rattle.run_states.specs.Words.{all_have_results, needs_have_finished, results_so_far}
 use Rattle.run_states.specs.declared.phases.JobPhase.{JobPhase}
 use Rattle.run_states.specs.declared.phases.RunPhase.{RunPhase}
 use Rattle.run_states.specs.declared.phases.RunPhase.TheVariants as run
@@ -65,16 +65,16 @@ needs_have jobs results each j =
 -- ---- a run that has not begun
 
 settled_has : (jobs : List JobState) (k : ℕ) → k < length jobs
-    → has_result (results_so_far (map (settled_as result.Cancelled) jobs)) k ≡ true
+    → has_result (results_so_far (map (finished_as result.Cancelled) jobs)) k ≡ true
 settled_has [] k below = absurd (omega arith)
 settled_has (y ∷ ys) zero below = refl
 settled_has (y ∷ ys) (suc k) below = settled_has ys k (omega arith)
 
-cancelled_needs : (x : RunState) → length x.jobs ≡ length (plan_of x.admitted.body) → (j : ℕ) → needs_settled_in (cancelled x) j ≡ true
+cancelled_needs : (x : RunState) → length x.jobs ≡ length (plan_of x.admitted.body) → (j : ℕ) → needs_finished_in (cancelled x) j ≡ true
 cancelled_needs x same j =
     let plan = plan_of x.admitted.body in
     let listed : length (needs_listed plan) ≡ length plan = length-map plan needs_of_planned in
-    needs_have (needs_listed plan) (results_so_far (map (settled_as result.Cancelled) x.jobs))
+    needs_have (needs_listed plan) (results_so_far (map (finished_as result.Cancelled) x.jobs))
     (λ k below. settled_has x.jobs k (omega (arith, below, listed, same))) j
 
 -- ---- the runs after one of them is stopped
@@ -99,9 +99,9 @@ module _ (runs : List RunState) (fit : RunsFit runs) (all : Decided runs) (r : �
       → JobDecided (with_run r stopped_run runs) r l y.phase
   now run.Waiting is l y e =
       let next = with_run r stopped_run runs in
-      let f = settled_as result.Cancelled in
+      let f = finished_as result.Cancelled in
       let from = from_map f (slice_get x.jobs l) y (sym (slice_get-map f x.jobs l) ∙ e) in
-      let needs : needs_have_settled next r l ≡ true =
+      let needs : needs_have_finished next r l ≡ true =
       needs_by_run next r l (cancelled x) (cancelled_at is) ∙ cancelled_needs x (fit r x was).has_its_jobs l in
       subst (λ (v : JobState). JobDecided next r l v.phase) from.gives (needs, (λ e. cc))
   now run.Live is l y e =

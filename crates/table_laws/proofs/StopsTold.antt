@@ -10,11 +10,11 @@ use Rattle.wf_value.specs.declared.outcome.Outcome.TheVariants.{Cancelled}
 use Rattle.run_states.specs.FirstOf.{changed_at, placed}
 use Rattle.run_states.specs.GroupWords.{holder_of, same_holder}
 use Rattle.run_states.specs.Moves.{Move, Transition}
-use Rattle.run_states.specs.Places.{leg_place, run_at, with_run}
-use Rattle.run_states.specs.declared.place.LegPlace.{LegPlace}
+use Rattle.run_states.specs.Places.{leg_site, run_at, with_run}
+use Rattle.run_states.specs.declared.place.LegSite.{LegSite}
 use Rattle.run_states.specs.RunConditions.{may_run_in}
 use Rattle.run_states.specs.RunState.{LegState, JobState, RunState}
-use Rattle.run_states.specs.StateWords.{is_open, settled_as}
+use Rattle.run_states.specs.StateWords.{is_open, finished_as}
 use Rattle.run_states.specs.StopMoves.{jobs_stop_moves, leg_stop_moves, legs_stop_moves, run_stop_moves, run_stop_moves_in, stop_holder}
 use Rattle.run_states.specs.StopMoves.{stop_request_moves, where_stop_moves}
 use Rattle.run_states.specs.Stops.{cancelled, stopped, stopped_in, stopped_phase, stopped_run, stopped_where, with_stop_requested}
@@ -93,7 +93,7 @@ own_one : (h k : Holder) (b : Bool) → same_holder h k ≡ b → own h (Move.st
 own_one h k true e = ap (λ b. if b then Move.stop k ∷ [] else []) e
 own_one h k false e = ap (λ b. if b then Move.stop k ∷ [] else []) e
 
-pub own_leg_stop : (p : LegPlace) (phase : LegPhase) → own (Leg p) (leg_stop_moves p phase) ≡ leg_stop_moves p phase
+pub own_leg_stop : (p : LegSite) (phase : LegPhase) → own (Leg p) (leg_stop_moves p phase) ≡ leg_stop_moves p phase
 own_leg_stop p leg.New = refl
 own_leg_stop p leg.Waiting = own_both (Leg p) (Leg p) true (itself (Leg p))
 own_leg_stop p leg.Ready = own_both (Leg p) (Leg p) true (itself (Leg p))
@@ -101,7 +101,7 @@ own_leg_stop p leg.Running = own_one (Leg p) (Leg p) true (itself (Leg p))
 own_leg_stop p leg.Stopping = refl
 own_leg_stop p (leg.Ended r) = refl
 
-pub not_own_leg_stop : (h : Holder) (p : LegPlace) (phase : LegPhase) → same_holder h (Leg p) ≡ false
+pub not_own_leg_stop : (h : Holder) (p : LegSite) (phase : LegPhase) → same_holder h (Leg p) ≡ false
     → own h (leg_stop_moves p phase) ≡ []
 not_own_leg_stop h p leg.New other = refl
 not_own_leg_stop h p leg.Waiting other = own_both h (Leg p) false other
@@ -110,7 +110,7 @@ not_own_leg_stop h p leg.Running other = own_one h (Leg p) false other
 not_own_leg_stop h p leg.Stopping other = refl
 not_own_leg_stop h p (leg.Ended r) other = refl
 
-phase_goes : (p : LegPlace) (phase : LegPhase)
+phase_goes : (p : LegSite) (phase : LegPhase)
     → Goes (Leg p) (leg_status phase) (leg_stop_moves p phase) (leg_status (stopped_phase phase))
 phase_goes p leg.New = goes_unseen (Leg p)
 phase_goes p leg.Waiting = goes_over (Leg p) Status.waiting (leg_stop_moves p leg.Waiting) (ends_by_stop
@@ -121,42 +121,42 @@ phase_goes p leg.Running = goes_to_stop (Leg p)
 phase_goes p leg.Stopping = goes_not (Leg p) (Status.in_progress true)
 phase_goes p (leg.Ended r) = goes_not (Leg p) Status.over
 
-pub own_phase_goes : (p : LegPlace) → EachGoes (Leg p) status_of_leg (λ z. own (Leg p) (leg_stop_moves p z.phase)) stopped
+pub own_phase_goes : (p : LegSite) → EachGoes (Leg p) status_of_leg (λ z. own (Leg p) (leg_stop_moves p z.phase)) stopped
 own_phase_goes p z =
     goes_by (Leg p) (leg_status z.phase) (leg_status (stopped_phase z.phase)) (own (Leg p) (leg_stop_moves p z.phase))
     (leg_stop_moves p z.phase) (sym (own_leg_stop p z.phase)) (phase_goes p z.phase)
 
 -- ---- the legs of a job
 
-pub other_leg : (q : LegPlace) (r j l : ℕ) → (leg_place r j l ≡ q → ⊥)
-    → same_holder (Leg q) (Leg (leg_place r j l)) ≡ false
+pub other_leg : (q : LegSite) (r j l : ℕ) → (leg_site r j l ≡ q → ⊥)
+    → same_holder (Leg q) (Leg (leg_site r j l)) ≡ false
 other_leg q r j l other =
-    elim (one_or_another (Leg q) (Leg (leg_place r j l))) [
-      | inl same ↦ absurd (other (leg_is (leg_place r j l) q (sym same)))
+    elim (one_or_another (Leg q) (Leg (leg_site r j l))) [
+      | inl same ↦ absurd (other (leg_is (leg_site r j l) q (sym same)))
       | inr apart ↦ apart.1
     ]
 
 -- the holder is not a leg of the job
 abbrev pub IsNoLegOf : Holder → ℕ → ℕ → Type 0
-IsNoLegOf h r j = (l : ℕ) → same_holder h (Leg (leg_place r j l)) ≡ false
+IsNoLegOf h r j = (l : ℕ) → same_holder h (Leg (leg_site r j l)) ≡ false
 
 pub not_own_legs : (h : Holder) (r j : ℕ) (legs : List LegState) → IsNoLegOf h r j → own h (legs_stop_moves r j legs) ≡ []
 not_own_legs h r j legs other =
-    filter_flat_map (λ m. same_holder h (holder_of m)) (λ (l : ℕ × LegState). leg_stop_moves (leg_place r j l.0) l.1.phase) (placed legs)
-    ∙ none_of_all (λ (l : ℕ × LegState). own h (leg_stop_moves (leg_place r j l.0) l.1.phase)) (placed legs)
-    (λ l. not_own_leg_stop h (leg_place r j l.0) l.1.phase (other l.0))
+    filter_flat_map (λ m. same_holder h (holder_of m)) (λ (l : ℕ × LegState). leg_stop_moves (leg_site r j l.0) l.1.phase) (placed legs)
+    ∙ none_of_all (λ (l : ℕ × LegState). own h (leg_stop_moves (leg_site r j l.0) l.1.phase)) (placed legs)
+    (λ l. not_own_leg_stop h (leg_site r j l.0) l.1.phase (other l.0))
 
-own_legs : (q : LegPlace) (legs : List LegState)
+own_legs : (q : LegSite) (legs : List LegState)
     → own (Leg q) (legs_stop_moves q.run q.job legs)
     ≡ moves_by (λ z. own (Leg q) (leg_stop_moves q z.phase)) (slice_get legs q.leg)
 own_legs q legs =
     filter_flat_map (λ m. same_holder (Leg q) (holder_of m))
-    (λ (l : ℕ × LegState). leg_stop_moves (leg_place q.run q.job l.0) l.1.phase) (placed legs)
-    ∙ one_of_placed (λ (l : ℕ × LegState). own (Leg q) (leg_stop_moves (leg_place q.run q.job l.0) l.1.phase)) q.leg legs
-    (λ k z other. not_own_leg_stop (Leg q) (leg_place q.run q.job k) z.phase
-    (other_leg q q.run q.job k (λ same. other (ap (λ (p : LegPlace). p.leg) same))))
+    (λ (l : ℕ × LegState). leg_stop_moves (leg_site q.run q.job l.0) l.1.phase) (placed legs)
+    ∙ one_of_placed (λ (l : ℕ × LegState). own (Leg q) (leg_stop_moves (leg_site q.run q.job l.0) l.1.phase)) q.leg legs
+    (λ k z other. not_own_leg_stop (Leg q) (leg_site q.run q.job k) z.phase
+    (other_leg q q.run q.job k (λ same. other (ap (λ (p : LegSite). p.leg) same))))
 
-pub legs_go : (q : LegPlace)
+pub legs_go : (q : LegSite)
     → EachGoes (Leg q) (status_in_job q.leg) (λ y. own (Leg q) (legs_stop_moves q.run q.job y.legs)) with_stopped_legs
 legs_go q y =
     goes_by (Leg q) (status_in_job q.leg y) (status_in_job q.leg (with_stopped_legs y))
@@ -166,7 +166,7 @@ legs_go q y =
     (own_phase_goes q) y.legs q.leg)
 
 -- if they have to stop
-where_goes : (q : LegPlace) (b : Bool)
+where_goes : (q : LegSite) (b : Bool)
     → EachGoes (Leg q) (status_in_job q.leg) (λ y. own (Leg q) (where_stop_moves b q.run q.job y)) (stopped_where b)
 where_goes q b y =
     elim (is_open y.phase && b) as
@@ -185,7 +185,7 @@ not_own_where h b r j y other =
 
 -- ---- the jobs of a run that is asked to stop
 
-own_jobs : (q : LegPlace) (x : RunState)
+own_jobs : (q : LegSite) (x : RunState)
     → own (Leg q) (jobs_stop_moves q.run x)
     ≡ moves_by (λ y. own (Leg q) (where_stop_moves (not (may_run_in x q.job)) q.run q.job y)) (slice_get x.jobs q.job)
 own_jobs q x =
@@ -193,7 +193,7 @@ own_jobs q x =
     (λ (j : ℕ × JobState). where_stop_moves (not (may_run_in x j.0)) q.run j.0 j.1) (placed x.jobs)
     ∙ one_of_placed (λ (j : ℕ × JobState). own (Leg q) (where_stop_moves (not (may_run_in x j.0)) q.run j.0 j.1)) q.job x.jobs
     (λ k y other. not_own_where (Leg q) (not (may_run_in x k)) q.run k y
-    (λ l. other_leg q q.run k l (λ same. other (ap (λ (p : LegPlace). p.job) same))))
+    (λ l. other_leg q q.run k l (λ same. other (ap (λ (p : LegSite). p.job) same))))
 
 not_own_jobs : (h : Holder) (r : ℕ) (x : RunState) → ((j : ℕ) → IsNoLegOf h r j) → own h (jobs_stop_moves r x) ≡ []
 not_own_jobs h r x other =
@@ -202,7 +202,7 @@ not_own_jobs h r x other =
     ∙ none_of_all (λ (j : ℕ × JobState). own h (where_stop_moves (not (may_run_in x j.0)) r j.0 j.1)) (placed x.jobs)
     (λ j. not_own_where h (not (may_run_in x j.0)) r j.0 j.1 (other j.0))
 
-told_goes : (q : LegPlace)
+told_goes : (q : LegSite)
     → EachGoes (Leg q) (status_in_run q.job q.leg) (λ x. own (Leg q) (stop_request_moves q.run x)) with_stop_requested
 told_goes q x =
     let told = record x { stopping = true } in
@@ -215,13 +215,13 @@ told_goes q x =
     (λ (j : ℕ × JobState). stopped_where (not (may_run_in told j.0)) j.1) x.jobs q.job (where_goes q (not (may_run_in told q.job))))
 
 cancelled_same : (j l : ℕ) (x : RunState) → status_in_run j l (cancelled x) ≡ status_in_run j l x
-cancelled_same j l x = ap (status_by (status_in_job l)) (slice_get-map (settled_as result.Cancelled) x.jobs j) ∙ again (slice_get x.jobs j)
+cancelled_same j l x = ap (status_by (status_in_job l)) (slice_get-map (finished_as result.Cancelled) x.jobs j) ∙ again (slice_get x.jobs j)
   where
-    again : (o : Option JobState) → status_by (status_in_job l) (option_map (settled_as result.Cancelled) o) ≡ status_by (status_in_job l) o
+    again : (o : Option JobState) → status_by (status_in_job l) (option_map (finished_as result.Cancelled) o) ≡ status_by (status_in_job l) o
     again None = refl
     again (Some y) = refl
 
-leg_of_run_goes : (q : LegPlace) (phase : RunPhase) (x : RunState)
+leg_of_run_goes : (q : LegSite) (phase : RunPhase) (x : RunState)
     → Goes (Leg q) (status_in_run q.job q.leg x) (own (Leg q) (run_stop_moves_in phase q.run x))
     (status_in_run q.job q.leg (stopped_in phase x))
 leg_of_run_goes q run.Waiting x =
@@ -303,7 +303,7 @@ nat_apart a b other =
       | false ↦ λ is. refl
     ] refl
 
-leg_of_another_run : (q : LegPlace) (r : ℕ) → (q.run ≡ r → ⊥) → (j : ℕ) → IsNoLegOf (Leg q) r j
+leg_of_another_run : (q : LegSite) (r : ℕ) → (q.run ≡ r → ⊥) → (j : ℕ) → IsNoLegOf (Leg q) r j
 leg_of_another_run q r other j l = ap (λ b. b && (nat_eq q.job j && nat_eq q.leg l)) (nat_apart q.run r other)
 
 pub run_stop_goes : (r : ℕ) (runs : List RunState) → Tells runs (stop_holder (Run r) runs)

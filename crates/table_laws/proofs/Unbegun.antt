@@ -16,12 +16,12 @@ use Rattle.run_states.specs.Groups.{holds, leg_holds, leg_waits, run_waits, wait
 use Rattle.run_states.specs.Moves.{Transition, at_each}
 use Rattle.run_states.specs.NewRun.{new_run}
 use Rattle.run_states.specs.Places.{job_at, leg_at, run_at, with_job, with_leg, with_run}
-use Rattle.run_states.specs.declared.place.LegPlace.{LegPlace}
+use Rattle.run_states.specs.declared.place.LegSite.{LegSite}
 use Rattle.run_states.specs.Rules.{result_at}
 use Rattle.run_states.specs.RunConditions.{may_run_in}
 use Rattle.run_states.specs.RunState.{LegState, JobState, RunState}
 use Rattle.run_states.specs.SoundRuns.{LeaseFits, PhaseFits}
-use Rattle.run_states.specs.StateWords.{is_live, is_open, new_leg, run_in_phase, settled_as}
+use Rattle.run_states.specs.StateWords.{is_live, is_open, new_leg, run_in_phase, finished_as}
 use Rattle.run_states.specs.StopMoves.{stop_holder}
 use Rattle.run_states.specs.Stops.{cancelled, stopped, stopped_in, stopped_phase, stopped_run, stopped_where, with_stop_requested}
 use Rattle.run_states.specs.Stops.{with_stopped_legs}
@@ -46,7 +46,7 @@ use Rattle.run_states.specs.declared.holder.Holder.TheVariants.{Run, Leg}
 
 pub record RunUnbegun (x : RunState) : Type 0 where
   pub no_legs : (j : ℕ) (y : JobState) → slice_get x.jobs j ≡ Some y → y.legs ≡ []
-  pub cancelled : x.phase ≡ run.Ended → (j : ℕ) (y : JobState) → slice_get x.jobs j ≡ Some y → y.phase ≡ job.Settled result.Cancelled
+  pub cancelled : x.phase ≡ run.Ended → (j : ℕ) (y : JobState) → slice_get x.jobs j ≡ Some y → y.phase ≡ job.Finished result.Cancelled
 
 pub record LegUnbegun (z : LegState) : Type 0 where
   pub no_lease : z.lease ≡ None
@@ -103,12 +103,12 @@ OfJob l y = There LegUnbegun (slice_get y.legs l)
 abbrev OfRun : ℕ → ℕ → RunState → Type 0
 OfRun j l x = There (OfJob l) (slice_get x.jobs j)
 
-by_run : (runs : List RunState) (q : LegPlace) → Unbegun runs (Leg q) → There (OfRun q.job q.leg) (run_at runs q.run)
+by_run : (runs : List RunState) (q : LegSite) → Unbegun runs (Leg q) → There (OfRun q.job q.leg) (run_at runs q.run)
 by_run runs q all =
     through (OfJob q.leg) (λ (x : RunState). slice_get x.jobs q.job) (run_at runs q.run)
     (through LegUnbegun (λ (y : JobState). slice_get y.legs q.leg) (job_at runs q.run q.job) all)
 
-of_run : (runs : List RunState) (q : LegPlace) → There (OfRun q.job q.leg) (run_at runs q.run) → Unbegun runs (Leg q)
+of_run : (runs : List RunState) (q : LegSite) → There (OfRun q.job q.leg) (run_at runs q.run) → Unbegun runs (Leg q)
 of_run runs q all =
     back LegUnbegun (λ (y : JobState). slice_get y.legs q.leg) (job_at runs q.run q.job)
     (back (OfJob q.leg) (λ (x : RunState). slice_get x.jobs q.job) (run_at runs q.run) all)
@@ -236,12 +236,12 @@ told_unbegun x is un =
 cancelled_unbegun : (x : RunState) → RunUnbegun x → RunUnbegun (cancelled x)
 cancelled_unbegun x un = record {
   no_legs = (λ j.
-      subst (There (λ (y : JobState). y.legs ≡ [])) (sym (slice_get-map (settled_as result.Cancelled) x.jobs j))
-      (mapped_there (λ (y : JobState). y.legs ≡ []) (λ (y : JobState). y.legs ≡ []) (settled_as result.Cancelled) (slice_get x.jobs j)
+      subst (There (λ (y : JobState). y.legs ≡ [])) (sym (slice_get-map (finished_as result.Cancelled) x.jobs j))
+      (mapped_there (λ (y : JobState). y.legs ≡ []) (λ (y : JobState). y.legs ≡ []) (finished_as result.Cancelled) (slice_get x.jobs j)
       (λ y at none. none) (un.no_legs j)));
   cancelled = (λ e j.
-      subst (There (λ (y : JobState). y.phase ≡ job.Settled result.Cancelled)) (sym (slice_get-map (settled_as result.Cancelled) x.jobs j))
-      (mapped_there (λ (y : JobState). y.legs ≡ []) (λ (y : JobState). y.phase ≡ job.Settled result.Cancelled) (settled_as result.Cancelled)
+      subst (There (λ (y : JobState). y.phase ≡ job.Finished result.Cancelled)) (sym (slice_get-map (finished_as result.Cancelled) x.jobs j))
+      (mapped_there (λ (y : JobState). y.legs ≡ []) (λ (y : JobState). y.phase ≡ job.Finished result.Cancelled) (finished_as result.Cancelled)
       (slice_get x.jobs j) (λ y at none. refl) (un.no_legs j)));
 }
 
@@ -263,8 +263,8 @@ told_legs j l x all =
 
 stop_legs : (phase : RunPhase) (j l : ℕ) (x : RunState) → OfRun j l x → OfRun j l (stopped_in phase x)
 stop_legs run.Waiting j l x all =
-    subst (There (OfJob l)) (sym (slice_get-map (settled_as result.Cancelled) x.jobs j))
-    (mapped_there (OfJob l) (OfJob l) (settled_as result.Cancelled) (slice_get x.jobs j) (λ y at un. un) all)
+    subst (There (OfJob l)) (sym (slice_get-map (finished_as result.Cancelled) x.jobs j))
+    (mapped_there (OfJob l) (OfJob l) (finished_as result.Cancelled) (slice_get x.jobs j) (λ y at un. un) all)
 stop_legs run.Live j l x all =
     elim (x.stopping) as (λ b. OfRun j l (if b then x else with_stop_requested x)) [
       | true ↦ all
@@ -284,12 +284,12 @@ legs_changed j f none_stay x un =
           changed_there (λ (y : JobState). y.legs ≡ []) (λ (y : JobState). y.legs ≡ []) j change x.jobs k
           (λ y at none. ap f none ∙ none_stay) (λ y at none. none) (un.no_legs k));
       cancelled = (λ e k.
-          changed_there (λ (y : JobState). y.phase ≡ job.Settled result.Cancelled)
-          (λ (y : JobState). y.phase ≡ job.Settled result.Cancelled) j change x.jobs k (λ y at is. is) (λ y at is. is) (un.cancelled e k));
+          changed_there (λ (y : JobState). y.phase ≡ job.Finished result.Cancelled)
+          (λ (y : JobState). y.phase ≡ job.Finished result.Cancelled) j change x.jobs k (λ y at is. is) (λ y at is. is) (un.cancelled e k));
     }
 
 -- if the leg at the place remains one that has not begun
-pub leg_all_still : (runs : List RunState) (p : LegPlace) (f : LegState → LegState) → ((z : LegState) → LegUnbegun z → LegUnbegun (f z))
+pub leg_all_still : (runs : List RunState) (p : LegSite) (f : LegState → LegState) → ((z : LegState) → LegUnbegun z → LegUnbegun (f z))
     → AllStill runs (with_leg p f runs)
 leg_all_still runs p f so =
     run_all_still runs p.run (with_job_of p.job (with_leg_of p.leg f))
@@ -300,13 +300,13 @@ leg_all_still runs p f so =
           (λ y at un. changed_there LegUnbegun LegUnbegun p.leg f y.legs l (λ z is. so z) (λ z is un. un) un) (λ y at un. un) all);
     })
 
-holds_there : (runs : List RunState) (p : LegPlace) (z : LegState) → leg_at runs p ≡ Some z
+holds_there : (runs : List RunState) (p : LegSite) (z : LegState) → leg_at runs p ≡ Some z
     → holds runs (Leg p) ≡ leg_holds z.phase
 holds_there runs p z at = ap (λ o. option_map_or (λ (v : LegState). leg_holds v.phase) o false) at
 
 -- if the leg at the place holds its group before or after
-pub leg_still : (runs : List RunState) (p : LegPlace) (z : LegState) (f : LegState → LegState) → leg_at runs p ≡ Some z
-    → leg_at (with_leg p f runs) p ≡ Some (f z) → ((q : LegPlace) → (q ≡ p → ⊥) → leg_at (with_leg p f runs) q ≡ leg_at runs q)
+pub leg_still : (runs : List RunState) (p : LegSite) (z : LegState) (f : LegState → LegState) → leg_at runs p ≡ Some z
+    → leg_at (with_leg p f runs) p ≡ Some (f z) → ((q : LegSite) → (q ≡ p → ⊥) → leg_at (with_leg p f runs) q ≡ leg_at runs q)
     → (leg_holds z.phase ≡ false → leg_holds (f z).phase ≡ false → ⊥) → Still runs (with_leg p f runs)
 leg_still runs p z f was now elsewhere never (Run r) before after all =
     changed_there RunUnbegun RunUnbegun p.run (with_job_of p.job (with_leg_of p.leg f)) runs r

@@ -12,7 +12,7 @@ use Rattle.run_states.specs.GroupWords.{arrival_of, has_arrived, holder_of, same
 use Rattle.run_states.specs.Groups.{group_state, is_in}
 use Rattle.run_states.specs.Moves.{Move}
 use Rattle.run_states.specs.Places.{leg_at, run_at}
-use Rattle.run_states.specs.declared.place.LegPlace.{LegPlace}
+use Rattle.run_states.specs.declared.place.LegSite.{LegSite}
 use Rattle.run_table.specs.Step.{stepped}
 use Rattle.run_table.specs.TableState.{Step, TableState}
 use Rattle.run_states.specs.RunState.{LegState, JobState, RunState}
@@ -72,7 +72,7 @@ requests_cancellation names g t cs n = requests_by names g t cs n && not (has_ar
 -- a run that has ended with all its jobs cancelled and has no leg
 pub record RunNeverBegan (x : RunState) : Type 0 where
   pub ended : x.phase ≡ run.Ended
-  pub all_cancelled : (j : ℕ) (y : JobState) → slice_get x.jobs j ≡ Some y → y.phase ≡ job.Settled result.Cancelled
+  pub all_cancelled : (j : ℕ) (y : JobState) → slice_get x.jobs j ≡ Some y → y.phase ≡ job.Finished result.Cancelled
   pub no_legs : (j : ℕ) (y : JobState) → slice_get x.jobs j ≡ Some y → y.legs ≡ []
 
 -- a leg that has ended as cancelled and never had a lease
@@ -85,6 +85,6 @@ NeverBegan runs (Run r) = (x : RunState) × (run_at runs r ≡ Some x) × RunNev
 NeverBegan runs (Leg p) = (z : LegState) × (leg_at runs p ≡ Some z) × LegNeverBegan z
 
 -- the leg is the holder, or a leg of the holder, in any attempt
-abbrev pub IsOf : Holder → LegPlace → Type 0
+abbrev pub IsOf : Holder → LegSite → Type 0
 IsOf (Run r) p = p.run ≡ r
 IsOf (Leg q) p = p ≡ q

@@ -5,11 +5,11 @@ use Rattle.wf_value.specs.declared.outcome.JobResult.TheVariants as result
 use Rattle.needs_graph.specs.Conditions.{condition_value}
 use Rattle.run_states.specs.Places.{job_at}
 use Rattle.run_states.specs.RunState.{JobState, RunState}
-use Rattle.run_states.specs.Words.{ancestor_results, condition_of, needs_have_settled}
+use Rattle.run_states.specs.Words.{ancestor_results, condition_of, needs_have_finished}
 use Rattle.run_states.specs.declared.phases.JobPhase.TheVariants as job
 
 -- all needs of a skipped job have finished, and its condition is false for the results of its ancestors in a run that is not stopping
 abbrev pub SkipsAreDue : List RunState → Type 0
 SkipsAreDue runs =
-    (r j : ℕ) (x : JobState) → job_at runs r j ≡ Some x → x.phase ≡ job.Settled result.Skipped
-    → (needs_have_settled runs r j ≡ true) × (condition_value (condition_of runs r j) (ancestor_results runs r j) false ≡ false)
+    (r j : ℕ) (x : JobState) → job_at runs r j ≡ Some x → x.phase ≡ job.Finished result.Skipped
+    → (needs_have_finished runs r j ≡ true) × (condition_value (condition_of runs r j) (ancestor_results runs r j) false ≡ false)

@@ -8,7 +8,7 @@ ghost use Rattle.run_states.specs.Groups.{pending_in, in_progress_in};
 ghost use Rattle.run_table.specs.Histories.{after};
 ghost use Rattle.run_states.specs.Moves.{Move};
 ghost use Rattle.run_states.specs.Places.{leg_at};
-ghost use Rattle.run_states.specs.declared.place.LegPlace.{LegPlace};
+ghost use Rattle.run_states.specs.declared.place.LegSite.{LegSite};
 ghost use Rattle.run_table.specs.Sound.{IsSound};
 ghost use Rattle.run_table.specs.TableState.{TableState};
 ghost use Rattle.run_states.specs.RunState.{LegState};
@@ -57,7 +57,7 @@ pub fn displaced_holders_never_begin()
         (newcomer h : Holder) (attempt : ℕ) → IsSound t
         → all_moves names g t (first ++ second) ≡ before ++ Move.arrive newcomer ∷ after_it
         → next_displaced before ≡ Some (names.name attempt h) → attempt_of (after t first).runs h ≡ attempt
-        → (p : LegPlace) (leg : LegState) → IsOf h p → leg_at (after t first).runs p ≡ Some leg → leg.lease ≡ None }
+        → (p : LegSite) (leg : LegState) → IsOf h p → leg_at (after t first).runs p ≡ Some leg → leg.lease ≡ None }
 {}
 
 /// Only a later arrival displaces the latest one: a holder that ends without a start and without a stop had arrived before the newcomer,

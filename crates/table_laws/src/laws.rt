@@ -9,7 +9,7 @@ ghost use Rattle.run_plan.specs.declared.reply.Reply.{Reply};
 ghost use Rattle.run_plan.specs.declared.reply.Reply.TheVariants as reply;
 ghost use Rattle.run_table.specs.Histories.{after, replies};
 ghost use Rattle.run_states.specs.Places.{leg_at};
-ghost use Rattle.run_states.specs.declared.place.LegPlace.{LegPlace};
+ghost use Rattle.run_states.specs.declared.place.LegSite.{LegSite};
 ghost use Rattle.run_table.specs.Sound.{IsSound, ParallelIsBounded};
 ghost use Rattle.run_states.specs.SoundRuns.{NeedsComeFirst};
 ghost use Rattle.run_table.specs.Step.{empty, lease_at, step, stepped};
@@ -46,7 +46,7 @@ pub fn max_parallel_bounds_each_job()
 
 /// A leg has a lease only if the lease was the answer to a claim.
 pub fn leases_are_answers_to_claims()
-    ensures { (commands : List Command) (p : LegPlace) (leg : LegState) (lease : ℕ)
+    ensures { (commands : List Command) (p : LegSite) (leg : LegState) (lease : ℕ)
         → leg_at (after empty commands).runs p ≡ Some leg → leg.lease ≡ Some lease
         → WasAnswered commands (replies empty commands) (lease_at (after empty commands).runs p lease) }
 {}

@@ -5,7 +5,7 @@ use Rattle.std.proofs.lemmas.Bool.{eqb-true}
 use Rattle.std.proofs.lemmas.Option.{same_Some, none-some}
 use Rattle.run_plan.specs.Admitted.{Admitted}
 use Rattle.run_plan.specs.SmallText.{is_runner_byte}
-use Rattle.stored_tables.specs.Stored.{StoredRunner, StoredTable}
+use Rattle.stored_tables.specs.Stored.{RunnerParts, TableParts}
 use Rattle.stored_tables.specs.declared.parts.LastParts.{LastParts}
 use Rattle.stored_tables.specs.declared.parts.StoredLease.{StoredLease}
 use Rattle.run_states.specs.RunState.{JobState, RunState}
@@ -130,7 +130,7 @@ first_last_reads =
 pub first_runner_reads : Reads first_runner first_runner_at
 unfolding first_runner_at
 first_runner_reads =
-    parts_reads (λ (r : StoredRunner). (r.name, (r.number, (r.last, r.holds))))
+    parts_reads (λ (r : RunnerParts). (r.name, (r.number, (r.last, r.holds))))
     (λ (p : List ℕ × (ℕ × (LastParts × Option ℕ))). record { name = p.0; number = p.1.0; last = p.1.1.0; holds = p.1.1.1 })
     (pair (small_text is_runner_byte) (pair number (pair first_last_command lease)))
     (pair_at (small_text_at is_runner_byte) (pair_at number_at (pair_at first_last_at lease_at))) (λ _. refl) (λ _. refl)
@@ -155,8 +155,8 @@ first_runners_reads =
 pub first_table_reads : Reads first_table first_table_at
 unfolding first_table_at
 first_table_reads =
-    parts_reads (λ (t : StoredTable). (t.last_lease, (t.runs, t.runners)))
-    (λ (p : ℕ × (List RunState × List StoredRunner)). record { last_lease = p.0; runs = p.1.0; runners = p.1.1 })
+    parts_reads (λ (t : TableParts). (t.last_lease, (t.runs, t.runners)))
+    (λ (p : ℕ × (List RunState × List RunnerParts)). record { last_lease = p.0; runs = p.1.0; runners = p.1.1 })
     (pair (only is_last_lease word) (pair (counted 0 100000 first_run) (only names_rise (counted 0 4294967295 first_runner))))
     (pair_at last_lease_at (pair_at first_runs_at first_runners_at)) (λ _. refl) (λ _. refl)
     (pair_reads (only is_last_lease word) (pair (counted 0 100000 first_run) (only names_rise (counted 0 4294967295 first_runner)))

@@ -2,7 +2,7 @@
 use Rattle.std.specs.Prelude.{◌≡◌, [], ◌∷◌, ◌++◌, codes, length, true, false, Some, None, refl}
 use Rattle.wf_value.specs.declared.outcome.Outcome.TheVariants as outcome
 use Rattle.run_plan.specs.declared.command.Command.TheVariants as requested
-use Rattle.stored_tables.specs.Stored.{StoredRunner, StoredTable}
+use Rattle.stored_tables.specs.Stored.{RunnerParts, TableParts}
 use Rattle.stored_tables.specs.declared.parts.LastParts.TheVariants as last
 use Rattle.run_states.specs.RunState.{RunState}
 use Rattle.run_states.specs.declared.phases.JobPhase.TheVariants as job_phase
@@ -31,7 +31,7 @@ only_run = record {
   jobs = record { phase = job_phase.Open; legs = record { phase = leg_phase.Ready; lease = None } ∷ [] } ∷ [];
 }
 
-abbrev admitted : StoredTable
+abbrev admitted : TableParts
 admitted = record { last_lease = 0; runs = only_run ∷ []; runners = [] }
 
 -- the phase, the flag and the job follow the body
@@ -47,7 +47,7 @@ unfolding text_bytes word_bytes
 admitted_length = refl
 
 -- a runner that got lease 258 with its third command and holds it
-abbrev leased_runner : StoredRunner
+abbrev leased_runner : RunnerParts
 leased_runner = record {
   name = codes "r1";
   number = 3;
@@ -64,7 +64,7 @@ unfolding text_bytes word_bytes
 leased_runner_bytes = refl
 
 -- a runner that got nothing: a lease of 0 follows the byte of its reply
-abbrev idle_runner : StoredRunner
+abbrev idle_runner : RunnerParts
 idle_runner = record {
   name = codes "r";
   number = 1;
@@ -81,7 +81,7 @@ unfolding text_bytes word_bytes
 idle_runner_bytes = refl
 
 -- a runner that has reported, and holds another lease
-abbrev reporting_runner : StoredRunner
+abbrev reporting_runner : RunnerParts
 reporting_runner = record {
   name = codes "r1";
   number = 2;

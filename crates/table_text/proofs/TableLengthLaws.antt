@@ -10,13 +10,13 @@ use Rattle.run_plan.specs.declared.last_command.LastCommand.{LastCommand}
 use Rattle.run_plan.specs.declared.last_command.LastCommand.TheVariants as kept_last
 use Rattle.run_table.specs.RunnerSizes.{last_size, runner_size}
 use Rattle.run_table.specs.TableState.{RunnerState}
-use Rattle.stored_tables.specs.Stored.{StoredRunner, StoredTable, stored_last, stored_runner}
+use Rattle.stored_tables.specs.Stored.{RunnerParts, TableParts, stored_last, stored_runner}
 use Rattle.run_states.specs.RunState.{LegState, JobState, RunState}
 use Rattle.workflow_runs.specs.StoredSizes.{job_size, leg_counts, run_size}
 use Rattle.stored_tables.specs.declared.parts.LastParts.{LastParts}
 use Rattle.stored_tables.specs.declared.parts.LastParts.TheVariants as last
 use Rattle.stored_tables.specs.declared.parts.StoredLease.{StoredLease}
-use Rattle.stored_tables.specs.declared.parts.StoredPlace.{StoredPlace}
+use Rattle.stored_tables.specs.declared.parts.StoredSite.{StoredSite}
 use Rattle.command_encodings.specs.Commands.{admit, command_bytes}
 use Rattle.command_encodings.specs.Format.{present, text_bytes, word_bytes}
 use Rattle.command_encodings.specs.Lengths.{command_length, fields_length, length_of, text_length}
@@ -67,7 +67,7 @@ length_run r =
     (after_one (flag_byte r.stopping ∷ flat_map job.encoding r.jobs) (after_one (flat_map job.encoding r.jobs) jobs)))
     ∙ omega arith
 
-length_place : (o : Option StoredPlace) → length_of (present place) o ≡ option_map_or (λ _. 16) o 0
+length_place : (o : Option StoredSite) → length_of (present place) o ≡ option_map_or (λ _. 16) o 0
 length_place None = refl
 length_place (Some p) =
     length_two (word_bytes p.run) (word_bytes p.attempt ++ (word_bytes p.job ++ word_bytes p.leg)) 4 12 (length_word p.run)
@@ -92,7 +92,7 @@ length_last (last.Done report) =
     length_two (command_bytes (requested.Done report)) (kept.encoding replied.Done) (command_length (requested.Done report)) 1
     (length_command (requested.Done report)) refl
 
-length_runner : (r : StoredRunner) → length_of runner r ≡ runner_length r
+length_runner : (r : RunnerParts) → length_of runner r ≡ runner_length r
 length_runner r =
     length_two (text_bytes r.name) (word_bytes r.number ++ (last_command.encoding r.last ++ lease.encoding r.holds)) (text_length r.name)
     (4 + (last_length r.last + 4)) (length_text r.name)
@@ -101,7 +101,7 @@ length_runner r =
     (length_two (last_command.encoding r.last) (lease.encoding r.holds) (last_length r.last) 4 (length_last r.last) (length_word _)))
     ∙ omega arith
 
-pub length_table : (t : StoredTable) → length_of table t ≡ table_length t
+pub length_table : (t : TableParts) → length_of table t ≡ table_length t
 length_table t =
     let runs = length_counted run.encoding run_size t.runs length_run in
     let runners = length_counted runner.encoding runner_length t.runners length_runner in

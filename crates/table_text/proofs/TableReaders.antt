@@ -11,12 +11,12 @@ use Rattle.run_plan.specs.declared.command.Claim.{Claim}
 use Rattle.run_plan.specs.declared.command.Done.{Done}
 use Rattle.run_plan.specs.declared.command.Command.{Command}
 use Rattle.run_plan.specs.declared.command.Command.TheVariants as requested
-use Rattle.stored_tables.specs.Stored.{StoredRunner, StoredTable, is_new}
+use Rattle.stored_tables.specs.Stored.{RunnerParts, TableParts, is_new}
 use Rattle.run_states.specs.RunState.{LegState, JobState, RunState}
 use Rattle.stored_tables.specs.declared.parts.LastParts.{LastParts}
 use Rattle.stored_tables.specs.declared.parts.LastParts.TheVariants as last
 use Rattle.stored_tables.specs.declared.parts.StoredLease.{StoredLease}
-use Rattle.stored_tables.specs.declared.parts.StoredPlace.{StoredPlace}
+use Rattle.stored_tables.specs.declared.parts.StoredSite.{StoredSite}
 use Rattle.run_states.specs.declared.phases.JobPhase.{JobPhase}
 use Rattle.run_states.specs.declared.phases.JobPhase.TheVariants as job_phase
 use Rattle.run_states.specs.declared.phases.LegPhase.{LegPhase}
@@ -100,10 +100,10 @@ leg_phase_there (leg_phase.Ended outcome.Cancelled) = refl
 job_phase_there : (p : JobPhase) → of_byte job_byte job_phases (job_byte p) ≡ Some p
 job_phase_there job_phase.Blocked = refl
 job_phase_there job_phase.Open = refl
-job_phase_there (job_phase.Settled result.Success) = refl
-job_phase_there (job_phase.Settled result.Failure) = refl
-job_phase_there (job_phase.Settled result.Cancelled) = refl
-job_phase_there (job_phase.Settled result.Skipped) = refl
+job_phase_there (job_phase.Finished result.Success) = refl
+job_phase_there (job_phase.Finished result.Failure) = refl
+job_phase_there (job_phase.Finished result.Cancelled) = refl
+job_phase_there (job_phase.Finished result.Skipped) = refl
 
 run_phase_there : (p : RunPhase) → of_byte run_byte run_phases (run_byte p) ≡ Some p
 run_phase_there run_phase.Waiting = refl
@@ -186,7 +186,7 @@ run_reads =
 pub place_reads : Reads place place_at
 unfolding place_at
 place_reads =
-    parts_reads (λ (p : StoredPlace). (p.run, (p.attempt, (p.job, p.leg))))
+    parts_reads (λ (p : StoredSite). (p.run, (p.attempt, (p.job, p.leg))))
     (λ (p : ℕ × (ℕ × (ℕ × ℕ))). record { run = p.0; attempt = p.1.0; job = p.1.1.0; leg = p.1.1.1 })
     (pair number (pair number (pair word word))) (pair_at number_at (pair_at number_at (pair_at word_at word_at))) (λ _. refl) (λ _. refl)
     (pair_reads number (pair number (pair word word)) number_at (pair_at number_at (pair_at word_at word_at)) number_reads
@@ -196,7 +196,7 @@ place_reads =
 pub kept_lease_reads : Reads kept_lease kept_lease_at
 unfolding kept_lease_at
 kept_lease_reads =
-    parts_reads (λ (l : StoredLease). (l.lease, l.place)) (λ (p : ℕ × Option StoredPlace). record { lease = p.0; place = p.1 })
+    parts_reads (λ (l : StoredLease). (l.lease, l.place)) (λ (p : ℕ × Option StoredSite). record { lease = p.0; place = p.1 })
     (pair number (present place)) (pair_at number_at (present_at place_at)) (λ _. refl) (λ _. refl)
     (pair_reads number (present place) number_at (present_at place_at) number_reads (present_reads place place_at place_reads))
 
@@ -291,7 +291,7 @@ last_reads =
 pub runner_reads : Reads runner runner_at
 unfolding runner_at
 runner_reads =
-    parts_reads (λ (r : StoredRunner). (r.name, (r.number, (r.last, r.holds))))
+    parts_reads (λ (r : RunnerParts). (r.name, (r.number, (r.last, r.holds))))
     (λ (p : List ℕ × (ℕ × (LastParts × Option ℕ))). record { name = p.0; number = p.1.0; last = p.1.1.0; holds = p.1.1.1 })
     (pair (small_text is_runner_byte) (pair number (pair last_command lease)))
     (pair_at (small_text_at is_runner_byte) (pair_at number_at (pair_at last_at lease_at))) (λ _. refl) (λ _. refl)
@@ -320,8 +320,8 @@ runners_reads =
 pub table_reads : Reads table table_at
 unfolding table_at
 table_reads =
-    parts_reads (λ (t : StoredTable). (t.last_lease, (t.runs, t.runners)))
-    (λ (p : ℕ × (List RunState × List StoredRunner)). record { last_lease = p.0; runs = p.1.0; runners = p.1.1 })
+    parts_reads (λ (t : TableParts). (t.last_lease, (t.runs, t.runners)))
+    (λ (p : ℕ × (List RunState × List RunnerParts)). record { last_lease = p.0; runs = p.1.0; runners = p.1.1 })
     (pair (only is_last_lease word) (pair (counted 0 100000 run) (only names_rise (counted 0 4294967295 runner))))
     (pair_at last_lease_at (pair_at runs_at runners_at)) (λ _. refl) (λ _. refl)
     (pair_reads (only is_last_lease word) (pair (counted 0 100000 run) (only names_rise (counted 0 4294967295 runner))) last_lease_at

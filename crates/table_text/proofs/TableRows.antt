@@ -2,7 +2,7 @@
 use Rattle.std.specs.Prelude.{◌≡◌, ℕ, List, [], ◌∷◌, ◌++◌, codes, true, false, Option, Some, None, refl}
 use Rattle.wf_value.specs.declared.outcome.JobResult.TheVariants as result
 use Rattle.wf_value.specs.declared.outcome.Outcome.TheVariants as outcome
-use Rattle.stored_tables.specs.Stored.{StoredRunner, StoredTable}
+use Rattle.stored_tables.specs.Stored.{RunnerParts, TableParts}
 use Rattle.run_states.specs.RunState.{LegState, JobState, RunState}
 use Rattle.stored_tables.specs.declared.parts.LastParts.TheVariants as last
 use Rattle.stored_tables.specs.declared.parts.StoredLease.{StoredLease}
@@ -17,7 +17,7 @@ use Rattle.table_text.specs.TableLengths.{table_length}
 use Rattle.table_text.specs.Tables.{is_attempt, job, names_rise, runner, run, table}
 
 -- without runs or runners: twelve zero bytes
-abbrev empty : StoredTable
+abbrev empty : TableParts
 empty = record { last_lease = 0; runs = []; runners = [] }
 
 empty_bytes : table.encoding empty ≡ 0 ∷ 0 ∷ 0 ∷ 0 ∷ 0 ∷ 0 ∷ 0 ∷ 0 ∷ 0 ∷ 0 ∷ 0 ∷ 0 ∷ []
@@ -38,7 +38,7 @@ first_run = record {
   jobs = record { phase = job_phase.Open; legs = record { phase = leg_phase.Ready; lease = None } ∷ [] } ∷ [];
 }
 
-abbrev admitted : StoredTable
+abbrev admitted : TableParts
 admitted = record { last_lease = 0; runs = first_run ∷ []; runners = [] }
 
 after_the_first_admission : table_length admitted ≡ 127
@@ -64,7 +64,7 @@ kept_at_place lease run attempt job leg =
     record { lease = lease; place = Some (record { run = run; attempt = attempt; job = job; leg = leg }) }
 
 -- which the first runner holds
-abbrev first_runner : StoredRunner
+abbrev first_runner : RunnerParts
 first_runner = record {
   name = codes "r1";
   number = 1;
@@ -72,7 +72,7 @@ first_runner = record {
   holds = Some 1;
 }
 
-abbrev claimed : StoredTable
+abbrev claimed : TableParts
 claimed = record { last_lease = 1; runs = claimed_run ∷ []; runners = first_runner ∷ [] }
 
 after_the_first_claim : table_length claimed ≡ 186
@@ -95,7 +95,7 @@ stopping_run = record {
   phase = run_phase.Live;
   stopping = true;
   jobs =
-      record { phase = job_phase.Settled result.Failure; legs = record { phase = leg_phase.Ended outcome.Failure; lease = Some 1 } ∷ [] }
+      record { phase = job_phase.Finished result.Failure; legs = record { phase = leg_phase.Ended outcome.Failure; lease = Some 1 } ∷ [] }
       ∷ record { phase = job_phase.Open; legs = record { phase = leg_phase.Stopping; lease = Some 258 } ∷ [] }
       ∷ record { phase = job_phase.Blocked; legs = [] } ∷ [];
 }
@@ -114,7 +114,7 @@ leg_in phase lease = record { phase = phase; lease = lease }
 
 abbrev job_of_all_phases : JobState
 job_of_all_phases = record {
-  phase = job_phase.Settled result.Cancelled;
+  phase = job_phase.Finished result.Cancelled;
   legs =
       leg_in leg_phase.Waiting None ∷ leg_in leg_phase.Ready None ∷ leg_in leg_phase.Running (Some 1) ∷ leg_in leg_phase.Stopping (Some 2)
       ∷ leg_in (leg_phase.Ended outcome.Success) (Some 999999999) ∷ leg_in (leg_phase.Ended outcome.Failure) (Some 3)
@@ -137,9 +137,9 @@ run_in phase = record stopping_run {
   phase = phase;
   stopping = false;
   jobs =
-      job_in job_phase.Blocked ∷ job_in job_phase.Open ∷ job_in (job_phase.Settled result.Success) ∷ job_in
-      (job_phase.Settled result.Failure)
-      ∷ job_in (job_phase.Settled result.Cancelled) ∷ job_in (job_phase.Settled result.Skipped) ∷ [];
+      job_in job_phase.Blocked ∷ job_in job_phase.Open ∷ job_in (job_phase.Finished result.Success) ∷ job_in
+      (job_phase.Finished result.Failure)
+      ∷ job_in (job_phase.Finished result.Cancelled) ∷ job_in (job_phase.Finished result.Skipped) ∷ [];
 }
 
 -- the bytes before the run's phase, and those after its stop flag
@@ -176,7 +176,7 @@ none_after_the_last = refl
 
 -- a runner that got lease 2 with its third command and holds it: leg 255 of the second job of run 258, in its second
 -- attempt
-abbrev leased_runner : StoredRunner
+abbrev leased_runner : RunnerParts
 leased_runner = record {
   name = codes "r1";
   number = 3;
@@ -193,7 +193,7 @@ unfolding text_bytes word_bytes
 leased_runner_bytes = refl
 
 -- a runner that got nothing
-abbrev idle_runner : StoredRunner
+abbrev idle_runner : RunnerParts
 idle_runner = record {
   name = codes "r";
   number = 1;
@@ -209,7 +209,7 @@ idle_runner_bytes : runner.encoding idle_runner
 unfolding text_bytes word_bytes
 idle_runner_bytes = refl
 
-abbrev reporting_runner : StoredRunner
+abbrev reporting_runner : RunnerParts
 reporting_runner = record {
   name = codes "r1";
   number = 2;

@@ -15,13 +15,13 @@ use Rattle.run_states.specs.Places.{run_at}
 use Rattle.run_states.specs.RunState.{RunState}
 use Rattle.run_states.proofs.Found.{each_at}
 use Rattle.run_table.specs.Sound.{IsOfALeg, IsSound, KeptIsOfALeg}
-use Rattle.stored_tables.specs.Stored.{StoredRunner, StoredTable}
+use Rattle.stored_tables.specs.Stored.{RunnerParts, TableParts}
 use Rattle.stored_tables.specs.TableOf.{AreRunnersAs, IsLastAs, IsNoTable, IsPlacedAs, IsRunnerAs, IsStoredAs}
 use Rattle.run_table.specs.TableState.{RunnerState, TableState}
 use Rattle.stored_tables.specs.declared.parts.LastParts.{LastParts}
 use Rattle.stored_tables.specs.declared.parts.LastParts.TheVariants as stored
 use Rattle.stored_tables.specs.declared.parts.StoredLease.{StoredLease}
-use Rattle.stored_tables.specs.declared.parts.StoredPlace.{StoredPlace}
+use Rattle.stored_tables.specs.declared.parts.StoredSite.{StoredSite}
 use Rattle.stored_tables.proofs.StoredOnce.{run_told, same_runners}
 use Rattle.command_encodings.specs.Commands.{batch}
 use Rattle.table_text.specs.FirstLayout.{first_batch, first_last_command, first_run, first_runner, first_table, is_in_first_layout}
@@ -65,7 +65,7 @@ first_is_stored t s first = record {
         let is : first_stored_runner x ≡ part =
         same_Some (first_stored_runner x) part
         (sym (slice_get-map first_stored_runner t.runners k ∙ ap (option_map first_stored_runner) at_x) ∙ at_part) in
-        subst (λ (p : StoredRunner). IsRunnerAs t.last_lease t.runs p x) is (record {
+        subst (λ (p : RunnerParts). IsRunnerAs t.last_lease t.runs p x) is (record {
           name = refl;
           number = refl;
           last = last_is t.last_lease t.runs x.last first (s.kept_leases_are_of_legs k x at_x);
@@ -76,7 +76,7 @@ first_is_stored t s first = record {
 
 -- ---- and from parts
 
-abbrev AreFirstRunners : List StoredRunner → Type 0
+abbrev AreFirstRunners : List RunnerParts → Type 0
 AreFirstRunners runners = AllByRecursion first_runner.Takes runners
 
 last_again : (most : ℕ) (runs : List RunState) (parts : LastParts) (x : LastCommand) → first_last_command.Takes parts
@@ -86,7 +86,7 @@ last_again most runs (stored.Claim claim None) (last.Claim other (given.Lease ke
 last_again most runs (stored.Claim claim (Some parts)) (last.Claim other given.Nothing) takes is = absurd is.1
 last_again most runs (stored.Claim claim (Some parts)) (last.Claim other (given.Lease kept)) takes is =
     let lease : kept.lease_reply.lease ≡ parts.lease = is.1.lease in
-    let nowhere : Option StoredPlace = None in
+    let nowhere : Option StoredSite = None in
     let place : nowhere ≡ parts.place = sym takes.1.1 in
     let both : record { lease = kept.lease_reply.lease; place = nowhere } ≡ parts = λ i. record { lease = lease i; place = place i } in
     ap₂ (λ c (s : StoredLease). stored.Claim c (Some s)) is.0 both
@@ -94,7 +94,7 @@ last_again most runs (stored.Claim claim parts) (last.Done report) takes is = ab
 last_again most runs (stored.Done report) (last.Claim claim reply) takes is = absurd is
 last_again most runs (stored.Done report) (last.Done other) takes is = ap stored.Done is
 
-runners_again : (most : ℕ) (runs : List RunState) (parts : List StoredRunner) (xs : List RunnerState) → AreFirstRunners parts
+runners_again : (most : ℕ) (runs : List RunState) (parts : List RunnerParts) (xs : List RunnerState) → AreFirstRunners parts
     → AreRunnersAs most runs parts xs → map first_stored_runner xs ≡ parts
 runners_again most runs [] [] takes are = refl
 runners_again most runs [] (x ∷ xs) takes are = absurd (omega (arith, are.as_many))
@@ -108,7 +108,7 @@ runners_again most runs (part ∷ parts) (x ∷ xs) takes are =
     (runners_again most runs parts xs takes.1
     (record { as_many = omega (arith, are.as_many); each = (λ k p y at_p at_y. are.each (suc k) p y at_p at_y) }))
 
-first_stored_again : (parts : StoredTable) (t : TableState) → AreFirstRunners parts.runners → IsStoredAs parts t
+first_stored_again : (parts : TableParts) (t : TableState) → AreFirstRunners parts.runners → IsStoredAs parts t
     → first_stored_table t ≡ parts
 first_stored_again parts t takes is =
     let runners = runners_again t.last_lease t.runs parts.runners t.runners takes is.runners in
@@ -122,7 +122,7 @@ one_stored : (one two : TableState) → whole_first_table.Takes one → whole_fi
 one_stored one two first second same =
     let here = first_is_stored one first.0 first.1.1.0.2 in
     let there = first_is_stored two second.0 second.1.1.0.2 in
-    let again : IsStoredAs (first_stored_table one) two = subst (λ (s : StoredTable). IsStoredAs s two) (sym same) there in
+    let again : IsStoredAs (first_stored_table one) two = subst (λ (s : TableParts). IsStoredAs s two) (sym same) there in
     let lease : one.last_lease ≡ two.last_lease = sym again.last_lease in
     let runs : one.runs ≡ two.runs = sym again.runs in
     let others : AreRunnersAs one.last_lease one.runs (first_stored_table one).runners two.runners =
@@ -144,21 +144,21 @@ first_begins_none a b more other x y one two same =
 pub none_without_first_parts : (bytes : List ℕ) → ReadsPrefix first_table bytes None → ReadsPrefix whole_first_table bytes None
 none_without_first_parts bytes none t rest opens = none (first_stored_table t) rest (opens.0.1, opens.1)
 
-pub none_of_first_parts : (bytes rest : List ℕ) (parts : StoredTable) → OpensWith first_table bytes parts rest → IsNoTable parts
+pub none_of_first_parts : (bytes rest : List ℕ) (parts : TableParts) → OpensWith first_table bytes parts rest → IsNoTable parts
     → ReadsPrefix whole_first_table bytes None
 none_of_first_parts bytes rest parts opens none t other again =
     let same : first_table.encoding (first_stored_table t) ++ other ≡ first_table.encoding parts ++ rest = sym again.1 ∙ opens.1 in
     let one = none_begins first_table first_table_at first_table_reads (first_table.encoding (first_stored_table t))
     (first_table.encoding parts) other rest (first_stored_table t) parts
     (again.0.1, refl) (opens.0, refl) same in
-    none t (subst (λ (s : StoredTable). IsStoredAs s t) one.1 (first_is_stored t again.0.0 again.0.1.1.0.2))
+    none t (subst (λ (s : TableParts). IsStoredAs s t) one.1 (first_is_stored t again.0.0 again.0.1.1.0.2))
 
-pub one_of_first_parts : (bytes rest : List ℕ) (parts : StoredTable) (t : TableState) → OpensWith first_table bytes parts rest
+pub one_of_first_parts : (bytes rest : List ℕ) (parts : TableParts) (t : TableState) → OpensWith first_table bytes parts rest
     → IsStoredAs parts t → OpensWith whole_first_table bytes t rest
 one_of_first_parts bytes rest parts t opens is =
     let same : first_stored_table t ≡ parts = first_stored_again parts t opens.0.1.1.0.2 is in (
       (is.is_sound, subst first_table.Takes (sym same) opens.0),
-      opens.1 ∙ ap (λ (s : StoredTable). first_table.encoding s ++ rest) (sym same),
+      opens.1 ∙ ap (λ (s : TableParts). first_table.encoding s ++ rest) (sym same),
     )
 
 -- ---- batches

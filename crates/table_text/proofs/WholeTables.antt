@@ -3,12 +3,12 @@ use Rattle.std.proofs.Common.{◌≡◌, List, ℕ, ◌++◌, refl, sym, ◌∙�
 use Rattle.std.specs.Prelude.{true, is_some, Option, None, Some}
 use Rattle.std.specs.List.{AllByRecursion}
 use Rattle.run_table.specs.Sound.{IsSound}
-use Rattle.stored_tables.specs.Stored.{StoredRunner, StoredTable, stored_table}
+use Rattle.stored_tables.specs.Stored.{RunnerParts, TableParts, stored_table}
 use Rattle.stored_tables.specs.TableOf.{AreRunnersAs, IsNoTable, IsStoredAs}
 use Rattle.run_table.specs.TableState.{TableState}
 use Rattle.stored_tables.specs.declared.parts.LastParts.{LastParts}
 use Rattle.stored_tables.specs.declared.parts.LastParts.TheVariants as last
-use Rattle.stored_tables.specs.declared.parts.StoredPlace.{StoredPlace}
+use Rattle.stored_tables.specs.declared.parts.StoredSite.{StoredSite}
 use Rattle.run_states.specs.RunState.{RunState}
 use Rattle.run_states.proofs.Found.{each_at}
 use Rattle.stored_tables.proofs.StoredOnce.{same_runners}
@@ -23,7 +23,7 @@ use Rattle.table_text.proofs.TableReaders.{table_reads}
 -- sound tables with the same stored parts are equal
 one_stored : (one two : TableState) → IsSound one → IsSound two → stored_table one ≡ stored_table two → one ≡ two
 one_stored one two first second same =
-    let again : IsStoredAs (stored_table one) two = subst (λ (s : StoredTable). IsStoredAs s two) (sym same) (is_stored two second) in
+    let again : IsStoredAs (stored_table one) two = subst (λ (s : TableParts). IsStoredAs s two) (sym same) (is_stored two second) in
     let lease : one.last_lease ≡ two.last_lease = sym again.last_lease in
     let runs : one.runs ≡ two.runs = sym again.runs in
     let here : AreRunnersAs one.last_lease one.runs (stored_table one).runners two.runners =
@@ -45,17 +45,17 @@ whole_begins_none a b more other x y one two same =
 pub none_without_parts : (bytes : List ℕ) → ReadsPrefix table bytes None → ReadsPrefix whole_table bytes None
 none_without_parts bytes none t rest opens = none (stored_table t) rest (opens.0.1, opens.1)
 
-pub none_of_parts : (bytes rest : List ℕ) (parts : StoredTable) → OpensWith table bytes parts rest → IsNoTable parts
+pub none_of_parts : (bytes rest : List ℕ) (parts : TableParts) → OpensWith table bytes parts rest → IsNoTable parts
     → ReadsPrefix whole_table bytes None
 none_of_parts bytes rest parts opens none t other again =
     let same : table.encoding (stored_table t) ++ other ≡ table.encoding parts ++ rest = sym again.1 ∙ opens.1 in
     let one = none_begins table table_at table_reads (table.encoding (stored_table t)) (table.encoding parts) other rest
     (stored_table t) parts
     (again.0.1, refl) (opens.0, refl) same in
-    none t (subst (λ (s : StoredTable). IsStoredAs s t) one.1 (is_stored t again.0.0))
+    none t (subst (λ (s : TableParts). IsStoredAs s t) one.1 (is_stored t again.0.0))
 
 -- and the table of the parts is the one that is encoded there: every kept lease has its place
-has_place : (o : Option StoredPlace) → (present place).Takes o → is_some o ≡ true
+has_place : (o : Option StoredSite) → (present place).Takes o → is_some o ≡ true
 has_place None takes = absurd takes
 has_place (Some p) takes = refl
 
@@ -64,13 +64,13 @@ last_has_place (last.Claim claim None) takes = tt
 last_has_place (last.Claim claim (Some l)) takes = has_place l.place takes.1.1
 last_has_place (last.Done report) takes = tt
 
-have_places : (runners : List StoredRunner) → AllByRecursion runner.Takes runners → HavePlaces runners
+have_places : (runners : List RunnerParts) → AllByRecursion runner.Takes runners → HavePlaces runners
 have_places runners takes k part at = last_has_place part.last (each_at runner.Takes runners k part takes at).1.1.0
 
-pub one_of_parts : (bytes rest : List ℕ) (parts : StoredTable) (t : TableState) → OpensWith table bytes parts rest → IsStoredAs parts t
+pub one_of_parts : (bytes rest : List ℕ) (parts : TableParts) (t : TableState) → OpensWith table bytes parts rest → IsStoredAs parts t
     → OpensWith whole_table bytes t rest
 one_of_parts bytes rest parts t opens is =
     let same : stored_table t ≡ parts = stored_again parts t (have_places parts.runners opens.0.1.1.0.2) is in (
       (is.is_sound, subst table.Takes (sym same) opens.0),
-      opens.1 ∙ ap (λ (s : StoredTable). table.encoding s ++ rest) (sym same),
+      opens.1 ∙ ap (λ (s : TableParts). table.encoding s ++ rest) (sym same),
     )

@@ -8,7 +8,7 @@ use Rattle.stated_limits.specs.Limits.{max_runs}
 use Rattle.run_plan.specs.SmallText.{is_runner_byte}
 use Rattle.run_plan.specs.declared.command.Command.{Command}
 use Rattle.run_plan.specs.declared.command.Command.TheVariants as requested
-use Rattle.stored_tables.specs.Stored.{StoredRunner, StoredTable}
+use Rattle.stored_tables.specs.Stored.{RunnerParts, TableParts}
 use Rattle.stored_tables.specs.declared.parts.LastParts.{LastParts}
 use Rattle.run_states.specs.RunState.{RunState}
 use Rattle.table_text.specs.declared.kept.StoredReply.{StoredReply}
@@ -50,15 +50,15 @@ abbrev pub first_last_command : Format LastParts
 first_last_command = parts last_parts (pair command first_kept)
 
 -- the name, the last number, the last command with its reply, and the lease that the runner holds
-abbrev pub first_runner : Format StoredRunner
-first_runner = parts (λ (r : StoredRunner). (r.name, (r.number, (r.last, r.holds))))
+abbrev pub first_runner : Format RunnerParts
+first_runner = parts (λ (r : RunnerParts). (r.name, (r.number, (r.last, r.holds))))
     (pair (small_text is_runner_byte) (pair number (pair first_last_command lease)))
 
 -- ---- tables
 
 -- the last lease, the runs in the order of their ids, and the runners in the order of their names
-abbrev pub first_table : Format StoredTable
-first_table = parts (λ (t : StoredTable). (t.last_lease, (t.runs, t.runners)))
+abbrev pub first_table : Format TableParts
+first_table = parts (λ (t : TableParts). (t.last_lease, (t.runs, t.runners)))
     (pair (only is_last_lease word) (pair (counted 0 max_runs first_run) (only names_rise (counted 0 4294967295 first_runner))))
 
 -- ---- batches

@@ -3,7 +3,7 @@ use Rattle.std.specs.Prelude.{ℕ, ◌==◌, List, Bool, if◌then◌else◌, Op
 use Rattle.stated_limits.specs.Limits.{max_runs}
 use Rattle.run_plan.specs.Admitted.{Admitted}
 use Rattle.run_plan.specs.SmallText.{is_runner_byte}
-use Rattle.stored_tables.specs.Stored.{StoredRunner, StoredTable}
+use Rattle.stored_tables.specs.Stored.{RunnerParts, TableParts}
 use Rattle.stored_tables.specs.declared.parts.LastParts.{LastParts}
 use Rattle.run_states.specs.RunState.{JobState, RunState}
 use Rattle.run_states.specs.declared.phases.RunPhase.{RunPhase}
@@ -53,7 +53,7 @@ first_kept_at bytes = some_at first_kept_of (pair_at byte_at lease_at) bytes
 unfoldable pub first_last_at : Reader LastParts
 first_last_at bytes = some_at last_of (pair_at command_at first_kept_at) bytes
 
-unfoldable pub first_runner_at : Reader StoredRunner
+unfoldable pub first_runner_at : Reader RunnerParts
 first_runner_at bytes =
     parts_at (λ (p : List ℕ × (ℕ × (LastParts × Option ℕ))). record { name = p.0; number = p.1.0; last = p.1.1.0; holds = p.1.1.1 })
     (pair_at (small_text_at is_runner_byte) (pair_at number_at (pair_at first_last_at lease_at))) bytes
@@ -63,10 +63,10 @@ first_runner_at bytes =
 unfoldable pub first_runs_at : Reader (List RunState)
 first_runs_at bytes = counted_at 0 max_runs first_run_at bytes
 
-unfoldable pub first_runners_at : Reader (List StoredRunner)
+unfoldable pub first_runners_at : Reader (List RunnerParts)
 first_runners_at bytes = only_at names_rise (counted_at 0 4294967295 first_runner_at) bytes
 
-unfoldable pub first_table_at : Reader StoredTable
+unfoldable pub first_table_at : Reader TableParts
 first_table_at bytes =
-    parts_at (λ (p : ℕ × (List RunState × List StoredRunner)). record { last_lease = p.0; runs = p.1.0; runners = p.1.1 })
+    parts_at (λ (p : ℕ × (List RunState × List RunnerParts)). record { last_lease = p.0; runs = p.1.0; runners = p.1.1 })
     (pair_at last_lease_at (pair_at first_runs_at first_runners_at)) bytes

@@ -9,12 +9,12 @@ use Rattle.run_plan.specs.declared.command.Claim.{Claim}
 use Rattle.run_plan.specs.declared.command.Done.{Done}
 use Rattle.run_plan.specs.declared.command.Command.{Command}
 use Rattle.run_plan.specs.declared.command.Command.TheVariants as requested
-use Rattle.stored_tables.specs.Stored.{StoredRunner, StoredTable, is_new}
+use Rattle.stored_tables.specs.Stored.{RunnerParts, TableParts, is_new}
 use Rattle.run_states.specs.RunState.{LegState, JobState, RunState}
 use Rattle.stored_tables.specs.declared.parts.LastParts.{LastParts}
 use Rattle.stored_tables.specs.declared.parts.LastParts.TheVariants as last
 use Rattle.stored_tables.specs.declared.parts.StoredLease.{StoredLease}
-use Rattle.stored_tables.specs.declared.parts.StoredPlace.{StoredPlace}
+use Rattle.stored_tables.specs.declared.parts.StoredSite.{StoredSite}
 use Rattle.run_states.specs.declared.phases.JobPhase.{JobPhase}
 use Rattle.run_states.specs.declared.phases.JobPhase.TheVariants as job_phase
 use Rattle.run_states.specs.declared.phases.LegPhase.{LegPhase}
@@ -50,9 +50,9 @@ leg_phases =
 
 abbrev pub job_phases : List JobPhase
 job_phases =
-    job_phase.Blocked ∷ job_phase.Open ∷ job_phase.Settled result.Success ∷ job_phase.Settled result.Failure ∷ job_phase.Settled
+    job_phase.Blocked ∷ job_phase.Open ∷ job_phase.Finished result.Success ∷ job_phase.Finished result.Failure ∷ job_phase.Finished
     result.Cancelled
-    ∷ job_phase.Settled result.Skipped ∷ []
+    ∷ job_phase.Finished result.Skipped ∷ []
 
 abbrev pub run_phases : List RunPhase
 run_phases = run_phase.Waiting ∷ run_phase.Live ∷ run_phase.Ended ∷ []
@@ -94,14 +94,14 @@ run_at bytes =
 
 -- ---- runners
 
-unfoldable pub place_at : Reader StoredPlace
+unfoldable pub place_at : Reader StoredSite
 place_at bytes =
     parts_at (λ (p : ℕ × (ℕ × (ℕ × ℕ))). record { run = p.0; attempt = p.1.0; job = p.1.1.0; leg = p.1.1.1 })
     (pair_at number_at (pair_at number_at (pair_at word_at word_at))) bytes
 
 unfoldable pub kept_lease_at : Reader StoredLease
 kept_lease_at bytes =
-    parts_at (λ (p : ℕ × Option StoredPlace). record { lease = p.0; place = p.1 }) (pair_at number_at (present_at place_at)) bytes
+    parts_at (λ (p : ℕ × Option StoredSite). record { lease = p.0; place = p.1 }) (pair_at number_at (present_at place_at)) bytes
 
 -- the bytes after the byte of a kept reply
 unfoldable pub kept_of : ℕ → Reader StoredReply
@@ -141,7 +141,7 @@ last_of p = last_with p.0 p.1
 unfoldable pub last_at : Reader LastParts
 last_at bytes = some_at last_of (pair_at command_at kept_at) bytes
 
-unfoldable pub runner_at : Reader StoredRunner
+unfoldable pub runner_at : Reader RunnerParts
 runner_at bytes =
     parts_at (λ (p : List ℕ × (ℕ × (LastParts × Option ℕ))). record { name = p.0; number = p.1.0; last = p.1.1.0; holds = p.1.1.1 })
     (pair_at (small_text_at is_runner_byte) (pair_at number_at (pair_at last_at lease_at))) bytes
@@ -154,10 +154,10 @@ last_lease_at bytes = only_at is_last_lease word_at bytes
 unfoldable pub runs_at : Reader (List RunState)
 runs_at bytes = counted_at 0 max_runs run_at bytes
 
-unfoldable pub runners_at : Reader (List StoredRunner)
+unfoldable pub runners_at : Reader (List RunnerParts)
 runners_at bytes = only_at names_rise (counted_at 0 4294967295 runner_at) bytes
 
-unfoldable pub table_at : Reader StoredTable
+unfoldable pub table_at : Reader TableParts
 table_at bytes =
-    parts_at (λ (p : ℕ × (List RunState × List StoredRunner)). record { last_lease = p.0; runs = p.1.0; runners = p.1.1 })
+    parts_at (λ (p : ℕ × (List RunState × List RunnerParts)). record { last_lease = p.0; runs = p.1.0; runners = p.1.1 })
     (pair_at last_lease_at (pair_at runs_at runners_at)) bytes

@@ -2,7 +2,7 @@
 use Rattle.std.specs.Prelude.{ℕ, ◌+◌, sum_by, Some, None}
 use Rattle.std.specs.Option.{option_map_or}
 use Rattle.run_plan.specs.declared.command.Command.TheVariants as requested
-use Rattle.stored_tables.specs.Stored.{StoredRunner, StoredTable}
+use Rattle.stored_tables.specs.Stored.{RunnerParts, TableParts}
 use Rattle.workflow_runs.specs.StoredSizes.{run_size}
 use Rattle.stored_tables.specs.declared.parts.LastParts.{LastParts}
 use Rattle.stored_tables.specs.declared.parts.LastParts.TheVariants as last
@@ -20,9 +20,9 @@ last_length (last.Claim claim (Some l)) = command_length (requested.Claim claim)
 last_length (last.Done report) = command_length (requested.Done report) + 1
 
 -- a name, a number, a last command and a lease
-abbrev pub runner_length : StoredRunner → ℕ
+abbrev pub runner_length : RunnerParts → ℕ
 runner_length r = text_length r.name + 4 + last_length r.last + 4
 
 -- the last lease and two counts have four bytes each
-abbrev pub table_length : StoredTable → ℕ
+abbrev pub table_length : TableParts → ℕ
 table_length t = 4 + (4 + sum_by run_size t.runs) + (4 + sum_by runner_length t.runners)

@@ -10,12 +10,12 @@ use Rattle.run_plan.specs.PlanOf.{plan_of}
 use Rattle.run_plan.specs.SmallText.{is_runner_byte}
 use Rattle.run_plan.specs.declared.command.Command.{Command}
 use Rattle.run_plan.specs.declared.command.Command.TheVariants as requested
-use Rattle.stored_tables.specs.Stored.{StoredRunner, StoredTable, is_new}
+use Rattle.stored_tables.specs.Stored.{RunnerParts, TableParts, is_new}
 use Rattle.run_states.specs.RunState.{LegState, JobState, RunState}
 use Rattle.stored_tables.specs.declared.parts.LastParts.{LastParts}
 use Rattle.stored_tables.specs.declared.parts.LastParts.TheVariants as last
 use Rattle.stored_tables.specs.declared.parts.StoredLease.{StoredLease}
-use Rattle.stored_tables.specs.declared.parts.StoredPlace.{StoredPlace}
+use Rattle.stored_tables.specs.declared.parts.StoredSite.{StoredSite}
 use Rattle.run_states.specs.declared.phases.JobPhase.{JobPhase}
 use Rattle.run_states.specs.declared.phases.JobPhase.TheVariants as job_phase
 use Rattle.run_states.specs.declared.phases.LegPhase.{LegPhase}
@@ -57,10 +57,10 @@ leg_byte (leg_phase.Ended outcome.Cancelled) = 7
 abbrev pub job_byte : JobPhase → ℕ
 job_byte job_phase.Blocked = 0
 job_byte job_phase.Open = 1
-job_byte (job_phase.Settled result.Success) = 2
-job_byte (job_phase.Settled result.Failure) = 3
-job_byte (job_phase.Settled result.Cancelled) = 4
-job_byte (job_phase.Settled result.Skipped) = 5
+job_byte (job_phase.Finished result.Success) = 2
+job_byte (job_phase.Finished result.Failure) = 3
+job_byte (job_phase.Finished result.Cancelled) = 4
+job_byte (job_phase.Finished result.Skipped) = 5
 
 abbrev pub run_byte : RunPhase → ℕ
 run_byte run_phase.Waiting = 0
@@ -95,8 +95,8 @@ run = parts (λ (r : RunState). (r.admitted, (r.attempt, (r.phase, (r.stopping, 
 -- ---- runners
 
 -- the place of a leg in an attempt: the run's id, the attempt, the job's index, and the leg's number
-abbrev pub place : Format StoredPlace
-place = parts (λ (p : StoredPlace). (p.run, (p.attempt, (p.job, p.leg)))) (pair number (pair number (pair word word)))
+abbrev pub place : Format StoredSite
+place = parts (λ (p : StoredSite). (p.run, (p.attempt, (p.job, p.leg)))) (pair number (pair number (pair word word)))
 
 -- a kept lease with the place of its leg
 abbrev pub kept_lease : Format StoredLease
@@ -127,8 +127,8 @@ abbrev pub last_command : Format LastParts
 last_command = parts last_parts (pair command kept)
 
 -- the name, the last number, the last command with its reply, and the lease that the runner holds
-abbrev pub runner : Format StoredRunner
-runner = parts (λ (r : StoredRunner). (r.name, (r.number, (r.last, r.holds))))
+abbrev pub runner : Format RunnerParts
+runner = parts (λ (r : RunnerParts). (r.name, (r.number, (r.last, r.holds))))
     (pair (small_text is_runner_byte) (pair number (pair last_command lease)))
 
 -- ---- tables
@@ -138,10 +138,10 @@ abbrev pub is_last_lease : ℕ → Bool
 is_last_lease n = nat_le n last_number
 
 -- names strictly increase in byte order
-abbrev pub names_rise : List StoredRunner → Bool
+abbrev pub names_rise : List RunnerParts → Bool
 names_rise runners = rises_by (λ r. r.name) runners
 
 -- the last lease, the runs in the order of their ids, and the runners in the order of their names
-abbrev pub table : Format StoredTable
-table = parts (λ (t : StoredTable). (t.last_lease, (t.runs, t.runners)))
+abbrev pub table : Format TableParts
+table = parts (λ (t : TableParts). (t.last_lease, (t.runs, t.runners)))
     (pair (only is_last_lease word) (pair (counted 0 max_runs run) (only names_rise (counted 0 4294967295 runner))))

@@ -6,7 +6,7 @@ use Rattle.run_plan.specs.declared.last_command.ClaimReply.TheVariants as given
 use Rattle.run_plan.specs.declared.last_command.LastCommand.{LastCommand}
 use Rattle.run_plan.specs.declared.last_command.LastCommand.TheVariants as last
 use Rattle.run_table.specs.Sound.{IsSound}
-use Rattle.stored_tables.specs.Stored.{StoredRunner, StoredTable}
+use Rattle.stored_tables.specs.Stored.{RunnerParts, TableParts}
 use Rattle.run_table.specs.TableState.{RunnerState, TableState}
 use Rattle.stored_tables.specs.declared.parts.LastParts.{LastParts}
 use Rattle.stored_tables.specs.declared.parts.LastParts.TheVariants as stored
@@ -18,10 +18,10 @@ first_stored_last (last.Claim claim given.Nothing) = stored.Claim claim None
 first_stored_last (last.Claim claim (given.Lease kept)) = stored.Claim claim (Some (record { lease = kept.lease_reply.lease; place = None }))
 first_stored_last (last.Done report) = stored.Done report
 
-abbrev pub first_stored_runner : RunnerState → StoredRunner
+abbrev pub first_stored_runner : RunnerState → RunnerParts
 first_stored_runner r = record { name = r.name; number = r.number; last = first_stored_last r.last; holds = r.holds }
 
-abbrev pub first_stored_table : TableState → StoredTable
+abbrev pub first_stored_table : TableState → TableParts
 first_stored_table t = record { last_lease = t.last_lease; runs = t.runs; runners = map first_stored_runner t.runners }
 
 abbrev pub whole_first_table : Format TableState

@@ -5,7 +5,7 @@ ghost use Rattle.table_text.specs.ReadingTables.{kept_at, kept_lease_at, kept_of
 
 use command_encodings::{DecodeError, number_at, word_at};
 use run_plan::Number;
-use stored_tables::{StoredLease, StoredPlace};
+use stored_tables::{StoredLease, StoredSite};
 
 /// A kept reply.
 #[derive(Drop)]
@@ -20,14 +20,14 @@ pub(crate) enum StoredReply {
 
 /// The place of a leg in an attempt of its run, and the bytes after it.
 #[tactic(auto, unfolding(crate::specs::ReadingTables::place_at))]
-fn place_at(bytes: &[u8]) -> Result<(StoredPlace, &[u8]), DecodeError>
+fn place_at(bytes: &[u8]) -> Result<(StoredSite, &[u8]), DecodeError>
     ensures { Finds (λ f. (f.0, f.1.now)) result (place_at bytes.now) }
 {
     let (run, rest) = number_at(bytes)?;
     let (attempt, rest) = number_at(rest)?;
     let (job, rest) = word_at(rest)?;
     let (leg, rest) = word_at(rest)?;
-    let place = StoredPlace {
+    let place = StoredSite {
         run: Number::new(run),
         attempt: Number::new(attempt),
         job: job as usize,

@@ -3,7 +3,7 @@
 ghost use Rattle.std.specs.Prelude.{◌≡◌};
 ghost use Rattle.command_encodings.specs.Format.{HasOneEncoding, NoneBeginsAnother};
 ghost use Rattle.command_encodings.specs.Lengths.{length_of};
-ghost use Rattle.stored_tables.specs.Stored.{StoredTable};
+ghost use Rattle.stored_tables.specs.Stored.{TableParts};
 ghost use Rattle.table_text.specs.TableLengths.{table_length};
 ghost use Rattle.table_text.specs.Tables.{table};
 ghost use Rattle.table_text.specs.FirstLayout.{first_batch};
@@ -22,7 +22,7 @@ pub fn each_table_has_one_encoding()
 
 /// The encoding of a table has the bytes of its fields: that of the empty table has twelve.
 pub fn a_table_has_the_bytes_of_its_fields()
-    ensures { (t : StoredTable) → length_of table t ≡ table_length t }
+    ensures { (t : TableParts) → length_of table t ≡ table_length t }
 {}
 
 /// No encoding of a whole table is a proper prefix of another: bytes encode at most one sound table.

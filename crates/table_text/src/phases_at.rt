@@ -44,10 +44,10 @@ fn job_phase_of(byte: u8) -> Result<JobPhase, DecodeError>
     match byte {
         0 => Ok(JobPhase::Blocked),
         1 => Ok(JobPhase::Open),
-        2 => Ok(JobPhase::Settled(JobResult::Success)),
-        3 => Ok(JobPhase::Settled(JobResult::Failure)),
-        4 => Ok(JobPhase::Settled(JobResult::Cancelled)),
-        5 => Ok(JobPhase::Settled(JobResult::Skipped)),
+        2 => Ok(JobPhase::Finished(JobResult::Success)),
+        3 => Ok(JobPhase::Finished(JobResult::Failure)),
+        4 => Ok(JobPhase::Finished(JobResult::Cancelled)),
+        5 => Ok(JobPhase::Finished(JobResult::Skipped)),
         _ => Err(DecodeError::NoEncoding),
     }
 }

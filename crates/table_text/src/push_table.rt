@@ -85,10 +85,10 @@ fn job_byte(phase: JobPhase) -> u8
     match phase {
         JobPhase::Blocked => 0,
         JobPhase::Open => 1,
-        JobPhase::Settled(JobResult::Success) => 2,
-        JobPhase::Settled(JobResult::Failure) => 3,
-        JobPhase::Settled(JobResult::Cancelled) => 4,
-        JobPhase::Settled(JobResult::Skipped) => 5,
+        JobPhase::Finished(JobResult::Success) => 2,
+        JobPhase::Finished(JobResult::Failure) => 3,
+        JobPhase::Finished(JobResult::Cancelled) => 4,
+        JobPhase::Finished(JobResult::Skipped) => 5,
     }
 }
 

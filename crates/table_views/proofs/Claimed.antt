@@ -4,7 +4,7 @@ use Rattle.std.specs.Prelude.{filter_map, Option}
 use Rattle.std.proofs.lemmas.List.Elements.{filter_map-append}
 use Rattle.group_name.specs.Group.{Group}
 use Rattle.run_states.specs.FirstOf.{placed}
-use Rattle.run_states.specs.declared.place.LegPlace.{LegPlace}
+use Rattle.run_states.specs.declared.place.LegSite.{LegSite}
 use Rattle.run_states.specs.RunState.{RunState}
 use Rattle.table_views.specs.Claims.{claim_of}
 use Rattle.table_views.proofs.Placing.{one_place_more}
@@ -21,25 +21,25 @@ run_claimed runs r old new lt so_far more =
     ∙ sym (filter_map-append (claim_of runs) before (Run r ∷ []))
     ∙ ap (filter_map (claim_of runs)) (sym (one_place_more Run r runs lt))
 
-legs_more : (places : List LegPlace) (i : ℕ) (p : LegPlace) → i < length places → get_or places i p ≡ p
+legs_more : (places : List LegSite) (i : ℕ) (p : LegSite) → i < length places → get_or places i p ≡ p
     → map (λ q. Leg q) (take (i + 1) places) ≡ map (λ q. Leg q) (take i places) ++ Leg p ∷ []
 legs_more places i p lt is =
     let step : i + 1 ≡ suc i = omega arith in
     ap (λ k. map (λ q. Leg q) (take k places)) step ∙ go places i p lt is
   where
-    go : (qs : List LegPlace) (k : ℕ) (q : LegPlace) → k < length qs → get_or qs k q ≡ q
+    go : (qs : List LegSite) (k : ℕ) (q : LegSite) → k < length qs → get_or qs k q ≡ q
         → map (λ x. Leg x) (take (suc k) qs) ≡ map (λ x. Leg x) (take k qs) ++ Leg q ∷ []
     go [] k q less at = absurd (omega (arith, less))
     go (y ∷ qs) zero q less at = ap (λ x. Leg x ∷ []) at
     go (y ∷ qs) (suc k) q less at = ap (λ xs. Leg y ∷ xs) (go qs k q (omega (arith, less)) at)
 
 -- the place that is read at an index is the one there, whatever stands in for a place after the last one
-pub place_read : (places : List LegPlace) (i : ℕ) (other p : LegPlace) → i < length places → p ≡ get_or places i other → get_or places i p ≡ p
+pub place_read : (places : List LegSite) (i : ℕ) (other p : LegSite) → i < length places → p ≡ get_or places i other → get_or places i p ≡ p
 place_read [] i other p lt is = absurd (omega (arith, lt))
 place_read (q ∷ qs) zero other p lt is = sym is
 place_read (q ∷ qs) (suc i) other p lt is = place_read qs i other p (omega (arith, lt)) is
 
-pub leg_claimed : (runs : List RunState) (prefix : List Holder) (places : List LegPlace) (i : ℕ) (p : LegPlace)
+pub leg_claimed : (runs : List RunState) (prefix : List Holder) (places : List LegSite) (i : ℕ) (p : LegSite)
     (old new : List (Group × Holder)) → i < length places → get_or places i p ≡ p
     → old ≡ filter_map (claim_of runs) (prefix ++ map (λ q. Leg q) (take i places))
     → new ≡ old ++ filter_map (claim_of runs) (Leg p ∷ [])
@@ -52,7 +52,7 @@ leg_claimed runs prefix places i p old new lt is so_far more =
 
 -- ---- the rows of one leg more
 
-pub leg_row_more : {A : Type 0} (row : Holder → Option A) (places : List LegPlace) (i : ℕ) (p : LegPlace) (old so_far new : List A) → i < length places
+pub leg_row_more : {A : Type 0} (row : Holder → Option A) (places : List LegSite) (i : ℕ) (p : LegSite) (old so_far new : List A) → i < length places
     → get_or places i p ≡ p → so_far ≡ old ++ filter_map row (map (λ q. Leg q) (take i places)) → new ≡ so_far ++ filter_map row (Leg p ∷ [])
     → new ≡ old ++ filter_map row (map (λ q. Leg q) (take (i + 1) places))
 leg_row_more row places i p old so_far new lt is before more =

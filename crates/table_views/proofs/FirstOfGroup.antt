@@ -13,7 +13,7 @@ use Rattle.run_states.specs.Groups.{all_holders, holds, is_in_progress_in, is_pe
 use Rattle.run_states.specs.RunState.{RunState}
 use Rattle.run_states.specs.declared.holder.Holder.{Holder}
 use Rattle.run_states.specs.declared.holder.Holder.TheVariants.{Run, Leg}
-use Rattle.run_states.specs.declared.place.LegPlace.{LegPlace}
+use Rattle.run_states.specs.declared.place.LegSite.{LegSite}
 use Rattle.run_states.proofs.Found.{each_of_append}
 use Rattle.table_views.specs.Claims.{claim_of, claims_of, said}
 use Rattle.table_views.specs.GroupLines.{group_in_use}
@@ -56,7 +56,7 @@ first_falls a b rest back falls = by (nat_lt a b) refl
     by true lt e = ap (λ c. c || (nat_eq b a && back)) (nat_lt_falls a b lt) ∙ ap (λ c. c && back) (apart a b lt)
     by false lt e = let parts = and_parts (nat_eq a b) rest e in equal (eqb-true a b parts.0) parts.1
 
-place_falls : (p q : LegPlace) → is_place_before p q ≡ true → is_place_before q p ≡ false
+place_falls : (p q : LegSite) → is_place_before p q ≡ true → is_place_before q p ≡ false
 place_falls p q e =
     first_falls p.run q.run (by_first p.job q.job (nat_lt p.leg q.leg)) (by_first q.job p.job (nat_lt q.leg p.leg))
     (first_falls p.job q.job (nat_lt p.leg q.leg) (nat_lt q.leg p.leg) (nat_lt_falls p.leg q.leg)) e

@@ -8,9 +8,9 @@ use Rattle.std.specs.Option.{option_map_or}
 use Rattle.run_states.specs.ActiveRuns.{has_ready_leg, offers_legs}
 use Rattle.run_states.specs.FirstOf.{placed}
 use Rattle.run_states.specs.Fitting.{is_ready}
-use Rattle.run_states.specs.Places.{leg_place, leg_places_of_job, leg_places_of_run}
+use Rattle.run_states.specs.Places.{leg_site, leg_sites_of_job, leg_sites_of_run}
 use Rattle.run_states.specs.RunState.{JobState, LegState, RunState}
-use Rattle.run_states.specs.declared.place.LegPlace.{LegPlace}
+use Rattle.run_states.specs.declared.place.LegSite.{LegSite}
 use Rattle.table_views.specs.QueueLines.{is_ready_at}
 
 -- ---- lists all of whose elements have a property
@@ -43,13 +43,13 @@ none_of p xs i x none at = by (p x) refl
 
 -- ---- the places of a run's legs
 
-of_this_run : (r : ℕ) (run : RunState) → AllByRecursion (λ (p : LegPlace). p.run ≡ r) (leg_places_of_run (r, run))
+of_this_run : (r : ℕ) (run : RunState) → AllByRecursion (λ (p : LegSite). p.run ≡ r) (leg_sites_of_run (r, run))
 of_this_run r run =
-    all_flat (λ (p : LegPlace). p.run ≡ r) (leg_places_of_job r)
-    (λ j. all_map (λ (p : LegPlace). p.run ≡ r) (λ (l : ℕ × LegState). leg_place r j.0 l.0) (λ l. refl) (placed j.1.legs))
+    all_flat (λ (p : LegSite). p.run ≡ r) (leg_sites_of_job r)
+    (λ j. all_map (λ (p : LegSite). p.run ≡ r) (λ (l : ℕ × LegState). leg_site r j.0 l.0) (λ l. refl) (placed j.1.legs))
     (placed run.jobs)
 
-not_ready : (runs : List RunState) (run : RunState) (p : LegPlace) → slice_get runs p.run ≡ Some run → offers_legs run ≡ false
+not_ready : (runs : List RunState) (run : RunState) (p : LegSite) → slice_get runs p.run ≡ Some run → offers_legs run ≡ false
     → is_ready_at runs p ≡ false
 not_ready runs run p at rests =
     ap (λ (o : Option RunState). option_map_or (λ (leg : LegState). is_ready leg.phase)
@@ -67,7 +67,7 @@ not_ready runs run p at rests =
     by_job (Some y) is = by_leg y (none_of has_ready_leg run.jobs p.job y rests is) (slice_get y.legs p.leg) refl
 
 pub nothing_ready : (runs : List RunState) (r : ℕ) (run : RunState) → slice_get runs r ≡ Some run → offers_legs run ≡ false
-    → filter (is_ready_at runs) (leg_places_of_run (r, run)) ≡ []
+    → filter (is_ready_at runs) (leg_sites_of_run (r, run)) ≡ []
 nothing_ready runs r run at rests =
-    none_passes (λ (p : LegPlace). p.run ≡ r) (is_ready_at runs) (λ p here. not_ready runs run p (ap (slice_get runs) here ∙ at) rests)
-    (leg_places_of_run (r, run)) (of_this_run r run)
+    none_passes (λ (p : LegSite). p.run ≡ r) (is_ready_at runs) (λ p here. not_ready runs run p (ap (slice_get runs) here ∙ at) rests)
+    (leg_sites_of_run (r, run)) (of_this_run r run)

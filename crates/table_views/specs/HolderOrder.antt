@@ -3,9 +3,9 @@ use Rattle.std.specs.Prelude.{Bool, true, false, ◌&&◌, ◌||◌, nat_eq, nat
 use Rattle.std.specs.Option.{option_map_or}
 use Rattle.run_states.specs.declared.holder.Holder.{Holder}
 use Rattle.run_states.specs.declared.holder.Holder.TheVariants.{Run, Leg}
-use Rattle.run_states.specs.declared.place.LegPlace.{LegPlace}
+use Rattle.run_states.specs.declared.place.LegSite.{LegSite}
 
-abbrev pub is_place_before : LegPlace → LegPlace → Bool
+abbrev pub is_place_before : LegSite → LegSite → Bool
 is_place_before p q =
     nat_lt p.run q.run || (nat_eq p.run q.run && (nat_lt p.job q.job || (nat_eq p.job q.job && nat_lt p.leg q.leg)))
 

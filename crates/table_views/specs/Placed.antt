@@ -1,8 +1,8 @@
 -- Bounds on the places of legs.
 use Rattle.std.specs.Prelude.{◌<◌, ◌^◌}
 use Rattle.stated_limits.specs.Limits.{max_runs}
-use Rattle.run_states.specs.declared.place.LegPlace.{LegPlace}
+use Rattle.run_states.specs.declared.place.LegSite.{LegSite}
 
 -- a place is within what a table may have
-abbrev pub IsWithin : LegPlace → Type 0
+abbrev pub IsWithin : LegSite → Type 0
 IsWithin p = (p.run < max_runs) × (p.leg < 2 ^ 63)

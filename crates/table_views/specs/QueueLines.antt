@@ -4,8 +4,8 @@ use Rattle.std.specs.Prelude.{ℕ, List, [], ◌++◌, map, codes, flat_map, Boo
 use Rattle.std.specs.List.{filter}
 use Rattle.std.specs.Option.{option_map_or}
 use Rattle.run_states.specs.Fitting.{is_ready}
-use Rattle.run_states.specs.Places.{leg_at, leg_places}
-use Rattle.run_states.specs.declared.place.LegPlace.{LegPlace}
+use Rattle.run_states.specs.Places.{leg_at, leg_sites}
+use Rattle.run_states.specs.declared.place.LegSite.{LegSite}
 use Rattle.run_states.specs.RunState.{RunState}
 use Rattle.run_states.specs.Words.{labels_at}
 use Rattle.run_table.specs.TableState.{TableState}
@@ -14,24 +14,24 @@ use Rattle.table_views.specs.Texts.{leg_members, leg_words, line, listed, quoted
 use Rattle.table_views.specs.declared.form.Form.{Form}
 use Rattle.table_views.specs.declared.form.Form.TheVariants as form
 
-abbrev pub is_ready_at : List RunState → LegPlace → Bool
+abbrev pub is_ready_at : List RunState → LegSite → Bool
 is_ready_at runs p = option_map_or (λ leg. is_ready leg.phase) (leg_at runs p) false
 
 -- the labels that a leg requires, as JSON
-abbrev pub labels_json : List RunState → LegPlace → List ℕ
+abbrev pub labels_json : List RunState → LegSite → List ℕ
 labels_json runs p = listed (map quoted (unwrap_or (labels_at runs p) []))
 
 -- a ready leg as JSON
-abbrev pub ready_row : List RunState → LegPlace → List ℕ
+abbrev pub ready_row : List RunState → LegSite → List ℕ
 ready_row runs p = codes "{" ++ leg_members runs p ++ codes ",\"labels\":" ++ labels_json runs p ++ codes "}"
 
-abbrev pub ready_line : Form → List RunState → LegPlace → List ℕ
+abbrev pub ready_line : Form → List RunState → LegSite → List ℕ
 ready_line form.Lines runs p = line (codes "ready " ++ leg_words runs p ++ codes " " ++ labels_json runs p)
 ready_line form.Json runs p = line (ready_row runs p)
 
 -- a line for each ready leg, in the order of run, job and leg
 abbrev pub ready_lines : Form → List RunState → List ℕ
-ready_lines form runs = flat_map (ready_line form runs) (filter (is_ready_at runs) (leg_places runs))
+ready_lines form runs = flat_map (ready_line form runs) (filter (is_ready_at runs) (leg_sites runs))
 
 abbrev pub queue_lines : Form → TableState → List ℕ
 queue_lines form t = ready_lines form t.runs ++ group_lines form t.runs

@@ -2,9 +2,9 @@
 use Rattle.std.specs.Prelude.{◌≡◌, ℕ, ◌+◌, ◌-◌, List, [], codes, length, map, min, nat_lt, slice_get, Option, Some, None, if◌then◌else◌}
 use Rattle.std.specs.List.{filter}
 use Rattle.std.specs.Option.{option_map_or}
-use Rattle.run_states.specs.Places.{leg_places_of_run}
+use Rattle.run_states.specs.Places.{leg_sites_of_run}
 use Rattle.run_states.specs.RunState.{RunState}
-use Rattle.run_states.specs.declared.place.LegPlace.{LegPlace}
+use Rattle.run_states.specs.declared.place.LegSite.{LegSite}
 use Rattle.run_table.specs.TableState.{TableState}
 use Rattle.table_views.specs.Members.{number_or_null}
 use Rattle.table_views.specs.Pages.{IsPage, page_text, rows_from}
@@ -12,8 +12,8 @@ use Rattle.table_views.specs.QueueLines.{is_ready_at, ready_row}
 use Rattle.table_views.specs.Limits.{most_looked}
 
 -- the places of the legs of the run at an index
-abbrev pub legs_at : List RunState → ℕ → List LegPlace
-legs_at runs r = option_map_or (λ run. leg_places_of_run (r, run)) (slice_get runs r) []
+abbrev pub legs_at : List RunState → ℕ → List LegSite
+legs_at runs r = option_map_or (λ run. leg_sites_of_run (r, run)) (slice_get runs r) []
 
 -- the rows of its ready legs
 abbrev pub ready_rows : List RunState → ℕ → List (List ℕ)

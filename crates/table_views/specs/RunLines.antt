@@ -16,7 +16,7 @@ use Rattle.table_views.specs.declared.form.Form.TheVariants as form
 abbrev pub state_text : JobPhase → List ℕ
 state_text job.Blocked = codes "blocked"
 state_text job.Open = codes "open"
-state_text (job.Settled r) = result_word r
+state_text (job.Finished r) = result_word r
 
 abbrev pub leg_json : LegState → List ℕ
 leg_json leg = quoted (leg_text leg.phase)

@@ -10,7 +10,7 @@ use Rattle.run_states.specs.Fitting.{may_run_too}
 use Rattle.run_states.specs.GroupOf.{group_at}
 use Rattle.run_states.specs.Parallel.{is_at_work, most_at_work}
 use Rattle.run_states.specs.FirstOf.{placed}
-use Rattle.run_states.specs.Places.{leg_place}
+use Rattle.run_states.specs.Places.{leg_site}
 use Rattle.run_states.specs.RunState.{JobState, LegState, RunState}
 use Rattle.run_states.specs.Words.{combo_at}
 use Rattle.run_states.specs.declared.holder.Holder.TheVariants.{Leg}
@@ -18,7 +18,7 @@ use Rattle.run_states.specs.declared.phases.LegPhase.{LegPhase}
 use Rattle.run_states.specs.declared.phases.LegPhase.TheVariants as leg
 use Rattle.run_states.specs.declared.phases.RunPhase.{RunPhase}
 use Rattle.run_states.specs.declared.phases.RunPhase.TheVariants as phase
-use Rattle.run_states.specs.declared.place.LegPlace.{LegPlace}
+use Rattle.run_states.specs.declared.place.LegSite.{LegSite}
 use Rattle.run_table.specs.TableState.{RunnerState, TableState}
 use Rattle.run_table.specs.ViewText.{Seen, leg_text}
 use Rattle.table_views.specs.Members.{member, number_or_null, text_or_null}
@@ -46,10 +46,10 @@ ready_waits_for has_room most =
     if has_room then codes "{\"for\":\"runner\"}"
     else codes "{\"for\":\"max_parallel\"" ++ member (codes "max_parallel") (number_or_null most) ++ codes "}"
 
-abbrev pub leg_group : List RunState → LegPlace → Option (List ℕ)
+abbrev pub leg_group : List RunState → LegSite → Option (List ℕ)
 leg_group runs p = option_map name_bytes (group_at runs (Leg p))
 
-abbrev pub leg_waits_for : List RunState → LegPlace → LegPhase → List ℕ
+abbrev pub leg_waits_for : List RunState → LegSite → LegPhase → List ℕ
 leg_waits_for runs p leg.New = codes "null"
 leg_waits_for runs p leg.Waiting = for_group (leg_group runs p)
 leg_waits_for runs p leg.Ready = ready_waits_for (may_run_too runs p) (most_at_work runs p.run p.job)
@@ -69,24 +69,24 @@ runner_of runners l =
     if is_at_work l.phase then option_and_then (λ lease. option_map (λ runner. runner.name) (find (holds_lease lease) runners)) l.lease else None
 
 -- how it stands
-abbrev pub standing_members : TableState → LegPlace → LegState → List ℕ
+abbrev pub standing_members : TableState → LegSite → LegState → List ℕ
 standing_members t p l =
     member (codes "combination") (combo_text (combo_at t.runs p)) ++ member (codes "state") (quoted (leg_text l.phase))
     ++ member (codes "lease") (number_or_null l.lease) ++ member (codes "runner") (text_or_null (runner_of t.runners l))
 
 -- what it asks for and waits for
-abbrev pub wish_members : List RunState → LegPlace → LegState → List ℕ
+abbrev pub wish_members : List RunState → LegSite → LegState → List ℕ
 wish_members runs p l =
     member (codes "labels") (labels_json runs p) ++ member (codes "group") (text_or_null (leg_group runs p))
     ++ member (codes "waits_for") (leg_waits_for runs p l.phase)
 
-abbrev pub leg_row : TableState → LegPlace → LegState → List ℕ
+abbrev pub leg_row : TableState → LegSite → LegState → List ℕ
 leg_row t p l = codes "{\"leg\":" ++ decimal p.leg ++ standing_members t p l ++ wish_members t.runs p l ++ codes "}"
 
 -- ---- a job
 
 abbrev pub leg_rows : TableState → ℕ → ℕ → List LegState → List (List ℕ)
-leg_rows t r j legs = map (λ l. leg_row t (leg_place r j l.0) l.1) (placed legs)
+leg_rows t r j legs = map (λ l. leg_row t (leg_site r j l.0) l.1) (placed legs)
 
 -- what a job needs, and how many of its legs may be at work
 unfoldable pub plan_members : PlannedJob → List ℕ

@@ -1,8 +1,8 @@
 -- The runners as an operator sees them: the name, the last number, and the lease that each holds, with the leg that has
 -- it. The format is defined by this project.
 use Rattle.std.specs.Prelude.{ℕ, List, ◌++◌, codes, decimal, flat_map, Option, Some, None, option_map, option_and_then}
-use Rattle.run_states.specs.Fitting.{place_of_lease}
-use Rattle.run_states.specs.declared.place.LegPlace.{LegPlace}
+use Rattle.run_states.specs.Fitting.{site_of_lease}
+use Rattle.run_states.specs.declared.place.LegSite.{LegSite}
 use Rattle.run_states.specs.RunState.{RunState}
 use Rattle.run_table.specs.TableState.{RunnerState, TableState}
 use Rattle.table_views.specs.Texts.{leg_members, leg_words, line, quoted}
@@ -10,10 +10,10 @@ use Rattle.table_views.specs.declared.form.Form.{Form}
 use Rattle.table_views.specs.declared.form.Form.TheVariants as form
 
 -- the lease that a runner holds, and the leg that has it
-abbrev pub held_leg : List RunState → RunnerState → Option (ℕ × LegPlace)
-held_leg runs runner = option_and_then (λ lease. option_map (λ p. (lease, p)) (place_of_lease runs lease)) runner.holds
+abbrev pub held_leg : List RunState → RunnerState → Option (ℕ × LegSite)
+held_leg runs runner = option_and_then (λ lease. option_map (λ p. (lease, p)) (site_of_lease runs lease)) runner.holds
 
-abbrev pub lease_text : Form → List RunState → Option (ℕ × LegPlace) → List ℕ
+abbrev pub lease_text : Form → List RunState → Option (ℕ × LegSite) → List ℕ
 lease_text form.Lines runs None = codes "-"
 lease_text form.Json runs None = codes "null"
 lease_text form.Lines runs (Some held) = codes "lease " ++ decimal held.0 ++ codes " " ++ leg_words runs held.1

@@ -1,9 +1,9 @@
 -- The numbers of a table, in Prometheus' text format. Their names are defined by this project.
 use Rattle.std.specs.Prelude.{ℕ, List, ◌++◌, codes, flat_map, is_some, length, map}
 use Rattle.std.specs.List.{count_by, filter}
-use Rattle.run_states.specs.Places.{leg_places}
+use Rattle.run_states.specs.Places.{leg_sites}
 use Rattle.run_states.specs.RunState.{RunState}
-use Rattle.run_states.specs.declared.place.LegPlace.{LegPlace}
+use Rattle.run_states.specs.declared.place.LegSite.{LegSite}
 use Rattle.run_table.specs.TableState.{RunnerState, TableState}
 use Rattle.table_views.specs.LegCounting.{leg_lines}
 use Rattle.table_views.specs.MetricLines.{capped, head, metric, value_line}
@@ -15,11 +15,11 @@ use Rattle.table_views.specs.Texts.{quoted}
 -- ---- what ready legs ask for
 
 -- the list of labels that each ready leg among these asks for
-abbrev pub asked_at : List RunState → List LegPlace → List (List ℕ)
+abbrev pub asked_at : List RunState → List LegSite → List (List ℕ)
 asked_at runs places = map (labels_json runs) (filter (is_ready_at runs) places)
 
 abbrev pub asked : List RunState → List (List ℕ)
-asked runs = asked_at runs (leg_places runs)
+asked runs = asked_at runs (leg_sites runs)
 
 -- A list is the value of a label, with a backslash before each quote and each backslash.
 abbrev pub ready_value : List ℕ → ℕ → List ℕ

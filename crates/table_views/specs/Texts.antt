@@ -2,7 +2,7 @@
 use Rattle.std.specs.Prelude.{ℕ, ◌+◌, List, [], ◌∷◌, ◌++◌, codes, decimal}
 use Rattle.std.specs.List.{join_with_byte}
 pub use Rattle.json.specs.Print.{quoted}
-use Rattle.run_states.specs.declared.place.LegPlace.{LegPlace}
+use Rattle.run_states.specs.declared.place.LegSite.{LegSite}
 use Rattle.run_states.specs.RunState.{RunState}
 use Rattle.run_states.specs.Words.{job_id}
 
@@ -16,10 +16,10 @@ listed items = codes "[" ++ join_with_byte 44 items ++ codes "]"
 
 -- ---- a leg: its run, its job and its number in the job
 
-abbrev pub leg_words : List RunState → LegPlace → List ℕ
+abbrev pub leg_words : List RunState → LegSite → List ℕ
 leg_words runs p = decimal (p.run + 1) ++ codes " " ++ job_id runs p.run p.job ++ codes " " ++ decimal p.leg
 
 -- as members of a JSON object
-abbrev pub leg_members : List RunState → LegPlace → List ℕ
+abbrev pub leg_members : List RunState → LegSite → List ℕ
 leg_members runs p =
     codes "\"run\":" ++ decimal (p.run + 1) ++ codes ",\"job\":" ++ quoted (job_id runs p.run p.job) ++ codes ",\"leg\":" ++ decimal p.leg

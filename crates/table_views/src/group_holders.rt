@@ -18,7 +18,7 @@ use crate::run_legs::{legs_at, next_run, start_at};
 use crate::texts::{leg_members, quoted};
 use group_name::GroupKey;
 use run_plan::Number;
-use run_states::{Holder, LegPlace};
+use run_states::{Holder, LegSite};
 use run_table::Table;
 use std::alloc::Global;
 use wf_value::{Chars, Refusal};
@@ -101,7 +101,7 @@ fn push_legs(
     alloc: Global,
     runs: &Runs,
     filter: &GroupFilter,
-    places: &[LegPlace],
+    places: &[LegSite],
     rows: &mut Vec<Chars>,
 ) -> Result<(), Refusal>
     requires { All IsWithin places.now }

@@ -7,7 +7,7 @@ ghost use Rattle.stated_limits.specs.Limits.{max_runs};
 ghost use Rattle.wf_value.specs.Gives.{ErrsOnlyByMemory, Gives};
 ghost use Rattle.run_states.specs.Groups.{all_holders, is_in_progress_in, is_pending_in};
 ghost use Rattle.run_states.specs.Holders.{run_of};
-ghost use Rattle.run_states.specs.Places.{leg_places};
+ghost use Rattle.run_states.specs.Places.{leg_sites};
 ghost use Rattle.table_views.specs.Claims.{claim_of, claims_of, line_once, said};
 ghost use Rattle.table_views.specs.GroupLines.{group_in_use, group_line, group_lines, holder_text};
 ghost use Rattle.table_views.specs.HolderOrder.{is_before, is_earlier, is_place_before};
@@ -19,7 +19,7 @@ use crate::claim::GroupClaim;
 use crate::form::Form;
 use crate::texts::{leg_members, leg_words, quoted};
 use group_name::GroupKey;
-use run_states::{Holder, LegPlace};
+use run_states::{Holder, LegSite};
 use std::alloc::{AllocError, Global};
 use wf_value::Refusal;
 use workflow_runs::runs::Runs;
@@ -59,8 +59,8 @@ fn push_claim(
 }
 
 /// All claims: those of the runs, then those of the legs. `places` has the places of all legs.
-fn claims_of(alloc: Global, runs: &Runs, places: &[LegPlace]) -> Result<Vec<GroupClaim>, Refusal>
-    requires all { places.now ≡ leg_places runs.now }
+fn claims_of(alloc: Global, runs: &Runs, places: &[LegSite]) -> Result<Vec<GroupClaim>, Refusal>
+    requires all { places.now ≡ leg_sites runs.now }
     requires within { All IsWithin places.now }
     ensures err { ErrsOnlyByMemory result }
     ensures claims { IfOk result (λ claims. map said claims.items ≡ claims_of runs.now) }
@@ -77,7 +77,7 @@ fn claims_of(alloc: Global, runs: &Runs, places: &[LegPlace]) -> Result<Vec<Grou
 
 // ---- lines
 
-fn text_of_leg(alloc: Global, form: Form, runs: &Runs, place: LegPlace) -> Result<String, Refusal>
+fn text_of_leg(alloc: Global, form: Form, runs: &Runs, place: LegSite) -> Result<String, Refusal>
     requires { place.run < max_runs }
     ensures { Gives string_bytes result (Ok (holder_text form runs.now (Some (held.Leg place)))) }
 {
@@ -189,7 +189,7 @@ fn group_line(alloc: Global, form: Form, runs: &Runs, group: &GroupKey) -> Resul
 }
 
 /// Whether a leg comes before another in the table.
-fn is_place_before(p: LegPlace, q: LegPlace) -> bool
+fn is_place_before(p: LegSite, q: LegSite) -> bool
     ensures { result ≡ is_place_before p q }
 {
     p.run < q.run || (p.run == q.run && (p.job < q.job || (p.job == q.job && p.leg < q.leg)))
@@ -267,9 +267,9 @@ pub(crate) fn groups_text(
     alloc: Global,
     form: Form,
     runs: &Runs,
-    places: &[LegPlace],
+    places: &[LegSite],
 ) -> Result<String, Refusal>
-    requires all { places.now ≡ leg_places runs.now }
+    requires all { places.now ≡ leg_sites runs.now }
     requires within { All IsWithin places.now }
     ensures { Gives string_bytes result (Ok (group_lines form runs.now)) }
 {

@@ -14,7 +14,7 @@ use crate::runs::state_word;
 use crate::texts::{listed, quoted};
 use crate::waiting::{leg_group, leg_waits_for, run_waits_for};
 use run_plan::{Number, PlannedJob, text_of_combo};
-use run_states::{Job, Leg, LegPlace, Run};
+use run_states::{Job, Leg, LegSite, Run};
 use run_table::{RunView, Runner, Table, leg_word};
 use std::alloc::Global;
 use wf_value::{Chars, Refusal};
@@ -65,7 +65,7 @@ fn push_wishes(
     alloc: Global,
     text: &mut String,
     table: &Table,
-    place: LegPlace,
+    place: LegSite,
     leg: &Leg,
 ) -> Result<(), Refusal>
     requires { place.leg < 2 ^ 63 }
@@ -86,7 +86,7 @@ fn push_standing(
     alloc: Global,
     text: &mut String,
     table: &Table,
-    place: LegPlace,
+    place: LegSite,
     leg: &Leg,
 ) -> Result<(), Refusal>
     ensures { Gives (λ _. string_bytes text.new) result (Ok (string_bytes text.old ++ standing_members table.now place leg.now)) }
@@ -101,7 +101,7 @@ fn push_standing(
     Ok(())
 }
 
-fn leg_row(alloc: Global, table: &Table, place: LegPlace, leg: &Leg) -> Result<String, Refusal>
+fn leg_row(alloc: Global, table: &Table, place: LegSite, leg: &Leg) -> Result<String, Refusal>
     requires { place.leg < 2 ^ 63 }
     ensures { Gives string_bytes result (Ok (leg_row table.now place leg.now)) }
 {
@@ -126,7 +126,7 @@ fn leg_rows(
 {
     let mut rows = Vec::new(alloc);
     for l in 0..legs.len() {
-        let row = leg_row(alloc, table, LegPlace::new(r, j, l), &legs[l])?;
+        let row = leg_row(alloc, table, LegSite::new(r, j, l), &legs[l])?;
         rows.push(Chars::new(row))?;
     }
     Ok(rows)

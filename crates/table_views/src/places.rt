@@ -3,41 +3,41 @@
 ghost use Rattle.std.specs.Prelude.{◌≡◌, ◌++◌, ◌<◌, IfOk, OnOk};
 ghost use Rattle.std.specs.List.{All};
 ghost use Rattle.stated_limits.specs.Limits.{max_runs};
-ghost use Rattle.run_states.specs.Places.{leg_places, leg_places_of_job, leg_places_of_run};
+ghost use Rattle.run_states.specs.Places.{leg_sites, leg_sites_of_job, leg_sites_of_run};
 ghost use Rattle.table_views.specs.Placed.{IsWithin};
 
 use run_plan::Number;
-use run_states::{Holder, Job, Leg, LegPlace, Run};
+use run_states::{Holder, Job, Leg, LegSite, Run};
 use std::alloc::{AllocError, Global};
 use workflow_runs::runs::Runs;
 
 /// Adds the places of a job's legs.
 fn push_legs_of_job(
-    places: &mut Vec<LegPlace>,
+    places: &mut Vec<LegSite>,
     r: usize,
     j: usize,
     job: &Job,
 ) -> Result<(), AllocError>
     requires run { r < max_runs }
     requires within { All IsWithin places.old.items }
-    ensures places { OnOk result (places.new.items ≡ places.old.items ++ leg_places_of_job r (j, job.now.state)) }
+    ensures places { OnOk result (places.new.items ≡ places.old.items ++ leg_sites_of_job r (j, job.now.state)) }
     ensures within { OnOk result (All IsWithin places.new.items) }
 {
     for l in 0..job.legs().len() {
-        places.push(LegPlace::new(r, j, l))?;
+        places.push(LegSite::new(r, j, l))?;
     }
     Ok(())
 }
 
 /// Adds the places of a run's legs.
 pub(crate) fn push_legs_of_run(
-    places: &mut Vec<LegPlace>,
+    places: &mut Vec<LegSite>,
     r: usize,
     run: &Run,
 ) -> Result<(), AllocError>
     requires run { r < max_runs }
     requires within { All IsWithin places.old.items }
-    ensures places { OnOk result (places.new.items ≡ places.old.items ++ leg_places_of_run (r, run.now)) }
+    ensures places { OnOk result (places.new.items ≡ places.old.items ++ leg_sites_of_run (r, run.now)) }
     ensures within { OnOk result (All IsWithin places.new.items) }
 {
     let jobs = run.jobs();
@@ -49,8 +49,8 @@ pub(crate) fn push_legs_of_run(
 }
 
 /// The places of all legs, in the order of run, job and leg.
-pub(crate) fn leg_places(alloc: Global, runs: &Runs) -> Result<Vec<LegPlace>, AllocError>
-    ensures places { IfOk result (λ places. places.items ≡ leg_places runs.now) }
+pub(crate) fn leg_sites(alloc: Global, runs: &Runs) -> Result<Vec<LegSite>, AllocError>
+    ensures places { IfOk result (λ places. places.items ≡ leg_sites runs.now) }
     ensures within { IfOk result (λ places. All IsWithin places.items) }
 {
     let mut places = Vec::new(alloc);

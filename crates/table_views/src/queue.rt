@@ -4,7 +4,7 @@ ghost use Rattle.std.specs.Prelude.{◌≡◌, ◌<◌, ◌^◌, Ok, false, map,
 ghost use Rattle.std.specs.List.{All};
 ghost use Rattle.wf_value.specs.Gives.{Gives};
 ghost use Rattle.run_states.specs.Fitting.{is_ready};
-ghost use Rattle.run_states.specs.Places.{leg_places};
+ghost use Rattle.run_states.specs.Places.{leg_sites};
 ghost use Rattle.table_views.specs.Placed.{IsWithin};
 ghost use Rattle.table_views.specs.QueueLines.{is_ready_at, labels_json, queue_lines, ready_line, ready_lines, ready_row};
 ghost use Rattle.table_views.specs.declared.form.Form.TheVariants as form;
@@ -12,9 +12,9 @@ ghost use Rattle.table_views.specs.Texts.{quoted};
 
 use crate::form::Form;
 use crate::groups::groups_text;
-use crate::places::leg_places;
+use crate::places::leg_sites;
 use crate::texts::{leg_members, leg_words, listed, quoted};
-use run_states::{LegPhase, LegPlace};
+use run_states::{LegPhase, LegSite};
 use run_table::Table;
 use std::alloc::Global;
 use wf_value::{Chars, Refusal};
@@ -30,7 +30,7 @@ fn is_ready(phase: LegPhase) -> bool
     }
 }
 
-pub(crate) fn is_ready_at(runs: &Runs, place: LegPlace) -> bool
+pub(crate) fn is_ready_at(runs: &Runs, place: LegSite) -> bool
     ensures { result ≡ is_ready_at runs.now place }
 {
     match runs.leg(place) {
@@ -51,7 +51,7 @@ pub(crate) fn quoted_each(alloc: Global, texts: &[Chars]) -> Result<Vec<Chars>, 
 }
 
 /// The labels that a leg requires.
-pub(crate) fn labels_json(alloc: Global, runs: &Runs, place: LegPlace) -> Result<String, Refusal>
+pub(crate) fn labels_json(alloc: Global, runs: &Runs, place: LegSite) -> Result<String, Refusal>
     requires { place.leg < 2 ^ 63 }
     ensures { Gives string_bytes result (Ok (labels_json runs.now place)) }
 {
@@ -61,7 +61,7 @@ pub(crate) fn labels_json(alloc: Global, runs: &Runs, place: LegPlace) -> Result
 }
 
 /// A ready leg as JSON.
-pub(crate) fn ready_row(alloc: Global, runs: &Runs, place: LegPlace) -> Result<String, Refusal>
+pub(crate) fn ready_row(alloc: Global, runs: &Runs, place: LegSite) -> Result<String, Refusal>
     requires { IsWithin place }
     ensures { Gives string_bytes result (Ok (ready_row runs.now place)) }
 {
@@ -70,7 +70,7 @@ pub(crate) fn ready_row(alloc: Global, runs: &Runs, place: LegPlace) -> Result<S
     Ok(format!(in alloc; "{{{leg},\"labels\":{labels}}}")?)
 }
 
-fn ready_words(alloc: Global, runs: &Runs, place: LegPlace) -> Result<String, Refusal>
+fn ready_words(alloc: Global, runs: &Runs, place: LegSite) -> Result<String, Refusal>
     requires { IsWithin place }
     ensures { Gives string_bytes result (Ok (ready_line form.Lines runs.now place)) }
 {
@@ -79,7 +79,7 @@ fn ready_words(alloc: Global, runs: &Runs, place: LegPlace) -> Result<String, Re
     Ok(format!(in alloc; "ready {leg} {labels}\n")?)
 }
 
-fn ready_line(alloc: Global, form: Form, runs: &Runs, place: LegPlace) -> Result<String, Refusal>
+fn ready_line(alloc: Global, form: Form, runs: &Runs, place: LegSite) -> Result<String, Refusal>
     requires { IsWithin place }
     ensures { Gives string_bytes result (Ok (ready_line form runs.now place)) }
 {
@@ -98,9 +98,9 @@ fn ready_text(
     alloc: Global,
     form: Form,
     runs: &Runs,
-    places: &[LegPlace],
+    places: &[LegSite],
 ) -> Result<String, Refusal>
-    requires all { places.now ≡ leg_places runs.now }
+    requires all { places.now ≡ leg_sites runs.now }
     requires within { All IsWithin places.now }
     ensures { Gives string_bytes result (Ok (ready_lines form runs.now)) }
 {
@@ -119,7 +119,7 @@ pub fn queue_text(alloc: Global, form: Form, table: &Table) -> Result<Chars, Ref
     ensures { Gives (λ text. text) result (Ok (queue_lines form table.now)) }
 {
     let runs = table.kept_runs();
-    let places = leg_places(alloc, runs)?;
+    let places = leg_sites(alloc, runs)?;
     let mut text = ready_text(alloc, form, runs, places.as_slice())?;
     let groups = groups_text(alloc, form, runs, places.as_slice())?;
     text.push_str(groups.as_str())?;

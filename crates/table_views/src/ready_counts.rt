@@ -12,7 +12,7 @@ use crate::named_counts::{NamedCount, NamedCounts};
 use crate::queue::{is_ready_at, labels_json};
 use crate::run_legs::legs_at;
 use crate::texts::quoted;
-use run_states::LegPlace;
+use run_states::LegSite;
 use std::alloc::Global;
 use wf_value::Refusal;
 use workflow_runs::runs::Runs;
@@ -23,7 +23,7 @@ use workflow_runs::runs::Runs;
 fn count_leg(
     alloc: Global,
     runs: &Runs,
-    place: LegPlace,
+    place: LegSite,
     counts: &mut NamedCounts,
 ) -> Result<(), Refusal>
     requires { IsWithin place }
@@ -41,7 +41,7 @@ fn count_leg(
 fn count_legs(
     alloc: Global,
     runs: &Runs,
-    places: &[LegPlace],
+    places: &[LegSite],
     counts: &mut NamedCounts,
 ) -> Result<(), Refusal>
     requires { All IsWithin places.now }

@@ -12,7 +12,7 @@ use crate::pages::{Source, page_of, page_text};
 use crate::queue::{is_ready_at, ready_row};
 use crate::run_legs::{legs_at, next_run, start_at};
 use run_plan::Number;
-use run_states::LegPlace;
+use run_states::LegSite;
 use run_table::Table;
 use std::alloc::Global;
 use wf_value::{Chars, Refusal};
@@ -28,7 +28,7 @@ struct Ready<'a> {
 fn push_ready(
     alloc: Global,
     runs: &Runs,
-    places: &[LegPlace],
+    places: &[LegSite],
     rows: &mut Vec<Chars>,
 ) -> Result<(), Refusal>
     requires { All IsWithin places.now }

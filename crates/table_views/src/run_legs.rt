@@ -7,12 +7,12 @@ ghost use Rattle.table_views.specs.ReadyPages.{legs_at, next_run, start_at};
 
 use crate::places::push_legs_of_run;
 use run_plan::Number;
-use run_states::LegPlace;
+use run_states::LegSite;
 use std::alloc::{AllocError, Global};
 use workflow_runs::runs::Runs;
 
 /// The places of the legs of the run at an index.
-pub(crate) fn legs_at(alloc: Global, runs: &Runs, r: usize) -> Result<Vec<LegPlace>, AllocError>
+pub(crate) fn legs_at(alloc: Global, runs: &Runs, r: usize) -> Result<Vec<LegSite>, AllocError>
     requires { r < length runs.now }
     ensures places { IfOk result (λ places. places.items ≡ legs_at runs.now r) }
     ensures within { IfOk result (λ places. All IsWithin places.items) }

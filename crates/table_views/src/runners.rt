@@ -5,17 +5,17 @@ ghost use Rattle.std.specs.List.{All};
 ghost use Rattle.std.specs.Option.{option_map_or};
 ghost use Rattle.stated_limits.specs.Limits.{max_runs};
 ghost use Rattle.wf_value.specs.Gives.{Gives};
-ghost use Rattle.run_states.specs.Fitting.{has_lease, place_of_lease};
-ghost use Rattle.run_states.specs.Places.{leg_at, leg_places};
+ghost use Rattle.run_states.specs.Fitting.{has_lease, site_of_lease};
+ghost use Rattle.run_states.specs.Places.{leg_at, leg_sites};
 ghost use Rattle.table_views.specs.Placed.{IsWithin};
 ghost use Rattle.table_views.specs.RunnerLines.{held_leg, lease_text, runner_line, runner_lines};
 ghost use Rattle.table_views.specs.Texts.{line};
 
 use crate::form::Form;
-use crate::places::leg_places;
+use crate::places::leg_sites;
 use crate::texts::{leg_members, leg_words, quoted};
 use run_plan::Number;
-use run_states::{Leg, LegPlace};
+use run_states::{Leg, LegSite};
 use run_table::{Runner, Table};
 use std::alloc::{AllocError, Global};
 use wf_value::{Chars, Refusal};
@@ -30,7 +30,7 @@ fn has_lease(leg: &Leg, lease: Number) -> bool
     }
 }
 
-fn has_lease_at(runs: &Runs, place: LegPlace, lease: Number) -> bool
+fn has_lease_at(runs: &Runs, place: LegSite, lease: Number) -> bool
     ensures { result ≡ option_map_or (has_lease lease) (leg_at runs.now place) false }
 {
     match runs.leg(place) {
@@ -40,7 +40,7 @@ fn has_lease_at(runs: &Runs, place: LegPlace, lease: Number) -> bool
 }
 
 /// The first of these places whose leg has the lease.
-fn first_with_lease<'p>(runs: &Runs, places: &'p [LegPlace], lease: Number) -> Option<&'p LegPlace>
+fn first_with_lease<'p>(runs: &Runs, places: &'p [LegSite], lease: Number) -> Option<&'p LegSite>
     requires { All IsWithin places.now }
     ensures found { option_copied result ≡ find (λ p. option_map_or (has_lease lease) (leg_at runs.now p) false) places.now }
     ensures run { IfSome result (λ p. p.now.run < max_runs) }
@@ -51,10 +51,10 @@ fn first_with_lease<'p>(runs: &Runs, places: &'p [LegPlace], lease: Number) -> O
 }
 
 /// The leg that has a lease. `places` has the places of all legs.
-fn place_of_lease(runs: &Runs, places: &[LegPlace], lease: Number) -> Option<LegPlace>
-    requires all { places.now ≡ leg_places runs.now }
+fn site_of_lease(runs: &Runs, places: &[LegSite], lease: Number) -> Option<LegSite>
+    requires all { places.now ≡ leg_sites runs.now }
     requires within { All IsWithin places.now }
-    ensures found { result ≡ place_of_lease runs.now lease }
+    ensures found { result ≡ site_of_lease runs.now lease }
     ensures run { IfSome result (λ p. p.run < max_runs) }
 {
     match first_with_lease(runs, places, lease) {
@@ -69,7 +69,7 @@ fn held_text(
     form: Form,
     runs: &Runs,
     lease: Number,
-    place: LegPlace,
+    place: LegSite,
 ) -> Result<String, Refusal>
     requires { place.run < max_runs }
     ensures { Gives string_bytes result (Ok (lease_text form runs.now (Some (lease, place)))) }
@@ -102,17 +102,17 @@ fn lease_text(
     alloc: Global,
     form: Form,
     runs: &Runs,
-    places: &[LegPlace],
+    places: &[LegSite],
     runner: &Runner,
 ) -> Result<String, Refusal>
-    requires all { places.now ≡ leg_places runs.now }
+    requires all { places.now ≡ leg_sites runs.now }
     requires within { All IsWithin places.now }
     ensures { Gives string_bytes result (Ok (lease_text form runs.now (held_leg runs.now runner.now))) }
 {
     let Some(lease) = runner.holds else {
         return no_lease_text(alloc, form);
     };
-    match place_of_lease(runs, places, lease) {
+    match site_of_lease(runs, places, lease) {
         Some(place) => held_text(alloc, form, runs, lease, place),
         None => no_lease_text(alloc, form),
     }
@@ -129,10 +129,10 @@ fn runner_line(
     alloc: Global,
     form: Form,
     runs: &Runs,
-    places: &[LegPlace],
+    places: &[LegSite],
     runner: &Runner,
 ) -> Result<String, Refusal>
-    requires all { places.now ≡ leg_places runs.now }
+    requires all { places.now ≡ leg_sites runs.now }
     requires within { All IsWithin places.now }
     ensures { Gives string_bytes result (Ok (runner_line form runs.now runner.now)) }
 {
@@ -153,7 +153,7 @@ pub fn runners_text(alloc: Global, form: Form, table: &Table) -> Result<Chars, R
     ensures { Gives (λ text. text) result (Ok (runner_lines form table.now)) }
 {
     let runs = table.kept_runs();
-    let places = leg_places(alloc, runs)?;
+    let places = leg_sites(alloc, runs)?;
     let mut text = String::new(alloc);
     for runner in table.runners() {
         let line = runner_line(alloc, form, runs, places.as_slice(), runner)?;

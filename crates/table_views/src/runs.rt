@@ -20,7 +20,7 @@ pub(crate) fn state_word(phase: JobPhase) -> &'static str
     match phase {
         JobPhase::Blocked => "blocked",
         JobPhase::Open => "open",
-        JobPhase::Settled(settled) => settled.word(),
+        JobPhase::Finished(settled) => settled.word(),
     }
 }
 

@@ -7,7 +7,7 @@ ghost use Rattle.wf_value.specs.Gives.{Gives};
 ghost use Rattle.table_views.specs.Texts.{leg_members, leg_words, listed, quoted};
 
 use json::Writer;
-use run_states::LegPlace;
+use run_states::LegSite;
 use std::alloc::{AllocError, Global};
 use wf_value::{Chars, Refusal};
 use workflow_runs::runs::Runs;
@@ -53,7 +53,7 @@ fn push_joined(items: &[Chars], text: &mut String) -> Result<(), AllocError>
 }
 
 /// A leg as words: its run, its job and its number.
-pub(crate) fn leg_words(alloc: Global, runs: &Runs, place: LegPlace) -> Result<String, Refusal>
+pub(crate) fn leg_words(alloc: Global, runs: &Runs, place: LegSite) -> Result<String, Refusal>
     requires { place.run < max_runs }
     ensures { Gives string_bytes result (Ok (leg_words runs.now place)) }
 {
@@ -65,7 +65,7 @@ pub(crate) fn leg_words(alloc: Global, runs: &Runs, place: LegPlace) -> Result<S
 }
 
 /// A leg as members of a JSON object.
-pub(crate) fn leg_members(alloc: Global, runs: &Runs, place: LegPlace) -> Result<String, Refusal>
+pub(crate) fn leg_members(alloc: Global, runs: &Runs, place: LegSite) -> Result<String, Refusal>
     requires { place.run < max_runs }
     ensures { Gives string_bytes result (Ok (leg_members runs.now place)) }
 {

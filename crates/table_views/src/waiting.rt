@@ -8,7 +8,7 @@ ghost use Rattle.table_views.specs.RunViews.{for_group, leg_group, leg_waits_for
 
 use crate::members::{number_or_null, push_member, push_text_or_null};
 use crate::run_rows::as_text;
-use run_states::{Holder, LegPhase, LegPlace, RunPhase};
+use run_states::{Holder, LegPhase, LegSite, RunPhase};
 use std::alloc::Global;
 use wf_value::{Chars, Refusal};
 use workflow_runs::runs::Runs;
@@ -46,7 +46,7 @@ pub(crate) fn run_waits_for(
 pub(crate) fn leg_group(
     alloc: Global,
     runs: &Runs,
-    place: LegPlace,
+    place: LegSite,
 ) -> Result<Option<Chars>, Refusal>
     ensures { Gives (λ name. name) result (Ok (leg_group runs.now place)) }
 {
@@ -57,7 +57,7 @@ pub(crate) fn leg_group(
 }
 
 /// Whether one more leg of the job of a leg may run.
-fn may_run_too(runs: &Runs, place: LegPlace) -> bool
+fn may_run_too(runs: &Runs, place: LegSite) -> bool
     ensures { result ≡ may_run_too runs.now place }
 {
     let Some(run) = runs.as_slice().get(place.run) else {
@@ -89,7 +89,7 @@ fn ready_waits_for(alloc: Global, has_room: bool, most: Option<u16>) -> Result<S
 pub(crate) fn leg_waits_for(
     alloc: Global,
     runs: &Runs,
-    place: LegPlace,
+    place: LegSite,
     phase: LegPhase,
 ) -> Result<String, Refusal>
     ensures { Gives string_bytes result (Ok (leg_waits_for runs.now place phase)) }

@@ -37,9 +37,9 @@ pub struct Views<'a> {
     pub board: &'a Board,
     registry: Registry,
     slots: Vec<Option<Viewer>>,
-    /// The places of those that are served next.
+    /// The slots of those that are served next.
     queue: VecDeque<usize>,
-    /// The places of those that wait for changes.
+    /// The slots of those that wait for changes.
     waiting: Vec<usize>,
     kept: Kept,
 }
@@ -94,28 +94,28 @@ impl<'a> Views<'a> {
         !self.queue.is_empty() || self.port.is_busy()
     }
 
-    fn get(&mut self, place: usize) -> Option<&mut Viewer> {
-        self.slots.get_mut(place)?.as_mut()
+    fn get(&mut self, slot: usize) -> Option<&mut Viewer> {
+        self.slots.get_mut(slot)?.as_mut()
     }
 
     /// The listener or the stream of a client has reported something. `number` counts from the listener's token.
     pub fn note(&mut self, number: usize, event: &Event) {
-        let Some(place) = number.checked_sub(1) else {
+        let Some(slot) = number.checked_sub(1) else {
             self.port.reports();
             return;
         };
-        if let Some(viewer) = self.get(place) {
+        if let Some(viewer) = self.get(slot) {
             viewer.note(event);
-            self.enqueue(place);
+            self.enqueue(slot);
         }
     }
 
-    /// Queues the client in a place, if it is not queued yet.
-    fn enqueue(&mut self, place: usize) {
-        if let Some(viewer) = self.get(place) {
+    /// Queues the client in a slot, if it is not queued yet.
+    fn enqueue(&mut self, slot: usize) {
+        if let Some(viewer) = self.get(slot) {
             if !viewer.is_queued {
                 viewer.is_queued = true;
-                let _ = self.queue.push_back(place);
+                let _ = self.queue.push_back(slot);
             }
         }
     }
@@ -123,11 +123,11 @@ impl<'a> Views<'a> {
     /// Accepts a connection, if one has come.
     pub fn accept(&mut self, alloc: Global, now: Instant) -> Result<bool, Refusal> {
         let accepted = self.port.accept().map_err(|e| refusal_of(&e))?;
-        let Some((stream, place)) = accepted else {
+        let Some((stream, slot)) = accepted else {
             return Ok(false);
         };
-        if self.add(alloc, stream, place, now).is_err() {
-            self.port.vacate(place);
+        if self.add(alloc, stream, slot, now).is_err() {
+            self.port.vacate(slot);
         }
         Ok(true)
     }
@@ -136,41 +136,41 @@ impl<'a> Views<'a> {
         &mut self,
         alloc: Global,
         stream: TcpStream,
-        place: usize,
+        slot: usize,
         now: Instant,
     ) -> io::Result<()> {
         let viewer = Viewer::new(alloc, stream, now)?;
         let fd = viewer.fd();
-        let token = Token(place.saturating_add(FIRST_TOKEN + 1));
+        let token = Token(slot.saturating_add(FIRST_TOKEN + 1));
         let interest = Interest::READABLE | Interest::WRITABLE;
         self.registry.register(&mut SourceFd(&fd), token, interest)?;
-        if let Some(slot) = self.slots.get_mut(place) {
-            *slot = Some(viewer);
+        if let Some(cell) = self.slots.get_mut(slot) {
+            *cell = Some(viewer);
         }
         Ok(())
     }
 
-    /// Closes the stream of the client in a place, and frees the place.
-    fn close(&mut self, place: usize) {
-        if let Some(slot) = self.slots.get_mut(place) {
-            *slot = None;
+    /// Closes the stream of the client in a slot, and frees the slot.
+    fn close(&mut self, slot: usize) {
+        if let Some(cell) = self.slots.get_mut(slot) {
+            *cell = None;
         }
-        self.waiting.retain(|waiting| *waiting != place);
-        self.port.vacate(place);
+        self.waiting.retain(|waiting| *waiting != slot);
+        self.port.vacate(slot);
     }
 
     /// Closes the clients that have been silent for too long, and queues those that have waited for changes for long enough.
     /// Returns whether clients leave, or answers wait.
     pub fn sweep(&mut self, now: Instant, idle: Duration) -> bool {
         let mut is_restless = false;
-        for place in 0..self.slots.len() {
-            let Some(viewer) = self.get(place) else {
+        for slot in 0..self.slots.len() {
+            let Some(viewer) = self.get(slot) else {
                 continue;
             };
             if viewer.is_idle(now, idle) {
-                self.close(place);
+                self.close(slot);
             } else if viewer.has_waited(now) {
-                self.enqueue(place);
+                self.enqueue(slot);
             } else {
                 is_restless = is_restless || viewer.is_restless();
             }
@@ -202,22 +202,22 @@ impl<'a> Views<'a> {
         }
         let mut waiting = Vec::new(alloc);
         mem::swap(&mut waiting, &mut self.waiting);
-        for place in &waiting {
-            self.enqueue(*place);
+        for slot in &waiting {
+            self.enqueue(*slot);
         }
     }
 
-    /// Lets the client in a place wait for changes, or gives it an answer.
+    /// Lets the client in a slot wait for changes, or gives it an answer.
     fn give(
         &mut self,
         alloc: Global,
-        place: usize,
+        slot: usize,
         made: Made,
         head_only: bool,
         closes: bool,
         now: Instant,
     ) {
-        let Some(viewer) = self.get(place) else {
+        let Some(viewer) = self.get(slot) else {
             return;
         };
         match made {
@@ -231,59 +231,59 @@ impl<'a> Views<'a> {
                     until,
                     closes,
                 });
-                let _ = self.waiting.push(place);
+                let _ = self.waiting.push(slot);
             }
         }
     }
 
-    /// Gives the client in a place that waits for changes an answer, if there is one by now.
-    fn serve_waiting(&mut self, alloc: Global, place: usize, waiting: Waiting, now: Instant) {
+    /// Gives the client in a slot that waits for changes an answer, if there is one by now.
+    fn serve_waiting(&mut self, alloc: Global, slot: usize, waiting: Waiting, now: Instant) {
         let is_over = waiting.until <= now;
         match self.kept.made_later(alloc, waiting.query, is_over) {
             Made::Answer(answer) => {
-                self.waiting.retain(|other| *other != place);
-                if let Some(viewer) = self.get(place) {
+                self.waiting.retain(|other| *other != slot);
+                if let Some(viewer) = self.get(slot) {
                     viewer.waiting = None;
                     viewer.answer(alloc, &answer, false, waiting.closes);
                 }
             }
             Made::Waits(_) => {
-                if !self.waiting.contains(&place) {
-                    let _ = self.waiting.push(place);
+                if !self.waiting.contains(&slot) {
+                    let _ = self.waiting.push(slot);
                 }
             }
         }
     }
 
-    /// Serves the client in a place: takes its next request, answers it, and sends it what it takes of the answer.
-    fn serve(&mut self, alloc: Global, place: usize, seen: Seen<'_>, buffer: &mut Vec<u8>) {
+    /// Serves the client in a slot: takes its next request, answers it, and sends it what it takes of the answer.
+    fn serve(&mut self, alloc: Global, slot: usize, seen: Seen<'_>, buffer: &mut Vec<u8>) {
         let now = seen.now;
-        let Some(viewer) = self.get(place) else {
+        let Some(viewer) = self.get(slot) else {
             return;
         };
         viewer.is_queued = false;
         if let Some(waiting) = viewer.waiting {
-            self.serve_waiting(alloc, place, waiting, now);
+            self.serve_waiting(alloc, slot, waiting, now);
         } else if let Some(request) = viewer.next(alloc, buffer, now) {
             let made = self.kept.made(alloc, seen, &request);
-            self.give(alloc, place, made, request.head_only, request.closes, now);
+            self.give(alloc, slot, made, request.head_only, request.closes, now);
         }
-        let Some(viewer) = self.get(place) else {
+        let Some(viewer) = self.get(slot) else {
             return;
         };
         match viewer.go_on(buffer, now) {
-            Next::Again => self.enqueue(place),
+            Next::Again => self.enqueue(slot),
             Next::Waits => {}
-            Next::Closes => self.close(place),
+            Next::Closes => self.close(slot),
         }
     }
 
     /// Serves the client that has waited for the longest. Returns false if there is none.
     pub fn serve_next(&mut self, alloc: Global, seen: Seen<'_>, buffer: &mut Vec<u8>) -> bool {
-        let Some(place) = self.queue.pop_front() else {
+        let Some(slot) = self.queue.pop_front() else {
             return false;
         };
-        self.serve(alloc, place, seen, buffer);
+        self.serve(alloc, slot, seen, buffer);
         true
     }
 }

@@ -15,9 +15,9 @@ use Rattle.run_bindings.specs.declared.bindings.RunBindings.{RunBindings}
 use Rattle.workflow_runs.specs.GroupsKept.{AreExact, GroupsAreKept}
 use Rattle.workflow_runs.specs.MarkedRuns.{AreMarked, is_due}
 use Rattle.workflow_runs.specs.RowsKept.{RowState}
-use Rattle.workflow_runs.specs.Seating.{AreApart, AreSeated, AreStored, HasSeats, HaveKeys, OneIsTaken, TakeSeats, in_place, is_of}
-use Rattle.workflow_runs.specs.declared.runs.of.Place.{Place}
-use Rattle.workflow_runs.specs.declared.runs.of.Place.TheVariants.{InProgress, Pending}
+use Rattle.workflow_runs.specs.Seating.{AreApart, AreSeated, AreStored, HasSeats, HaveKeys, OneIsTaken, TakeSeats, in_slot, is_of}
+use Rattle.workflow_runs.specs.declared.runs.of.GroupSlot.{GroupSlot}
+use Rattle.workflow_runs.specs.declared.runs.of.GroupSlot.TheVariants.{InProgress, Pending}
 use Rattle.workflow_runs.proofs.GroupsHeld.{Entries}
 use Rattle.workflow_runs.proofs.HoldersThere.{holds_not, there_if_holds, there_if_waits}
 use Rattle.workflow_runs.proofs.Seating.{all_seated}
@@ -37,14 +37,14 @@ and_no true false e = true≢false (sym e)
 and_no false b e = true≢false (sym e)
 
 -- a place that nobody has
-none_seated : (place : Place) (runs : List RunState) (entries : Entries) → ((g : Group) → in_place place (slot_in entries g) ≡ None)
+none_seated : (place : GroupSlot) (runs : List RunState) (entries : Entries) → ((g : Group) → in_slot place (slot_in entries g) ≡ None)
     → AreSeated place nobody runs entries
 none_seated place runs entries free g h = (
   λ at. absurd (no_such h (sym (free g) ∙ at)),
   λ is. absurd (and_no (is_in runs g h) (is_of place runs h) is),
 )
 
-nobody_apart : (place : Place) (runs : List RunState) (among : Holder → Bool) → AreApart place runs nobody among
+nobody_apart : (place : GroupSlot) (runs : List RunState) (among : Holder → Bool) → AreApart place runs nobody among
 nobody_apart place runs among h e = refl
 
 empty_book : (entries : Entries) (g : Group) → entries ≡ [] → ((slot_in entries g).in_progress ≡ None) × ((slot_in entries g).pending ≡ None)

@@ -5,7 +5,7 @@ use Rattle.std.proofs.Common.{ap}
 use Rattle.run_states.specs.Groups.{leg_waits, waits}
 use Rattle.run_states.specs.Resuming.{is_new_at}
 use Rattle.run_states.specs.Places.{leg_at}
-use Rattle.run_states.specs.declared.place.LegPlace.{LegPlace}
+use Rattle.run_states.specs.declared.place.LegSite.{LegSite}
 use Rattle.run_states.specs.Rules.{with_leg_in}
 use Rattle.run_states.specs.RunState.{LegState, RunState}
 use Rattle.run_states.specs.SoundRuns.{RunsAreSound}
@@ -37,7 +37,7 @@ new_leg_there : (o : Option LegState) → option_map_or (λ l. is_new l.phase) o
 new_leg_there None e = cc
 new_leg_there (Some z) e = record { state = z; is = refl; new = new_phase z.phase e }
 
-module _ (runs : List RunState) (p : LegPlace) (new : is_new_at runs p ≡ true) where
+module _ (runs : List RunState) (p : LegSite) (new : is_new_at runs p ≡ true) where
   there : NewLeg (leg_at runs p)
   there = new_leg_there (leg_at runs p) new
 

@@ -11,13 +11,13 @@ use Rattle.run_states.specs.Places.{leg_at, run_at}
 use Rattle.run_states.specs.RunState.{JobState, LegState, RunState}
 use Rattle.run_states.specs.declared.holder.Holder.{Holder}
 use Rattle.run_states.specs.declared.holder.Holder.TheVariants.{Run, Leg}
-use Rattle.run_states.specs.declared.place.LegPlace.{LegPlace}
+use Rattle.run_states.specs.declared.place.LegSite.{LegSite}
 use Rattle.run_states.proofs.Changed.{at_another, at_changed, length-changed_at}
 use Rattle.run_states.proofs.JobKeeps.{leg_in}
 use Rattle.run_states.proofs.Optional.{some_of}
 use Rattle.run_states.proofs.Transitions.{changed_none}
 use Rattle.run_bindings.specs.Bindings.{group_request_of}
-use Rattle.run_bindings.specs.BoundGroups.{results_by_place}
+use Rattle.run_bindings.specs.BoundGroups.{results_by_index}
 use Rattle.run_bindings.specs.GroupKeys.{AreLater, decided, holder_key, key_in, requests_of, ticket_in}
 use Rattle.run_bindings.specs.declared.bindings.JobBindings.{JobBindings}
 use Rattle.run_bindings.specs.declared.bindings.RunBindings.{RunBindings}
@@ -34,20 +34,20 @@ use Rattle.workflow_runs.specs.RowsKept.{IsUndecided, decided_in, holder_key_at}
 -- ---- the key of a holder is what its request gives
 
 -- a run that asks for no group has none
-own_key : (x : RunState) (o : Option GroupRequest) (k : HolderKey) → k ≡ option_map_or (decided (results_by_place x)) o NoGroup
-    → (option_and_then key_in (Some k) ≡ option_and_then key_in (option_map (decided (results_by_place x)) o))
-    × (option_and_then ticket_in (Some k) ≡ option_and_then ticket_in (option_map (decided (results_by_place x)) o))
+own_key : (x : RunState) (o : Option GroupRequest) (k : HolderKey) → k ≡ option_map_or (decided (results_by_index x)) o NoGroup
+    → (option_and_then key_in (Some k) ≡ option_and_then key_in (option_map (decided (results_by_index x)) o))
+    × (option_and_then ticket_in (Some k) ≡ option_and_then ticket_in (option_map (decided (results_by_index x)) o))
 own_key x None k is = (ap key_in is, ap ticket_in is)
 own_key x (Some request) k is = (ap key_in is, ap ticket_in is)
 
 own_flag : (x : RunState) (o : Option GroupRequest) (k : HolderKey) (known : KnownGroup)
-    → k ≡ option_map_or (decided (results_by_place x)) o NoGroup → Some k ≡ Some (Known known)
-    → option_map (decided (results_by_place x)) o ≡ Some (Known known)
+    → k ≡ option_map_or (decided (results_by_index x)) o NoGroup → Some k ≡ Some (Known known)
+    → option_map (decided (results_by_index x)) o ≡ Some (Known known)
 own_flag x None k known is e = let apart : NoGroup ≡ Known known = sym is ∙ same_Some k (Known known) e in cc
 own_flag x (Some request) k known is e = ap Some (sym is) ∙ e
 
 -- a leg that is there is of a job with legs
-legs_there : (runs : List RunState) (x : RunState) (p : LegPlace) (z : LegState) → run_at runs p.run ≡ Some x → leg_at runs p ≡ Some z
+legs_there : (runs : List RunState) (x : RunState) (p : LegSite) (z : LegState) → run_at runs p.run ≡ Some x → leg_at runs p ≡ Some z
     → has_legs_at x p.job ≡ true
 legs_there runs x p z at leg =
     let here = leg_in runs p z leg in
@@ -61,21 +61,21 @@ legs_there runs x p z at leg =
     some_below n less = lt-ltb 0 n less
 
 -- its key is what its request gives
-leg_key : (x : RunState) (kept : RunBindings) (p : LegPlace) → IsBegun x kept → has_legs_at x p.job ≡ true
-    → holder_key kept.keys (Leg p) ≡ option_map (decided (results_by_place x)) (group_request_of kept (Leg p))
+leg_key : (x : RunState) (kept : RunBindings) (p : LegSite) → IsBegun x kept → has_legs_at x p.job ≡ true
+    → holder_key kept.keys (Leg p) ≡ option_map (decided (results_by_index x)) (group_request_of kept (Leg p))
 leg_key x kept p begun has = by (slice_get kept.keys.jobs p.job) refl
   where
     by : (o : Option (List HolderKey)) → slice_get kept.keys.jobs p.job ≡ o
         → option_and_then (λ (legs : List HolderKey). slice_get legs p.leg) o
-        ≡ option_map (decided (results_by_place x)) (group_request_of kept (Leg p))
+        ≡ option_map (decided (results_by_index x)) (group_request_of kept (Leg p))
     by None none =
         let no_job = as_short kept.keys.jobs kept.jobs p.job (sym begun.as_many) none in
-        sym (ap (λ o. option_map (decided (results_by_place x)) (option_and_then (λ (job : JobBindings). slice_get job.groups p.leg) o)) no_job)
+        sym (ap (λ o. option_map (decided (results_by_index x)) (option_and_then (λ (job : JobBindings). slice_get job.groups p.leg) o)) no_job)
     by (Some legs) at =
         let known : AreKnownIf true x kept p.job legs = subst (λ b. AreKnownIf b x kept p.job legs) has (begun.jobs p.job legs at) in
         ap (λ (ks : List HolderKey). slice_get ks p.leg) known
-        ∙ slice_get-map (decided (results_by_place x)) (requests_of kept.jobs p.job) p.leg
-        ∙ ap (option_map (decided (results_by_place x))) (its_request (slice_get kept.jobs p.job))
+        ∙ slice_get-map (decided (results_by_index x)) (requests_of kept.jobs p.job) p.leg
+        ∙ ap (option_map (decided (results_by_index x))) (its_request (slice_get kept.jobs p.job))
       where
         its_request : (o : Option JobBindings)
             → slice_get (option_map_or (λ (job : JobBindings). job.groups) o []) p.leg
@@ -92,29 +92,29 @@ module _ (runs : List RunState) (bindings : List RunBindings) (x : RunState) (ke
       let key = own_key x kept.own kept.keys.own begun.own in
       let here = ap (option_and_then (λ (k : RunBindings). holder_key k.keys (Run r))) row in
       record {
-        group = ap (option_and_then key_in) here ∙ key.0 ∙ keys_decided_of (results_by_place x) kept.own ∙ says.0;
+        group = ap (option_and_then key_in) here ∙ key.0 ∙ keys_decided_of (results_by_index x) kept.own ∙ says.0;
         cancels = λ known e.
-            flags_decided_of (results_by_place x) kept.own known (own_flag x kept.own kept.keys.own known begun.own (sym here ∙ e)) ∙ says.1;
+            flags_decided_of (results_by_index x) kept.own known (own_flag x kept.own kept.keys.own known begun.own (sym here ∙ e)) ∙ says.1;
       }
   begun_knows (Leg p) at row there says =
       let z = some_of (leg_at runs p) there in
       let here = ap (option_and_then (λ (k : RunBindings). holder_key k.keys (Leg p))) row
       ∙ leg_key x kept p begun (legs_there runs x p z.0 at z.1) in
       record {
-        group = ap (option_and_then key_in) here ∙ keys_decided_of (results_by_place x) (group_request_of kept (Leg p)) ∙ says.0;
-        cancels = λ known e. flags_decided_of (results_by_place x) (group_request_of kept (Leg p)) known (sym here ∙ e) ∙ says.1;
+        group = ap (option_and_then key_in) here ∙ keys_decided_of (results_by_index x) (group_request_of kept (Leg p)) ∙ says.0;
+        cancels = λ known e. flags_decided_of (results_by_index x) (group_request_of kept (Leg p)) known (sym here ∙ e) ∙ says.1;
       }
 
   pub begun_has_ticket : (h : Holder) → run_at runs (run_of h) ≡ Some x → slice_get bindings (run_of h) ≡ Some kept → is_there runs h ≡ true
       → SaysBoth runs h x kept → option_and_then ticket_in (holder_key_at bindings h) ≡ group_at runs h
   begun_has_ticket (Run r) at row there says =
       ap (option_and_then ticket_in) (ap (option_and_then (λ (k : RunBindings). holder_key k.keys (Run r))) row)
-      ∙ (own_key x kept.own kept.keys.own begun.own).1 ∙ tickets_decided_of (results_by_place x) kept.own ∙ says.0
+      ∙ (own_key x kept.own kept.keys.own begun.own).1 ∙ tickets_decided_of (results_by_index x) kept.own ∙ says.0
   begun_has_ticket (Leg p) at row there says =
       let z = some_of (leg_at runs p) there in
       ap (option_and_then ticket_in)
       (ap (option_and_then (λ (k : RunBindings). holder_key k.keys (Leg p))) row ∙ leg_key x kept p begun (legs_there runs x p z.0 at z.1))
-      ∙ tickets_decided_of (results_by_place x) (group_request_of kept (Leg p)) ∙ says.0
+      ∙ tickets_decided_of (results_by_index x) (group_request_of kept (Leg p)) ∙ says.0
 
 -- ---- one job after another is decided
 
@@ -140,19 +140,19 @@ pub begun_more : (n : ℕ) (x : RunState) (kept : RunBindings) → IsBegunBelow 
     → IsBegunBelow (n + 1) x (decided_in n x kept)
 begun_more n x kept begun has = record {
   own = begun.own;
-  as_many = length-changed_at n (λ (ls : List HolderKey). map (decided (results_by_place x)) (requests_of kept.jobs n)) kept.keys.jobs ∙ begun.as_many;
+  as_many = length-changed_at n (λ (ls : List HolderKey). map (decided (results_by_index x)) (requests_of kept.jobs n)) kept.keys.jobs ∙ begun.as_many;
   jobs = (λ j legs at.
       elim (cases_eq j n) [
         | inl here ↦
             let is : AreKnownIf true x kept j legs =
             decided_legs j legs (slice_get kept.keys.jobs n)
-            (sym (at_changed n (λ (ls : List HolderKey). map (decided (results_by_place x)) (requests_of kept.jobs n)) kept.keys.jobs)
+            (sym (at_changed n (λ (ls : List HolderKey). map (decided (results_by_index x)) (requests_of kept.jobs n)) kept.keys.jobs)
             ∙ ap (slice_get (decided_in n x kept).keys.jobs) (sym here) ∙ at) here in
             subst (λ b. AreKnownIf b x (decided_in n x kept) j legs)
             (sym (ap (λ i. has_legs_at x i && nat_lt i (n + 1)) here ∙ ap (λ b. b && nat_lt n (n + 1)) has ∙ lt-ltb n (n + 1) (omega arith))) is
         | inr other ↦
             let before = begun.jobs j legs
-            (sym (at_another n (λ (ls : List HolderKey). map (decided (results_by_place x)) (requests_of kept.jobs n)) kept.keys.jobs j other) ∙ at) in
+            (sym (at_another n (λ (ls : List HolderKey). map (decided (results_by_index x)) (requests_of kept.jobs n)) kept.keys.jobs j other) ∙ at) in
             known_still (has_legs_at x j && nat_lt j (n + 1)) j legs
             (subst (λ b. AreKnownIf b x kept j legs) (ap (λ b. has_legs_at x j && b) (one_further j n other)) before)
       ]);
@@ -163,12 +163,12 @@ begun_more n x kept begun has = record {
     known_still false j legs known = known
 
     decided_legs : (j : ℕ) (legs : List HolderKey) (o : Option (List HolderKey))
-        → option_map (λ (ls : List HolderKey). map (decided (results_by_place x)) (requests_of kept.jobs n)) o ≡ Some legs → j ≡ n
-        → legs ≡ map (decided (results_by_place x)) (requests_of kept.jobs j)
+        → option_map (λ (ls : List HolderKey). map (decided (results_by_index x)) (requests_of kept.jobs n)) o ≡ Some legs → j ≡ n
+        → legs ≡ map (decided (results_by_index x)) (requests_of kept.jobs j)
     decided_legs j legs None e here = cc
     decided_legs j legs (Some ls) e here =
-        sym (same_Some (map (decided (results_by_place x)) (requests_of kept.jobs n)) legs e)
-        ∙ ap (λ i. map (decided (results_by_place x)) (requests_of kept.jobs i)) (sym here)
+        sym (same_Some (map (decided (results_by_index x)) (requests_of kept.jobs n)) legs e)
+        ∙ ap (λ i. map (decided (results_by_index x)) (requests_of kept.jobs i)) (sym here)
 
 -- its legs are not decided yet
 pub not_yet : (n : ℕ) (x : RunState) (kept : RunBindings) (legs : List HolderKey) → IsBegunBelow n x kept → slice_get kept.keys.jobs n ≡ Some legs
@@ -221,7 +221,7 @@ all_begun n x kept begun past = record {
 pub undecided_stays : (j : ℕ) (x : RunState) (kept : RunBindings) → IsUndecided j kept → slice_get kept.jobs j ≡ None → kept ≡ decided_in j x kept
 undecided_stays j x kept later none =
     ap (λ (js : List (List HolderKey)). record kept { keys = record { own = kept.keys.own; jobs = js } })
-    (changed_none kept.keys.jobs j (λ (ls : List HolderKey). map (decided (results_by_place x)) (requests_of kept.jobs j))
+    (changed_none kept.keys.jobs j (λ (ls : List HolderKey). map (decided (results_by_index x)) (requests_of kept.jobs j))
     (λ legs at. no_keys legs (later legs at)))
   where
     no_requests : requests_of kept.jobs j ≡ []
@@ -231,7 +231,7 @@ undecided_stays j x kept later none =
     empty [] e = refl
     empty (y ∷ xs) e = absurd (omega (arith, e))
 
-    no_keys : (legs : List HolderKey) → AreLater (requests_of kept.jobs j) legs → map (decided (results_by_place x)) (requests_of kept.jobs j) ≡ legs
+    no_keys : (legs : List HolderKey) → AreLater (requests_of kept.jobs j) legs → map (decided (results_by_index x)) (requests_of kept.jobs j) ≡ legs
     no_keys legs are =
-        ap (λ (rs : List GroupRequest). map (decided (results_by_place x)) rs) no_requests
+        ap (λ (rs : List GroupRequest). map (decided (results_by_index x)) rs) no_requests
         ∙ sym (empty legs (are.as_many ∙ ap (λ (rs : List GroupRequest). length rs) no_requests))

@@ -10,7 +10,7 @@ use Rattle.run_states.specs.Stops.{cancelled, stopped, stopped_phase, stopped_ru
 use Rattle.run_states.specs.declared.holder.Holder.TheVariants.{Leg, Run}
 use Rattle.run_states.specs.declared.phases.LegPhase.{LegPhase}
 use Rattle.run_states.specs.declared.phases.LegPhase.TheVariants as leg
-use Rattle.run_states.specs.declared.place.LegPlace.{LegPlace}
+use Rattle.run_states.specs.declared.place.LegSite.{LegSite}
 use Rattle.wf_value.specs.declared.outcome.Outcome.TheVariants as outcome
 use Rattle.workflow_runs.proofs.OneChange.{leg_written}
 use Rattle.workflow_runs.proofs.OneHolder.{leg_that_waits, run_that_waits, stop_cancels}
@@ -26,7 +26,7 @@ no_lease leg.Running lease e fits = cc
 no_lease leg.Stopping lease e fits = cc
 no_lease (leg.Ended o) lease e fits = cc
 
-pub leg_cancelled : (runs : List RunState) (p : LegPlace) (fresh ended : LegState) → RunsAreSound runs → waits runs (Leg p) ≡ true
+pub leg_cancelled : (runs : List RunState) (p : LegSite) (fresh ended : LegState) → RunsAreSound runs → waits runs (Leg p) ≡ true
     → fresh ≡ new_leg → ended ≡ leg_in_phase (leg.Ended outcome.Cancelled) fresh → with_leg p (λ _. ended) runs ≡ with_leg p stopped runs
 leg_cancelled runs p fresh ended sound waiting is_new is_ended =
     let z = leg_that_waits runs p waiting in

@@ -8,7 +8,7 @@ use Rattle.group_name.specs.BoundGroup.{group_at as bound_group_at}
 use Rattle.group_name.specs.Group.{Group}
 use Rattle.run_states.specs.FirstOf.{changed_at}
 use Rattle.run_states.specs.declared.holder.Holder.TheVariants.{Leg}
-use Rattle.run_states.specs.declared.place.LegPlace.{LegPlace}
+use Rattle.run_states.specs.declared.place.LegSite.{LegSite}
 use Rattle.run_states.proofs.Changed.{at_another, at_changed}
 use Rattle.run_bindings.specs.BoundGroups.{is_set_by}
 use Rattle.run_bindings.specs.GroupKeys.{KeyState, decided, holder_key, key_in, known_as, ticket_in}
@@ -69,7 +69,7 @@ module _ (results : Results) (requests : List GroupRequest) (keys : KeyState) (j
   abbrev after : KeyState
   after = record { own = keys.own; jobs = changed_at j (λ legs. map (decided results) requests) keys.jobs }
 
-  pub decided_here : (p : LegPlace) (legs : List HolderKey) → p.job ≡ j → slice_get keys.jobs j ≡ Some legs
+  pub decided_here : (p : LegSite) (legs : List HolderKey) → p.job ≡ j → slice_get keys.jobs j ≡ Some legs
       → holder_key after (Leg p) ≡ option_map (decided results) (slice_get requests p.leg)
   decided_here p legs same at =
       let read : Option (List HolderKey) → Option HolderKey = option_and_then (λ (ks : List HolderKey). slice_get ks p.leg) in
@@ -77,6 +77,6 @@ module _ (results : Results) (requests : List GroupRequest) (keys : KeyState) (j
       ∙ ap read (at_changed j (λ ks. map (decided results) requests) keys.jobs ∙ ap (option_map (λ ks. map (decided results) requests)) at)
       ∙ slice_get-map (decided results) requests p.leg
 
-  pub decided_elsewhere : (p : LegPlace) → (p.job ≡ j → ⊥) → holder_key after (Leg p) ≡ holder_key keys (Leg p)
+  pub decided_elsewhere : (p : LegSite) → (p.job ≡ j → ⊥) → holder_key after (Leg p) ≡ holder_key keys (Leg p)
   decided_elsewhere p other =
       ap (option_and_then (λ (ks : List HolderKey). slice_get ks p.leg)) (at_another j (λ ks. map (decided results) requests) keys.jobs p.job other)

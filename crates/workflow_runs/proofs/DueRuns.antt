@@ -4,7 +4,7 @@ use Rattle.std.proofs.Common.{arith, sym, ◌∙◌, inl, inr}
 use Rattle.std.proofs.lemmas.Bool.{cases_lt, true≢false}
 use Rattle.run_states.specs.Resuming.{NoneBefore, apply_at}
 use Rattle.run_states.specs.RunState.{RunState}
-use Rattle.run_states.specs.Settling.{first_place}
+use Rattle.run_states.specs.Settling.{first_site}
 use Rattle.run_states.specs.WithinRun.{first_in_run}
 use Rattle.run_states.specs.declared.place.RuleSite.{RuleSite}
 use Rattle.settling_laws.proofs.Firsts.{found_at, none_found}
@@ -22,12 +22,12 @@ module _ (runs : List RunState) where
 
   -- the search of a run finds a place
   pub place_found : (r : ℕ) (o : Option RuleSite) → NoneBefore (first_in_run runs) runs r → o ≡ apply_at (first_in_run runs) runs r
-      → is_some o ≡ true → o ≡ first_place runs
+      → is_some o ≡ true → o ≡ first_site runs
   place_found r None before is some = absurd (true≢false (sym some))
   place_found r (Some p) before is some = sym (first_place_by_run runs ∙ found_at (first_in_run runs) runs r p before (sym is))
 
   pub none_left : (from : ℕ) → NoneBefore (first_in_run runs) runs from → ((i : ℕ) → from ≤ i → apply_at (first_in_run runs) runs i ≡ None)
-      → None ≡ first_place runs
+      → None ≡ first_site runs
   none_left from before none =
       sym (first_place_by_run runs
       ∙ none_found (first_in_run runs) runs (length runs) (rest_until from (length runs) before (λ i le lt. none i le)) (omega arith))

@@ -16,7 +16,7 @@ use Rattle.run_states.specs.Stops.{stopped, stopped_run}
 use Rattle.run_states.specs.declared.holder.Holder.{Holder}
 use Rattle.run_states.specs.declared.holder.Holder.TheVariants.{Leg, Run}
 use Rattle.run_states.specs.declared.holder.HolderFilter.TheVariants.{InProgress, OthersPending}
-use Rattle.run_states.specs.declared.place.JobPlace.{JobPlace}
+use Rattle.run_states.specs.declared.place.JobSite.{JobSite}
 use Rattle.run_states.proofs.Changed.{length-changed_at}
 use Rattle.run_states.proofs.JobKeeps.{with_job_of, with_leg_of}
 use Rattle.run_bindings.specs.declared.bindings.RunBindings.{RunBindings}
@@ -136,7 +136,7 @@ arrives runs mid last bindings book one to_stop sound waiting kept is stops stop
 
 -- ---- where settling begins to search
 
-abbrev resumes : ℕ → Option Group → JobPlace
+abbrev resumes : ℕ → Option Group → JobSite
 resumes r o = record { run = if is_some o then 0 else r; job = 0 }
 
 pub same_start : (mid next : List RunState) (r n : ℕ) → group_at mid (Run r) ≡ group_at next (Run r) → r ≡ n

@@ -10,15 +10,15 @@ use Rattle.run_states.specs.Moves.{Transition, without_moves}
 use Rattle.run_states.specs.Places.{job_at, leg_at, run_at, with_job, with_run}
 use Rattle.run_states.specs.Rules.{closing_rule, decided, leg_rule, leg_rule_in, may_run, opening_rule, places, result_at, rule_at, whole_rule, whole_rule_in}
 use Rattle.run_states.specs.RunState.{JobState, LegState, RunState}
-use Rattle.run_states.specs.Settling.{applies, first_place}
-use Rattle.run_states.specs.StateWords.{is_blocked, is_done, is_settled, opened, run_in_phase, settled_as}
-use Rattle.run_states.specs.Words.{is_stopping, needs_have_settled, planned_legs}
+use Rattle.run_states.specs.Settling.{applies, first_site}
+use Rattle.run_states.specs.StateWords.{is_blocked, is_done, is_finished, opened, run_in_phase, finished_as}
+use Rattle.run_states.specs.Words.{is_stopping, needs_have_finished, planned_legs}
 use Rattle.run_states.specs.declared.holder.Holder.TheVariants.{Leg, Run}
 use Rattle.run_states.specs.declared.phases.LegPhase.{LegPhase}
 use Rattle.run_states.specs.declared.phases.LegPhase.TheVariants as leg
 use Rattle.run_states.specs.declared.phases.RunPhase.{RunPhase}
 use Rattle.run_states.specs.declared.phases.RunPhase.TheVariants as run
-use Rattle.run_states.specs.declared.place.LegPlace.{LegPlace}
+use Rattle.run_states.specs.declared.place.LegSite.{LegSite}
 use Rattle.run_states.specs.declared.place.RuleSite.{RuleSite}
 use Rattle.run_states.specs.declared.place.RuleSite.TheVariants.{AtLeg, Closing, Opening, Whole}
 use Rattle.run_states.proofs.Found.{find_passes}
@@ -28,10 +28,10 @@ use Rattle.run_states.proofs.Settles.{Settles}
 use Rattle.settling_laws.proofs.SettlingKeeps.{first_rule_settles}
 
 -- the rule that applies there
-pub rule_there : (runs : List RunState) (place : RuleSite) → first_place runs ≡ Some place → (m : Transition) × (rule_at runs place ≡ Some m)
+pub rule_there : (runs : List RunState) (place : RuleSite) → first_site runs ≡ Some place → (m : Transition) × (rule_at runs place ≡ Some m)
 rule_there runs place first = some_of (rule_at runs place) (find_passes (applies runs) (places runs) place first)
 
-pub first_settles : (runs : List RunState) (place : RuleSite) (m : Transition) → RunsFit runs → first_place runs ≡ Some place
+pub first_settles : (runs : List RunState) (place : RuleSite) (m : Transition) → RunsFit runs → first_site runs ≡ Some place
     → rule_at runs place ≡ Some m → Settles runs m.runs
 first_settles runs place m fit first at = first_rule_settles runs m fit (ap (option_and_then (rule_at runs)) first ∙ at)
 
@@ -41,17 +41,17 @@ pub record Opens (runs : List RunState) (r j : ℕ) : Type 0 where
   pub job : JobState
   pub there : job_at runs r j ≡ Some job
   pub blocked : is_blocked job.phase ≡ true
-  pub needs : needs_have_settled runs r j ≡ true
+  pub needs : needs_have_finished runs r j ≡ true
   pub settles : Settles runs (with_job r j (decided runs r j) runs)
 
-pub opens : (runs : List RunState) (r j : ℕ) → RunsFit runs → first_place runs ≡ Some (Opening r j) → Opens runs r j
+pub opens : (runs : List RunState) (r j : ℕ) → RunsFit runs → first_site runs ≡ Some (Opening r j) → Opens runs r j
 opens runs r j fit first =
     let rule = rule_there runs (Opening r j) first in
     let made = from_and_then (opening_rule runs r j) (job_at runs r j) rule.0 rule.1 in
     let y = made.value in
     let moved : Transition = without_moves (with_job r j (decided runs r j) runs) in
-    let so = if_some (is_blocked y.phase && needs_have_settled runs r j) moved rule.0 made.gives in
-    let parts = and_parts (is_blocked y.phase) (needs_have_settled runs r j) so.0 in
+    let so = if_some (is_blocked y.phase && needs_have_finished runs r j) moved rule.0 made.gives in
+    let parts = and_parts (is_blocked y.phase) (needs_have_finished runs r j) so.0 in
     record {
       job = y;
       there = made.is;
@@ -64,52 +64,52 @@ opens runs r j fit first =
 pub opens_where : (runs : List RunState) (r j : ℕ) → may_run runs r j ≡ true
     → with_job r j (decided runs r j) runs ≡ with_job r j (opened (planned_legs runs r j)) runs
 opens_where runs r j may =
-    ap (λ b. with_job r j (if b then opened (planned_legs runs r j) else settled_as (if is_stopping runs r then result.Cancelled else result.Skipped)) runs)
+    ap (λ b. with_job r j (if b then opened (planned_legs runs r j) else finished_as (if is_stopping runs r then result.Cancelled else result.Skipped)) runs)
     may
 
 pub finishes_where : (runs : List RunState) (r j : ℕ) (b : Bool) → may_run runs r j ≡ false → is_stopping runs r ≡ b
-    → with_job r j (decided runs r j) runs ≡ with_job r j (settled_as (if b then result.Cancelled else result.Skipped)) runs
+    → with_job r j (decided runs r j) runs ≡ with_job r j (finished_as (if b then result.Cancelled else result.Skipped)) runs
 finishes_where runs r j b may stopping =
-    ap (λ c. with_job r j (if c then opened (planned_legs runs r j) else settled_as (if is_stopping runs r then result.Cancelled else result.Skipped)) runs)
+    ap (λ c. with_job r j (if c then opened (planned_legs runs r j) else finished_as (if is_stopping runs r then result.Cancelled else result.Skipped)) runs)
     may
-    ∙ ap (λ c. with_job r j (settled_as (if c then result.Cancelled else result.Skipped)) runs) stopping
+    ∙ ap (λ c. with_job r j (finished_as (if c then result.Cancelled else result.Skipped)) runs) stopping
 
 -- ---- a job that finishes
 
-pub closes : (runs : List RunState) (r j : ℕ) (y : JobState) → RunsFit runs → first_place runs ≡ Some (Closing r j) → job_at runs r j ≡ Some y
-    → Settles runs (with_job r j (settled_as (result_at runs r j y)) runs)
+pub closes : (runs : List RunState) (r j : ℕ) (y : JobState) → RunsFit runs → first_site runs ≡ Some (Closing r j) → job_at runs r j ≡ Some y
+    → Settles runs (with_job r j (finished_as (result_at runs r j y)) runs)
 closes runs r j y fit first at =
     let rule = rule_there runs (Closing r j) first in
     let made = from_and_then (closing_rule runs r j) (job_at runs r j) rule.0 rule.1 in
     let same : made.value ≡ y = same_Some made.value y (sym made.is ∙ at) in
-    let moved : JobState → Transition = λ z. without_moves (with_job r j (settled_as (result_at runs r j z)) runs) in
+    let moved : JobState → Transition = λ z. without_moves (with_job r j (finished_as (result_at runs r j z)) runs) in
     let so = if_some (is_done made.value) (moved made.value) rule.0 made.gives in
     subst (λ (m : Transition). Settles runs m.runs) (sym so.1 ∙ ap moved same) (first_settles runs (Closing r j) rule.0 fit first rule.1)
 
 -- ---- a run that begins or ends
 
-its_rule : (runs : List RunState) (r : ℕ) (x : RunState) → first_place runs ≡ Some (Whole r) → run_at runs r ≡ Some x
+its_rule : (runs : List RunState) (r : ℕ) (x : RunState) → first_site runs ≡ Some (Whole r) → run_at runs r ≡ Some x
     → (m : Transition) × (whole_rule runs r x ≡ Some m)
 its_rule runs r x first at =
     let rule = rule_there runs (Whole r) first in (rule.0, sym (ap (option_and_then (whole_rule runs r)) at) ∙ rule.1)
 
-pub run_may_start : (runs : List RunState) (r : ℕ) (x : RunState) → first_place runs ≡ Some (Whole r) → run_at runs r ≡ Some x
+pub run_may_start : (runs : List RunState) (r : ℕ) (x : RunState) → first_site runs ≡ Some (Whole r) → run_at runs r ≡ Some x
     → x.phase ≡ run.Waiting → may_start runs (Run r) ≡ true
 run_may_start runs r x first at waiting =
     let rule = its_rule runs r x first at in
     let here = sym (ap (λ (phase : RunPhase). whole_rule_in phase runs r x) waiting) ∙ rule.1 in
     (if_some (may_start runs (Run r)) _ rule.0 here).0
 
-pub run_may_end : (runs : List RunState) (r : ℕ) (x : RunState) → first_place runs ≡ Some (Whole r) → run_at runs r ≡ Some x
-    → x.phase ≡ run.Live → list_all is_settled x.jobs ≡ true
+pub run_may_end : (runs : List RunState) (r : ℕ) (x : RunState) → first_site runs ≡ Some (Whole r) → run_at runs r ≡ Some x
+    → x.phase ≡ run.Live → list_all is_finished x.jobs ≡ true
 run_may_end runs r x first at live =
     let rule = its_rule runs r x first at in
     let here = sym (ap (λ (phase : RunPhase). whole_rule_in phase runs r x) live) ∙ rule.1 in
-    (if_some (list_all is_settled x.jobs) _ rule.0 here).0
+    (if_some (list_all is_finished x.jobs) _ rule.0 here).0
 
 -- ---- a leg that begins
 
-pub leg_may_start : (runs : List RunState) (p : LegPlace) (z : LegState) → first_place runs ≡ Some (AtLeg p) → leg_at runs p ≡ Some z
+pub leg_may_start : (runs : List RunState) (p : LegSite) (z : LegState) → first_site runs ≡ Some (AtLeg p) → leg_at runs p ≡ Some z
     → z.phase ≡ leg.Waiting → may_start runs (Leg p) ≡ true
 leg_may_start runs p z first at waiting =
     let rule = rule_there runs (AtLeg p) first in
@@ -135,7 +135,7 @@ pub run_ended : (runs new : List RunState) (r : ℕ) (x : RunState) → run_at r
 run_ended runs new r x at live is =
     subst (λ o. IfSome (option_and_then (whole_rule runs r) o) (λ next. new ≡ next.runs)) (sym at)
     (subst (λ (phase : RunPhase). IfSome (whole_rule_in phase runs r x) (λ next. new ≡ next.runs)) (sym live)
-    (taken_if new (list_all is_settled x.jobs) _ is))
+    (taken_if new (list_all is_finished x.jobs) _ is))
 
 pub run_has_ended : (runs new : List RunState) (r : ℕ) (x : RunState) → run_at runs r ≡ Some x → x.phase ≡ run.Ended
     → IfSome (option_and_then (whole_rule runs r) (run_at runs r)) (λ next. new ≡ next.runs)

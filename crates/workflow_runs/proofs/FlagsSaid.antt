@@ -12,13 +12,13 @@ use Rattle.run_plan.specs.declared.planned.PlannedJob.{PlannedJob}
 use Rattle.run_states.specs.GroupOf.{RunFacts, run_facts_at}
 use Rattle.run_states.specs.LegContext.{context_at}
 use Rattle.run_states.specs.Places.{plan_at, run_at}
-use Rattle.run_states.specs.declared.place.LegPlace.{LegPlace}
+use Rattle.run_states.specs.declared.place.LegSite.{LegSite}
 use Rattle.run_states.specs.RunState.{RunState}
 use Rattle.run_states.specs.Words.{continues_on_error, is_set, is_set_for}
 use Rattle.run_states.proofs.Optional.{from_and_then}
 use Rattle.run_bindings.specs.Bindings.{RunSays, flag_for}
 use Rattle.run_bindings.specs.BoundFlags.{FlagsSay, flags_bound}
-use Rattle.run_bindings.specs.BoundGroups.{is_set_by, results_by_place}
+use Rattle.run_bindings.specs.BoundGroups.{is_set_by, results_by_index}
 use Rattle.run_bindings.specs.declared.bindings.JobBindings.{JobBindings}
 use Rattle.run_bindings.specs.declared.bindings.RunBindings.{RunBindings}
 use Rattle.run_bindings.specs.declared.groups.BoundFlag.{BoundFlag}
@@ -26,18 +26,18 @@ use Rattle.run_bindings.proofs.BoundSays.{facts_of_run, run_told}
 use Rattle.workflow_runs.proofs.KnownSays.{context_told}
 
 -- whether a failure of a leg of this job is ignored
-pub by_plan : (runs : List RunState) (p : LegPlace) (job : PlannedJob) → plan_at runs p.run p.job ≡ Some job
+pub by_plan : (runs : List RunState) (p : LegSite) (job : PlannedJob) → plan_at runs p.run p.job ≡ Some job
     → continues_on_error runs p ≡ is_set_for (context_at runs p) job p.leg
 by_plan runs p job planned = ap (λ o. option_map_or (λ (j : PlannedJob). is_set_for (context_at runs p) j p.leg) o false) planned
 
 -- if the plan has the leg, its failure is ignored if the job's flag is set in the leg's context
-pub by_flag : (runs : List RunState) (p : LegPlace) (job : PlannedJob) → plan_at runs p.run p.job ≡ Some job
+pub by_flag : (runs : List RunState) (p : LegSite) (job : PlannedJob) → plan_at runs p.run p.job ≡ Some job
     → is_some (slice_get job.legs p.leg) ≡ true → continues_on_error runs p ≡ is_set (context_at runs p) job.continue_on_error
 by_flag runs p job planned has =
     by_plan runs p job planned ∙ ap (λ b. b && is_set (context_at runs p) job.continue_on_error) has
 
 -- where the plan does not have the leg, it is not
-pub no_leg : (runs : List RunState) (p : LegPlace) (job : PlannedJob) → plan_at runs p.run p.job ≡ Some job
+pub no_leg : (runs : List RunState) (p : LegSite) (job : PlannedJob) → plan_at runs p.run p.job ≡ Some job
     → is_some (slice_get job.legs p.leg) ≡ false → continues_on_error runs p ≡ false
 no_leg runs p job planned none =
     by_plan runs p job planned ∙ ap (λ b. b && is_set (context_at runs p) job.continue_on_error) none
@@ -59,7 +59,7 @@ past_end (x ∷ xs) (suc i) none = omega (arith, past_end xs i none)
 
 -- ---- what was bound
 
-planned_there : (runs : List RunState) (p : LegPlace) (x : RunState) (job : PlannedJob) → run_at runs p.run ≡ Some x
+planned_there : (runs : List RunState) (p : LegSite) (x : RunState) (job : PlannedJob) → run_at runs p.run ≡ Some x
     → plan_at runs p.run p.job ≡ Some job → slice_get (plan_of x.admitted.body) p.job ≡ Some job
 planned_there runs p x job at planned =
     sym (ap (option_and_then (λ (run : RunState). slice_get (plan_of run.admitted.body) p.job)) at) ∙ planned
@@ -76,16 +76,16 @@ leg_of_flag run j job flags l bound says is =
     let within : l < length job.legs = omega (arith, slice_get_within flags l bound is, says.many, bounds) in
     some_within job.legs l within
 
-pub flag_said : (runs : List RunState) (p : LegPlace) (x : RunState) (job : PlannedJob) (k : RunBindings) (bound : BoundFlag)
+pub flag_said : (runs : List RunState) (p : LegSite) (x : RunState) (job : PlannedJob) (k : RunBindings) (bound : BoundFlag)
     → run_at runs p.run ≡ Some x → plan_at runs p.run p.job ≡ Some job
     → ((facts : RunFacts) → run_facts_at runs p.run ≡ Some facts → RunSays facts k)
-    → flag_for k p.job p.leg ≡ Some bound → is_set_by (results_by_place x) bound ≡ continues_on_error runs p
+    → flag_for k p.job p.leg ≡ Some bound → is_set_by (results_by_index x) bound ≡ continues_on_error runs p
 flag_said runs p x job k bound at planned says is =
     let there = planned_there runs p x job at planned in
     let facts = facts_of_run runs p.run x in
     let bindings = from_and_then (λ (a : JobBindings). slice_get a.flags p.leg) (slice_get k.jobs p.job) bound is in
     let flags = ((says facts (run_told runs p.run x at)).jobs p.job bindings.value bindings.is job there).flags in
-    flags.each p.leg bound bindings.gives (results_by_place x)
+    flags.each p.leg bound bindings.gives (results_by_index x)
     ∙ ap (λ (values : Values). is_set values job.continue_on_error) (sym (context_told runs p x job at there))
     ∙ sym (by_flag runs p job planned (leg_of_flag facts p.job job bindings.value.flags p.leg bound flags bindings.gives))
 
@@ -97,7 +97,7 @@ none_found job template flags l is many none =
     ap is_some (slice_get_past job.legs l (omega (arith, past, many, same)))
 
 -- where the job's flag is a template and none was bound for the leg, the plan does not have the leg
-pub nothing_bound : (runs : List RunState) (p : LegPlace) (x : RunState) (job : PlannedJob) (template : List Piece) (k : RunBindings)
+pub nothing_bound : (runs : List RunState) (p : LegSite) (x : RunState) (job : PlannedJob) (template : List Piece) (k : RunBindings)
     → run_at runs p.run ≡ Some x → plan_at runs p.run p.job ≡ Some job → job.continue_on_error ≡ flag.Template template
     → ((facts : RunFacts) → run_facts_at runs p.run ≡ Some facts → RunSays facts k)
     → flag_for k p.job p.leg ≡ None → continues_on_error runs p ≡ false

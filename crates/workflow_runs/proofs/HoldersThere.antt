@@ -15,7 +15,7 @@ use Rattle.run_states.specs.declared.phases.LegPhase.{LegPhase}
 use Rattle.run_states.specs.declared.phases.LegPhase.TheVariants as leg
 use Rattle.run_states.specs.declared.phases.RunPhase.{RunPhase}
 use Rattle.run_states.specs.declared.phases.RunPhase.TheVariants as run
-use Rattle.run_states.specs.declared.place.LegPlace.{LegPlace}
+use Rattle.run_states.specs.declared.place.LegSite.{LegSite}
 use Rattle.run_states.proofs.JobKeeps.{leg_in}
 use Rattle.run_states.proofs.Optional.{some_of}
 use Rattle.settling_laws.proofs.ArrivalKeeps.{one_or_another}
@@ -40,7 +40,7 @@ pub there_if_holds : (runs : List RunState) (h : Holder) → holds runs h ≡ tr
 there_if_holds runs (Run r) e = some_if (λ (x : RunState). is_live x.phase) (run_at runs r) e
 there_if_holds runs (Leg p) e = some_if (λ (x : LegState). leg_holds x.phase) (leg_at runs p) e
 
-pub there_if_new : (runs : List RunState) (p : LegPlace) → is_new_at runs p ≡ true → is_there runs (Leg p) ≡ true
+pub there_if_new : (runs : List RunState) (p : LegSite) → is_new_at runs p ≡ true → is_there runs (Leg p) ≡ true
 there_if_new runs p e = some_if (λ (x : LegState). is_new x.phase) (leg_at runs p) e
 
 -- its run is one of the runs
@@ -84,5 +84,5 @@ pub holds_not : (runs : List RunState) (h : Holder) → waits runs h ≡ true �
 holds_not runs (Run r) e = by_run_phase (run_at runs r) e
 holds_not runs (Leg p) e = by_leg_phase (leg_at runs p) e
 
-pub leg_within_there : (runs : List RunState) (p : LegPlace) (z : LegState) → leg_at runs p ≡ Some z → p.run < length runs
+pub leg_within_there : (runs : List RunState) (p : LegSite) (z : LegState) → leg_at runs p ≡ Some z → p.run < length runs
 leg_within_there runs p z at = let run = (leg_in runs p z at).place in slice_get_within runs p.run run.run run.run_is

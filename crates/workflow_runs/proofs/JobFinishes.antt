@@ -7,9 +7,9 @@ use Rattle.wf_value.specs.declared.outcome.JobResult.TheVariants as result
 use Rattle.run_states.specs.Places.{job_at, run_at, with_job}
 use Rattle.run_states.specs.Rules.{may_run, result_at}
 use Rattle.run_states.specs.RunState.{JobState, RunState}
-use Rattle.run_states.specs.Settling.{first_place}
+use Rattle.run_states.specs.Settling.{first_site}
 use Rattle.run_states.specs.SoundRuns.{RunsAreSound}
-use Rattle.run_states.specs.StateWords.{settled_as}
+use Rattle.run_states.specs.StateWords.{finished_as}
 use Rattle.run_states.specs.Words.{is_stopping}
 use Rattle.run_states.specs.declared.place.RuleSite.TheVariants.{Closing, Opening}
 use Rattle.run_states.proofs.JobKeeps.{with_job_of}
@@ -21,32 +21,32 @@ use Rattle.workflow_runs.specs.HolderChanges.{ChangesNobody}
 use Rattle.workflow_runs.proofs.FirstRules.{closes, finishes_where, opens}
 use Rattle.workflow_runs.proofs.OneChange.{changes_nobody, settled_adds, settled_keeps}
 
-nobody : (runs : List RunState) (r j : ℕ) (s : JobResult) → RunsFit runs → StayFit runs (with_job r j (settled_as s) runs)
-    → ChangesNobody runs (with_job r j (settled_as s) runs)
-nobody runs r j s fit stay = changes_nobody runs r (with_job_of j (settled_as s)) (settled_keeps s j) fit stay (settled_adds s j)
+nobody : (runs : List RunState) (r j : ℕ) (s : JobResult) → RunsFit runs → StayFit runs (with_job r j (finished_as s) runs)
+    → ChangesNobody runs (with_job r j (finished_as s) runs)
+nobody runs r j s fit stay = changes_nobody runs r (with_job_of j (finished_as s)) (settled_keeps s j) fit stay (settled_adds s j)
 
 pub job_within : (runs : List RunState) (r j : ℕ) (y : JobState) → job_at runs r j ≡ Some y → r < length runs
 job_within runs r j y at =
     let run = from_and_then (λ (x : RunState). slice_get x.jobs j) (run_at runs r) y at in slice_get_within runs r run.value run.is
 
-pub opening_within : (runs : List RunState) (r j : ℕ) → RunsAreSound runs → first_place runs ≡ Some (Opening r j) → r < length runs
+pub opening_within : (runs : List RunState) (r j : ℕ) → RunsAreSound runs → first_site runs ≡ Some (Opening r j) → r < length runs
 opening_within runs r j sound first = let so = opens runs r j (runs_that_fit runs sound) first in job_within runs r j so.job so.there
 
 -- its condition does not hold
-pub finishes_nobody : (runs : List RunState) (r j : ℕ) (b : Bool) (s : JobResult) → RunsAreSound runs → first_place runs ≡ Some (Opening r j)
+pub finishes_nobody : (runs : List RunState) (r j : ℕ) (b : Bool) (s : JobResult) → RunsAreSound runs → first_site runs ≡ Some (Opening r j)
     → may_run runs r j ≡ false → is_stopping runs r ≡ b → (if b then result.Cancelled else result.Skipped) ≡ s
-    → ChangesNobody runs (with_job r j (settled_as s) runs)
+    → ChangesNobody runs (with_job r j (finished_as s) runs)
 finishes_nobody runs r j b s sound first may stopping is =
     let fit = runs_that_fit runs sound in
     let so = opens runs r j fit first in
     nobody runs r j s fit
-    (subst (λ (k : JobResult). StayFit runs (with_job r j (settled_as k) runs)) is
+    (subst (λ (k : JobResult). StayFit runs (with_job r j (finished_as k) runs)) is
     (subst (StayFit runs) (finishes_where runs r j b may stopping) so.settles.stay))
 
 -- its legs have ended
-pub closes_nobody : (runs : List RunState) (r j : ℕ) (y : JobState) (s : JobResult) → RunsAreSound runs → first_place runs ≡ Some (Closing r j)
-    → job_at runs r j ≡ Some y → result_at runs r j y ≡ s → ChangesNobody runs (with_job r j (settled_as s) runs)
+pub closes_nobody : (runs : List RunState) (r j : ℕ) (y : JobState) (s : JobResult) → RunsAreSound runs → first_site runs ≡ Some (Closing r j)
+    → job_at runs r j ≡ Some y → result_at runs r j y ≡ s → ChangesNobody runs (with_job r j (finished_as s) runs)
 closes_nobody runs r j y s sound first at is =
     let fit = runs_that_fit runs sound in
     nobody runs r j s fit
-    (subst (λ (k : JobResult). StayFit runs (with_job r j (settled_as k) runs)) is (closes runs r j y fit first at).stay)
+    (subst (λ (k : JobResult). StayFit runs (with_job r j (finished_as k) runs)) is (closes runs r j y fit first at).stay)

@@ -11,14 +11,14 @@ use Rattle.needs_graph.specs.declared.ended.LegEnd.{LegEnd}
 use Rattle.run_states.specs.FirstOf.{first_some, placed}
 use Rattle.run_states.specs.Rules.{leg_end, outcome_of}
 use Rattle.run_states.specs.RunState.{LegState, RunState}
-use Rattle.run_states.specs.WithinRun.{failing, leg_place}
-use Rattle.run_states.specs.declared.place.LegPlace.{LegPlace}
+use Rattle.run_states.specs.WithinRun.{failing, leg_site}
+use Rattle.run_states.specs.declared.place.LegSite.{LegSite}
 use Rattle.run_states.specs.Words.{continues_on_error}
 
 -- ---- the legs that fail it
 
 -- whether the leg does
-abbrev pub fails_at : List RunState → LegPlace → LegState → Bool
+abbrev pub fails_at : List RunState → LegSite → LegState → Bool
 fails_at runs p leg = option_map_or fails_job (leg_end runs p.run p.job (p.leg, leg)) false
 
 or_found : (b : Bool) (n : ℕ) (any : Bool) (rest : Option ℕ) → any ≡ is_some rest
@@ -50,7 +50,7 @@ any_cancelled : (runs : List RunState) (r j n : ℕ) (xs : List LegState)
     ≡ list_any (λ leg. option_map_or is_cancelled (outcome_of leg.phase) false) xs
 any_cancelled runs r j n [] = refl
 any_cancelled runs r j n (x ∷ xs) =
-    one_cancelled (outcome_of x.phase) (continues_on_error runs (leg_place r j n)) (filter_map (leg_end runs r j) (enumerate_from (n + 1) xs))
+    one_cancelled (outcome_of x.phase) (continues_on_error runs (leg_site r j n)) (filter_map (leg_end runs r j) (enumerate_from (n + 1) xs))
     (list_any (λ leg. option_map_or is_cancelled (outcome_of leg.phase) false) xs) (any_cancelled runs r j (n + 1) xs)
 
 -- ---- the result

@@ -10,12 +10,12 @@ use Rattle.run_plan.specs.declared.planned.PlannedJob.{PlannedJob}
 use Rattle.run_states.specs.GroupOf.{RunFacts, run_facts_at}
 use Rattle.run_states.specs.LegContext.{context_at, context_of, nothing}
 use Rattle.run_states.specs.Places.{plan_at, run_at}
-use Rattle.run_states.specs.declared.place.LegPlace.{LegPlace}
+use Rattle.run_states.specs.declared.place.LegSite.{LegSite}
 use Rattle.run_states.specs.RunState.{RunState}
 use Rattle.run_states.specs.Words.{label_texts, labels_at}
 use Rattle.run_states.proofs.Optional.{from_and_then}
 use Rattle.run_bindings.specs.Bindings.{AreBound, JobSays, KeepsLabels, KeepsLabelsAt, RunSays}
-use Rattle.run_bindings.specs.BoundGroups.{facts_by, need_of_job, results_by_place}
+use Rattle.run_bindings.specs.BoundGroups.{facts_by, need_of_job, results_by_index}
 use Rattle.run_bindings.specs.KnownLabels.{AreAlike, KeepsTexts, short_text}
 use Rattle.run_bindings.specs.LabelNumbers.{kept_texts, texts_in, texts_of}
 use Rattle.run_bindings.specs.PlainLabels.{AreTheTexts}
@@ -31,7 +31,7 @@ use Rattle.run_bindings.proofs.ShortLabels.{alike_if_kept}
 
 -- ---- the labels of a leg of a table
 
-pub context_told : (runs : List RunState) (p : LegPlace) (x : RunState) (job : PlannedJob) → run_at runs p.run ≡ Some x
+pub context_told : (runs : List RunState) (p : LegSite) (x : RunState) (job : PlannedJob) → run_at runs p.run ≡ Some x
     → slice_get (plan_of x.admitted.body) p.job ≡ Some job → context_at runs p ≡ context_of (leg_facts_of runs p x job)
 unfolding context_at
 context_told runs p x job at planned = ap (λ o. option_map_or context_of o nothing) (leg_told runs p x job at planned)
@@ -42,7 +42,7 @@ in_any_context None texts job says is = cc
 in_any_context (Some others) texts job says is = λ values. says values ∙ same_Some others texts is
 
 -- a leg of a run whose bindings were made, with what was bound for its job
-module _ (runs : List RunState) (p : LegPlace) (x : RunState) (job : PlannedJob) (k : RunBindings) (a : JobBindings)
+module _ (runs : List RunState) (p : LegSite) (x : RunState) (job : PlannedJob) (k : RunBindings) (a : JobBindings)
     (at : run_at runs p.run ≡ Some x) (there : slice_get (plan_of x.admitted.body) p.job ≡ Some job)
     (says : (facts : RunFacts) → run_facts_at runs p.run ≡ Some facts → RunSays facts k) (requested : slice_get k.jobs p.job ≡ Some a) where
   abbrev facts : RunFacts
@@ -65,16 +65,16 @@ module _ (runs : List RunState) (p : LegPlace) (x : RunState) (job : PlannedJob)
       ∙ ap (option_map (λ (j : PlannedJob). label_texts (context_at runs p) j.labels)) there
       ∙ ap (λ (v : Values). Some (label_texts v job.labels)) (context_told runs p x job at there)
 
-  kept_of_own : (kept : ResolvedLabels) → slice_get a.labels p.leg ≡ Some kept → KeepsTexts (results_by_place x) kept own_texts
+  kept_of_own : (kept : ResolvedLabels) → slice_get a.labels p.leg ≡ Some kept → KeepsTexts (results_by_index x) kept own_texts
   kept_of_own kept found =
       kept_whatever (context_of (facts_by facts p.job job p.leg no_results)) (need_of_job (plan_of x.admitted.body) p.job) job.labels kept
-      (said.labels.each p.leg kept found) (results_by_place x) values (leg_has_results_at_last facts job p.job p.leg (results_by_place x))
+      (said.labels.each p.leg kept found) (results_by_index x) values (leg_has_results_at_last facts job p.job p.leg (results_by_index x))
 
   plain_are_own : (texts : List (List ℕ)) → a.plain ≡ Some texts → own_texts ≡ texts
   plain_are_own texts plain = in_any_context a.plain texts job said.plain plain values
 
   -- what was bound of them is kept of these texts
-  keeps_own : p.leg < length job.legs → KeepsLabels (results_by_place x) a p.leg own_texts
+  keeps_own : p.leg < length job.legs → KeepsLabels (results_by_index x) a p.leg own_texts
   keeps_own within = by (slice_get a.labels p.leg) refl
     where
       by_plain : (o : Option (List (List ℕ))) → a.plain ≡ o → slice_get a.labels p.leg ≡ None → a.plain ≡ Some own_texts
@@ -87,7 +87,7 @@ module _ (runs : List RunState) (p : LegPlace) (x : RunState) (job : PlannedJob)
           cc
 
       by : (o : Option ResolvedLabels) → slice_get a.labels p.leg ≡ o
-          → MatchOption o (a.plain ≡ Some own_texts) (λ kept. KeepsTexts (results_by_place x) kept own_texts)
+          → MatchOption o (a.plain ≡ Some own_texts) (λ kept. KeepsTexts (results_by_index x) kept own_texts)
       by (Some kept) found = kept_of_own kept found
       by None none = by_plain a.plain refl none
 
@@ -103,12 +103,12 @@ module _ (runs : List RunState) (p : LegPlace) (x : RunState) (job : PlannedJob)
       by (Some (wanted.ByResults labels)) found is = cc
 
 -- the labels of a planned leg
-pub record OwnLabels (runs : List RunState) (p : LegPlace) (x : RunState) (k : RunBindings) : Type 0 where
+pub record OwnLabels (runs : List RunState) (p : LegSite) (x : RunState) (k : RunBindings) : Type 0 where
   pub texts : List (List ℕ)
   pub are : labels_at runs p ≡ Some texts
-  pub keeps : KeepsLabelsAt (results_by_place x) k p.job p.leg texts
+  pub keeps : KeepsLabelsAt (results_by_index x) k p.job p.leg texts
 
-pub labels_kept : (runs : List RunState) (p : LegPlace) (x : RunState) (k : RunBindings) → run_at runs p.run ≡ Some x
+pub labels_kept : (runs : List RunState) (p : LegSite) (x : RunState) (k : RunBindings) → run_at runs p.run ≡ Some x
     → ((facts : RunFacts) → run_facts_at runs p.run ≡ Some facts → RunSays facts k) → PlannedLeg (plan_of x.admitted.body) p.job p.leg
     → OwnLabels runs p x k
 labels_kept runs p x k at says planned =
@@ -118,19 +118,19 @@ labels_kept runs p x k at says planned =
       texts = own_texts runs p x planned.job k bindings.0 at planned.is says bindings.1;
       are = has_own_texts runs p x planned.job k bindings.0 at planned.is says bindings.1;
       keeps = subst (λ (o : Option JobBindings). MatchOption o ⊥
-          (λ job. KeepsLabels (results_by_place x) job p.leg (own_texts runs p x planned.job k bindings.0 at planned.is says bindings.1))) (sym bindings.1)
+          (λ job. KeepsLabels (results_by_index x) job p.leg (own_texts runs p x planned.job k bindings.0 at planned.is says bindings.1))) (sym bindings.1)
           (keeps_own runs p x planned.job k bindings.0 at planned.is says bindings.1 planned.within);
     }
 
 -- ---- the known labels of a leg, whether kept for the leg or the same for all legs of its job
 
 -- the labels of a leg, which are for runners as the texts that are known
-pub record KnownLabels (runs : List RunState) (p : LegPlace) (known : List (List ℕ)) : Type 0 where
+pub record KnownLabels (runs : List RunState) (p : LegSite) (known : List (List ℕ)) : Type 0 where
   pub texts : List (List ℕ)
   pub are : labels_at runs p ≡ Some texts
   pub alike : AreAlike texts known
 
-pub texts_there : (runs : List RunState) (kept : List RunBindings) → AreBound runs kept → (p : LegPlace) (job : PlannedJob) (k : RunBindings)
+pub texts_there : (runs : List RunState) (kept : List RunBindings) → AreBound runs kept → (p : LegSite) (job : PlannedJob) (k : RunBindings)
     → (texts : List (List ℕ)) → plan_at runs p.run p.job ≡ Some job → slice_get kept p.run ≡ Some k
     → texts_of k.jobs p.job p.leg ≡ Some texts → KnownLabels runs p texts
 texts_there runs kept bound p job k texts planned is known =

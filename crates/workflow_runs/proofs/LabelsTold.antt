@@ -3,7 +3,7 @@ use Rattle.std.specs.Prelude.{◌≡◌, List, [], None, Option, Some, option_ma
 use Rattle.std.specs.Option.{option_map_or}
 use Rattle.std.proofs.Common.{ap, ◌∙◌}
 use Rattle.run_states.specs.LegContext.{LegFacts, context_at, context_of, facts_at, nothing}
-use Rattle.run_states.specs.declared.place.LegPlace.{LegPlace}
+use Rattle.run_states.specs.declared.place.LegSite.{LegSite}
 use Rattle.run_states.specs.RunState.{RunState}
 use Rattle.run_states.specs.Words.{label_texts, labels_at}
 use Rattle.run_states.proofs.LegFacts.{plan_of_facts}
@@ -14,7 +14,7 @@ labels_by : (o : Option LegFacts)
 labels_by None = refl
 labels_by (Some f) = refl
 
-pub labels_told : (runs : List RunState) (p : LegPlace)
+pub labels_told : (runs : List RunState) (p : LegSite)
     → unwrap_or (labels_at runs p) [] ≡ option_map_or (λ f. label_texts (context_of f) f.job.labels) (facts_at runs p) []
 unfolding context_at
 labels_told runs p =

@@ -20,7 +20,7 @@ use Rattle.run_states.specs.declared.holder.Holder.{Holder}
 use Rattle.run_states.specs.declared.holder.Holder.TheVariants.{Leg}
 use Rattle.run_states.specs.declared.phases.LegPhase.{LegPhase}
 use Rattle.run_states.specs.declared.phases.LegPhase.TheVariants as leg
-use Rattle.run_states.specs.declared.place.LegPlace.{LegPlace}
+use Rattle.run_states.specs.declared.place.LegSite.{LegSite}
 use Rattle.run_states.proofs.JobKeeps.{with_job_of, with_leg_of}
 use Rattle.run_bindings.specs.declared.bindings.RunBindings.{RunBindings}
 use Rattle.settling_laws.proofs.KeptBack.{RunsStillFor}
@@ -48,17 +48,17 @@ new_phase leg.Running e = cc
 new_phase leg.Stopping e = cc
 new_phase (leg.Ended o) e = cc
 
-pub leg_that_is_new : (runs : List RunState) (p : LegPlace) → is_new_at runs p ≡ true → LegIs runs p leg.New
+pub leg_that_is_new : (runs : List RunState) (p : LegSite) → is_new_at runs p ≡ true → LegIs runs p leg.New
 leg_that_is_new runs p e = by (leg_at runs p) refl e
   where
     by : (o : Option LegState) → leg_at runs p ≡ o → option_map_or (λ (x : LegState). is_new x.phase) o false ≡ true → LegIs runs p leg.New
     by None at e = cc
     by (Some x) at e = record { state = x; there = at; is = new_phase x.phase e }
 
-pub new_leg_within : (runs : List RunState) (p : LegPlace) → is_new_at runs p ≡ true → p.run < length runs
+pub new_leg_within : (runs : List RunState) (p : LegSite) → is_new_at runs p ≡ true → p.run < length runs
 new_leg_within runs p new = let z = leg_that_is_new runs p new in leg_within_there runs p z.state z.there
 
-module _ (runs : List RunState) (p : LegPlace) (new : is_new_at runs p ≡ true) (sound : RunsAreSound runs) where
+module _ (runs : List RunState) (p : LegSite) (new : is_new_at runs p ≡ true) (sound : RunsAreSound runs) where
   it : LegIs runs p leg.New
   it = leg_that_is_new runs p new
 
@@ -148,7 +148,7 @@ module _ (runs : List RunState) (p : LegPlace) (new : is_new_at runs p ≡ true)
 
 -- ---- the runs, as they are seen once it waits
 
-pub waits_then : (runs seen now : List RunState) (p : LegPlace) (was waiting : LegState) → leg_at runs p ≡ Some was
+pub waits_then : (runs seen now : List RunState) (p : LegSite) (was waiting : LegState) → leg_at runs p ≡ Some was
     → waiting ≡ leg_in_phase leg.Waiting was → seen ≡ runs → now ≡ with_run p.run (changed (change.PutLeg p.job p.leg waiting)) seen
     → now ≡ with_leg_in leg.Waiting p runs
 waits_then runs seen now p was waiting at is_waiting same is =

@@ -15,7 +15,7 @@ use Rattle.run_states.specs.StateWords.{leg_in_phase, outcome_of}
 use Rattle.run_states.specs.declared.holder.Holder.TheVariants.{Leg}
 use Rattle.run_states.specs.declared.phases.LegPhase.{LegPhase}
 use Rattle.run_states.specs.declared.phases.LegPhase.TheVariants as leg
-use Rattle.run_states.specs.declared.place.LegPlace.{LegPlace}
+use Rattle.run_states.specs.declared.place.LegSite.{LegSite}
 use Rattle.run_states.proofs.JobKeeps.{leg_in, leg_stays}
 use Rattle.run_states.proofs.Optional.{some_of}
 use Rattle.run_states.proofs.Settles.{StayFit}
@@ -64,7 +64,7 @@ held_waits_not leg.Running e = refl
 held_waits_not leg.Stopping e = refl
 held_waits_not (leg.Ended r) e = refl
 
-module _ (runs : List RunState) (p : LegPlace) (z : LegState) (o : Outcome) (sound : RunsAreSound runs) (at : leg_at runs p ≡ Some z)
+module _ (runs : List RunState) (p : LegSite) (z : LegState) (o : Outcome) (sound : RunsAreSound runs) (at : leg_at runs p ≡ Some z)
     (work : is_at_work z.phase ≡ true) where
   stays : StayFit runs (with_leg p (leg_in_phase (leg.Ended o)) runs)
   stays =
@@ -79,7 +79,7 @@ module _ (runs : List RunState) (p : LegPlace) (z : LegState) (o : Outcome) (sou
 
 -- ---- a leg is given to a runner
 
-module _ (runs : List RunState) (p : LegPlace) (lease : ℕ) (sound : RunsAreSound runs) (holding : holds runs (Leg p) ≡ true) where
+module _ (runs : List RunState) (p : LegSite) (lease : ℕ) (sound : RunsAreSound runs) (holding : holds runs (Leg p) ≡ true) where
   held_leg : (z : LegState) × (leg_at runs p ≡ Some z)
   held_leg = some_of (leg_at runs p) (there_if_holds runs (Leg p) holding)
 

@@ -6,8 +6,8 @@ use Rattle.std.proofs.lemmas.Option.{same_Some}
 use Rattle.label_lists.specs.Lists.{HasPlace, ListsState, OnlyGrows, PutsOffer, may_offer}
 use Rattle.run_states.specs.Changes.{offered_by}
 use Rattle.run_states.specs.Fitting.{is_ready}
-use Rattle.run_states.specs.Places.{leg_place, run_at}
-use Rattle.run_states.specs.declared.place.LegPlace.{LegPlace}
+use Rattle.run_states.specs.Places.{leg_site, run_at}
+use Rattle.run_states.specs.declared.place.LegSite.{LegSite}
 use Rattle.run_states.specs.RunState.{RunState}
 use Rattle.run_states.specs.declared.change.Change.{Change}
 use Rattle.run_states.specs.declared.change.Change.TheVariants as change
@@ -32,7 +32,7 @@ offered_grown runs bindings old new grows are = record {
 
 -- ---- after a change of one run
 
-offered_here : (r : ℕ) (c : Change) (p : LegPlace) → offered_by r c ≡ Some p → p.run ≡ r
+offered_here : (r : ℕ) (c : Change) (p : LegSite) → offered_by r c ≡ Some p → p.run ≡ r
 offered_here r (change.Phase phase) p is = cc
 offered_here r (change.Open j) p is = cc
 offered_here r (change.Settle j settled) p is = cc
@@ -40,23 +40,23 @@ offered_here r change.Cancel p is = cc
 offered_here r change.RequestStop p is = cc
 offered_here r (change.PutLeg j l z) p is = by (is_ready z.phase) is
   where
-    by : (b : Bool) → (if b then Some (leg_place r j l) else None) ≡ Some p → p.run ≡ r
-    by true e = sym (ap (λ (q : LegPlace). q.run) (same_Some (leg_place r j l) p e))
+    by : (b : Bool) → (if b then Some (leg_site r j l) else None) ≡ Some p → p.run ≡ r
+    by true e = sym (ap (λ (q : LegSite). q.run) (same_Some (leg_site r j l) p e))
     by false e = cc
 
-if_it : (one : Option LegPlace) (P : LegPlace → Type 0) → IfSome one P → (p : LegPlace) → one ≡ Some p → P p
+if_it : (one : Option LegSite) (P : LegSite → Type 0) → IfSome one P → (p : LegSite) → one ≡ Some p → P p
 if_it None P says p is = cc
 if_it (Some q) P says p is = subst P (same_Some q p is) says
 
 -- the run of the leg that becomes ready can be marked for its list
 pub has_place : (lists : ListsState) (r : ℕ) (c : Change) (requested : RunBindings) → AreListsOf lists r requested.jobs requested.lists
-    → (one : Option LegPlace) → one ≡ offered_by r c → IfSome one (λ p. HasPlace lists (list_number requested.lists p.job p.leg) p.run)
+    → (one : Option LegSite) → one ≡ offered_by r c → IfSome one (λ p. HasPlace lists (list_number requested.lists p.job p.leg) p.run)
 has_place lists r c requested are None is = tt
 has_place lists r c requested are (Some p) is =
     subst (λ (s : ℕ). HasPlace lists (list_number requested.lists p.job p.leg) s) (sym (offered_here r c p (sym is))) (are p.job p.leg).place
 
 pub offered_after : (runs next : List RunState) (bindings : List RunBindings) (old new : ListsState) (r : ℕ) (c : Change) (requested : RunBindings)
-    → slice_get bindings r ≡ Some requested → ((p : LegPlace) → IsReadyAt next p → WasReady runs (offered_by r c) p)
+    → slice_get bindings r ≡ Some requested → ((p : LegSite) → IsReadyAt next p → WasReady runs (offered_by r c) p)
     → IfSome (offered_by r c) (IsOffered new requested) → OnlyMarks old new → LegsAreOffered runs bindings old → LegsAreOffered next bindings new
 offered_after runs next bindings old new r c requested requested_at before itself marks are = record {
   numbers = (λ s kept at.
@@ -73,7 +73,7 @@ offered_after runs next bindings old new r c requested requested_at before itsel
 
 -- ---- a run in which no ready leg has a number
 
-ready_there_in : (runs : List RunState) (p : LegPlace) (x : RunState) → run_at runs p.run ≡ Some x → IsReadyAt runs p
+ready_there_in : (runs : List RunState) (p : LegSite) (x : RunState) → run_at runs p.run ≡ Some x → IsReadyAt runs p
     → is_ready_in x.jobs p.job p.leg ≡ true
 ready_there_in runs p x here ready = sym (ap (passes (run_passes is_ready p.job p.leg)) here) ∙ sym (by_run is_ready runs p) ∙ ready
 
@@ -137,10 +137,10 @@ module _ (runs next : List RunState) (bindings bindings' : List RunBindings) (ol
         | inr other ↦ are.numbers s kept (sym (other_requests s other) ∙ at)
       ]
 
-  ready_in_it : (p : LegPlace) → p.run ≡ r → IsReadyAt next p → is_ready_in x.jobs p.job p.leg ≡ true
+  ready_in_it : (p : LegSite) → p.run ≡ r → IsReadyAt next p → is_ready_in x.jobs p.job p.leg ≡ true
   ready_in_it p here ready = ready_there_in next p x (ap (run_at next) here ∙ run_there) ready
 
-  still_ready : (p : LegPlace) → (p.run ≡ r → ⊥) → IsReadyAt next p → IsReadyAt runs p
+  still_ready : (p : LegSite) → (p.run ≡ r → ⊥) → IsReadyAt next p → IsReadyAt runs p
   still_ready p other ready =
       by_run is_ready runs p
       ∙ ap (passes (run_passes is_ready p.job p.leg)) (sym (other_runs p.run other))

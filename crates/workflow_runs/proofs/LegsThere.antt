@@ -4,7 +4,7 @@ use Rattle.std.specs.List.{AllByRecursion}
 use Rattle.std.proofs.Common.{ap, ◌∙◌}
 use Rattle.run_states.specs.FirstOf.{placed}
 use Rattle.run_states.specs.PlacedLegs.{PlacedLeg, placed_leg}
-use Rattle.run_states.specs.Places.{job_at, leg_at, leg_place}
+use Rattle.run_states.specs.Places.{job_at, leg_at, leg_site}
 use Rattle.run_states.specs.RunState.{JobState, LegState, RunState}
 use Rattle.run_states.proofs.Found.{all_weaken, placed_get}
 use Rattle.run_states.proofs.Optional.{from_map}
@@ -19,7 +19,7 @@ mapped P f (x ∷ xs) all = (all.0, mapped P f xs all.1)
 -- a leg of these legs of a job
 pub leg_of_them : (runs : List RunState) (r j : ℕ) (legs : List LegState) (l : ℕ) (z : LegState)
     → option_map (λ (job : JobState). job.legs) (job_at runs r j) ≡ Some legs → slice_get legs l ≡ Some z
-    → leg_at runs (leg_place r j l) ≡ Some z
+    → leg_at runs (leg_site r j l) ≡ Some z
 leg_of_them runs r j legs l z are at =
     let job = from_map (λ (y : JobState). y.legs) (job_at runs r j) legs are in
     ap (option_and_then (λ (y : JobState). slice_get y.legs l)) job.is ∙ ap (λ (zs : List LegState). slice_get zs l) job.gives ∙ at

@@ -15,8 +15,8 @@ use Rattle.run_states.specs.Groups.{is_in, is_pending_in, leg_holds, leg_waits, 
 use Rattle.run_states.specs.Resuming.{apply_at}
 use Rattle.run_states.specs.Parallel.{is_at_work}
 use Rattle.run_states.specs.PlacedLegs.{PlacedLeg, placed_legs_of_run}
-use Rattle.run_states.specs.Places.{leg_at, leg_place}
-use Rattle.run_states.specs.declared.place.LegPlace.{LegPlace}
+use Rattle.run_states.specs.Places.{leg_at, leg_site}
+use Rattle.run_states.specs.declared.place.LegSite.{LegSite}
 use Rattle.run_states.specs.RunState.{JobState, LegState, RunState}
 use Rattle.run_states.specs.StateWords.{is_live}
 use Rattle.run_states.specs.WithinRun.{lease_in_run}
@@ -63,7 +63,7 @@ at_work_holds a_leg.Stopping e = refl
 at_work_holds (a_leg.Ended r) e = cc
 
 module _ (runs : List RunState) (lease : ℕ) (only : OnlyAtWork runs lease) where
-  not_held : (p : LegPlace) (leg : LegState) → leg_at runs p ≡ Some leg → is_active_leg leg ≡ false → has_lease lease leg ≡ false
+  not_held : (p : LegSite) (leg : LegState) → leg_at runs p ≡ Some leg → is_active_leg leg ≡ false → has_lease lease leg ≡ false
   not_held p leg at none = by leg.lease refl
     where
       holds_not : leg_holds leg.phase ≡ false
@@ -85,11 +85,11 @@ module _ (runs : List RunState) (lease : ℕ) (only : OnlyAtWork runs lease) whe
           → option_and_then (lease_in_run lease i) o ≡ None
       by None at_run e = refl
       by (Some x) at_run e =
-          let leased : PlacedLeg → Option LegPlace = λ y. if has_lease lease y.leg then Some y.place else None in
+          let leased : PlacedLeg → Option LegSite = λ y. if has_lease lease y.leg then Some y.place else None in
           first_some_same leased (λ y. None) (placed_legs_of_run (i, x))
           (each_in_run (λ y. leased y ≡ None) i x
-          (λ j l job leg at_job at_leg. ap (λ b. if b then Some (leg_place i j l) else None)
-          (not_held (leg_place i j l) leg (leg_there runs i j x job at_run at_job l leg at_leg) (leg_rests x j l job leg e at_job at_leg))))
+          (λ j l job leg at_job at_leg. ap (λ b. if b then Some (leg_site i j l) else None)
+          (not_held (leg_site i j l) leg (leg_there runs i j x job at_run at_job l leg at_leg) (leg_rests x j l job leg e at_job at_leg))))
           ∙ nothing (placed_legs_of_run (i, x))
 
 -- ---- the holders of a group

@@ -12,8 +12,8 @@ use Rattle.run_states.specs.Fitting.{has_labels, is_ready, is_served}
 use Rattle.run_states.specs.LegContext.{context_at}
 use Rattle.run_states.specs.Resuming.{NoneBefore, apply_at}
 use Rattle.run_states.specs.Parallel.{has_room}
-use Rattle.run_states.specs.Places.{leg_at, leg_place, plan_at, run_at}
-use Rattle.run_states.specs.declared.place.LegPlace.{LegPlace}
+use Rattle.run_states.specs.Places.{leg_at, leg_site, plan_at, run_at}
+use Rattle.run_states.specs.declared.place.LegSite.{LegSite}
 use Rattle.run_states.specs.RunState.{JobState, LegState, RunState}
 use Rattle.run_states.specs.WithinRun.{fit_in_job, fit_in_run, served_in_job}
 use Rattle.run_states.specs.Words.{label_texts, labels_at}
@@ -26,10 +26,10 @@ use Rattle.workflow_runs.proofs.KnownSays.{KnownLabels, texts_there}
 use Rattle.run_bindings.proofs.LabelNumbers.{as_long}
 use Rattle.workflow_runs.proofs.NoneActive.{none_placed}
 
-unplanned : (runs : List RunState) (p : LegPlace) → plan_at runs p.run p.job ≡ None → labels_at runs p ≡ None
+unplanned : (runs : List RunState) (p : LegSite) → plan_at runs p.run p.job ≡ None → labels_at runs p ≡ None
 unplanned runs p none = ap (option_map (λ (planned : PlannedJob). label_texts (context_at runs p) planned.labels)) none
 
-none_taken : (b : Bool) (o : Option LegPlace) → o ≡ None → (if b then o else None) ≡ None
+none_taken : (b : Bool) (o : Option LegSite) → o ≡ None → (if b then o else None) ≡ None
 none_taken true o e = e
 none_taken false o e = refl
 
@@ -37,11 +37,11 @@ module _ (labels : List (List ℕ)) (runs : List RunState) (bindings : List RunB
     (are : LegsAreOffered runs bindings lists) (i : ℕ) (none : (n : ℕ) → MayServe lists labels n → may_offer lists n i ≡ false)
     (kept : RunBindings) (requested : slice_get bindings i ≡ Some kept) where
   -- the runner cannot serve a ready leg of it
-  misfits : (j l : ℕ) → IsReadyAt runs (leg_place i j l) → is_served labels runs (leg_place i j l) ≡ false
+  misfits : (j l : ℕ) → IsReadyAt runs (leg_site i j l) → is_served labels runs (leg_site i j l) ≡ false
   misfits j l ready = by_plan (plan_at runs i j) refl
     where
-      p : LegPlace
-      p = leg_place i j l
+      p : LegSite
+      p = leg_site i j l
 
       n : ℕ
       n = list_number kept.lists j l
@@ -74,14 +74,14 @@ module _ (labels : List (List ℕ)) (runs : List RunState) (bindings : List RunB
             | inr says ↦ by_texts job planned (texts_of kept.jobs j l) refl says
           ]
 
-  leg_passed : (j : ℕ) (y : JobState) (l : ℕ) (z : LegState) → leg_at runs (leg_place i j l) ≡ Some z → (b : Bool) → is_ready z.phase ≡ b
-      → (if is_ready z.phase && is_served labels runs (leg_place i j l) then Some (leg_place i j l) else None) ≡ None
+  leg_passed : (j : ℕ) (y : JobState) (l : ℕ) (z : LegState) → leg_at runs (leg_site i j l) ≡ Some z → (b : Bool) → is_ready z.phase ≡ b
+      → (if is_ready z.phase && is_served labels runs (leg_site i j l) then Some (leg_site i j l) else None) ≡ None
   leg_passed j y l z at true is =
-      let ready : IsReadyAt runs (leg_place i j l) = ap (λ o. option_map_or (λ (leg : LegState). is_ready leg.phase) o false) at ∙ is in
-      ap (λ b. if b && is_served labels runs (leg_place i j l) then Some (leg_place i j l) else None) is
-      ∙ ap (λ b. if b then Some (leg_place i j l) else None) (misfits j l ready)
+      let ready : IsReadyAt runs (leg_site i j l) = ap (λ o. option_map_or (λ (leg : LegState). is_ready leg.phase) o false) at ∙ is in
+      ap (λ b. if b && is_served labels runs (leg_site i j l) then Some (leg_site i j l) else None) is
+      ∙ ap (λ b. if b then Some (leg_site i j l) else None) (misfits j l ready)
   leg_passed j y l z at false is =
-      ap (λ b. if b && is_served labels runs (leg_place i j l) then Some (leg_place i j l) else None) is
+      ap (λ b. if b && is_served labels runs (leg_site i j l) then Some (leg_site i j l) else None) is
 
   job_passed : (x : RunState) → run_at runs i ≡ Some x → (j : ℕ) (y : JobState) → slice_get x.jobs j ≡ Some y
       → fit_in_job labels runs i j y ≡ None
@@ -89,7 +89,7 @@ module _ (labels : List (List ℕ)) (runs : List RunState) (bindings : List RunB
       none_taken (has_room runs i j y) (served_in_job labels runs i j y)
       (none_placed _ y.legs
       (λ l z leg.
-      leg_passed j y l z (leg_in_job runs (leg_place i j l) y (job_in_run runs i j x here ∙ at) ∙ leg) (is_ready z.phase) refl))
+      leg_passed j y l z (leg_in_job runs (leg_site i j l) y (job_in_run runs i j x here ∙ at) ∙ leg) (is_ready z.phase) refl))
 
   run_passed : (x : RunState) → run_at runs i ≡ Some x → fit_in_run labels runs i x ≡ None
   run_passed x here = none_placed _ x.jobs (λ j y at. job_passed x here j y at)

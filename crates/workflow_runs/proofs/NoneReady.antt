@@ -9,24 +9,24 @@ use Rattle.run_states.specs.ActiveRuns.{has_ready_leg}
 use Rattle.run_states.specs.FirstOf.{first_some}
 use Rattle.run_states.specs.Fitting.{is_ready, is_served}
 use Rattle.run_states.specs.Parallel.{has_room}
-use Rattle.run_states.specs.Places.{leg_place}
-use Rattle.run_states.specs.declared.place.LegPlace.{LegPlace}
+use Rattle.run_states.specs.Places.{leg_site}
+use Rattle.run_states.specs.declared.place.LegSite.{LegSite}
 use Rattle.run_states.specs.RunState.{JobState, LegState, RunState}
 use Rattle.run_states.specs.WithinRun.{fit_in_job, served_in_job}
 
 module _ (labels : List (List ℕ)) (runs : List RunState) (r : ℕ) where
   none_served : (j n : ℕ) (legs : List LegState) → list_any (λ l. is_ready l.phase) legs ≡ false
-      → first_some (λ l. if is_ready l.1.phase && is_served labels runs (leg_place r j l.0) then Some (leg_place r j l.0) else None)
+      → first_some (λ l. if is_ready l.1.phase && is_served labels runs (leg_site r j l.0) then Some (leg_site r j l.0) else None)
       (enumerate_from n legs) ≡ None
   none_served j n [] none = refl
   none_served j n (leg ∷ legs) none =
       let parts = or_parts (is_ready leg.phase) (list_any (λ l. is_ready l.phase) legs) none in
-      ap (λ b. option_or (if b && is_served labels runs (leg_place r j n) then Some (leg_place r j n) else None)
-      (first_some (λ l. if is_ready l.1.phase && is_served labels runs (leg_place r j l.0) then Some (leg_place r j l.0) else None)
+      ap (λ b. option_or (if b && is_served labels runs (leg_site r j n) then Some (leg_site r j n) else None)
+      (first_some (λ l. if is_ready l.1.phase && is_served labels runs (leg_site r j l.0) then Some (leg_site r j l.0) else None)
       (enumerate_from (n + 1) legs))) parts.0
       ∙ none_served j (n + 1) legs parts.1
 
-  none_taken : (b : Bool) (o : Option LegPlace) → o ≡ None → (if b then o else None) ≡ None
+  none_taken : (b : Bool) (o : Option LegSite) → o ≡ None → (if b then o else None) ≡ None
   none_taken true o e = e
   none_taken false o e = refl
 

@@ -8,12 +8,12 @@ use Rattle.run_states.specs.GroupOf.{cancels_in_progress, run_cancels}
 use Rattle.run_states.specs.Groups.{holds, leg_holds, leg_waits, run_waits, waits}
 use Rattle.run_states.specs.Places.{leg_at, run_at, with_leg, with_run}
 use Rattle.run_states.specs.RunState.{LegState, RunState}
-use Rattle.run_states.specs.StateWords.{is_blocked, is_live, is_new, run_in_phase, settled_as}
+use Rattle.run_states.specs.StateWords.{is_blocked, is_live, is_new, run_in_phase, finished_as}
 use Rattle.run_states.specs.declared.holder.Holder.{Holder}
 use Rattle.run_states.specs.declared.holder.Holder.TheVariants.{Run, Leg}
 use Rattle.run_states.specs.declared.phases.LegPhase.{LegPhase}
 use Rattle.run_states.specs.declared.phases.RunPhase.{RunPhase}
-use Rattle.run_states.specs.declared.place.LegPlace.{LegPlace}
+use Rattle.run_states.specs.declared.place.LegSite.{LegSite}
 use Rattle.run_states.proofs.Changed.{at_another, length-changed_at}
 use Rattle.run_states.proofs.JobKeeps.{leg_elsewhere, leg_in, with_job_of, with_leg_of}
 use Rattle.run_states.proofs.RunFits.{RunsFit}
@@ -102,7 +102,7 @@ same_holders runs r f fit stay adds =
 -- ---- a leg is set
 
 -- one that was read is written back as another
-pub leg_written : (runs : List RunState) (p : LegPlace) (z new : LegState) (f : LegState → LegState) → leg_at runs p ≡ Some z → new ≡ f z
+pub leg_written : (runs : List RunState) (p : LegSite) (z new : LegState) (f : LegState → LegState) → leg_at runs p ≡ Some z → new ≡ f z
     → with_leg p (λ _. new) runs ≡ with_leg p f runs
 leg_written runs p z new f at is = ap (λ (x : LegState). with_leg p (λ _. x) runs) is ∙ with_leg_read runs p z f at
 
@@ -115,7 +115,7 @@ leg_adds f j l weak = record {
       (λ y now. sym (ap (λ n. is_blocked y.phase && nat_eq n 0) (length-changed_at l f y.legs)) ∙ now) j x.jobs i e);
 }
 
-module _ (runs : List RunState) (p : LegPlace) (z : LegState) (f : LegState → LegState) (was : leg_at runs p ≡ Some z) where
+module _ (runs : List RunState) (p : LegSite) (z : LegState) (f : LegState → LegState) (was : leg_at runs p ≡ Some z) where
   pub leg_others : (h : Holder) → (h ≡ Leg p → ⊥) → StaysAs runs (with_leg p f runs) h
   leg_others (Run s) other = record {
     waits = same_reading (λ (x : RunState). run_waits x.phase) false (with_job_of p.job (with_leg_of p.leg f)) (λ x. refl) p.run runs s;
@@ -175,17 +175,17 @@ module _ (runs : List RunState) (r : ℕ) (f : RunState → RunState) (keeps : K
   changes_nobody fit stay adds = record { same = same_holders runs r f fit stay adds; stay = all_stay }
 
 -- a job finishes
-pub settled_adds : (settled : JobResult) (j : ℕ) → AddsNothing (with_job_of j (settled_as settled))
+pub settled_adds : (settled : JobResult) (j : ℕ) → AddsNothing (with_job_of j (finished_as settled))
 settled_adds settled j = record {
-  legs = (λ i l x e. passed_changed (job_passes any_phase l) (settled_as settled) (λ y now. now) j x.jobs i e);
-  new_legs = (λ i l x e. passed_changed (job_passes is_new l) (settled_as settled) (λ y now. now) j x.jobs i e);
-  blocked = (λ i x e. passed_changed is_unopened (settled_as settled) (λ y now. absurd (true≢false (sym now))) j x.jobs i e);
+  legs = (λ i l x e. passed_changed (job_passes any_phase l) (finished_as settled) (λ y now. now) j x.jobs i e);
+  new_legs = (λ i l x e. passed_changed (job_passes is_new l) (finished_as settled) (λ y now. now) j x.jobs i e);
+  blocked = (λ i x e. passed_changed is_unopened (finished_as settled) (λ y now. absurd (true≢false (sym now))) j x.jobs i e);
 }
 
-pub settled_keeps : (settled : JobResult) (j : ℕ) → KeepsPhases (with_job_of j (settled_as settled))
+pub settled_keeps : (settled : JobResult) (j : ℕ) → KeepsPhases (with_job_of j (finished_as settled))
 settled_keeps settled j = record {
   run = (λ x. refl);
-  legs = (λ test i l x. same_reading (job_passes test l) false (settled_as settled) (λ y. refl) j x.jobs i);
+  legs = (λ test i l x. same_reading (job_passes test l) false (finished_as settled) (λ y. refl) j x.jobs i);
 }
 
 -- a run is asked to stop

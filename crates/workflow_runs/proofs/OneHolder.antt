@@ -11,7 +11,7 @@ use Rattle.run_states.specs.Groups.{holds, leg_holds, leg_waits, may_start, run_
 use Rattle.run_states.specs.Places.{leg_at, run_at, with_leg, with_run}
 use Rattle.run_states.specs.RunState.{JobState, LegState, RunState}
 use Rattle.run_states.specs.SoundRuns.{PhaseFits, RunsAreSound}
-use Rattle.run_states.specs.StateWords.{is_live, is_new, is_settled, leg_in_phase, run_in_phase, settled_as}
+use Rattle.run_states.specs.StateWords.{is_live, is_new, is_finished, leg_in_phase, run_in_phase, finished_as}
 use Rattle.run_states.specs.Stops.{cancelled, stopped, stopped_in, stopped_phase, stopped_run}
 use Rattle.run_states.specs.declared.holder.Holder.{Holder}
 use Rattle.run_states.specs.declared.holder.Holder.TheVariants.{Run, Leg}
@@ -19,7 +19,7 @@ use Rattle.run_states.specs.declared.phases.LegPhase.{LegPhase}
 use Rattle.run_states.specs.declared.phases.LegPhase.TheVariants as leg
 use Rattle.run_states.specs.declared.phases.RunPhase.{RunPhase}
 use Rattle.run_states.specs.declared.phases.RunPhase.TheVariants as run
-use Rattle.run_states.specs.declared.place.LegPlace.{LegPlace}
+use Rattle.run_states.specs.declared.place.LegSite.{LegSite}
 use Rattle.run_states.proofs.Changed.{at_another, at_changed}
 use Rattle.run_states.proofs.JobKeeps.{leg_in, leg_now, with_job_of, with_leg_of}
 use Rattle.run_states.proofs.Optional.{each_passes}
@@ -41,7 +41,7 @@ pub record RunIn (runs : List RunState) (r : ℕ) (phase : RunPhase) : Type 0 wh
   pub there : run_at runs r ≡ Some state
   pub is : state.phase ≡ phase
 
-pub record LegIs (runs : List RunState) (p : LegPlace) (phase : LegPhase) : Type 0 where
+pub record LegIs (runs : List RunState) (p : LegSite) (phase : LegPhase) : Type 0 where
   pub state : LegState
   pub there : leg_at runs p ≡ Some state
   pub is : state.phase ≡ phase
@@ -66,7 +66,7 @@ run_that_waits runs r e = by (run_at runs r) refl e
     by None at e = cc
     by (Some x) at e = record { state = x; there = at; is = waiting_phase x.phase e }
 
-pub leg_that_waits : (runs : List RunState) (p : LegPlace) → waits runs (Leg p) ≡ true → LegIs runs p leg.Waiting
+pub leg_that_waits : (runs : List RunState) (p : LegSite) → waits runs (Leg p) ≡ true → LegIs runs p leg.Waiting
 leg_that_waits runs p e = by (leg_at runs p) refl e
   where
     by : (o : Option LegState) → leg_at runs p ≡ o → option_map_or (λ (x : LegState). leg_waits x.phase) o false ≡ true → LegIs runs p leg.Waiting
@@ -83,7 +83,7 @@ run_test : (runs : List RunState) (r : ℕ) (f : RunState → RunState) (x : Run
     → option_map_or test (run_at (with_run r f runs) r) false ≡ test (f x)
 run_test runs r f x test at = ap (λ o. option_map_or test o false) (run_after runs r f x at)
 
-leg_test : (runs : List RunState) (p : LegPlace) (f : LegState → LegState) (z : LegState) (test : LegState → Bool) → leg_at runs p ≡ Some z
+leg_test : (runs : List RunState) (p : LegSite) (f : LegState → LegState) (z : LegState) (test : LegState → Bool) → leg_at runs p ≡ Some z
     → option_map_or test (leg_at (with_leg p f runs) p) false ≡ test (f z)
 leg_test runs p f z test at = ap (λ o. option_map_or test o false) (leg_now runs p z f (leg_in runs p z at))
 
@@ -105,12 +105,12 @@ run_starts runs r sound waiting may =
     }
 
 pub run_ends : (runs : List RunState) (r : ℕ) (x : RunState) → RunsAreSound runs → run_at runs r ≡ Some x → x.phase ≡ run.Live
-    → list_all is_settled x.jobs ≡ true → EndsOnly (Run r) runs (with_run r (run_in_phase run.Ended) runs)
+    → list_all is_finished x.jobs ≡ true → EndsOnly (Run r) runs (with_run r (run_in_phase run.Ended) runs)
 run_ends runs r x sound at live all =
     let fit = runs_that_fit runs sound in
     let f = run_in_phase run.Ended in
     let held : holds runs (Run r) ≡ true = ap (λ o. option_map_or (λ (y : RunState). is_live y.phase) o false) at ∙ ap is_live live in
-    let fits : PhaseFits run.Ended x.stopping x.jobs = λ j y here. each_passes is_settled x.jobs j y all here in
+    let fits : PhaseFits run.Ended x.stopping x.jobs = λ j y here. each_passes is_finished x.jobs j y all here in
     record {
       same = same_holders runs r f fit (phase_settles runs r x run.Ended fit at fits).stay (phase_adds run.Ended);
       there = there_if_holds runs (Run r) held;
@@ -121,7 +121,7 @@ run_ends runs r x sound at live all =
 
 -- ---- a leg begins
 
-pub leg_starts : (runs : List RunState) (p : LegPlace) → RunsAreSound runs → waits runs (Leg p) ≡ true → may_start runs (Leg p) ≡ true
+pub leg_starts : (runs : List RunState) (p : LegSite) → RunsAreSound runs → waits runs (Leg p) ≡ true → may_start runs (Leg p) ≡ true
     → StartsOnly (Leg p) runs (with_leg p (leg_in_phase leg.Ready) runs)
 leg_starts runs p sound waiting may =
     let fit = runs_that_fit runs sound in
@@ -140,7 +140,7 @@ leg_starts runs p sound waiting may =
 
 -- ---- a leg that fits in its new phase, which is not one of those that wait or hold, ends
 
-pub leg_ends : (runs : List RunState) (p : LegPlace) (z : LegState) (f : LegState → LegState) → RunsAreSound runs → leg_at runs p ≡ Some z
+pub leg_ends : (runs : List RunState) (p : LegSite) (z : LegState) (f : LegState → LegState) → RunsAreSound runs → leg_at runs p ≡ Some z
     → StayFit runs (with_leg p f runs) → leg_waits (f z).phase ≡ false → leg_holds (f z).phase ≡ false → Weakens (leg_passes is_new) f
     → EndsOnly (Leg p) runs (with_leg p f runs)
 leg_ends runs p z f sound at stay waits_not holds_not weak = record {
@@ -153,7 +153,7 @@ leg_ends runs p z f sound at stay waits_not holds_not weak = record {
 
 -- ---- a leg changes and waits and holds as before
 
-pub leg_within : (runs : List RunState) (p : LegPlace) (z : LegState) (f : LegState → LegState) → RunsAreSound runs → leg_at runs p ≡ Some z
+pub leg_within : (runs : List RunState) (p : LegSite) (z : LegState) (f : LegState → LegState) → RunsAreSound runs → leg_at runs p ≡ Some z
     → StayFit runs (with_leg p f runs) → leg_waits (f z).phase ≡ leg_waits z.phase → leg_holds (f z).phase ≡ leg_holds z.phase
     → Weakens (leg_passes is_new) f → ChangesNobody runs (with_leg p f runs)
 leg_within runs p z f sound at stay waits_same holds_same weak = record {
@@ -172,9 +172,9 @@ leg_within runs p z f sound at stay waits_same holds_same weak = record {
 -- ---- a waiting run is cancelled
 
 cancelled_legs : (test : LegPhase → Bool) (j l : ℕ) (x : RunState) → run_passes test j l (cancelled x) ≡ run_passes test j l x
-cancelled_legs test j l x = ap (passes (job_passes test l)) (slice_get-map (settled_as result.Cancelled) x.jobs j) ∙ by (slice_get x.jobs j)
+cancelled_legs test j l x = ap (passes (job_passes test l)) (slice_get-map (finished_as result.Cancelled) x.jobs j) ∙ by (slice_get x.jobs j)
   where
-    by : (o : Option JobState) → passes (job_passes test l) (option_map (settled_as result.Cancelled) o) ≡ passes (job_passes test l) o
+    by : (o : Option JobState) → passes (job_passes test l) (option_map (finished_as result.Cancelled) o) ≡ passes (job_passes test l) o
     by None = refl
     by (Some y) = refl
 
@@ -182,7 +182,7 @@ cancelled_adds : AddsNothing cancelled
 cancelled_adds = record {
   legs = (λ j l x e. sym (cancelled_legs any_phase j l x) ∙ e);
   new_legs = (λ j l x e. sym (cancelled_legs is_new j l x) ∙ e);
-  blocked = (λ j x e. passed_map is_unopened (settled_as result.Cancelled) (λ y now. absurd (true≢false (sym now))) x.jobs j e);
+  blocked = (λ j x e. passed_map is_unopened (finished_as result.Cancelled) (λ y now. absurd (true≢false (sym now))) x.jobs j e);
 }
 
 cancelled_others : (runs : List RunState) (r : ℕ) (h : Holder) → (h ≡ Run r → ⊥) → StaysAs runs (with_run r cancelled runs) h
@@ -235,7 +235,7 @@ stopped_not_new leg.Running e = cc
 stopped_not_new leg.Stopping e = cc
 stopped_not_new (leg.Ended o) e = cc
 
-pub leg_is_stopped : (runs : List RunState) (p : LegPlace) (z : LegState) → RunsAreSound runs → leg_at runs p ≡ Some z
+pub leg_is_stopped : (runs : List RunState) (p : LegSite) (z : LegState) → RunsAreSound runs → leg_at runs p ≡ Some z
     → leg_waits (stopped_phase z.phase) ≡ false → leg_holds (stopped_phase z.phase) ≡ false → EndsOnly (Leg p) runs (with_leg p stopped runs)
 leg_is_stopped runs p z sound at waits_not holds_not =
     leg_ends runs p z stopped sound at (leg_stop_settles runs p (runs_that_fit runs sound)).stay waits_not holds_not

@@ -15,7 +15,7 @@ use Rattle.run_states.specs.GroupOf.{run_facts_at}
 use Rattle.run_states.specs.Places.{job_at, run_at, with_job, with_run}
 use Rattle.run_states.specs.Rules.{may_run}
 use Rattle.run_states.specs.RunState.{JobState, LegState, RunState}
-use Rattle.run_states.specs.Settling.{first_place}
+use Rattle.run_states.specs.Settling.{first_site}
 use Rattle.run_states.specs.SoundRuns.{LegsFit, RunsAreSound}
 use Rattle.run_states.specs.StateWords.{is_blocked, opened}
 use Rattle.run_states.specs.Words.{planned_legs}
@@ -24,7 +24,7 @@ use Rattle.run_states.specs.declared.holder.Holder.{Holder}
 use Rattle.run_states.specs.declared.holder.Holder.TheVariants.{Leg}
 use Rattle.run_states.specs.declared.phases.JobPhase.{JobPhase}
 use Rattle.run_states.specs.declared.phases.JobPhase.TheVariants as job
-use Rattle.run_states.specs.declared.place.LegPlace.{LegPlace}
+use Rattle.run_states.specs.declared.place.LegSite.{LegSite}
 use Rattle.run_states.specs.declared.place.RuleSite.TheVariants.{Opening}
 use Rattle.run_states.proofs.Changed.{at_changed}
 use Rattle.run_states.proofs.JobKeeps.{with_job_of}
@@ -33,7 +33,7 @@ use Rattle.run_states.proofs.RunFits.{RunsFit}
 use Rattle.run_states.proofs.Settles.{StayFit}
 use Rattle.run_states.proofs.Transitions.{changed_same}
 use Rattle.run_bindings.specs.Bindings.{AreBound, group_request_of}
-use Rattle.run_bindings.specs.BoundGroups.{is_set_by, results_by_place}
+use Rattle.run_bindings.specs.BoundGroups.{is_set_by, results_by_index}
 use Rattle.run_bindings.specs.declared.bindings.RunBindings.{RunBindings}
 use Rattle.run_bindings.specs.declared.group_keys.HolderKey.{HolderKey}
 use Rattle.run_bindings.specs.declared.groups.GroupRequest.{GroupRequest}
@@ -56,7 +56,7 @@ no_legs : (planned : ℕ) (gathered : JobResult) (phase : JobPhase) (legs : List
     → legs ≡ []
 no_legs planned gathered job.Blocked legs is fits = fits
 no_legs planned gathered job.Open legs is fits = absurd (true≢false (sym is))
-no_legs planned gathered (job.Settled r) legs is fits = absurd (true≢false (sym is))
+no_legs planned gathered (job.Finished r) legs is fits = absurd (true≢false (sym is))
 
 -- a change that opens the job writes it so
 pub opened_is : (runs : List RunState) (r j : ℕ) → with_run r (changed (change.Open j)) runs ≡ with_job r j (opened (planned_legs runs r j)) runs
@@ -66,7 +66,7 @@ opened_is runs r j =
     ap (λ n. record x { jobs = changed_at j (opened n) x.jobs })
     (sym (ap (λ (o : Option RunState). option_map_or (λ planned. length planned.legs) (option_and_then (λ (y : RunState). slice_get (plan_of y.admitted.body) j) o) 0) at)))
 
-module _ (runs : List RunState) (r j : ℕ) (sound : RunsAreSound runs) (first : first_place runs ≡ Some (Opening r j)) where
+module _ (runs : List RunState) (r j : ℕ) (sound : RunsAreSound runs) (first : first_site runs ≡ Some (Opening r j)) where
   abbrev fit : RunsFit runs
   fit = runs_that_fit runs sound
 
@@ -84,11 +84,11 @@ module _ (runs : List RunState) (r j : ℕ) (sound : RunsAreSound runs) (first :
       (ap (λ (ls : List LegState). nat_eq (length ls) 0) none)
 
 pub job_is_undecided : (runs : List RunState) (bindings : List RunBindings) (r j : ℕ) (sound : RunsAreSound runs) → AreTold runs bindings
-    → (first : first_place runs ≡ Some (Opening r j)) → (kept : RunBindings) → slice_get bindings r ≡ Some kept → IsUndecided j kept
+    → (first : first_site runs ≡ Some (Opening r j)) → (kept : RunBindings) → slice_get bindings r ≡ Some kept → IsUndecided j kept
 job_is_undecided runs bindings r j sound told first kept at legs here = told.room r j kept legs (job_unopened runs r j sound first) at here
 
 module _ (runs : List RunState) (bindings : List RunBindings) (r j : ℕ) (sound : RunsAreSound runs) (bound : AreBound runs bindings)
-    (told : AreTold runs bindings) (first : first_place runs ≡ Some (Opening r j)) where
+    (told : AreTold runs bindings) (first : first_site runs ≡ Some (Opening r j)) where
   record Found : Type 0 where
     x : RunState
     there : run_at runs r ≡ Some x
@@ -128,7 +128,7 @@ module _ (runs : List RunState) (bindings : List RunBindings) (r j : ℕ) (sound
     abbrev x_now : RunState
     x_now = with_job_of j (opened n) found.x
 
-    results : results_by_place x_now ≡ results_by_place found.x
+    results : results_by_index x_now ≡ results_by_index found.x
     results = ap (λ rs. λ (i : ℕ). slice_index_or rs i None) (results_same runs r j n (job_unopened runs r j sound first) found.x found.there)
 
     facts_stay : run_facts_at next r ≡ run_facts_at runs r
@@ -136,7 +136,7 @@ module _ (runs : List RunState) (bindings : List RunBindings) (r j : ℕ) (sound
         run_facts_stay runs next r
         (λ k le. ap (λ es. slice_get es k) (events_after (with_job_of j (opened n)) (λ y. refl) r runs)) (stay.same_attempt r)
 
-    says_after : (p : LegPlace) → p.run ≡ r → SaysBoth next (Leg p) found.x found.kept
+    says_after : (p : LegSite) → p.run ≡ r → SaysBoth next (Leg p) found.x found.kept
     says_after p is_r =
         let there_now : run_at next p.run ≡ Some x_now =
         ap (run_at next) is_r ∙ at_changed r (with_job_of j (opened n)) runs ∙ ap (option_map (with_job_of j (opened n))) found.there in

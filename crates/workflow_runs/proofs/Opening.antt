@@ -12,7 +12,7 @@ use Rattle.run_states.specs.FirstOf.{changed_at}
 use Rattle.run_states.specs.GroupOf.{group_at}
 use Rattle.run_states.specs.Groups.{holds, is_in, leg_holds, leg_waits, run_waits, waits}
 use Rattle.run_states.specs.Holders.{run_of}
-use Rattle.run_states.specs.JobResults.{results_so_far, settled_result}
+use Rattle.run_states.specs.JobResults.{results_so_far, finished_result}
 use Rattle.run_states.specs.Places.{job_at, leg_at, run_at, with_job}
 use Rattle.run_states.specs.Resuming.{is_new_at}
 use Rattle.run_states.specs.RunState.{JobState, LegState, RunState}
@@ -23,13 +23,13 @@ use Rattle.run_states.specs.declared.phases.JobPhase.{JobPhase}
 use Rattle.run_states.specs.declared.phases.JobPhase.TheVariants as job
 use Rattle.run_states.specs.declared.phases.LegPhase.{LegPhase}
 use Rattle.run_states.specs.declared.phases.LegPhase.TheVariants as leg
-use Rattle.run_states.specs.declared.place.LegPlace.{LegPlace}
+use Rattle.run_states.specs.declared.place.LegSite.{LegSite}
 use Rattle.run_states.proofs.Changed.{at_another, at_changed, length-changed_at}
 use Rattle.run_states.proofs.JobKeeps.{with_job_of}
 use Rattle.run_states.proofs.RunFits.{RunsFit}
 use Rattle.run_states.proofs.Settles.{StayFit}
 use Rattle.run_bindings.specs.Bindings.{group_request_of}
-use Rattle.run_bindings.specs.BoundGroups.{results_by_place}
+use Rattle.run_bindings.specs.BoundGroups.{results_by_index}
 use Rattle.run_bindings.specs.GroupKeys.{AreLater, decided, holder_key, key_in, requests_of, ticket_in}
 use Rattle.run_bindings.specs.declared.bindings.JobBindings.{JobBindings}
 use Rattle.run_bindings.specs.declared.bindings.RunBindings.{RunBindings}
@@ -50,7 +50,7 @@ use Rattle.workflow_runs.proofs.Shaped.{shaped_changed}
 
 -- ---- the requests of a job are those of its legs
 
-request_there : (kept : RunBindings) (p : LegPlace) → slice_get (requests_of kept.jobs p.job) p.leg ≡ group_request_of kept (Leg p)
+request_there : (kept : RunBindings) (p : LegSite) → slice_get (requests_of kept.jobs p.job) p.leg ≡ group_request_of kept (Leg p)
 request_there kept p = by (slice_get kept.jobs p.job)
   where
     by : (o : Option JobBindings)
@@ -73,14 +73,14 @@ module _ (runs : List RunState) (bindings : List RunBindings) (r j : ℕ) (x : R
   row_now = ap (λ bs. slice_get bs r) decided_bindings ∙ at_changed r (decided_in j x) bindings
 
   -- whoever is no leg of the job
-  apart_in_row : (o : Option RunBindings) (h : Holder) → ((p : LegPlace) → h ≡ Leg p → p.job ≡ j → ⊥)
+  apart_in_row : (o : Option RunBindings) (h : Holder) → ((p : LegSite) → h ≡ Leg p → p.job ≡ j → ⊥)
       → read h (option_map (decided_in j x) o) ≡ read h o
   apart_in_row None h apart = refl
   apart_in_row (Some b) (Run s) apart = refl
   apart_in_row (Some b) (Leg p) apart =
-      decided_elsewhere (results_by_place x) (requests_of b.jobs j) b.keys j p (apart p refl)
+      decided_elsewhere (results_by_index x) (requests_of b.jobs j) b.keys j p (apart p refl)
 
-  pub key_apart : (h : Holder) → ((p : LegPlace) → h ≡ Leg p → p.run ≡ r → p.job ≡ j → ⊥)
+  pub key_apart : (h : Holder) → ((p : LegSite) → h ≡ Leg p → p.run ≡ r → p.job ≡ j → ⊥)
       → holder_key_at (keys_decided r j runs bindings) h ≡ holder_key_at bindings h
   key_apart h apart =
       elim (cases_eq (run_of h) r) [
@@ -95,29 +95,29 @@ module _ (runs : List RunState) (bindings : List RunBindings) (r j : ℕ) (x : R
   module _ (kept : RunBindings) (legs : List HolderKey) (at : slice_get bindings r ≡ Some kept) (its_legs : slice_get kept.keys.jobs j ≡ Some legs)
     where
       -- a leg of the job
-      pub key_here : (p : LegPlace) → p.run ≡ r → p.job ≡ j
-          → holder_key_at (keys_decided r j runs bindings) (Leg p) ≡ option_map (decided (results_by_place x)) (group_request_of kept (Leg p))
+      pub key_here : (p : LegSite) → p.run ≡ r → p.job ≡ j
+          → holder_key_at (keys_decided r j runs bindings) (Leg p) ≡ option_map (decided (results_by_index x)) (group_request_of kept (Leg p))
       key_here p is_r is_j =
           ap (λ s. read (Leg p) (slice_get (keys_decided r j runs bindings) s)) is_r
           ∙ ap (read (Leg p)) (row_now ∙ ap (option_map (decided_in j x)) at)
-          ∙ decided_here (results_by_place x) (requests_of kept.jobs j) kept.keys j p legs is_j its_legs
-          ∙ ap (λ i. option_map (decided (results_by_place x)) (slice_get (requests_of kept.jobs i) p.leg)) (sym is_j)
-          ∙ ap (option_map (decided (results_by_place x))) (request_there kept p)
+          ∙ decided_here (results_by_index x) (requests_of kept.jobs j) kept.keys j p legs is_j its_legs
+          ∙ ap (λ i. option_map (decided (results_by_index x)) (slice_get (requests_of kept.jobs i) p.leg)) (sym is_j)
+          ∙ ap (option_map (decided (results_by_index x))) (request_there kept p)
 
       -- and what it says in a table, by the results of the run
-      module _ (table : List RunState) (p : LegPlace) (is_r : p.run ≡ r) (is_j : p.job ≡ j) (says : SaysBoth table (Leg p) x kept) where
+      module _ (table : List RunState) (p : LegSite) (is_r : p.run ≡ r) (is_j : p.job ≡ j) (says : SaysBoth table (Leg p) x kept) where
         pub leg_knows : Knows table (keys_decided r j runs bindings) (Leg p)
         leg_knows = record {
           group = ap (option_and_then key_in) (key_here p is_r is_j)
-              ∙ keys_decided_of (results_by_place x) (group_request_of kept (Leg p)) ∙ says.0;
+              ∙ keys_decided_of (results_by_index x) (group_request_of kept (Leg p)) ∙ says.0;
           cancels = (λ known e.
-              flags_decided_of (results_by_place x) (group_request_of kept (Leg p)) known (sym (key_here p is_r is_j) ∙ e) ∙ says.1);
+              flags_decided_of (results_by_index x) (group_request_of kept (Leg p)) known (sym (key_here p is_r is_j) ∙ e) ∙ says.1);
         }
 
         pub leg_has_ticket : option_and_then ticket_in (holder_key_at (keys_decided r j runs bindings) (Leg p)) ≡ group_at table (Leg p)
         leg_has_ticket =
             ap (option_and_then ticket_in) (key_here p is_r is_j)
-            ∙ tickets_decided_of (results_by_place x) (group_request_of kept (Leg p)) ∙ says.0
+            ∙ tickets_decided_of (results_by_index x) (group_request_of kept (Leg p)) ∙ says.0
 
 -- ---- who waits and holds is as before
 
@@ -153,7 +153,7 @@ module _ (runs : List RunState) (r j n : ℕ) (unopened : is_blocked_at runs r j
       same_reading_at (job_passes test l) false (opened n) j x.jobs
       (λ y here. opened_passes test fails n l y (legs_none y (no_legs_there x y at here))) i
 
-  legs_pass : (test : LegPhase → Bool) → test leg.New ≡ false → (q : LegPlace)
+  legs_pass : (test : LegPhase → Bool) → test leg.New ≡ false → (q : LegSite)
       → passes (leg_passes test) (leg_at next q) ≡ passes (leg_passes test) (leg_at runs q)
   legs_pass test fails q =
       by_run test next q
@@ -169,10 +169,10 @@ module _ (runs : List RunState) (r j n : ℕ) (unopened : is_blocked_at runs r j
 
   -- ---- the results of the run do not change
 
-  blocked_result : (phase : JobPhase) → is_blocked phase ≡ true → settled_result phase ≡ None
+  blocked_result : (phase : JobPhase) → is_blocked phase ≡ true → finished_result phase ≡ None
   blocked_result job.Blocked is = refl
   blocked_result job.Open is = cc
-  blocked_result (job.Settled o) is = cc
+  blocked_result (job.Finished o) is = cc
 
   mapped_at : {X Y : Type 0} (g : X → Y) (f : X → X) (i : ℕ) (xs : List X) → ((x : X) → slice_get xs i ≡ Some x → g (f x) ≡ g x)
       → map g (changed_at i f xs) ≡ map g xs
@@ -182,7 +182,7 @@ module _ (runs : List RunState) (r j n : ℕ) (unopened : is_blocked_at runs r j
 
   pub results_same : (x : RunState) → run_at runs r ≡ Some x → results_so_far (changed_at j (opened n) x.jobs) ≡ results_so_far x.jobs
   results_same x at =
-      mapped_at (λ (y : JobState). settled_result y.phase) (opened n) j x.jobs
+      mapped_at (λ (y : JobState). finished_result y.phase) (opened n) j x.jobs
       (λ y here.
       sym (blocked_result y.phase (and_parts (is_blocked y.phase) (nat_eq (length y.legs) 0) (no_legs_there x y at here)).0))
 
@@ -205,11 +205,11 @@ module _ (runs : List RunState) (r j n : ℕ) (unopened : is_blocked_at runs r j
             ap (λ k. read_job (run_at next k)) same ∙ ap read_job run_now ∙ kept (run_at runs r) ∙ ap (λ k. read_job (run_at runs k)) (sym same)
       ]
 
-  leg_elsewhere : (p : LegPlace) → (p.run ≡ r → p.job ≡ j → ⊥) → leg_at next p ≡ leg_at runs p
+  leg_elsewhere : (p : LegSite) → (p.run ≡ r → p.job ≡ j → ⊥) → leg_at next p ≡ leg_at runs p
   leg_elsewhere p apart = ap (option_and_then (λ (y : JobState). slice_get y.legs p.leg)) (job_elsewhere p.run p.job apart)
 
   abbrev IsApart : Holder → Type 0
-  IsApart h = (p : LegPlace) → h ≡ Leg p → p.run ≡ r → p.job ≡ j → ⊥
+  IsApart h = (p : LegSite) → h ≡ Leg p → p.run ≡ r → p.job ≡ j → ⊥
 
   was_there : (h : Holder) → IsApart h → is_there next h ≡ true → is_there runs h ≡ true
   was_there (Run s) apart e =
@@ -237,23 +237,23 @@ module _ (runs : List RunState) (r j n : ℕ) (unopened : is_blocked_at runs r j
 -- ---- a holder that is a leg of the job, or not
 
 record IsOf (r j : ℕ) (h : Holder) : Type 0 where
-  place : LegPlace
+  place : LegSite
   is : h ≡ Leg place
   run : place.run ≡ r
   job : place.job ≡ j
 
-of_job : (r j : ℕ) (h : Holder) → IsOf r j h ⊎ ((p : LegPlace) → h ≡ Leg p → p.run ≡ r → p.job ≡ j → ⊥)
+of_job : (r j : ℕ) (h : Holder) → IsOf r j h ⊎ ((p : LegSite) → h ≡ Leg p → p.run ≡ r → p.job ≡ j → ⊥)
 of_job r j (Run s) = inr (λ p e. cc)
 of_job r j (Leg q) =
     elim (cases_eq q.run r) [
-      | inr other ↦ inr (λ p e run job. other (ap (λ (w : LegPlace). w.run) (same_leg q p e) ∙ run))
+      | inr other ↦ inr (λ p e run job. other (ap (λ (w : LegSite). w.run) (same_leg q p e) ∙ run))
       | inl run ↦ elim (cases_eq q.job j) [
-        | inr other ↦ inr (λ p e _ job. other (ap (λ (w : LegPlace). w.job) (same_leg q p e) ∙ job))
+        | inr other ↦ inr (λ p e _ job. other (ap (λ (w : LegSite). w.job) (same_leg q p e) ∙ job))
         | inl job ↦ inl (record { place = q; is = refl; run = run; job = job })
       ]
     ]
   where
-    same_leg : (a b : LegPlace) → Leg a ≡ Leg b → a ≡ b
+    same_leg : (a b : LegSite) → Leg a ≡ Leg b → a ≡ b
     same_leg a b e = cc
 
 -- ---- what is kept once the job is open
@@ -261,7 +261,7 @@ of_job r j (Leg q) =
 module _ (runs : List RunState) (bindings : List RunBindings) (r j n : ℕ) (x : RunState) (kept : RunBindings) (legs : List HolderKey)
     (unopened : is_blocked_at runs r j ≡ true) (there : run_at runs r ≡ Some x) (at : slice_get bindings r ≡ Some kept)
     (its_legs : slice_get kept.keys.jobs j ≡ Some legs) (fit : RunsFit runs) (stay : StayFit runs (with_job r j (opened n) runs))
-    (says : (p : LegPlace) → p.run ≡ r → SaysBoth (with_job r j (opened n) runs) (Leg p) x kept) where
+    (says : (p : LegSite) → p.run ≡ r → SaysBoth (with_job r j (opened n) runs) (Leg p) x kept) where
   abbrev after : List RunState
   after = with_job r j (opened n) runs
 
@@ -288,7 +288,7 @@ module _ (runs : List RunState) (bindings : List RunBindings) (r j n : ℕ) (x :
             }
       ]
 
-  tickets_after : AreTold runs bindings → (p : LegPlace) → is_new_at after p ≡ true
+  tickets_after : AreTold runs bindings → (p : LegSite) → is_new_at after p ≡ true
       → option_and_then ticket_in (holder_key_at told_now (Leg p)) ≡ group_at after (Leg p)
   tickets_after told p is =
       elim (of_job r j (Leg p)) [
@@ -309,7 +309,7 @@ module _ (runs : List RunState) (bindings : List RunBindings) (r j n : ℕ) (x :
   room_in_row told i other blocked (Some b) was k ls e here =
       let is : decided_in j x b ≡ k = same_Some (decided_in j x b) k e in
       let before : slice_get b.keys.jobs i ≡ Some ls =
-      sym (at_another j (λ (ks : List HolderKey). map (decided (results_by_place x)) (requests_of b.jobs j)) b.keys.jobs i other)
+      sym (at_another j (λ (ks : List HolderKey). map (decided (results_by_index x)) (requests_of b.jobs j)) b.keys.jobs i other)
       ∙ ap (λ (w : RunBindings). slice_get w.keys.jobs i) is ∙ here in
       subst (λ (w : RunBindings). AreLater (requests_of w.jobs i) ls) is (told.room r i b ls blocked was before)
 
@@ -341,7 +341,7 @@ module _ (runs : List RunState) (bindings : List RunBindings) (r j n : ℕ) (x :
     room = room_after told;
     shaped = subst AreShaped (sym (decided_bindings runs bindings r j x there))
         (shaped_changed (decided_in j x)
-        (λ b is. length-changed_at j (λ (ks : List HolderKey). map (decided (results_by_place x)) (requests_of b.jobs j)) b.keys.jobs ∙ is) r bindings
+        (λ b is. length-changed_at j (λ (ks : List HolderKey). map (decided (results_by_index x)) (requests_of b.jobs j)) b.keys.jobs ∙ is) r bindings
         told.shaped);
   }
 

@@ -21,7 +21,7 @@ use Rattle.run_states.specs.declared.phases.LegPhase.{LegPhase}
 use Rattle.run_states.specs.declared.phases.LegPhase.TheVariants as leg
 use Rattle.run_states.specs.declared.phases.RunPhase.{RunPhase}
 use Rattle.run_states.specs.declared.phases.RunPhase.TheVariants as run
-use Rattle.run_states.specs.declared.place.LegPlace.{LegPlace}
+use Rattle.run_states.specs.declared.place.LegSite.{LegSite}
 use Rattle.run_states.proofs.Changed.{at_another, at_changed}
 use Rattle.run_states.proofs.Found.{at_the_end, before_the_end}
 use Rattle.run_states.proofs.JobKeeps.{job_is_open, leg_in, open_is_live}
@@ -39,7 +39,7 @@ use Rattle.workflow_runs.proofs.Stored.{group_before}
 
 -- ---- a leg that waits or holds is of a live run
 
-leg_of_live : (runs : List RunState) (p : LegPlace) (z : LegState) → RunsAreSound runs → leg_at runs p ≡ Some z → leg_has_ended z ≡ false
+leg_of_live : (runs : List RunState) (p : LegSite) (z : LegState) → RunsAreSound runs → leg_at runs p ≡ Some z → leg_has_ended z ≡ false
     → (x : RunState) → run_at runs p.run ≡ Some x → x.phase ≡ run.Live
 leg_of_live runs p z sound at un x there =
     let fit = runs_that_fit runs sound in
@@ -54,7 +54,7 @@ IsQuiet runs h = (waits runs h ≡ false) × (holds runs h ≡ false)
 
 module _ (runs : List RunState) (r : ℕ) (x : RunState) (sound : RunsAreSound runs) (there : run_at runs r ≡ Some x)
     (not_live : x.phase ≡ run.Live → ⊥) where
-  quiet_leg : (p : LegPlace) → p.run ≡ r → IsQuiet runs (Leg p)
+  quiet_leg : (p : LegSite) → p.run ≡ r → IsQuiet runs (Leg p)
   quiet_leg p same = by (leg_at runs p) refl
     where
       at_run : run_at runs p.run ≡ Some x

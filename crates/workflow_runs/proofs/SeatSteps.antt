@@ -9,19 +9,19 @@ use Rattle.run_states.specs.Places.{job_at, run_at}
 use Rattle.run_states.specs.RunState.{JobState, RunState}
 use Rattle.run_states.specs.declared.holder.Holder.{Holder}
 use Rattle.run_states.specs.declared.holder.Holder.TheVariants.{Run, Leg}
-use Rattle.run_states.specs.declared.place.LegPlace.{LegPlace}
+use Rattle.run_states.specs.declared.place.LegSite.{LegSite}
 use Rattle.run_bindings.specs.GroupKeys.{ticket_in}
 use Rattle.run_bindings.specs.declared.bindings.RunBindings.{RunBindings}
 use Rattle.workflow_runs.specs.Seating.{HaveKeys, OneIsTaken, TakeSeats, in_job, is_of, jobs_below, legs_below, legs_of_run, runs_below}
-use Rattle.workflow_runs.specs.declared.runs.of.Place.{Place}
+use Rattle.workflow_runs.specs.declared.runs.of.GroupSlot.{GroupSlot}
 use Rattle.workflow_runs.proofs.GroupsHeld.{Entries}
 use Rattle.workflow_runs.proofs.Seating.{alike, nobody_seated, seated_then, taken_then}
 use Rattle.workflow_runs.proofs.SeatsInOrder.{all_jobs, all_legs, all_runs, job_is_another, leg_is_another, leg_is_no_run, next_job, next_leg, next_run, no_job_yet, no_leg_yet, none_is_below, run_is_another}
 
-abbrev pub leg_place : ℕ → ℕ → ℕ → LegPlace
-leg_place r j l = record { run = r; job = j; leg = l }
+abbrev pub leg_site : ℕ → ℕ → ℕ → LegSite
+leg_site r j l = record { run = r; job = j; leg = l }
 
-pub leg_in_its_job : (r j l : ℕ) (h : Holder) → same_holder h (Leg (leg_place r j l)) ≡ true → in_job r j h ≡ true
+pub leg_in_its_job : (r j l : ℕ) (h : Holder) → same_holder h (Leg (leg_site r j l)) ≡ true → in_job r j h ≡ true
 leg_in_its_job r j l (Run s) e = absurd (true≢false (sym e))
 leg_in_its_job r j l (Leg p) e =
     let all = and_parts (nat_eq p.run r) (nat_eq p.job j && nat_eq p.leg l) e in
@@ -38,7 +38,7 @@ leg_after_its_run r h of_run =
     let no_run = leg_is_no_run r h of_run in
     ap (λ b. runs_below r h || b) no_run ∙ ap (λ b. b || false) (run_is_another r h (ap (λ b. b || legs_of_run r h) no_run ∙ of_run))
 
-module _ (place : Place) (runs : List RunState) where
+module _ (place : GroupSlot) (runs : List RunState) where
   -- a larger set of holders
   pub taken_among : (a b : Holder → Bool) (old : Entries) → ((h : Holder) → a h ≡ true → b h ≡ true) → OneIsTaken place a runs old
       → OneIsTaken place b runs old
@@ -86,7 +86,7 @@ module _ (place : Place) (runs : List RunState) where
 
     module _ (r j l : ℕ) (before : TakeSeats place (legs_below r j l) runs was half old mid) where
       abbrev this : Holder → Bool
-      this h = same_holder h (Leg (leg_place r j l))
+      this h = same_holder h (Leg (leg_site r j l))
 
       another_leg : (h : Holder) → (is_of place runs h && this h) ≡ true → legs_below r j l h ≡ false
       another_leg h e = leg_is_another r j l h (and_parts (is_of place runs h) (this h) e).1

@@ -20,9 +20,9 @@ use Rattle.settling_laws.proofs.ArrivalKeeps.{itself}
 use Rattle.workflow_runs.specs.GroupsKept.{AreExact, AreTold, is_there}
 use Rattle.workflow_runs.specs.BookSteps.{Begins}
 use Rattle.workflow_runs.specs.RowsKept.{holder_key_at, key_at, keys_spent}
-use Rattle.workflow_runs.specs.Seating.{AreApart, AreSeated, AreSeatedOrTaken, BeginsIf, HasSeats, NobodyIsBeside, OneIsTaken, SitsDown, TakeSeats, beside_place, in_place, is_of}
-use Rattle.workflow_runs.specs.declared.runs.of.Place.{Place}
-use Rattle.workflow_runs.specs.declared.runs.of.Place.TheVariants.{InProgress, Pending}
+use Rattle.workflow_runs.specs.Seating.{AreApart, AreSeated, AreSeatedOrTaken, BeginsIf, HasSeats, NobodyIsBeside, OneIsTaken, SitsDown, TakeSeats, beside_slot, in_slot, is_of}
+use Rattle.workflow_runs.specs.declared.runs.of.GroupSlot.{GroupSlot}
+use Rattle.workflow_runs.specs.declared.runs.of.GroupSlot.TheVariants.{InProgress, Pending}
 use Rattle.workflow_runs.proofs.Arriving.{another}
 use Rattle.workflow_runs.proofs.GroupsHeld.{Entries}
 use Rattle.workflow_runs.proofs.HoldersThere.{tells, there_if_holds, there_if_waits}
@@ -64,7 +64,7 @@ or_assoc false b c = refl
 
 -- ---- two tests that agree about those that have the place
 
-module _ (place : Place) (runs : List RunState) where
+module _ (place : GroupSlot) (runs : List RunState) where
   abbrev Agree : Test → Test → Type 0
   Agree a b = (h : Holder) → is_of place runs h ≡ true → a h ≡ b h
 
@@ -134,17 +134,17 @@ module _ (place : Place) (runs : List RunState) where
 
 -- ---- what a function says of its answer
 
-pub are_seated : (place : Place) (among : Test) (runs : List RunState) (was now : List RunBindings) (old new : Entries) (b : Bool) → b ≡ true
+pub are_seated : (place : GroupSlot) (among : Test) (runs : List RunState) (was now : List RunBindings) (old new : Entries) (b : Bool) → b ≡ true
     → AreSeatedOrTaken b place among runs was now old new → TakeSeats place among runs was now old new
 are_seated place among runs was now old new true e seats = seats
 are_seated place among runs was now old new false e taken = absurd (true≢false (sym e))
 
-pub one_is_taken : (place : Place) (among : Test) (runs : List RunState) (was now : List RunBindings) (old new : Entries) (b : Bool) → b ≡ false
+pub one_is_taken : (place : GroupSlot) (among : Test) (runs : List RunState) (was now : List RunBindings) (old new : Entries) (b : Bool) → b ≡ false
     → AreSeatedOrTaken b place among runs was now old new → OneIsTaken place among runs old
 one_is_taken place among runs was now old new true e seats = absurd (true≢false e)
 one_is_taken place among runs was now old new false e taken = taken
 
-pub said_of : (place : Place) (among these : Test) (runs now_runs : List RunState) (was now : List RunBindings) (old new : Entries) (b : Bool)
+pub said_of : (place : GroupSlot) (among these : Test) (runs now_runs : List RunState) (was now : List RunBindings) (old new : Entries) (b : Bool)
     → among ≡ these → now_runs ≡ runs → AreSeatedOrTaken b place among now_runs was now old new → AreSeatedOrTaken b place these runs was now old new
 said_of place among these runs now_runs was now old new b same same_runs said =
     subst (λ (rs : List RunState). AreSeatedOrTaken b place these rs was now old new) same_runs
@@ -156,21 +156,21 @@ abbrev only : Holder → Test
 only one h = same_holder h one
 
 -- it does not have the place
-pub no_seat_for : (place : Place) (runs : List RunState) (bindings : List RunBindings) (entries : Entries) (one : Holder)
+pub no_seat_for : (place : GroupSlot) (runs : List RunState) (bindings : List RunBindings) (entries : Entries) (one : Holder)
     → is_of place runs one ≡ false → TakeSeats place (only one) runs bindings bindings entries entries
 no_seat_for place runs bindings entries one has_not =
     alike place runs (λ h. false) (only one) true bindings bindings entries entries
     (λ h has. sym (another one h (λ is. true≢false (sym has ∙ ap (is_of place runs) is ∙ has_not))))
     (nobody_seated place runs bindings entries)
 
-pub in_no_group : (place : Place) (runs : List RunState) (bindings : List RunBindings) (entries : Entries) (one : Holder)
+pub in_no_group : (place : GroupSlot) (runs : List RunState) (bindings : List RunBindings) (entries : Entries) (one : Holder)
     → group_at runs one ≡ None → TakeSeats place (only one) runs bindings bindings entries entries
 in_no_group place runs bindings entries one none = record {
   keys = (λ h not_it. refl);
   places = (λ g. refl);
   seated = (λ who apart seated.
       exact_beside tells (group_at runs) (group_at runs) (λ h. is_of place runs h && who h)
-      (λ h. is_of place runs h && either who (only one) h) (λ g. in_place place (slot_in entries g)) (λ g. in_place place (slot_in entries g)) one
+      (λ h. is_of place runs h && either who (only one) h) (λ g. in_slot place (slot_in entries g)) (λ g. in_slot place (slot_in entries g)) one
       seated
       (λ h other. (ap (λ c. is_of place runs h && (who h || c)) (another one h other) ∙ ap (λ c. is_of place runs h && c) (or_false (who h)), λ is. refl))
       (in_no_place (group_at runs) (λ h. is_of place runs h && who h) one none)
@@ -179,13 +179,13 @@ in_no_group place runs bindings entries one none = record {
 
 -- ---- its place is taken
 
-one_of_place : (place : Place) (runs : List RunState) → HasOneEach runs → (g : Group) (h k : Holder)
+one_of_place : (place : GroupSlot) (runs : List RunState) → HasOneEach runs → (g : Group) (h k : Holder)
     → (is_in runs g h && is_of place runs h) ≡ true → (is_in runs g k && is_of place runs k) ≡ true → h ≡ k
 one_of_place InProgress runs one g h k = one.in_progress g h k
 one_of_place Pending runs one g h k = one.pending g h k
 
-pub its_place_is_taken : (place : Place) (runs : List RunState) (entries : Entries) (one k : Holder) (g : Group) → is_of place runs one ≡ true
-    → group_at runs one ≡ Some g → in_place place (slot_in entries g) ≡ Some k → OneIsTaken place (only one) runs entries
+pub its_place_is_taken : (place : GroupSlot) (runs : List RunState) (entries : Entries) (one k : Holder) (g : Group) → is_of place runs one ≡ true
+    → group_at runs one ≡ Some g → in_slot place (slot_in entries g) ≡ Some k → OneIsTaken place (only one) runs entries
 its_place_is_taken place runs entries one k g has its taken who apart seated each =
     let here = (seated g k).0 taken in
     let parts = and_parts (is_in runs g k) (is_of place runs k && who k) here in
@@ -246,8 +246,8 @@ sits_in_progress one g old mid new nobody arrives begins = record {
         (ap (λ (s : Slot Holder). s.pending) begun_now ∙ sym (nobody g))
     by k false apart = ap (λ (s : Slot Holder). s.pending) (kept k apart)
 
-pub one_seated : (place : Place) (runs : List RunState) (was now : List RunBindings) (old new : Entries) (one : Holder) (g : Group)
-    → is_of place runs one ≡ true → group_at runs one ≡ Some g → in_place place (slot_in old g) ≡ None
+pub one_seated : (place : GroupSlot) (runs : List RunState) (was now : List RunBindings) (old new : Entries) (one : Holder) (g : Group)
+    → is_of place runs one ≡ true → group_at runs one ≡ Some g → in_slot place (slot_in old g) ≡ None
     → ((h : Holder) → (h ≡ one → ⊥) → holder_key_at now h ≡ holder_key_at was h) → SitsDown place one g old new
     → TakeSeats place (only one) runs was now old new
 one_seated place runs was now old new one g has its free others sits = record {
@@ -258,9 +258,9 @@ one_seated place runs was now old new one g has its free others sits = record {
   seated = (λ who apart seated.
       let not_one : who one ≡ false = apart one (and_from (is_of place runs one) (only one one) has (itself one)) in
       exact_come tells (group_at runs) (group_at runs) (λ h. is_of place runs h && who h)
-      (λ h. is_of place runs h && either who (only one) h) (λ k. in_place place (slot_in old k)) (λ k. in_place place (slot_in new k)) one seated
+      (λ h. is_of place runs h && either who (only one) h) (λ k. in_slot place (slot_in old k)) (λ k. in_slot place (slot_in new k)) one seated
       (λ h other. (ap (λ c. is_of place runs h && (who h || c)) (another one h other) ∙ ap (λ c. is_of place runs h && c) (or_false (who h)), λ is. refl))
-      g (λ k apart_from. ap (in_place place) (sits.elsewhere k apart_from))
+      g (λ k apart_from. ap (in_slot place) (sits.elsewhere k apart_from))
       (and_from (is_of place runs one) (either who (only one) one) has (ap (λ c. who one || c) (itself one) ∙ ap (λ c. c || true) not_one)) its
       (ap (λ c. is_of place runs one && c) not_one ∙ and_false (is_of place runs one)) free sits.taken);
 }
@@ -271,17 +271,17 @@ one_seated place runs was now old new one g has its free others sits = record {
 
 -- ---- what is kept on the way
 
-told_by_place : (place : Place) (runs : List RunState) (bindings : List RunBindings) (one : Holder) → is_of place runs one ≡ true
+told_by_place : (place : GroupSlot) (runs : List RunState) (bindings : List RunBindings) (one : Holder) → is_of place runs one ≡ true
     → AreTold runs bindings → AreTold runs (keys_spent one bindings)
 told_by_place InProgress runs bindings one has told = told_spent_by_one_that_holds runs bindings one has told
 told_by_place Pending runs bindings one has told = told_spent runs bindings one has told
 
-nobody_beside : (place : Place) (old new : Entries) → ((g : Group) → beside_place place (slot_in new g) ≡ beside_place place (slot_in old g))
+nobody_beside : (place : GroupSlot) (old new : Entries) → ((g : Group) → beside_slot place (slot_in new g) ≡ beside_slot place (slot_in old g))
     → NobodyIsBeside place old → NobodyIsBeside place new
 nobody_beside InProgress old new same nobody = λ g. same g ∙ nobody g
 nobody_beside Pending old new same nobody = nobody
 
-pub seats_still : (place : Place) (runs : List RunState) (bindings : List RunBindings) (old new : BookState Holder) (one : Holder) (g : Group)
+pub seats_still : (place : GroupSlot) (runs : List RunState) (bindings : List RunBindings) (old new : BookState Holder) (one : Holder) (g : Group)
     → is_of place runs one ≡ true → group_at runs one ≡ Some g → option_and_then ticket_in (holder_key_at bindings one) ≡ group_at runs one
     → SitsDown place one g old.entries new.entries → new.expected + 1 ≡ old.expected → HasSeats place runs bindings old
     → HasSeats place runs (keys_spent one bindings) new
@@ -294,7 +294,7 @@ seats_still place runs bindings old new one g has its ticket sits fewer kept = r
 }
 
 -- it has no group, so that it brings no key
-pub seats_without : (place : Place) (runs : List RunState) (bindings : List RunBindings) (book : BookState Holder) (one : Holder)
+pub seats_without : (place : GroupSlot) (runs : List RunState) (bindings : List RunBindings) (book : BookState Holder) (one : Holder)
     → is_of place runs one ≡ true → HasSeats place runs bindings book → HasSeats place runs (keys_spent one bindings) book
 seats_without place runs bindings book one has kept = record {
   beside = kept.beside;
@@ -302,23 +302,23 @@ seats_without place runs bindings book one has kept = record {
   expected = omega (arith, one_arrival_fewer one bindings, kept.expected);
 }
 
-there_if_of : (place : Place) (runs : List RunState) (one : Holder) → is_of place runs one ≡ true → is_there runs one ≡ true
+there_if_of : (place : GroupSlot) (runs : List RunState) (one : Holder) → is_of place runs one ≡ true → is_there runs one ≡ true
 there_if_of InProgress runs one has = there_if_holds runs one has
 there_if_of Pending runs one has = there_if_waits runs one has
 
 -- it knows its group
-pub group_by_key : (place : Place) (runs : List RunState) (bindings : List RunBindings) (book : BookState Holder) (one : Holder)
+pub group_by_key : (place : GroupSlot) (runs : List RunState) (bindings : List RunBindings) (book : BookState Holder) (one : Holder)
     → is_of place runs one ≡ true → HasSeats place runs bindings book → key_at bindings one ≡ group_at runs one
 group_by_key place runs bindings book one has kept = (kept.told.groups one (there_if_of place runs one has)).group
 
 -- and still does, once it has brought its key
-pub key_after : (place : Place) (runs : List RunState) (bindings : List RunBindings) (book : BookState Holder) (one : Holder)
+pub key_after : (place : GroupSlot) (runs : List RunState) (bindings : List RunBindings) (book : BookState Holder) (one : Holder)
     → is_of place runs one ≡ true → HasSeats place runs bindings book → key_at (keys_spent one bindings) one ≡ group_at runs one
 key_after place runs bindings book one has kept =
     group_by_key place runs (keys_spent one bindings) book one has (seats_without place runs bindings book one has kept)
 
 -- it arrives, and begins at once if it is in progress
-pub sits_down : (place : Place) (one : Holder) (g : Group) (key : Option Group) (old mid new : Entries) → NobodyIsBeside place old → key ≡ Some g
+pub sits_down : (place : GroupSlot) (one : Holder) (g : Group) (key : Option Group) (old mid new : Entries) → NobodyIsBeside place old → key ≡ Some g
     → Puts g (with_newcomer one (slot_in old g)) old mid → BeginsIf place key mid new → SitsDown place one g old new
 sits_down InProgress one g key old mid new nobody is arrives begins =
     sits_in_progress one g old mid new nobody arrives (subst (λ (o : Option Group). Begins o mid new) is begins)
@@ -326,15 +326,15 @@ sits_down Pending one g key old mid new nobody is arrives begins =
     sits_pending one g old new (subst (Puts g (with_newcomer one (slot_in old g)) old) (sym begins) arrives)
 
 -- nobody is in progress in its group when it begins
-pub free_still : (place : Place) (one : Holder) (g k : Group) (old mid : Entries) → place ≡ InProgress → g ≡ k
-    → in_place place (slot_in old g) ≡ None → Puts g (with_newcomer one (slot_in old g)) old mid → (slot_in mid k).in_progress ≡ None
+pub free_still : (place : GroupSlot) (one : Holder) (g k : Group) (old mid : Entries) → place ≡ InProgress → g ≡ k
+    → in_slot place (slot_in old g) ≡ None → Puts g (with_newcomer one (slot_in old g)) old mid → (slot_in mid k).in_progress ≡ None
 free_still place one g k old mid is same free arrives =
     ap (λ (o : Group). (slot_in mid o).in_progress) (sym same)
     ∙ ap (λ (s : Slot Holder). s.in_progress) (slot_put g (with_newcomer one (slot_in old g)) old mid arrives)
-    ∙ subst (λ (p : Place). in_place p (slot_in old g) ≡ None) is free
+    ∙ subst (λ (p : GroupSlot). in_slot p (slot_in old g) ≡ None) is free
 
 -- memory is taken for its arrival
-pub room_for_it : (place : Place) (runs : List RunState) (bindings : List RunBindings) (old : BookState Holder) (one : Holder) (g : Group)
+pub room_for_it : (place : GroupSlot) (runs : List RunState) (bindings : List RunBindings) (old : BookState Holder) (one : Holder) (g : Group)
     → group_at runs one ≡ Some g → option_and_then ticket_in (holder_key_at bindings one) ≡ group_at runs one
     → HasSeats place runs bindings old → 0 < old.expected
 room_for_it place runs bindings old one g its ticket kept =

@@ -16,8 +16,8 @@ use Rattle.run_states.proofs.Optional.{some_of}
 use Rattle.settling_laws.proofs.ArrivalKeeps.{holder_tested}
 use Rattle.workflow_runs.specs.GroupsKept.{is_there}
 use Rattle.workflow_runs.specs.Seating.{in_job, is_of, jobs_below, legs_below, legs_of_run, runs_below}
-use Rattle.workflow_runs.specs.declared.runs.of.Place.{Place}
-use Rattle.workflow_runs.specs.declared.runs.of.Place.TheVariants.{InProgress, Pending}
+use Rattle.workflow_runs.specs.declared.runs.of.GroupSlot.{GroupSlot}
+use Rattle.workflow_runs.specs.declared.runs.of.GroupSlot.TheVariants.{InProgress, Pending}
 use Rattle.workflow_runs.proofs.HoldersThere.{there_if_holds, there_if_waits, within_there}
 
 -- ---- numbers
@@ -127,11 +127,11 @@ leg_is_no_run r (Leg p) of_run = refl
 
 -- ---- all of them
 
-module _ (place : Place) (runs : List RunState) where
+module _ (place : GroupSlot) (runs : List RunState) where
   there : (h : Holder) → is_of place runs h ≡ true → is_there runs h ≡ true
   there h has = by place has
     where
-      by : (at : Place) → is_of at runs h ≡ true → is_there runs h ≡ true
+      by : (at : GroupSlot) → is_of at runs h ≡ true → is_there runs h ≡ true
       by InProgress holding = there_if_holds runs h holding
       by Pending waiting = there_if_waits runs h waiting
 

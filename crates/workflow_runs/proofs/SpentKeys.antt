@@ -9,7 +9,7 @@ use Rattle.run_states.specs.FirstOf.{changed_at}
 use Rattle.run_states.specs.Holders.{run_of}
 use Rattle.run_states.specs.declared.holder.Holder.{Holder}
 use Rattle.run_states.specs.declared.holder.Holder.TheVariants.{Run, Leg}
-use Rattle.run_states.specs.declared.place.LegPlace.{LegPlace}
+use Rattle.run_states.specs.declared.place.LegSite.{LegSite}
 use Rattle.run_states.proofs.Changed.{at_another, at_changed}
 use Rattle.run_states.proofs.LeaseReads.{same_place}
 use Rattle.run_bindings.specs.GroupKeys.{KeyState, arrivals_in, arrivals_of, arrivals_of_legs, holder_key, key_in, spent, ticket_in, with_spent}
@@ -60,7 +60,7 @@ spent_here (Leg p) keys =
     by None = refl
     by (Some legs) = at_changed p.leg spent legs
 
-another_leg : (p q : LegPlace) (jobs : List (List HolderKey)) → p.run ≡ q.run → (q ≡ p → ⊥)
+another_leg : (p q : LegSite) (jobs : List (List HolderKey)) → p.run ≡ q.run → (q ≡ p → ⊥)
     → option_and_then (λ (legs : List HolderKey). slice_get legs q.leg) (slice_get (changed_at p.job (λ (legs : List HolderKey). changed_at p.leg spent legs) jobs) q.job)
     ≡ option_and_then (λ (legs : List HolderKey). slice_get legs q.leg) (slice_get jobs q.job)
 another_leg p q jobs same other =
@@ -103,7 +103,7 @@ legs_lowered l legs =
     (λ key at. ap (λ o. arrivals_in (spent key) + one_each (option_and_then ticket_in o)) at ∙ spent_arrives key)
     (λ none. ap (λ o. one_each (option_and_then ticket_in o)) none)
 
-jobs_lowered : (p : LegPlace) (keys : KeyState)
+jobs_lowered : (p : LegSite) (keys : KeyState)
     → sum_by arrivals_of_legs (changed_at p.job (λ (legs : List HolderKey). changed_at p.leg spent legs) keys.jobs)
     + one_each (option_and_then ticket_in (holder_key keys (Leg p)))
     ≡ sum_by arrivals_of_legs keys.jobs

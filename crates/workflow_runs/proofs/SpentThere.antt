@@ -16,7 +16,7 @@ use Rattle.run_states.specs.declared.holder.Holder.{Holder}
 use Rattle.run_states.specs.declared.holder.Holder.TheVariants.{Run, Leg}
 use Rattle.run_states.specs.declared.phases.LegPhase.{LegPhase}
 use Rattle.run_states.specs.declared.phases.LegPhase.TheVariants as leg
-use Rattle.run_states.specs.declared.place.LegPlace.{LegPlace}
+use Rattle.run_states.specs.declared.place.LegSite.{LegSite}
 use Rattle.run_states.proofs.Changed.{at_another, at_changed}
 use Rattle.run_states.proofs.JobKeeps.{leg_in}
 use Rattle.run_states.proofs.Optional.{some_of}
@@ -99,7 +99,7 @@ blocked_job : (o : Option JobState) → option_map_or is_unopened o false ≡ tr
 blocked_job None e = cc
 blocked_job (Some y) e = (y, refl, e)
 
-pub not_blocked : (runs : List RunState) (p : LegPlace) (z : LegState) → leg_at runs p ≡ Some z → is_blocked_at runs p.run p.job ≡ true → ⊥
+pub not_blocked : (runs : List RunState) (p : LegSite) (z : LegState) → leg_at runs p ≡ Some z → is_blocked_at runs p.run p.job ≡ true → ⊥
 not_blocked runs p z at blocked =
     let here = leg_in runs p z at in
     let y = blocked_job (job_at runs p.run p.job) blocked in
@@ -115,7 +115,7 @@ not_blocked runs p z at blocked =
 -- ---- memory for the legs of blocked jobs stays
 
 room_still : (one : Holder) (j : ℕ) (kept : RunBindings) (legs : List HolderKey)
-    → ((p : LegPlace) → one ≡ Leg p → p.job ≡ j → ⊥) → slice_get (spends one kept).keys.jobs j ≡ Some legs → slice_get kept.keys.jobs j ≡ Some legs
+    → ((p : LegSite) → one ≡ Leg p → p.job ≡ j → ⊥) → slice_get (spends one kept).keys.jobs j ≡ Some legs → slice_get kept.keys.jobs j ≡ Some legs
 room_still (Run r) j kept legs apart at = at
 room_still (Leg p) j kept legs apart at =
     sym (at_another p.job (λ (ls : List HolderKey). changed_at p.leg spent ls) kept.keys.jobs j (λ e. apart p refl (sym e))) ∙ at
@@ -153,8 +153,8 @@ new_leg_holds_not (Some z) is holding = new_not_holding z.phase is holding
 -- ---- a holder that is there and is no new leg brings its key
 
 module _ (runs : List RunState) (bindings : List RunBindings) (one : Holder) (there : is_there runs one ≡ true)
-    (not_new : (p : LegPlace) → is_new_at runs p ≡ true → Leg p ≡ one → ⊥) (told : AreTold runs bindings) where
-  not_its_job : (r j : ℕ) → is_blocked_at runs r j ≡ true → r ≡ run_of one → (p : LegPlace) → one ≡ Leg p → p.job ≡ j → ⊥
+    (not_new : (p : LegSite) → is_new_at runs p ≡ true → Leg p ≡ one → ⊥) (told : AreTold runs bindings) where
+  not_its_job : (r j : ℕ) → is_blocked_at runs r j ≡ true → r ≡ run_of one → (p : LegSite) → one ≡ Leg p → p.job ≡ j → ⊥
   not_its_job r j blocked of_run p is job =
       let z = some_of (leg_at runs p) (sym (ap (is_there runs) is) ∙ there) in
       not_blocked runs p z.0 z.1

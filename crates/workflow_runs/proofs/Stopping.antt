@@ -7,7 +7,7 @@ use Rattle.std.proofs.lemmas.Option.{same_Some}
 use Rattle.run_states.specs.FirstOf.{changed_at}
 use Rattle.run_states.specs.Groups.{leg_holds, leg_waits}
 use Rattle.run_states.specs.Parallel.{is_at_work}
-use Rattle.run_states.specs.Places.{job_at, leg_at, leg_place, run_at, with_job, with_leg, with_run}
+use Rattle.run_states.specs.Places.{job_at, leg_at, leg_site, run_at, with_job, with_leg, with_run}
 use Rattle.run_states.specs.RunState.{JobState, LegState, RunState}
 use Rattle.run_states.specs.SoundRuns.{RunsAreSound}
 use Rattle.run_states.specs.StateWords.{is_new}
@@ -16,7 +16,7 @@ use Rattle.run_states.specs.declared.phases.LegPhase.{LegPhase}
 use Rattle.run_states.specs.declared.phases.LegPhase.TheVariants as leg
 use Rattle.run_states.specs.declared.phases.RunPhase.{RunPhase}
 use Rattle.run_states.specs.declared.phases.RunPhase.TheVariants as run
-use Rattle.run_states.specs.declared.place.LegPlace.{LegPlace}
+use Rattle.run_states.specs.declared.place.LegSite.{LegSite}
 use Rattle.run_states.proofs.Changed.{at_changed}
 use Rattle.run_states.proofs.JobKeeps.{live_fits, with_job_of, with_leg_of}
 use Rattle.run_states.proofs.Optional.{from_map}
@@ -124,7 +124,7 @@ with_leg_in_job j l x =
     one_leg y = upto_more (λ (e : ℕ × LegState). stopped e.1) 0 l y.legs
 
 pub one_more_leg : (runs : List RunState) (r j l : ℕ)
-    → with_leg (leg_place r j l) stopped (with_job r j (legs_upto l) runs) ≡ with_job r j (legs_upto (l + 1)) runs
+    → with_leg (leg_site r j l) stopped (with_job r j (legs_upto l) runs) ≡ with_job r j (legs_upto (l + 1)) runs
 one_more_leg runs r j l =
     let next : suc l ≡ l + 1 = omega arith in
     changed_on r (with_job_of j (with_leg_of l stopped)) (with_job_of j (legs_upto l)) runs
@@ -151,7 +151,7 @@ all_the_legs runs r j n past =
 
 -- ---- one leg
 
-pub stop_sound : (runs : List RunState) (p : LegPlace) → RunsAreSound runs → RunsAreSound (with_leg p stopped runs)
+pub stop_sound : (runs : List RunState) (p : LegSite) → RunsAreSound runs → RunsAreSound (with_leg p stopped runs)
 stop_sound runs p sound = sound_runs (with_leg p stopped runs) (leg_stop_settles runs p (runs_that_fit runs sound)).stay.fit
 
 -- one that a runner has holds its group as before
@@ -196,7 +196,7 @@ stopped_new leg.Running e = cc
 stopped_new leg.Stopping e = cc
 stopped_new (leg.Ended o) e = cc
 
-pub stop_nobody : (runs : List RunState) (p : LegPlace) (z : LegState) → RunsAreSound runs → leg_at runs p ≡ Some z → is_at_work z.phase ≡ true
+pub stop_nobody : (runs : List RunState) (p : LegSite) (z : LegState) → RunsAreSound runs → leg_at runs p ≡ Some z → is_at_work z.phase ≡ true
     → ChangesNobody runs (with_leg p stopped runs)
 stop_nobody runs p z sound at works =
     leg_within runs p z stopped sound at (leg_stop_settles runs p (runs_that_fit runs sound)).stay (at_work_waits z.phase works)

@@ -15,7 +15,7 @@ use Rattle.run_states.specs.Changes.{changed}
 use Rattle.run_states.specs.FirstOf.{changed_at}
 use Rattle.run_states.specs.RunState.{JobState, LegState, RunState}
 use Rattle.run_states.specs.Settling.{legs_in_plan}
-use Rattle.run_states.specs.StateWords.{new_leg, opened, settled_as}
+use Rattle.run_states.specs.StateWords.{new_leg, opened, finished_as}
 use Rattle.workflow_runs.specs.StoredSizes.{IsSmall, job_size, leg_counts, max_run_size, run_size, texts_size}
 use Rattle.run_states.specs.declared.change.Change.{Change}
 use Rattle.run_states.specs.declared.change.Change.TheVariants as change
@@ -103,8 +103,8 @@ leg_put l leg j = length-changed_at l (λ _. leg) j.legs
 counts_kept : (c : Change) (r : RunState) → ((j : ℕ) → c ≡ change.Open j → ⊥) → leg_counts (changed c r).jobs ≡ leg_counts r.jobs
 counts_kept (change.Phase phase) r not = refl
 counts_kept (change.Open j) r not = absurd (not j refl)
-counts_kept (change.Settle j settled) r not = kept_at (settled_as settled) (λ _. refl) r.jobs j
-counts_kept change.Cancel r not = kept_all (settled_as _) (λ _. refl) r.jobs
+counts_kept (change.Settle j settled) r not = kept_at (finished_as settled) (λ _. refl) r.jobs j
+counts_kept change.Cancel r not = kept_all (finished_as _) (λ _. refl) r.jobs
 counts_kept change.RequestStop r not = refl
 counts_kept (change.PutLeg j l leg) r not =
     kept_at (λ job. record job { legs = changed_at l (λ _. leg) job.legs }) (leg_put l leg) r.jobs j
@@ -160,10 +160,10 @@ small_changed (change.Open j) r small =
           (few_set n (few_opened r.admitted.body j) (leg_counts r.jobs) j small.legs);
     }
 small_changed (change.Settle j settled) r small =
-    kept_small r (changed (change.Settle j settled) r) small refl (length-changed_at j (settled_as settled) r.jobs)
-    (kept_at (settled_as settled) (λ _. refl) r.jobs j)
+    kept_small r (changed (change.Settle j settled) r) small refl (length-changed_at j (finished_as settled) r.jobs)
+    (kept_at (finished_as settled) (λ _. refl) r.jobs j)
 small_changed change.Cancel r small =
-    kept_small r (changed change.Cancel r) small refl (length-map r.jobs (settled_as _)) (kept_all (settled_as _) (λ _. refl) r.jobs)
+    kept_small r (changed change.Cancel r) small refl (length-map r.jobs (finished_as _)) (kept_all (finished_as _) (λ _. refl) r.jobs)
 small_changed change.RequestStop r small = record { texts = small.texts; jobs = small.jobs; legs = small.legs }
 small_changed (change.PutLeg j l leg) r small =
     kept_small r (changed (change.PutLeg j l leg) r) small refl (length-changed_at j _ r.jobs)

@@ -18,11 +18,11 @@ use Rattle.run_states.specs.RunState.{JobState, LegState, RunState}
 use Rattle.run_states.specs.StateWords.{is_blocked, is_new}
 use Rattle.run_states.specs.declared.holder.Holder.{Holder}
 use Rattle.run_states.specs.declared.holder.Holder.TheVariants.{Run, Leg}
-use Rattle.run_states.specs.declared.place.LegPlace.{LegPlace}
+use Rattle.run_states.specs.declared.place.LegSite.{LegSite}
 use Rattle.run_states.proofs.Changed.{at_another, at_changed}
 use Rattle.run_states.proofs.Found.{at_the_end, before_the_end}
 use Rattle.run_states.proofs.LegFacts.{SameUpTo}
-use Rattle.run_bindings.specs.BoundGroups.{results_by_place}
+use Rattle.run_bindings.specs.BoundGroups.{results_by_index}
 use Rattle.run_bindings.specs.Bindings.{AreBound}
 use Rattle.run_bindings.specs.GroupKeys.{AllAreLater, AreLater, decided, holder_key, key_in, requests_of, ticket_in}
 use Rattle.run_bindings.specs.declared.bindings.RunBindings.{RunBindings}
@@ -42,7 +42,7 @@ use Rattle.workflow_runs.proofs.StillBound.{set_here}
 
 -- ---- before the first job is decided
 
-pub begun_first : (x : RunState) (kept : RunBindings) → kept.keys.own ≡ option_map_or (decided (results_by_place x)) kept.own NoGroup
+pub begun_first : (x : RunState) (kept : RunBindings) → kept.keys.own ≡ option_map_or (decided (results_by_index x)) kept.own NoGroup
     → length kept.keys.jobs ≡ length kept.jobs → AllAreLater kept.jobs kept.keys.jobs → IsBegunBelow 0 x kept
 begun_first x kept own many later = record {
   own = own;
@@ -94,7 +94,7 @@ same_there runs next (Leg p) at =
     ap (λ (o : Option RunState). is_some (option_and_then (λ (y : JobState). slice_get y.legs p.leg) (option_and_then (λ (x : RunState). slice_get x.jobs p.job) o)))
     at
 
-same_new : (runs next : List RunState) (p : LegPlace) → run_at next p.run ≡ run_at runs p.run → is_new_at next p ≡ is_new_at runs p
+same_new : (runs next : List RunState) (p : LegSite) → run_at next p.run ≡ run_at runs p.run → is_new_at next p ≡ is_new_at runs p
 same_new runs next p at =
     ap (λ (o : Option RunState). option_map_or (λ (z : LegState). is_new z.phase)
     (option_and_then (λ (y : JobState). slice_get y.legs p.leg) (option_and_then (λ (x : RunState). slice_get x.jobs p.job) o)) false) at

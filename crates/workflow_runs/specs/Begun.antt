@@ -8,7 +8,7 @@ use Rattle.run_states.specs.GroupOf.{group_at}
 use Rattle.run_states.specs.Holders.{run_of}
 use Rattle.run_states.specs.RunState.{RunState}
 use Rattle.run_states.specs.declared.holder.Holder.{Holder}
-use Rattle.run_bindings.specs.BoundGroups.{results_by_place}
+use Rattle.run_bindings.specs.BoundGroups.{results_by_index}
 use Rattle.run_bindings.specs.GroupKeys.{AreLater, decided, requests_of, ticket_in}
 use Rattle.run_bindings.specs.declared.bindings.RunBindings.{RunBindings}
 use Rattle.run_bindings.specs.declared.group_keys.HolderKey.{HolderKey}
@@ -20,18 +20,18 @@ abbrev pub has_legs_at : RunState → ℕ → Bool
 has_legs_at run j = option_map_or (λ job. nat_lt 0 (length job.legs)) (slice_get run.jobs j) false
 
 abbrev pub AreKnownIf : Bool → RunState → RunBindings → ℕ → List HolderKey → Type 0
-AreKnownIf true run kept j legs = legs ≡ map (decided (results_by_place run)) (requests_of kept.jobs j)
+AreKnownIf true run kept j legs = legs ≡ map (decided (results_by_index run)) (requests_of kept.jobs j)
 AreKnownIf false run kept j legs = AreLater (requests_of kept.jobs j) legs
 
 -- so far: the jobs below `n` that have legs are decided
 pub record IsBegunBelow (n : ℕ) (run : RunState) (kept : RunBindings) : Type 0 where
-  pub own : kept.keys.own ≡ option_map_or (decided (results_by_place run)) kept.own NoGroup
+  pub own : kept.keys.own ≡ option_map_or (decided (results_by_index run)) kept.own NoGroup
   pub as_many : length kept.keys.jobs ≡ length kept.jobs
   pub jobs : (j : ℕ) (legs : List HolderKey) → slice_get kept.keys.jobs j ≡ Some legs
       → AreKnownIf (has_legs_at run j && nat_lt j n) run kept j legs
 
 pub record IsBegun (run : RunState) (kept : RunBindings) : Type 0 where
-  pub own : kept.keys.own ≡ option_map_or (decided (results_by_place run)) kept.own NoGroup
+  pub own : kept.keys.own ≡ option_map_or (decided (results_by_index run)) kept.own NoGroup
   pub as_many : length kept.keys.jobs ≡ length kept.jobs
   pub jobs : (j : ℕ) (legs : List HolderKey) → slice_get kept.keys.jobs j ≡ Some legs → AreKnownIf (has_legs_at run j) run kept j legs
 

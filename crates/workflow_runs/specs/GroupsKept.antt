@@ -13,7 +13,7 @@ use Rattle.run_states.specs.RunState.{JobState, RunState}
 use Rattle.run_states.specs.StateWords.{is_blocked}
 use Rattle.run_states.specs.declared.holder.Holder.{Holder}
 use Rattle.run_states.specs.declared.holder.Holder.TheVariants.{Run, Leg}
-use Rattle.run_states.specs.declared.place.LegPlace.{LegPlace}
+use Rattle.run_states.specs.declared.place.LegSite.{LegSite}
 use Rattle.run_bindings.specs.GroupKeys.{AreLater, arrivals_of, key_in, requests_of, ticket_in}
 use Rattle.run_bindings.specs.declared.bindings.RunBindings.{RunBindings}
 use Rattle.run_bindings.specs.declared.group_keys.HolderKey.{HolderKey}
@@ -43,7 +43,7 @@ pub record Knows (runs : List RunState) (bindings : List RunBindings) (h : Holde
 -- a new leg has the key that it brings to its group
 abbrev pub NewLegsHaveTickets : List RunState → List RunBindings → Type 0
 NewLegsHaveTickets runs bindings =
-    (p : LegPlace) → is_new_at runs p ≡ true → option_and_then ticket_in (holder_key_at bindings (Leg p)) ≡ group_at runs (Leg p)
+    (p : LegSite) → is_new_at runs p ≡ true → option_and_then ticket_in (holder_key_at bindings (Leg p)) ≡ group_at runs (Leg p)
 
 -- a job that is blocked and has no legs yet: memory is taken for those that it will have
 abbrev pub is_unopened : JobState → Bool

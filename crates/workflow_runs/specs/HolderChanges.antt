@@ -5,7 +5,7 @@ use Rattle.run_states.specs.Groups.{holds, may_start, waits}
 use Rattle.run_states.specs.Resuming.{is_new_at}
 use Rattle.run_states.specs.RunState.{RunState}
 use Rattle.run_states.specs.declared.holder.Holder.{Holder}
-use Rattle.run_states.specs.declared.place.LegPlace.{LegPlace}
+use Rattle.run_states.specs.declared.place.LegSite.{LegSite}
 use Rattle.workflow_runs.specs.GroupsKept.{is_blocked_at, is_there}
 
 -- no run or leg comes, and each keeps its group; nothing becomes new or blocked
@@ -13,7 +13,7 @@ pub record SameHolders (old new : List RunState) : Type 0 where
   pub there : (h : Holder) → is_there new h ≡ true → is_there old h ≡ true
   pub group : (h : Holder) → is_there old h ≡ true → group_at new h ≡ group_at old h
   pub cancels : (h : Holder) → is_there old h ≡ true → cancels_in_progress new h ≡ cancels_in_progress old h
-  pub new_legs : (p : LegPlace) → is_new_at new p ≡ true → is_new_at old p ≡ true
+  pub new_legs : (p : LegSite) → is_new_at new p ≡ true → is_new_at old p ≡ true
   pub blocked : (r j : ℕ) → is_blocked_at new r j ≡ true → is_blocked_at old r j ≡ true
 
 -- a holder waits or is in progress as before

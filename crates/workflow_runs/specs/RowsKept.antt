@@ -10,7 +10,7 @@ use Rattle.run_states.specs.RunNumber.{AreNumbered, events}
 use Rattle.run_states.specs.RunState.{RunState}
 use Rattle.run_states.specs.declared.holder.Holder.{Holder}
 use Rattle.run_bindings.specs.Bindings.{AreBound}
-use Rattle.run_bindings.specs.BoundGroups.{results_by_place}
+use Rattle.run_bindings.specs.BoundGroups.{results_by_index}
 use Rattle.run_bindings.specs.GroupKeys.{AreLater, decided, holder_key, key_in, requests_of, with_spent}
 use Rattle.run_bindings.specs.LabelNumbers.{LegsAreOffered}
 use Rattle.run_bindings.specs.declared.bindings.RunBindings.{RunBindings}
@@ -54,7 +54,7 @@ abbrev pub decided_in : ℕ → RunState → RunBindings → RunBindings
 decided_in j run kept = record kept {
   keys = record {
     own = kept.keys.own;
-    jobs = changed_at j (λ legs. map (decided (results_by_place run)) (requests_of kept.jobs j)) kept.keys.jobs;
+    jobs = changed_at j (λ legs. map (decided (results_by_index run)) (requests_of kept.jobs j)) kept.keys.jobs;
   };
 }
 

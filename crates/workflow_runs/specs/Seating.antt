@@ -14,13 +14,13 @@ use Rattle.run_bindings.specs.declared.bindings.RunBindings.{RunBindings}
 use Rattle.workflow_runs.specs.BookSteps.{Begins}
 use Rattle.workflow_runs.specs.GroupsKept.{AreTold, arrivals_to_come, is_there}
 use Rattle.workflow_runs.specs.RowsKept.{RowState, holder_key_at}
-use Rattle.workflow_runs.specs.declared.runs.of.Place.{Place}
-use Rattle.workflow_runs.specs.declared.runs.of.Place.TheVariants.{InProgress, Pending}
+use Rattle.workflow_runs.specs.declared.runs.of.GroupSlot.{GroupSlot}
+use Rattle.workflow_runs.specs.declared.runs.of.GroupSlot.TheVariants.{InProgress, Pending}
 
 -- ---- which holders
 
 -- one that has this place of its group
-abbrev pub is_of : Place → List RunState → Holder → Bool
+abbrev pub is_of : GroupSlot → List RunState → Holder → Bool
 is_of InProgress runs h = holds runs h
 is_of Pending runs h = waits runs h
 
@@ -48,65 +48,65 @@ runs_below n h = nat_lt (run_of h) n
 
 -- ---- the places
 
-abbrev pub in_place : Place → Slot Holder → Option Holder
-in_place InProgress slot = slot.in_progress
-in_place Pending slot = slot.pending
+abbrev pub in_slot : GroupSlot → Slot Holder → Option Holder
+in_slot InProgress slot = slot.in_progress
+in_slot Pending slot = slot.pending
 
-abbrev pub beside_place : Place → Slot Holder → Option Holder
-beside_place InProgress slot = slot.pending
-beside_place Pending slot = slot.in_progress
+abbrev pub beside_slot : GroupSlot → Slot Holder → Option Holder
+beside_slot InProgress slot = slot.pending
+beside_slot Pending slot = slot.in_progress
 
 -- those among these have their places
-abbrev pub AreSeated : Place → (Holder → Bool) → List RunState → List (Group × Slot Holder) → Type 0
+abbrev pub AreSeated : GroupSlot → (Holder → Bool) → List RunState → List (Group × Slot Holder) → Type 0
 AreSeated place who runs entries =
-    (g : Group) (h : Holder) → (in_place place (slot_in entries g) ≡ Some h) ↔ ((is_in runs g h && (is_of place runs h && who h)) ≡ true)
+    (g : Group) (h : Holder) → (in_slot place (slot_in entries g) ≡ Some h) ↔ ((is_in runs g h && (is_of place runs h && who h)) ≡ true)
 
 -- while those in progress take their places, nobody is pending
-abbrev pub NobodyIsBeside : Place → List (Group × Slot Holder) → Type 0
+abbrev pub NobodyIsBeside : GroupSlot → List (Group × Slot Holder) → Type 0
 NobodyIsBeside InProgress entries = (g : Group) → (slot_in entries g).pending ≡ None
 NobodyIsBeside Pending entries = Unit {0}
 
 -- ---- what is kept on the way
 
-pub record HasSeats (place : Place) (runs : List RunState) (bindings : List RunBindings) (book : BookState Holder) : Type 0 where
+pub record HasSeats (place : GroupSlot) (runs : List RunState) (bindings : List RunBindings) (book : BookState Holder) : Type 0 where
   pub beside : NobodyIsBeside place book.entries
   pub told : AreTold runs bindings
   pub expected : arrivals_to_come bindings ≤ book.expected
 
 -- those among these that are to have the place have their keys
-abbrev pub HaveKeys : Place → (Holder → Bool) → List RunState → List RunBindings → Type 0
+abbrev pub HaveKeys : GroupSlot → (Holder → Bool) → List RunState → List RunBindings → Type 0
 HaveKeys place among runs bindings =
     (h : Holder) → (is_of place runs h && among h) ≡ true → option_and_then ticket_in (holder_key_at bindings h) ≡ group_at runs h
 
 -- others than those among these that are to have the place
-abbrev pub AreApart : Place → List RunState → (Holder → Bool) → (Holder → Bool) → Type 0
+abbrev pub AreApart : GroupSlot → List RunState → (Holder → Bool) → (Holder → Bool) → Type 0
 AreApart place runs who among = (h : Holder) → (is_of place runs h && among h) ≡ true → who h ≡ false
 
 -- those among these have taken their places
-pub record TakeSeats (place : Place) (among : Holder → Bool) (runs : List RunState) (was now : List RunBindings)
+pub record TakeSeats (place : GroupSlot) (among : Holder → Bool) (runs : List RunState) (was now : List RunBindings)
     (old new : List (Group × Slot Holder)) : Type 0 where
   pub keys : (h : Holder) → (is_of place runs h && among h) ≡ false → holder_key_at now h ≡ holder_key_at was h
-  pub places : (g : Group) → beside_place place (slot_in new g) ≡ beside_place place (slot_in old g)
+  pub places : (g : Group) → beside_slot place (slot_in new g) ≡ beside_slot place (slot_in old g)
   pub seated : (who : Holder → Bool) → AreApart place runs who among → AreSeated place who runs old
       → AreSeated place (λ h. who h || among h) runs new
 
 -- one of them found its place taken, so two have it
-abbrev pub OneIsTaken : Place → (Holder → Bool) → List RunState → List (Group × Slot Holder) → Type 0
+abbrev pub OneIsTaken : GroupSlot → (Holder → Bool) → List RunState → List (Group × Slot Holder) → Type 0
 OneIsTaken place among runs old = (who : Holder → Bool) → AreApart place runs who among → AreSeated place who runs old → HasOneEach runs → ⊥
 
-abbrev pub AreSeatedOrTaken : Bool → Place → (Holder → Bool) → List RunState → List RunBindings → List RunBindings
+abbrev pub AreSeatedOrTaken : Bool → GroupSlot → (Holder → Bool) → List RunState → List RunBindings → List RunBindings
     → List (Group × Slot Holder) → List (Group × Slot Holder) → Type 0
 AreSeatedOrTaken true place among runs was now old new = TakeSeats place among runs was now old new
 AreSeatedOrTaken false place among runs was now old new = OneIsTaken place among runs old
 
 -- a holder has taken its place in its group
-pub record SitsDown (place : Place) (one : Holder) (g : Group) (old new : List (Group × Slot Holder)) : Type 0 where
-  pub taken : in_place place (slot_in new g) ≡ Some one
-  pub beside : (k : Group) → beside_place place (slot_in new k) ≡ beside_place place (slot_in old k)
+pub record SitsDown (place : GroupSlot) (one : Holder) (g : Group) (old new : List (Group × Slot Holder)) : Type 0 where
+  pub taken : in_slot place (slot_in new g) ≡ Some one
+  pub beside : (k : Group) → beside_slot place (slot_in new k) ≡ beside_slot place (slot_in old k)
   pub elsewhere : (k : Group) → same_group g k ≡ false → slot_in new k ≡ slot_in old k
 
 -- one that is in progress begins
-abbrev pub BeginsIf : Place → Option Group → List (Group × Slot Holder) → List (Group × Slot Holder) → Type 0
+abbrev pub BeginsIf : GroupSlot → Option Group → List (Group × Slot Holder) → List (Group × Slot Holder) → Type 0
 BeginsIf InProgress key old new = Begins key old new
 BeginsIf Pending key old new = new ≡ old
 

@@ -5,21 +5,21 @@ ghost use Rattle.std.specs.Option.{option_map_or};
 ghost use Rattle.stated_limits.specs.Limits.{max_runs};
 ghost use Rattle.wf_value.specs.declared.outcome.Outcome.TheVariants.{Cancelled, Failure};
 ghost use Rattle.run_states.specs.Cells.{HaveTheirRoom, states};
-ghost use Rattle.run_states.specs.Fitting.{OnlyAtWork, first_fit, is_ready, is_served, is_stopping_leg, place_of_lease};
+ghost use Rattle.run_states.specs.Fitting.{OnlyAtWork, first_fit, is_ready, is_served, is_stopping_leg, site_of_lease};
 ghost use Rattle.run_states.specs.Parallel.{has_room};
 ghost use Rattle.run_states.specs.Places.{leg_at, run_at};
 ghost use Rattle.run_states.specs.WithinRun.{fit_in_job, fit_in_jobs, lease_in_run, served_in_job};
 ghost use Rattle.run_states.specs.Words.{planned_legs};
 
-use crate::first_place::count;
+use crate::first_site::count;
 use crate::runs::Runs;
 use crate::walk::Legs;
 use run_plan::{Label, Number};
-use run_states::{Job, Leg, LegPlace, Run};
+use run_states::{Job, Leg, LegSite, Run};
 use wf_value::Outcome;
 
 /// Whether the leg is ready and `labels` has all labels that it asks for.
-fn fits(labels: &[Label], runs: &Runs, place: LegPlace, leg: &Leg) -> bool
+fn fits(labels: &[Label], runs: &Runs, place: LegSite, leg: &Leg) -> bool
     requires { place.leg < planned_legs runs.now place.run place.job }
     ensures { result ≡ (is_ready leg.now.phase && is_served labels.now runs.now place) }
 {
@@ -27,7 +27,7 @@ fn fits(labels: &[Label], runs: &Runs, place: LegPlace, leg: &Leg) -> bool
 }
 
 /// The first ready leg of the job such that `labels` has all labels that it asks for.
-fn served_in_job(labels: &[Label], runs: &Runs, r: usize, j: usize, job: &Job) -> Option<LegPlace>
+fn served_in_job(labels: &[Label], runs: &Runs, r: usize, j: usize, job: &Job) -> Option<LegSite>
     requires { job.now.room ≡ planned_legs runs.now r j }
     ensures found { result ≡ served_in_job labels.now runs.now r j job.now.state }
     ensures run { IfSome result (λ p. p.run ≡ r) }
@@ -52,7 +52,7 @@ fn has_room(runs: &Runs, r: usize, j: usize, job: &Job) -> bool
 
 /// The first leg of the job that fits the runner: one that is ready and served, if one more leg of the job may run. It scans the legs only
 /// if one is ready.
-fn fit_in_job(labels: &[Label], runs: &Runs, r: usize, j: usize, job: &Job) -> Option<LegPlace>
+fn fit_in_job(labels: &[Label], runs: &Runs, r: usize, j: usize, job: &Job) -> Option<LegSite>
     requires { job.now.room ≡ planned_legs runs.now r j }
     ensures found { result ≡ fit_in_job labels.now runs.now r j job.now.state }
     ensures run { IfSome result (λ p. p.run ≡ r) }
@@ -64,7 +64,7 @@ fn fit_in_job(labels: &[Label], runs: &Runs, r: usize, j: usize, job: &Job) -> O
     }
 }
 
-fn fit_in_jobs(labels: &[Label], runs: &Runs, r: usize, jobs: &[Job]) -> Option<LegPlace>
+fn fit_in_jobs(labels: &[Label], runs: &Runs, r: usize, jobs: &[Job]) -> Option<LegSite>
     requires { HaveTheirRoom runs.now r jobs.now }
     ensures found { result ≡ fit_in_jobs labels.now runs.now r (states jobs.now) }
     ensures run { IfSome result (λ p. p.run ≡ r) }
@@ -79,7 +79,7 @@ fn fit_in_jobs(labels: &[Label], runs: &Runs, r: usize, jobs: &[Job]) -> Option<
     None
 }
 
-fn fit_in_run(labels: &[Label], runs: &Runs, r: usize, run: &Run) -> Option<LegPlace>
+fn fit_in_run(labels: &[Label], runs: &Runs, r: usize, run: &Run) -> Option<LegSite>
     requires { run_at runs.now r ≡ Some run.now }
     ensures found { result ≡ fit_in_jobs labels.now runs.now r run.now.jobs }
     ensures run { IfSome result (λ p. p.run ≡ r) }
@@ -89,7 +89,7 @@ fn fit_in_run(labels: &[Label], runs: &Runs, r: usize, run: &Run) -> Option<LegP
 
 /// The first ready leg such that `labels` has all labels that it asks for and one more leg of its job may run. Takes no memory. `tries` counts
 /// the runs that are looked at.
-pub(crate) fn first_fit(labels: &[Label], runs: &Runs, tries: &mut u64) -> Option<LegPlace>
+pub(crate) fn first_fit(labels: &[Label], runs: &Runs, tries: &mut u64) -> Option<LegSite>
     ensures found { result ≡ first_fit labels.now runs.now }
     ensures run { IfSome result (λ p. p.run < max_runs) }
 {
@@ -108,7 +108,7 @@ pub(crate) fn first_fit(labels: &[Label], runs: &Runs, tries: &mut u64) -> Optio
 }
 
 /// The first leg of the run that has the lease.
-fn lease_in_run(lease: Number, r: usize, run: &Run) -> Option<LegPlace>
+fn lease_in_run(lease: Number, r: usize, run: &Run) -> Option<LegSite>
     ensures found { result ≡ lease_in_run lease r run.now }
     ensures leg { IfSome result (λ p. p.leg < 2 ^ 63) }
 {
@@ -121,9 +121,9 @@ fn lease_in_run(lease: Number, r: usize, run: &Run) -> Option<LegPlace>
 }
 
 /// The leg that has the lease, where each leg that has it has a runner at work.
-pub fn place_of_lease(lease: Number, runs: &Runs) -> Option<LegPlace>
+pub fn site_of_lease(lease: Number, runs: &Runs) -> Option<LegSite>
     requires { OnlyAtWork runs.now lease }
-    ensures found { result ≡ place_of_lease runs.now lease }
+    ensures found { result ≡ site_of_lease runs.now lease }
     ensures leg { IfSome result (λ p. p.leg < 2 ^ 63) }
 {
     let all = runs.as_slice();
@@ -140,7 +140,7 @@ pub fn place_of_lease(lease: Number, runs: &Runs) -> Option<LegPlace>
 }
 
 /// Whether the leg, if there is one, is asked to stop.
-pub fn is_stopping(leg: Option<LegPlace>, runs: &Runs) -> bool
+pub fn is_stopping(leg: Option<LegSite>, runs: &Runs) -> bool
     ensures { result ≡ option_map_or (λ p. option_map_or (λ l. is_stopping_leg l.phase) (leg_at runs.now p) false) leg false }
 {
     match leg {
@@ -150,7 +150,7 @@ pub fn is_stopping(leg: Option<LegPlace>, runs: &Runs) -> bool
 }
 
 /// The outcome of the leg, if there is one, when its runner is lost.
-pub fn outcome_of_loss(leg: Option<LegPlace>, runs: &Runs) -> Outcome
+pub fn outcome_of_loss(leg: Option<LegSite>, runs: &Runs) -> Outcome
     ensures { let stopping = option_map_or (λ p. option_map_or (λ l. is_stopping_leg l.phase) (leg_at runs.now p) false) leg false in
         result ≡ (if stopping then Cancelled else Failure) }
 {
@@ -161,7 +161,7 @@ pub fn outcome_of_loss(leg: Option<LegPlace>, runs: &Runs) -> Outcome
     }
 }
 
-fn is_stopping_at(runs: &Runs, place: LegPlace) -> bool
+fn is_stopping_at(runs: &Runs, place: LegSite) -> bool
     ensures { result ≡ option_map_or (λ l. is_stopping_leg l.phase) (leg_at runs.now place) false }
 {
     match runs.leg(place) {

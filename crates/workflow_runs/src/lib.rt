@@ -1,7 +1,7 @@
 //! The runs of a table: how they settle, how each is found, which holders a concurrency group has, and which leg fits a runner.
 #![tactic(auto)]
 
-pub mod first_place;
+pub mod first_site;
 pub mod fit;
 mod rows;
 pub mod runs;

@@ -45,7 +45,7 @@ use label_lists::LabelLists;
 use run_bindings::RunBindings;
 use run_marks::RunBitmap;
 use run_plan::DeliveryId;
-use run_states::{Change, Holder, Job, Leg, LegPlace, Run};
+use run_states::{Change, Holder, Job, Leg, LegSite, Run};
 use std::alloc::Global;
 use std::marker::Model;
 use wf_value::{Code, Refusal, TryCopy, copy_items};
@@ -221,7 +221,7 @@ impl Rows {
     }
 
     /// The leg at a place.
-    pub(crate) fn leg(&self, place: LegPlace) -> Option<&Leg>
+    pub(crate) fn leg(&self, place: LegSite) -> Option<&Leg>
         ensures { option_copied result ≡ leg_at self.now.runs place }
     {
         self.job(place.run, place.job)?.legs().get(place.leg)

@@ -29,7 +29,7 @@ use group_book::Book;
 use run_bindings::LegView;
 use run_marks::RunBitmap;
 use run_plan::{DeliveryId, PlannedJob};
-use run_states::{Holder, Job, Leg, LegPlace, Run};
+use run_states::{Holder, Job, Leg, LegSite, Run};
 use std::alloc::Global;
 use std::marker::Model;
 use wf_value::{Chars, Combo, Refusal, TryCopy};
@@ -117,7 +117,7 @@ impl Runs {
         }
     }
 
-    pub fn combo(&self, alloc: Global, place: LegPlace) -> Result<Combo, Refusal>
+    pub fn combo(&self, alloc: Global, place: LegSite) -> Result<Combo, Refusal>
         ensures { Gives (λ combo. combo) result (Ok (combo_at self.now place)) }
     {
         match self.planned(place.run, place.job) {
@@ -142,7 +142,7 @@ impl Runs {
 
     /// The planned leg at a place.
     #[tactic(auto, unfolding(run_states::specs::LegContext::facts_at))]
-    pub(super) fn leg_view(&self, place: LegPlace) -> Option<LegView<'_>>
+    pub(super) fn leg_view(&self, place: LegSite) -> Option<LegView<'_>>
         requires leg { place.leg < 2 ^ 63 }
         ensures { result ≡ facts_at self.now place }
     {
@@ -176,7 +176,7 @@ impl Runs {
     }
 
     /// The leg at a place.
-    pub fn leg(&self, place: LegPlace) -> Option<&Leg>
+    pub fn leg(&self, place: LegSite) -> Option<&Leg>
         ensures { option_copied result ≡ leg_at self.now place }
     {
         let job = self.job(place.run, place.job)?;

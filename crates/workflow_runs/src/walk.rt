@@ -6,7 +6,7 @@ ghost use Rattle.run_states.specs.FirstOf.{placed};
 ghost use Rattle.run_states.specs.PlacedLegs.{placed_leg, placed_legs, placed_legs_of_run};
 
 use crate::runs::Runs;
-use run_states::{Job, Leg, LegPlace, Run};
+use run_states::{Job, Leg, LegSite, Run};
 use std::marker::Model;
 
 /// The remaining legs. A contract sees them as a list, each with its place.
@@ -14,7 +14,7 @@ use std::marker::Model;
 pub struct Legs<'a> {
     /// The remaining legs of one job, and the place of the first of them.
     legs: &'a [Leg],
-    at: LegPlace,
+    at: LegSite,
     /// The later jobs of its run, and the index of the first of them.
     jobs: &'a [Job],
     job: usize,
@@ -41,7 +41,7 @@ impl<'a> Legs<'a> {
     {
         Legs {
             legs: &[],
-            at: LegPlace::new(0, 0, 0),
+            at: LegSite::new(0, 0, 0),
             jobs: &[],
             job: 0,
             runs: runs.as_slice(),
@@ -55,7 +55,7 @@ impl<'a> Legs<'a> {
     {
         Legs {
             legs: &[],
-            at: LegPlace::new(r, 0, 0),
+            at: LegSite::new(r, 0, 0),
             jobs: run.jobs(),
             job: 0,
             runs: &[],
@@ -69,7 +69,7 @@ impl<'a> Legs<'a> {
     {
         Legs {
             legs,
-            at: LegPlace::new(r, j, 0),
+            at: LegSite::new(r, j, 0),
             jobs: &[],
             job: 0,
             runs: &[],
@@ -79,25 +79,25 @@ impl<'a> Legs<'a> {
 }
 
 impl<'a> Iterator for Legs<'a> {
-    type Item = (LegPlace, &'a Leg);
+    type Item = (LegSite, &'a Leg);
 
     ghost next_gives = { λ s r t. YieldsFirstBy (λ item. record { place = item.0; leg = item.1.now }) (λ rest. rest) s r t
         × IfSome r (λ item. item.0.leg < 2 ^ 63) };
 
     ghost remaining = { item_count (λ rest. rest) };
 
-    fn next(&mut self) -> Option<(LegPlace, &'a Leg)> {
+    fn next(&mut self) -> Option<(LegSite, &'a Leg)> {
         while self.legs.is_empty() {
             if let Some((job, jobs)) = self.jobs.split_first() {
                 self.legs = job.legs();
-                self.at = LegPlace::new(self.at.run, self.job, 0);
+                self.at = LegSite::new(self.at.run, self.job, 0);
                 self.jobs = jobs;
                 self.job += 1;
             } else {
                 let (run, runs) = self.runs.split_first()?;
                 self.jobs = run.jobs();
                 self.job = 0;
-                self.at = LegPlace::new(self.run, 0, 0);
+                self.at = LegSite::new(self.run, 0, 0);
                 self.runs = runs;
                 self.run += 1;
             }

@@ -4,11 +4,11 @@ ghost use Rattle.std.specs.Prelude.{◌≡◌, ◌≢◌, ◌-◌, ℕ, count_by
 ghost use Rattle.run_states.specs.Cells.{rooms, states};
 ghost use Rattle.run_states.specs.FirstOf.{changed_at};
 ghost use Rattle.run_states.specs.JobResults.{results_so_far};
-ghost use Rattle.run_states.specs.NeedsLeft.{NamedOnce, NeedsAreLeft, needs_left_at, unsettled};
-ghost use Rattle.run_states.specs.Rules.{settled_as};
+ghost use Rattle.run_states.specs.NeedsLeft.{NamedOnce, NeedsAreLeft, needs_left_at, unfinished};
+ghost use Rattle.run_states.specs.Rules.{finished_as};
 
 use crate::job::Job;
-use crate::run::is_settled_at;
+use crate::run::is_finished_at;
 use needs_graph::Graph;
 use wf_value::JobResult;
 
@@ -20,7 +20,7 @@ pub(super) fn count_needs(jobs: &mut Vec<Job>, graph: &Graph)
     ensures left { NeedsAreLeft graph.now jobs.new.items }
 {
     for j in 0..jobs.len() {
-        let left = count_unsettled(jobs.as_slice(), graph.needs(j));
+        let left = count_unfinished(jobs.as_slice(), graph.needs(j));
         let job = &mut jobs[j];
         job.set_needs_left(left);
     }
@@ -31,27 +31,27 @@ pub(super) fn settle_among(jobs: &mut Vec<Job>, graph: &Graph, j: usize, settled
     requires as_many { length jobs.old.items ≡ length graph.now }
     requires once { NamedOnce graph.now }
     requires left { NeedsAreLeft graph.now jobs.old.items }
-    ensures states { states jobs.new.items ≡ changed_at j (settled_as settled) (states jobs.old.items) }
+    ensures states { states jobs.new.items ≡ changed_at j (finished_as settled) (states jobs.old.items) }
     ensures rooms { rooms jobs.new.items ≡ rooms jobs.old.items }
     ensures left { NeedsAreLeft graph.now jobs.new.items }
 {
     if j < jobs.len() {
         let job = &mut jobs[j];
-        let had_settled = job.is_settled();
+        let had_finished = job.is_finished();
         job.settle(settled);
-        if !had_settled {
+        if !had_finished {
             lower_needs(jobs, graph.dependents(j));
         }
     }
 }
 
 /// How many of the jobs at these indices have not finished.
-fn count_unsettled(jobs: &[Job], places: &[usize]) -> usize
-    ensures { result ≡ unsettled (results_so_far (states jobs.now)) places.now }
+fn count_unfinished(jobs: &[Job], places: &[usize]) -> usize
+    ensures { result ≡ unfinished (results_so_far (states jobs.now)) places.now }
 {
     places
         .iter()
-        .filter(|place| !is_settled_at(jobs, **place))
+        .filter(|place| !is_finished_at(jobs, **place))
         .count()
 }
 

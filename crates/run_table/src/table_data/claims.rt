@@ -9,7 +9,7 @@ ghost use Rattle.run_table.specs.Sound.{IsSound};
 ghost use Rattle.run_states.specs.Places.{run_at};
 ghost use Rattle.run_table.specs.Step.{claim_answer, claimed, claiming, claiming_runner, is_allocation_free, kept_lease_at};
 ghost use Rattle.run_table.specs.Step.{lease_answer, lease_at, leasing, outcome, serving_nothing, unchanged};
-ghost use Rattle.run_table.specs.PlaceNamed.{place_named};
+ghost use Rattle.run_table.specs.IndexNamed.{index_named};
 ghost use Rattle.run_plan.specs.declared.last_command.ClaimReply.TheVariants as given;
 
 use crate::leases::kept_lease;
@@ -17,7 +17,7 @@ use crate::runner::{Runner, holds_lease};
 use crate::sequence_numbers::answer_to_claim;
 use crate::table_data::{TableData, refused, with_copy};
 use run_plan::{BoxedLease, Claim, ClaimReply, LAST_NUMBER, Number, Reply};
-use run_states::LegPlace;
+use run_states::LegSite;
 use std::alloc::Global;
 use wf_value::{Code, Refusal, TryCopy};
 use workflow_runs::runs::Runs;
@@ -30,7 +30,7 @@ impl TableData {
         ensures err { OnErr result (self.new ≡ self.old) }
         ensures answers { is_allocation_free (claim_answer self.old claim.now) ≡ true → IsOk result }
     {
-        let place = self.runners.place_named(&claim.runner);
+        let place = self.runners.index_named(&claim.runner);
         let runner = self.runners.at(place, &claim.runner);
         if let Some(reply) = answer_to_claim(alloc, runner, claim)? {
             return with_copy(alloc, reply);
@@ -50,7 +50,7 @@ impl TableData {
         place: usize,
     ) -> Result<(Reply, Reply), Refusal>
         requires sound { IsSound self.old }
-        requires place { place ≡ place_named self.old.runners claim.now.runner }
+        requires place { place ≡ index_named self.old.runners claim.now.runner }
         ensures step { Gives (λ replies. (self.new, replies.0)) result
             (Ok (outcome (option_map_or (unchanged self.old) (lease_answer self.old claim.now) (claiming self.old claim.now)))) }
         ensures copy { IfOk result (λ replies. replies.1 ≡ replies.0) }
@@ -75,7 +75,7 @@ impl TableData {
         place: usize,
     ) -> Result<(Reply, Reply), Refusal>
         requires sound { IsSound self.old }
-        requires place { place ≡ place_named self.old.runners claim.now.runner }
+        requires place { place ≡ index_named self.old.runners claim.now.runner }
         ensures step { Gives (λ replies. (self.new, replies.0)) result (Ok (outcome (serving_nothing self.old claim.now))) }
         ensures copy { IfOk result (λ replies. replies.1 ≡ replies.0) }
         ensures err { OnErr result (self.new ≡ self.old) }
@@ -91,10 +91,10 @@ impl TableData {
         alloc: Global,
         claim: &Claim,
         place: usize,
-        leg: LegPlace,
+        leg: LegSite,
     ) -> Result<(Reply, Reply), Refusal>
         requires sound { IsSound self.old }
-        requires place { place ≡ place_named self.old.runners claim.now.runner }
+        requires place { place ≡ index_named self.old.runners claim.now.runner }
         requires run { leg.run < max_runs }
         requires fits { first_fit claim.now.labels self.old.runs ≡ Some leg }
         requires left { self.old.last_lease < last_number }
@@ -117,7 +117,7 @@ fn runner_and_replies(
     alloc: Global,
     claim: &Claim,
     runs: &Runs,
-    place: LegPlace,
+    place: LegSite,
     lease: Number,
 ) -> Result<(Runner, BoxedLease, BoxedLease), Refusal>
     requires run { place.run < max_runs }

@@ -8,7 +8,7 @@ ghost use Rattle.run_states.specs.SoundRuns.{RunsAreSound};
 ghost use Rattle.run_table.specs.Step.{is_allocation_free, losing, loss_answer, lost, outcome};
 ghost use Rattle.run_states.specs.StopMoves.{with_ended};
 ghost use Rattle.run_states.specs.Stops.{outcome_of_loss};
-ghost use Rattle.run_table.specs.PlaceNamed.{place_named};
+ghost use Rattle.run_table.specs.IndexNamed.{index_named};
 
 use crate::runner::Runner;
 use crate::table_data::{TableData, refused};
@@ -24,7 +24,7 @@ impl TableData {
         ensures err { OnErr result (self.new ≡ self.old) }
         ensures answers { is_allocation_free (loss_answer self.old name.now) ≡ true → IsOk result }
     {
-        let place = self.runners.place_named(name);
+        let place = self.runners.index_named(name);
         match self.runners.at(place, name) {
             Some(runner) => match runner.holds {
                 Some(lease) => {
@@ -40,7 +40,7 @@ impl TableData {
     /// Ends the leg of a lost runner's lease. `runner` is that runner, released.
     fn end_lost(&mut self, place: usize, runner: Runner, lease: Number) -> Result<Reply, Refusal>
         requires sound { IsSound self.old }
-        requires place { place ≡ place_named self.old.runners runner.name }
+        requires place { place ≡ index_named self.old.runners runner.name }
         requires work { OnlyAtWork self.old.runs lease }
         requires ends { RunsAreSound (with_ended lease (outcome_of_loss self.old.runs lease) self.old.runs) }
         ensures step { Gives (λ reply. (self.new, reply)) result (Ok (outcome (losing self.old runner lease))) }

@@ -19,7 +19,7 @@ impl TableData {
         requires { IsSound self.now }
         ensures { result ≡ beat_answer self.now beat.now }
     {
-        let place = self.runners.place_named(&beat.runner);
+        let place = self.runners.index_named(&beat.runner);
         let runner = self.runners.at(place, &beat.runner);
         if runner.is_none() {
             refused(Code::NoRunner)

@@ -4,7 +4,7 @@ ghost use Rattle.std.specs.Prelude.{◌≡◌, true, Ok, OnErr, IsOk};
 ghost use Rattle.wf_value.specs.Gives.{Gives};
 ghost use Rattle.run_table.specs.Sound.{IsSound};
 ghost use Rattle.run_table.specs.Step.{is_allocation_free, outcome, report_answer, reported, reporting};
-ghost use Rattle.run_table.specs.PlaceNamed.{place_named};
+ghost use Rattle.run_table.specs.IndexNamed.{index_named};
 
 use crate::runner::{Runner, holds_this};
 use crate::sequence_numbers::answer_to_report;
@@ -20,7 +20,7 @@ impl TableData {
         ensures err { OnErr result (self.new ≡ self.old) }
         ensures answers { is_allocation_free (report_answer self.old report.now) ≡ true → IsOk result }
     {
-        let place = self.runners.place_named(&report.runner);
+        let place = self.runners.index_named(&report.runner);
         let runner = self.runners.at(place, &report.runner);
         if let Some(reply) = answer_to_report(alloc, runner, report)? {
             return Ok(reply);
@@ -34,7 +34,7 @@ impl TableData {
     /// Ends the leg of the lease.
     fn end(&mut self, alloc: Global, report: &Done, place: usize) -> Result<Reply, Refusal>
         requires sound { IsSound self.old }
-        requires place { place ≡ place_named self.old.runners report.now.runner }
+        requires place { place ≡ index_named self.old.runners report.now.runner }
         requires due { report_answer self.old report.now ≡ None }
         ensures step { Gives (λ reply. (self.new, reply)) result (Ok (outcome (reporting self.old report.now))) }
         ensures err { OnErr result (self.new ≡ self.old) }

@@ -7,8 +7,8 @@ ghost use Rattle.run_states.specs.Cells.{states};
 ghost use Rattle.stored_tables.specs.OneByOne.{EachJobIsSound, IsWithinParallel, JobIsSound, NeedsAreFirst};
 ghost use Rattle.run_states.specs.Rules.{result_at};
 ghost use Rattle.run_states.specs.SoundRuns.{LegsFit, MayLackLegs};
-ghost use Rattle.run_states.specs.Words.{needs_have_settled, planned_legs};
-ghost use Rattle.run_states.specs.declared.phases.JobPhase.TheVariants.{Settled};
+ghost use Rattle.run_states.specs.Words.{needs_have_finished, planned_legs};
+ghost use Rattle.run_states.specs.declared.phases.JobPhase.TheVariants.{Finished};
 
 use run_states::{Job, JobPhase};
 use wf_value::JobResult;
@@ -35,8 +35,8 @@ pub(crate) fn planned_legs(runs: &Runs, r: usize, j: usize) -> usize
 }
 
 /// Whether a finished job either has no legs and may lack them, or has all of them, ended, with this result.
-fn settled_legs_fit(runs: &Runs, r: usize, j: usize, job: &Job, settled: JobResult) -> bool
-    ensures { Decides result (LegsFit (planned_legs runs.now r j) (result_at runs.now r j job.now.state) (Settled settled)
+fn finished_legs_fit(runs: &Runs, r: usize, j: usize, job: &Job, settled: JobResult) -> bool
+    ensures { Decides result (LegsFit (planned_legs runs.now r j) (result_at runs.now r j job.now.state) (Finished settled)
         job.now.state.legs) }
 {
     let legs = job.legs();
@@ -56,15 +56,15 @@ fn legs_fit(runs: &Runs, r: usize, j: usize, job: &Job) -> bool
     match job.phase() {
         JobPhase::Blocked => job.legs().is_empty(),
         JobPhase::Open => job.legs().len() == planned_legs(runs, r, j),
-        JobPhase::Settled(settled) => settled_legs_fit(runs, r, j, job, settled),
+        JobPhase::Finished(settled) => finished_legs_fit(runs, r, j, job, settled),
     }
 }
 
-fn needs_have_settled(runs: &Runs, r: usize, j: usize) -> bool
-    ensures { result ≡ needs_have_settled runs.now r j }
+fn needs_have_finished(runs: &Runs, r: usize, j: usize) -> bool
+    ensures { result ≡ needs_have_finished runs.now r j }
 {
     match runs.as_slice().get(r) {
-        Some(run) => run.needs_have_settled(j),
+        Some(run) => run.needs_have_finished(j),
         None => true,
     }
 }
@@ -73,7 +73,7 @@ fn needs_have_settled(runs: &Runs, r: usize, j: usize) -> bool
 fn needs_are_first(runs: &Runs, r: usize, j: usize, job: &Job) -> bool
     ensures { Decides result (NeedsAreFirst runs.now r j job.now.state) }
 {
-    job.legs().is_empty() || needs_have_settled(runs, r, j)
+    job.legs().is_empty() || needs_have_finished(runs, r, j)
 }
 
 /// Whether at most as many legs of the job are at work as its plan allows.

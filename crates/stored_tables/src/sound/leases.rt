@@ -8,7 +8,7 @@ ghost use Rattle.stored_tables.specs.ByLease.{lease_of_leg, lease_of_runner};
 ghost use Rattle.stored_tables.specs.ByNumber.{Adds, Finds};
 
 use run_plan::Number;
-use run_states::LegPlace;
+use run_states::LegSite;
 use run_table::Runner;
 use std::alloc::Global;
 use std::collections::BTreeMap;
@@ -22,13 +22,13 @@ pub(crate) struct Leases {
     /// The last lease granted.
     pub last: u32,
     /// For each lease that a leg has, the place of such a leg.
-    pub legs: BTreeMap<u32, LegPlace>,
+    pub legs: BTreeMap<u32, LegSite>,
     /// For each lease that a runner holds, the index of such a runner.
     pub held: BTreeMap<u32, usize>,
 }
 
 /// For each lease that a leg has, the place of such a leg.
-pub(crate) fn legs_by_lease(alloc: Global, runs: &Runs) -> Result<BTreeMap<u32, LegPlace>, Refusal>
+pub(crate) fn legs_by_lease(alloc: Global, runs: &Runs) -> Result<BTreeMap<u32, LegSite>, Refusal>
     ensures err { ErrsOnlyByMemory result }
     ensures found { IfOk result (λ legs. (n : ℕ) → Finds (lease_of_leg runs.now) n (get nat_cmp legs n)) }
 {
@@ -41,9 +41,9 @@ pub(crate) fn legs_by_lease(alloc: Global, runs: &Runs) -> Result<BTreeMap<u32, 
 
 /// Adds the place of a leg under its lease, if it has one.
 fn put_leg(
-    legs: &mut BTreeMap<u32, LegPlace>,
+    legs: &mut BTreeMap<u32, LegSite>,
     lease: Option<Number>,
-    place: LegPlace,
+    place: LegSite,
 ) -> Result<(), Refusal>
     ensures err { ErrsOnlyByMemory result }
     ensures put { OnOk result (Adds (get nat_cmp legs.old) (get nat_cmp legs.new) (λ p n. (p ≡ place) × (lease ≡ Some n))) }

@@ -8,7 +8,7 @@ ghost use Rattle.run_states.specs.SoundRuns.{LeaseFits};
 
 use crate::sound::leases::Leases;
 use run_plan::Number;
-use run_states::{Leg, LegPhase, LegPlace};
+use run_states::{Leg, LegPhase, LegSite};
 use wf_value::Outcome;
 use workflow_runs::runs::Runs;
 use workflow_runs::walk::Legs;
@@ -36,7 +36,7 @@ fn is_given(last: u32, lease: Option<Number>) -> bool
 }
 
 /// Whether a look-up by the lease finds the leg at this place.
-fn leads_to(leases: &Leases, lease: Number, place: LegPlace) -> bool
+fn leads_to(leases: &Leases, lease: Number, place: LegSite) -> bool
     ensures { Decides result (leg_of leases.now lease ≡ Some place) }
 {
     match leases.legs.get(&lease.get()) {
@@ -52,7 +52,7 @@ fn is_held(leases: &Leases, lease: Number) -> bool
 }
 
 /// Whether a look-up by the leg's lease finds the leg, and a runner holds the lease while the leg is at work.
-fn is_found(leases: &Leases, place: LegPlace, leg: &Leg) -> bool
+fn is_found(leases: &Leases, place: LegSite, leg: &Leg) -> bool
     ensures { Decides result (IsFound leases.now place leg.now) }
 {
     match leg.lease {
@@ -63,7 +63,7 @@ fn is_found(leases: &Leases, place: LegPlace, leg: &Leg) -> bool
     }
 }
 
-fn is_leg_sound(leases: &Leases, place: LegPlace, leg: &Leg) -> bool
+fn is_leg_sound(leases: &Leases, place: LegSite, leg: &Leg) -> bool
     ensures { Decides result (LegIsSound leases.now place leg.now) }
 {
     lease_fits(leg.phase, leg.lease)

@@ -11,7 +11,7 @@ ghost use Rattle.run_states.specs.StateWords.{is_blocked};
 
 use crate::sound::jobs::are_jobs_sound;
 use run_states::{Job, LAST_ATTEMPT, Run, RunPhase};
-use workflow_runs::first_place::has_settled_jobs;
+use workflow_runs::first_site::has_finished_jobs;
 use workflow_runs::runs::Runs;
 
 fn are_blocked(jobs: &[Job]) -> bool
@@ -40,7 +40,7 @@ fn phase_fits(run: &Run) -> bool
     match run.phase() {
         RunPhase::Waiting => !run.is_stopping() && has_blocked_jobs(run),
         RunPhase::Live => true,
-        RunPhase::Ended => has_settled_jobs(run),
+        RunPhase::Ended => has_finished_jobs(run),
     }
 }
 

@@ -20,10 +20,10 @@ impl Views<'_> {
     /// Answers what clients have asked, and closes their streams.
     pub fn part_with_all(&mut self, alloc: Global, buffer: &mut Vec<u8>, now: Instant) {
         self.accept_all(alloc, now);
-        for place in 0..self.slots.len() {
-            if let Some(viewer) = self.get(place) {
+        for slot in 0..self.slots.len() {
+            if let Some(viewer) = self.get(slot) {
                 viewer.part(alloc, buffer, now);
-                self.close(place);
+                self.close(slot);
             }
         }
     }

@@ -5,11 +5,11 @@ ghost use Rattle.std.specs.Prelude.{◌≡◌};
 use crate::rows::Rows;
 use crate::rows::offers::{offer_run, offers_list, put_run};
 use run_bindings::label_numbers::list_number;
-use run_states::LegPlace;
+use run_states::LegSite;
 
 impl Rows {
     /// Unmarks the run of a leg for the leg's list, if no ready leg of the run asks for that list. Claims for the list then skip the run.
-    pub(crate) fn refresh_list(&mut self, place: LegPlace)
+    pub(crate) fn refresh_list(&mut self, place: LegSite)
         ensures { self.new ≡ self.old }
     {
         let r = place.run;

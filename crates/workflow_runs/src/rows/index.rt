@@ -11,7 +11,7 @@ ghost use Rattle.workflow_runs.specs.Counted.{AreCounted, count_of};
 ghost use Rattle.workflow_runs.specs.Delivered.{FindsFirst};
 
 use crate::rows::counts::Counts;
-use crate::rows::places::DeliveryPlaces;
+use crate::rows::places::DeliveryIndexes;
 use crate::rows::workflow::Workflow;
 use label_lists::LabelLists;
 use run_plan::DeliveryId;
@@ -22,7 +22,7 @@ use wf_value::{Chars, Refusal};
 /// labels.
 #[derive(Drop)]
 pub(crate) struct Index {
-    pub places: DeliveryPlaces,
+    pub places: DeliveryIndexes,
     pub counts: Counts,
     pub lists: LabelLists,
 }
@@ -35,7 +35,7 @@ impl Index {
         ensures offered { LegsAreOffered [] [] result.lists }
     {
         Index {
-            places: DeliveryPlaces::new(alloc),
+            places: DeliveryIndexes::new(alloc),
             counts: Counts::new(alloc),
             lists: LabelLists::new(alloc),
         }

@@ -16,10 +16,10 @@ use run_bindings::label_numbers::list_number;
 use run_bindings::resolved_labels::has_texts;
 use run_bindings::{ListNumbers, RunBindings};
 use run_plan::Label;
-use run_states::{Job, Leg, LegPlace, Run};
+use run_states::{Job, Leg, LegSite, Run};
 
 /// Marks the run of a leg that is about to become ready for the leg's list.
-pub(crate) fn offer(lists: &mut LabelLists, leg: Option<LegPlace>, bindings: &RunBindings)
+pub(crate) fn offer(lists: &mut LabelLists, leg: Option<LegSite>, bindings: &RunBindings)
     requires { IfSome leg (λ p. HasPlace lists.old (list_number bindings.now.lists p.job p.leg) p.run) }
     ensures itself { IfSome leg (λ p. IsOffered lists.new bindings.now p) }
     ensures others { OnlyMarks lists.old lists.new }

@@ -12,15 +12,15 @@ use wf_value::Refusal;
 
 /// The index of the first run of each delivery.
 #[derive(Drop)]
-pub(crate) struct DeliveryPlaces {
+pub(crate) struct DeliveryIndexes {
     pub places: IndexMap<String, usize>,
 }
 
-impl DeliveryPlaces {
+impl DeliveryIndexes {
     pub(crate) fn new(alloc: Global) -> Self
         ensures { (delivery : List ℕ) → get_by_text result.places delivery ≡ None }
     {
-        DeliveryPlaces {
+        DeliveryIndexes {
             places: IndexMap::new(alloc),
         }
     }
@@ -65,7 +65,7 @@ impl DeliveryPlaces {
         ensures err { ErrsOnlyByMemory result }
         ensures same { IfOk result (λ copy. (delivery : List ℕ) → get_by_text copy.places delivery ≡ get_by_text self.now.places delivery) }
     {
-        Ok(DeliveryPlaces {
+        Ok(DeliveryIndexes {
             places: self.places.clone()?,
         })
     }

@@ -27,14 +27,14 @@ use crate::rows::Rows;
 use crate::runs::Runs;
 use group_book::Book;
 use run_marks::RunBitmap;
-use run_states::{Change, Holder, JobPlace, Leg, LegPhase, LegPlace, Run};
+use run_states::{Change, Holder, JobSite, Leg, LegPhase, LegSite, Run};
 use std::alloc::Global;
 use wf_value::{Outcome, Refusal};
 
 impl Runs {
     /// Adds a run at the end, which waits and arrives in its group. Returns where settling begins to search. On an `Err` nothing has
     /// changed.
-    pub fn admit(&mut self, alloc: Global, run: Run) -> Result<JobPlace, Refusal>
+    pub fn admit(&mut self, alloc: Global, run: Run) -> Result<JobSite, Refusal>
         requires few { length self.old < max_runs }
         requires waits { run_waits run.phase ≡ true }
         requires sound { RunsAreSound (self.old ++ run ∷ []) }
@@ -58,7 +58,7 @@ impl Runs {
     }
 
     /// Where settling begins to search after the arrival of a new run.
-    fn start_of_search(&self, newcomer: usize) -> JobPlace
+    fn start_of_search(&self, newcomer: usize) -> JobSite
         requires { newcomer < length self.now }
         ensures { result ≡ resume_at_arrival self.now newcomer }
     {
@@ -67,7 +67,7 @@ impl Runs {
         } else {
             newcomer
         };
-        JobPlace { run, job: 0 }
+        JobSite { run, job: 0 }
     }
 
     /// Puts run `r`, which has ended, into its next attempt, in which it waits and arrives in its group. On an `Err` nothing has changed.
@@ -103,7 +103,7 @@ impl Runs {
     }
 
     /// The leg arrives in its group and waits. If its group is its own run's, it is cancelled instead.
-    pub(super) fn begin_leg(&mut self, place: LegPlace)
+    pub(super) fn begin_leg(&mut self, place: LegSite)
         requires new { is_new_at self.old place ≡ true }
         requires sound { RunsAreSound self.old }
         ensures { self.new ≡ (newcomer_rule self.old place).runs }

@@ -8,8 +8,8 @@ ghost use Rattle.run_states.specs.Changes.{changed};
 ghost use Rattle.run_states.specs.Groups.{may_start, waits};
 ghost use Rattle.run_states.specs.Holders.{run_of};
 ghost use Rattle.run_states.specs.Places.{with_job, with_run};
-ghost use Rattle.run_states.specs.Rules.{may_run, opened, run_in_phase, settled_as, with_leg_in};
-ghost use Rattle.run_states.specs.Settling.{first_place};
+ghost use Rattle.run_states.specs.Rules.{may_run, opened, run_in_phase, finished_as, with_leg_in};
+ghost use Rattle.run_states.specs.Settling.{first_site};
 ghost use Rattle.run_states.specs.SoundRuns.{RunsAreSound};
 ghost use Rattle.run_states.specs.Words.{planned_legs};
 ghost use Rattle.run_states.specs.declared.holder.Holder.{Holder as HolderInWords};
@@ -25,7 +25,7 @@ use crate::rows::Rows;
 use crate::runs::Runs;
 use group_book::Book;
 use run_marks::RunBitmap;
-use run_states::{Change, Holder, LegPhase, LegPlace, RunPhase};
+use run_states::{Change, Holder, LegPhase, LegSite, RunPhase};
 use wf_value::JobResult;
 
 impl Runs {
@@ -83,7 +83,7 @@ impl Runs {
     /// Opens job `j` of run `r` with all legs of its plan, and decides their groups.
     pub(crate) fn open_job(&mut self, r: usize, j: usize)
         requires sound { RunsAreSound self.old }
-        requires first { first_place self.old ≡ Some (Opening r j) }
+        requires first { first_site self.old ≡ Some (Opening r j) }
         requires may { may_run self.old r j ≡ true }
         ensures { self.new ≡ with_job r j (opened (planned_legs self.old r j)) self.old }
     {
@@ -95,14 +95,14 @@ impl Runs {
 
     pub(crate) fn settle_job(&mut self, r: usize, j: usize, settled: JobResult)
         requires within { r < length self.old }
-        requires nobody { ChangesNobody self.old (with_job r j (settled_as settled) self.old) }
-        ensures { self.new ≡ with_job r j (settled_as settled) self.old }
+        requires nobody { ChangesNobody self.old (with_job r j (finished_as settled) self.old) }
+        ensures { self.new ≡ with_job r j (finished_as settled) self.old }
     {
         self.change_within(r, Change::Settle(j, settled));
     }
 
     /// The waiting leg becomes ready.
-    pub(crate) fn start_leg(&mut self, place: LegPlace)
+    pub(crate) fn start_leg(&mut self, place: LegSite)
         requires sound { RunsAreSound self.old }
         requires waits { waits self.old (held.Leg place) ≡ true }
         requires may { may_start self.old (held.Leg place) ≡ true }

@@ -14,12 +14,12 @@ ghost use Rattle.run_states.specs.declared.phases.LegPhase.TheVariants.{Ended};
 
 use crate::runs::Runs;
 use run_plan::Number;
-use run_states::{Change, Holder, Leg, LegPhase, LegPlace};
+use run_states::{Change, Holder, Leg, LegPhase, LegSite};
 use wf_value::Outcome;
 
 impl Runs {
     /// Ends the leg, if there is one.
-    pub fn end(&mut self, leg: Option<LegPlace>, outcome: Outcome)
+    pub fn end(&mut self, leg: Option<LegSite>, outcome: Outcome)
         requires leg { IfSome leg (λ p. p.leg < 2 ^ 63) }
         requires sound { RunsAreSound self.old }
         requires work { IfSome leg (λ p. IfSome (leg_at self.old p) (λ leg. is_at_work leg.phase ≡ true)) }
@@ -41,7 +41,7 @@ impl Runs {
     }
 
     /// Whether the end of the leg stops the other legs of its job. Takes no memory.
-    fn stops_others(&self, place: LegPlace, outcome: Outcome) -> bool
+    fn stops_others(&self, place: LegSite, outcome: Outcome) -> bool
         ensures { result ≡ stops_others self.now place outcome }
     {
         outcome == Outcome::Failure
@@ -50,7 +50,7 @@ impl Runs {
     }
 
     /// Ends the leg at the place, and stops the other legs of its job if its end stops them.
-    fn end_at(&mut self, place: LegPlace, outcome: Outcome)
+    fn end_at(&mut self, place: LegSite, outcome: Outcome)
         requires leg { place.leg < 2 ^ 63 }
         requires sound { RunsAreSound self.old }
         requires work { IfSome (leg_at self.old place) (λ leg. is_at_work leg.phase ≡ true) }
@@ -63,7 +63,7 @@ impl Runs {
         }
     }
 
-    fn end_leg(&mut self, place: LegPlace, outcome: Outcome)
+    fn end_leg(&mut self, place: LegSite, outcome: Outcome)
         requires sound { RunsAreSound self.old }
         requires work { IfSome (leg_at self.old place) (λ leg. is_at_work leg.phase ≡ true) }
         ensures ended { self.new ≡ with_leg_in (Ended outcome) place self.old }
@@ -77,7 +77,7 @@ impl Runs {
     }
 
     /// Gives a ready leg to a runner.
-    pub fn lease(&mut self, place: LegPlace, lease: Number)
+    pub fn lease(&mut self, place: LegSite, lease: Number)
         requires sound { RunsAreSound self.old }
         requires holds { holds self.old (held.Leg place) ≡ true }
         ensures { self.new ≡ with_leg place (λ _. leased_leg lease) self.old }

@@ -5,13 +5,13 @@ ghost use Rattle.std.specs.Prelude.{◌≡◌};
 ghost use Rattle.run_states.specs.Words.{continues_on_error};
 
 use crate::runs::Runs;
-use run_states::LegPlace;
+use run_states::LegSite;
 use wf_reader::Flag;
 
 impl Runs {
     /// Whether a failure of the leg is ignored. A leg that its plan does not have ignores no failure; for every other leg a template was
     /// bound. Takes no memory.
-    pub(super) fn continues_on_error(&self, place: LegPlace) -> bool
+    pub(super) fn continues_on_error(&self, place: LegSite) -> bool
         ensures { result ≡ continues_on_error self.now place }
     {
         let Some(planned) = self.planned(place.run, place.job) else {

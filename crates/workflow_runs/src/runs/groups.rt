@@ -12,13 +12,13 @@ ghost use Rattle.run_states.specs.Places.{run_at};
 ghost use Rattle.run_states.specs.Resuming.{makes_room};
 ghost use Rattle.run_states.specs.declared.holder.Holder.TheVariants as held;
 ghost use Rattle.run_bindings.specs.Bindings.{RunSays};
-ghost use Rattle.run_bindings.specs.BoundGroups.{results_by_place};
+ghost use Rattle.run_bindings.specs.BoundGroups.{results_by_index};
 ghost use Rattle.workflow_runs.specs.GroupsKept.{is_there};
 
 use crate::runs::Runs;
 use group_name::GroupKey;
 use run_bindings::{GroupRequest, RunBindings};
-use run_states::{Holder, LegPlace, Run};
+use run_states::{Holder, LegSite, Run};
 use std::alloc::Global;
 use wf_value::{Refusal, Same};
 
@@ -36,7 +36,7 @@ impl Runs {
 
     /// What a run or a leg asks of a group, and its run. The group's name may depend on the results of that run's jobs.
     fn requested(&self, holder: &Holder) -> Option<(&GroupRequest, &Run)>
-        ensures group { option_and_then (λ a. bound_group_at (results_by_place a.1.now) a.0.now.group) result
+        ensures group { option_and_then (λ a. bound_group_at (results_by_index a.1.now) a.0.now.group) result
             ≡ group_at self.now holder.now }
     {
         let (run, bindings) = self.with_bindings(holder.run())?;
@@ -92,7 +92,7 @@ impl Runs {
     }
 
     /// Whether the leg's group is the group of its own run.
-    pub(crate) fn is_in_group_of_run(&self, leg: LegPlace) -> bool
+    pub(crate) fn is_in_group_of_run(&self, leg: LegSite) -> bool
         requires { is_there self.now (held.Leg leg) ≡ true }
         ensures { result ≡ is_in_group_of_run self.now leg }
     {

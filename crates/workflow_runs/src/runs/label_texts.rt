@@ -5,13 +5,13 @@ ghost use Rattle.wf_value.specs.Gives.{Gives};
 ghost use Rattle.run_states.specs.Words.{labels_at};
 
 use crate::runs::Runs;
-use run_states::LegPlace;
+use run_states::LegSite;
 use std::alloc::Global;
 use wf_value::{Chars, Refusal, Sequence};
 
 impl Runs {
     /// The texts; empty if the leg is not planned.
-    pub fn label_texts(&self, alloc: Global, place: LegPlace) -> Result<Sequence<Chars>, Refusal>
+    pub fn label_texts(&self, alloc: Global, place: LegSite) -> Result<Sequence<Chars>, Refusal>
         requires leg { place.leg < 2 ^ 63 }
         ensures { Gives (λ texts. texts) result (Ok (unwrap_or (labels_at self.now place) [])) }
     {

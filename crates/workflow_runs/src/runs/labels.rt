@@ -7,11 +7,11 @@ ghost use Rattle.run_states.specs.Words.{planned_legs};
 
 use crate::runs::Runs;
 use run_plan::Label;
-use run_states::LegPlace;
+use run_states::LegSite;
 
 impl Runs {
     /// Whether `labels` has all labels that the leg asks for. Takes no memory.
-    pub(crate) fn is_served(&self, labels: &[Label], place: LegPlace) -> bool
+    pub(crate) fn is_served(&self, labels: &[Label], place: LegSite) -> bool
         requires { place.leg < planned_legs self.now place.run place.job }
         ensures { result ≡ is_served labels.now self.now place }
     {

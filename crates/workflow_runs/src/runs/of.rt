@@ -13,8 +13,8 @@ ghost use Rattle.run_states.specs.Groups.{HasOneEach};
 ghost use Rattle.run_states.specs.declared.holder.Holder.{Holder as HolderInWords};
 ghost use Rattle.run_bindings.specs.GroupKeys.{ticket_in};
 ghost use Rattle.workflow_runs.specs.RowsKept.{holder_key_at, key_at};
-ghost use Rattle.workflow_runs.specs.declared.runs.of.Place.TheVariants.{InProgress};
-ghost use Rattle.workflow_runs.specs.Seating.{AreSeatedOrTaken, AreStored, BeginsIf, HasSeats, HaveKeys, SitsDown, in_job, in_place, is_of, legs_of_run};
+ghost use Rattle.workflow_runs.specs.declared.runs.of.GroupSlot.TheVariants.{InProgress};
+ghost use Rattle.workflow_runs.specs.Seating.{AreSeatedOrTaken, AreStored, BeginsIf, HasSeats, HaveKeys, SitsDown, in_job, in_slot, is_of, legs_of_run};
 
 use crate::rows::Rows;
 use crate::runs::Runs;
@@ -22,13 +22,13 @@ use crate::runs::changes::begin_in_group;
 use group_book::Book;
 use group_name::GroupKey;
 use run_marks::RunBitmap;
-use run_states::{Holder, LegPlace, MAX_RUNS, Run, RunParts};
+use run_states::{Holder, LegSite, MAX_RUNS, Run, RunParts};
 use std::alloc::Global;
 use wf_value::Refusal;
 
 /// One of the two places of a group.
 #[derive(Clone, Copy)]
-enum Place {
+enum GroupSlot {
     InProgress,
     Pending,
 }
@@ -48,10 +48,10 @@ impl Runs {
         let Some(mut rows) = rows_of(alloc, parts, &mut book)? else {
             return Ok(None);
         };
-        if !seat_all(&mut rows, &mut book, Place::InProgress) {
+        if !seat_all(&mut rows, &mut book, GroupSlot::InProgress) {
             return Ok(None);
         }
-        if !seat_all(&mut rows, &mut book, Place::Pending) {
+        if !seat_all(&mut rows, &mut book, GroupSlot::Pending) {
             return Ok(None);
         }
         Ok(Some(Runs {
@@ -101,7 +101,7 @@ fn all_marked(alloc: Global, count: usize) -> Result<RunBitmap, Refusal>
 
 // ---- the places of groups. Each function returns whether no place was taken already.
 
-fn seat_all(rows: &mut Rows, book: &mut Book<Holder>, place: Place) -> bool
+fn seat_all(rows: &mut Rows, book: &mut Book<Holder>, place: GroupSlot) -> bool
     requires seats { HasSeats place rows.old.runs rows.old.bindings book.old }
     requires keys { HaveKeys place (λ h. true) rows.old.runs rows.old.bindings }
     ensures runs { rows.new.runs ≡ rows.old.runs }
@@ -119,7 +119,7 @@ fn seat_all(rows: &mut Rows, book: &mut Book<Holder>, place: Place) -> bool
     true
 }
 
-fn seat_jobs(rows: &mut Rows, book: &mut Book<Holder>, place: Place, r: usize) -> bool
+fn seat_jobs(rows: &mut Rows, book: &mut Book<Holder>, place: GroupSlot, r: usize) -> bool
     requires seats { HasSeats place rows.old.runs rows.old.bindings book.old }
     requires keys { HaveKeys place (legs_of_run r) rows.old.runs rows.old.bindings }
     ensures runs { rows.new.runs ≡ rows.old.runs }
@@ -134,7 +134,7 @@ fn seat_jobs(rows: &mut Rows, book: &mut Book<Holder>, place: Place, r: usize) -
     true
 }
 
-fn seat_legs(rows: &mut Rows, book: &mut Book<Holder>, place: Place, r: usize, j: usize) -> bool
+fn seat_legs(rows: &mut Rows, book: &mut Book<Holder>, place: GroupSlot, r: usize, j: usize) -> bool
     requires seats { HasSeats place rows.old.runs rows.old.bindings book.old }
     requires keys { HaveKeys place (in_job r j) rows.old.runs rows.old.bindings }
     ensures runs { rows.new.runs ≡ rows.old.runs }
@@ -142,7 +142,7 @@ fn seat_legs(rows: &mut Rows, book: &mut Book<Holder>, place: Place, r: usize, j
     ensures taken { AreSeatedOrTaken result place (in_job r j) rows.old.runs rows.old.bindings rows.new.bindings book.old.entries book.new.entries }
 {
     for l in 0..rows.leg_count(r, j) {
-        if !seat(rows, book, place, &Holder::Leg(LegPlace::new(r, j, l))) {
+        if !seat(rows, book, place, &Holder::Leg(LegSite::new(r, j, l))) {
             return false;
         }
     }
@@ -150,7 +150,7 @@ fn seat_legs(rows: &mut Rows, book: &mut Book<Holder>, place: Place, r: usize, j
 }
 
 /// Enters a holder in the book if it has the place.
-fn seat(rows: &mut Rows, book: &mut Book<Holder>, place: Place, holder: &Holder) -> bool
+fn seat(rows: &mut Rows, book: &mut Book<Holder>, place: GroupSlot, holder: &Holder) -> bool
     requires seats { HasSeats place rows.old.runs rows.old.bindings book.old }
     requires keys { HaveKeys place (λ h. same_holder h holder.now) rows.old.runs rows.old.bindings }
     ensures runs { rows.new.runs ≡ rows.old.runs }
@@ -163,7 +163,7 @@ fn seat(rows: &mut Rows, book: &mut Book<Holder>, place: Place, holder: &Holder)
     let Some(group) = rows.key(holder) else {
         return true;
     };
-    if in_place(book, place, group).is_some() {
+    if in_slot(book, place, group).is_some() {
         return false;
     }
     arrive(rows, book, place, holder);
@@ -171,31 +171,31 @@ fn seat(rows: &mut Rows, book: &mut Book<Holder>, place: Place, holder: &Holder)
 }
 
 /// Whether the holder has this place of its group, by the table.
-fn is_of(rows: &Rows, place: Place, holder: &Holder) -> bool
+fn is_of(rows: &Rows, place: GroupSlot, holder: &Holder) -> bool
     ensures { result ≡ is_of place rows.now.runs holder.now }
 {
     match place {
-        Place::InProgress => rows.holds(holder),
-        Place::Pending => rows.waits(holder),
+        GroupSlot::InProgress => rows.holds(holder),
+        GroupSlot::Pending => rows.waits(holder),
     }
 }
 
 /// The holder that has this place of a group, by the book.
-fn in_place(book: &Book<Holder>, place: Place, group: &GroupKey) -> Option<Holder>
-    ensures { result ≡ in_place place (slot_in book.now.entries group.now) }
+fn in_slot(book: &Book<Holder>, place: GroupSlot, group: &GroupKey) -> Option<Holder>
+    ensures { result ≡ in_slot place (slot_in book.now.entries group.now) }
 {
     match place {
-        Place::InProgress => book.running(group),
-        Place::Pending => book.pending(group),
+        GroupSlot::InProgress => book.running(group),
+        GroupSlot::Pending => book.pending(group),
     }
 }
 
 /// A holder takes its place, which is free.
-fn arrive(rows: &mut Rows, book: &mut Book<Holder>, place: Place, holder: &Holder)
+fn arrive(rows: &mut Rows, book: &mut Book<Holder>, place: GroupSlot, holder: &Holder)
     requires seats { HasSeats place rows.old.runs rows.old.bindings book.old }
     requires has { is_of place rows.old.runs holder.now ≡ true }
     requires key { option_and_then ticket_in (holder_key_at rows.old.bindings holder.now) ≡ group_at rows.old.runs holder.now }
-    requires free { (g : GroupInWords) → group_at rows.old.runs holder.now ≡ Some g → in_place place (slot_in book.old.entries g) ≡ None }
+    requires free { (g : GroupInWords) → group_at rows.old.runs holder.now ≡ Some g → in_slot place (slot_in book.old.entries g) ≡ None }
     ensures runs { rows.new.runs ≡ rows.old.runs }
     ensures seats { HasSeats place rows.new.runs rows.new.bindings book.new }
     ensures keys { (h : HolderInWords) → (h ≡ holder.now → ⊥) → holder_key_at rows.new.bindings h ≡ holder_key_at rows.old.bindings h }
@@ -210,14 +210,14 @@ fn arrive(rows: &mut Rows, book: &mut Book<Holder>, place: Place, holder: &Holde
 }
 
 /// A holder that is in progress begins as soon as it has arrived.
-fn begin_at_once(rows: &Rows, book: &mut Book<Holder>, place: Place, holder: &Holder)
+fn begin_at_once(rows: &Rows, book: &mut Book<Holder>, place: GroupSlot, holder: &Holder)
     requires { (g : GroupInWords) → place ≡ InProgress → key_at rows.now.bindings holder.now ≡ Some g
         → (slot_in book.old.entries g).in_progress ≡ None }
     ensures begins { BeginsIf place (key_at rows.now.bindings holder.now) book.old.entries book.new.entries }
     ensures expected { book.new.expected ≡ book.old.expected }
 {
     match place {
-        Place::InProgress => begin_in_group(rows, book, holder),
-        Place::Pending => {}
+        GroupSlot::InProgress => begin_in_group(rows, book, holder),
+        GroupSlot::Pending => {}
     }
 }

@@ -9,17 +9,17 @@ ghost use Rattle.run_states.specs.Fitting.{first_fit};
 ghost use Rattle.run_states.specs.Resuming.{JobsRestBefore, RestBefore, apply_at};
 ghost use Rattle.run_states.specs.Places.{run_at};
 ghost use Rattle.run_states.specs.RunState.{RunState};
-ghost use Rattle.run_states.specs.Settling.{first_place};
+ghost use Rattle.run_states.specs.Settling.{first_site};
 ghost use Rattle.run_states.specs.WithinRun.{first_in_run, fit_in_run};
 ghost use Rattle.settling_laws.specs.RunFacts.{is_so_at};
 
-use crate::first_place::first_in_run_at;
+use crate::first_site::first_in_run_at;
 use crate::fit::first_fit;
 use crate::rows::offers::{below, first_offering};
 use crate::runs::Runs;
 use run_marks::RunBitmap;
 use run_plan::Label;
-use run_states::{JobPlace, LegPlace, RuleSite};
+use run_states::{JobSite, LegSite, RuleSite};
 
 impl Runs {
     /// The next run that may have a ready leg whose labels are all among `labels`.
@@ -68,7 +68,7 @@ impl Runs {
     }
 
     /// The first place in run `r` where a rule applies. None applies before the job at index `from`.
-    fn first_place_in_run(&mut self, r: usize, from: usize) -> Option<RuleSite>
+    fn first_site_in_run(&mut self, r: usize, from: usize) -> Option<RuleSite>
         requires { (run : RunState) → run_at self.old r ≡ Some run → JobsRestBefore self.old r run from }
         ensures found { result ≡ apply_at (first_in_run self.old) self.old r }
         ensures kept { self.new ≡ self.old }
@@ -80,15 +80,15 @@ impl Runs {
     }
 
     /// The first place where a rule applies. None applies before `from`.
-    pub(crate) fn first_place(&mut self, from: JobPlace) -> Option<RuleSite>
+    pub(crate) fn first_site(&mut self, from: JobSite) -> Option<RuleSite>
         requires { RestBefore self.old from }
-        ensures found { result ≡ first_place self.old }
+        ensures found { result ≡ first_site self.old }
         ensures kept { self.new ≡ self.old }
     {
         let mut run = from.run;
         while let Some(r) = self.next_due(run) {
             let job = if r == from.run { from.job } else { 0 };
-            let place = self.first_place_in_run(r, job);
+            let place = self.first_site_in_run(r, job);
             if place.is_some() {
                 return place;
             }
@@ -100,14 +100,14 @@ impl Runs {
 
     /// Whether no rule applies to the runs.
     pub fn are_at_rest(&mut self) -> bool
-        ensures rest { Decides result (first_place self.old ≡ None) }
+        ensures rest { Decides result (first_site self.old ≡ None) }
         ensures kept { self.new ≡ self.old }
     {
-        self.first_place(JobPlace { run: 0, job: 0 }).is_none()
+        self.first_site(JobSite { run: 0, job: 0 }).is_none()
     }
 
     /// The first ready leg such that `labels` has all labels that it asks for and one more leg of its job may run. Takes no memory.
-    pub fn first_fit(&mut self, labels: &[Label]) -> Option<LegPlace>
+    pub fn first_fit(&mut self, labels: &[Label]) -> Option<LegSite>
         ensures found { result ≡ first_fit labels.now self.old }
         ensures run { IfSome result (λ p. p.run < max_runs) }
         ensures kept { self.new ≡ self.old }

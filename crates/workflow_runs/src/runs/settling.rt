@@ -9,7 +9,7 @@ ghost use Rattle.run_states.specs.FirstOf.{first_some, placed};
 ghost use Rattle.run_states.specs.Resuming.{RestBefore, at_job_again, may_invalidate_others, is_new_at, resume_point};
 ghost use Rattle.run_states.specs.Places.{job_at, leg_at, run_at, with_job};
 ghost use Rattle.run_states.specs.Rules.{closing_rule, decided, leg_end, leg_rule, may_run, rule_at, whole_rule};
-ghost use Rattle.run_states.specs.Settling.{first_place, first_rule, settled};
+ghost use Rattle.run_states.specs.Settling.{first_site, first_rule, settled};
 ghost use Rattle.run_states.specs.SoundRuns.{RunsAreSound};
 ghost use Rattle.run_states.specs.StateWords.{outcome_of};
 ghost use Rattle.run_states.specs.declared.place.RuleSite.TheVariants.{AtLeg, Closing, Opening, Whole};
@@ -18,7 +18,7 @@ ghost use Rattle.run_states.specs.Words.{is_stopping};
 
 use crate::runs::Runs;
 use crate::walk::Legs;
-use run_states::{Holder, JobPlace, Leg, LegPhase, LegPlace, RuleSite, RunPhase};
+use run_states::{Holder, JobSite, Leg, LegPhase, LegSite, RuleSite, RunPhase};
 use wf_value::JobResult;
 
 impl Runs {
@@ -27,11 +27,11 @@ impl Runs {
         requires { RunsAreSound self.old }
         ensures { self.new ≡ settled self.old }
     {
-        self.settle_from(JobPlace { run: 0, job: 0 });
+        self.settle_from(JobSite { run: 0, job: 0 });
     }
 
     /// Settles. The search for rules begins at `start`, and no rule applies before it.
-    pub fn settle_from(&mut self, start: JobPlace)
+    pub fn settle_from(&mut self, start: JobSite)
         requires sound { RunsAreSound self.old }
         requires rest { RestBefore self.old start }
         ensures { self.new ≡ settled self.old }
@@ -43,23 +43,23 @@ impl Runs {
     }
 
     /// Applies the rule at the first place where one applies, and returns where to search for the next.
-    fn take_first_rule(&mut self, from: JobPlace) -> Option<JobPlace>
+    fn take_first_rule(&mut self, from: JobSite) -> Option<JobSite>
         requires sound { RunsAreSound self.old }
         requires rest { RestBefore self.old from }
         ensures took { option_map (λ next. next.runs) (first_rule self.old) ≡ (if is_some result then Some self.new else None) }
         ensures kept { is_some result ≡ false → self.new ≡ self.old }
         ensures rest { IfSome result (λ next. RestBefore self.new next) }
     {
-        match self.first_place(from) {
+        match self.first_site(from) {
             Some(place) => Some(self.take_first_rule_at(place)),
             None => None,
         }
     }
 
     /// Applies the rule at `place`, which is the first place where one applies, and returns where to search for the next.
-    fn take_first_rule_at(&mut self, place: RuleSite) -> JobPlace
+    fn take_first_rule_at(&mut self, place: RuleSite) -> JobSite
         requires sound { RunsAreSound self.old }
-        requires first { first_place self.old ≡ Some place }
+        requires first { first_site self.old ≡ Some place }
         ensures took { option_map (λ next. next.runs) (first_rule self.old) ≡ Some self.new }
         ensures rest { RestBefore self.new result }
     {
@@ -69,17 +69,17 @@ impl Runs {
     }
 
     /// Where to search for the next rule after the one at the place: no rule applies before.
-    fn resume_point(&self, place: &RuleSite, freed: bool) -> JobPlace
+    fn resume_point(&self, place: &RuleSite, freed: bool) -> JobSite
         ensures { result ≡ resume_point freed self.now place.now }
     {
         if freed {
-            return JobPlace { run: 0, job: 0 };
+            return JobSite { run: 0, job: 0 };
         }
         match place {
             RuleSite::Opening(r, j) => self.at_job_again(*r, *j),
             RuleSite::AtLeg(leg) => self.at_job_again(leg.run, leg.job),
             RuleSite::Closing(r, j) => self.at_job_again(*r, *j),
-            RuleSite::Whole(r) => JobPlace { run: *r, job: 0 },
+            RuleSite::Whole(r) => JobSite { run: *r, job: 0 },
         }
     }
 
@@ -95,7 +95,7 @@ impl Runs {
         }
     }
 
-    fn is_new(&self, leg: LegPlace) -> bool
+    fn is_new(&self, leg: LegSite) -> bool
         ensures { result ≡ is_new_at self.now leg }
     {
         match self.leg(leg) {
@@ -104,22 +104,22 @@ impl Runs {
         }
     }
 
-    fn at_job_again(&self, r: usize, j: usize) -> JobPlace
+    fn at_job_again(&self, r: usize, j: usize) -> JobSite
         ensures { result ≡ at_job_again self.now r j }
     {
         match self.rows.runs.get(r) {
-            Some(run) => JobPlace {
+            Some(run) => JobSite {
                 run: r,
                 job: run.job_again(j),
             },
-            None => JobPlace { run: r, job: j },
+            None => JobSite { run: r, job: j },
         }
     }
 
     /// Applies the rule at a place, if one applies.
     fn take_rule(&mut self, place: RuleSite)
         requires sound { RunsAreSound self.old }
-        requires first { first_place self.old ≡ Some place }
+        requires first { first_site self.old ≡ Some place }
         ensures { IfSome (rule_at self.old place) (λ next. self.new ≡ next.runs) }
     {
         match place {
@@ -133,7 +133,7 @@ impl Runs {
     /// Opens the job if its condition holds, and finishes it otherwise.
     fn decide(&mut self, r: usize, j: usize)
         requires sound { RunsAreSound self.old }
-        requires first { first_place self.old ≡ Some (Opening r j) }
+        requires first { first_site self.old ≡ Some (Opening r j) }
         ensures { self.new ≡ with_job r j (decided self.old r j) self.old }
     {
         let stopping = self.is_stopping(r);
@@ -166,9 +166,9 @@ impl Runs {
     }
 
     /// A new leg arrives, and a waiting leg becomes ready.
-    fn move_leg(&mut self, place: LegPlace)
+    fn move_leg(&mut self, place: LegSite)
         requires sound { RunsAreSound self.old }
-        requires first { first_place self.old ≡ Some (AtLeg place) }
+        requires first { first_site self.old ≡ Some (AtLeg place) }
         ensures { IfSome (option_and_then (leg_rule self.old place) (leg_at self.old place)) (λ next. self.new ≡ next.runs) }
     {
         match self.leg_phase(place) {
@@ -178,7 +178,7 @@ impl Runs {
         }
     }
 
-    fn leg_phase(&self, place: LegPlace) -> Option<LegPhase>
+    fn leg_phase(&self, place: LegSite) -> Option<LegPhase>
         ensures { result ≡ option_map (λ leg. leg.phase) (leg_at self.now place) }
     {
         Some(self.leg(place)?.phase)
@@ -187,7 +187,7 @@ impl Runs {
     /// Finishes job `j` with the result of its legs.
     fn close(&mut self, r: usize, j: usize)
         requires sound { RunsAreSound self.old }
-        requires first { first_place self.old ≡ Some (Closing r j) }
+        requires first { first_site self.old ≡ Some (Closing r j) }
         ensures { IfSome (option_and_then (closing_rule self.old r j) (job_at self.old r j)) (λ next. self.new ≡ next.runs) }
     {
         if let Some(job) = self.job(r, j) {
@@ -211,7 +211,7 @@ impl Runs {
     }
 
     /// Whether the leg fails its job.
-    fn fails_job(&self, place: LegPlace, leg: &Leg) -> bool
+    fn fails_job(&self, place: LegSite, leg: &Leg) -> bool
         ensures { result ≡ option_map_or fails_job (leg_end self.now place.run place.job (place.leg, leg.now)) false }
     {
         leg.has_failed() && !self.continues_on_error(place)
@@ -232,7 +232,7 @@ impl Runs {
     /// A waiting run becomes live, and a live run ends.
     fn move_run(&mut self, r: usize)
         requires sound { RunsAreSound self.old }
-        requires first { first_place self.old ≡ Some (Whole r) }
+        requires first { first_site self.old ≡ Some (Whole r) }
         ensures { IfSome (option_and_then (whole_rule self.old r) (run_at self.old r)) (λ next. self.new ≡ next.runs) }
     {
         if let Some(run) = self.run(r) {

@@ -10,7 +10,7 @@ ghost use Rattle.run_states.specs.Stops.{is_open_at, stopped, stopped_run, with_
 ghost use Rattle.run_states.specs.declared.phases.RunPhase.TheVariants as run;
 
 use crate::runs::Runs;
-use run_states::{Change, Holder, LegPlace, RunPhase};
+use run_states::{Change, Holder, LegSite, RunPhase};
 
 impl Runs {
     /// Stops run `r`, if there is one.
@@ -83,11 +83,11 @@ impl Runs {
         ensures sound { RunsAreSound self.new }
     {
         for l in 0..self.rows.leg_count(r, j) {
-            self.stop_one(LegPlace::new(r, j, l));
+            self.stop_one(LegSite::new(r, j, l));
         }
     }
 
-    fn stop_leg(&mut self, place: LegPlace)
+    fn stop_leg(&mut self, place: LegSite)
         requires { RunsAreSound self.old }
         ensures { self.new ≡ with_leg place stopped self.old }
     {
@@ -96,7 +96,7 @@ impl Runs {
     }
 
     /// Stops the leg, if there is one at the place: it ends as cancelled, or is asked to stop if a runner has it.
-    fn stop_one(&mut self, place: LegPlace)
+    fn stop_one(&mut self, place: LegSite)
         requires { RunsAreSound self.old }
         ensures stopped { self.new ≡ with_leg place stopped self.old }
         ensures sound { RunsAreSound self.new }

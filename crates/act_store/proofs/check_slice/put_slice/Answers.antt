@@ -11,6 +11,6 @@ returns-clause-held g c = λ honest long held.
     let to = c.min-to.result in
     let less : b.put ≤ to = search (rules, arith) in
     subst (λ l. Holds (disk.seen c.put.new.disk) (start_of c.args.areas.len (other c.args.areas.side) + 1) l)
-    (slice_on b.prefix.items c.deref.result.now b.put to less (search rules))
-    (c.in_ok-put.ensures.grown (take b.put b.prefix.items) honest
-    (omega (arith, length-take-le b.put b.prefix.items c.requires.put)) long held)
+    (slice_on b.head_and_text.items c.deref.result.now b.put to less (search rules))
+    (c.in_ok-put.ensures.grown (take b.put b.head_and_text.items) honest
+    (omega (arith, length-take-le b.put b.head_and_text.items c.requires.put)) long held)

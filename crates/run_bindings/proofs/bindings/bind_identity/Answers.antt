@@ -2,7 +2,7 @@ use Rattle.std.proofs.Common.{◌≡◌, subst}
 use Rattle.std.specs.Prelude.{length}
 use Rattle.std.specs.Option.{option_map_or}
 use Rattle.run_bindings.specs.Bindings.{RunSays}
-use Rattle.run_bindings.specs.BoundGroups.{results_by_place}
+use Rattle.run_bindings.specs.BoundGroups.{results_by_index}
 use Rattle.run_bindings.specs.GroupKeys.{AllAreLater, decided}
 use Rattle.run_bindings.specs.LabelNumbers.{AreListsOf}
 use Rattle.run_bindings.specs.declared.bindings.RunBindings.{RunBindings}
@@ -17,7 +17,7 @@ returns-clause-says c =
 
 pub returns-clause-own : goal.returns-clause-own
 returns-clause-own c =
-    subst (λ (b : RunBindings). b.keys.own ≡ option_map_or (decided (results_by_place c.args.run.now)) b.own NoGroup) (same_Ok _ _ c.in_ok-with_own.ensures)
+    subst (λ (b : RunBindings). b.keys.own ≡ option_map_or (decided (results_by_index c.args.run.now)) b.own NoGroup) (same_Ok _ _ c.in_ok-with_own.ensures)
     c.in_ok-key.ensures.own
 
 pub returns-clause-as_many : goal.returns-clause-as_many

@@ -1,10 +1,10 @@
 use Rattle.std.proofs.Common.{ap, sym, ◌∙◌}
-use Rattle.run_states.specs.JobResults.{settled_result}
+use Rattle.run_states.specs.JobResults.{finished_result}
 use Rattle.run_states.proofs.NeedsSettled.{result_read}
 use Rattle.run_states.proofs.direct_needs.result_at.Goals as goal
 
 pub returns-in-Some : goal.returns-in-Some
 returns-in-Some c =
     let lookup = c.in-Some.ensures.lookup in
-    c.result.ensures ∙ ap settled_result c.phase.ensures
+    c.result.ensures ∙ ap finished_result c.phase.ensures
     ∙ sym (result_read c.args.jobs.now c.args.place c.in-Some.job.now lookup.3.0 lookup.1)

@@ -1,7 +1,7 @@
 use Rattle.std.proofs.Common.{◌≡◌, Bool, List, ap, arith, length, refl, slice_get, sym, ◌∙◌, Ok}
 use Rattle.std.specs.Prelude.{Option, Some, None, option_and_then, option_map}
 use Rattle.std.specs.Option.{is_some}
-use Rattle.run_table.specs.PlaceNamed.{place_named}
+use Rattle.run_table.specs.IndexNamed.{index_named}
 use Rattle.run_table.specs.SequenceNumbers.{kept_named, runner_named}
 use Rattle.run_table.specs.TableState.{RunnerState}
 use Rattle.run_table.proofs.RunnerOrder.{found_there, place_in_range, place_within, put_between, put_over}
@@ -21,7 +21,7 @@ replace-requires c =
     let items = c.args.runners.now.items in
     let name = c.runner.inside.name in
     let place = c.args.place in
-    let at = c.requires.place ∙ ap (λ (r : RunnerState). place_named c.args.runners.now.items r.name) (sym c.runner.view_is) in
+    let at = c.requires.place ∙ ap (λ (r : RunnerState). index_named c.args.runners.now.items r.name) (sym c.runner.view_is) in
     let there = c.named_at.ensures ∙ ap (λ (xs : List RunnerState). option_and_then (kept_named name) (slice_get xs place)) c.deref.ensures.value
     ∙ found_there items name c.requires.rise place at in
     place_within items name c.requires.rise place at
@@ -30,7 +30,7 @@ replace-requires c =
 pub insert-requires : goal.insert-requires
 insert-requires c =
     let name = c.runner.inside.name in
-    let at = c.requires.place ∙ ap (λ (r : RunnerState). place_named c.args.runners.now.items r.name) (sym c.runner.view_is) in
+    let at = c.requires.place ∙ ap (λ (r : RunnerState). index_named c.args.runners.now.items r.name) (sym c.runner.view_is) in
     omega (
       arith,
       place_in_range c.args.runners.now.items name c.requires.rise c.args.place at,
@@ -43,7 +43,7 @@ returns-then-is_some-clause-put c =
     let items = c.args.runners.now.items in
     let name = c.runner.inside.name in
     let place = c.args.place in
-    let at = c.requires.place ∙ ap (λ (r : RunnerState). place_named c.args.runners.now.items r.name) (sym c.runner.view_is) in
+    let at = c.requires.place ∙ ap (λ (r : RunnerState). index_named c.args.runners.now.items r.name) (sym c.runner.view_is) in
     let there = c.named_at.ensures ∙ ap (λ (xs : List RunnerState). option_and_then (kept_named name) (slice_get xs place)) c.deref.ensures.value
     ∙ found_there items name c.requires.rise place at in
     let known = known_by (λ r. r.now) c.named_at.result (runner_named items name) c.is_some.result there c.is_some.ensures ∙ c.if-is_some.true in
@@ -55,7 +55,7 @@ returns-clause-put c =
     let items = c.args.runners.now.items in
     let name = c.runner.inside.name in
     let place = c.args.place in
-    let at = c.requires.place ∙ ap (λ (r : RunnerState). place_named c.args.runners.now.items r.name) (sym c.runner.view_is) in
+    let at = c.requires.place ∙ ap (λ (r : RunnerState). index_named c.args.runners.now.items r.name) (sym c.runner.view_is) in
     let there = c.named_at.ensures ∙ ap (λ (xs : List RunnerState). option_and_then (kept_named name) (slice_get xs place)) c.deref.ensures.value
     ∙ found_there items name c.requires.rise place at in
     let unknown = known_by (λ r. r.now) c.named_at.result (runner_named items name) c.is_some.result there c.is_some.ensures ∙ c.if-is_some.false in

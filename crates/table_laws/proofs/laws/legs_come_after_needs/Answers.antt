@@ -4,7 +4,7 @@ use Rattle.table_laws.proofs.ReachedTables.{after_is_sound}
 use Rattle.table_laws.proofs.laws.legs_come_after_needs.Goals as goal
 
 pub returns-clause-sound : goal.returns-clause-sound
-returns-clause-sound c = λ t sound. sound.needs_settled_first
+returns-clause-sound c = λ t sound. sound.needs_finished_first
 
 pub returns-clause-reached : goal.returns-clause-reached
-returns-clause-reached c = λ commands. (after_is_sound empty commands empty_is_sound).needs_settled_first
+returns-clause-reached c = λ commands. (after_is_sound empty commands empty_is_sound).needs_finished_first

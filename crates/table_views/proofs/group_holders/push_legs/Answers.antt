@@ -1,5 +1,5 @@
 use Rattle.std.proofs.Common.{◌<◌, length, refl, arith}
-use Rattle.run_states.specs.Places.{leg_place}
+use Rattle.run_states.specs.Places.{leg_site}
 use Rattle.table_views.specs.HolderPages.{row_of_holder}
 use Rattle.table_views.proofs.Claimed.{leg_row_more, place_read}
 use Rattle.table_views.proofs.group_holders.push_legs.Goals as goal
@@ -10,4 +10,4 @@ loop-place-preserved c =
     let i = c.loop-place.place-index in
     let lt : i < length places = omega (arith, c.loop-place-test.true) in
     leg_row_more (row_of_holder c.args.filter.now c.args.runs.now) places i _ c.args.rows.now.items _ _ lt
-    (place_read places i (leg_place 0 0 0) _ lt refl) c.loop-place.invariant c.in_ok-push_holder.ensures.rows
+    (place_read places i (leg_site 0 0 0) _ lt refl) c.loop-place.invariant c.in_ok-push_holder.ensures.rows

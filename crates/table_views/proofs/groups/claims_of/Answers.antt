@@ -2,7 +2,7 @@ use Rattle.std.specs.Prelude.{refl}
 use Rattle.std.proofs.Common.{ℕ, ◌<◌, length, map, arith}
 use Rattle.run_states.specs.FirstOf.{placed}
 use Rattle.run_states.specs.RunState.{RunState}
-use Rattle.run_states.specs.Places.{leg_place}
+use Rattle.run_states.specs.Places.{leg_site}
 use Rattle.table_views.proofs.Claimed.{leg_claimed, place_read, run_claimed}
 use Rattle.table_views.proofs.groups.claims_of.Goals as goal
 use Rattle.run_states.specs.declared.holder.Holder.TheVariants.{Run}
@@ -18,4 +18,4 @@ loop-place-preserved c =
     let i = c.loop-place.place-index in
     let lt : i < length places = omega (arith, c.loop-place-test.true) in
     leg_claimed c.args.runs.now (map (λ (x : ℕ × RunState). Run x.0) (placed c.args.runs.now)) places i _ _ _ lt
-    (place_read places i (leg_place 0 0 0) _ lt refl) c.loop-place.invariant c.in_ok-push_claim-2.ensures.added
+    (place_read places i (leg_site 0 0 0) _ lt refl) c.loop-place.invariant c.in_ok-push_claim-2.ensures.added

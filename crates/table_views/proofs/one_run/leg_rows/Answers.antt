@@ -1,8 +1,8 @@
 use Rattle.std.proofs.Common.{◌≡◌, ◌∙◌, ◌<◌, ℕ, List, [], ◌∷◌, ◌++◌, length, ap, sym, arith}
 use Rattle.std.specs.Prelude.{string_bytes}
-use Rattle.run_states.specs.Places.{leg_place}
+use Rattle.run_states.specs.Places.{leg_site}
 use Rattle.run_states.specs.RunState.{LegState}
-use Rattle.run_states.specs.declared.place.LegPlace.{LegPlace}
+use Rattle.run_states.specs.declared.place.LegSite.{LegSite}
 use Rattle.table_views.specs.RunViews.{leg_row}
 use Rattle.table_views.proofs.Paging.{gives_ok}
 use Rattle.table_views.proofs.Placing.{one_value_more}
@@ -14,9 +14,9 @@ loop-l-preserved c =
     let legs = c.args.legs.now in
     let l = c.loop-l.l in
     let leg = c.index-legs-l.result in
-    let f : ℕ × LegState → List ℕ = λ x. leg_row t (leg_place c.args.r c.args.j x.0) x.1 in
+    let f : ℕ × LegState → List ℕ = λ x. leg_row t (leg_site c.args.r c.args.j x.0) x.1 in
     let lt : l < length legs = omega (arith, c.loop-l-test.true) in
     let row : string_bytes c.in_ok-row.row ≡ f (l, leg) =
-    sym (gives_ok string_bytes c.in_ok-row.row _ c.in_ok-row.ensures) ∙ ap (λ (p : LegPlace). leg_row t p leg) c.new.ensures in
+    sym (gives_ok string_bytes c.in_ok-row.row _ c.in_ok-row.ensures) ∙ ap (λ (p : LegSite). leg_row t p leg) c.new.ensures in
     c.in_ok-push.ensures.items ∙ ap (λ (r : List ℕ). c.loop-l.rows.items ++ r ∷ []) (c.new-in-loop-l.ensures ∙ row)
     ∙ ap (λ (rs : List (List ℕ)). rs ++ f (l, leg) ∷ []) c.loop-l.invariant ∙ sym (one_value_more f l legs leg lt (sym c.index-legs-l.is))

@@ -2,8 +2,8 @@ use Rattle.std.proofs.Common.{◌≡◌, ◌∙◌, ℕ, ◌++◌, ◌∷◌, []
 use Rattle.std.specs.List.{All}
 use Rattle.std.proofs.lemmas.List.Elements.{All-append, All-cons, All-nil}
 use Rattle.run_states.specs.FirstOf.{placed}
-use Rattle.run_states.specs.Places.{leg_place}
-use Rattle.run_states.specs.declared.place.LegPlace.{LegPlace}
+use Rattle.run_states.specs.Places.{leg_site}
+use Rattle.run_states.specs.declared.place.LegSite.{LegSite}
 use Rattle.run_states.specs.RunState.{LegState}
 use Rattle.table_views.specs.Placed.{IsWithin}
 use Rattle.table_views.proofs.Placing.{added_more, one_place_more}
@@ -18,14 +18,14 @@ loop-l-preserved c =
     let old = c.args.places.now.items in
     let mid = c.loop-l.places.items in
     let new = c.push.new.self.items in
-    let p = leg_place r j l in
-    let so_far = map (λ (x : ℕ × LegState). leg_place r j x.0) (placed (take l legs)) in
+    let p = leg_site r j l in
+    let so_far = map (λ (x : ℕ × LegState). leg_site r j x.0) (placed (take l legs)) in
     let lt : l < length legs = omega (arith, c.loop-l-test.true, ap length c.legs-l-end.ensures) in
-    let more : new ≡ mid ++ p ∷ [] = c.in_ok-push.ensures.items ∙ ap (λ (q : LegPlace). mid ++ q ∷ []) c.new.ensures in
+    let more : new ≡ mid ++ p ∷ [] = c.in_ok-push.ensures.items ∙ ap (λ (q : LegSite). mid ++ q ∷ []) c.new.ensures in
     let small : l < 2 ^ 63 = omega (arith, c.loop-l-test.true, c.loop-l.auto.l-end) in
     record {
       added = added_more old so_far (p ∷ []) mid new c.loop-l.invariant.added more
-          ∙ ap (λ zs. old ++ zs) (sym (one_place_more (λ k. leg_place r j k) l legs lt));
+          ∙ ap (λ zs. old ++ zs) (sym (one_place_more (λ k. leg_site r j k) l legs lt));
       within = subst (All IsWithin) (sym more)
           (All-append IsWithin mid (p ∷ []) c.loop-l.invariant.within (All-cons IsWithin p [] (c.requires.run, small) (All-nil IsWithin)));
     }

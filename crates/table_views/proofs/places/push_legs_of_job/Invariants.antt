@@ -1,7 +1,7 @@
 use Rattle.std.proofs.Common.{◌≡◌, ℕ, ◌++◌, map, take}
 use Rattle.std.specs.List.{All}
 use Rattle.run_states.specs.FirstOf.{placed}
-use Rattle.run_states.specs.Places.{leg_place}
+use Rattle.run_states.specs.Places.{leg_site}
 use Rattle.run_states.specs.RunState.{LegState}
 use Rattle.table_views.specs.Placed.{IsWithin}
 use Rattle.table_views.proofs.places.push_legs_of_job.Given as goal
@@ -10,6 +10,6 @@ use Rattle.table_views.proofs.places.push_legs_of_job.Given as goal
 abbrev pub invariant-loop-l : goal.invariant-loop-l
 invariant-loop-l l = record {
   added : l.places.items
-      ≡ l.initial.places.items ++ map (λ (x : ℕ × LegState). leg_place l.r l.j x.0) (placed (take l.l l.job.state.legs));
+      ≡ l.initial.places.items ++ map (λ (x : ℕ × LegState). leg_site l.r l.j x.0) (placed (take l.l l.job.state.legs));
   within : All IsWithin l.places.items;
 }

@@ -3,7 +3,7 @@ use Rattle.std.proofs.lemmas.List.{get_or-map, length-map}
 use Rattle.std.specs.List.{flat_map}
 use Rattle.run_states.specs.Cells.{JobCells, states}
 use Rattle.run_states.specs.FirstOf.{placed}
-use Rattle.run_states.specs.Places.{leg_places_of_job}
+use Rattle.run_states.specs.Places.{leg_sites_of_job}
 use Rattle.table_views.proofs.Placing.{added_more, one_more}
 use Rattle.table_views.proofs.places.push_legs_of_run.Goals as goal
 
@@ -18,8 +18,8 @@ loop-j-preserved c =
     get_or-map (λ (x : JobCells). x.state) jobs j job job.state within ∙ ap (λ (x : JobCells). x.state) (sym c.index-jobs-j.is) in
     record {
       added =
-          added_more c.args.places.now.items (flat_map (leg_places_of_job c.args.r) (placed (take j (states jobs))))
-          (leg_places_of_job c.args.r (j, job.state)) c.loop-j.places.items c.push_legs_of_job.new.places.items c.loop-j.invariant.added c.in_ok-push_legs_of_job.ensures.places
-          ∙ ap (λ zs. c.args.places.now.items ++ zs) (sym (one_more (leg_places_of_job c.args.r) j (states jobs) job.state lt is));
+          added_more c.args.places.now.items (flat_map (leg_sites_of_job c.args.r) (placed (take j (states jobs))))
+          (leg_sites_of_job c.args.r (j, job.state)) c.loop-j.places.items c.push_legs_of_job.new.places.items c.loop-j.invariant.added c.in_ok-push_legs_of_job.ensures.places
+          ∙ ap (λ zs. c.args.places.now.items ++ zs) (sym (one_more (leg_sites_of_job c.args.r) j (states jobs) job.state lt is));
       within = c.in_ok-push_legs_of_job.ensures.within;
     }

@@ -2,13 +2,13 @@ use Rattle.std.proofs.Common.{◌≡◌, ◌++◌, take}
 use Rattle.std.specs.List.{All, flat_map}
 use Rattle.run_states.specs.Cells.{states}
 use Rattle.run_states.specs.FirstOf.{placed}
-use Rattle.run_states.specs.Places.{leg_places_of_job}
+use Rattle.run_states.specs.Places.{leg_sites_of_job}
 use Rattle.table_views.specs.Placed.{IsWithin}
 use Rattle.table_views.proofs.places.push_legs_of_run.Given as goal
 
 -- the legs of the jobs so far have been added
 abbrev pub invariant-loop-j : goal.invariant-loop-j
 invariant-loop-j l = record {
-  added : l.places.items ≡ l.initial.places.items ++ flat_map (leg_places_of_job l.r) (placed (take l.j (states l.jobs)));
+  added : l.places.items ≡ l.initial.places.items ++ flat_map (leg_sites_of_job l.r) (placed (take l.j (states l.jobs)));
   within : All IsWithin l.places.items;
 }

@@ -1,7 +1,7 @@
 use Rattle.std.proofs.Common.{◌<◌, ◌≤◌, ◌++◌, ℕ, List, length, take, get_or, refl, sym, subst, arith}
 use Rattle.std.proofs.lemmas.List.{take_all}
-use Rattle.run_states.specs.Places.{leg_place}
-use Rattle.run_states.specs.declared.place.LegPlace.{LegPlace}
+use Rattle.run_states.specs.Places.{leg_site}
+use Rattle.run_states.specs.declared.place.LegSite.{LegSite}
 use Rattle.table_views.specs.NamedCounts.{AreCounts}
 use Rattle.table_views.specs.TableMetrics.{asked_at}
 use Rattle.table_views.proofs.AskedLists.{asked_more}
@@ -14,14 +14,14 @@ loop-place-preserved c = λ lists are.
     let places = c.args.places.now in
     let i = c.loop-place.place-index in
     let lt : i < length places = omega (arith, c.loop-place-test.true) in
-    let p = get_or places i (leg_place 0 0 0) in
+    let p = get_or places i (leg_site 0 0 0) in
     subst (λ (all : List (List ℕ)). AreCounts all c.count_leg.new.counts)
-    (asked_more runs lists places i p lt (sym (place_read places i (leg_place 0 0 0) p lt refl)))
+    (asked_more runs lists places i p lt (sym (place_read places i (leg_site 0 0 0) p lt refl)))
     (c.in_ok-count_leg.ensures (lists ++ asked_at runs (take i places)) (c.loop-place.invariant lists are))
 
 pub returns : goal.returns
 returns c = λ lists are.
     let places = c.args.places.now in
     let past : length places ≤ c.loop-place.place-index = omega (arith, c.loop-place-test.false) in
-    subst (λ (ps : List LegPlace). AreCounts (lists ++ asked_at c.args.runs.now ps) c.loop-place.counts)
+    subst (λ (ps : List LegSite). AreCounts (lists ++ asked_at c.args.runs.now ps) c.loop-place.counts)
     (take_all c.loop-place.place-index places past) (c.loop-place.invariant lists are)

@@ -1,7 +1,7 @@
 use Rattle.std.proofs.Common.{◌<◌, length, take, arith}
 use Rattle.std.specs.List.{flat_map}
 use Rattle.run_states.specs.FirstOf.{placed}
-use Rattle.run_states.specs.Places.{leg_places_of_run}
+use Rattle.run_states.specs.Places.{leg_sites_of_run}
 use Rattle.table_views.specs.TableMetrics.{asked_at}
 use Rattle.table_views.proofs.AskedLists.{run_asked}
 use Rattle.table_views.proofs.ready_counts.ready_counts.Goals as goal
@@ -12,4 +12,4 @@ loop-r-preserved c =
     let r = c.loop-r.r in
     let lt : r < length runs = omega (arith, c.loop-r-test.true, c.len-r-end.ensures.len) in
     run_asked runs r c.count_run.new.counts lt
-    (c.in_ok-count_run.ensures (asked_at runs (flat_map leg_places_of_run (placed (take r runs)))) c.loop-r.invariant)
+    (c.in_ok-count_run.ensures (asked_at runs (flat_map leg_sites_of_run (placed (take r runs)))) c.loop-r.invariant)

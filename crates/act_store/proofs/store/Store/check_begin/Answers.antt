@@ -3,7 +3,7 @@ use Rattle.std.specs.Prelude.{Some, option_map}
 use Rattle.act_disk.specs.Images.{EachSince, Holds}
 use Rattle.act_disk.proofs.Moments.{started}
 use Rattle.gated_journal.specs.TwoAreas.{other, start_of}
-use Rattle.gated_journal.specs.declared.gate.Gate.TheVariants.{Closed}
+use Rattle.gated_journal.specs.declared.gate.GateState.TheVariants.{Closed}
 use Rattle.act_store.specs.Checkpoints.{first_gate, text_length}
 use Rattle.act_store.specs.StoreState.{RecoversToEither, StoreState, table_of}
 use Rattle.act_store.specs.Promise.{IsBegun}
@@ -77,9 +77,9 @@ invariant_of-self-in-Ok g c =
             c.in_ok-begun.ensures.prefix c.in_ok-begun.ensures.encodes c.in_ok-begun.ensures.none,
         λ honest1 live. record {
           closed = refl;
-          held = subst (λ (n : ℕ). Holds (disk.seen d1) (start_of s.areas.len (other s.areas.side) + 1) (take n b.prefix.items))
+          held = subst (λ (n : ℕ). Holds (disk.seen d1) (start_of s.areas.len (other s.areas.side) + 1) (take n b.head_and_text.items))
               (sym c.in_ok-begun.ensures.put)
-              (held_none (disk.seen d1) (start_of s.areas.len (other s.areas.side) + 1) b.prefix.items);
+              (held_none (disk.seen d1) (start_of s.areas.len (other s.areas.side) + 1) b.head_and_text.items);
         },
       ),
     )

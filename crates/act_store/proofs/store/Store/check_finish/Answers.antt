@@ -3,7 +3,7 @@ use Rattle.std.specs.Prelude.{Ok, OnOk, Result, Some}
 use Rattle.act_disk.specs.Images.{EachSince}
 use Rattle.act_disk.proofs.Moments.{started}
 use Rattle.gated_journal.specs.TwoAreas.{other}
-use Rattle.gated_journal.specs.declared.gate.Gate.TheVariants.{Open}
+use Rattle.gated_journal.specs.declared.gate.GateState.TheVariants.{Open}
 use Rattle.gated_journal.specs.declared.side.Side.{Side}
 use Rattle.act_store.specs.Images.{RecoversTo}
 use Rattle.act_store.specs.LastPart.{LastState}

@@ -1,7 +1,7 @@
 use Rattle.std.proofs.Common.{rules, arith, ◌≡◌, ◌≤◌, ap, length, true, refl, subst, sym}
 use Rattle.std.specs.Prelude.{Some}
 use Rattle.gated_journal.specs.Whole.{RecoversWhole}
-use Rattle.gated_journal.specs.declared.gate.Gate.TheVariants.{Closed}
+use Rattle.gated_journal.specs.declared.gate.GateState.TheVariants.{Closed}
 use Rattle.act_store.specs.LastPart.{LastState}
 use Rattle.act_store.specs.StoreState.{RecoversToEither}
 use Rattle.act_store.specs.Promise.{IsBegun, IsSnapshot}
@@ -52,7 +52,7 @@ invariant_of-self-in-Ok g c =
     let live = slices s c.args.self.now c.self.view_is (search rules) in
     let so = it_is s.begun b (IsBegun s.base.value s.history.items s.generation s.areas.len s.areas.side s.other (disk.honest s.disk) s.failed
     (disk.seen s.disk)) (search rules) c.self.invariant.3 in
-    let within : next.put ≤ length b.prefix.items = search (rules, arith) in (
+    let within : next.put ≤ length b.head_and_text.items = search (rules, arith) in (
       counted_with k s.table s.pending_batch counted d1 (Some (as_checkpoint next)) s.failed,
       (λ _. search (rules, arith)),
       (λ honest1.
@@ -64,14 +64,14 @@ invariant_of-self-in-Ok g c =
           (λ i. RecoversWhole s.areas.len s.areas.side Closed i settled.head settled.bodies) (g.met.D.Disk.counts_now d1 honest1)
           (c.put_slice.ensures.any_moment settled.head settled.bodies honest each)))),
       (
-        snapshot_sliced s.base.value s.history.items s.generation s.areas.len b next c.put_slice.ensures.same_prefix
+        snapshot_sliced s.base.value s.history.items s.generation s.areas.len b next c.put_slice.ensures.same_text
             c.put_slice.ensures.same_place within (ap (λ (part : LastState). part.encoded) c.put_slice.ensures.same_last) so.0,
         λ honest1 live.
             let honest = c.put_slice.ensures.honest.0 honest1 in
             let put = so.1 honest live in
             let settled = (c.self.invariant.2 honest).settled live in
             let long = (settled.each (disk.seen s.disk) (g.met.D.Disk.seen_is_image s.disk honest)).whole in
-            put_sliced s.areas.len s.areas.side s.other (disk.seen d1) b next c.put_slice.ensures.same_prefix put.closed
+            put_sliced s.areas.len s.areas.side s.other (disk.seen d1) b next c.put_slice.ensures.same_text put.closed
             (c.in-Ok.ensures.held honest (omega (arith, long)) put.held),
       ),
     )

@@ -4,7 +4,7 @@ use Rattle.run_table.specs.Sound.{IsSound}
 use Rattle.run_table.specs.Step.{empty}
 use Rattle.run_table.specs.TableState.{TableState}
 use Rattle.run_table.proofs.StepKeeps.{empty_is_sound}
-use Rattle.gated_journal.specs.declared.gate.Gate.TheVariants.{Closed}
+use Rattle.gated_journal.specs.declared.gate.GateState.TheVariants.{Closed}
 use Rattle.gated_journal.specs.declared.side.Side.TheVariants.{First}
 use Rattle.act_store.specs.Images.{IsAreaLength}
 use Rattle.act_store.specs.declared.layout.Layout.TheVariants as layouts

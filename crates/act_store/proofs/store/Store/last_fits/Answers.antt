@@ -13,7 +13,7 @@ pub returns : goal.returns
 returns g c =
     let s = c.self.inside in
     let b = c.args.begun.now in
-    let prefix : c.len-2.result ≡ length b.prefix.items = search rules in
+    let prefix : c.len-2.result ≡ length b.head_and_text.items = search rules in
     let later = drop b.place s.history.items in
     let encoded : c.encoded_len.result ≡ length (flat_map command_bytes (commands_of later)) =
     c.encoded_len.ensures.length ∙ ap length (subst (λ (v : StoreState g.row.D.Denot). b.last.encoded ≡ flat_map command_bytes (commands_of (drop b.place v.history)))
@@ -26,7 +26,7 @@ returns g c =
     ap (λ n. nat_lt n s.areas.len) same
     ∙ subst (λ (v : StoreState g.row.D.Denot). nat_lt (c.len-2.result + 10 + c.encoded_len.result) s.areas.len ≡ not (has_no_room v (as_checkpoint b)))
     c.self.view_is
-    (fits_is c.len-2.result (length b.prefix.items) c.encoded_len.result s.areas.len later some c.requires.head prefix
+    (fits_is c.len-2.result (length b.head_and_text.items) c.encoded_len.result s.areas.len later some c.requires.head prefix
     encoded)
 
 -- the record is short, and ends not far behind the area
@@ -38,6 +38,6 @@ overflow_add-record-4 g c = omega (arith, c.encoded_len.ensures.most)
 
 pub overflow_add-result : goal.overflow_add-result
 overflow_add-result g c =
-    let prefix : c.len-2.result ≡ length c.args.begun.now.prefix.items = search rules in
+    let prefix : c.len-2.result ≡ length c.args.begun.now.head_and_text.items = search rules in
     let area : c.args.self.now.area ≡ c.self.inside.areas.len = sym (ap (λ (v : StoreState g.row.D.Denot). v.area) c.self.view_is) in
     omega (arith, prefix, area, c.requires.fits, c.self.invariant.0.size.most, c.encoded_len.ensures.most)

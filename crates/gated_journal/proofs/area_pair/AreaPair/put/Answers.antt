@@ -12,7 +12,7 @@ returns-clause-any_moment g c = λ head bodies honest each.
     let disk = g.D.Disk in
     let len = c.args.self.now.len in
     put_moments len c.args.self.now.side head bodies disk.moment disk.images_since disk.images c.args.disk.now
-    c.put.new.disk c.other_area.result.start c.args.at (length c.args.bytes.now) c.other_area.ensures.start c.requires.suffix
+    c.put.new.disk c.other_area.result.start c.args.at (length c.args.bytes.now) c.other_area.ensures.start c.requires.after_gate
     c.requires.fits (c.put.ensures.any_moment honest) each
 
 pub returns-clause-grown : goal.returns-clause-grown

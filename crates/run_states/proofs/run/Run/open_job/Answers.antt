@@ -2,15 +2,15 @@ use Rattle.std.proofs.Common.{◌≡◌, ap, false, rules, sym, ◌∙◌}
 use Rattle.std.specs.Prelude.{is_none, is_some}
 use Rattle.run_plan.specs.PlanOf.{plan_of}
 use Rattle.run_states.specs.Cells.{JobCells}
-use Rattle.run_states.specs.JobResults.{settled_result}
+use Rattle.run_states.specs.JobResults.{finished_result}
 use Rattle.run_states.proofs.NeedsLeft.{none_where, still_planned}
 use Rattle.run_states.proofs.run.Run.open_job.Goals as goal
 
-pub invariant_of-self-else-had_settled : goal.invariant_of-self-else-had_settled
-invariant_of-self-else-had_settled c =
+pub invariant_of-self-else-had_finished : goal.invariant_of-self-else-had_finished
+invariant_of-self-else-had_finished c =
     let x = c.index_mut-job.result.now in
-    let not_yet : is_some (settled_result x.state.phase) ≡ false = search rules in
+    let not_yet : is_some (finished_result x.state.phase) ≡ false = search rules in
     still_planned (plan_of c.self.inside.prepared.body) c.self.inside.jobs.items c.args.j x c.open.new.self c.self.invariant (search rules)
     (search rules) (search rules)
-    (ap (λ (v : JobCells). is_none (settled_result v.state.phase)) c.open.ensures
-    ∙ sym (none_where (settled_result x.state.phase) false not_yet))
+    (ap (λ (v : JobCells). is_none (finished_result v.state.phase)) c.open.ensures
+    ∙ sym (none_where (finished_result x.state.phase) false not_yet))

@@ -1,6 +1,6 @@
 use Rattle.std.proofs.Common.{arith, ap, ◌∙◌}
 use Rattle.run_states.specs.FirstOf.{changed_at}
-use Rattle.run_states.specs.Rules.{settled_as}
+use Rattle.run_states.specs.Rules.{finished_as}
 use Rattle.run_states.specs.RunState.{RunState}
 use Rattle.run_states.proofs.StoppedRuns.{all_settled, next_settled}
 use Rattle.run_states.proofs.run.Run.settle_all.Goals as goal
@@ -8,7 +8,7 @@ use Rattle.run_states.proofs.run.Run.settle_all.Goals as goal
 pub loop-j-preserved : goal.loop-j-preserved
 loop-j-preserved c =
     c.settle_job.ensures
-    ∙ ap (λ (run : RunState). record run { jobs = changed_at c.loop-j.j (settled_as c.args.settled) run.jobs }) c.loop-j.invariant
+    ∙ ap (λ (run : RunState). record run { jobs = changed_at c.loop-j.j (finished_as c.args.settled) run.jobs }) c.loop-j.invariant
     ∙ next_settled c.args.settled c.args.self.now c.loop-j.j
 
 pub returns : goal.returns

@@ -5,7 +5,7 @@ use Rattle.std.proofs.lemmas.List.{get_or_past, length-map}
 use Rattle.needs_graph.specs.Ancestors.{needs_at}
 use Rattle.run_states.specs.Cells.{JobCells, states}
 use Rattle.run_states.specs.JobResults.{results_so_far}
-use Rattle.run_states.specs.NeedsLeft.{needs_left_at, unsettled}
+use Rattle.run_states.specs.NeedsLeft.{needs_left_at, unfinished}
 use Rattle.run_states.proofs.NeedsLeft.{left_elsewhere, left_there, none_past, written_same}
 use Rattle.run_states.proofs.run.needs.count_needs.Goals as goal
 
@@ -22,15 +22,15 @@ loop-j-preserved c =
     let state : y.state ≡ x.state = search rules in
     let room : y.room ≡ x.room = search rules in
     let lent : c.as_slice.result.now ≡ xs = search rules in
-    let count : y.needs_left ≡ unsettled (results_so_far before) (needs_at graph j) =
+    let count : y.needs_left ≡ unfinished (results_so_far before) (needs_at graph j) =
     ap (λ (v : JobCells). v.needs_left) c.set_needs_left.ensures
-    ∙ c.count_unsettled-left.ensures
-    ∙ ap (λ js. unsettled (results_so_far (states js)) c.needs.result.now) lent
-    ∙ ap (λ ss. unsettled (results_so_far ss) c.needs.result.now) c.loop-j.invariant.0
-    ∙ ap (unsettled (results_so_far before)) c.needs.ensures in (
+    ∙ c.count_unfinished-left.ensures
+    ∙ ap (λ js. unfinished (results_so_far (states js)) c.needs.result.now) lent
+    ∙ ap (λ ss. unfinished (results_so_far ss) c.needs.result.now) c.loop-j.invariant.0
+    ∙ ap (unfinished (results_so_far before)) c.needs.ensures in (
       written_same (λ (v : JobCells). v.state) xs j x y is state ∙ c.loop-j.invariant.0,
       written_same (λ (v : JobCells). v.room) xs j x y is room ∙ c.loop-j.invariant.1,
-      below_more (λ k. needs_left_at (slice_set xs j y) k ≡ unsettled (results_so_far before) (needs_at graph k)) j
+      below_more (λ k. needs_left_at (slice_set xs j y) k ≡ unfinished (results_so_far before) (needs_at graph k)) j
           (λ k lt. left_elsewhere xs j k y (λ e. omega (arith, e, lt)) ∙ c.loop-j.invariant.2 k lt) (left_there xs j y within ∙ count),
     )
 
@@ -43,8 +43,8 @@ returns-clause-left c = λ k.
     ⊎_elim
     (λ below.
     c.loop-j.invariant.2 k below
-    ∙ ap (λ ss. unsettled (results_so_far ss) (needs_at c.args.graph.now k)) (sym c.loop-j.invariant.0))
+    ∙ ap (λ ss. unfinished (results_so_far ss) (needs_at c.args.graph.now k)) (sym c.loop-j.invariant.0))
     (λ past.
     none_past xs k (omega (arith, past, as_many))
-    ∙ sym (ap (unsettled (results_so_far (states xs))) (get_or_past c.args.graph.now k [] (omega (arith, past, c.requires)))))
+    ∙ sym (ap (unfinished (results_so_far (states xs))) (get_or_past c.args.graph.now k [] (omega (arith, past, c.requires)))))
     (cases_lt k c.loop-j.j)

@@ -2,11 +2,11 @@ use Rattle.std.proofs.Common.{◌≡◌, ◌<◌, ℕ}
 use Rattle.needs_graph.specs.Ancestors.{needs_at}
 use Rattle.run_states.specs.Cells.{rooms, states}
 use Rattle.run_states.specs.JobResults.{results_so_far}
-use Rattle.run_states.specs.NeedsLeft.{needs_left_at, unsettled}
+use Rattle.run_states.specs.NeedsLeft.{needs_left_at, unfinished}
 use Rattle.run_states.proofs.run.needs.count_needs.Given as goal
 
 -- the jobs before `j` have counted their needs
 abbrev pub invariant-loop-j : goal.invariant-loop-j
 invariant-loop-j l =
     (states l.jobs.items ≡ states l.fn.jobs.items) × (rooms l.jobs.items ≡ rooms l.fn.jobs.items)
-    × ((k : ℕ) → k < l.j → needs_left_at l.jobs.items k ≡ unsettled (results_so_far (states l.fn.jobs.items)) (needs_at l.graph k))
+    × ((k : ℕ) → k < l.j → needs_left_at l.jobs.items k ≡ unfinished (results_so_far (states l.fn.jobs.items)) (needs_at l.graph k))

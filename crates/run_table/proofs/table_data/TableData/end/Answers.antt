@@ -1,12 +1,12 @@
 use Rattle.std.specs.Prelude.{◌≡◌, IfSome, List, Option, true}
 use Rattle.std.proofs.Common.{ap, subst, sym, ◌∙◌}
 use Rattle.run_table.specs.TableState.{RunnerState, TableState}
-use Rattle.run_table.specs.PlaceNamed.{place_named}
+use Rattle.run_table.specs.IndexNamed.{index_named}
 use Rattle.run_states.specs.Parallel.{is_at_work}
 use Rattle.run_states.specs.Places.{leg_at}
 use Rattle.run_states.specs.RunState.{RunState}
 use Rattle.run_states.specs.StopMoves.{with_ended}
-use Rattle.run_states.specs.declared.place.LegPlace.{LegPlace}
+use Rattle.run_states.specs.declared.place.LegSite.{LegSite}
 use Rattle.run_table.proofs.BeforeSettling.{reported_may_settle, so_settles, sound_as_they_are}
 use Rattle.run_table.proofs.HeldAtWork.{this_at_work}
 use Rattle.run_table.proofs.LegHeld.{ended_at, held_is_at_work}
@@ -22,8 +22,8 @@ leg_held-leg-requires-clause-work c =
 
 pub put-requires : goal.put-requires
 put-requires c =
-    c.requires.place ∙ ap (λ (t : TableState). place_named t.runners c.args.report.now.runner) (sym c.self.view_is)
-    ∙ ap (λ (r : RunnerState). place_named c.self.inside.runners r.name) (same_Ok _ _ c.in_ok-runner.ensures)
+    c.requires.place ∙ ap (λ (t : TableState). index_named t.runners c.args.report.now.runner) (sym c.self.view_is)
+    ∙ ap (λ (r : RunnerState). index_named c.self.inside.runners r.name) (same_Ok _ _ c.in_ok-runner.ensures)
 
 pub settle-requires : goal.settle-requires
 settle-requires c =
@@ -48,5 +48,5 @@ end-requires-clause-work c =
     (this_at_work t report.runner report.lease c.requires.sound (held_for_report t report c.requires.due)) in
     subst (λ (runs : List RunState). IfSome c.leg_held-leg.result (λ p. IfSome (leg_at runs p) (λ z. is_at_work z.phase ≡ true)))
     (sym (ap (λ (s : TableState). s.runs) c.self.view_is))
-    (subst (λ (o : Option LegPlace). IfSome o (λ p. IfSome (leg_at t.runs p) (λ z. is_at_work z.phase ≡ true)))
+    (subst (λ (o : Option LegSite). IfSome o (λ p. IfSome (leg_at t.runs p) (λ z. is_at_work z.phase ≡ true)))
     (sym c.leg_held-leg.ensures.found) work)

@@ -9,9 +9,9 @@ use Rattle.run_states.specs.SoundRuns.{RunsAreSound}
 use Rattle.run_states.specs.StopMoves.{with_ended}
 use Rattle.run_states.specs.Fitting.{is_stopping_leg}
 use Rattle.run_states.specs.Stops.{outcome_of_loss}
-use Rattle.run_states.specs.declared.place.LegPlace.{LegPlace}
+use Rattle.run_states.specs.declared.place.LegSite.{LegSite}
 use Rattle.run_table.specs.TableState.{TableState}
-use Rattle.run_table.specs.PlaceNamed.{place_named}
+use Rattle.run_table.specs.IndexNamed.{index_named}
 use Rattle.run_states.specs.RunState.{RunState}
 use Rattle.run_table.proofs.BeforeSettling.{sound_as_they_are}
 use Rattle.run_table.proofs.LegHeld.{ended_at, held_is_at_work}
@@ -19,11 +19,11 @@ use Rattle.run_table.proofs.table_data.TableData.end_lost.Goals as goal
 use Rattle.run_table.proofs.table_data.TableData.end_lost.Goals.{After-end}
 
 pub put-requires : goal.put-requires
-put-requires c = c.requires.place ∙ ap (λ (t : TableState). place_named t.runners c.args.runner.name) (sym c.self.view_is)
+put-requires c = c.requires.place ∙ ap (λ (t : TableState). index_named t.runners c.args.runner.name) (sym c.self.view_is)
 
 its_outcome : (c : After-end) → c.outcome_of_loss-outcome.result ≡ outcome_of_loss c.args.self.now.runs c.args.lease
 its_outcome c =
-    let of : List RunState → Option LegPlace → Outcome = λ runs leg. if
+    let of : List RunState → Option LegSite → Outcome = λ runs leg. if
     option_map_or (λ p. option_map_or (λ l. is_stopping_leg l.phase) (leg_at runs p) false) leg false then outcome.Cancelled else outcome.Failure in
     c.outcome_of_loss-outcome.ensures ∙ ap₂ of (ap (λ (t : TableState). t.runs) c.self.view_is) c.leg_held-leg.ensures.found
 
@@ -44,7 +44,7 @@ end-requires-clause-work c =
     let t = c.args.self.now in
     subst (λ (runs : List RunState). IfSome c.leg_held-leg.result (λ p. IfSome (leg_at runs p) (λ z. is_at_work z.phase ≡ true)))
     (sym (ap (λ (s : TableState). s.runs) c.self.view_is))
-    (subst (λ (o : Option LegPlace). IfSome o (λ p. IfSome (leg_at t.runs p) (λ z. is_at_work z.phase ≡ true)))
+    (subst (λ (o : Option LegSite). IfSome o (λ p. IfSome (leg_at t.runs p) (λ z. is_at_work z.phase ≡ true)))
     (sym c.leg_held-leg.ensures.found) (held_is_at_work t.runs c.args.lease c.requires.work))
 
 pub settle-requires : goal.settle-requires

@@ -10,7 +10,7 @@ use Rattle.run_states.specs.NewRun.{leased_leg}
 use Rattle.run_states.specs.RunState.{LegState, RunState}
 use Rattle.run_states.specs.declared.holder.Holder.TheVariants.{Leg}
 use Rattle.run_table.specs.TableState.{RunnerState, TableState}
-use Rattle.run_table.specs.PlaceNamed.{place_named}
+use Rattle.run_table.specs.IndexNamed.{index_named}
 use Rattle.run_states.proofs.JobKeeps.{leg_in}
 use Rattle.run_table.proofs.ClaimKeeps.{fitting_leg}
 use Rattle.run_table.proofs.Leased.{leased_table}
@@ -21,8 +21,8 @@ use Rattle.wf_value.proofs.PassedOn.{same_Ok}
 
 pub put-requires : goal.put-requires
 put-requires c =
-    c.requires.place ∙ ap (λ (t : TableState). place_named t.runners c.args.claim.now.runner) (sym c.self.view_is)
-    ∙ ap (λ (r : RunnerState). place_named c.self.inside.runners r.name) (sym c.in_ok-runner.ensures.runner)
+    c.requires.place ∙ ap (λ (t : TableState). index_named t.runners c.args.claim.now.runner) (sym c.self.view_is)
+    ∙ ap (λ (r : RunnerState). index_named c.self.inside.runners r.name) (sym c.in_ok-runner.ensures.runner)
 
 pub runner_and_replies-requires-clause-there : goal.runner_and_replies-requires-clause-there
 runner_and_replies-requires-clause-there c =

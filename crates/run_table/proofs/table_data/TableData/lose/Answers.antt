@@ -1,7 +1,7 @@
 use Rattle.std.specs.Prelude.{◌≡◌, ℕ, List, Some}
 use Rattle.std.proofs.Common.{ap, sym, ◌∙◌}
 use Rattle.run_table.specs.TableState.{RunnerState, TableState}
-use Rattle.run_table.specs.PlaceNamed.{place_named}
+use Rattle.run_table.specs.IndexNamed.{index_named}
 use Rattle.run_table.specs.SequenceNumbers.{runner_named}
 use Rattle.run_table.proofs.BeforeSettling.{lost_may_settle}
 use Rattle.run_table.proofs.HeldAtWork.{held_at_work}
@@ -22,8 +22,8 @@ end_lost-requires c =
     ∙ ap (λ (r : RunnerState). r.name) (same_Ok _ _ c.in_ok-runner-in-Some-holds.ensures) in
     record {
       sound = c.requires;
-      place = c.place_named-place.ensures ∙ ap (λ (t : TableState). place_named t.runners name) c.self.view_is
-          ∙ ap (λ (n : List ℕ). place_named c.args.self.now.runners n) same;
+      place = c.index_named-place.ensures ∙ ap (λ (t : TableState). index_named t.runners name) c.self.view_is
+          ∙ ap (λ (n : List ℕ). index_named c.args.self.now.runners n) same;
       work = held_at_work c.args.self.now name c.in-Some.runner.now c.in-Some-holds.lease c.requires named holds;
       ends = may.sound;
     }

@@ -1,14 +1,14 @@
 use Rattle.std.proofs.Common.{ap, sym, ◌∙◌, Ok}
 use Rattle.wf_value.proofs.PassedOn.{same_Ok}
 use Rattle.run_table.specs.TableState.{RunnerState, TableState}
-use Rattle.run_table.specs.PlaceNamed.{place_named}
+use Rattle.run_table.specs.IndexNamed.{index_named}
 use Rattle.run_table.proofs.ServedNothing.{served_nothing}
 use Rattle.run_table.proofs.table_data.TableData.serve_nothing.Goals as goal
 
 pub put-requires : goal.put-requires
 put-requires c =
-    c.requires.place ∙ ap (λ (t : TableState). place_named t.runners c.args.claim.now.runner) (sym c.self.view_is)
-    ∙ ap (λ (r : RunnerState). place_named c.self.inside.runners r.name) (same_Ok _ _ c.in_ok-runner.ensures)
+    c.requires.place ∙ ap (λ (t : TableState). index_named t.runners c.args.claim.now.runner) (sym c.self.view_is)
+    ∙ ap (λ (r : RunnerState). index_named c.self.inside.runners r.name) (same_Ok _ _ c.in_ok-runner.ensures)
 
 pub returns-clause-step : goal.returns-clause-step
 returns-clause-step c =

@@ -2,8 +2,8 @@ use Rattle.std.proofs.Common.{ap, sym, subst, ◌∙◌, rules}
 use Rattle.std.specs.Bool.{Decides}
 use Rattle.run_table.specs.Sound.{IsOfALeg}
 use Rattle.run_table.specs.Step.{kept_lease}
-use Rattle.stored_tables.specs.Stored.{place_in_runs}
-use Rattle.run_states.specs.declared.place.LegPlace.{LegPlace}
+use Rattle.stored_tables.specs.Stored.{site_in_runs}
+use Rattle.run_states.specs.declared.place.LegSite.{LegSite}
 use Rattle.run_states.proofs.OneAfterAnother.{not_so}
 use Rattle.stored_tables.proofs.PartsRead.{given_lease, no_given, run_within}
 use Rattle.stored_tables.proofs.leased.Leased.given_at.Goals as goal
@@ -12,11 +12,11 @@ use Rattle.wf_value.proofs.PassedOn.{same_Ok}
 
 decided : (c : After-is_of_a_leg) → Decides c.is_of_a_leg.result
     (IsOfALeg c.args.self.now.last c.args.self.now.runs.now
-    (kept_lease c.args.self.now.runs.now c.args.stored.now.attempt (place_in_runs c.args.stored.now) c.args.lease))
+    (kept_lease c.args.self.now.runs.now c.args.stored.now.attempt (site_in_runs c.args.stored.now) c.args.lease))
 decided c =
-    subst (λ (q : LegPlace). Decides c.is_of_a_leg.result (IsOfALeg c.args.self.now.last c.args.self.now.runs.now
+    subst (λ (q : LegSite). Decides c.is_of_a_leg.result (IsOfALeg c.args.self.now.last c.args.self.now.runs.now
     (kept_lease c.args.self.now.runs.now c.args.stored.now.attempt q c.args.lease)))
-    c.place_in_runs-place.ensures.place c.is_of_a_leg.ensures
+    c.site_in_runs-place.ensures.place c.is_of_a_leg.ensures
 
 pub returns-then-not-is_of_a_leg-clause-of : goal.returns-then-not-is_of_a_leg-clause-of
 returns-then-not-is_of_a_leg-clause-of c =
@@ -25,13 +25,13 @@ returns-then-not-is_of_a_leg-clause-of c =
 
 pub kept_lease-requires : goal.kept_lease-requires
 kept_lease-requires c =
-    run_within c.args.self.now.last c.args.self.now.runs.now c.args.stored.now.attempt c.place_in_runs-place.result c.args.lease
+    run_within c.args.self.now.last c.args.self.now.runs.now c.args.stored.now.attempt c.site_in_runs-place.result c.args.lease
     c.requires.few (c.is_of_a_leg.ensures.0 (search rules))
 
 pub returns-clause-of : goal.returns-clause-of
 returns-clause-of c =
     let runs = c.args.self.now.runs.now in
     let stored = c.args.stored.now in
-    given_lease c.args.self.now.last c.args.lease runs stored c.in_ok-kept.kept c.place_in_runs-place.ensures.run
+    given_lease c.args.self.now.last c.args.lease runs stored c.in_ok-kept.kept c.site_in_runs-place.ensures.run
     ((decided (goal.at.returns-clause-of c).After-is_of_a_leg).0 (search rules))
-    (ap (λ p. kept_lease runs stored.attempt p c.args.lease) (sym c.place_in_runs-place.ensures.place) ∙ same_Ok _ _ c.in_ok-kept.ensures)
+    (ap (λ p. kept_lease runs stored.attempt p c.args.lease) (sym c.site_in_runs-place.ensures.place) ∙ same_Ok _ _ c.in_ok-kept.ensures)

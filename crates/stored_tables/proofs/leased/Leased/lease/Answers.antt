@@ -2,7 +2,7 @@ use Rattle.std.proofs.Common.{arith, subst}
 use Rattle.std.specs.Prelude.{IfOk, MatchOption, Option}
 use Rattle.run_plan.specs.declared.last_command.KeptLease.{KeptLease}
 use Rattle.stored_tables.specs.TableOf.{IsLeaseAs}
-use Rattle.stored_tables.specs.declared.parts.StoredPlace.{StoredPlace}
+use Rattle.stored_tables.specs.declared.parts.StoredSite.{StoredSite}
 use Rattle.stored_tables.proofs.leased.Leased.lease.Goals as goal
 
 pub returns-then-get-self-clause-of : goal.returns-then-get-self-clause-of
@@ -14,7 +14,7 @@ pub returns-in-Some-clause-of : goal.returns-in-Some-clause-of
 returns-in-Some-clause-of c =
     let last = c.args.self.now.last in
     let runs = c.args.self.now.runs.now in
-    subst (λ (o : Option StoredPlace). IfOk c.given_at.result (λ found. MatchOption found
+    subst (λ (o : Option StoredSite). IfOk c.given_at.result (λ found. MatchOption found
     ((kept : KeptLease) → IsLeaseAs last runs (record { lease = c.args.parts.now.lease; place = o }) kept → ⊥)
     (λ kept. IsLeaseAs last runs (record { lease = c.args.parts.now.lease; place = o }) kept)))
     c.in-Some.ensures.value c.given_at.ensures.of

@@ -1,7 +1,7 @@
 use Rattle.std.proofs.Common.{◌≡◌, ℕ, Option, arith, subst, sym, ◌∙◌}
 use Rattle.std.specs.Prelude.{MatchOption, Some, slice_get}
 use Rattle.std.proofs.lemmas.Option.{same_Some}
-use Rattle.stored_tables.specs.Stored.{StoredRunner}
+use Rattle.stored_tables.specs.Stored.{RunnerParts}
 use Rattle.stored_tables.specs.TableOf.{IsRunnerAs}
 use Rattle.run_table.specs.TableState.{RunnerState}
 use Rattle.run_states.proofs.OneAfterAnother.{read_at}
@@ -33,9 +33,9 @@ loop-k-preserved c =
     (λ y. IsRunnerAs last runs part y))
     c.in-Some.is c.in_ok-runner.ensures.of in
     let at = read_at parts c.loop-k.k part (omega arith) c.index-parts-k.is in
-    one_pushed (λ (i : ℕ) (y : RunnerState). (p : StoredRunner) → slice_get parts i ≡ Some p → IsRunnerAs last runs p y) old
+    one_pushed (λ (i : ℕ) (y : RunnerState). (p : RunnerParts) → slice_get parts i ≡ Some p → IsRunnerAs last runs p y) old
     c.push.new.self.items x c.loop-k.k c.in_ok-push-in-Some.ensures.items c.loop-k.invariant.0 c.loop-k.invariant.1
-    (λ p at_p. subst (λ (q : StoredRunner). IsRunnerAs last runs q x) (same_Some part p (sym at ∙ at_p)) is)
+    (λ p at_p. subst (λ (q : RunnerParts). IsRunnerAs last runs q x) (same_Some part p (sym at ∙ at_p)) is)
 
 pub returns-clause-of : goal.returns-clause-of
 returns-clause-of c = record {

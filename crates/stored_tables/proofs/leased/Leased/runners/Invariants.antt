@@ -1,6 +1,6 @@
 use Rattle.std.proofs.Common.{◌≡◌, ℕ, length}
 use Rattle.std.specs.Prelude.{Some, slice_get}
-use Rattle.stored_tables.specs.Stored.{StoredRunner}
+use Rattle.stored_tables.specs.Stored.{RunnerParts}
 use Rattle.stored_tables.specs.TableOf.{IsRunnerAs}
 use Rattle.run_table.specs.TableState.{RunnerState}
 use Rattle.stored_tables.proofs.leased.Leased.runners.Given as goal
@@ -9,4 +9,4 @@ use Rattle.stored_tables.proofs.leased.Leased.runners.Given as goal
 abbrev pub invariant-loop-k : goal.invariant-loop-k
 invariant-loop-k l =
     (length l.runners.items ≡ l.k) × ((i : ℕ) (x : RunnerState) → slice_get l.runners.items i ≡ Some x
-    → (part : StoredRunner) → slice_get l.parts i ≡ Some part → IsRunnerAs l.self.last l.self.runs.now part x)
+    → (part : RunnerParts) → slice_get l.parts i ≡ Some part → IsRunnerAs l.self.last l.self.runs.now part x)

@@ -1,6 +1,6 @@
 use Rattle.std.proofs.Common.{◌≡◌, List, Option, None, false, ap, sym, ◌∙◌, subst, rules}
 use Rattle.std.specs.Prelude.{MatchOption, true}
-use Rattle.stored_tables.specs.Stored.{StoredRunner, StoredTable}
+use Rattle.stored_tables.specs.Stored.{RunnerParts, TableParts}
 use Rattle.run_table.specs.Sound.{KeptLeasesAreOfLegs}
 use Rattle.stored_tables.specs.TableOf.{AreRunnersAs}
 use Rattle.run_states.specs.AsPlanned.{AreAsPlanned}
@@ -16,7 +16,7 @@ use Rattle.stored_tables.proofs.parts.TableParts.table.Goals as goal
 pub returns-in_default-clause-of : goal.returns-in_default-clause-of
 returns-in_default-clause-of c =
     let given = c.as_slice.result.now in
-    let same : given ≡ c.args.self.now.runs = c.as_slice.ensures ∙ ap (λ (s : StoredTable). s.runs) c.self.view_is in
+    let same : given ≡ c.args.self.now.runs = c.as_slice.ensures ∙ ap (λ (s : TableParts). s.runs) c.self.view_is in
     let nothing : c.in_ok-runs.field-0 ≡ None = search rules in
     let none = subst
     (λ (o : Option (List RunState)). MatchOption o (AreAsPlanned given → HasOneEach given → ⊥)
@@ -27,20 +27,20 @@ returns-in_default-clause-of c =
 pub returns-in_default-2-clause-of : goal.returns-in_default-2-clause-of
 returns-in_default-2-clause-of c =
     let given = c.as_slice.result.now in
-    let same : given ≡ c.args.self.now.runs = c.as_slice.ensures ∙ ap (λ (s : StoredTable). s.runs) c.self.view_is in
+    let same : given ≡ c.args.self.now.runs = c.as_slice.ensures ∙ ap (λ (s : TableParts). s.runs) c.self.view_is in
     let these = subst
     (λ (o : Option (List RunState)). MatchOption o (AreAsPlanned given → HasOneEach given → ⊥)
     (λ runs. (runs ≡ given) × AreAsPlanned given × HasOneEach given)) c.in-Some.is
     c.in_ok-runs.ensures.of in
     let last = c.self.inside.last_lease in
     let of_runners = c.as_slice-of_runners.result.now in
-    let parted : of_runners ≡ c.args.self.now.runners = c.as_slice-of_runners.ensures ∙ ap (λ (s : StoredTable). s.runners) c.self.view_is in
+    let parted : of_runners ≡ c.args.self.now.runners = c.as_slice-of_runners.ensures ∙ ap (λ (s : TableParts). s.runners) c.self.view_is in
     let nothing : c.in_ok-runners.field-0 ≡ None = search rules in
     let none : (runners : List RunnerState) → AreRunnersAs last c.in-Some.runs of_runners runners → names_rise runners ≡ true → ⊥ =
     rw nothing at c.in_ok-runners.ensures.of in
-    none_listed c.args.self.now last c.in-Some.runs (ap (λ (s : StoredTable). s.last_lease) c.self.view_is) (these.0 ∙ same)
+    none_listed c.args.self.now last c.in-Some.runs (ap (λ (s : TableParts). s.last_lease) c.self.view_is) (these.0 ∙ same)
     (λ runners its. none runners
-    (subst (λ (ps : List StoredRunner). AreRunnersAs last c.in-Some.runs ps runners) (sym parted) its))
+    (subst (λ (ps : List RunnerParts). AreRunnersAs last c.in-Some.runs ps runners) (sym parted) its))
 
 pub is_sound-requires-clause-kept : goal.is_sound-requires-clause-kept
 is_sound-requires-clause-kept c =
@@ -54,39 +54,39 @@ is_sound-requires-clause-kept c =
 pub returns-then-not-is_sound-clause-of : goal.returns-then-not-is_sound-clause-of
 returns-then-not-is_sound-clause-of c =
     let given = c.as_slice.result.now in
-    let same : given ≡ c.args.self.now.runs = c.as_slice.ensures ∙ ap (λ (s : StoredTable). s.runs) c.self.view_is in
+    let same : given ≡ c.args.self.now.runs = c.as_slice.ensures ∙ ap (λ (s : TableParts). s.runs) c.self.view_is in
     let these = subst
     (λ (o : Option (List RunState)). MatchOption o (AreAsPlanned given → HasOneEach given → ⊥)
     (λ runs. (runs ≡ given) × AreAsPlanned given × HasOneEach given)) c.in-Some.is
     c.in_ok-runs.ensures.of in
     let last = c.self.inside.last_lease in
     let of_runners = c.as_slice-of_runners.result.now in
-    let parted : of_runners ≡ c.args.self.now.runners = c.as_slice-of_runners.ensures ∙ ap (λ (s : StoredTable). s.runners) c.self.view_is in
+    let parted : of_runners ≡ c.args.self.now.runners = c.as_slice-of_runners.ensures ∙ ap (λ (s : TableParts). s.runners) c.self.view_is in
     let those : AreRunnersAs last c.in-Some.runs of_runners c.in-Some-2.runners.items × (names_rise c.in-Some-2.runners.items ≡ true) =
     rw c.in-Some-2.is at c.in_ok-runners.ensures.of in
     let its : AreRunnersAs last c.in-Some.runs c.args.self.now.runners c.as_slice-3.result.now =
     subst (λ (rs : List RunnerState). AreRunnersAs last c.in-Some.runs c.args.self.now.runners rs) (sym c.as_slice-3.ensures.value)
-    (subst (λ (ps : List StoredRunner). AreRunnersAs last c.in-Some.runs ps c.in-Some-2.runners.items) parted those.0) in
+    (subst (λ (ps : List RunnerParts). AreRunnersAs last c.in-Some.runs ps c.in-Some-2.runners.items) parted those.0) in
     let fails : c.is_sound.result ≡ false = search rules in
-    none_sound c.args.self.now last c.in-Some.runs (ap (λ (s : StoredTable). s.last_lease) c.self.view_is) (these.0 ∙ same)
+    none_sound c.args.self.now last c.in-Some.runs (ap (λ (s : TableParts). s.last_lease) c.self.view_is) (these.0 ∙ same)
     c.as_slice-3.result.now its
     (λ s. not_so c.is_sound.result c.is_sound.ensures.sound fails s)
 
 pub returns-clause-of : goal.returns-clause-of
 returns-clause-of c =
     let given = c.as_slice.result.now in
-    let same : given ≡ c.args.self.now.runs = c.as_slice.ensures ∙ ap (λ (s : StoredTable). s.runs) c.self.view_is in
+    let same : given ≡ c.args.self.now.runs = c.as_slice.ensures ∙ ap (λ (s : TableParts). s.runs) c.self.view_is in
     let these = subst
     (λ (o : Option (List RunState)). MatchOption o (AreAsPlanned given → HasOneEach given → ⊥)
     (λ runs. (runs ≡ given) × AreAsPlanned given × HasOneEach given)) c.in-Some.is
     c.in_ok-runs.ensures.of in
     let last = c.self.inside.last_lease in
     let of_runners = c.as_slice-of_runners.result.now in
-    let parted : of_runners ≡ c.args.self.now.runners = c.as_slice-of_runners.ensures ∙ ap (λ (s : StoredTable). s.runners) c.self.view_is in
+    let parted : of_runners ≡ c.args.self.now.runners = c.as_slice-of_runners.ensures ∙ ap (λ (s : TableParts). s.runners) c.self.view_is in
     let those : AreRunnersAs last c.in-Some.runs of_runners c.in-Some-2.runners.items × (names_rise c.in-Some-2.runners.items ≡ true) =
     rw c.in-Some-2.is at c.in_ok-runners.ensures.of in
     let holds : c.is_sound.result ≡ true = search rules in
     stored_as c.args.self.now last c.in-Some.runs c.is_sound.new.runs c.in-Some-2.runners.items c.as_slice-3.result.now c.of_sound.result
     c.of_sound.ensures c.is_sound.ensures.kept c.as_slice-3.ensures.value (c.is_sound.ensures.sound.0 holds)
-    (ap (λ (s : StoredTable). s.last_lease) c.self.view_is) (these.0 ∙ same)
-    (subst (λ (ps : List StoredRunner). AreRunnersAs last c.in-Some.runs ps c.in-Some-2.runners.items) parted those.0)
+    (ap (λ (s : TableParts). s.last_lease) c.self.view_is) (these.0 ∙ same)
+    (subst (λ (ps : List RunnerParts). AreRunnersAs last c.in-Some.runs ps c.in-Some-2.runners.items) parted those.0)

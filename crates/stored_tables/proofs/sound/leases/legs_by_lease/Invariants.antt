@@ -5,11 +5,11 @@ use Rattle.std.specs.Prelude.{Option}
 use Rattle.stored_tables.specs.ByNumber.{Adds}
 use Rattle.stored_tables.proofs.LeasesPut.{HasLease}
 use Rattle.run_states.specs.PlacedLegs.{placed_legs}
-use Rattle.run_states.specs.declared.place.LegPlace.{LegPlace}
+use Rattle.run_states.specs.declared.place.LegSite.{LegSite}
 use Rattle.stored_tables.proofs.sound.leases.legs_by_lease.Given as goal
 
 -- once the remaining legs are inserted, all legs are
 abbrev pub invariant-loop-place : goal.invariant-loop-place
 invariant-loop-place l =
-    (after : ℕ → Option LegPlace) → Adds (get nat_cmp l.legs) after (HasLease l.place-iterator)
+    (after : ℕ → Option LegSite) → Adds (get nat_cmp l.legs) after (HasLease l.place-iterator)
     → Adds (get nat_cmp l.initial.legs) after (HasLease (placed_legs l.runs))

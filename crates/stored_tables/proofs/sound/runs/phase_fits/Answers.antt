@@ -11,4 +11,4 @@ returns-then-not-is_stopping c =
 pub returns-in-Ended : goal.returns-in-Ended
 returns-in-Ended c =
     let x = c.args.run.now in
-    ended_fits x.phase x.stopping c.has_settled_jobs.result x.jobs (search rules) c.has_settled_jobs.ensures
+    ended_fits x.phase x.stopping c.has_finished_jobs.result x.jobs (search rules) c.has_finished_jobs.ensures

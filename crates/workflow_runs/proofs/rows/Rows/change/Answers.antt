@@ -4,7 +4,7 @@ use Rattle.std.proofs.lemmas.Option.{slice_get_read}
 use Rattle.run_states.specs.Changes.{changed, offered_by}
 use Rattle.run_states.specs.Places.{with_run}
 use Rattle.run_states.specs.RunState.{RunState}
-use Rattle.run_states.specs.declared.place.LegPlace.{LegPlace}
+use Rattle.run_states.specs.declared.place.LegSite.{LegSite}
 use Rattle.run_states.proofs.Doors.{changed_past, changed_within}
 use Rattle.run_bindings.specs.LabelNumbers.{IsOffered, IsReadyAt, LegsAreOffered}
 use Rattle.workflow_runs.proofs.Stays.{changed_admitted, changed_attempt}
@@ -33,7 +33,7 @@ invariant_of-self c =
     let was = c.self.inside.index.lists in
     let lists = c.offer.new.lists in
     let one : IfSome (offered_by r change) (IsOffered lists c.index-bindings.result.now) =
-    subst (λ (leg : Option LegPlace). IfSome leg (IsOffered lists c.index-bindings.result.now)) c.offered-offered.ensures c.offer.ensures.itself in
+    subst (λ (leg : Option LegSite). IfSome leg (IsOffered lists c.index-bindings.result.now)) c.offered-offered.ensures c.offer.ensures.itself in
     let offered : LegsAreOffered (slice_set items r new) bindings lists =
     offered_after items (slice_set items r new) bindings was lists r change c.index-bindings.result.now requested_at
     (λ p ready. ready_before items r change p (subst (λ (rs : List RunState). IsReadyAt rs p) is_next ready)) one c.offer.ensures.others

@@ -3,7 +3,7 @@ use Rattle.std.proofs.Common.{ap, sym, ◌∙◌}
 use Rattle.needs_graph.specs.Results.{gathered}
 use Rattle.run_states.specs.FirstOf.{placed}
 use Rattle.run_states.specs.Places.{with_job}
-use Rattle.run_states.specs.Rules.{leg_end, settled_as}
+use Rattle.run_states.specs.Rules.{leg_end, finished_as}
 use Rattle.run_states.proofs.Transitions.{job_closed}
 use Rattle.workflow_runs.proofs.JobFinishes.{closes_nobody}
 use Rattle.workflow_runs.proofs.runs.Runs.close.Goals as goal
@@ -11,7 +11,7 @@ use Rattle.workflow_runs.proofs.runs.Runs.close.Goals as goal
 pub returns-in-Some : goal.returns-in-Some
 returns-in-Some c =
     job_closed c.args.self.now c.settle_job.new.self c.args.r c.args.j c.in-Some.job.now.state (sym c.in-Some.ensures)
-    (c.settle_job.ensures ∙ ap (λ s. with_job c.args.r c.args.j (settled_as s) c.args.self.now)
+    (c.settle_job.ensures ∙ ap (λ s. with_job c.args.r c.args.j (finished_as s) c.args.self.now)
     (c.result-settled.ensures
     ∙ ap (λ legs. gathered (filter_map (leg_end c.args.self.now c.args.r c.args.j) (placed legs))) c.legs.ensures))
 

@@ -10,7 +10,7 @@ use Rattle.run_states.specs.Places.{run_at}
 use Rattle.run_states.specs.RunState.{RunState}
 use Rattle.run_states.specs.Words.{label_texts}
 use Rattle.run_bindings.specs.Bindings.{KeepsLabelsAt, RunSays}
-use Rattle.run_bindings.specs.BoundGroups.{results_by_place}
+use Rattle.run_bindings.specs.BoundGroups.{results_by_index}
 use Rattle.workflow_runs.proofs.KnownSays.{labels_kept}
 use Rattle.workflow_runs.proofs.PlannedLegs.{planned_leg}
 use Rattle.workflow_runs.proofs.runs.Runs.is_served.Goals as goal
@@ -28,8 +28,8 @@ returns-in-Some c =
     let own = labels_kept runs p x k at says (planned_leg runs p.run p.job p.leg x at c.requires) in
     let job_is : c.args.place.job ≡ p.job = search rules in
     let leg_is : c.args.place.leg ≡ p.leg = search rules in
-    let keeps = subst (λ j. KeepsLabelsAt (results_by_place x) k j c.args.place.leg own.texts) (sym job_is)
-    (subst (λ l. KeepsLabelsAt (results_by_place x) k p.job l own.texts) (sym leg_is) own.keeps) in
+    let keeps = subst (λ j. KeepsLabelsAt (results_by_index x) k j c.args.place.leg own.texts) (sym job_is)
+    (subst (λ l. KeepsLabelsAt (results_by_index x) k p.job l own.texts) (sym leg_is) own.keeps) in
     c.is_served.ensures own.texts keeps ∙ sym (ap (λ o. option_map_or (has_labels c.args.labels.now) o false) own.are)
 
 pub returns-in-None : goal.returns-in-None

@@ -9,7 +9,7 @@ use Rattle.workflow_runs.specs.GroupsKept.{GroupsAreKept}
 use Rattle.workflow_runs.specs.MarkedRuns.{AreMarked, is_due}
 use Rattle.workflow_runs.specs.RowsKept.{RowState}
 use Rattle.workflow_runs.specs.Seating.{AreStored, HasSeats, HaveKeys}
-use Rattle.workflow_runs.specs.declared.runs.of.Place.TheVariants.{InProgress, Pending}
+use Rattle.workflow_runs.specs.declared.runs.of.GroupSlot.TheVariants.{InProgress, Pending}
 use Rattle.workflow_runs.proofs.AllSeated.{all_are_due, all_exact, all_kept, keys_then, seats_then, start_keys, start_seats, two_in_progress, two_pending}
 use Rattle.workflow_runs.proofs.Seating.{are_seated, one_each_seated, one_is_taken, said_of}
 use Rattle.workflow_runs.proofs.runs.Runs.of_parts.Goals as goal

@@ -4,7 +4,7 @@ use Rattle.run_states.specs.Changes.{changed}
 use Rattle.run_states.specs.Places.{with_job, with_run}
 use Rattle.run_states.specs.RunState.{RunState}
 use Rattle.run_states.specs.Rules.{may_run}
-use Rattle.run_states.specs.Settling.{first_place}
+use Rattle.run_states.specs.Settling.{first_site}
 use Rattle.run_states.specs.SoundRuns.{RunsAreSound}
 use Rattle.run_states.specs.StateWords.{opened}
 use Rattle.run_states.specs.Words.{planned_legs}
@@ -17,7 +17,7 @@ use Rattle.workflow_runs.proofs.runs.Runs.open_job.Goals as goal
 pub decide-without_group-requires : goal.decide-without_group-requires
 decide-without_group-requires c =
     let sound = subst RunsAreSound (sym c.self.view_is) c.requires.sound in
-    let first = ap first_place c.self.view_is ∙ c.requires.first in
+    let first = ap first_site c.self.view_is ∙ c.requires.first in
     job_is_undecided c.self.inside.rows.runs c.self.inside.rows.bindings c.args.r c.args.j sound c.self.invariant.0.told first
 
 pub forgo-requires : goal.forgo-requires
@@ -26,7 +26,7 @@ forgo-requires c = omega (arith, c.decide-without_group.ensures.without, c.self.
 pub mark-requires : goal.mark-requires
 mark-requires c =
     let sound = subst RunsAreSound (sym c.self.view_is) c.requires.sound in
-    let first = ap first_place c.self.view_is ∙ c.requires.first in
+    let first = ap first_site c.self.view_is ∙ c.requires.first in
     let bound = c.decide-without_group.ensures.bound in
     let within : c.args.r < length c.self.inside.rows.runs =
     opened_within c.self.inside.rows.runs c.self.inside.rows.bindings c.args.r c.args.j sound bound c.self.invariant.0.told first in
@@ -39,7 +39,7 @@ invariant_of-self c =
     let bindings = c.self.inside.rows.bindings in
     let r = c.args.r in
     let sound = subst RunsAreSound (sym c.self.view_is) c.requires.sound in
-    let first = ap first_place c.self.view_is ∙ c.requires.first in
+    let first = ap first_site c.self.view_is ∙ c.requires.first in
     let may = ap (λ (rs : List RunState). may_run rs r c.args.j) c.self.view_is ∙ c.requires.may in
     let bound = c.decide-without_group.ensures.bound in
     let told = c.self.invariant.0.told in

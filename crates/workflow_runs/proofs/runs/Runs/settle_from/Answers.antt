@@ -5,7 +5,7 @@ use Rattle.run_states.specs.Moves.{Transition}
 use Rattle.run_states.specs.RunState.{RunState}
 use Rattle.run_states.specs.Settling.{first_rule, remaining_phases, settled}
 use Rattle.run_states.specs.SoundRuns.{RunsAreSound}
-use Rattle.run_states.specs.declared.place.JobPlace.{JobPlace}
+use Rattle.run_states.specs.declared.place.JobSite.{JobSite}
 use Rattle.run_states.proofs.Optional.{from_map}
 use Rattle.settling_laws.proofs.Lowered.{first_rule_lowers}
 use Rattle.settling_laws.proofs.Rests.{settled_after_rule, settled_at_rest}
@@ -19,7 +19,7 @@ taken_lowers runs new took =
     let rule = from_map (λ (m : Transition). m.runs) (first_rule runs) new took in
     subst (λ (xs : List RunState). remaining_phases xs < remaining_phases runs) rule.gives (first_rule_lowers runs rule.value rule.is)
 
-taken_goes_on : (start runs new : List RunState) (from again : JobPlace) → Settling start runs from
+taken_goes_on : (start runs new : List RunState) (from again : JobSite) → Settling start runs from
     → option_map (λ (m : Transition). m.runs) (first_rule runs) ≡ Some new → RestBefore new again → Settling start new again
 taken_goes_on start runs new from again so_far took rest =
     let rule = from_map (λ (m : Transition). m.runs) (first_rule runs) new took in
@@ -34,7 +34,7 @@ no_rule_left : (o : Option Transition) → option_map (λ (m : Transition). m.ru
 no_rule_left None e = refl
 no_rule_left (Some m) e = cc
 
-none_ends : (start runs new : List RunState) (from : JobPlace) → Settling start runs from
+none_ends : (start runs new : List RunState) (from : JobSite) → Settling start runs from
     → option_map (λ (m : Transition). m.runs) (first_rule runs) ≡ None → new ≡ runs → new ≡ settled start
 none_ends start runs new from so_far none same = same ∙ sym (settled_at_rest runs (no_rule_left (first_rule runs) none)) ∙ so_far.same_end
 

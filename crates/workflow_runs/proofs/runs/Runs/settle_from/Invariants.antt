@@ -3,11 +3,11 @@ use Rattle.run_states.specs.Resuming.{RestBefore}
 use Rattle.run_states.specs.RunState.{RunState}
 use Rattle.run_states.specs.Settling.{settled, remaining_phases}
 use Rattle.run_states.specs.SoundRuns.{RunsAreSound}
-use Rattle.run_states.specs.declared.place.JobPlace.{JobPlace}
+use Rattle.run_states.specs.declared.place.JobSite.{JobSite}
 use Rattle.workflow_runs.proofs.runs.Runs.settle_from.Given as goal
 
 -- settling from here gives what settling from the start gives, and no rule applies before `from`
-pub record Settling (start runs : List RunState) (from : JobPlace) : Type 0 where
+pub record Settling (start runs : List RunState) (from : JobSite) : Type 0 where
   pub same_end : settled runs ≡ settled start
   pub sound : RunsAreSound runs
   pub rest : RestBefore runs from

@@ -4,9 +4,9 @@ use Rattle.run_states.specs.Resuming.{RestBefore, may_invalidate_others, resume_
 use Rattle.run_states.specs.Moves.{Transition}
 use Rattle.run_states.specs.Rules.{rule_at}
 use Rattle.run_states.specs.RunState.{RunState}
-use Rattle.run_states.specs.Settling.{first_place, first_rule}
+use Rattle.run_states.specs.Settling.{first_site, first_rule}
 use Rattle.run_states.specs.SoundRuns.{RunsAreSound}
-use Rattle.run_states.specs.declared.place.JobPlace.{JobPlace}
+use Rattle.run_states.specs.declared.place.JobSite.{JobSite}
 use Rattle.run_states.specs.declared.place.RuleSite.{RuleSite}
 use Rattle.run_states.proofs.Optional.{from_map}
 use Rattle.run_states.proofs.Transitions.{first_rule_taken}
@@ -14,8 +14,8 @@ use Rattle.settling_laws.proofs.Resumed.{rest_after_rule}
 use Rattle.settling_laws.proofs.SoundRuns.{runs_that_fit}
 use Rattle.workflow_runs.proofs.runs.Runs.take_first_rule_at.Goals as goal
 
-rest_again : (runs new : List RunState) (place : RuleSite) (freed : Bool) (again : JobPlace) → RunsAreSound runs
-    → first_place runs ≡ Some place
+rest_again : (runs new : List RunState) (place : RuleSite) (freed : Bool) (again : JobSite) → RunsAreSound runs
+    → first_site runs ≡ Some place
     → IfSome (rule_at runs place) (λ next. new ≡ next.runs) → freed ≡ may_invalidate_others runs place → again ≡ resume_point freed new place
     → RestBefore new again
 rest_again runs new place freed again sound first taken frees_is is =

@@ -8,7 +8,7 @@ use Rattle.run_states.specs.GroupOf.{group_at}
 use Rattle.run_states.specs.GroupWords.{same_holder}
 use Rattle.run_states.proofs.Optional.{some_of}
 use Rattle.settling_laws.proofs.ArrivalKeeps.{itself}
-use Rattle.workflow_runs.specs.Seating.{in_place, is_of}
+use Rattle.workflow_runs.specs.Seating.{in_slot, is_of}
 use Rattle.workflow_runs.proofs.Seating.{group_by_key, in_no_group, its_place_is_taken, no_seat_for, one_seated}
 use Rattle.workflow_runs.proofs.runs.of.seat.Goals as goal
 use Rattle.workflow_runs.proofs.runs.of.seat.Goals.{In-Some}
@@ -35,10 +35,10 @@ in_group c has =
 pub returns-then-is_some-clause-taken : goal.returns-then-is_some-clause-taken
 returns-then-is_some-clause-taken c =
     let has : is_of c.args.place c.args.rows.now.runs c.args.holder.now ≡ true = search rules in
-    let some : is_some c.in_place.result ≡ true = search rules in
-    let k = some_of c.in_place.result some in
+    let some : is_some c.in_slot.result ≡ true = search rules in
+    let k = some_of c.in_slot.result some in
     its_place_is_taken c.args.place c.args.rows.now.runs c.args.book.now.entries c.args.holder.now k.0 c.in-Some.group.now has
-    (in_group (goal.at.returns-then-is_some-clause-taken c).In-Some has) (sym c.in_place.ensures ∙ k.1)
+    (in_group (goal.at.returns-then-is_some-clause-taken c).In-Some has) (sym c.in_slot.ensures ∙ k.1)
 
 none_there : {X : Type 0} (o : Option X) → is_some o ≡ false → o ≡ None
 none_there None e = cc
@@ -47,7 +47,7 @@ none_there (Some x) e = cc
 pub arrive-requires : goal.arrive-requires
 arrive-requires c =
     let has : is_of c.args.place c.args.rows.now.runs c.args.holder.now ≡ true = search rules in
-    let free : is_some c.in_place.result ≡ false = search rules in
+    let free : is_some c.in_slot.result ≡ false = search rules in
     record {
       seats = c.requires.seats;
       has = has;
@@ -56,14 +56,14 @@ arrive-requires c =
           (itself c.args.holder.now));
       free = λ g its.
           let same = same_Some g c.in-Some.group.now (sym its ∙ in_group (goal.at.arrive-requires c).In-Some has) in
-          ap (λ (k : Group). in_place c.args.place (slot_in c.args.book.now.entries k)) same ∙ sym c.in_place.ensures ∙ none_there c.in_place.result free;
+          ap (λ (k : Group). in_slot c.args.place (slot_in c.args.book.now.entries k)) same ∙ sym c.in_slot.ensures ∙ none_there c.in_slot.result free;
     }
 
 pub returns-clause-taken : goal.returns-clause-taken
 returns-clause-taken c =
     let has : is_of c.args.place c.args.rows.now.runs c.args.holder.now ≡ true = search rules in
-    let free : is_some c.in_place.result ≡ false = search rules in
+    let free : is_some c.in_slot.result ≡ false = search rules in
     let its = in_group (goal.at.returns-clause-taken c).In-Some has in
     one_seated c.args.place c.args.rows.now.runs c.args.rows.now.bindings c.arrive.new.rows.bindings c.args.book.now.entries
-    c.arrive.new.book.entries c.args.holder.now c.in-Some.group.now has its (sym c.in_place.ensures ∙ none_there c.in_place.result free)
+    c.arrive.new.book.entries c.args.holder.now c.in-Some.group.now has its (sym c.in_slot.ensures ∙ none_there c.in_slot.result free)
     c.arrive.ensures.keys (c.arrive.ensures.sits c.in-Some.group.now its)

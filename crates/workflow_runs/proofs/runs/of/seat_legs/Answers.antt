@@ -4,10 +4,10 @@ use Rattle.run_states.specs.GroupWords.{same_holder}
 use Rattle.run_states.specs.RunState.{RunState}
 use Rattle.run_states.specs.declared.holder.Holder.{Holder}
 use Rattle.run_states.specs.declared.holder.Holder.TheVariants.{Leg}
-use Rattle.run_states.specs.declared.place.LegPlace.{LegPlace}
+use Rattle.run_states.specs.declared.place.LegSite.{LegSite}
 use Rattle.workflow_runs.specs.Seating.{HaveKeys, TakeSeats, in_job, legs_below}
 use Rattle.workflow_runs.proofs.Seating.{are_seated, one_is_taken, said_of}
-use Rattle.workflow_runs.proofs.SeatSteps.{all_legs_seated, keys_still, leg_in_its_job, leg_place, leg_seated, leg_taken, no_leg_seated}
+use Rattle.workflow_runs.proofs.SeatSteps.{all_legs_seated, keys_still, leg_in_its_job, leg_site, leg_seated, leg_taken, no_leg_seated}
 use Rattle.workflow_runs.proofs.SeatsInOrder.{leg_is_another}
 use Rattle.workflow_runs.proofs.runs.of.seat_legs.Goals as goal
 
@@ -25,11 +25,11 @@ pub seat-requires-clause-keys : goal.seat-requires-clause-keys
 seat-requires-clause-keys c =
     let runs = c.args.rows.now.runs in
     let now = c.loop-l.rows.bindings in
-    subst (λ (p : LegPlace). HaveKeys c.args.place (λ h. same_holder h (Leg p)) c.loop-l.rows.runs now) (sym c.new.ensures)
-    (subst (λ (rs : List RunState). HaveKeys c.args.place (λ h. same_holder h (Leg (leg_place c.args.r c.args.j c.loop-l.l))) rs now)
+    subst (λ (p : LegSite). HaveKeys c.args.place (λ h. same_holder h (Leg p)) c.loop-l.rows.runs now) (sym c.new.ensures)
+    (subst (λ (rs : List RunState). HaveKeys c.args.place (λ h. same_holder h (Leg (leg_site c.args.r c.args.j c.loop-l.l))) rs now)
     (sym c.loop-l.invariant.0)
     (keys_still c.args.place runs (in_job c.args.r c.args.j) (legs_below c.args.r c.args.j c.loop-l.l)
-    (λ h. same_holder h (Leg (leg_place c.args.r c.args.j c.loop-l.l))) c.args.rows.now.bindings now c.args.book.now.entries
+    (λ h. same_holder h (Leg (leg_site c.args.r c.args.j c.loop-l.l))) c.args.rows.now.bindings now c.args.book.now.entries
     c.loop-l.book.entries c.requires.keys c.loop-l.invariant.2
     (leg_in_its_job c.args.r c.args.j c.loop-l.l)
     (leg_is_another c.args.r c.args.j c.loop-l.l)))
@@ -38,10 +38,10 @@ pub loop-l-preserved : goal.loop-l-preserved
 loop-l-preserved c =
     let step : suc c.loop-l.l ≡ c.loop-l.l + 1 = omega arith in
     let runs = c.args.rows.now.runs in
-    let this = λ (h : Holder). same_holder h (Leg (leg_place c.args.r c.args.j c.loop-l.l)) in
+    let this = λ (h : Holder). same_holder h (Leg (leg_site c.args.r c.args.j c.loop-l.l)) in
     let said =
     said_of c.args.place (λ h. same_holder h (Leg c.new.result)) this runs c.loop-l.rows.runs c.loop-l.rows.bindings c.seat.new.rows.bindings
-    c.loop-l.book.entries c.seat.new.book.entries c.seat.result (ap (λ (p : LegPlace). λ (h : Holder). same_holder h (Leg p)) c.new.ensures)
+    c.loop-l.book.entries c.seat.new.book.entries c.seat.result (ap (λ (p : LegSite). λ (h : Holder). same_holder h (Leg p)) c.new.ensures)
     c.loop-l.invariant.0 c.seat.ensures.taken in (
       c.seat.ensures.runs ∙ c.loop-l.invariant.0,
       c.seat.ensures.seats,
@@ -56,10 +56,10 @@ loop-l-preserved c =
 pub returns-then-not-seat-clause-taken : goal.returns-then-not-seat-clause-taken
 returns-then-not-seat-clause-taken c =
     let runs = c.args.rows.now.runs in
-    let this = λ (h : Holder). same_holder h (Leg (leg_place c.args.r c.args.j c.loop-l.l)) in
+    let this = λ (h : Holder). same_holder h (Leg (leg_site c.args.r c.args.j c.loop-l.l)) in
     let said =
     said_of c.args.place (λ h. same_holder h (Leg c.new.result)) this runs c.loop-l.rows.runs c.loop-l.rows.bindings c.seat.new.rows.bindings
-    c.loop-l.book.entries c.seat.new.book.entries c.seat.result (ap (λ (p : LegPlace). λ (h : Holder). same_holder h (Leg p)) c.new.ensures)
+    c.loop-l.book.entries c.seat.new.book.entries c.seat.result (ap (λ (p : LegSite). λ (h : Holder). same_holder h (Leg p)) c.new.ensures)
     c.loop-l.invariant.0 c.seat.ensures.taken in
     leg_taken c.args.place runs c.args.rows.now.bindings c.loop-l.rows.bindings c.seat.new.rows.bindings c.args.book.now.entries
     c.loop-l.book.entries c.seat.new.book.entries c.args.r c.args.j c.loop-l.l c.loop-l.invariant.2

@@ -1,6 +1,0 @@
-use Rattle.std.proofs.Common.{◌≡◌, map, take}
-use Rattle.needs_graph.specs.JobBitmap.{marked}
-use Rattle.needs_graph.proofs.rows.all_places.Given as goal
-
-abbrev pub invariant-loop-row : goal.invariant-loop-row
-invariant-loop-row l = l.places.items ≡ map marked (take l.row-index l.rows)

@@ -1,7 +1,0 @@
--- The index of the runner with a name among those of a table, or the index where it would be inserted.
-use Rattle.std.specs.Prelude.{ℕ, List, filter, length}
-use Rattle.run_table.specs.TableState.{RunnerState}
-use Rattle.run_table.specs.SequenceNumbers.{is_below}
-
-abbrev pub place_named : List RunnerState → List ℕ → ℕ
-place_named runners name = length (filter (is_below name) runners)

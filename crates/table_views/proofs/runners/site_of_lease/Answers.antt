@@ -1,0 +1,16 @@
+use Rattle.std.proofs.Common.{◌∙◌, ap}
+use Rattle.std.specs.Prelude.{false, find}
+use Rattle.std.specs.Option.{option_map_or}
+use Rattle.run_states.specs.Fitting.{has_lease}
+use Rattle.run_states.specs.Places.{leg_at}
+use Rattle.table_views.proofs.runners.site_of_lease.Goals as goal
+
+pub returns-in-Some-clause-found : goal.returns-in-Some-clause-found
+returns-in-Some-clause-found c =
+    c.in-Some.ensures.found
+    ∙ ap (find (λ p. option_map_or (has_lease c.args.lease) (leg_at c.args.runs.now p) false)) c.requires.all
+
+pub returns-in-None-clause-found : goal.returns-in-None-clause-found
+returns-in-None-clause-found c =
+    c.in-None.ensures.found
+    ∙ ap (find (λ p. option_map_or (has_lease c.args.lease) (leg_at c.args.runs.now p) false)) c.requires.all

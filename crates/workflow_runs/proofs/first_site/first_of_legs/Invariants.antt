@@ -1,0 +1,14 @@
+use Rattle.std.specs.Prelude.{◌≡◌}
+use Rattle.std.specs.List.{AllByRecursion}
+use Rattle.run_states.specs.WithinRun.{first_of_legs, goes_on}
+use Rattle.run_states.specs.declared.place.RuleSite.TheVariants.{AtLeg}
+use Rattle.settling_laws.proofs.PlacedLegs.{first_passing}
+use Rattle.workflow_runs.proofs.LegsThere.{IsThere}
+use Rattle.workflow_runs.proofs.first_site.first_of_legs.Given as goal
+
+-- the first that goes on is still to come
+abbrev pub invariant-loop-place : goal.invariant-loop-place
+invariant-loop-place l = record {
+  to_come : first_passing (goes_on l.runs) AtLeg l.place-iterator ≡ first_of_legs l.runs l.r l.j l.legs;
+  there : AllByRecursion (IsThere l.runs) l.place-iterator;
+}
