@@ -2,7 +2,7 @@ ghost use Rattle.std.specs.Prelude.{◌≡◌, ◌⊎◌, ◌+◌, ◌-◌, ◌*
 ghost use mathlib.Core.List.{IsPrefix};
 ghost use Rattle.wf_value.specs.Gives.{no_memory};
 ghost use Rattle.act_disk.specs.Failed.{device_failed};
-ghost use Rattle.act_disk.specs.Images.{EachSince};
+ghost use Rattle.definitions.specs.Disk.{EachSince};
 ghost use Rattle.act_store.specs.Checkpoints.{IsFinished, begun_at, dropped, left_of, refusal_of_begin, refusal_of_finish, refusal_of_slice, sliced};
 ghost use Rattle.act_store.specs.Entries.{IsLegal};
 ghost use Rattle.act_store.specs.GroupsOfHistory.{KeepsGroups};
@@ -48,7 +48,7 @@ pub struct LockedStore<D: Disk, E: Named, T: Ledger> {
 
 impl<D: Disk, E: Named, T: Ledger> Model for LockedStore<D, E, T> {
     ghost use Rattle.std.specs.Prelude.{◌≡◌, ◌+◌, ◌≤◌, length};
-    ghost use Rattle.stated_limits.specs.Limits.{max_entries};
+    ghost use Rattle.definitions.specs.Limits.{max_entries};
     ghost use Rattle.act_desk.specs.Events.{covered_in, entries_in, told_in};
     ghost use Rattle.act_desk.specs.Shown.{Shown};
 

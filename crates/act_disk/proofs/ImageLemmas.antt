@@ -5,7 +5,7 @@ use Rattle.std.proofs.lemmas.List.{append_assoc, length-append, length-take, len
 use Rattle.std.proofs.lemmas.List.{reverse-append, take-append-drop}
 use Rattle.wf_value.specs.Gives.{Gives}
 use Rattle.wf_value.specs.declared.refusal.Refusal.{Refusal}
-use Rattle.act_disk.specs.Images.{Torn}
+use Rattle.definitions.specs.Disk.{Torn}
 use Rattle.act_disk.specs.Laid.{laid, torn_refl, torn_laid}
 use Rattle.act_disk.specs.Record.{Record, fresh, seen_after, LeftAfter, bytes_of, MayHaveLeft}
 use Rattle.act_disk.specs.Image.{filled, filled_after, own_write, begun, LeftInside, laid_by}

@@ -1,7 +1,7 @@
 -- What a write leaves unchanged, and what it makes of a file.
 use Rattle.std.proofs.Common.{◌≡◌, ◌⊎◌, inl, inr, ℕ, ◌+◌, ◌-◌, ◌≤◌, min, List, ◌++◌, length, take, drop, sym, ◌∙◌, ap, arith}
 use Rattle.std.proofs.lemmas.List.{take-take, drop-take, drop-drop, take-append-drop}
-use Rattle.act_disk.specs.Images.{Torn, IsWritten}
+use Rattle.definitions.specs.Disk.{Torn, IsWritten}
 
 -- the same bytes in this range
 abbrev pub SameRange : ℕ → ℕ → List ℕ → List ℕ → Type 0

@@ -1,6 +1,6 @@
 -- Sequences of calls: from a property of each call's images to one of every image since the start.
 use Rattle.std.proofs.Common.{inl, inr, ⊎_elim, ℕ, List, arith}
-use Rattle.act_disk.specs.Images.{Elapses, EachSince}
+use Rattle.definitions.specs.Disk.{Elapses, EachSince}
 
 module _ {D : Type 0} (moment : D → ℕ) (images_since : D → ℕ → List ℕ → Type 0) where
   -- before the first call

@@ -1,7 +1,7 @@
 -- One more call in the record of an in-memory disk.
 use Rattle.std.proofs.Common.{◌≡◌, ℕ, List, [], ◌∷◌, ◌++◌, length, reverse, sym, ◌∙◌, ap, subst, arith, Result, Ok, Err, OnOk, OnErr, is_ok}
 use Rattle.std.proofs.lemmas.List.{reverse-append, length-append}
-use Rattle.act_disk.specs.Images.{Torn, IsWritten, Follows, LeavesAny, Elapses}
+use Rattle.definitions.specs.Disk.{Torn, IsWritten, Follows, LeavesAny, Elapses}
 use Rattle.act_disk.specs.Laid.{torn_refl, written_laid}
 use Rattle.act_disk.specs.Past.{LeftSince, elapses_same, elapses_push}
 use Rattle.act_disk.specs.Record.{Record, seen_after, LeftAfter, bytes_of, MayLeave, MayHaveLeft}

@@ -1,6 +1,6 @@
 -- A sync by the system.
 use Rattle.std.proofs.Common.{◌≡◌, ⊎_elim, ℕ, List, ◌∷◌, IsTrue, refl, sym, subst, Result, Ok, Err, OnOk, OnErr, is_ok}
-use Rattle.act_disk.specs.Images.{Only}
+use Rattle.definitions.specs.Disk.{Only}
 use Rattle.act_disk.specs.SystemCalls.{FileCall, Synced, SyncFailed, is_sound, contents, MayLeave}
 use Rattle.act_disk.specs.SystemLaws.{contents_left}
 use Rattle.act_disk.specs.FileCalls.{MayHaveFailed, Passed}

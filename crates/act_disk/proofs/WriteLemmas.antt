@@ -3,7 +3,7 @@ use Rattle.std.proofs.Common.{◌≡◌, ◌↔◌, ⊎_elim, ℕ, zero, suc, �
 use Rattle.std.proofs.Common.{replicate, refl, sym, ◌∙◌, ap, subst, arith, append_assoc}
 use Rattle.std.proofs.lemmas.List.{length-append, length-take-le, length-drop, length-replicate, take_at, drop_at, drop-drop}
 use Rattle.std.proofs.Math.Seq.{take-add}
-use Rattle.act_disk.specs.Images.{Torn, From, Follows}
+use Rattle.definitions.specs.Disk.{Torn, From, Follows}
 use Rattle.act_disk.proofs.Kept.{prefix_kept, rest_kept}
 use Rattle.act_disk.specs.Laid.{laid, torn_refl}
 use Rattle.act_disk.specs.Past.{elapses_same, elapses_push, elapses_then}

@@ -1,7 +1,7 @@
 -- Zeros written after zeros.
 use Rattle.std.proofs.Common.{◌≡◌, ◌+◌, ◌≤◌, ℕ, List, [], ◌++◌, length, drop, replicate, ◌∙◌, ap, arith, append_assoc}
 use Rattle.std.proofs.lemmas.List.{append-nil, take_all, drop_all, replicate-append-replicate}
-use Rattle.act_disk.specs.Images.{Torn, IsWritten, From, Follows, Elapses, EachSince}
+use Rattle.definitions.specs.Disk.{Torn, IsWritten, From, Follows, Elapses, EachSince}
 use Rattle.act_disk.proofs.Kept.{written_is}
 use Rattle.act_disk.proofs.Moments.{goes_on}
 use Rattle.act_disk.proofs.WriteLemmas.{torn_within}

@@ -1,6 +1,6 @@
 -- The effect of one disk call on a file, in terms of system calls, newest first. `old` are the calls before it, `new` those after it.
 use Rattle.std.specs.Prelude.{◌≡◌, ◌⊎◌, ◌↔◌, ℕ, zero, suc, ◌+◌, ◌^◌, ◌<◌, ◌≤◌, max, List, ◌∷◌, length, take, IsTrue, Bool, false}
-use Rattle.act_disk.specs.Images.{Torn, Follows, LeavesAny, SameImages, Elapses}
+use Rattle.definitions.specs.Disk.{Torn, Follows, LeavesAny, SameImages, Elapses}
 use Rattle.act_disk.specs.Laid.{laid}
 use Rattle.act_disk.specs.SystemCalls.{FileCall, is_sound, contents, MayLeave, MayHaveLeft, IsHonest}
 

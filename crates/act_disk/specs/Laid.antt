@@ -3,7 +3,7 @@ use Rattle.std.specs.Prelude.{◌≡◌, ℕ, ◌+◌, ◌-◌, ◌≤◌, min, 
 use Rattle.std.proofs.Common.{refl, sym, ◌∙◌, ap, arith, append_assoc}
 use Rattle.std.proofs.lemmas.List.{length-append, length-take-le, length-drop, length-replicate, take-append-le, take-take, take_at}
 use Rattle.std.proofs.lemmas.List.{drop_at, drop-drop}
-use Rattle.act_disk.specs.Images.{Torn, Holds, IsWritten}
+use Rattle.definitions.specs.Disk.{Torn, Holds, IsWritten}
 
 -- the file with these bytes at `at`; a shorter file is first extended with zeros up to `at`
 abbrev pub laid : ℕ → List ℕ → List ℕ → List ℕ

@@ -4,7 +4,6 @@ pub mod FileDisk
 pub mod Fuse
 pub mod HostFile
 pub mod Image
-pub mod Images
 pub mod Laid
 pub mod Noted
 pub mod Past

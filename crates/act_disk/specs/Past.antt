@@ -3,7 +3,7 @@
 use Rattle.std.specs.Prelude.{◌≡◌, ◌⊎◌, ℕ, ◌+◌, ◌≤◌, List, [], ◌∷◌, ◌++◌, length}
 use Rattle.std.proofs.Common.{inl, inr, ⊎_elim, refl, sym, ap, subst, arith}
 use Rattle.std.proofs.lemmas.List.{length-append}
-use Rattle.act_disk.specs.Images.{Elapses}
+use Rattle.definitions.specs.Disk.{Elapses}
 
 -- a crash after t or more of these calls might have left this image
 abbrev pub LeftSince : {X : Type 0} → (List X → List ℕ → Type 0) → List X → ℕ → List ℕ → Type 0

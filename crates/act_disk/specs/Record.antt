@@ -1,6 +1,6 @@
 -- An in-memory disk: the effect of its calls on its bytes and on what a crash may leave.
 use Rattle.std.specs.Prelude.{◌≡◌, ℕ, ◌+◌, List, [], ◌∷◌, ◌++◌, length, reverse, Result, MatchResult}
-use Rattle.act_disk.specs.Images.{Torn}
+use Rattle.definitions.specs.Disk.{Torn}
 use Rattle.act_disk.specs.Laid.{laid}
 use Rattle.act_disk.specs.Past.{LeftSince}
 use Rattle.act_disk.specs.declared.call.Call.{Call}

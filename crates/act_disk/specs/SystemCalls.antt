@@ -1,7 +1,7 @@
 -- The system calls made on one file, with their answers, and their effect on the file. Lists are newest first. A call that a signal
 -- interrupted had no effect, and neither did a failed read: no list contains them.
 use Rattle.std.specs.Prelude.{◌≡◌, ℕ, List, [], ◌∷◌, length, take, drop, Bool, true, false, IsTrue, Result, Ok, Err}
-use Rattle.act_disk.specs.Images.{Torn, From}
+use Rattle.definitions.specs.Disk.{Torn, From}
 use Rattle.act_disk.specs.Laid.{laid}
 use Rattle.act_disk.specs.Past.{LeftSince}
 use Rattle.act_disk.specs.declared.system_file.CallError.{CallError}

@@ -1,5 +1,5 @@
 ghost use Rattle.std.specs.Prelude.{◌≡◌, ◌<◌, is_ok, is_err};
-ghost use Rattle.act_disk.specs.Images.{CountsFault};
+ghost use Rattle.definitions.specs.Disk.{CountsFault};
 
 use thiserror::Error;
 use wf_value::{Code, Refusal};

@@ -2,7 +2,7 @@ ghost use Rattle.std.specs.Prelude.{◌≡◌, ◌↔◌, ◌+◌, ◌<◌, ◌�
 ghost use Rattle.std.specs.Prelude.{OnOk, OnErr};
 ghost use Rattle.act_disk.specs.Failed.{stream_failed};
 ghost use Rattle.act_disk.specs.FileCalls.{IsLong, IsSoundUntil, length_after};
-ghost use Rattle.act_disk.specs.Images.{Torn, IsWritten, Follows, LeavesAny, SameImages, Only, Elapses, CountsFault};
+ghost use Rattle.definitions.specs.Disk.{Torn, IsWritten, Follows, LeavesAny, SameImages, Only, Elapses, CountsFault};
 
 use crate::disk::Disk;
 use crate::fault::{DiskFault, counted};

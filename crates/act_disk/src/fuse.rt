@@ -1,6 +1,6 @@
 ghost use Rattle.std.specs.Prelude.{◌≡◌, ◌↔◌, ◌+◌, ◌<◌, ◌≤◌, max, length, take, drop, IsTrue, OnOk, OnErr};
 ghost use Rattle.act_disk.specs.Fuse.{Passes, fails_now};
-ghost use Rattle.act_disk.specs.Images.{Torn, IsWritten, Follows, LeavesAny, SameImages, Only, Elapses, CountsFault};
+ghost use Rattle.definitions.specs.Disk.{Torn, IsWritten, Follows, LeavesAny, SameImages, Only, Elapses, CountsFault};
 ghost use Rattle.act_disk.specs.declared.failing.Failing.TheVariants.{Once, From};
 
 use crate::disk::Disk;

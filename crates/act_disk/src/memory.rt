@@ -1,7 +1,7 @@
 ghost use Rattle.std.specs.Prelude.{◌≡◌, ◌↔◌, ◌+◌, ◌-◌, ◌<◌, ◌≤◌, [], ◌∷◌};
 ghost use Rattle.std.specs.Prelude.{◌++◌, max, length, take, drop, replicate, Ok, OnOk, OnErr, IsOk};
 ghost use Rattle.act_disk.specs.declared.call.Call.TheVariants.{Write, Sync as Synced};
-ghost use Rattle.act_disk.specs.Images.{Torn, IsWritten, Follows, LeavesAny, SameImages, Only, Elapses, CountsFault};
+ghost use Rattle.definitions.specs.Disk.{Torn, IsWritten, Follows, LeavesAny, SameImages, Only, Elapses, CountsFault};
 ghost use Rattle.act_disk.specs.Laid.{laid};
 ghost use Rattle.act_disk.specs.Record.{Notes, fresh, bytes_of, MayLeave, MayHaveLeft};
 ghost use Rattle.wf_value.specs.Gives.{Gives};

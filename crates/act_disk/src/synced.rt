@@ -1,5 +1,5 @@
 ghost use Rattle.std.specs.Prelude.{◌≡◌, ◌↔◌, ◌+◌, ◌<◌, ◌≤◌, max, length, OnOk};
-ghost use Rattle.act_disk.specs.Images.{Torn, IsWritten, From, Only, EachSince, CountsFault};
+ghost use Rattle.definitions.specs.Disk.{Torn, IsWritten, From, Only, EachSince, CountsFault};
 
 use crate::disk::Disk;
 use crate::fault::DiskFault;

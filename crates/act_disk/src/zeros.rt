@@ -1,5 +1,5 @@
 ghost use Rattle.std.specs.Prelude.{◌≡◌, ◌↔◌, ◌-◌, ◌<◌, ◌≤◌, ◌++◌, max, replicate, OnOk};
-ghost use Rattle.act_disk.specs.Images.{Torn, From, EachSince, CountsFault};
+ghost use Rattle.definitions.specs.Disk.{Torn, From, EachSince, CountsFault};
 
 use crate::disk::Disk;
 use crate::fault::DiskFault;

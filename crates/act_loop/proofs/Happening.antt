@@ -2,8 +2,8 @@
 use Rattle.std.proofs.Common.{◌≡◌, ◌↔◌, ⊎_elim, ℕ, ◌+◌, ◌≤◌, true, false, Bool, List, [], ◌∷◌, ◌++◌, length, take, refl, sym, ap, subst, ◌∙◌, inl, inr, append-nil, append_assoc, length-append, arith, Ok, Err}
 use Rattle.std.specs.Prelude.{drop, Option, Some, None, if◌then◌else◌}
 use Rattle.std.proofs.lemmas.List.{length-set, take-append-le}
-use Rattle.run_table.specs.TableState.{TableState}
-use Rattle.act_disk.specs.Images.{EachSince}
+use Rattle.run_states.specs.TableState.{TableState}
+use Rattle.definitions.specs.Disk.{EachSince}
 use Rattle.act_disk.proofs.Moments.{started, weakened, joined}
 use Rattle.act_sessions.specs.Exchange.{Exchange}
 use Rattle.act_store.specs.Entries.{IsLegal, table_after}

@@ -9,7 +9,7 @@ use Rattle.act_loop.specs.declared.pause.Pause.TheVariants as pause
 use Rattle.act_loop.specs.declared.pause.Pause.{Pause}
 use Rattle.act_loop.specs.Conversation.{AreAnswers, AreFew, Conversation, IsInMemory, IsLastText, answer_bytes}
 use Rattle.act_loop.specs.Hearing.{Hears}
-use Rattle.act_loop.specs.Limits.{max_taken, max_withheld}
+use Rattle.definitions.specs.Limits.{max_taken, max_withheld}
 use Rattle.act_loop.specs.Turns.{Moment, TakesTurns}
 
 module _ {F : Type 0} (p : Rules F) where

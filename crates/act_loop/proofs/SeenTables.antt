@@ -1,7 +1,7 @@
 -- Once all entries are covered, each image of the disk recovers to the table after all of them.
 use Rattle.std.proofs.Common.{◌≡◌, ◌∙◌, ℕ, ◌≤◌, List, length, sym, ap, subst, arith}
 use Rattle.std.proofs.lemmas.List.{take_all}
-use Rattle.run_table.specs.TableState.{TableState}
+use Rattle.run_states.specs.TableState.{TableState}
 use Rattle.act_store.specs.Entries.{table_after}
 use Rattle.act_store.specs.Images.{RecoversTo}
 use Rattle.act_store.specs.StoreState.{table_of}

@@ -15,7 +15,7 @@ use Rattle.act_loop.specs.Authors.{IsEntered}
 use Rattle.act_loop.specs.Conversation.{AreFew}
 use Rattle.act_loop.specs.Entering.{Enters}
 use Rattle.act_loop.specs.declared.author.Author.{Author}
-use Rattle.act_loop.specs.Limits.{max_withheld}
+use Rattle.definitions.specs.Limits.{max_withheld}
 use Rattle.act_loop.specs.Turns.{Appended, EndsRound, Goes, Moment, TakesTurn, TakesTurns, Writes, pause_after}
 use Rattle.act_sessions.proofs.Listing.{Reads_snoc, IsOpen_snoc, IsEnded_snoc, texts_snoc, exchanges_snoc}
 

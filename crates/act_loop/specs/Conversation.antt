@@ -3,7 +3,7 @@ use Rattle.std.specs.Prelude.{◌≡◌, ◌⊎◌, ℕ, ◌+◌, ◌≤◌, ◌
 use Rattle.act_sessions.specs.Exchange.{Exchange}
 use Rattle.act_sessions.specs.Rules.{Rules, Turn, Reads, IsEnded, IsOpen, exchanges_of, texts, turn_text}
 use Rattle.act_sessions.specs.Session.{ArePassed}
-use Rattle.act_loop.specs.Limits.{max_withheld}
+use Rattle.definitions.specs.Limits.{max_withheld}
 
 -- The bytes that were received from a client, its commands with their answers, the bytes that were sent to it, and those that are withheld.
 pub record Conversation : Type 0 where

@@ -1,7 +1,7 @@
 -- What the commands of a client do to a store.
 use Rattle.std.specs.Prelude.{◌≡◌, ◌⊎◌, ◌==◌, ℕ, List, [], ◌∷◌, filter, flat_map, slice_get, Bool, Ok, Err, Some, None}
 use Rattle.wf_value.specs.Gives.{no_memory}
-use Rattle.run_table.specs.Step.{stepped}
+use Rattle.run_states.specs.Step.{stepped}
 use Rattle.act_sessions.specs.Exchange.{Exchange}
 use Rattle.act_store.specs.Plain.{entered, refusal_of_apply}
 use Rattle.act_store.specs.StoreState.{StoreState, table_of}

@@ -1,6 +1,6 @@
 -- What may happen to a service, in any order.
 use Rattle.std.specs.Prelude.{◌≡◌, ◌≢◌, ◌⊎◌, ◌↔◌, ℕ, ◌≤◌, List, [], ◌∷◌, ◌++◌, length, ⊤, true}
-use Rattle.act_disk.specs.Images.{EachSince}
+use Rattle.definitions.specs.Disk.{EachSince}
 use Rattle.act_store.specs.StoreState.{RecoversToSome}
 use Rattle.act_store.specs.declared.entry.Entry.{Entry}
 use Rattle.act_store.specs.declared.step.Step.{Step}

@@ -4,7 +4,7 @@ use Rattle.act_sessions.specs.Exchange.{Exchange}
 use Rattle.act_store.specs.StoreState.{StoreState}
 use Rattle.act_loop.specs.Conversation.{Conversation}
 use Rattle.act_loop.specs.Entering.{Enters}
-use Rattle.act_loop.specs.Limits.{max_taken, max_withheld}
+use Rattle.definitions.specs.Limits.{max_taken, max_withheld}
 
 -- The piece was received. Some commands were entered or refused under the client's number, and their answers are withheld. Nothing was sent.
 pub record Hears {D : Type 0} (number : ℕ) (piece : List ℕ) (store : StoreState D) (old : Conversation) (store_new : StoreState D) (new : Conversation) : Type 0 where

@@ -5,7 +5,6 @@ pub mod Conversation
 pub mod Entering
 pub mod Events
 pub mod Hearing
-pub mod Limits
 pub mod Looking
 pub mod Service
 pub mod Slots

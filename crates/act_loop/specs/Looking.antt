@@ -1,6 +1,6 @@
 -- What may be seen of a service between its turns.
 use Rattle.std.specs.Prelude.{◌≡◌, ℕ, List, length}
-use Rattle.run_table.specs.TableState.{TableState}
+use Rattle.run_states.specs.TableState.{TableState}
 use Rattle.act_store.specs.Entries.{table_after}
 use Rattle.act_store.specs.Images.{RecoversTo}
 use Rattle.act_loop.specs.Service.{ServiceState, covered_of, history_of}

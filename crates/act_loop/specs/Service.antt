@@ -1,8 +1,8 @@
 -- A service of many clients over one store, and what every service guarantees.
 use Rattle.std.specs.Prelude.{◌≡◌, ℕ, ◌+◌, ◌≤◌, ◌<◌, List, [], ◌++◌, length, drop, Option}
 use Rattle.std.specs.List.{AllByRecursion}
-use Rattle.run_table.specs.Sound.{IsSound}
-use Rattle.run_table.specs.TableState.{TableState}
+use Rattle.run_states.specs.Sound.{IsSound}
+use Rattle.run_states.specs.TableState.{TableState}
 use Rattle.act_store.specs.Entries.{IsLegal, table_after}
 use Rattle.act_store.specs.GroupsOfHistory.{KeepsGroups}
 use Rattle.act_store.specs.Reopened.{Life}

@@ -10,7 +10,7 @@ use Rattle.act_loop.specs.declared.pause.Pause.{Pause}
 use Rattle.act_loop.specs.declared.pause.Pause.TheVariants.{Memory, More, Over, Waits}
 use Rattle.act_loop.specs.Conversation.{AreFew}
 use Rattle.act_loop.specs.Entering.{Enters}
-use Rattle.act_loop.specs.Limits.{max_withheld}
+use Rattle.definitions.specs.Limits.{max_withheld}
 
 -- a store, the commands of a client, and the bytes of its answers that are withheld
 pub record Moment (D : Type 0) : Type 0 where

@@ -1,7 +1,7 @@
 //! Laws of services over definitions, whatever events come.
 
 ghost use Rattle.std.specs.Prelude.{◌≡◌, ◌⊎◌, ◌≤◌, ◌++◌, ℕ, List, [], take, true};
-ghost use Rattle.run_table.specs.TableState.{TableState};
+ghost use Rattle.run_states.specs.TableState.{TableState};
 ghost use Rattle.act_sessions.specs.Exchange.{Exchange};
 ghost use Rattle.act_store.specs.Images.{RecoversTo};
 ghost use Rattle.act_store.specs.Reopened.{EndsAt};

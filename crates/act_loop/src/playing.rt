@@ -1,5 +1,5 @@
 ghost use Rattle.std.specs.Prelude.{◌↔◌};
-ghost use Rattle.act_disk.specs.Images.{EachSince};
+ghost use Rattle.definitions.specs.Disk.{EachSince};
 ghost use Rattle.act_store.specs.StoreState.{RecoversToSome};
 ghost use Rattle.act_loop.specs.Events.{Grows, Happens, Plays, Survives};
 ghost use Rattle.act_loop.specs.Service.{IsPromised, covered_of, history_of};

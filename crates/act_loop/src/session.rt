@@ -2,7 +2,7 @@ ghost use Rattle.std.specs.Prelude.{◌≡◌, ◌≤◌, ◌<◌, ◌++◌, ℕ
 ghost use Rattle.act_loop.specs.Clients.{sent_of};
 ghost use Rattle.act_loop.specs.Conversation.{Follows, IsLastText, no_conversation};
 ghost use Rattle.act_loop.specs.Hearing.{Hears};
-ghost use Rattle.act_loop.specs.Limits.{max_taken};
+ghost use Rattle.definitions.specs.Limits.{max_taken};
 ghost use Rattle.act_loop.specs.Turns.{TakesTurns};
 
 use crate::byte_history::ByteHistory;

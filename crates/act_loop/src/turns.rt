@@ -1,5 +1,5 @@
 ghost use Rattle.std.specs.Prelude.{◌≡◌, ◌<◌, ◌+◌, ℕ, List, length, min};
-ghost use Rattle.act_loop.specs.Limits.{max_withheld};
+ghost use Rattle.definitions.specs.Limits.{max_withheld};
 ghost use Rattle.act_loop.specs.Turns.{Appended, EndsRound, Goes, Moment, TakesTurn, TakesTurns, pause_after};
 
 use crate::author::Author;

@@ -6,10 +6,10 @@ use Rattle.std.proofs.lemmas.List.{drop-drop, length-drop, length-take, take-tak
 use Rattle.std.proofs.Math.Seq.{take-add}
 use borrow.Rule.Slice.PartMut.{put_mid}
 use Rattle.gated_journal.specs.Choice.{part}
-use Rattle.gated_journal.specs.Layout.{Head, IsClosed, Reads, ReadsNothing, opened}
+use Rattle.definitions.specs.Area.{Head, IsClosed, Reads, ReadsNothing, opened}
 use Rattle.gated_journal.proofs.OneReading.{one_reading}
 use Rattle.act_store.specs.AreaPrefix.{IsPrefixOf, IsShort, ReadsAlike, ReadsSomething}
-use Rattle.act_store.specs.Limits.{first_read}
+use Rattle.definitions.specs.Limits.{first_read}
 
 cut_there : (start n len : ℕ) (disk : List ℕ) → n ≤ len → take n (part start len disk) ≡ part start n disk
 cut_there start n len disk within = take-take n len (drop start disk) within

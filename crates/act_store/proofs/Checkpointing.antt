@@ -3,19 +3,19 @@ use Rattle.std.proofs.Common.{◌≡◌, inl, ⊎_elim, ℕ, ◌+◌, ◌<◌, �
 use Rattle.std.proofs.Common.{Bool, true, false, drop_of_length-le, length-append}
 use Rattle.std.specs.Prelude.{Option, flat_map, map}
 use Rattle.std.proofs.lemmas.List.{take_all, length-map}
-use Rattle.act_disk.specs.Images.{EachSince}
+use Rattle.definitions.specs.Disk.{EachSince}
 use Rattle.act_disk.proofs.Moments.{weakened}
-use Rattle.gated_journal.specs.Layout.{Head}
+use Rattle.definitions.specs.Area.{Head}
 use Rattle.gated_journal.specs.Whole.{RecoversWhole, WholeEither}
 use Rattle.gated_journal.specs.declared.gate.GateState.{GateState}
 use Rattle.gated_journal.specs.declared.gate.GateState.TheVariants.{Open, Closed}
 use Rattle.gated_journal.specs.declared.side.Side.{Side}
-use Rattle.run_table.specs.Sound.{IsSound}
+use Rattle.run_states.specs.Sound.{IsSound}
 use Rattle.stored_tables.specs.Stored.{RunnerParts, stored_runner}
-use Rattle.run_table.specs.TableState.{TableState}
+use Rattle.run_states.specs.TableState.{TableState}
 use Rattle.table_laws.proofs.ReachedTables.{after_is_sound}
 use Rattle.command_encodings.specs.Commands.{number}
-use Rattle.command_encodings.specs.Format.{pair, word_bytes, text_bytes}
+use Rattle.definitions.specs.Format.{pair, word_bytes, text_bytes}
 use Rattle.table_text.specs.Tables.{last_command, lease, runner, run}
 use Rattle.command_encodings.proofs.LengthLaws.{length_text}
 use Rattle.act_store.specs.Checkpoints.{first_gate, text_length}

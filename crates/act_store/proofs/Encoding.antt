@@ -1,12 +1,12 @@
 -- What the bytes of an area encode, from a scan of them.
 use Rattle.std.proofs.Common.{◌≡◌, ℕ, List, refl, sym, ◌∙◌, ap, subst}
 use Rattle.std.specs.Prelude.{Err, IfOk, IfSome, None, Ok, Option, Result, Some}
-use Rattle.gated_journal.specs.Layout.{Head, Reads, ReadsNothing}
+use Rattle.definitions.specs.Area.{Head, Reads, ReadsNothing}
 use Rattle.gated_journal.specs.Scanned.{IsScanned}
 use Rattle.gated_journal.proofs.OneReading.{one_reading}
 use Rattle.wf_value.specs.declared.refusal.Refusal.{Refusal}
-use Rattle.run_table.specs.Sound.{IsSound}
-use Rattle.run_table.specs.TableState.{TableState}
+use Rattle.run_states.specs.Sound.{IsSound}
+use Rattle.run_states.specs.TableState.{TableState}
 use Rattle.table_laws.proofs.ReachedTables.{after_is_sound}
 use Rattle.act_store.specs.Layouts.{layout_of}
 use Rattle.act_store.specs.Meaning.{MeansTable, EncodeCommands}

@@ -6,16 +6,16 @@ use Rattle.std.specs.Int.{to_be_bytes, w32}
 use Rattle.std.proofs.lemmas.Bool.{cases_Bool, le-ltb, lt-ltb, ltb-false, ltb-true}
 use Rattle.std.specs.List.{AllByRecursion}
 use Rattle.std.proofs.lemmas.List.{take_all, length-drop, length-map}
-use Rattle.act_disk.specs.Images.{EachSince, Holds}
+use Rattle.definitions.specs.Disk.{EachSince, Holds}
 use Rattle.act_disk.proofs.Moments.{weakened}
-use Rattle.gated_journal.specs.Layout.{Fits, Head, head_bytes, record_bytes}
+use Rattle.definitions.specs.Area.{Fits, Head, head_bytes, record_bytes}
 use Rattle.gated_journal.specs.TwoAreas.{other, start_of, Completes}
 use Rattle.gated_journal.specs.Whole.{RecoversWhole, WholeOrSwitched}
 use Rattle.gated_journal.specs.declared.gate.GateState.{GateState}
 use Rattle.gated_journal.specs.declared.gate.GateState.TheVariants.{Open, Closed}
 use Rattle.run_plan.specs.declared.command.Command.{Command}
-use Rattle.run_table.specs.Histories.{after}
-use Rattle.run_table.specs.TableState.{TableState}
+use Rattle.run_states.specs.Histories.{after}
+use Rattle.run_states.specs.TableState.{TableState}
 use Rattle.command_encodings.specs.Commands.{IsEncoded, batch, command_bytes}
 use Rattle.act_store.specs.Checkpoints.{IsFinished, finished, first_gate, gate_after, refusal_of_finish}
 use Rattle.act_store.specs.Entries.{commands_of, table_after}

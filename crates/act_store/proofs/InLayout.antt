@@ -3,13 +3,13 @@ use Rattle.std.proofs.Common.{◌≡◌, List, [], ◌∷◌, refl, sym, ◌∙�
 use Rattle.std.specs.Prelude.{◌&&◌, Some, true}
 use Rattle.std.specs.List.{AllByRecursion, list_all}
 use Rattle.std.proofs.lemmas.Option.{same_Some}
-use Rattle.gated_journal.specs.Layout.{Head}
+use Rattle.definitions.specs.Area.{Head}
 use Rattle.run_plan.specs.declared.command.Command.{Command}
-use Rattle.run_table.specs.Sound.{IsSound}
-use Rattle.run_table.specs.TableState.{TableState}
+use Rattle.run_states.specs.Sound.{IsSound}
+use Rattle.run_states.specs.TableState.{TableState}
 use Rattle.command_encodings.specs.Commands.{batch}
 use Rattle.table_text.specs.FirstLayout.{is_in_first_layout}
-use Rattle.command_encodings.specs.Format.{NoneBeginsAnother}
+use Rattle.definitions.specs.Format.{NoneBeginsAnother}
 use Rattle.command_encodings.specs.ReadingCommands.{batch_at}
 use Rattle.command_encodings.proofs.CommandReaders.{batch_reads}
 use Rattle.command_encodings.proofs.Readers.{none_begins}

@@ -6,7 +6,7 @@ use Rattle.std.specs.Int.{to_be_bytes, w32}
 use Rattle.std.proofs.lemmas.List.{append-nil, drop_at, length-set, length-take, nil_from_length}
 use Rattle.std.proofs.lemmas.List.{take-take, take_all, take_at, take_more_set}
 use Rattle.gated_journal.specs.Appends.{record_of}
-use Rattle.gated_journal.specs.Layout.{framed}
+use Rattle.definitions.specs.Area.{framed}
 use Rattle.run_plan.specs.declared.command.Command.{Command}
 use Rattle.command_encodings.specs.Commands.{batch, command_bytes}
 use Rattle.act_store.specs.LastPart.{IsLastPart, LastState, front_bytes, front_of, last_part, last_state, written_part, written_with}

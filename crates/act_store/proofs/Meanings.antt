@@ -3,10 +3,10 @@ use Rattle.std.proofs.Common.{ℕ, List, [], ◌∷◌, ◌++◌, sym, ◌∙◌
 use Rattle.std.proofs.lemmas.List.{map-append, append-nil}
 use Rattle.std.proofs.lemmas.List.Concat.{flat_map-append}
 use Rattle.std.specs.List.{AllByRecursion, flat_map}
-use Rattle.gated_journal.specs.Layout.{Head}
+use Rattle.definitions.specs.Area.{Head}
 use Rattle.run_plan.specs.declared.command.Command.{Command}
-use Rattle.run_table.specs.Histories.{after}
-use Rattle.run_table.specs.TableState.{TableState}
+use Rattle.run_states.specs.Histories.{after}
+use Rattle.run_states.specs.TableState.{TableState}
 use Rattle.table_laws.proofs.LeasesStay.{after_both}
 use Rattle.command_encodings.specs.Commands.{batch}
 use Rattle.act_store.specs.Layouts.{batch_format}

@@ -1,13 +1,13 @@
 -- An image recovers to at most one table.
 use Rattle.std.proofs.Common.{◌≡◌, ℕ, List, [], ◌∷◌, ◌++◌, map, refl, sym, ◌∙◌, ap, subst, arith}
 use Rattle.std.specs.List.{AllByRecursion, flat_map}
-use Rattle.gated_journal.specs.Layout.{Head, Reads}
+use Rattle.definitions.specs.Area.{Head, Reads}
 use Rattle.gated_journal.specs.TwoAreas.{area_on, Encodes}
 use Rattle.gated_journal.specs.declared.side.Side.{Side}
 use Rattle.gated_journal.proofs.OneReading.{one_reading}
 use Rattle.run_plan.specs.declared.command.Command.{Command}
-use Rattle.run_table.specs.Histories.{after}
-use Rattle.run_table.specs.TableState.{TableState}
+use Rattle.run_states.specs.Histories.{after}
+use Rattle.run_states.specs.TableState.{TableState}
 use Rattle.act_store.specs.Images.{RecoversTo}
 use Rattle.act_store.specs.Layouts.{batch_format}
 use Rattle.act_store.specs.Meaning.{MeansTable, EncodeCommands}

@@ -1,8 +1,8 @@
 -- The table that an opened disk recovers to.
 use Rattle.std.proofs.Common.{◌≡◌, ℕ, ◌+◌, List, length, sym, subst, arith}
 use Rattle.std.specs.Prelude.{Some}
-use Rattle.act_disk.specs.Images.{Only}
-use Rattle.gated_journal.specs.Layout.{Head, Reads}
+use Rattle.definitions.specs.Disk.{Only}
+use Rattle.definitions.specs.Area.{Head, Reads}
 use Rattle.gated_journal.specs.TwoAreas.{area_on, Encodes}
 use Rattle.gated_journal.specs.Whole.{IsChosen, RecoversWhole}
 use Rattle.gated_journal.specs.declared.chosen.Chosen.{Chosen}

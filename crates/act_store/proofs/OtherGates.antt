@@ -1,7 +1,7 @@
 -- A gate that is already closed, and so is not written.
 use Rattle.std.proofs.Common.{◌≡◌, ℕ, List, [], ◌∷◌, refl, subst}
 use Rattle.std.specs.Prelude.{false}
-use Rattle.gated_journal.specs.Layout.{IsClosed}
+use Rattle.definitions.specs.Area.{IsClosed}
 use Rattle.gated_journal.specs.TwoAreas.{IsGate, area_on, other}
 use Rattle.gated_journal.specs.declared.gate.GateState.{GateState}
 use Rattle.gated_journal.specs.declared.gate.GateState.TheVariants.{Open, Closed}

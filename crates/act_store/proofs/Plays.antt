@@ -5,11 +5,11 @@ use Rattle.std.specs.Prelude.{Option, Some, None, IfOk, IsSomeAnd, OnErr, Result
 use Rattle.std.proofs.Math.Nat.{eq-or-lt_of_le}
 use Rattle.std.proofs.lemmas.List.{append-nil, take_all, take-append-le, take_more}
 use Rattle.wf_value.specs.declared.refusal.Refusal.{Refusal}
-use Rattle.act_disk.specs.Images.{EachSince}
+use Rattle.definitions.specs.Disk.{EachSince}
 use Rattle.act_disk.proofs.Moments.{started, weakened, joined}
 use Rattle.run_plan.specs.declared.command.Command.{Command}
 use Rattle.run_plan.specs.declared.reply.Reply.{Reply}
-use Rattle.run_table.specs.TableState.{TableState}
+use Rattle.run_states.specs.TableState.{TableState}
 use Rattle.act_store.specs.Checkpoints.{dropped, finished, taken, with_slice}
 use Rattle.act_store.specs.Entries.{table_after}
 use Rattle.act_store.specs.Images.{RecoversTo}

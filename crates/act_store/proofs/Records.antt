@@ -8,7 +8,7 @@ use Rattle.std.proofs.lemmas.List.Concat.{flat_map-append}
 use Rattle.gated_journal.specs.Appends.{body_in, record_of}
 use Rattle.run_plan.specs.declared.command.Command.{Command}
 use Rattle.command_encodings.specs.Commands.{batch, command_bytes}
-use Rattle.command_encodings.specs.Format.{word_bytes}
+use Rattle.definitions.specs.Format.{word_bytes}
 use Rattle.command_encodings.proofs.LengthLaws.{length_word}
 use Rattle.act_store.specs.Plain.{batch_length}
 use Rattle.act_store.specs.PendingBatch.{CountsFew, IsRecordOf, IsWithCommand, body_held, body_of, encoded_in, batch_state_of, with_command}

@@ -5,14 +5,14 @@ use Rattle.std.specs.Prelude.{Option, Some, None, IfSome, flat_map, is_some, opt
 use Rattle.std.proofs.lemmas.List.{drop-append-le, drop_all, take_all, take-append-le}
 use Rattle.std.specs.Int.{to_be_bytes, w64}
 use Rattle.std.specs.List.{AllByRecursion}
-use Rattle.act_disk.specs.Images.{Holds}
-use Rattle.gated_journal.specs.Layout.{head_bytes}
+use Rattle.definitions.specs.Disk.{Holds}
+use Rattle.definitions.specs.Area.{head_bytes}
 use Rattle.gated_journal.specs.TwoAreas.{other, start_of}
 use Rattle.gated_journal.specs.declared.gate.GateState.{GateState}
 use Rattle.gated_journal.specs.declared.gate.GateState.TheVariants.{Closed}
 use Rattle.gated_journal.specs.declared.side.Side.{Side}
 use Rattle.run_plan.specs.declared.command.Command.{Command}
-use Rattle.run_table.specs.TableState.{TableState}
+use Rattle.run_states.specs.TableState.{TableState}
 use Rattle.command_encodings.specs.Commands.{IsEncoded, command_bytes}
 use Rattle.table_text.specs.WholeTables.{whole_table}
 use Rattle.act_store.specs.Checkpoints.{first_gate, text_length}

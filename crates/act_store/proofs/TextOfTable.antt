@@ -1,12 +1,12 @@
 -- Which texts encode a table, from what is read of them.
 use Rattle.std.proofs.Common.{◌≡◌, ℕ, ◌<◌, ◌≤◌, List, [], ◌∷◌, length, refl, arith}
 use Rattle.std.specs.Prelude.{None}
-use Rattle.run_table.specs.Sound.{IsSound}
-use Rattle.run_table.specs.Step.{empty}
+use Rattle.run_states.specs.Sound.{IsSound}
+use Rattle.run_states.specs.Step.{empty}
 use Rattle.stored_tables.specs.Stored.{stored_table}
-use Rattle.run_table.specs.TableState.{TableState}
+use Rattle.run_states.specs.TableState.{TableState}
 use Rattle.run_table.proofs.StepKeeps.{empty_is_sound}
-use Rattle.command_encodings.specs.Format.{OpensWith, ReadsPrefix, word_bytes}
+use Rattle.definitions.specs.Format.{OpensWith, ReadsPrefix, word_bytes}
 use Rattle.table_text.specs.Tables.{table}
 use Rattle.table_text.specs.WholeTables.{whole_table}
 use Rattle.act_store.specs.Layouts.{table_format}

@@ -2,7 +2,7 @@
 use Rattle.std.proofs.Common.{◌≡◌, ℕ, ◌<◌, ◌≤◌, List, [], ◌∷◌, ◌++◌, length, refl, sym, ◌∙◌, ap, arith}
 use Rattle.std.specs.Prelude.{None}
 use Rattle.std.proofs.lemmas.List.{append-nil}
-use Rattle.command_encodings.specs.Format.{Format, NoneBeginsAnother, OpensWith, Encodes, ReadsPrefix}
+use Rattle.definitions.specs.Format.{Format, NoneBeginsAnother, OpensWith, Encodes, ReadsPrefix}
 
 no_element : (l : List ℕ) → length l ≤ 0 → l ≡ []
 no_element [] none = refl

@@ -1,8 +1,8 @@
 -- How much of an area determines what it reads as.
 use Rattle.std.specs.Prelude.{◌≡◌, ◌⊎◌, ◌↔◌, ℕ, ◌*◌, ◌≤◌, List, length, take}
 use Rattle.gated_journal.specs.Choice.{part}
-use Rattle.gated_journal.specs.Layout.{Head, Reads, ReadsNothing}
-use Rattle.act_store.specs.Limits.{first_read}
+use Rattle.definitions.specs.Area.{Head, Reads, ReadsNothing}
+use Rattle.definitions.specs.Limits.{first_read}
 
 -- The bytes are those of the disk from there on.
 abbrev pub IsPrefixOf : ℕ → List ℕ → List ℕ → Type 0

@@ -7,13 +7,13 @@ use Rattle.wf_value.specs.declared.refusal.Refusal.{Refusal}
 use Rattle.wf_value.specs.declared.refusal.Refusal.TheVariants.{Numbered}
 use Rattle.gated_journal.specs.declared.lengths.TheConstants.{FRAME, GATE, HEAD}
 use Rattle.run_plan.specs.declared.command.Command.{Command}
-use Rattle.run_table.specs.TableState.{TableState}
+use Rattle.run_states.specs.TableState.{TableState}
 use Rattle.table_text.specs.WholeTables.{whole_table}
 use Rattle.act_store.specs.Entries.{commands_of}
 use Rattle.act_store.specs.StoreState.{Checkpoint, StoreState, table_of}
 use Rattle.act_store.specs.declared.layout.Layout.TheVariants as layouts
 use Rattle.act_store.specs.Plain.{area_full, batch_length, checkpoint_order, failed_earlier}
-use Rattle.act_store.specs.Limits.{max_slice}
+use Rattle.definitions.specs.Limits.{max_slice}
 
 abbrev pub last_counter : Refusal
 last_counter = Numbered LastCounter

@@ -1,7 +1,7 @@
 -- What the bytes of an area encode.
 use Rattle.std.specs.Prelude.{◌≡◌, ℕ, ◌+◌, List, length, Option, Some, None}
-use Rattle.gated_journal.specs.Layout.{Head, Reads, opened}
-use Rattle.run_table.specs.TableState.{TableState}
+use Rattle.definitions.specs.Area.{Head, Reads, opened}
+use Rattle.run_states.specs.TableState.{TableState}
 use Rattle.act_store.specs.Images.{IsAreaLength}
 use Rattle.act_store.specs.Layouts.{layout_of}
 use Rattle.act_store.specs.Meaning.{MeansTable}

@@ -1,10 +1,10 @@
 -- The table that an image of a disk recovers to.
 use Rattle.std.specs.Prelude.{◌≡◌, ℕ, ◌+◌, ◌≤◌, List, length, None, Some}
-use Rattle.stated_limits.specs.Limits.{max_area, min_area}
-use Rattle.gated_journal.specs.Layout.{Head, opened}
+use Rattle.definitions.specs.Limits.{max_area, min_area}
+use Rattle.definitions.specs.Area.{Head, opened}
 use Rattle.gated_journal.specs.TwoAreas.{active_side, Encodes}
 use Rattle.gated_journal.specs.declared.side.Side.{Side}
-use Rattle.run_table.specs.TableState.{TableState}
+use Rattle.run_states.specs.TableState.{TableState}
 use Rattle.act_store.specs.Layouts.{layout_of}
 use Rattle.act_store.specs.Meaning.{MeansTable}
 use Rattle.act_store.specs.declared.layout.Layout.{Layout}

@@ -1,7 +1,7 @@
 -- The last part that a checkpoint writes: one record of the entries since it was begun, if there are any, and the gate after it.
 use Rattle.std.specs.Prelude.{◌≡◌, ℕ, ◌+◌, ◌-◌, ◌≤◌, List, [], ◌∷◌, ◌++◌, length, take, drop}
 use Rattle.std.specs.Int.{to_be_bytes, w32}
-use Rattle.gated_journal.specs.Layout.{record_bytes}
+use Rattle.definitions.specs.Area.{record_bytes}
 use Rattle.run_plan.specs.declared.command.Command.{Command}
 use Rattle.command_encodings.specs.Commands.{batch}
 use Rattle.act_store.specs.declared.pending_batch.TheConstants.{COUNT}

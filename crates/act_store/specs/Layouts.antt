@@ -2,10 +2,10 @@
 -- written; the first one is read and appended to, but never created.
 use Rattle.std.specs.Prelude.{ℕ, ◌==◌, Bool, true, IsTrue, List, Option, Some, None, if◌then◌else◌}
 use Rattle.run_plan.specs.declared.command.Command.{Command}
-use Rattle.run_table.specs.TableState.{TableState}
+use Rattle.run_states.specs.TableState.{TableState}
 use Rattle.command_encodings.specs.Commands.{batch}
 use Rattle.table_text.specs.FirstLayout.{first_batch, is_in_first_layout}
-use Rattle.command_encodings.specs.Format.{Format}
+use Rattle.definitions.specs.Format.{Format}
 use Rattle.table_text.specs.WholeFirstTables.{whole_first_table}
 use Rattle.table_text.specs.WholeTables.{whole_table}
 use Rattle.act_store.specs.declared.layout.Layout.{Layout}

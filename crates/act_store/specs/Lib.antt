@@ -6,7 +6,6 @@ pub mod Images
 pub mod LastPart
 pub mod LaterEntries
 pub mod Layouts
-pub mod Limits
 pub mod Meaning
 pub mod Opened
 pub mod OtherGate

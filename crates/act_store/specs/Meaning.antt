@@ -1,10 +1,10 @@
 -- The table that an area recovers to: the table of its text, advanced by the commands in its records.
 use Rattle.std.specs.Prelude.{◌≡◌, ℕ, List, map, Some}
 use Rattle.std.specs.List.{AllByRecursion, flat_map}
-use Rattle.gated_journal.specs.Layout.{Head}
+use Rattle.definitions.specs.Area.{Head}
 use Rattle.run_plan.specs.declared.command.Command.{Command}
-use Rattle.run_table.specs.Histories.{after}
-use Rattle.run_table.specs.TableState.{TableState}
+use Rattle.run_states.specs.Histories.{after}
+use Rattle.run_states.specs.TableState.{TableState}
 use Rattle.act_store.specs.Layouts.{batch_format, layout_of}
 use Rattle.act_store.specs.TableText.{EncodesTable}
 use Rattle.act_store.specs.declared.layout.Layout.{Layout}

@@ -1,6 +1,6 @@
 -- The gate of the area that is not active.
 use Rattle.std.specs.Prelude.{◌≡◌, ℕ, List, Some}
-use Rattle.gated_journal.specs.Layout.{IsClosed}
+use Rattle.definitions.specs.Area.{IsClosed}
 use Rattle.gated_journal.specs.TwoAreas.{area_on, other, active_side}
 use Rattle.gated_journal.specs.declared.side.Side.{Side}
 

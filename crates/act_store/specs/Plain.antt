@@ -2,7 +2,7 @@
 -- failures the contracts of the calls define the effect.
 use Rattle.std.specs.Prelude.{◌≡◌, ◌⊎◌, ℕ, ◌+◌, List, [], ◌∷◌, ◌++◌, length, is_some, ◌||◌, nat_le, nat_lt, if◌then◌else◌, true, false, Option, Some, None}
 use Rattle.std.specs.Prelude.{◌-◌}
-use Rattle.stated_limits.specs.Limits.{max_entries}
+use Rattle.definitions.specs.Limits.{max_entries}
 use Rattle.wf_value.specs.declared.code.Code.TheVariants.{AreaFull, CheckpointTurn, DiskNotEmpty, FailedEarlier, HistoryFull, NoArea, NoTable, OldLayout}
 use Rattle.wf_value.specs.declared.refusal.Refusal.{Refusal}
 use Rattle.wf_value.specs.declared.refusal.Refusal.TheVariants.{Numbered}
@@ -10,7 +10,7 @@ use Rattle.wf_value.specs.Gives.{no_memory}
 use Rattle.act_disk.specs.Failed.{device_failed}
 use Rattle.gated_journal.specs.declared.lengths.TheConstants.{FRAME, GATE}
 use Rattle.run_plan.specs.declared.command.Command.{Command}
-use Rattle.run_table.specs.Step.{empty, stepped}
+use Rattle.run_states.specs.Step.{empty, stepped}
 use Rattle.command_encodings.specs.Commands.{batch}
 use Rattle.act_store.specs.Layouts.{has_command}
 use Rattle.act_store.specs.StoreState.{StoreState, pending_commands, table_of}

@@ -1,16 +1,16 @@
 -- What a store guarantees after any calls: the promise about the images of its disk.
 use Rattle.std.specs.Prelude.{◌≡◌, ℕ, ◌<◌, ◌≤◌, ◌+◌, ◌^◌, List, length, take, drop, flat_map, Bool, false, Some}
 use Rattle.std.specs.List.{AllByRecursion}
-use Rattle.stated_limits.specs.Limits.{max_entries}
-use Rattle.act_disk.specs.Images.{Holds}
-use Rattle.gated_journal.specs.Layout.{Head, head_bytes, opened}
+use Rattle.definitions.specs.Limits.{max_entries}
+use Rattle.definitions.specs.Disk.{Holds}
+use Rattle.definitions.specs.Area.{Head, head_bytes, opened}
 use Rattle.gated_journal.specs.TwoAreas.{other, start_of}
 use Rattle.gated_journal.specs.Whole.{RecoversWhole}
 use Rattle.gated_journal.specs.declared.gate.GateState.{GateState}
 use Rattle.gated_journal.specs.declared.gate.GateState.TheVariants.{Closed}
 use Rattle.gated_journal.specs.declared.side.Side.{Side}
-use Rattle.run_table.specs.Sound.{IsSound}
-use Rattle.run_table.specs.TableState.{TableState}
+use Rattle.run_states.specs.Sound.{IsSound}
+use Rattle.run_states.specs.TableState.{TableState}
 use Rattle.command_encodings.specs.Commands.{IsEncoded, command_bytes}
 use Rattle.act_store.specs.Entries.{IsLegal, commands_of, table_after}
 use Rattle.act_store.specs.Images.{IsAreaLength}

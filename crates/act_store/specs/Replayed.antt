@@ -1,11 +1,11 @@
 -- The result of carrying out the commands of record bodies.
 use Rattle.std.specs.Prelude.{◌≡◌, ℕ, ◌<◌, ◌^◌, List, length, Option, Some, None}
 use Rattle.std.specs.List.{AllByRecursion}
-use Rattle.gated_journal.specs.Layout.{record_bytes}
+use Rattle.definitions.specs.Area.{record_bytes}
 use Rattle.run_plan.specs.declared.command.Command.{Command}
-use Rattle.run_table.specs.Histories.{after}
-use Rattle.run_table.specs.TableState.{TableState}
-use Rattle.command_encodings.specs.Format.{Encodes}
+use Rattle.run_states.specs.Histories.{after}
+use Rattle.run_states.specs.TableState.{TableState}
+use Rattle.definitions.specs.Format.{Encodes}
 use Rattle.act_store.specs.Layouts.{batch_format}
 use Rattle.act_store.specs.Meaning.{EncodeCommands}
 use Rattle.act_store.specs.declared.layout.Layout.{Layout}

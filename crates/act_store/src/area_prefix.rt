@@ -3,13 +3,13 @@
 ghost use Rattle.std.specs.Prelude.{◌≡◌, ◌⊎◌, ◌+◌, ◌*◌, ◌^◌, ◌<◌, ◌≤◌, true, false, length, take, vec_len, IfErr, IfOk, OnOk};
 ghost use Rattle.wf_value.specs.Gives.{no_memory};
 ghost use Rattle.act_disk.specs.Failed.{device_failed};
-ghost use Rattle.act_disk.specs.Images.{CountsFault, SameImages};
+ghost use Rattle.definitions.specs.Disk.{CountsFault, SameImages};
 ghost use Rattle.gated_journal.specs.Choice.{part};
-ghost use Rattle.gated_journal.specs.Layout.{ReadsNothing};
+ghost use Rattle.definitions.specs.Area.{ReadsNothing};
 ghost use Rattle.gated_journal.specs.Reading.{OnlyRead};
 ghost use Rattle.act_store.specs.AreaPrefix.{IsPrefixOf, IsShort, ReadsAlike, ReadsSomething};
 ghost use Rattle.act_store.specs.FaultCauses.{TellsFault};
-ghost use Rattle.act_store.specs.Limits.{first_read};
+ghost use Rattle.definitions.specs.Limits.{first_read};
 
 use act_disk::{Disk, DiskFault};
 use gated_journal::{Area, scan};

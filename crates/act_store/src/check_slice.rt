@@ -1,7 +1,7 @@
 ghost use Rattle.std.specs.Prelude.{◌≡◌, ◌⊎◌, ◌↔◌, ◌+◌, ◌-◌, ◌<◌, ◌≤◌, ◌^◌, ℕ, List, length, take, min, Err, IfErr, IfOk, IfSome, OnOk, OnErr, Some};
 ghost use Rattle.act_disk.specs.Failed.{device_failed};
-ghost use Rattle.act_disk.specs.Images.{CountsFault, EachSince, Holds};
-ghost use Rattle.gated_journal.specs.Layout.{Head};
+ghost use Rattle.definitions.specs.Disk.{CountsFault, EachSince, Holds};
+ghost use Rattle.definitions.specs.Area.{Head};
 ghost use Rattle.gated_journal.specs.TwoAreas.{other, start_of};
 ghost use Rattle.gated_journal.specs.Whole.{RecoversWhole};
 ghost use Rattle.gated_journal.specs.declared.gate.GateState.TheVariants.{Closed};
@@ -9,7 +9,7 @@ ghost use Rattle.act_store.specs.Checkpoints.{left_of, refusal_of_slice, sliced}
 ghost use Rattle.act_store.specs.StoreState.{RecoversToEither};
 ghost use Rattle.act_store.specs.Plain.{broken};
 ghost use Rattle.act_store.specs.FaultCauses.{TellsFault};
-ghost use Rattle.act_store.specs.Limits.{max_slice};
+ghost use Rattle.definitions.specs.Limits.{max_slice};
 
 use crate::begun::Begun;
 use crate::store::Store;

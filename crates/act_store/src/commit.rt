@@ -1,6 +1,6 @@
 ghost use Rattle.std.specs.Prelude.{◌≡◌, ◌↔◌, ◌+◌, ◌<◌, ◌≤◌, ℕ, List, length, true, false, Err, IfErr, IfOk, IsOk, OnErr, OnOk};
 ghost use Rattle.act_disk.specs.Failed.{device_failed};
-ghost use Rattle.act_disk.specs.Images.{EachSince, CountsFault};
+ghost use Rattle.definitions.specs.Disk.{EachSince, CountsFault};
 ghost use Rattle.act_store.specs.Images.{RecoversTo};
 ghost use Rattle.act_store.specs.StoreState.{RecoverToCovered, RecoversToEither, table_of};
 ghost use Rattle.act_store.specs.Plain.{broken, committed, failed_earlier};

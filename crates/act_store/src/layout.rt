@@ -3,7 +3,7 @@
 ghost use Rattle.std.specs.Prelude.{◌≡◌, IfErr, IfOk};
 ghost use Rattle.std.specs.Option.{option_map};
 ghost use Rattle.wf_value.specs.Gives.{no_memory};
-ghost use Rattle.command_encodings.specs.Format.{ReadsPrefix};
+ghost use Rattle.definitions.specs.Format.{ReadsPrefix};
 ghost use Rattle.act_store.specs.Layouts.{batch_format, has_command, layout_byte, layout_of, table_format};
 
 use run_plan::Command;

@@ -1,10 +1,10 @@
 ghost use Rattle.std.specs.Prelude.{◌≡◌, ◌⊎◌, ◌<◌, ◌≤◌, ◌+◌, ◌^◌, Err, IfErr, IfOk, IfSome, OnOk};
 ghost use Rattle.wf_value.specs.Gives.{no_memory};
 ghost use Rattle.act_disk.specs.Failed.{device_failed};
-ghost use Rattle.act_disk.specs.Images.{Only, SameImages};
+ghost use Rattle.definitions.specs.Disk.{Only, SameImages};
 ghost use Rattle.gated_journal.specs.Choice.{part};
 ghost use Rattle.gated_journal.specs.Reading.{OnlyRead};
-ghost use Rattle.run_table.specs.Sound.{IsSound};
+ghost use Rattle.run_states.specs.Sound.{IsSound};
 ghost use Rattle.act_store.specs.Images.{HasNoArea, HasNoTable, IsAreaLength};
 ghost use Rattle.act_store.specs.Opened.{IsFound};
 ghost use Rattle.act_store.specs.Plain.{RefusesOpening, TellsNoArea, no_area, no_table};

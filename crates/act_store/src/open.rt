@@ -1,5 +1,5 @@
 ghost use Rattle.std.specs.Prelude.{◌≡◌, ◌<◌, ◌+◌, ℕ, List, [], IfErr, IfOk, None, false};
-ghost use Rattle.act_disk.specs.Images.{EachSince};
+ghost use Rattle.definitions.specs.Disk.{EachSince};
 ghost use Rattle.act_store.specs.Images.{HasNoArea, HasNoTable, RecoversFrom, RecoversTo};
 ghost use Rattle.act_store.specs.Plain.{RefusesOpening, TellsNoArea, no_area, no_table};
 ghost use Rattle.act_store.specs.FaultCauses.{IsCause};

@@ -1,6 +1,6 @@
 ghost use Rattle.std.specs.Prelude.{◌≡◌, ◌↔◌, ℕ, List, IfErr, IfOk, OnErr};
 ghost use Rattle.wf_value.specs.Gives.{no_memory};
-ghost use Rattle.act_disk.specs.Images.{EachSince};
+ghost use Rattle.definitions.specs.Disk.{EachSince};
 ghost use Rattle.act_store.specs.Entries.{IsLegal};
 ghost use Rattle.act_store.specs.GroupsOfHistory.{KeepsGroups};
 ghost use Rattle.act_store.specs.StoreState.{RecoverToCovered, RecoversToSome};

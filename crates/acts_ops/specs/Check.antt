@@ -3,7 +3,7 @@
 use Rattle.std.specs.Prelude.{◌≡◌, ◌⊎◌, ℕ, ◌≤◌, ◌<◌, List, [], ◌∷◌, ◌++◌, length, map, flat_map, codes, Result, Ok, Err}
 use Rattle.std.specs.Fmt.{decimal}
 use Rattle.std.specs.List.{enumerate_from}
-use Rattle.stated_limits.specs.Limits.{max_input}
+use Rattle.definitions.specs.Limits.{max_input}
 use Rattle.wf_value.specs.Gives.{no_memory}
 use Rattle.wf_value.specs.declared.code.Code.TheVariants.{InputTooLong}
 use Rattle.wf_value.specs.declared.refusal.Refusal.{Refusal}

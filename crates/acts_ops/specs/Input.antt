@@ -1,7 +1,7 @@
 -- The result of reading a whole input, and why it may be refused.
 use Rattle.std.specs.Prelude.{◌≡◌, ◌⊎◌, ℕ, ◌≤◌, ◌<◌, List, length, Option}
 use Rattle.std.specs.Io.KnownBytes.{Consumes}
-use Rattle.stated_limits.specs.Limits.{max_input}
+use Rattle.definitions.specs.Limits.{max_input}
 use Rattle.wf_value.specs.Gives.{no_memory}
 use Rattle.wf_value.specs.declared.code.Code.TheVariants.{InputTooLong}
 use Rattle.wf_value.specs.declared.refusal.Refusal.{Refusal}

@@ -1,6 +1,6 @@
 -- The output of `acts lint`: a line for each fault of a workflow. The format is defined by this project.
 use Rattle.std.specs.Prelude.{◌≡◌, ◌⊎◌, ℕ, ◌≤◌, ◌<◌, List, [], ◌∷◌, ◌++◌, length, Bool, true, false, Result, Ok, Err}
-use Rattle.stated_limits.specs.Limits.{max_input}
+use Rattle.definitions.specs.Limits.{max_input}
 use Rattle.wf_value.specs.Gives.{no_memory}
 use Rattle.wf_value.specs.declared.code.Code.TheVariants.{InputTooLong}
 use Rattle.wf_value.specs.declared.refusal.Refusal.{Refusal}

@@ -2,7 +2,7 @@
 -- memory nor the device fails. This is defined by this project.
 use Rattle.std.specs.Prelude.{ℕ, length, nat_lt, Option, Some, None, if◌then◌else◌}
 use Rattle.wf_value.specs.declared.refusal.Refusal.{Refusal}
-use Rattle.run_table.specs.Step.{stepped}
+use Rattle.run_states.specs.Step.{stepped}
 use Rattle.act_store.specs.Checkpoints.{begun_at, finished, left_of, sliced, checkpoint_length}
 use Rattle.act_store.specs.StoreState.{Checkpoint, StoreState, table_of}
 use Rattle.act_store.specs.Plain.{committed, entered, fresh}

@@ -10,8 +10,8 @@ use Rattle.wf_value.specs.declared.code.Code.TheVariants.{NoRun}
 use Rattle.wf_value.specs.declared.refusal.Refusal.{Refusal}
 use Rattle.wf_value.specs.declared.refusal.Refusal.TheVariants.{Numbered}
 use Rattle.act_disk.specs.Failed.{stream_failed}
-use Rattle.run_table.specs.Step.{seen}
-use Rattle.run_table.specs.TableState.{TableState}
+use Rattle.run_states.specs.Step.{seen}
+use Rattle.run_states.specs.TableState.{TableState}
 use Rattle.table_views.specs.QueueLines.{queue_lines}
 use Rattle.table_views.specs.RunLines.{run_line}
 use Rattle.table_views.specs.RunnerLines.{runner_lines}

@@ -2,9 +2,9 @@
 
 ghost use Rattle.std.specs.Prelude.{◌≡◌, ◌↔◌, ◌+◌, ◌<◌, ◌≤◌, ℕ, List, take, Err, IfErr, OnOk};
 ghost use Rattle.std.specs.Io.KnownBytes.{Appends};
-ghost use Rattle.stated_limits.specs.Limits.{max_area, min_area};
+ghost use Rattle.definitions.specs.Limits.{max_area, min_area};
 ghost use Rattle.act_disk.specs.Failed.{stream_failed};
-ghost use Rattle.run_table.specs.Step.{empty};
+ghost use Rattle.run_states.specs.Step.{empty};
 ghost use Rattle.act_store.specs.Images.{RecoversTo};
 ghost use Rattle.act_store.specs.Plain.{disk_not_empty};
 ghost use Rattle.act_store.specs.FaultCauses.{TellsFault};

@@ -2,7 +2,7 @@
 
 ghost use Rattle.std.specs.Prelude.{◌<◌, ℕ, List, IsErrAnd};
 ghost use Rattle.std.specs.Io.KnownBytes.{Appends};
-ghost use Rattle.act_disk.specs.Images.{EachSince};
+ghost use Rattle.definitions.specs.Disk.{EachSince};
 ghost use Rattle.act_store.specs.Images.{HasNoArea};
 ghost use Rattle.act_store.specs.StoreState.{table_of};
 ghost use Rattle.act_store.specs.Plain.{TellsNoArea};

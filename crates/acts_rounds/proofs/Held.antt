@@ -4,7 +4,7 @@ use Rattle.std.specs.Prelude.{IfOk, Result, Ok, Err}
 use Rattle.std.specs.Io.KnownBytes.{Appends}
 use Rattle.std.specs.declared.net.tcp.TcpListener.{TcpListener}
 use Rattle.std.proofs.lemmas.List.Elements.{All-append, All-cons, All-head, All-nil}
-use Rattle.run_table.specs.TableState.{TableState}
+use Rattle.run_states.specs.TableState.{TableState}
 use Rattle.act_store.specs.Entries.{table_after}
 use Rattle.act_store.specs.declared.entry.Entry.{Entry}
 use Rattle.acts_rounds.specs.Rounds.{AreGood, HasServed, RoundsEnded, IsRound, table_after_all}

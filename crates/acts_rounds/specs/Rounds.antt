@@ -5,7 +5,7 @@ use Rattle.std.specs.List.{All}
 use Rattle.std.specs.declared.net.tcp.TcpListener.{TcpListener}
 use Rattle.act_desk.specs.Settled.{HaveEnded, IsSettled, NoneBroken}
 use Rattle.act_sessions.specs.declared.transcript.Transcript.{Transcript}
-use Rattle.run_table.specs.TableState.{TableState}
+use Rattle.run_states.specs.TableState.{TableState}
 use Rattle.act_store.specs.Entries.{table_after}
 use Rattle.act_store.specs.declared.entry.Entry.{Entry}
 use Rattle.service_startup.specs.Reports.{service_lines}

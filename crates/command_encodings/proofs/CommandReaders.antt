@@ -5,15 +5,15 @@ use Rattle.std.proofs.lemmas.Bool.{eqb-true}
 use Rattle.std.proofs.lemmas.Option.{same_Some, none-some}
 use Rattle.wf_value.specs.declared.outcome.Outcome.{Outcome}
 use Rattle.wf_value.specs.declared.outcome.Outcome.TheVariants as ended
-use Rattle.run_plan.specs.Admitted.{Admitted}
-use Rattle.run_plan.specs.SmallText.{is_short, is_delivery_byte, is_event_byte, is_runner_byte, is_label_byte}
+use Rattle.definitions.specs.Admitted.{Admitted}
+use Rattle.definitions.specs.SmallText.{is_short, is_delivery_byte, is_event_byte, is_runner_byte, is_label_byte}
 use Rattle.run_plan.specs.declared.command.Attempt.{Attempt}
 use Rattle.run_plan.specs.declared.command.Beat.{Beat}
 use Rattle.run_plan.specs.declared.command.Claim.{Claim}
 use Rattle.run_plan.specs.declared.command.Done.{Done}
 use Rattle.run_plan.specs.declared.command.Command.{Command}
 use Rattle.run_plan.specs.declared.command.Command.TheVariants as requested
-use Rattle.command_encodings.specs.Format.{Format, word, text, pair}
+use Rattle.definitions.specs.Format.{Format, word, text, pair}
 use Rattle.command_encodings.specs.Commands.{is_numbered, number, small_text, labels, is_faultless, body, outcome_byte, outcome, admit, claim}
 use Rattle.command_encodings.specs.Commands.{done, beat, rerun, IsEncoded, command_bytes, command, batch}
 use Rattle.command_encodings.specs.Reading.{Reader, word_at, text_at, pair_at, parts_at}

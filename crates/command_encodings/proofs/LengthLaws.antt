@@ -5,11 +5,11 @@ use Rattle.std.specs.Prelude.{flat_map, sum_by}
 use Rattle.std.proofs.lemmas.List.Concat.{length-flat_map}
 use Rattle.std.proofs.lemmas.List.Sums.{sum_by-cons}
 use Rattle.wf_value.specs.declared.outcome.Outcome.{Outcome}
-use Rattle.run_plan.specs.Admitted.{Admitted}
+use Rattle.definitions.specs.Admitted.{Admitted}
 use Rattle.run_plan.specs.declared.command.Command.{Command}
 use Rattle.run_plan.specs.declared.command.Command.TheVariants as requested
 use Rattle.command_encodings.specs.Commands.{admit, batch, command, command_bytes, labels, outcome_byte}
-use Rattle.command_encodings.specs.Format.{text_bytes, word_bytes}
+use Rattle.definitions.specs.Format.{text_bytes, word_bytes}
 use Rattle.command_encodings.specs.Lengths.{batch_length, command_length, fields_length, length_of, text_length, texts_length}
 
 pub length_word : (n : ℕ) → length (word_bytes n) ≡ 4

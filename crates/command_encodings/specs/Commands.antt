@@ -1,18 +1,18 @@
 -- The encodings of commands and of batches.
 use Rattle.std.specs.Prelude.{ℕ, List, [], ◌∷◌, ◌&&◌, Bool, true, false, nat_le}
-use Rattle.stated_limits.specs.Limits.{last_number, max_labels}
+use Rattle.definitions.specs.Limits.{last_number, max_labels}
 use Rattle.wf_value.specs.declared.outcome.Outcome.{Outcome}
 use Rattle.wf_value.specs.declared.outcome.Outcome.TheVariants as ended
-use Rattle.run_plan.specs.Admitted.{Admitted}
+use Rattle.definitions.specs.Admitted.{Admitted}
 use Rattle.run_plan.specs.PlanOf.{faults_of}
-use Rattle.run_plan.specs.SmallText.{is_short, is_delivery_byte, is_event_byte, is_runner_byte, is_label_byte}
+use Rattle.definitions.specs.SmallText.{is_short, is_delivery_byte, is_event_byte, is_runner_byte, is_label_byte}
 use Rattle.run_plan.specs.declared.command.Attempt.{Attempt}
 use Rattle.run_plan.specs.declared.command.Beat.{Beat}
 use Rattle.run_plan.specs.declared.command.Claim.{Claim}
 use Rattle.run_plan.specs.declared.command.Done.{Done}
 use Rattle.run_plan.specs.declared.command.Command.{Command}
 use Rattle.run_plan.specs.declared.command.Command.TheVariants as requested
-use Rattle.command_encodings.specs.Format.{Format, word, text, only, pair, parts, counted}
+use Rattle.definitions.specs.Format.{Format, word, text, only, pair, parts, counted}
 
 -- 1 to 999,999,999
 abbrev pub is_numbered : ℕ → Bool

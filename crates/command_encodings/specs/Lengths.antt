@@ -2,7 +2,7 @@
 use Rattle.std.specs.Prelude.{ℕ, ◌+◌, List, length, sum_by}
 use Rattle.run_plan.specs.declared.command.Command.{Command}
 use Rattle.run_plan.specs.declared.command.Command.TheVariants as requested
-use Rattle.command_encodings.specs.Format.{Format}
+use Rattle.definitions.specs.Format.{Format}
 
 -- the number of bytes in the encoding
 abbrev pub length_of : {A : Type 0} → Format A → A → ℕ

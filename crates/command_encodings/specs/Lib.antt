@@ -1,5 +1,4 @@
 pub mod Commands
-pub mod Format
 pub mod Lengths
 pub mod Reading
 pub mod ReadingCommands

@@ -1,10 +1,10 @@
 -- Reading of commands and batches as a function, field by field.
 use Rattle.std.specs.Prelude.{ℕ, ◌==◌, List, [], ◌∷◌, Bool, if◌then◌else◌, Option, Some, None}
-use Rattle.stated_limits.specs.Limits.{max_labels}
+use Rattle.definitions.specs.Limits.{max_labels}
 use Rattle.wf_value.specs.declared.outcome.Outcome.{Outcome}
 use Rattle.wf_value.specs.declared.outcome.Outcome.TheVariants as outcome
-use Rattle.run_plan.specs.Admitted.{Admitted}
-use Rattle.run_plan.specs.SmallText.{is_short, is_delivery_byte, is_event_byte, is_runner_byte, is_label_byte}
+use Rattle.definitions.specs.Admitted.{Admitted}
+use Rattle.definitions.specs.SmallText.{is_short, is_delivery_byte, is_event_byte, is_runner_byte, is_label_byte}
 use Rattle.run_plan.specs.declared.command.Attempt.{Attempt}
 use Rattle.run_plan.specs.declared.command.Beat.{Beat}
 use Rattle.run_plan.specs.declared.command.Claim.{Claim}

@@ -4,7 +4,7 @@ ghost use Rattle.std.specs.Prelude.{◌≡◌, ◌+◌, ◌<◌, ◌≤◌, List
 ghost use Rattle.wf_value.specs.Gives.{no_memory};
 ghost use Rattle.run_plan.specs.declared.command.Command.{Command};
 ghost use Rattle.command_encodings.specs.Commands.{IsEncoded, batch, command_bytes};
-ghost use Rattle.command_encodings.specs.Format.{word_bytes};
+ghost use Rattle.definitions.specs.Format.{word_bytes};
 
 use crate::write::write_command;
 use run_plan::Command;

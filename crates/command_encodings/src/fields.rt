@@ -1,6 +1,6 @@
 ghost use Rattle.std.specs.Prelude.{◌≡◌, ◌≤◌, ◌&&◌, IfOk, nat_le};
-ghost use Rattle.stated_limits.specs.Limits.{last_number};
-ghost use Rattle.run_plan.specs.SmallText.{short_text_of};
+ghost use Rattle.definitions.specs.Limits.{last_number};
+ghost use Rattle.definitions.specs.SmallText.{short_text_of};
 ghost use Rattle.command_encodings.specs.Commands.{is_numbered};
 ghost use Rattle.command_encodings.specs.Reading.{Finds, kept};
 ghost use Rattle.command_encodings.specs.ReadingCommands.{labels_at, number_at, result_at, result_of, small_text_at};

@@ -3,7 +3,7 @@
 ghost use Rattle.std.specs.Prelude.{◌≡◌, List};
 ghost use Rattle.run_plan.specs.declared.command.Command.{Command};
 ghost use Rattle.command_encodings.specs.Commands.{batch, command};
-ghost use Rattle.command_encodings.specs.Format.{HasOneEncoding, NoneBeginsAnother};
+ghost use Rattle.definitions.specs.Format.{HasOneEncoding, NoneBeginsAnother};
 ghost use Rattle.command_encodings.specs.Lengths.{batch_length, command_length, length_of};
 
 /// No encoding of a command is a proper prefix of another.

@@ -3,7 +3,7 @@
 ghost use Rattle.std.specs.Prelude.{◌≡◌, [], ◌∷◌, ◌++◌, ◌<◌, ◌≤◌, ◌^◌, length, vec_capacity, OnErr, OnOk};
 ghost use Rattle.command_encodings.specs.Commands.{IsEncoded, admit, beat, body, claim, command_bytes, done, fields_of, kind_of, labels};
 ghost use Rattle.command_encodings.specs.Commands.{number, outcome_byte, rerun, small_text};
-ghost use Rattle.command_encodings.specs.Format.{text_bytes, word_bytes};
+ghost use Rattle.definitions.specs.Format.{text_bytes, word_bytes};
 ghost use Rattle.command_encodings.specs.Writing.{Keeps};
 
 use crate::list_writer::{Push, push_list};
@@ -12,7 +12,7 @@ use std::alloc::AllocError;
 use wf_value::Outcome;
 
 /// Appends a number as four bytes.
-#[tactic(auto, using(crate::proofs::Keeping::unchanged, crate::proofs::Keeping::longer), unfolding(crate::specs::Format::word_bytes))]
+#[tactic(auto, using(crate::proofs::Keeping::unchanged, crate::proofs::Keeping::longer), unfolding(definitions::specs::Format::word_bytes))]
 pub fn push_word(out: &mut Vec<u8>, value: u32) -> Result<(), AllocError>
     ensures bytes { OnOk result (out.new.items ≡ out.old.items ++ word_bytes value) }
     ensures kept { OnErr result (Keeps out.old.items out.new.items) }
@@ -22,7 +22,7 @@ pub fn push_word(out: &mut Vec<u8>, value: u32) -> Result<(), AllocError>
 }
 
 /// Appends the length of a text and its bytes.
-#[tactic(auto, using(crate::proofs::Keeping::unchanged, crate::proofs::Keeping::longer), unfolding(crate::specs::Format::text_bytes))]
+#[tactic(auto, using(crate::proofs::Keeping::unchanged, crate::proofs::Keeping::longer), unfolding(definitions::specs::Format::text_bytes))]
 fn push_text(out: &mut Vec<u8>, text: &[u8]) -> Result<(), AllocError>
     requires { length text.now < 2 ^ 32 }
     ensures bytes { OnOk result (out.new.items ≡ out.old.items ++ text_bytes text.now) }

@@ -2,7 +2,7 @@ ghost use Rattle.std.specs.Prelude.{◌≡◌, IfErr, IfOk};
 ghost use Rattle.std.specs.Option.{option_map};
 ghost use Rattle.wf_value.specs.Gives.{no_memory};
 ghost use Rattle.command_encodings.specs.Commands.{batch, command};
-ghost use Rattle.command_encodings.specs.Format.{ReadsPrefix};
+ghost use Rattle.definitions.specs.Format.{ReadsPrefix};
 
 use crate::command_reader::{batch_at, command_at};
 use crate::decode_error::DecodeError;

@@ -4,7 +4,7 @@ ghost use Rattle.std.specs.Prelude.{◌≡◌, ◌≤◌, ◌++◌, IfErr, IsOk,
 ghost use Rattle.std.specs.List.{AllByRecursion};
 ghost use Rattle.wf_value.specs.Gives.{no_memory};
 ghost use Rattle.command_encodings.specs.Commands.{IsEncoded, batch, command};
-ghost use Rattle.command_encodings.specs.Format.{Appends};
+ghost use Rattle.definitions.specs.Format.{Appends};
 ghost use Rattle.command_encodings.specs.Writing.{Keeps};
 
 use crate::list_writer::push_list;

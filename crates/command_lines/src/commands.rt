@@ -1,7 +1,7 @@
 ghost use Rattle.std.specs.Prelude.{◌≡◌, Err, Ok, Some, None, IfOk, IfErr, ok_or};
 ghost use Rattle.std.specs.Option.{option_map_or};
 ghost use Rattle.wf_value.specs.Gives.{Gives};
-ghost use Rattle.run_plan.specs.SmallText.{label_list_of, short_text_of};
+ghost use Rattle.definitions.specs.SmallText.{label_list_of, short_text_of};
 ghost use Rattle.command_lines.specs.Commands.{not_a_line, prepared, admit_of, event_of, claim_of, outcome_of, done_of, beat_of};
 ghost use Rattle.command_lines.specs.Commands.{cancel_of, lost_of, look_of, fetch_of, rerun_of};
 

@@ -1,7 +1,7 @@
 //! The words of the subcommand that makes a store: `acts init`.
 
 ghost use Rattle.std.specs.Prelude.{◌≤◌};
-ghost use Rattle.stated_limits.specs.Limits.{max_area, min_area};
+ghost use Rattle.definitions.specs.Limits.{max_area, min_area};
 
 use crate::making::{Made, with_arg};
 use clap::builder::ValueParser;

@@ -1,7 +1,7 @@
 //! The words of the subcommands that show a store: `acts show`, `acts runners` and `acts queue`.
 
 ghost use Rattle.std.specs.Prelude.{◌≤◌};
-ghost use Rattle.stated_limits.specs.Limits.{last_number};
+ghost use Rattle.definitions.specs.Limits.{last_number};
 
 use crate::making::{Made, with_arg, with_subcommand};
 use clap::builder::ValueParser;

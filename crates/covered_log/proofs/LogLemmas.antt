@@ -5,7 +5,7 @@ use Rattle.std.specs.Prelude.{Bool, true, false, nat_lt, Result, Ok, Err, IsOkAn
 use Rattle.wf_value.specs.Gives.{Gives}
 use Rattle.wf_value.specs.declared.refusal.Refusal.{Refusal}
 use Rattle.covered_log.specs.KeptState.{KeptState, end_of, with_text, without_text}
-use Rattle.covered_log.specs.Limits.{most_kept}
+use Rattle.definitions.specs.Limits.{most_kept}
 use Rattle.covered_log.specs.Lines.{Change, Entered, Stands, Missed, entries_in, entries_of, line_of, lines_after, lines_of}
 use Rattle.covered_log.specs.LogState.{IsLog}
 

@@ -5,7 +5,7 @@ use Rattle.std.proofs.lemmas.Option.{get_or_from_slice_get, slice_get_within}
 use Rattle.std.specs.Prelude.{Some, slice_get, string_bytes}
 use Rattle.std.specs.List.{flat_map}
 use Rattle.covered_log.specs.KeptState.{KeptState}
-use Rattle.covered_log.specs.Limits.{page_lines}
+use Rattle.definitions.specs.Limits.{page_lines}
 use Rattle.covered_log.specs.Lines.{Change, lines_of}
 use Rattle.covered_log.specs.LogState.{IsLog, IsPage}
 use Rattle.covered_log.specs.declared.page.Page.{Page}

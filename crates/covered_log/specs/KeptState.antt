@@ -1,6 +1,6 @@
 -- The last lines of a log.
 use Rattle.std.specs.Prelude.{ℕ, ◌+◌, ◌<◌, ◌≤◌, ◌^◌, List, [], ◌∷◌, ◌++◌, drop, length, nat_lt, if◌then◌else◌}
-use Rattle.covered_log.specs.Limits.{most_kept}
+use Rattle.definitions.specs.Limits.{most_kept}
 
 -- the texts of the last lines, and how many lines came before them
 pub record KeptState : Type 0 where

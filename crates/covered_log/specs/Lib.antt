@@ -1,6 +1,5 @@
 -- The changes of a service, and their lines.
 pub mod KeptState
-pub mod Limits
 pub mod Lines
 pub mod LogState
 pub mod Told

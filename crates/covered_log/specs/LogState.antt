@@ -2,7 +2,7 @@
 use Rattle.std.specs.Prelude.{◌≡◌, ℕ, ◌+◌, ◌-◌, ◌<◌, ◌^◌, ◌==◌, ◌&&◌, List, [], ◌∷◌, ◌++◌, Bool, drop, length, min, nat_le, string_bytes, take}
 use Rattle.std.specs.List.{flat_map}
 use Rattle.covered_log.specs.KeptState.{KeptState, end_of, first_after}
-use Rattle.covered_log.specs.Limits.{page_lines}
+use Rattle.definitions.specs.Limits.{page_lines}
 use Rattle.covered_log.specs.Lines.{Change, entries_of, lines_of}
 use Rattle.covered_log.specs.declared.page.Page.{Page}
 

@@ -1,6 +1,6 @@
 ghost use Rattle.std.specs.Prelude.{◌≡◌, ◌+◌, ◌++◌, ◌∷◌, [], ◌<◌, ◌^◌, IsOkAnd, OnErr, OnOk, Some, length, slice_get, string_bytes};
 ghost use Rattle.covered_log.specs.KeptState.{end_of, new_kept, with_room, with_text, without_text};
-ghost use Rattle.covered_log.specs.Limits.{most_kept};
+ghost use Rattle.definitions.specs.Limits.{most_kept};
 
 use std::alloc::{AllocError, Global};
 use std::collections::VecDeque;

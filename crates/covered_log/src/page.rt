@@ -1,6 +1,6 @@
 ghost use Rattle.std.specs.Prelude.{◌≡◌, ◌+◌, ◌≤◌, IfOk, drop, length, min, string_bytes, take};
 ghost use Rattle.std.specs.List.{flat_map};
-ghost use Rattle.covered_log.specs.Limits.{page_lines};
+ghost use Rattle.definitions.specs.Limits.{page_lines};
 
 use crate::kept::KeptLines;
 use std::alloc::{AllocError, Global};

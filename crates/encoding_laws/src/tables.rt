@@ -1,6 +1,6 @@
 ghost use Rattle.std.specs.Prelude.{◌<◌, ◌≤◌, ◌^◌, length};
 ghost use Rattle.run_plan.specs.declared.last_command.LastCommand.TheVariants as last;
-ghost use Rattle.run_table.specs.Sound.{IsSound};
+ghost use Rattle.run_states.specs.Sound.{IsSound};
 ghost use Rattle.stored_tables.specs.Stored.{stored_last, stored_lease, stored_runner, stored_table};
 ghost use Rattle.table_text.specs.Tables.{job, kept_lease, last_command, lease, leg, run, runner, table};
 ghost use Rattle.table_text.specs.Writing.{HasByte, JobHasBytes, KeptHasBytes, RunHasBytes};

@@ -1,9 +1,9 @@
 -- The effect of an append on what an area of a disk reads as.
 use Rattle.std.proofs.Common.{inl, inr, ⊎_elim, ℕ, ◌+◌, ◌≤◌, List, [], ◌∷◌, ◌++◌, length, sym, subst, arith}
-use Rattle.act_disk.specs.Images.{Holds, From}
+use Rattle.definitions.specs.Disk.{Holds, From}
 use Rattle.gated_journal.specs.Appends.{record_of, Appends, IsWhole}
 use Rattle.gated_journal.specs.Choice.{part}
-use Rattle.gated_journal.specs.Layout.{Head, opened}
+use Rattle.definitions.specs.Area.{Head, opened}
 use Rattle.gated_journal.specs.OnDisk.{ReadsAt, MayHaveGrown, Awaits}
 use Rattle.gated_journal.proofs.Frames.{part_appends, part_whole, part_held}
 use Rattle.gated_journal.proofs.Grown.{appends_reads, opened_reads}

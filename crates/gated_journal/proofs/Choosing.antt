@@ -6,7 +6,7 @@ use Rattle.std.proofs.lemmas.List.{take_at}
 use Rattle.std.specs.Int.{from_be_bytes, to_be_bytes, w64}
 use Rattle.std.proofs.lemmas.Nat.{from_be_bytes-to_be_bytes_8}
 use Rattle.gated_journal.specs.Choice.{open_generation, newer}
-use Rattle.gated_journal.specs.Layout.{Head, head_bytes, record_bytes, opened, IsClosed, Reads}
+use Rattle.definitions.specs.Area.{Head, head_bytes, record_bytes, opened, IsClosed, Reads}
 use Rattle.gated_journal.specs.TwoAreas.{area_on, other, active_side}
 use Rattle.gated_journal.specs.declared.side.Side.{Side}
 use Rattle.gated_journal.specs.declared.side.Side.TheVariants.{First, Second}

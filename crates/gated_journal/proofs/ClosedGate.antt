@@ -2,7 +2,7 @@
 use Rattle.std.proofs.Common.{◌≡◌, ℕ, ◌+◌, List, [], ◌∷◌, ◌++◌, length, take, drop, sym, ◌∙◌, ap, append_assoc}
 use Rattle.std.proofs.Common.{length-append, take-append-drop}
 use Rattle.std.proofs.lemmas.List.{take_at}
-use Rattle.gated_journal.specs.Layout.{Head, opened, IsClosed, Reads}
+use Rattle.definitions.specs.Area.{Head, opened, IsClosed, Reads}
 
 suffix : (start rest other : List ℕ) → IsClosed rest → take (length start + 1) other ≡ take (length start + 1) (start ++ rest)
     → (tail : List ℕ) × (other ≡ start ++ tail) × IsClosed tail

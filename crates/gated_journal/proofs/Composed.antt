@@ -1,7 +1,7 @@
 -- Each image of an append comes from one earlier image.
 use Rattle.std.proofs.Common.{inl, inr, ℕ, ◌+◌, min, List, length, ◌∙◌, subst, arith}
 use Rattle.std.specs.Prelude.{Result, Ok, Err, OnOk}
-use Rattle.act_disk.specs.Images.{Torn, IsWritten, From, Only, EachSince}
+use Rattle.definitions.specs.Disk.{Torn, IsWritten, From, Only, EachSince}
 use Rattle.act_disk.proofs.Kept.{prefix_kept, rest_kept, range_kept}
 use Rattle.act_disk.proofs.Moments.{weakened, joined}
 use Rattle.gated_journal.specs.Appends.{Appends, IsWhole}

@@ -4,7 +4,7 @@ use Rattle.std.proofs.Common.{arith, append_assoc, length-append}
 use Rattle.std.specs.Int.{from_be_bytes, to_be_bytes, w64}
 use Rattle.std.proofs.lemmas.List.{drop-drop, length-drop, take_at, drop_at}
 use Rattle.std.proofs.lemmas.Nat.{from_be_bytes-to_be_bytes_8}
-use Rattle.gated_journal.specs.Layout.{Head, head_bytes, framed, record_bytes, ReadsNothing}
+use Rattle.definitions.specs.Area.{Head, head_bytes, framed, record_bytes, ReadsNothing}
 use Rattle.gated_journal.specs.Scanned.{Frames, OpensWith, HasHead, HasPrefix}
 use Rattle.gated_journal.specs.CutOff.{EndsInBody, EndsInHead, HasNoRecord, HasNoHead, EndsInRecords, IsCutOff, EncodesNothing}
 use Rattle.gated_journal.proofs.OneReading.{apart}

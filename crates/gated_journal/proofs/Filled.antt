@@ -1,9 +1,9 @@
 -- What follows an area's gate once all of it is written.
 use Rattle.std.proofs.Common.{◌≡◌, inl, ℕ, ◌+◌, ◌≤◌, List, [], ◌∷◌, ◌++◌, length, take, drop, sym, ◌∙◌, ap, subst, arith, append_assoc}
 use Rattle.std.proofs.Common.{take-append-drop, take-add, drop-drop, length-append}
-use Rattle.act_disk.specs.Images.{Holds, IsWritten}
+use Rattle.definitions.specs.Disk.{Holds, IsWritten}
 use Rattle.act_disk.proofs.Kept.{range_kept}
-use Rattle.gated_journal.specs.Layout.{Head, head_bytes, record_bytes, Fits, WouldRead}
+use Rattle.definitions.specs.Area.{Head, head_bytes, record_bytes, Fits, WouldRead}
 use Rattle.gated_journal.specs.TwoAreas.{start_of, other, area_on, after_gate, Completes}
 use Rattle.gated_journal.specs.declared.side.Side.{Side}
 use Rattle.gated_journal.proofs.Frames.{part_held, length-part}

@@ -1,7 +1,7 @@
 -- A write of a disk, as seen from one of its areas.
 use Rattle.std.proofs.Common.{◌≡◌, ◌⊎◌, inl, inr, ℕ, ◌+◌, ◌-◌, ◌≤◌, min, List, length, take, drop, sym, ◌∙◌, ap, subst, arith}
 use Rattle.std.proofs.lemmas.List.{take-take, drop-take, drop-drop, length-take, length-drop}
-use Rattle.act_disk.specs.Images.{Torn, Holds}
+use Rattle.definitions.specs.Disk.{Torn, Holds}
 use Rattle.act_disk.proofs.Kept.{rest_kept, range_kept}
 use Rattle.gated_journal.specs.Appends.{Appends, IsWhole}
 use Rattle.gated_journal.specs.Choice.{part}

@@ -1,10 +1,10 @@
 -- The effect of a write of an area's own gate on what it reads as.
 use Rattle.std.proofs.Common.{◌≡◌, inl, inr, ℕ, ◌+◌, ◌<◌, ◌≤◌, List, [], ◌∷◌, length, take, drop, sym, ◌∙◌, ap, subst, arith}
 use Rattle.std.proofs.lemmas.Bool.{cases_eq}
-use Rattle.act_disk.specs.Images.{Torn, Holds, From, EachSince}
+use Rattle.definitions.specs.Disk.{Torn, Holds, From, EachSince}
 use Rattle.act_disk.proofs.Moments.{weakened}
 use Rattle.gated_journal.specs.Choice.{part}
-use Rattle.gated_journal.specs.Layout.{Head, IsClosed, Reads, WouldRead}
+use Rattle.definitions.specs.Area.{Head, IsClosed, Reads, WouldRead}
 use Rattle.gated_journal.specs.OnDisk.{ReadsAt, WouldReadAt, ShutAt, OpenOrShut}
 use Rattle.gated_journal.proofs.Frames.{length-part, part_torn, part_held}
 

@@ -4,10 +4,10 @@ use Rattle.std.proofs.Common.{ap, arith, append_assoc, length-append, take-appen
 use Rattle.std.specs.List.{AllByRecursion}
 use Rattle.std.proofs.lemmas.List.{take_at, drop_more, append-nil}
 use Rattle.std.proofs.lemmas.Bool.{cases_eq}
-use Rattle.act_disk.specs.Images.{Torn, Holds}
+use Rattle.definitions.specs.Disk.{Torn, Holds}
 use Rattle.act_disk.proofs.Kept.{prefix_kept}
 use Rattle.gated_journal.specs.Appends.{record_of, IsWhole, Appends}
-use Rattle.gated_journal.specs.Layout.{Head, head_bytes, framed, record_bytes, opened, IsClosed, Reads}
+use Rattle.definitions.specs.Area.{Head, head_bytes, framed, record_bytes, opened, IsClosed, Reads}
 use Rattle.gated_journal.proofs.ClosedGate.{same_reading}
 
 pub record_bytes-push : (bodies : List (List ℕ)) (body : List ℕ)

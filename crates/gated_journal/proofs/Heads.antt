@@ -5,7 +5,7 @@ use Rattle.std.specs.Prelude.{slice_index_or}
 use Rattle.std.specs.Int.{from_be_bytes, to_be_bytes, w64}
 use Rattle.std.proofs.lemmas.List.{length-take, length-drop, take_at, drop_at}
 use Rattle.std.proofs.lemmas.Nat.{be_bytes_8, from_be_bytes-to_be_bytes_8}
-use Rattle.gated_journal.specs.Layout.{Head}
+use Rattle.definitions.specs.Area.{Head}
 use Rattle.gated_journal.specs.Scanned.{HasNumber, HasText, HasHead, HasPrefix}
 use Rattle.gated_journal.proofs.OneReading.{same_head, apart}
 use Rattle.wf_value.proofs.Bytes.{AreBytes, AreBytes-take}

@@ -1,10 +1,10 @@
 -- Two areas, created on an empty disk.
 use Rattle.std.proofs.Common.{◌≡◌, inl, inr, ℕ, ◌+◌, ◌-◌, ◌<◌, ◌≤◌, List, [], ◌∷◌, length, take, drop, sym, ◌∙◌, ap, subst, arith}
 use Rattle.std.proofs.lemmas.List.{drop-take, drop-drop}
-use Rattle.act_disk.specs.Images.{Holds, IsWritten, Only}
+use Rattle.definitions.specs.Disk.{Holds, IsWritten, Only}
 use Rattle.act_disk.proofs.Kept.{range_kept}
 use Rattle.gated_journal.specs.Choice.{part}
-use Rattle.gated_journal.specs.Layout.{Head, IsClosed, Fits}
+use Rattle.definitions.specs.Area.{Head, IsClosed, Fits}
 use Rattle.gated_journal.specs.OnDisk.{WouldReadAt}
 use Rattle.gated_journal.specs.TwoAreas.{after_gate}
 use Rattle.gated_journal.specs.Whole.{RecoversWhole}

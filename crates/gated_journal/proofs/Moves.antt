@@ -1,8 +1,8 @@
 -- The calls that write the other area: how each image since the start of a call reads.
 use Rattle.std.proofs.Common.{◌≡◌, inl, inr, ℕ, ◌+◌, ◌<◌, ◌≤◌, List, [], ◌∷◌, length, refl, sym, subst}
-use Rattle.act_disk.specs.Images.{Torn, Holds, IsWritten, From, Only, EachSince}
+use Rattle.definitions.specs.Disk.{Torn, Holds, IsWritten, From, Only, EachSince}
 use Rattle.act_disk.proofs.Moments.{started, weakened, joined}
-use Rattle.gated_journal.specs.Layout.{Head}
+use Rattle.definitions.specs.Area.{Head}
 use Rattle.gated_journal.specs.TwoAreas.{start_of, other, Completes}
 use Rattle.gated_journal.specs.Whole.{RecoversWhole, WholeEither, WholeOrSwitched}
 use Rattle.gated_journal.specs.declared.gate.GateState.{GateState}

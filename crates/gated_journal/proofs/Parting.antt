@@ -2,7 +2,7 @@
 use Rattle.std.proofs.Common.{◌≡◌, ℕ, ◌<◌, ◌^◌, List, [], ◌∷◌, ◌++◌, length, refl, sym, ◌∙◌, ap, subst, arith, append_assoc}
 use Rattle.std.proofs.Common.{length-append, Some, None}
 use Rattle.std.specs.List.{AllByRecursion, slice_get}
-use Rattle.gated_journal.specs.Layout.{framed, record_bytes, IsClosed}
+use Rattle.definitions.specs.Area.{framed, record_bytes, IsClosed}
 use Rattle.gated_journal.specs.Scanned.{OpensWith, Parts}
 use Rattle.gated_journal.proofs.Grown.{record_bytes-push, all_short-push}
 use Rattle.gated_journal.proofs.OneReading.{same_frames}

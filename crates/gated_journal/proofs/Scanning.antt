@@ -5,7 +5,7 @@ use Rattle.std.specs.Int.{from_be_bytes, to_be_bytes, w32}
 use Rattle.std.proofs.lemmas.List.{take_at, length-take, length-drop}
 use Rattle.std.proofs.lemmas.Nat.{from_be_bytes-to_be_bytes_4}
 use Rattle.wf_value.proofs.Bytes.{AreBytes, spell_number}
-use Rattle.gated_journal.specs.Layout.{framed}
+use Rattle.definitions.specs.Area.{framed}
 use Rattle.gated_journal.specs.Scanned.{Frames}
 
 -- as many bytes as the number says, and the rest

@@ -1,6 +1,6 @@
 -- A scan returns exactly what the area encodes.
 use Rattle.std.proofs.Common.{◌≡◌, ℕ, List, ◌∷◌, ◌++◌, refl, sym, ◌∙◌, ap, subst, append_assoc}
-use Rattle.gated_journal.specs.Layout.{Head, head_bytes, record_bytes, IsClosed, Reads, ReadsNothing}
+use Rattle.definitions.specs.Area.{Head, head_bytes, record_bytes, IsClosed, Reads, ReadsNothing}
 use Rattle.gated_journal.specs.Scanned.{Parts, HasHead, HasPrefix}
 use Rattle.gated_journal.proofs.Heads.{one_head}
 

@@ -3,11 +3,11 @@ use Rattle.std.proofs.Common.{◌≡◌, ◌⊎◌, inl, inr, ⊎_elim, ℕ, ◌
 use Rattle.std.proofs.Common.{[], ◌∷◌, ◌++◌, length, take, drop, refl, sym, ◌∙◌, ap, subst, arith}
 use Rattle.std.proofs.Common.{min}
 use Rattle.std.proofs.lemmas.Bool.{cases_eq}
-use Rattle.act_disk.specs.Images.{Torn, Holds}
+use Rattle.definitions.specs.Disk.{Torn, Holds}
 use Rattle.act_disk.proofs.Kept.{prefix_kept}
 use Rattle.gated_journal.specs.Appends.{record_of, Appends}
 use Rattle.gated_journal.specs.Choice.{open_generation}
-use Rattle.gated_journal.specs.Layout.{Head, opened, IsClosed, Reads, WouldRead}
+use Rattle.definitions.specs.Area.{Head, opened, IsClosed, Reads, WouldRead}
 use Rattle.gated_journal.specs.TwoAreas.{start_of, other, area_on, IsGate, Recovers}
 use Rattle.gated_journal.specs.declared.gate.GateState.{GateState}
 use Rattle.gated_journal.specs.declared.gate.GateState.TheVariants.{Open, Closed}

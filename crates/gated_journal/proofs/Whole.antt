@@ -1,11 +1,11 @@
 -- A disk of exactly two areas, through each write of one of them.
 use Rattle.std.proofs.Common.{◌≡◌, inl, inr, ⊎_elim, ℕ, ◌+◌, ◌<◌, ◌≤◌, ◌^◌}
 use Rattle.std.proofs.Common.{List, [], ◌∷◌, ◌++◌, length, refl, sym, ◌∙◌, subst, arith}
-use Rattle.act_disk.specs.Images.{Torn, Holds, From, Only, EachSince}
+use Rattle.definitions.specs.Disk.{Torn, Holds, From, Only, EachSince}
 use Rattle.act_disk.proofs.Kept.{range_kept}
 use Rattle.act_disk.proofs.Moments.{weakened}
 use Rattle.gated_journal.specs.Appends.{record_of, Appends, IsWhole}
-use Rattle.gated_journal.specs.Layout.{Head, opened, WouldRead}
+use Rattle.definitions.specs.Area.{Head, opened, WouldRead}
 use Rattle.gated_journal.specs.OnDisk.{ReadsAt}
 use Rattle.gated_journal.specs.TwoAreas.{start_of, other, area_on, Recovers}
 use Rattle.gated_journal.specs.Whole.{RecoversWhole, WholeOrGrew, WholeEither, WholeOrSwitched}

@@ -1,7 +1,7 @@
 -- The effect of an append on an image: a record is written after the current gate, then a sync, then the gate.
 use Rattle.std.specs.Prelude.{◌≡◌, ◌⊎◌, ℕ, ◌+◌, ◌-◌, ◌<◌, ◌^◌, List, [], ◌∷◌, ◌++◌, length, take, drop}
-use Rattle.act_disk.specs.Images.{Torn, Holds}
-use Rattle.gated_journal.specs.Layout.{framed}
+use Rattle.definitions.specs.Disk.{Torn, Holds}
+use Rattle.definitions.specs.Area.{framed}
 use Rattle.gated_journal.specs.declared.lengths.TheConstants.{FRAME, LENGTH}
 
 -- what is written after the gate: the length-prefixed body and a closed gate

@@ -1,7 +1,7 @@
 -- The areas that read as nothing: the gate is closed, or a text, a body or a length passes the end, or no byte is left for the next gate.
 use Rattle.std.specs.Prelude.{◌≡◌, ◌⊎◌, ℕ, ◌+◌, ◌<◌, List, ◌∷◌, ◌++◌, length, take, drop}
 use Rattle.std.specs.Int.{from_be_bytes, w32, w64}
-use Rattle.gated_journal.specs.Layout.{Head, opened, IsClosed, Fits}
+use Rattle.definitions.specs.Area.{Head, opened, IsClosed, Fits}
 use Rattle.gated_journal.specs.Scanned.{Parts}
 use Rattle.gated_journal.specs.declared.lengths.TheConstants.{GENERATION, HEAD, LENGTH, TEXT_LENGTH, VERSION}
 

@@ -1,7 +1,6 @@
 pub mod Appends
 pub mod Choice
 pub mod CutOff
-pub mod Layout
 pub mod OnDisk
 pub mod Reading
 pub mod Scanned

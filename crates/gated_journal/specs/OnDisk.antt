@@ -1,6 +1,6 @@
 -- An area of a disk.
 use Rattle.std.specs.Prelude.{◌≡◌, ◌⊎◌, ℕ, ◌+◌, ◌<◌, ◌≤◌, ◌^◌, List, [], ◌∷◌, ◌++◌, length}
-use Rattle.gated_journal.specs.Layout.{Head, opened, IsClosed, Reads, WouldRead}
+use Rattle.definitions.specs.Area.{Head, opened, IsClosed, Reads, WouldRead}
 use Rattle.gated_journal.specs.Choice.{part}
 use Rattle.gated_journal.specs.Appends.{record_of}
 

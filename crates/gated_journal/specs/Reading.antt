@@ -1,6 +1,6 @@
 -- The effect of a call that only reads a disk.
 use Rattle.std.specs.Prelude.{◌≡◌, ℕ, List}
-use Rattle.act_disk.specs.Images.{EachSince}
+use Rattle.definitions.specs.Disk.{EachSince}
 
 -- The bytes and the length do not change, and a crash leaves no image that it might not have left before. A read may end a disk's honesty:
 -- the clauses on bytes and images hold if the disk is honest after it.

@@ -2,7 +2,7 @@
 use Rattle.std.specs.Prelude.{◌≡◌, ℕ, ◌<◌, ◌^◌, List, ◌∷◌, ◌++◌, length}
 use Rattle.std.specs.List.{AllByRecursion}
 use Rattle.std.specs.Int.{to_be_bytes, w64}
-use Rattle.gated_journal.specs.Layout.{Head, head_bytes, framed, record_bytes, opened, Reads}
+use Rattle.definitions.specs.Area.{Head, head_bytes, framed, record_bytes, opened, Reads}
 
 -- the bytes are a length-prefixed body, then `rest`
 pub record Frames (bytes body rest : List ℕ) : Type 0 where

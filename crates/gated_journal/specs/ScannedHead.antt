@@ -1,5 +1,5 @@
 -- The head that a scan found, as a head of the layout.
-use Rattle.gated_journal.specs.Layout.{Head}
+use Rattle.definitions.specs.Area.{Head}
 use Rattle.gated_journal.specs.declared.head.AreaHead.{AreaHead}
 
 abbrev pub head_of : AreaHead → Head

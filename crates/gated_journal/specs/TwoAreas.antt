@@ -1,8 +1,8 @@
 -- A disk of two adjacent areas. It reads as its active area does.
 use Rattle.std.specs.Prelude.{◌≡◌, ℕ, ◌+◌, ◌≤◌, ◌<◌, List, [], ◌∷◌, ◌++◌, length, Option, Some}
-use Rattle.act_disk.specs.Images.{Holds}
+use Rattle.definitions.specs.Disk.{Holds}
 use Rattle.gated_journal.specs.Choice.{part, chosen}
-use Rattle.gated_journal.specs.Layout.{Head, head_bytes, record_bytes, IsClosed, Fits, Reads}
+use Rattle.definitions.specs.Area.{Head, head_bytes, record_bytes, IsClosed, Fits, Reads}
 use Rattle.gated_journal.specs.declared.gate.GateState.{GateState}
 use Rattle.gated_journal.specs.declared.gate.GateState.TheVariants.{Open, Closed}
 use Rattle.gated_journal.specs.declared.side.Side.{Side}

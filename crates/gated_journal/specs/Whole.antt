@@ -1,7 +1,7 @@
 -- A disk of exactly two areas.
 use Rattle.std.specs.Prelude.{◌≡◌, ◌⊎◌, ℕ, ◌+◌, List, [], ◌∷◌, ◌++◌, length, Option, Some, None}
 use Rattle.gated_journal.specs.Choice.{newer}
-use Rattle.gated_journal.specs.Layout.{Head}
+use Rattle.definitions.specs.Area.{Head}
 use Rattle.gated_journal.specs.TwoAreas.{area_on, other, active_side, IsGate, Recovers}
 use Rattle.gated_journal.specs.declared.chosen.Chosen.{Chosen}
 use Rattle.gated_journal.specs.declared.gate.GateState.{GateState}

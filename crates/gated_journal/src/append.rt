@@ -1,5 +1,5 @@
 ghost use Rattle.std.specs.Prelude.{◌↔◌, ◌+◌, ◌<◌, ◌≤◌, ◌^◌, [], ◌∷◌, OnOk};
-ghost use Rattle.act_disk.specs.Images.{Holds, From, Only, EachSince, CountsFault};
+ghost use Rattle.definitions.specs.Disk.{Holds, From, Only, EachSince, CountsFault};
 ghost use Rattle.gated_journal.specs.Appends.{Appends, IsWhole};
 
 use act_disk::{Disk, DiskFault, write_synced};

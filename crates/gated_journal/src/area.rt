@@ -1,7 +1,7 @@
 ghost use Rattle.std.specs.Prelude.{◌≡◌, ◌↔◌, ◌+◌, ◌<◌, ◌≤◌, ◌^◌, ℕ, List, [], ◌∷◌, ◌++◌, length, OnOk, IsOk};
-ghost use Rattle.act_disk.specs.Images.{Torn, IsWritten, From, Only, EachSince, CountsFault};
+ghost use Rattle.definitions.specs.Disk.{Torn, IsWritten, From, Only, EachSince, CountsFault};
 ghost use Rattle.gated_journal.specs.Appends.{Appends};
-ghost use Rattle.gated_journal.specs.Layout.{Head};
+ghost use Rattle.definitions.specs.Area.{Head};
 ghost use Rattle.gated_journal.specs.OnDisk.{ReadsAt, MayHaveGrown, Awaits, WouldReadAt, ShutAt, OpenOrShut};
 
 use crate::append::{OPEN, append_after};

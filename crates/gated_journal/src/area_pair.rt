@@ -1,6 +1,6 @@
 ghost use Rattle.std.specs.Prelude.{◌≡◌, ◌↔◌, ◌+◌, ◌<◌, ◌≤◌, ◌^◌, ℕ, List, ◌++◌, length, IsOk, OnOk};
-ghost use Rattle.act_disk.specs.Images.{Holds, Only, EachSince, CountsFault};
-ghost use Rattle.gated_journal.specs.Layout.{Head};
+ghost use Rattle.definitions.specs.Disk.{Holds, Only, EachSince, CountsFault};
+ghost use Rattle.definitions.specs.Area.{Head};
 ghost use Rattle.gated_journal.specs.TwoAreas.{start_of, other, Completes};
 ghost use Rattle.gated_journal.specs.Whole.{RecoversWhole, WholeEither, WholeOrSwitched};
 

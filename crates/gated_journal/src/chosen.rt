@@ -1,5 +1,5 @@
 ghost use Rattle.std.specs.Prelude.{◌≡◌, ◌+◌, ◌<◌, ◌≤◌, OnOk, IfOk};
-ghost use Rattle.act_disk.specs.Images.{Only, CountsFault};
+ghost use Rattle.definitions.specs.Disk.{Only, CountsFault};
 ghost use Rattle.gated_journal.specs.Choice.{newer, open_generation};
 ghost use Rattle.gated_journal.specs.Reading.{OnlyRead};
 ghost use Rattle.gated_journal.specs.Whole.{IsChosen, IsChosenFrom, gate_of};

@@ -1,7 +1,7 @@
 ghost use Rattle.std.specs.Prelude.{◌≡◌, ◌↔◌, ◌+◌, ◌<◌, ◌≤◌, ◌^◌, ℕ, List, [], ◌∷◌, ◌++◌, length, OnOk};
-ghost use Rattle.act_disk.specs.Images.{Holds, EachSince, CountsFault};
+ghost use Rattle.definitions.specs.Disk.{Holds, EachSince, CountsFault};
 ghost use Rattle.gated_journal.specs.Appends.{record_of};
-ghost use Rattle.gated_journal.specs.Layout.{Head, opened};
+ghost use Rattle.definitions.specs.Area.{Head, opened};
 ghost use Rattle.gated_journal.specs.TwoAreas.{start_of, other};
 ghost use Rattle.gated_journal.specs.Whole.{RecoversWhole, WholeOrGrew};
 

@@ -1,6 +1,6 @@
 ghost use Rattle.std.specs.Prelude.{◌≡◌, ◌+◌, ◌<◌, ◌≤◌, ℕ, List, length, take, drop, IfSome, IsNone};
 ghost use Rattle.std.specs.Int.{from_be_bytes, w64};
-ghost use Rattle.gated_journal.specs.Layout.{Head};
+ghost use Rattle.definitions.specs.Area.{Head};
 ghost use Rattle.gated_journal.specs.CutOff.{EndsInHead};
 ghost use Rattle.gated_journal.specs.Scanned.{HasText, HasHead};
 ghost use Rattle.gated_journal.specs.ScannedHead.{head_of};

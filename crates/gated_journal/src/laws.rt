@@ -1,10 +1,10 @@
 //! Laws about areas.
 
 ghost use Rattle.std.specs.Prelude.{◌≡◌, ◌⊎◌, ◌+◌, ◌<◌, ◌≤◌, ◌^◌, ℕ, List, [], ◌∷◌, ◌++◌, length, take};
-ghost use Rattle.act_disk.specs.Images.{Torn};
+ghost use Rattle.definitions.specs.Disk.{Torn};
 ghost use Rattle.gated_journal.specs.Appends.{record_of, Appends};
 ghost use Rattle.gated_journal.specs.CutOff.{EncodesNothing};
-ghost use Rattle.gated_journal.specs.Layout.{Head, IsClosed, Reads, ReadsNothing, WouldRead, opened};
+ghost use Rattle.definitions.specs.Area.{Head, IsClosed, Reads, ReadsNothing, WouldRead, opened};
 ghost use Rattle.gated_journal.specs.TwoAreas.{start_of, other, area_on, Recovers};
 ghost use Rattle.gated_journal.specs.declared.gate.GateState.{GateState};
 ghost use Rattle.gated_journal.specs.declared.gate.GateState.TheVariants.{Open, Closed};

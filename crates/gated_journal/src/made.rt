@@ -1,6 +1,6 @@
 ghost use Rattle.std.specs.Prelude.{◌≡◌, ◌↔◌, ◌+◌, ◌<◌, ◌≤◌, ◌^◌, ℕ, List, ◌∷◌, length, OnOk};
-ghost use Rattle.act_disk.specs.Images.{CountsFault};
-ghost use Rattle.gated_journal.specs.Layout.{Head, Fits};
+ghost use Rattle.definitions.specs.Disk.{CountsFault};
+ghost use Rattle.definitions.specs.Area.{Head, Fits};
 ghost use Rattle.gated_journal.specs.TwoAreas.{after_gate};
 ghost use Rattle.gated_journal.specs.Whole.{RecoversWhole};
 ghost use Rattle.gated_journal.specs.declared.gate.GateState.TheVariants.{Closed};

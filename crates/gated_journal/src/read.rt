@@ -1,5 +1,5 @@
 ghost use Rattle.std.specs.Prelude.{◌≡◌, ◌+◌, ◌<◌, ◌≤◌, length, OnOk};
-ghost use Rattle.act_disk.specs.Images.{SameImages, CountsFault};
+ghost use Rattle.definitions.specs.Disk.{SameImages, CountsFault};
 ghost use Rattle.gated_journal.specs.Choice.{part};
 ghost use Rattle.gated_journal.specs.Reading.{OnlyRead};
 

@@ -2,7 +2,7 @@
 
 ghost use Rattle.std.specs.Prelude.{◌≡◌, ◌<◌, ◌^◌, ℕ, List, [], ◌∷◌, ◌++◌, length};
 ghost use Rattle.std.specs.List.{AllByRecursion};
-ghost use Rattle.gated_journal.specs.Layout.{record_bytes};
+ghost use Rattle.definitions.specs.Area.{record_bytes};
 ghost use Rattle.gated_journal.specs.Scanned.{OpensWith, Parts};
 
 /// At first no record has been taken, and all bytes are left.

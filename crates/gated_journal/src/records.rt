@@ -2,7 +2,7 @@ ghost use Rattle.std.specs.Prelude.{◌≡◌, ◌<◌, ◌≤◌, ℕ, List, le
 ghost use Rattle.std.specs.Int.{from_be_bytes, w32};
 ghost use Rattle.gated_journal.specs.Scanned.{Frames, OpensWith, Parts};
 ghost use Rattle.gated_journal.specs.CutOff.{EndsInBody, HasNoRecord, EndsInRecords};
-ghost use Rattle.gated_journal.specs.Layout.{IsClosed};
+ghost use Rattle.definitions.specs.Area.{IsClosed};
 
 use crate::append::OPEN;
 use crate::lengths::LENGTH;

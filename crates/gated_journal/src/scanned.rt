@@ -1,5 +1,5 @@
 ghost use Rattle.std.specs.Prelude.{ℕ, List, IfSome, IsNone};
-ghost use Rattle.gated_journal.specs.Layout.{Head, ReadsNothing};
+ghost use Rattle.definitions.specs.Area.{Head, ReadsNothing};
 ghost use Rattle.gated_journal.specs.CutOff.{HasNoHead, EncodesNothing};
 ghost use Rattle.gated_journal.specs.Scanned.{HasPrefix, IsScanned};
 ghost use Rattle.gated_journal.specs.ScannedHead.{head_of};

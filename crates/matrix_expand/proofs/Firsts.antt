@@ -11,7 +11,7 @@ use Rattle.std.specs.declared.cmp.Ordering.TheVariants.{Less, Equal, Greater}
 use Rattle.std.proofs.lemmas.Bool.{and_parts, and_from, true≢false}
 use Rattle.std.proofs.lemmas.List.{at_drop_more}
 use Rattle.std.proofs.lemmas.Map.Lookups.{exact_bytes}
-use Rattle.wf_value.specs.Names.{names_rise}
+use Rattle.definitions.specs.Rising.{names_rise}
 use Rattle.matrix_expand.specs.Combinations.{Combination, value_at}
 use Rattle.matrix_expand.specs.Entries.{is_least, names_ascend, pairs_of, flagged, is_last, firsts_after, merged, object_entries}
 use Rattle.matrix_expand.specs.Numbered.{original_at, chosen}

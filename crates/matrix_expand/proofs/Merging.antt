@@ -14,7 +14,7 @@ use Rattle.std.proofs.lemmas.List.{append-nil, append_assoc, drop_all, length-ta
 use Rattle.std.proofs.lemmas.Map.Lookups.{exact_bytes}
 use Rattle.wf_value.specs.declared.refusal.Refusal.{Refusal}
 use Rattle.wf_value.specs.Gives.{Gives}
-use Rattle.wf_value.specs.Names.{names_rise}
+use Rattle.definitions.specs.Rising.{names_rise}
 use Rattle.matrix_expand.specs.Combinations.{Combination, value_at}
 use Rattle.matrix_expand.specs.Entries.{comes_before, placed, merged, is_least, names_ascend, pairs_of, flagged, added_value}
 use Rattle.matrix_expand.specs.Entries.{object_entries, SortsEntries}

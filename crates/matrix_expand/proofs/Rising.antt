@@ -16,7 +16,7 @@ use Rattle.std.specs.List.{slice_get}
 use Rattle.std.proofs.lemmas.Bool.{and_parts, and_from, cases_lt}
 use Rattle.std.proofs.lemmas.Cmp.{tied_back, eq_by_cmp_equiv}
 use Rattle.std.proofs.lemmas.Map.Lookups.{exact_bytes}
-use Rattle.wf_value.specs.Names.{names_rise}
+use Rattle.definitions.specs.Rising.{names_rise}
 use Rattle.wf_value.proofs.Rising.{Less-from_is_lt, after_less, name_cmp}
 
 -- the equality test of two names is symmetric

@@ -8,7 +8,7 @@ use Rattle.std.specs.Cmp.Lexicographic.{slice_cmp}
 use Rattle.std.specs.Str.{bytes_eq}
 use Rattle.std.specs.FinMap.{find}
 use Rattle.std.specs.FinMap.Entries.{by_order}
-use Rattle.stated_limits.specs.Limits.{max_choices, max_legs}
+use Rattle.definitions.specs.Limits.{max_choices, max_legs}
 use Rattle.wf_value.specs.Matrix.{NamedValues, MatrixLists}
 use Rattle.wf_value.specs.declared.code.Code.TheVariants.{MatrixTooLarge, LegCount}
 use Rattle.wf_value.specs.declared.refusal.Refusal.{Refusal}

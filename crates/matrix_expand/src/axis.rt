@@ -3,7 +3,7 @@ ghost use Rattle.std.specs.Cmp.Lexicographic.{slice_cmp};
 ghost use Rattle.std.specs.Option.{option_map};
 ghost use Rattle.std.specs.Ordering.{nat_cmp};
 ghost use Rattle.wf_value.specs.Gives.{Gives};
-ghost use Rattle.wf_value.specs.Names.{names_rise};
+ghost use Rattle.definitions.specs.Rising.{names_rise};
 ghost use Rattle.matrix_expand.specs.Combinations.{choice_count};
 ghost use Rattle.matrix_expand.specs.Numbered.{chosen, axes_of, choice_of};
 

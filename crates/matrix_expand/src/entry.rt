@@ -1,6 +1,6 @@
 ghost use Rattle.std.specs.Prelude.{◌≡◌, ◌+◌, ◌++◌, ◌^◌, ◌<◌, length, IsTrue, IfOk, IfErr, Ok};
 ghost use Rattle.wf_value.specs.Gives.{Gives, no_memory};
-ghost use Rattle.wf_value.specs.Names.{names_rise};
+ghost use Rattle.definitions.specs.Rising.{names_rise};
 ghost use Rattle.matrix_expand.specs.Entries.{object_entries, comes_before, merged, SortsEntries};
 
 use std::alloc::Global;

@@ -1,8 +1,8 @@
 ghost use Rattle.std.specs.List.{list_any, slice_index_or};
 ghost use Rattle.std.specs.Prelude.{◌≡◌, ◌↔◌, ◌+◌, ◌<◌, ◌≤◌, [], length, map, IsTrue, IfOk, Ok};
-ghost use Rattle.stated_limits.specs.Limits.{max_legs};
+ghost use Rattle.definitions.specs.Limits.{max_legs};
 ghost use Rattle.wf_value.specs.Gives.{Gives};
-ghost use Rattle.wf_value.specs.Names.{names_rise};
+ghost use Rattle.definitions.specs.Rising.{names_rise};
 ghost use Rattle.matrix_expand.specs.Combinations.{choice_count, combinations, legs_or_refusal, combinations_or_refusal};
 ghost use Rattle.matrix_expand.specs.Numbered.{original_count, numbered_axes, pattern_agrees, kept_of, kept_or_refusal, new_objects};
 
@@ -30,8 +30,8 @@ pub struct Expansion<'a> {
 
 impl<'a> Model for Expansion<'a> {
     ghost use Rattle.std.specs.Prelude.{◌+◌, ◌≤◌, ◌++◌, List, length, map, IsTrue};
-    ghost use Rattle.stated_limits.specs.Limits.{max_legs};
-    ghost use Rattle.wf_value.specs.Names.{names_rise};
+    ghost use Rattle.definitions.specs.Limits.{max_legs};
+    ghost use Rattle.definitions.specs.Rising.{names_rise};
     ghost use Rattle.matrix_expand.specs.Combinations.{Combination};
     ghost use Rattle.matrix_expand.specs.Entries.{names_ascend, pairs_of, final_from};
 

@@ -1,7 +1,7 @@
 ghost use Rattle.std.specs.Prelude.{◌≡◌, ◌&&◌, map, IsTrue, Ok};
 ghost use Rattle.std.specs.List.{list_all};
 ghost use Rattle.wf_value.specs.Gives.{Gives};
-ghost use Rattle.wf_value.specs.Names.{names_rise};
+ghost use Rattle.definitions.specs.Rising.{names_rise};
 ghost use Rattle.matrix_expand.specs.Numbered.{wanted_holds, pattern_agrees, pattern_removes, pattern_of};
 
 use crate::axis::{Axis, Choice, place_of};

@@ -3,7 +3,7 @@ use Rattle.std.proofs.Common.{◌≡◌, ℕ, List, [], ◌∷◌, Ok, Err, code
 use Rattle.wf_value.specs.declared.refusal.Refusal.TheVariants.{Cycle}
 use Rattle.needs_graph.specs.Ancestors.{ancestors_of, dependents_of}
 use Rattle.needs_graph.specs.Needs.{graph_of, needs_of, unknown_need}
-use Rattle.needs_graph.specs.JobNeeds.{JobNeeds}
+use Rattle.definitions.specs.JobNeeds.{JobNeeds}
 
 abbrev a : List ℕ
 a = codes "a"

@@ -1,6 +1,5 @@
 pub mod Ancestors
 pub mod Conditions
-pub mod JobNeeds
 pub mod JobSets
 pub mod Lookup
 pub mod JobBitmap

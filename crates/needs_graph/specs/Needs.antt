@@ -3,11 +3,11 @@
 use Rattle.std.specs.Prelude.{ℕ, ◌==◌, List, [], ◌∷◌, length, Bool, Result, Ok, Err, filter, map, if◌then◌else◌}
 use Rattle.std.specs.List.{list_any, list_all, enumerate_from}
 use Rattle.std.specs.Str.{bytes_eq}
-use Rattle.wf_value.specs.Names.{rises_by}
+use Rattle.definitions.specs.Rising.{rises_by}
 use Rattle.wf_value.specs.declared.code.Code.TheVariants.{UnknownNeed}
 use Rattle.wf_value.specs.declared.refusal.Refusal.{Refusal}
 use Rattle.wf_value.specs.declared.refusal.Refusal.TheVariants.{Numbered, Cycle}
-use Rattle.needs_graph.specs.JobNeeds.{JobNeeds}
+use Rattle.definitions.specs.JobNeeds.{JobNeeds}
 use Rattle.needs_graph.specs.Ancestors.{is_ancestor}
 use Rattle.needs_graph.specs.JobBitmap.{places}
 

@@ -3,7 +3,7 @@ use Rattle.std.specs.Prelude.{◌≡◌, ℕ, List, [], Bool, length, Result, Ok
 use Rattle.std.specs.List.{list_all, enumerate_from, range_with_len, slice_index_or}
 use Rattle.wf_value.specs.declared.refusal.Refusal.{Refusal}
 use Rattle.needs_graph.specs.JobSets.{is_in}
-use Rattle.needs_graph.specs.JobNeeds.{JobNeeds}
+use Rattle.definitions.specs.JobNeeds.{JobNeeds}
 use Rattle.needs_graph.specs.JobBitmap.{is_marked, places}
 use Rattle.needs_graph.specs.Needs.{is_listed, is_job, unknown_need}
 

@@ -23,7 +23,7 @@ use Rattle.wf_reader.specs.Contexts.{ContextObjects, sent_value}
 use Rattle.wf_reader.specs.Event.{event_of}
 use Rattle.wf_reader.specs.declared.concurrency.Concurrency.{Concurrency}
 use Rattle.needs_graph.specs.Ancestors.{needs_at}
-use Rattle.run_plan.specs.Admitted.{Admitted}
+use Rattle.definitions.specs.Admitted.{Admitted}
 use Rattle.run_plan.specs.PlanOf.{plan_graph, plan_of}
 use Rattle.run_plan.specs.declared.planned.PlannedJob.{PlannedJob}
 use Rattle.run_plan.specs.declared.planned.PlannedLeg.{PlannedLeg}

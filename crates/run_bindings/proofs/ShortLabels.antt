@@ -11,7 +11,7 @@ use Rattle.std.proofs.lemmas.Bool.Decides.{nat_tests}
 use Rattle.std.proofs.lemmas.Grind.{take_at_read}
 use Rattle.std.proofs.lemmas.List.{get_or-map, length-map, take_all}
 use Rattle.std.proofs.lemmas.List.Folds.{list_all-append, list_any-append}
-use Rattle.run_plan.specs.SmallText.{is_of_short_length, is_short}
+use Rattle.definitions.specs.SmallText.{is_of_short_length, is_short}
 use Rattle.run_bindings.specs.KnownLabels.{AreAlike, short_text}
 
 -- ---- one label

@@ -3,7 +3,7 @@
 use Rattle.std.specs.Prelude.{◌≡◌, ℕ, List, [], map, Bool, length, nat_eq, nat_le, Option, Some, slice_get, if◌then◌else◌}
 use Rattle.std.specs.List.{flat_map, list_all}
 use Rattle.std.specs.Option.{option_map_or}
-use Rattle.stated_limits.specs.Limits.{max_text_bytes}
+use Rattle.definitions.specs.Limits.{max_text_bytes}
 use Rattle.wf_expr.specs.Bound.{Results, bound_of, bound_text, no_results}
 use Rattle.wf_expr.specs.declared.bound.BoundPiece.{BoundPiece}
 use Rattle.run_plan.specs.PlanOf.{plan_of}

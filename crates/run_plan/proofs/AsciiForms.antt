@@ -5,7 +5,7 @@ use Rattle.std.specs.Str.{IsUtf8}
 use Rattle.std.proofs.Common.{arith}
 use Rattle.std.proofs.lemmas.Bool.{and_parts}
 use Rattle.std.proofs.lemmas.Str.{IsUtf8-from_ascii}
-use Rattle.run_plan.specs.SmallText.{is_of_short_length, is_short}
+use Rattle.definitions.specs.SmallText.{is_of_short_length, is_short}
 
 ascii_at : (kind : ℕ → Bool) → ((b : ℕ) → kind b ≡ true → b < 128) → (bs : List ℕ)
     → list_all kind bs ≡ true → (i : ℕ) → slice_index bs i < 128

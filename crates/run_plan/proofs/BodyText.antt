@@ -2,7 +2,7 @@
 use Rattle.std.specs.Prelude.{◌≡◌, ℕ, List, [], ◌++◌, length, nat_le, Bool, true, false, Option, None, if◌then◌else◌, refl}
 use Rattle.std.specs.Str.{is_utf8, IsUtf8}
 use Rattle.std.proofs.lemmas.Str.{IsUtf8-from_is_utf8}
-use Rattle.stated_limits.specs.Limits.{max_body}
+use Rattle.definitions.specs.Limits.{max_body}
 use Rattle.serde_json.specs.Data.{Data}
 use Rattle.serde_json.specs.Read.{read}
 use Rattle.wf_value.specs.declared.code.Code.TheVariants.{NotJson, TooLong}

@@ -4,7 +4,7 @@ use Rattle.std.specs.Prelude.{codes, is_some, if◌then◌else◌, refl}
 use Rattle.std.proofs.Common.{arith, ap, sym, ◌∙◌, inl, inr}
 use Rattle.std.proofs.lemmas.Bool.{cases_Bool, leb-true}
 use Rattle.std.proofs.lemmas.List.{length-map}
-use Rattle.stated_limits.specs.Limits.{max_body, max_jobs}
+use Rattle.definitions.specs.Limits.{max_body, max_jobs}
 use Rattle.serde_json.specs.Data.{Data, null}
 use Rattle.serde_json.specs.Find.{as_object, get}
 use Rattle.wf_value.specs.declared.code.Code.{Code}

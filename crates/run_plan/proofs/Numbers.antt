@@ -11,9 +11,9 @@ use Rattle.std.specs.Int.{IsInRange}
 use Rattle.std.proofs.lemmas.Int.Digits.{digits_value-lt, digits_value_more}
 use Rattle.std.proofs.lemmas.Str.Parse.{digit_at, digits_value-take-le}
 use Rattle.std.proofs.lemmas.Str.{digit_value_digit}
-use Rattle.stated_limits.specs.Limits.{last_number}
-use Rattle.run_plan.specs.Decimal.{is_decimal}
-use Rattle.run_plan.specs.SmallText.{is_number}
+use Rattle.definitions.specs.Limits.{last_number}
+use Rattle.definitions.specs.Decimal.{is_decimal}
+use Rattle.definitions.specs.SmallText.{is_number}
 
 digit_small : (b : ℕ) → is_ascii_digit b ≡ true → digit_value b < 10
 digit_small b h = grind (arith, common_steps)

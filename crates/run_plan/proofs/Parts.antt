@@ -4,8 +4,8 @@ use Rattle.std.specs.List.{list_all}
 use Rattle.std.proofs.Common.{arith, get_or, refl}
 use Rattle.std.proofs.lemmas.Bool.{and_parts, le-leb}
 use Rattle.std.proofs.lemmas.List.Splits.{length-slice_split}
-use Rattle.stated_limits.specs.Limits.{max_labels}
-use Rattle.run_plan.specs.SmallText.{are_labels, is_short, is_label_byte, split_at_commas}
+use Rattle.definitions.specs.Limits.{max_labels}
+use Rattle.definitions.specs.SmallText.{are_labels, is_short, is_label_byte, split_at_commas}
 
 -- a text has at least one part, so it is a list of labels if it has at most `max_labels` parts and each is a label
 pub of_few : (text : List ℕ) → nat_le (length (split_at_commas text)) max_labels ≡ true

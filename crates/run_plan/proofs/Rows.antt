@@ -17,7 +17,7 @@ use Rattle.wf_reader.specs.declared.workflow.Workflow.{Workflow}
 use Rattle.run_plan.specs.declared.reply.Reply.TheVariants as reply
 use Rattle.run_plan.specs.PlanOf.{plan_faults, plan_graph, plan_of, workflow_plan}
 use Rattle.run_plan.specs.ReplyText.{combo_text, reply_text}
-use Rattle.run_plan.specs.SmallText.{delivery_id_of, event_name_of, label_list_of, number_of, runner_name_of}
+use Rattle.definitions.specs.SmallText.{delivery_id_of, event_name_of, label_list_of, number_of, runner_name_of}
 
 -- ---- small texts
 

@@ -12,7 +12,7 @@ use Rattle.wf_reader.specs.declared.workflow.Workflow.{Workflow}
 use Rattle.wf_reader.specs.Event.{event_faults, event_of}
 use Rattle.wf_reader.specs.Faults.{outcome_faults}
 use Rattle.matrix_expand.specs.Combinations.{Combination, combinations_or_refusal}
-use Rattle.needs_graph.specs.JobNeeds.{JobNeeds}
+use Rattle.definitions.specs.JobNeeds.{JobNeeds}
 use Rattle.needs_graph.specs.Needs.{graph_of, needs_of}
 use Rattle.run_plan.specs.declared.planned.PlannedJob.{PlannedJob}
 use Rattle.run_plan.specs.declared.planned.PlannedLeg.{PlannedLeg}

@@ -2,8 +2,8 @@ ghost use Rattle.std.specs.Prelude.{◌≡◌, ◌≤◌, IfSome, IsTrue};
 ghost use Rattle.std.specs.List.{list_all};
 ghost use Rattle.std.specs.Char.{is_ascii_digit};
 ghost use Rattle.std.specs.Str.Parse.{digits_value};
-ghost use Rattle.stated_limits.specs.Limits.{last_number};
-ghost use Rattle.run_plan.specs.Decimal.{decimal_of, is_decimal};
+ghost use Rattle.definitions.specs.Limits.{last_number};
+ghost use Rattle.definitions.specs.Decimal.{decimal_of, is_decimal};
 
 /// The number that one to nine decimal digits write, which may begin with zeros.
 pub fn decimal_of(text: &[u8]) -> Option<u32>

@@ -1,7 +1,7 @@
 ghost use Rattle.std.specs.Prelude.{◌≡◌, ◌<◌, ℕ, Bool, true};
 ghost use Rattle.std.proofs.Common.{arith};
 ghost use Rattle.std.proofs.lemmas.Grind.{common_steps};
-ghost use Rattle.run_plan.specs.SmallText.{is_delivery_byte, is_event_byte, is_label_byte, is_runner_byte};
+ghost use Rattle.definitions.specs.SmallText.{is_delivery_byte, is_event_byte, is_label_byte, is_runner_byte};
 
 /// The form of a short text: the set of bytes that it may contain.
 pub trait Form {

@@ -1,8 +1,8 @@
 ghost use Rattle.std.specs.Prelude.{◌≡◌, ◌==◌, false, length, nat_le, IsTrue, Ok, None};
 ghost use Rattle.std.specs.List.{list_all};
-ghost use Rattle.stated_limits.specs.Limits.{max_labels};
+ghost use Rattle.definitions.specs.Limits.{max_labels};
 ghost use Rattle.wf_value.specs.Gives.{Gives};
-ghost use Rattle.run_plan.specs.SmallText.{are_labels, is_short, is_label_byte, label_list_of, split_at_commas};
+ghost use Rattle.definitions.specs.SmallText.{are_labels, is_short, is_label_byte, label_list_of, split_at_commas};
 
 use crate::small_text::Label;
 use std::alloc::Global;
@@ -21,7 +21,7 @@ pub struct Labels {
 
 impl Model for Labels {
     ghost use Rattle.std.specs.Prelude.{List, ℕ, IsTrue};
-    ghost use Rattle.run_plan.specs.SmallText.{are_labels};
+    ghost use Rattle.definitions.specs.SmallText.{are_labels};
 
     ghost Value = { List (List ℕ) };
 

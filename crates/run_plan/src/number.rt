@@ -1,6 +1,6 @@
 ghost use Rattle.std.specs.Prelude.{◌≡◌, ◌≤◌};
-ghost use Rattle.stated_limits.specs.Limits.{last_number};
-ghost use Rattle.run_plan.specs.SmallText.{number_of};
+ghost use Rattle.definitions.specs.Limits.{last_number};
+ghost use Rattle.definitions.specs.SmallText.{number_of};
 
 use crate::decimal::decimal_of;
 use std::marker::Model;
@@ -16,7 +16,7 @@ pub struct Number {
 
 impl Model for Number {
     ghost use Rattle.std.specs.Prelude.{ℕ, ◌≤◌};
-    ghost use Rattle.stated_limits.specs.Limits.{last_number};
+    ghost use Rattle.definitions.specs.Limits.{last_number};
 
     ghost Value = { ℕ };
 

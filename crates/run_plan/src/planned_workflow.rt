@@ -2,7 +2,7 @@
 
 ghost use Rattle.std.specs.Prelude.{◌≡◌, ◌<◌, ◌≤◌, Err, IfOk, false, length};
 ghost use Rattle.std.specs.Str.{is_utf8};
-ghost use Rattle.stated_limits.specs.Limits.{max_body};
+ghost use Rattle.definitions.specs.Limits.{max_body};
 ghost use Rattle.wf_value.specs.declared.code.Code.TheVariants.{NotJson, TooLong};
 ghost use Rattle.wf_value.specs.declared.refusal.Refusal.TheVariants.{Numbered};
 ghost use Rattle.wf_value.specs.Gives.{Gives};

@@ -1,6 +1,6 @@
 ghost use Rattle.std.specs.Prelude.{◌≡◌, ◌<◌, ◌≤◌, [], Err, Ok, false, length, option_copied};
 ghost use Rattle.std.specs.Str.{is_utf8};
-ghost use Rattle.stated_limits.specs.Limits.{max_body};
+ghost use Rattle.definitions.specs.Limits.{max_body};
 ghost use Rattle.wf_value.specs.declared.code.Code.TheVariants.{NotJson, TooLong};
 ghost use Rattle.wf_value.specs.declared.refusal.Refusal.TheVariants.{Numbered};
 ghost use Rattle.wf_value.specs.Gives.{Gives};
@@ -40,7 +40,7 @@ impl Model for Prepared {
     ghost use Rattle.std.specs.Arc.{arc_value};
     ghost use Rattle.std.specs.Prelude.{◌≡◌, []};
     ghost use Rattle.wf_reader.specs.Event.{event_of};
-    ghost use Rattle.run_plan.specs.Admitted.{Admitted, coded_admitted};
+    ghost use Rattle.definitions.specs.Admitted.{Admitted, coded_admitted};
     ghost use Rattle.run_plan.specs.PlanOf.{faults_of};
     ghost use Rattle.run_plan.specs.PlannedWorkflows.{IsPlanned};
 

@@ -1,7 +1,7 @@
 ghost use Rattle.std.specs.Prelude.{◌≡◌, false, IsTrue, Ok, None};
 ghost use Rattle.std.specs.List.{list_all};
 ghost use Rattle.wf_value.specs.Gives.{Gives};
-ghost use Rattle.run_plan.specs.SmallText.{is_of_short_length, is_short, short_text_of};
+ghost use Rattle.definitions.specs.SmallText.{is_of_short_length, is_short, short_text_of};
 
 use crate::form::{DeliveryForm, EventForm, Form, LabelForm, RunnerForm};
 use crate::utf8::text_of;
@@ -21,7 +21,7 @@ pub struct SmallText<F: Form> {
 
 impl<F: Form> Model for SmallText<F> {
     ghost use Rattle.std.specs.Prelude.{List, ℕ, IsTrue};
-    ghost use Rattle.run_plan.specs.SmallText.{is_short};
+    ghost use Rattle.definitions.specs.SmallText.{is_short};
 
     ghost Value = { List ℕ };
 

@@ -11,7 +11,7 @@ use Rattle.wf_value.specs.declared.outcome.JobResult.{JobResult}
 use Rattle.needs_graph.specs.Ancestors.{needs_at}
 use Rattle.needs_graph.specs.Results.{gathered}
 use Rattle.needs_graph.specs.declared.ended.LegEnd.{LegEnd}
-use Rattle.run_plan.specs.Admitted.{Admitted}
+use Rattle.definitions.specs.Admitted.{Admitted}
 use Rattle.run_plan.specs.PlanOf.{plan_graph, plan_of}
 use Rattle.run_plan.specs.declared.planned.PlannedJob.{PlannedJob}
 use Rattle.run_states.specs.FirstOf.{placed}

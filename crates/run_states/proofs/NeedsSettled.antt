@@ -11,7 +11,7 @@ use Rattle.wf_value.specs.declared.condition.Condition.{Condition}
 use Rattle.wf_value.specs.declared.outcome.JobResult.{JobResult}
 use Rattle.needs_graph.specs.Ancestors.{needs_at}
 use Rattle.needs_graph.specs.Conditions.{condition_value, ancestor_results as results_of_ancestors}
-use Rattle.run_plan.specs.Admitted.{Admitted}
+use Rattle.definitions.specs.Admitted.{Admitted}
 use Rattle.run_plan.specs.PlanOf.{plan_of, plan_graph}
 use Rattle.run_states.specs.Cells.{JobCells, result_of, states}
 use Rattle.run_states.specs.Places.{run_at}

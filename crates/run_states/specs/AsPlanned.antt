@@ -1,6 +1,6 @@
 -- Runs that match their plans: each has the jobs of its plan, and each job has none of its legs or all.
 use Rattle.std.specs.Prelude.{◌≡◌, ◌⊎◌, ℕ, ◌≤◌, List, [], length, slice_get, Some}
-use Rattle.stated_limits.specs.Limits.{max_runs}
+use Rattle.definitions.specs.Limits.{max_runs}
 use Rattle.run_plan.specs.PlanOf.{plan_of}
 use Rattle.run_plan.specs.declared.planned.PlannedJob.{PlannedJob}
 use Rattle.run_states.specs.Places.{run_at}

@@ -13,7 +13,7 @@ use Rattle.wf_reader.specs.Contexts.{sent_value}
 use Rattle.wf_reader.specs.Event.{event_of}
 use Rattle.wf_reader.specs.declared.concurrency.Concurrency.{Concurrency}
 use Rattle.group_name.specs.Group.{Group, group_of}
-use Rattle.run_plan.specs.Admitted.{Admitted}
+use Rattle.definitions.specs.Admitted.{Admitted}
 use Rattle.run_plan.specs.declared.planned.PlannedJob.{PlannedJob}
 use Rattle.run_states.specs.LegContext.{LegFacts, context_of, facts_at, github_of_run, under}
 use Rattle.run_states.specs.Places.{run_at}

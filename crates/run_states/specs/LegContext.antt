@@ -13,7 +13,7 @@ use Rattle.wf_value.specs.declared.scalar.Scalar.TheVariants.{Truth, Whole, Text
 use Rattle.wf_expr.specs.ContextValue.{Values, over}
 use Rattle.wf_reader.specs.Contexts.{sent_value}
 use Rattle.wf_reader.specs.Event.{event_of}
-use Rattle.run_plan.specs.Admitted.{Admitted}
+use Rattle.definitions.specs.Admitted.{Admitted}
 use Rattle.run_plan.specs.PlanOf.{plan_of}
 use Rattle.run_plan.specs.declared.planned.PlannedJob.{PlannedJob}
 use Rattle.run_states.specs.JobResults.{direct_needs}

@@ -3,7 +3,7 @@
 -- again; "Contexts reference" (github.run_attempt). This project defines leases.
 use Rattle.std.specs.Prelude.{ℕ, ◌+◌, List, [], map, Bool, false, Some}
 use Rattle.std.specs.Str.{bytes_eq}
-use Rattle.run_plan.specs.Admitted.{Admitted}
+use Rattle.definitions.specs.Admitted.{Admitted}
 use Rattle.run_plan.specs.PlanOf.{plan_of}
 use Rattle.run_states.specs.RunState.{LegState, JobState, RunState}
 use Rattle.run_states.specs.declared.phases.JobPhase.TheVariants as job

@@ -2,9 +2,9 @@
 -- defines that a workflow is identified by its repository and its path.
 use Rattle.std.specs.Prelude.{◌≡◌, ℕ, ◌+◌, ◌≤◌, ◌&&◌, List, [], ◌∷◌, ◌++◌, map, length, take, count_by, Bool}
 use Rattle.std.specs.Str.{bytes_eq}
-use Rattle.stated_limits.specs.Limits.{max_runs}
+use Rattle.definitions.specs.Limits.{max_runs}
 use Rattle.wf_reader.specs.Event.{event_of}
-use Rattle.run_plan.specs.Admitted.{Admitted}
+use Rattle.definitions.specs.Admitted.{Admitted}
 use Rattle.run_states.specs.RunState.{RunState}
 
 -- the events of runs

@@ -1,7 +1,7 @@
 -- A run with its jobs and their legs, as contracts see it. It omits what follows from the rest, such as a run's number, a leg's labels and
 -- a run's conclusion.
 use Rattle.std.specs.Prelude.{ℕ, List, Bool, Option}
-use Rattle.run_plan.specs.Admitted.{Admitted}
+use Rattle.definitions.specs.Admitted.{Admitted}
 use Rattle.run_states.specs.declared.phases.JobPhase.{JobPhase}
 use Rattle.run_states.specs.declared.phases.LegPhase.{LegPhase}
 use Rattle.run_states.specs.declared.phases.RunPhase.{RunPhase}

@@ -1,6 +1,6 @@
 ghost use Rattle.std.specs.Prelude.{◌≡◌, ◌&&◌, ◌<◌, None, Ok, is_some, length, map, not, option_map, slice_get, true};
 ghost use Rattle.std.specs.List.{list_any, slice_index_or};
-ghost use Rattle.stated_limits.specs.Limits.{last_attempt};
+ghost use Rattle.definitions.specs.Limits.{last_attempt};
 ghost use Rattle.wf_value.specs.Gives.{Gives};
 ghost use Rattle.run_plan.specs.PlanOf.{plan_of};
 ghost use Rattle.run_states.specs.ActiveRuns.{has_active_leg, has_ready_leg, is_active, offers_legs};

@@ -7,10 +7,10 @@ use Rattle.std.proofs.lemmas.Bool.{cases_eq, leb-false, true≢false}
 use Rattle.std.proofs.lemmas.List.{length-map}
 use Rattle.std.proofs.lemmas.Option.{same_Some, slice_get-map, slice_get_past, slice_get_within}
 use Rattle.std.proofs.lemmas.Slice.Eq.{bytes_eq-Decides}
-use Rattle.stated_limits.specs.Limits.{last_attempt}
+use Rattle.definitions.specs.Limits.{last_attempt}
 use Rattle.wf_value.specs.declared.code.Code.TheVariants.{LastCounter}
 use Rattle.wf_value.proofs.OptionOr.{or_nothing}
-use Rattle.run_plan.specs.Admitted.{Admitted}
+use Rattle.definitions.specs.Admitted.{Admitted}
 use Rattle.run_plan.specs.PlanOf.{plan_of}
 use Rattle.run_plan.specs.declared.planned.PlannedJob.{PlannedJob}
 use Rattle.run_plan.specs.declared.reply.Reply.TheVariants as reply
@@ -18,10 +18,10 @@ use Rattle.run_states.specs.Parallel.{legs_at_work}
 use Rattle.run_states.specs.Places.{run_at}
 use Rattle.run_states.specs.declared.place.LegSite.{LegSite}
 use Rattle.run_states.specs.Rules.{result_at}
-use Rattle.run_table.specs.Sound.{AttemptsAreGiven, DeliveriesDiffer, ParallelIsBounded}
-use Rattle.run_table.specs.Step.{admission_answer, refused}
+use Rattle.run_states.specs.Sound.{AttemptsAreGiven, DeliveriesDiffer, ParallelIsBounded}
+use Rattle.run_states.specs.Step.{admission_answer, refused}
 use Rattle.run_states.specs.NewRun.{is_delivered_as, blocked_job, new_run, run_in_attempt}
-use Rattle.run_table.specs.TableState.{TableState}
+use Rattle.run_states.specs.TableState.{TableState}
 use Rattle.run_states.specs.RunState.{LegState, JobState, RunState}
 use Rattle.run_states.specs.Words.{planned_legs}
 use Rattle.run_states.proofs.Found.{none_found, found_nowhere, each_at, at_the_end, before_the_end}

@@ -9,7 +9,7 @@ use Rattle.run_plan.specs.declared.planned.PlannedJob.{PlannedJob}
 use Rattle.run_states.specs.Parallel.{is_at_work, legs_at_work, most_at_work}
 use Rattle.run_states.specs.Places.{job_at, leg_site}
 use Rattle.run_states.specs.declared.place.LegSite.{LegSite}
-use Rattle.run_table.specs.Sound.{ParallelIsBounded}
+use Rattle.run_states.specs.Sound.{ParallelIsBounded}
 use Rattle.run_states.specs.RunState.{LegState, JobState, RunState}
 use Rattle.run_states.specs.SoundRuns.{LeaseFits}
 use Rattle.run_states.specs.declared.phases.LegPhase.{LegPhase}

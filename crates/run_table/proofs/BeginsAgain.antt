@@ -4,7 +4,7 @@ use Rattle.std.specs.Prelude.{slice_get, if◌then◌else◌, refl}
 use Rattle.std.specs.Option.{option_map_or}
 use Rattle.std.proofs.Common.{inl, inr, subst}
 use Rattle.std.proofs.lemmas.Bool.{eqb-true, leb-false}
-use Rattle.stated_limits.specs.Limits.{last_attempt}
+use Rattle.definitions.specs.Limits.{last_attempt}
 use Rattle.wf_value.specs.declared.code.Code.TheVariants.{LastCounter, NoRun, RunNotCompleted}
 use Rattle.wf_value.specs.declared.outcome.JobResult.{JobResult}
 use Rattle.wf_value.specs.declared.refusal.Refusal.TheVariants.{Turn}
@@ -24,8 +24,8 @@ use Rattle.run_states.specs.declared.phases.LegPhase.{LegPhase}
 use Rattle.run_states.specs.declared.phases.LegPhase.TheVariants as leg
 use Rattle.run_states.specs.declared.phases.RunPhase.{RunPhase}
 use Rattle.run_states.specs.declared.phases.RunPhase.TheVariants as run
-use Rattle.run_table.specs.Step.{answer_of_attempt, answer_of_next, has_completed, refused, rerun_answer}
-use Rattle.run_table.specs.TableState.{TableState}
+use Rattle.run_states.specs.Step.{answer_of_attempt, answer_of_next, has_completed, refused, rerun_answer}
+use Rattle.run_states.specs.TableState.{TableState}
 use Rattle.run_states.proofs.JobKeeps.{no_leg}
 use Rattle.run_states.proofs.LegReads.{work_of, works_in, works_in_job}
 use Rattle.run_states.proofs.Optional.{each_passes}

@@ -6,7 +6,7 @@ use Rattle.std.specs.Option.{option_map_or}
 use Rattle.std.proofs.Common.{arith, ap, sym, ◌∙◌, subst, inl, inr}
 use Rattle.std.proofs.lemmas.Bool.{cases_eq, and_parts, leb-false, ltb-true}
 use Rattle.std.proofs.lemmas.Option.{none-some, slice_get_within}
-use Rattle.stated_limits.specs.Limits.{last_number}
+use Rattle.definitions.specs.Limits.{last_number}
 use Rattle.wf_value.specs.declared.code.Code.TheVariants.{HasLease, LastCounter}
 use Rattle.wf_value.proofs.OptionOr.{or_nothing}
 use Rattle.run_plan.specs.declared.command.Claim.{Claim as Claimed}
@@ -18,18 +18,18 @@ use Rattle.run_states.specs.Places.{job_at, leg_at, leg_sites, run_at, with_leg}
 use Rattle.run_states.specs.declared.place.LegSite.{LegSite}
 use Rattle.run_states.specs.Rules.{leg_has_ended, result_at}
 use Rattle.run_plan.specs.LastCommand.{is_last_claim}
-use Rattle.run_table.specs.Sound.{IsLastOf, ParallelIsBounded}
+use Rattle.run_states.specs.Sound.{IsLastOf, ParallelIsBounded}
 use Rattle.wf_value.specs.declared.outcome.JobResult.{JobResult}
 use Rattle.run_states.specs.SoundRuns.{LeaseFits, LegsFit}
 use Rattle.run_states.specs.Words.{planned_legs}
 use Rattle.run_states.specs.declared.phases.JobPhase.{JobPhase}
 use Rattle.run_states.specs.declared.phases.JobPhase.TheVariants as job
 use Rattle.run_states.proofs.Optional.{from_and_then, from_map}
-use Rattle.run_table.specs.Step.{refused, has_no_lease_left, claim_answer, claiming_runner, kept_lease_at}
+use Rattle.run_states.specs.Step.{refused, has_no_lease_left, claim_answer, claiming_runner, kept_lease_at}
 use Rattle.run_states.specs.NewRun.{leased_leg}
-use Rattle.run_table.specs.TableState.{RunnerState, TableState}
+use Rattle.run_states.specs.TableState.{RunnerState, TableState}
 use Rattle.run_states.specs.RunState.{LegState, JobState, RunState}
-use Rattle.run_table.specs.SequenceNumbers.{runner_named, answer_by_number, with_runner, holds_lease}
+use Rattle.run_states.specs.SequenceNumbers.{runner_named, answer_by_number, with_runner, holds_lease}
 use Rattle.run_plan.specs.declared.last_command.ClaimReply.TheVariants as given
 use Rattle.run_states.specs.declared.phases.LegPhase.{LegPhase}
 use Rattle.run_states.specs.declared.phases.LegPhase.TheVariants as leg

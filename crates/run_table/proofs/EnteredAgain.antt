@@ -6,7 +6,7 @@ use Rattle.std.specs.Option.{option_map_or}
 use Rattle.std.proofs.Common.{arith, ap, inl, inr, sym, ◌∙◌, subst}
 use Rattle.std.proofs.lemmas.Bool.{and_from, and_parts, cases_eq, false≢true}
 use Rattle.std.proofs.lemmas.Option.{none-some, same_Some}
-use Rattle.stated_limits.specs.Limits.{last_attempt}
+use Rattle.definitions.specs.Limits.{last_attempt}
 use Rattle.group_name.specs.Group.{Group, same_group}
 use Rattle.run_plan.specs.PlanOf.{plan_of}
 use Rattle.run_states.specs.GroupOf.{group_at}
@@ -20,9 +20,9 @@ use Rattle.run_states.specs.RunNumber.{events}
 use Rattle.run_states.specs.RunState.{LegState, JobState, RunState}
 use Rattle.run_states.specs.StateWords.{is_live}
 use Rattle.run_states.specs.declared.phases.LegPhase.{LegPhase}
-use Rattle.run_table.specs.Sound.{AttemptsAreGiven}
-use Rattle.run_table.specs.Step.{entered_again}
-use Rattle.run_table.specs.TableState.{TableState}
+use Rattle.run_states.specs.Sound.{AttemptsAreGiven}
+use Rattle.run_states.specs.Step.{entered_again}
+use Rattle.run_states.specs.TableState.{TableState}
 use Rattle.run_states.proofs.Changed.{at_another, at_changed, length-changed_at}
 use Rattle.run_states.proofs.LeaseReads.{LeasesAgree}
 use Rattle.run_states.proofs.LegFacts.{SameUpTo, attempt_at, facts_stay}

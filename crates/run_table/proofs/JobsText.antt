@@ -3,7 +3,7 @@ use Rattle.std.proofs.Common.{◌≡◌, ℕ, List, [], ◌∷◌, ◌++◌, len
 use Rattle.std.proofs.lemmas.List.{append-nil}
 use Rattle.run_plan.specs.declared.planned.PlannedJob.{PlannedJob}
 use Rattle.run_states.specs.Cells.{JobCells, states}
-use Rattle.run_table.specs.ViewText.{jobs_text}
+use Rattle.run_states.specs.ViewText.{jobs_text}
 
 pub no_plan_left : (plan : List PlannedJob) (jobs : List JobCells) → length plan ≡ 0 → jobs_text plan (states jobs) ≡ []
 no_plan_left [] jobs e = refl

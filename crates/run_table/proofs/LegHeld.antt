@@ -17,8 +17,8 @@ use Rattle.run_states.proofs.JobKeeps.{leg_in}
 use Rattle.run_states.proofs.Optional.{From, from_and_then}
 use Rattle.run_states.proofs.RunFits.{job_in_run}
 use Rattle.settling_laws.proofs.HolderPlaces.{each_leg_place}
-use Rattle.run_table.specs.Sound.{IsSound}
-use Rattle.run_table.specs.TableState.{TableState}
+use Rattle.run_states.specs.Sound.{IsSound}
+use Rattle.run_states.specs.TableState.{TableState}
 use Rattle.run_table.proofs.ReportKeeps.{has_it}
 use Rattle.run_table.proofs.Storable.{legs_few}
 

@@ -6,8 +6,8 @@ use Rattle.run_plan.specs.PlanOf.{plan_of}
 use Rattle.run_plan.specs.declared.command.Attempt.{Attempt}
 use Rattle.run_plan.specs.declared.command.Command.TheVariants as command
 use Rattle.run_plan.specs.declared.reply.Reply.TheVariants as reply
-use Rattle.run_table.specs.Step.{empty, refused, step}
-use Rattle.run_table.specs.TableState.{TableState}
+use Rattle.run_states.specs.Step.{empty, refused, step}
+use Rattle.run_states.specs.TableState.{TableState}
 use Rattle.run_states.specs.NewRun.{again, blocked_job}
 use Rattle.run_states.specs.declared.phases.RunPhase.{RunPhase}
 use Rattle.run_states.specs.declared.phases.RunPhase.TheVariants as run

@@ -10,10 +10,10 @@ use Rattle.run_states.specs.Rules.{rule_at}
 use Rattle.run_states.specs.RunState.{RunState}
 use Rattle.run_states.specs.Settling.{settled}
 use Rattle.settling_laws.proofs.Rests.{settled_at_rest}
-use Rattle.run_table.specs.Sound.{IsSound}
-use Rattle.run_table.specs.Step.{claiming_runner, outcome, serving_nothing}
-use Rattle.run_table.specs.TableState.{RunnerState, TableState}
-use Rattle.run_table.specs.SequenceNumbers.{with_runner}
+use Rattle.run_states.specs.Sound.{IsSound}
+use Rattle.run_states.specs.Step.{claiming_runner, outcome, serving_nothing}
+use Rattle.run_states.specs.TableState.{RunnerState, TableState}
+use Rattle.run_states.specs.SequenceNumbers.{with_runner}
 
 abbrev table_of : ℕ → List RunState → List RunnerState → TableState
 table_of last runs runners = record { last_lease = last; runs = runs; runners = runners }

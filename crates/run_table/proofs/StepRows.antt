@@ -24,10 +24,10 @@ use Rattle.run_states.specs.Moves.{without_moves}
 use Rattle.run_states.specs.Places.{with_job}
 use Rattle.run_states.specs.Rules.{decided, may_run, new_leg, opened, rule_at, finished_as}
 use Rattle.run_states.specs.Settling.{settled, first_site, first_rule, remaining_phases}
-use Rattle.run_table.specs.Step.{step, empty, claiming_runner, reporting_runner, refused}
+use Rattle.run_states.specs.Step.{step, empty, claiming_runner, reporting_runner, refused}
 use Rattle.run_states.specs.NewRun.{blocked_job, leased_leg}
 use Rattle.run_states.specs.Stops.{with_stopped_legs}
-use Rattle.run_table.specs.TableState.{RunnerState, TableState}
+use Rattle.run_states.specs.TableState.{RunnerState, TableState}
 use Rattle.run_states.specs.RunState.{LegState, JobState, RunState}
 use Rattle.run_states.specs.Words.{all_have_results, is_set_for, needs_have_finished, planned_legs}
 use Rattle.run_plan.specs.declared.last_command.ClaimReply.TheVariants as given

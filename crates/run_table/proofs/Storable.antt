@@ -16,11 +16,11 @@ use Rattle.run_states.specs.declared.place.LegSite.{LegSite}
 use Rattle.run_states.specs.Rules.{leg_has_ended, is_live, is_finished, job_sites, leg_rule, leg_rule_in, outcome_of, places, result_at}
 use Rattle.run_states.specs.Rules.{run_sites}
 use Rattle.run_states.specs.Settling.{applies, first_site}
-use Rattle.run_table.specs.Sound.{IsSound}
+use Rattle.run_states.specs.Sound.{IsSound}
 use Rattle.run_states.specs.SoundRuns.{LegsFit, PhaseFits}
 use Rattle.run_table.specs.Storable.{IsStorable, LegsAreFew}
 use Rattle.run_states.specs.StateWords.{is_new}
-use Rattle.run_table.specs.TableState.{TableState}
+use Rattle.run_states.specs.TableState.{TableState}
 use Rattle.run_states.specs.RunState.{LegState, JobState, RunState}
 use Rattle.run_states.specs.Words.{planned_legs}
 use Rattle.run_states.specs.declared.phases.JobPhase.{JobPhase}

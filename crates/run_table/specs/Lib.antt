@@ -1,11 +1,3 @@
-pub mod Claims
-pub mod Histories
 pub mod IndexNamed
-pub mod KeptSite
 pub mod RunnerSizes
-pub mod SequenceNumbers
-pub mod Sound
-pub mod Step
 pub mod Storable
-pub mod TableState
-pub mod ViewText

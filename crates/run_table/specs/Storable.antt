@@ -1,13 +1,13 @@
 -- What makes a table storable: a run has as many jobs as its plan, a leg count of a job fits in four bytes, and no leg is new, since new legs have no
 -- encoding.
 use Rattle.std.specs.Prelude.{◌≡◌, ℕ, ◌≤◌, List, length, false, Some}
-use Rattle.stated_limits.specs.Limits.{max_runs}
+use Rattle.definitions.specs.Limits.{max_runs}
 use Rattle.run_states.specs.Places.{job_at, leg_at}
 use Rattle.run_states.specs.declared.place.LegSite.{LegSite}
 use Rattle.run_states.specs.RunState.{LegState, JobState, RunState}
 use Rattle.run_states.specs.SoundRuns.{JobsAreThePlans}
 use Rattle.run_states.specs.StateWords.{is_new}
-use Rattle.run_table.specs.Sound.{AttemptsAreGiven}
+use Rattle.run_states.specs.Sound.{AttemptsAreGiven}
 
 -- after settling none is
 abbrev pub NoLegIsNew : List RunState → Type 0

@@ -1,11 +1,11 @@
 ghost use Rattle.std.specs.Prelude.{◌≡◌, ◌≤◌, ◌*◌, length, sum_by, true, IfOk, Ok, OnErr, IsOk};
-ghost use Rattle.stated_limits.specs.Limits.{last_number};
+ghost use Rattle.definitions.specs.Limits.{last_number};
 ghost use Rattle.wf_value.specs.Gives.{Gives};
 ghost use Rattle.run_table.specs.RunnerSizes.{max_runner_size, runner_size};
-ghost use Rattle.run_table.specs.Sound.{IsSound};
+ghost use Rattle.run_states.specs.Sound.{IsSound};
 ghost use Rattle.run_table.specs.Storable.{IsStorable};
-ghost use Rattle.run_table.specs.Step.{read_only_reply, empty, is_allocation_free, seen, step};
-ghost use Rattle.run_table.specs.SequenceNumbers.{names_rise};
+ghost use Rattle.run_states.specs.Step.{read_only_reply, empty, is_allocation_free, seen, step};
+ghost use Rattle.run_states.specs.SequenceNumbers.{names_rise};
 
 use crate::runner::Runner;
 use crate::runners::Runners;
@@ -25,8 +25,8 @@ pub struct Table {
 }
 
 impl Model for Table {
-    ghost use Rattle.run_table.specs.TableState.{TableState};
-    ghost use Rattle.run_table.specs.Sound.{IsSound};
+    ghost use Rattle.run_states.specs.TableState.{TableState};
+    ghost use Rattle.run_states.specs.Sound.{IsSound};
 
     ghost Value = { TableState };
 

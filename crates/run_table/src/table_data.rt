@@ -1,13 +1,13 @@
 //! The contents of a table, and a step of it. The modules below carry out the commands.
 
 ghost use Rattle.std.specs.Prelude.{◌≡◌, ◌<◌, ◌+◌, ◌-◌, true, false, Ok, IfOk, OnErr, IsOk};
-ghost use Rattle.stated_limits.specs.Limits.{max_runs};
+ghost use Rattle.definitions.specs.Limits.{max_runs};
 ghost use Rattle.wf_value.specs.Gives.{Gives};
 ghost use Rattle.run_plan.specs.ReplyText.{carries_text};
-ghost use Rattle.run_table.specs.Claims.{is_claim};
-ghost use Rattle.run_table.specs.Sound.{IsSound};
-ghost use Rattle.run_table.specs.Step.{empty, is_allocation_free, read_only_reply, refused, step};
-ghost use Rattle.run_table.specs.SequenceNumbers.{names_rise};
+ghost use Rattle.run_states.specs.Claims.{is_claim};
+ghost use Rattle.run_states.specs.Sound.{IsSound};
+ghost use Rattle.run_states.specs.Step.{empty, is_allocation_free, read_only_reply, refused, step};
+ghost use Rattle.run_states.specs.SequenceNumbers.{names_rise};
 
 mod admissions;
 mod cancellations;
@@ -36,7 +36,7 @@ pub struct TableData {
 }
 
 impl Model for TableData {
-    ghost use Rattle.run_table.specs.TableState.{TableState};
+    ghost use Rattle.run_states.specs.TableState.{TableState};
 
     ghost Value = { TableState };
 

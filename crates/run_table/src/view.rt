@@ -1,6 +1,6 @@
 ghost use Rattle.std.specs.Prelude.{◌≡◌, IfOk, Ok, string_bytes};
 ghost use Rattle.wf_value.specs.Gives.{Gives};
-ghost use Rattle.run_table.specs.ViewText.{number_text, seen_of, seen_text};
+ghost use Rattle.run_states.specs.ViewText.{number_text, seen_of, seen_text};
 
 use crate::view_text::{conclusion_word, push_jobs, status_word};
 use run_plan::Number;
@@ -23,7 +23,7 @@ pub struct RunView<'a> {
 }
 
 impl<'a> Model for RunView<'a> {
-    ghost use Rattle.run_table.specs.ViewText.{Seen};
+    ghost use Rattle.run_states.specs.ViewText.{Seen};
 
     ghost Value = { Seen };
 

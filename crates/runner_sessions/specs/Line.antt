@@ -4,7 +4,7 @@ use Rattle.std.specs.List.{All}
 use Rattle.std.specs.Option.{option_map_or}
 use Rattle.std.specs.Str.{bytes_eq}
 use Rattle.std.specs.Str.Lines.{strip_carriage_return}
-use Rattle.stated_limits.specs.Limits.{max_line, max_lines}
+use Rattle.definitions.specs.Limits.{max_line, max_lines}
 use Rattle.wf_value.specs.RefusalText.{refusal_text}
 use Rattle.wf_value.specs.declared.refusal.Refusal.{Refusal}
 use Rattle.run_plan.specs.ReplyText.{reply_text}

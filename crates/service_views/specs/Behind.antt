@@ -1,7 +1,7 @@
 -- What a reader of the changes of a service gets.
 use Rattle.std.specs.Prelude.{◌≡◌, ℕ, ◌+◌, ◌-◌, ◌<◌, List, ◌++◌, codes, drop, length, min, string_bytes, take, true, false}
 use Rattle.std.specs.List.{flat_map}
-use Rattle.covered_log.specs.Limits.{page_lines}
+use Rattle.definitions.specs.Limits.{page_lines}
 use Rattle.covered_log.specs.Lines.{lines_of}
 use Rattle.covered_log.specs.LogState.{LogState, is_known}
 use Rattle.view_sessions.specs.Cursors.{cursor_from, cursor_text}

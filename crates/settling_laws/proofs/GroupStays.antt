@@ -5,7 +5,7 @@ use Rattle.std.specs.Fmt.{decimal}
 use Rattle.std.specs.Option.{option_map_or}
 use Rattle.std.proofs.Common.{arith, ap, sym, ◌∙◌}
 use Rattle.std.proofs.lemmas.Option.{same_Some, slice_get-map}
-use Rattle.run_plan.specs.Admitted.{Admitted}
+use Rattle.definitions.specs.Admitted.{Admitted}
 use Rattle.run_states.specs.GroupOf.{RunFacts, cancels_in_progress, group_at, leg_cancels, leg_group, run_cancels, run_facts_at, run_group}
 use Rattle.run_states.specs.Holders.{run_of}
 use Rattle.run_states.specs.LegContext.{facts_at}

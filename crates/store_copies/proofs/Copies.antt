@@ -5,9 +5,9 @@ use Rattle.std.proofs.Math.Seq.{drop-append-add, take-append-add}
 use Rattle.std.proofs.lemmas.List.{drop-replicate, length-replicate, take-replicate}
 use Rattle.std.specs.Int.{to_be_bytes, w64}
 use Rattle.gated_journal.specs.Choice.{newer, open_generation}
-use Rattle.gated_journal.specs.Layout.{IsClosed, Reads, head_bytes}
+use Rattle.definitions.specs.Area.{IsClosed, Reads, head_bytes}
 use Rattle.gated_journal.specs.declared.side.Side.TheVariants.{First}
-use Rattle.run_table.specs.TableState.{TableState}
+use Rattle.run_states.specs.TableState.{TableState}
 use Rattle.act_store.specs.Images.{IsAreaLength, RecoversTo}
 use Rattle.act_store.specs.Meaning.{MeansTable}
 use Rattle.act_store.specs.TableText.{EncodesTable}

@@ -1,7 +1,7 @@
 -- A sound table is encoded by its text.
 use Rattle.std.proofs.Common.{refl}
-use Rattle.run_table.specs.Sound.{IsSound}
-use Rattle.run_table.specs.TableState.{TableState}
+use Rattle.run_states.specs.Sound.{IsSound}
+use Rattle.run_states.specs.TableState.{TableState}
 use Rattle.stored_tables.specs.Stored.{stored_table}
 use Rattle.table_text.specs.Tables.{table}
 use Rattle.table_text.specs.WholeTables.{whole_table}

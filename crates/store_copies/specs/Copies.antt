@@ -1,8 +1,8 @@
 -- The bytes of a store file that has a table and no record.
 use Rattle.std.specs.Prelude.{ℕ, ◌-◌, List, ◌∷◌, ◌++◌, length, nat_le, replicate, Bool, ◌&&◌}
-use Rattle.stated_limits.specs.Limits.{max_area, min_area}
-use Rattle.gated_journal.specs.Layout.{Head, head_bytes}
-use Rattle.run_table.specs.TableState.{TableState}
+use Rattle.definitions.specs.Limits.{max_area, min_area}
+use Rattle.definitions.specs.Area.{Head, head_bytes}
+use Rattle.run_states.specs.TableState.{TableState}
 use Rattle.table_text.specs.WholeTables.{whole_table}
 use Rattle.act_store.specs.Layouts.{current_version}
 use Rattle.view_sessions.specs.declared.file_bytes.FileBytes.{FileBytes}

@@ -8,7 +8,7 @@ use Rattle.stored_tables.specs.ByNumber.{Adds}
 use Rattle.run_states.specs.PlacedLegs.{PlacedLeg, placed_legs}
 use Rattle.run_states.specs.Places.{job_at, leg_at, run_at}
 use Rattle.run_states.specs.declared.place.LegSite.{LegSite}
-use Rattle.run_table.specs.TableState.{RunnerState}
+use Rattle.run_states.specs.TableState.{RunnerState}
 use Rattle.run_states.specs.RunState.{LegState, JobState, RunState}
 use Rattle.stored_tables.proofs.ByNumberRead.{adds_next, adds_on, adds_same, all_added, nothing_added}
 use Rattle.run_states.proofs.Found.{all_weaken}

@@ -5,7 +5,7 @@ use Rattle.std.specs.Cmp.Lexicographic.{slice_cmp}
 use Rattle.std.specs.Option.{option_map_or}
 use Rattle.std.specs.Ordering.{is_lt, nat_cmp}
 use Rattle.std.proofs.Common.{arith, ap, ap₂, sym, subst, ◌∙◌, inl, inr}
-use Rattle.wf_value.specs.Names.{rises_by}
+use Rattle.definitions.specs.Rising.{rises_by}
 use Rattle.wf_value.specs.declared.outcome.JobResult.{JobResult}
 use Rattle.run_plan.specs.PlanOf.{plan_of}
 use Rattle.run_plan.specs.declared.last_command.ClaimReply.{ClaimReply}
@@ -17,16 +17,16 @@ use Rattle.run_plan.specs.declared.planned.PlannedJob.{PlannedJob}
 use Rattle.run_plan.specs.declared.reply.Lease.{Lease}
 use Rattle.run_states.specs.Places.{leg_at, plan_at, run_at}
 use Rattle.run_states.specs.declared.place.LegSite.{LegSite}
-use Rattle.run_table.specs.Sound.{IsOfALeg, IsSound, LeasesDiffer}
+use Rattle.run_states.specs.Sound.{IsOfALeg, IsSound, LeasesDiffer}
 use Rattle.run_states.specs.SoundRuns.{LegsFit}
-use Rattle.run_table.specs.Step.{lease_at}
+use Rattle.run_states.specs.Step.{lease_at}
 use Rattle.stored_tables.specs.Stored.{RunnerParts, TableParts, stored_site}
 use Rattle.stored_tables.specs.TableOf.{AreRunnersAs, IsLastAs, IsLeaseAs, IsNoTable, IsPlacedAs, IsReplyAs, IsRunnerAs, IsStoredAs}
 use Rattle.run_states.specs.AsPlanned.{AreAsPlanned, HasRoom}
-use Rattle.run_table.specs.TableState.{RunnerState, TableState}
+use Rattle.run_states.specs.TableState.{RunnerState, TableState}
 use Rattle.run_states.specs.Groups.{HasOneEach}
 use Rattle.run_states.specs.RunState.{LegState, RunState}
-use Rattle.run_table.specs.SequenceNumbers.{names_rise}
+use Rattle.run_states.specs.SequenceNumbers.{names_rise}
 use Rattle.stored_tables.specs.declared.parts.LastParts.{LastParts}
 use Rattle.stored_tables.specs.declared.parts.LastParts.TheVariants as stored
 use Rattle.stored_tables.specs.declared.parts.StoredLease.{StoredLease}

@@ -9,10 +9,10 @@ use Rattle.run_plan.specs.declared.last_command.KeptLease.{KeptLease}
 use Rattle.run_plan.specs.declared.last_command.LastCommand.{LastCommand}
 use Rattle.run_plan.specs.declared.last_command.LastCommand.TheVariants as last
 use Rattle.run_states.specs.RunState.{RunState}
-use Rattle.run_table.specs.Sound.{IsSound, KeptIsOfALeg}
+use Rattle.run_states.specs.Sound.{IsSound, KeptIsOfALeg}
 use Rattle.stored_tables.specs.Stored.{RunnerParts, TableParts, stored_last, stored_lease, stored_site, stored_runner, stored_table}
 use Rattle.stored_tables.specs.TableOf.{AreRunnersAs, IsLastAs, IsPlacedAs, IsRunnerAs, IsStoredAs}
-use Rattle.run_table.specs.TableState.{RunnerState, TableState}
+use Rattle.run_states.specs.TableState.{RunnerState, TableState}
 use Rattle.stored_tables.specs.declared.parts.LastParts.{LastParts}
 use Rattle.stored_tables.specs.declared.parts.LastParts.TheVariants as stored
 use Rattle.stored_tables.specs.declared.parts.StoredSite.{StoredSite}

@@ -1,10 +1,10 @@
 -- The leases of legs, by place, and the leases that runners hold.
 use Rattle.std.specs.Prelude.{ℕ, ◌≤◌, List, Option, length, option_and_then, slice_get}
-use Rattle.stated_limits.specs.Limits.{max_runs}
+use Rattle.definitions.specs.Limits.{max_runs}
 use Rattle.stored_tables.specs.ByNumber.{Finds}
 use Rattle.run_states.specs.Places.{run_at}
 use Rattle.run_states.specs.declared.place.LegSite.{LegSite}
-use Rattle.run_table.specs.TableState.{RunnerState}
+use Rattle.run_states.specs.TableState.{RunnerState}
 use Rattle.run_states.specs.RunState.{LegState, JobState, RunState}
 
 -- the lease of the leg at an index, if it has one

@@ -8,7 +8,7 @@ use Rattle.run_plan.specs.declared.last_command.LastCommand.TheVariants as last
 use Rattle.run_states.specs.Places.{leg_site}
 use Rattle.run_states.specs.declared.place.LegSite.{LegSite}
 pub use Rattle.run_states.specs.StateWords.{is_new}
-use Rattle.run_table.specs.TableState.{RunnerState, TableState}
+use Rattle.run_states.specs.TableState.{RunnerState, TableState}
 use Rattle.run_states.specs.RunState.{RunState}
 use Rattle.stored_tables.specs.declared.parts.LastParts.{LastParts}
 use Rattle.stored_tables.specs.declared.parts.LastParts.TheVariants as stored

@@ -4,7 +4,7 @@
 ghost use Rattle.std.specs.Cmp.Lexicographic.{slice_cmp};
 ghost use Rattle.std.specs.Ordering.{is_lt, nat_cmp};
 ghost use Rattle.std.specs.Prelude.{◌≡◌};
-ghost use Rattle.wf_value.specs.Names.{rises_by};
+ghost use Rattle.definitions.specs.Rising.{rises_by};
 
 use run_plan::{Claim, Done, Number, RunnerName};
 use run_states::RunParts;

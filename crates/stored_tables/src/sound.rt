@@ -6,10 +6,10 @@ ghost use Rattle.std.specs.Ordering.{nat_cmp};
 ghost use Rattle.std.specs.Prelude.{◌≡◌, ℕ, true};
 ghost use Rattle.stored_tables.specs.ByLease.{lease_of_leg, lease_of_runner};
 ghost use Rattle.stored_tables.specs.ByNumber.{Finds};
-ghost use Rattle.run_table.specs.Sound.{IsSound, KeptLeasesAreOfLegs};
+ghost use Rattle.run_states.specs.Sound.{IsSound, KeptLeasesAreOfLegs};
 ghost use Rattle.run_states.specs.AsPlanned.{AreAsPlanned};
 ghost use Rattle.run_states.specs.Groups.{HasOneEach};
-ghost use Rattle.run_table.specs.SequenceNumbers.{names_rise};
+ghost use Rattle.run_states.specs.SequenceNumbers.{names_rise};
 
 mod deliveries;
 pub(crate) mod jobs;

@@ -20,7 +20,7 @@ use Rattle.run_states.specs.StopMoves.{stop_holder}
 use Rattle.run_states.proofs.RunFits.{RunsFit}
 use Rattle.settling_laws.proofs.ArrivalKeeps.{requested_fades, displaced_one_each, itself, nobody_else, one_or_another}
 use Rattle.settling_laws.proofs.OneEach.{Comes, IsOneOf, group_is, one_that_holds, one_that_waits}
-use Rattle.table_laws.specs.GroupLaw.{BeginsWith, cancelled_end}
+use Rattle.run_states.specs.GroupLaw.{BeginsWith, cancelled_end}
 use Rattle.table_laws.proofs.ArrivalTold.{stop_begins, tells_then}
 use Rattle.table_laws.proofs.ChangesTold.{only_one}
 use Rattle.table_laws.proofs.GroupFollows.{displaced_waits, next_shown}

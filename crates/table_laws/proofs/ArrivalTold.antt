@@ -18,7 +18,7 @@ use Rattle.run_states.specs.declared.phases.RunPhase.TheVariants as run
 use Rattle.run_states.proofs.Changed.{at_changed}
 use Rattle.run_states.proofs.JobKeeps.{with_job_of, with_leg_of}
 use Rattle.settling_laws.proofs.ArrivalKeeps.{itself, one_or_another}
-use Rattle.table_laws.specs.GroupLaw.{BeginsWith}
+use Rattle.run_states.specs.GroupLaw.{BeginsWith}
 use Rattle.table_laws.proofs.ChangesTold.{only_one, stop_tells}
 use Rattle.table_laws.proofs.HolderStatus.{Goes, Status, ends_at_once, goes_not, goes_on, goes_over, leg_status, run_status, status}
 use Rattle.table_laws.proofs.HolderStatus.{status_by, status_by_run, status_in_job, status_in_run, status_of_leg, status_of_run}

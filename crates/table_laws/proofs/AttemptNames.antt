@@ -10,8 +10,8 @@ use Rattle.run_states.specs.Settling.{settled}
 use Rattle.run_states.proofs.Changed.{at_another, at_changed}
 use Rattle.run_states.proofs.RunFits.{RunsFit}
 use Rattle.settling_laws.proofs.SettlingKeeps.{settling_settles}
-use Rattle.run_table.specs.Step.{entered_again}
-use Rattle.run_table.specs.TableState.{TableState}
+use Rattle.run_states.specs.Step.{entered_again}
+use Rattle.run_states.specs.TableState.{TableState}
 use Rattle.run_table.proofs.EnteredAgain.{entered_again_settles}
 use Rattle.table_laws.specs.Names.{attempt_of}
 use Rattle.table_laws.proofs.GroupsKept.{Grows, grows_on, stays_grows}

@@ -13,7 +13,7 @@ use Rattle.run_states.specs.GroupWords.{holder_of, is_pending, is_in_progress, i
 use Rattle.run_states.specs.Moves.{Move}
 use Rattle.settling_laws.proofs.ArrivalKeeps.{holder_tested, itself}
 use Rattle.table_laws.specs.GroupChanges.{Change, Matches, changed, is_new, moves_of, stopped_at_arrival}
-use Rattle.table_laws.specs.GroupLaw.{BeginsWith, cancelled_end}
+use Rattle.run_states.specs.GroupLaw.{BeginsWith, cancelled_end}
 use Rattle.table_laws.proofs.GroupLawWalk.{Lawful}
 use Rattle.table_laws.proofs.GroupSaid.{latest_on, pending_on, in_progress_on, stopped_on, the_one, the_same}
 use Rattle.table_laws.proofs.GroupTruths.{not_both, or_false, pending_after_arrival, in_progress_after_arrival}

@@ -11,7 +11,7 @@ use Rattle.run_states.specs.GroupWords.{has_arrived, is_the, same_holder}
 use Rattle.run_states.specs.Moves.{Move}
 use Rattle.settling_laws.proofs.ArrivalKeeps.{holder_tested, itself}
 use Rattle.table_laws.specs.GroupChanges.{Change, Matches, base_moves, beyond_base, changed, is_new, moves_of, in_progress_moves}
-use Rattle.table_laws.specs.GroupLaw.{KeepsLaw, cancelled_end}
+use Rattle.run_states.specs.GroupLaw.{KeepsLaw, cancelled_end}
 use Rattle.table_laws.proofs.GroupChangeKeeps.{change_keeps_law, change_matches}
 use Rattle.table_laws.proofs.GroupLawWalk.{Lawful, walk_is_law}
 use Rattle.table_laws.proofs.GroupSaid.{arrived_on, the_same}

@@ -11,7 +11,7 @@ use Rattle.run_states.specs.GroupWords.{arrival_of, end_of, has_arrived, has_end
 use Rattle.run_states.specs.GroupWords.{is_pending, is_in_progress, is_the, latest, next_displaced, same_holder}
 use Rattle.run_states.specs.Moves.{Move}
 use Rattle.settling_laws.proofs.ArrivalKeeps.{holder_tested, itself}
-use Rattle.table_laws.specs.GroupLaw.{BeginsWith, KeepsLaw}
+use Rattle.run_states.specs.GroupLaw.{BeginsWith, KeepsLaw}
 use Rattle.table_laws.proofs.GroupSaid.{arrived_on, ended_on, latest_on, started_on, runs_started, waits_unstarted}
 use Rattle.table_laws.proofs.GroupTruths.{not_both, or_second}
 use Rattle.run_states.specs.declared.holder.Holder.{Holder}

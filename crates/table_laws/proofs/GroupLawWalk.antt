@@ -3,7 +3,7 @@ use Rattle.std.proofs.Common.{◌≡◌, List, [], ◌∷◌, ◌++◌, Bool, tr
 use Rattle.wf_value.specs.declared.outcome.Outcome.TheVariants.{Cancelled}
 use Rattle.run_states.specs.GroupWords.{has_ended, has_started, is_in_progress, latest, next_displaced, was_stopped}
 use Rattle.run_states.specs.Moves.{Move}
-use Rattle.table_laws.specs.GroupLaw.{BeginsWith, IsJustDisplaced, KeepsLaw, cancelled_end}
+use Rattle.run_states.specs.GroupLaw.{BeginsWith, IsJustDisplaced, KeepsLaw, cancelled_end}
 use Rattle.table_laws.proofs.ListWalk.{AtEach, Walk, each_of, walk_of, walk_on}
 use Rattle.run_states.specs.declared.holder.Holder.{Holder}
 

@@ -6,7 +6,7 @@ use Rattle.std.proofs.Common.{arith, ap, inl, inr, sym, ◌∙◌}
 use Rattle.std.proofs.lemmas.Bool.{cases_eq}
 use Rattle.std.proofs.lemmas.Option.{slice_get-map, slice_get_past, slice_get_within}
 use Rattle.group_name.specs.Group.{Group, same_group}
-use Rattle.run_plan.specs.Admitted.{Admitted}
+use Rattle.definitions.specs.Admitted.{Admitted}
 use Rattle.run_states.specs.GroupOf.{cancels_in_progress, group_at, leg_cancels, run_cancels, run_facts_at}
 use Rattle.run_states.specs.Groups.{is_in}
 use Rattle.run_states.specs.Holders.{run_of}

@@ -11,9 +11,9 @@ use Rattle.run_states.specs.Groups.{is_in, waits}
 use Rattle.run_states.specs.Moves.{Move}
 use Rattle.run_states.specs.RunState.{RunState}
 use Rattle.settling_laws.proofs.ArrivalKeeps.{holder_tested}
-use Rattle.run_table.specs.TableState.{Step}
+use Rattle.run_states.specs.TableState.{Step}
 use Rattle.table_laws.specs.GroupHistories.{moves_in}
-use Rattle.table_laws.specs.GroupLaw.{KeepsLaw}
+use Rattle.run_states.specs.GroupLaw.{KeepsLaw}
 use Rattle.table_laws.specs.Names.{Names, attempt_of, name_in, renamed}
 use Rattle.table_laws.proofs.Agrees.{Agrees}
 use Rattle.table_laws.proofs.GroupLawWalk.{Lawful}

@@ -7,11 +7,11 @@ use Rattle.group_name.specs.Group.{Group}
 use Rattle.run_plan.specs.declared.command.Command.{Command}
 use Rattle.run_states.specs.GroupWords.{has_arrived, has_ended, has_started, next_displaced, was_stopped}
 use Rattle.run_states.specs.Groups.{pending_in, in_progress_in}
-use Rattle.run_table.specs.Histories.{after}
+use Rattle.run_states.specs.Histories.{after}
 use Rattle.run_states.specs.Moves.{Move}
 use Rattle.run_states.specs.Places.{leg_at, run_at}
-use Rattle.run_table.specs.Sound.{IsSound}
-use Rattle.run_table.specs.TableState.{TableState}
+use Rattle.run_states.specs.Sound.{IsSound}
+use Rattle.run_states.specs.TableState.{TableState}
 use Rattle.run_states.specs.RunState.{RunState}
 use Rattle.run_states.specs.declared.phases.LegPhase.{LegPhase}
 use Rattle.run_states.specs.declared.phases.LegPhase.TheVariants as leg

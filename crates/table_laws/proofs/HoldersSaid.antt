@@ -6,11 +6,11 @@ use Rattle.group_name.specs.Group.{Group}
 use Rattle.run_plan.specs.declared.command.Command.{Command}
 use Rattle.run_states.specs.GroupWords.{is_pending, is_in_progress, was_stopped}
 use Rattle.run_states.specs.Groups.{holds, is_in, is_pending_in, is_in_progress_in, is_stop_requested, waits}
-use Rattle.run_table.specs.Histories.{after}
+use Rattle.run_states.specs.Histories.{after}
 use Rattle.run_states.specs.Moves.{Move}
 use Rattle.run_states.specs.RunState.{RunState}
-use Rattle.run_table.specs.Sound.{IsSound}
-use Rattle.run_table.specs.TableState.{TableState}
+use Rattle.run_states.specs.Sound.{IsSound}
+use Rattle.run_states.specs.TableState.{TableState}
 use Rattle.table_laws.specs.GroupHistories.{all_moves}
 use Rattle.table_laws.specs.GroupHolders.{SayWhoHolds, is_stopping, is_stopping_in}
 use Rattle.table_laws.specs.Names.{Names, name_in}

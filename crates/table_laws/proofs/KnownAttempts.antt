@@ -5,7 +5,7 @@ use Rattle.std.specs.Option.{option_map_or}
 use Rattle.std.proofs.Common.{ap, inl, inr, sym, ◌∙◌}
 use Rattle.std.proofs.lemmas.Bool.{cases_eq, eq-eqb, eqb-true}
 use Rattle.std.proofs.lemmas.Option.{same_Some, slice_get-map}
-use Rattle.stated_limits.specs.Limits.{last_attempt}
+use Rattle.definitions.specs.Limits.{last_attempt}
 use Rattle.run_plan.specs.declared.command.Attempt.{Attempt}
 use Rattle.run_plan.specs.declared.command.Command.{Command}
 use Rattle.run_plan.specs.declared.command.Command.TheVariants as command
@@ -17,10 +17,10 @@ use Rattle.run_states.specs.Places.{run_at, with_run}
 use Rattle.run_states.specs.RunState.{RunState}
 use Rattle.run_states.proofs.Changed.{at_another, at_changed}
 use Rattle.run_states.proofs.LegFacts.{attempt_at}
-use Rattle.run_table.specs.Histories.{after, replies}
-use Rattle.run_table.specs.Step.{answer_of_attempt, answer_of_next, entered_again, has_completed, outcome, refused, rerun_answer, rerunning, step}
-use Rattle.run_table.specs.Step.{stepped, unchanged}
-use Rattle.run_table.specs.TableState.{TableState}
+use Rattle.run_states.specs.Histories.{after, replies}
+use Rattle.run_states.specs.Step.{answer_of_attempt, answer_of_next, entered_again, has_completed, outcome, refused, rerun_answer, rerunning, step}
+use Rattle.run_states.specs.Step.{stepped, unchanged}
+use Rattle.run_states.specs.TableState.{TableState}
 use Rattle.run_table.proofs.BeginsAgain.{BeginsAgain, begins_again}
 use Rattle.table_laws.specs.ExactlyOnce.{IsRefused}
 use Rattle.table_laws.specs.Remembered.{AreNoOtherAttempts, IsNoOtherAttempt, KnowsAttempt}

@@ -3,7 +3,7 @@ use Rattle.std.specs.Prelude.{◌≡◌, List, ◌++◌, map, Bool, true}
 use Rattle.run_states.specs.GroupWords.{has_arrived}
 use Rattle.run_states.specs.Moves.{Move}
 use Rattle.table_laws.proofs.Agrees.{Agrees, IsInjective}
-use Rattle.table_laws.specs.GroupLaw.{KeepsLaw}
+use Rattle.run_states.specs.GroupLaw.{KeepsLaw}
 use Rattle.table_laws.specs.Names.{renamed}
 use Rattle.table_laws.proofs.GroupLawWalk.{Lawful, law_goes_on}
 use Rattle.table_laws.proofs.ListWalk.{Walk}

@@ -12,7 +12,7 @@ use Rattle.run_states.specs.GroupWords.{holder_of, is_pending, is_in_progress, i
 use Rattle.run_states.specs.Moves.{Move}
 use Rattle.settling_laws.proofs.ArrivalKeeps.{holder_tested, itself}
 use Rattle.table_laws.proofs.Agrees.{Agrees, IsInjective}
-use Rattle.table_laws.specs.GroupLaw.{BeginsWith, cancelled_end}
+use Rattle.run_states.specs.GroupLaw.{BeginsWith, cancelled_end}
 use Rattle.table_laws.specs.Names.{renamed}
 use Rattle.table_laws.proofs.GroupLawWalk.{Lawful}
 use Rattle.table_laws.proofs.GroupSaid.{arrived_on, ended_on, latest_on, pending_on, in_progress_on, started_on, stopped_on}

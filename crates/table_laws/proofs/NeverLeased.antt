@@ -14,10 +14,10 @@ use Rattle.run_states.specs.declared.place.LegSite.{LegSite}
 use Rattle.run_states.specs.RunState.{LegState, RunState}
 use Rattle.run_states.proofs.JobKeeps.{leg_in, no_leg}
 use Rattle.run_states.proofs.LegReads.{had_at, had_from_leg, leg_from_had}
-use Rattle.run_table.specs.Histories.{after}
-use Rattle.run_table.specs.Sound.{IsSound}
-use Rattle.run_table.specs.Step.{stepped}
-use Rattle.run_table.specs.TableState.{TableState}
+use Rattle.run_states.specs.Histories.{after}
+use Rattle.run_states.specs.Sound.{IsSound}
+use Rattle.run_states.specs.Step.{stepped}
+use Rattle.run_states.specs.TableState.{TableState}
 use Rattle.run_table.proofs.StepKeeps.{stepped_is_sound}
 use Rattle.table_laws.specs.GroupHistories.{IsOf, all_moves, first_moves, group_moves, moves_in, step_moves}
 use Rattle.table_laws.specs.Names.{Names, attempt_of, name_in}

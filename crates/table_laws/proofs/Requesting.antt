@@ -8,7 +8,7 @@ use Rattle.run_states.specs.GroupOf.{cancels_in_progress}
 use Rattle.run_states.specs.GroupWords.{arrival_of, has_arrived, same_holder}
 use Rattle.run_states.specs.Moves.{Move}
 use Rattle.settling_laws.proofs.ArrivalKeeps.{holder_tested}
-use Rattle.run_table.specs.TableState.{Step}
+use Rattle.run_states.specs.TableState.{Step}
 use Rattle.table_laws.specs.GroupHistories.{requests_in, moves_in, step_moves}
 use Rattle.table_laws.specs.Names.{Names, name_in, renamed}
 use Rattle.table_laws.proofs.HistoryNames.{names_are_injective}

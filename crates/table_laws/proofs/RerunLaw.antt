@@ -21,9 +21,9 @@ use Rattle.run_states.specs.Settling.{remaining_phases, settled, settling}
 use Rattle.run_states.proofs.RunFits.{RunsFit}
 use Rattle.settling_laws.proofs.ArrivalKeeps.{itself, one_or_another}
 use Rattle.settling_laws.proofs.OneEach.{IsOneOf, one_that_waits}
-use Rattle.run_table.specs.Sound.{IsSound}
-use Rattle.run_table.specs.Step.{entered_again, rerunning}
-use Rattle.run_table.specs.TableState.{TableState}
+use Rattle.run_states.specs.Sound.{IsSound}
+use Rattle.run_states.specs.Step.{entered_again, rerunning}
+use Rattle.run_states.specs.TableState.{TableState}
 use Rattle.run_table.proofs.BeginsAgain.{BeginsAgain}
 use Rattle.run_table.proofs.EnteredAgain.{again_fits, again_waits, beside_again, entered_again_one_each, group_beside}
 use Rattle.run_table.proofs.Kept.{kept_from_sound}

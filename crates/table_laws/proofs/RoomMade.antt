@@ -16,7 +16,7 @@ use Rattle.run_states.specs.StopMoves.{displace, stop_holder}
 use Rattle.settling_laws.proofs.ArrivalKeeps.{itself}
 use Rattle.settling_laws.proofs.HoldersFade.{each_fades, holder_stop_fades}
 use Rattle.settling_laws.proofs.OneEach.{Fades, one_that_waits}
-use Rattle.table_laws.specs.GroupLaw.{BeginsWith, cancelled_end}
+use Rattle.run_states.specs.GroupLaw.{BeginsWith, cancelled_end}
 use Rattle.table_laws.proofs.ArrivalTold.{displace_tells, each_tells, tells_nothing, tells_then}
 use Rattle.table_laws.proofs.ChangesTold.{stop_tells}
 use Rattle.table_laws.proofs.GroupTruths.{not_both}

@@ -9,7 +9,7 @@ use Rattle.std.proofs.lemmas.Bool.{and_from}
 use Rattle.wf_value.specs.declared.outcome.JobResult.{JobResult}
 use Rattle.wf_value.specs.declared.outcome.JobResult.TheVariants as result
 use Rattle.needs_graph.specs.Ancestors.{needs_at}
-use Rattle.needs_graph.specs.JobNeeds.{JobNeeds}
+use Rattle.definitions.specs.JobNeeds.{JobNeeds}
 use Rattle.needs_graph.specs.JobBitmap.{places}
 use Rattle.needs_graph.specs.Needs.{is_listed, needs_of}
 use Rattle.run_plan.specs.PlanOf.{needs_listed, needs_of_planned, plan_of}

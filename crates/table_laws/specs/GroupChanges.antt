@@ -9,7 +9,7 @@ use Rattle.wf_value.specs.declared.outcome.Outcome.TheVariants.{Cancelled}
 use Rattle.run_states.specs.GroupState.{GroupState}
 use Rattle.run_states.specs.GroupWords.{has_arrived, holder_of, is_pending, is_in_progress, is_the, latest, same_holder, was_stopped}
 use Rattle.run_states.specs.Moves.{Move}
-use Rattle.table_laws.specs.GroupLaw.{cancelled_end}
+use Rattle.run_states.specs.GroupLaw.{cancelled_end}
 use Rattle.run_states.specs.declared.holder.Holder.{Holder}
 
 -- The state agrees with the moves: the holder in progress has started and not ended, the pending holder is the latest arrival and has

@@ -13,8 +13,8 @@ use Rattle.run_states.specs.Groups.{group_state, is_in}
 use Rattle.run_states.specs.Moves.{Move}
 use Rattle.run_states.specs.Places.{leg_at, run_at}
 use Rattle.run_states.specs.declared.place.LegSite.{LegSite}
-use Rattle.run_table.specs.Step.{stepped}
-use Rattle.run_table.specs.TableState.{Step, TableState}
+use Rattle.run_states.specs.Step.{stepped}
+use Rattle.run_states.specs.TableState.{Step, TableState}
 use Rattle.run_states.specs.RunState.{LegState, JobState, RunState}
 use Rattle.run_states.specs.declared.phases.JobPhase.TheVariants as job
 use Rattle.run_states.specs.declared.phases.LegPhase.TheVariants as leg

@@ -3,7 +3,6 @@ pub mod ExactlyOnce
 pub mod GroupChanges
 pub mod GroupHistories
 pub mod GroupHolders
-pub mod GroupLaw
 pub mod GroupLawTest
 pub mod Names
 pub mod Remembered

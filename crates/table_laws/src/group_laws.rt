@@ -10,7 +10,7 @@ ghost use Rattle.wf_value.specs.declared.outcome.Outcome.{Outcome};
 ghost use Rattle.wf_value.specs.declared.outcome.Outcome.TheVariants.{Cancelled};
 ghost use Rattle.table_laws.specs.GroupChanges.{Change, Matches, MayAllBe, MayBe, after_all, base_moves};
 ghost use Rattle.table_laws.specs.GroupChanges.{beyond_base, changed, moves_of, moves_of_all};
-ghost use Rattle.table_laws.specs.GroupLaw.{BeginsWith, KeepsLaw};
+ghost use Rattle.run_states.specs.GroupLaw.{BeginsWith, KeepsLaw};
 ghost use Rattle.table_laws.specs.GroupLawTest.{keeps_law};
 ghost use Rattle.run_states.specs.declared.holder.Holder.{Holder};
 ghost use Rattle.table_laws.specs.Names.{Names};

@@ -3,8 +3,8 @@ use Rattle.std.proofs.Common.{◌≡◌, inl, inr, ℕ, List, refl, sym, ◌∙�
 use Rattle.std.specs.Prelude.{◌==◌, Bool, true, Option, Some, None, if◌then◌else◌}
 use Rattle.std.proofs.lemmas.Bool.{eqb-true}
 use Rattle.std.proofs.lemmas.Option.{same_Some, none-some}
-use Rattle.run_plan.specs.Admitted.{Admitted}
-use Rattle.run_plan.specs.SmallText.{is_runner_byte}
+use Rattle.definitions.specs.Admitted.{Admitted}
+use Rattle.definitions.specs.SmallText.{is_runner_byte}
 use Rattle.stored_tables.specs.Stored.{RunnerParts, TableParts}
 use Rattle.stored_tables.specs.declared.parts.LastParts.{LastParts}
 use Rattle.stored_tables.specs.declared.parts.StoredLease.{StoredLease}
@@ -15,7 +15,7 @@ use Rattle.table_text.specs.declared.kept.StoredReply.TheVariants as replied
 use Rattle.command_encodings.specs.Commands.{admit, command, number, small_text}
 use Rattle.table_text.specs.FirstLayout.{IsFirstKept, first_kept, first_kept_parts, first_last_command, first_run, first_runner, first_table}
 use Rattle.table_text.specs.FirstLayout.{unencoded}
-use Rattle.command_encodings.specs.Format.{Format, byte, counted, follow, only, pair, parts, row, word}
+use Rattle.definitions.specs.Format.{Format, byte, counted, follow, only, pair, parts, row, word}
 use Rattle.command_encodings.specs.Reading.{byte_at, counted_at, follow_at, items_at, pair_at}
 use Rattle.command_encodings.specs.ReadingCommands.{admit_at, command_at, number_at, small_text_at}
 use Rattle.table_text.specs.ReadingFirst.{first_course_at, first_kept_at, first_kept_of, first_last_at, first_run_at, first_runner_at}

@@ -9,7 +9,7 @@ use Rattle.run_states.specs.declared.phases.JobPhase.TheVariants as job_phase
 use Rattle.run_states.specs.declared.phases.LegPhase.TheVariants as leg_phase
 use Rattle.run_states.specs.declared.phases.RunPhase.TheVariants as run_phase
 use Rattle.table_text.specs.FirstLayout.{first_runner, first_table, is_in_first_layout}
-use Rattle.command_encodings.specs.Format.{text_bytes, word_bytes}
+use Rattle.definitions.specs.Format.{text_bytes, word_bytes}
 
 -- without runs or runners: twelve zero bytes, as in the second layout
 empty_bytes : first_table.encoding (record { last_lease = 0; runs = []; runners = [] })

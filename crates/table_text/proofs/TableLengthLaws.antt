@@ -9,7 +9,7 @@ use Rattle.run_plan.specs.declared.last_command.ClaimReply.TheVariants as given
 use Rattle.run_plan.specs.declared.last_command.LastCommand.{LastCommand}
 use Rattle.run_plan.specs.declared.last_command.LastCommand.TheVariants as kept_last
 use Rattle.run_table.specs.RunnerSizes.{last_size, runner_size}
-use Rattle.run_table.specs.TableState.{RunnerState}
+use Rattle.run_states.specs.TableState.{RunnerState}
 use Rattle.stored_tables.specs.Stored.{RunnerParts, TableParts, stored_last, stored_runner}
 use Rattle.run_states.specs.RunState.{LegState, JobState, RunState}
 use Rattle.workflow_runs.specs.StoredSizes.{job_size, leg_counts, run_size}
@@ -18,7 +18,7 @@ use Rattle.stored_tables.specs.declared.parts.LastParts.TheVariants as last
 use Rattle.stored_tables.specs.declared.parts.StoredLease.{StoredLease}
 use Rattle.stored_tables.specs.declared.parts.StoredSite.{StoredSite}
 use Rattle.command_encodings.specs.Commands.{admit, command_bytes}
-use Rattle.command_encodings.specs.Format.{present, text_bytes, word_bytes}
+use Rattle.definitions.specs.Format.{present, text_bytes, word_bytes}
 use Rattle.command_encodings.specs.Lengths.{command_length, fields_length, length_of, text_length}
 use Rattle.table_text.specs.TableLengths.{last_length, lease_length, runner_length, table_length}
 use Rattle.table_text.specs.Tables.{flag_byte, job, kept, kept_lease, last_command, lease, leg, place, run, run_byte, runner, table}

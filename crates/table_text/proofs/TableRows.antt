@@ -12,7 +12,7 @@ use Rattle.run_states.specs.declared.phases.LegPhase.{LegPhase}
 use Rattle.run_states.specs.declared.phases.LegPhase.TheVariants as leg_phase
 use Rattle.run_states.specs.declared.phases.RunPhase.{RunPhase}
 use Rattle.run_states.specs.declared.phases.RunPhase.TheVariants as run_phase
-use Rattle.command_encodings.specs.Format.{text_bytes, word_bytes}
+use Rattle.definitions.specs.Format.{text_bytes, word_bytes}
 use Rattle.table_text.specs.TableLengths.{table_length}
 use Rattle.table_text.specs.Tables.{is_attempt, job, names_rise, runner, run, table}
 

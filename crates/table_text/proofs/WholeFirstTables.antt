@@ -14,10 +14,10 @@ use Rattle.run_plan.specs.declared.last_command.LastCommand.TheVariants as last
 use Rattle.run_states.specs.Places.{run_at}
 use Rattle.run_states.specs.RunState.{RunState}
 use Rattle.run_states.proofs.Found.{each_at}
-use Rattle.run_table.specs.Sound.{IsOfALeg, IsSound, KeptIsOfALeg}
+use Rattle.run_states.specs.Sound.{IsOfALeg, IsSound, KeptIsOfALeg}
 use Rattle.stored_tables.specs.Stored.{RunnerParts, TableParts}
 use Rattle.stored_tables.specs.TableOf.{AreRunnersAs, IsLastAs, IsNoTable, IsPlacedAs, IsRunnerAs, IsStoredAs}
-use Rattle.run_table.specs.TableState.{RunnerState, TableState}
+use Rattle.run_states.specs.TableState.{RunnerState, TableState}
 use Rattle.stored_tables.specs.declared.parts.LastParts.{LastParts}
 use Rattle.stored_tables.specs.declared.parts.LastParts.TheVariants as stored
 use Rattle.stored_tables.specs.declared.parts.StoredLease.{StoredLease}
@@ -25,7 +25,7 @@ use Rattle.stored_tables.specs.declared.parts.StoredSite.{StoredSite}
 use Rattle.stored_tables.proofs.StoredOnce.{run_told, same_runners}
 use Rattle.command_encodings.specs.Commands.{batch}
 use Rattle.table_text.specs.FirstLayout.{first_batch, first_last_command, first_run, first_runner, first_table, is_in_first_layout}
-use Rattle.command_encodings.specs.Format.{NoneBeginsAnother, OpensWith, ReadsPrefix}
+use Rattle.definitions.specs.Format.{NoneBeginsAnother, OpensWith, ReadsPrefix}
 use Rattle.command_encodings.specs.ReadingCommands.{batch_at}
 use Rattle.table_text.specs.ReadingFirst.{first_table_at}
 use Rattle.table_text.specs.WholeFirstTables.{first_stored_last, first_stored_runner, first_stored_table, whole_first_table}

@@ -2,10 +2,10 @@
 use Rattle.std.proofs.Common.{◌≡◌, List, ℕ, ◌++◌, refl, sym, ◌∙◌, ap, subst}
 use Rattle.std.specs.Prelude.{true, is_some, Option, None, Some}
 use Rattle.std.specs.List.{AllByRecursion}
-use Rattle.run_table.specs.Sound.{IsSound}
+use Rattle.run_states.specs.Sound.{IsSound}
 use Rattle.stored_tables.specs.Stored.{RunnerParts, TableParts, stored_table}
 use Rattle.stored_tables.specs.TableOf.{AreRunnersAs, IsNoTable, IsStoredAs}
-use Rattle.run_table.specs.TableState.{TableState}
+use Rattle.run_states.specs.TableState.{TableState}
 use Rattle.stored_tables.specs.declared.parts.LastParts.{LastParts}
 use Rattle.stored_tables.specs.declared.parts.LastParts.TheVariants as last
 use Rattle.stored_tables.specs.declared.parts.StoredSite.{StoredSite}
@@ -13,7 +13,7 @@ use Rattle.run_states.specs.RunState.{RunState}
 use Rattle.run_states.proofs.Found.{each_at}
 use Rattle.stored_tables.proofs.StoredOnce.{same_runners}
 use Rattle.stored_tables.proofs.StoredParts.{HasPlace, HavePlaces, is_stored, stored_again}
-use Rattle.command_encodings.specs.Format.{NoneBeginsAnother, OpensWith, ReadsPrefix, present}
+use Rattle.definitions.specs.Format.{NoneBeginsAnother, OpensWith, ReadsPrefix, present}
 use Rattle.table_text.specs.ReadingTables.{table_at}
 use Rattle.table_text.specs.Tables.{last_command, place, runner, table}
 use Rattle.table_text.specs.WholeTables.{whole_table}

@@ -4,8 +4,8 @@
 -- defined by this project.
 use Rattle.std.specs.Prelude.{◌≡◌, ℕ, List, [], Bool, true, false, Option, Some, None}
 use Rattle.std.specs.List.{list_all}
-use Rattle.stated_limits.specs.Limits.{max_runs}
-use Rattle.run_plan.specs.SmallText.{is_runner_byte}
+use Rattle.definitions.specs.Limits.{max_runs}
+use Rattle.definitions.specs.SmallText.{is_runner_byte}
 use Rattle.run_plan.specs.declared.command.Command.{Command}
 use Rattle.run_plan.specs.declared.command.Command.TheVariants as requested
 use Rattle.stored_tables.specs.Stored.{RunnerParts, TableParts}
@@ -14,7 +14,7 @@ use Rattle.run_states.specs.RunState.{RunState}
 use Rattle.table_text.specs.declared.kept.StoredReply.{StoredReply}
 use Rattle.table_text.specs.declared.kept.StoredReply.TheVariants as replied
 use Rattle.command_encodings.specs.Commands.{admit, batch, command, number, small_text}
-use Rattle.command_encodings.specs.Format.{Format, byte, counted, follow, only, pair, parts, row, word}
+use Rattle.definitions.specs.Format.{Format, byte, counted, follow, only, pair, parts, row, word}
 use Rattle.table_text.specs.Tables.{flag_byte, is_last_lease, job, jobs_planned, last_parts, lease, names_rise, run_byte}
 
 -- a value that is not encoded, since it is always this one

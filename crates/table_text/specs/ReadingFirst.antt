@@ -1,8 +1,8 @@
 -- Reading of a table in the first layout as a function, where it differs from the second layout.
 use Rattle.std.specs.Prelude.{ℕ, ◌==◌, List, Bool, if◌then◌else◌, Option, Some, None}
-use Rattle.stated_limits.specs.Limits.{max_runs}
-use Rattle.run_plan.specs.Admitted.{Admitted}
-use Rattle.run_plan.specs.SmallText.{is_runner_byte}
+use Rattle.definitions.specs.Limits.{max_runs}
+use Rattle.definitions.specs.Admitted.{Admitted}
+use Rattle.definitions.specs.SmallText.{is_runner_byte}
 use Rattle.stored_tables.specs.Stored.{RunnerParts, TableParts}
 use Rattle.stored_tables.specs.declared.parts.LastParts.{LastParts}
 use Rattle.run_states.specs.RunState.{JobState, RunState}

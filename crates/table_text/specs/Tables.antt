@@ -1,13 +1,13 @@
 -- The encoding of a table, field by field. The bytes of a run do not contain the number of its jobs: it follows from
 -- the body's plan. This is defined by this project.
 use Rattle.std.specs.Prelude.{ℕ, List, [], ◌∷◌, length, ◌&&◌, Bool, true, false, not, nat_le, Option, Some, None}
-use Rattle.stated_limits.specs.Limits.{last_attempt, last_number, max_runs}
-use Rattle.wf_value.specs.Names.{rises_by}
+use Rattle.definitions.specs.Limits.{last_attempt, last_number, max_runs}
+use Rattle.definitions.specs.Rising.{rises_by}
 use Rattle.wf_value.specs.declared.outcome.JobResult.TheVariants as result
 use Rattle.wf_value.specs.declared.outcome.Outcome.TheVariants as outcome
-use Rattle.run_plan.specs.Admitted.{Admitted}
+use Rattle.definitions.specs.Admitted.{Admitted}
 use Rattle.run_plan.specs.PlanOf.{plan_of}
-use Rattle.run_plan.specs.SmallText.{is_runner_byte}
+use Rattle.definitions.specs.SmallText.{is_runner_byte}
 use Rattle.run_plan.specs.declared.command.Command.{Command}
 use Rattle.run_plan.specs.declared.command.Command.TheVariants as requested
 use Rattle.stored_tables.specs.Stored.{RunnerParts, TableParts, is_new}
@@ -25,7 +25,7 @@ use Rattle.run_states.specs.declared.phases.RunPhase.TheVariants as run_phase
 use Rattle.table_text.specs.declared.kept.StoredReply.{StoredReply}
 use Rattle.table_text.specs.declared.kept.StoredReply.TheVariants as replied
 use Rattle.command_encodings.specs.Commands.{admit, command, number, small_text}
-use Rattle.command_encodings.specs.Format.{Format, byte, counted, follow, only, pair, parts, present, row, word, word_bytes}
+use Rattle.definitions.specs.Format.{Format, byte, counted, follow, only, pair, parts, present, row, word, word_bytes}
 
 -- ---- leases
 

@@ -5,13 +5,13 @@ use Rattle.std.specs.Prelude.{map, Some, None}
 use Rattle.run_plan.specs.declared.last_command.ClaimReply.TheVariants as given
 use Rattle.run_plan.specs.declared.last_command.LastCommand.{LastCommand}
 use Rattle.run_plan.specs.declared.last_command.LastCommand.TheVariants as last
-use Rattle.run_table.specs.Sound.{IsSound}
+use Rattle.run_states.specs.Sound.{IsSound}
 use Rattle.stored_tables.specs.Stored.{RunnerParts, TableParts}
-use Rattle.run_table.specs.TableState.{RunnerState, TableState}
+use Rattle.run_states.specs.TableState.{RunnerState, TableState}
 use Rattle.stored_tables.specs.declared.parts.LastParts.{LastParts}
 use Rattle.stored_tables.specs.declared.parts.LastParts.TheVariants as stored
 use Rattle.table_text.specs.FirstLayout.{first_table}
-use Rattle.command_encodings.specs.Format.{Format}
+use Rattle.definitions.specs.Format.{Format}
 
 abbrev pub first_stored_last : LastCommand → LastParts
 first_stored_last (last.Claim claim given.Nothing) = stored.Claim claim None

@@ -1,8 +1,8 @@
 -- The encoding of a whole table: a sound table is encoded as its stored parts.
-use Rattle.run_table.specs.Sound.{IsSound}
+use Rattle.run_states.specs.Sound.{IsSound}
 use Rattle.stored_tables.specs.Stored.{stored_table}
-use Rattle.run_table.specs.TableState.{TableState}
-use Rattle.command_encodings.specs.Format.{Format}
+use Rattle.run_states.specs.TableState.{TableState}
+use Rattle.definitions.specs.Format.{Format}
 use Rattle.table_text.specs.Tables.{table}
 
 abbrev pub whole_table : Format TableState

@@ -6,7 +6,7 @@ ghost use Rattle.std.specs.List.{list_all};
 ghost use Rattle.std.specs.Option.{option_map};
 ghost use Rattle.wf_value.specs.Gives.{no_memory};
 ghost use Rattle.table_text.specs.FirstLayout.{first_batch, first_table, is_in_first_layout};
-ghost use Rattle.command_encodings.specs.Format.{ReadsPrefix};
+ghost use Rattle.definitions.specs.Format.{ReadsPrefix};
 ghost use Rattle.table_text.specs.WholeFirstTables.{whole_first_table};
 
 mod list;

@@ -1,7 +1,7 @@
 //! Laws of the encodings of tables, and of their lengths.
 
 ghost use Rattle.std.specs.Prelude.{◌≡◌};
-ghost use Rattle.command_encodings.specs.Format.{HasOneEncoding, NoneBeginsAnother};
+ghost use Rattle.definitions.specs.Format.{HasOneEncoding, NoneBeginsAnother};
 ghost use Rattle.command_encodings.specs.Lengths.{length_of};
 ghost use Rattle.stored_tables.specs.Stored.{TableParts};
 ghost use Rattle.table_text.specs.TableLengths.{table_length};

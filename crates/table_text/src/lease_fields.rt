@@ -1,5 +1,5 @@
 ghost use Rattle.std.specs.Prelude.{◌≡◌, ◌≤◌, IfOk};
-ghost use Rattle.stated_limits.specs.Limits.{last_number};
+ghost use Rattle.definitions.specs.Limits.{last_number};
 ghost use Rattle.command_encodings.specs.Reading.{Finds};
 ghost use Rattle.table_text.specs.ReadingTables.{lease_at, lease_of, optional_lease};
 

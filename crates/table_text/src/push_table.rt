@@ -4,7 +4,7 @@
 ghost use Rattle.std.specs.Prelude.{◌≡◌, [], ◌∷◌, ◌++◌, ◌<◌, ◌≤◌, ◌^◌, length, OnErr, OnOk};
 ghost use Rattle.run_plan.specs.declared.last_command.LastCommand.TheVariants as last;
 ghost use Rattle.stored_tables.specs.Stored.{stored_last, stored_lease, stored_runner, stored_table};
-ghost use Rattle.command_encodings.specs.Format.{word_bytes};
+ghost use Rattle.definitions.specs.Format.{word_bytes};
 ghost use Rattle.table_text.specs.Tables.{flag_byte, job, job_byte, kept_lease, last_command, lease, lease_word, leg, leg_byte, run, run_byte, runner};
 ghost use Rattle.table_text.specs.Tables.{table};
 ghost use Rattle.command_encodings.specs.Writing.{Keeps};
@@ -28,7 +28,7 @@ fn push_byte(out: &mut Vec<u8>, value: u8) -> Result<(), AllocError>
 }
 
 /// A byte and a number of four bytes.
-#[tactic(auto, unfolding(command_encodings::specs::Format::word_bytes))]
+#[tactic(auto, unfolding(definitions::specs::Format::word_bytes))]
 fn byte_and_word(byte: u8, word: u32) -> [u8; 5]
     ensures { result ≡ byte ∷ word_bytes word }
 {
@@ -44,7 +44,7 @@ fn push_byte_and_word(out: &mut Vec<u8>, byte: u8, word: u32) -> Result<(), Allo
 }
 
 /// A number of four bytes and two bytes.
-#[tactic(auto, unfolding(command_encodings::specs::Format::word_bytes))]
+#[tactic(auto, unfolding(definitions::specs::Format::word_bytes))]
 fn word_and_bytes(word: u32, first: u8, second: u8) -> [u8; 6]
     ensures { result ≡ word_bytes word ++ first ∷ second ∷ [] }
 {

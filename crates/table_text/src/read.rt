@@ -1,7 +1,7 @@
 ghost use Rattle.std.specs.Prelude.{◌≡◌, IfErr, IfOk};
 ghost use Rattle.std.specs.Option.{option_map};
 ghost use Rattle.wf_value.specs.Gives.{no_memory};
-ghost use Rattle.command_encodings.specs.Format.{ReadsPrefix};
+ghost use Rattle.definitions.specs.Format.{ReadsPrefix};
 ghost use Rattle.table_text.specs.Tables.{table};
 ghost use Rattle.table_text.specs.WholeTables.{whole_table};
 

@@ -1,7 +1,7 @@
 //! The runs of a table at the front of bytes, with their jobs and legs.
 
 ghost use Rattle.std.specs.Prelude.{◌≤◌, IfOk};
-ghost use Rattle.stated_limits.specs.Limits.{last_attempt, last_number};
+ghost use Rattle.definitions.specs.Limits.{last_attempt, last_number};
 ghost use Rattle.command_encodings.specs.Reading.{Finds, items_at, kept};
 ghost use Rattle.table_text.specs.ReadingTables.{attempt_at, job_at, leg_at, optional_lease, run_at, runs_at};
 ghost use Rattle.table_text.specs.Tables.{is_attempt, jobs_planned};

@@ -3,7 +3,7 @@
 ghost use Rattle.std.specs.Prelude.{◌≡◌, ◌≤◌, IfErr, OnErr, OnOk, length};
 ghost use Rattle.stored_tables.specs.Stored.{stored_table};
 ghost use Rattle.wf_value.specs.Gives.{no_memory};
-ghost use Rattle.command_encodings.specs.Format.{Appends};
+ghost use Rattle.definitions.specs.Format.{Appends};
 ghost use Rattle.table_text.specs.Tables.{table};
 
 use crate::push_table::push_table;

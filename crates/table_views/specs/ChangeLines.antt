@@ -2,7 +2,7 @@
 use Rattle.std.specs.Prelude.{ℕ, List, ◌++◌, codes, decimal, length, map}
 use Rattle.wf_value.specs.Words.{outcome_word}
 use Rattle.wf_reader.specs.Event.{event_of}
-use Rattle.run_plan.specs.Admitted.{Admitted}
+use Rattle.definitions.specs.Admitted.{Admitted}
 use Rattle.run_plan.specs.ReplyText.{reply_text}
 use Rattle.run_plan.specs.declared.command.Attempt.{Attempt}
 use Rattle.run_plan.specs.declared.command.Beat.{Beat}

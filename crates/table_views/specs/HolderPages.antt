@@ -8,7 +8,7 @@ use Rattle.run_states.specs.Groups.{holds}
 use Rattle.run_states.specs.RunState.{RunState}
 use Rattle.run_states.specs.declared.holder.Holder.{Holder}
 use Rattle.run_states.specs.declared.holder.Holder.TheVariants.{Run, Leg}
-use Rattle.run_table.specs.TableState.{TableState}
+use Rattle.run_states.specs.TableState.{TableState}
 use Rattle.table_views.specs.GroupLines.{group_in_use}
 use Rattle.table_views.specs.Members.{member, number_or_null}
 use Rattle.table_views.specs.Pages.{IsPage, page_text, rows_from}
@@ -16,7 +16,7 @@ use Rattle.table_views.specs.ReadyPages.{legs_at, next_run, start_at}
 use Rattle.table_views.specs.RunFilters.{is_wanted}
 use Rattle.table_views.specs.Texts.{leg_members, quoted}
 use Rattle.table_views.specs.declared.group_filter.GroupFilter.{GroupFilter}
-use Rattle.table_views.specs.Limits.{most_looked}
+use Rattle.definitions.specs.Limits.{most_looked}
 
 -- whether a group is one that the filter lets through
 abbrev pub is_group_shown : GroupFilter → Group → Bool

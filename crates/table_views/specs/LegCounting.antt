@@ -5,7 +5,7 @@ use Rattle.std.specs.Str.{bytes_eq}
 use Rattle.run_states.specs.RunState.{JobState, RunState}
 use Rattle.run_states.specs.declared.phases.LegPhase.{LegPhase}
 use Rattle.run_states.specs.declared.phases.LegPhase.TheVariants as leg
-use Rattle.run_table.specs.ViewText.{leg_text}
+use Rattle.run_states.specs.ViewText.{leg_text}
 use Rattle.table_views.specs.MetricLines.{capped, head, value_line}
 use Rattle.table_views.specs.declared.leg_counts.LegCounts.{LegCounts}
 

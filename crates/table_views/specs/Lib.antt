@@ -5,7 +5,6 @@ pub mod GroupLines
 pub mod HolderOrder
 pub mod HolderPages
 pub mod LegCounting
-pub mod Limits
 pub mod Members
 pub mod MetricLines
 pub mod NamedCounts

@@ -1,6 +1,6 @@
 -- Bounds on the places of legs.
 use Rattle.std.specs.Prelude.{◌<◌, ◌^◌}
-use Rattle.stated_limits.specs.Limits.{max_runs}
+use Rattle.definitions.specs.Limits.{max_runs}
 use Rattle.run_states.specs.declared.place.LegSite.{LegSite}
 
 -- a place is within what a table may have

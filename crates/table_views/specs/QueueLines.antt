@@ -8,7 +8,7 @@ use Rattle.run_states.specs.Places.{leg_at, leg_sites}
 use Rattle.run_states.specs.declared.place.LegSite.{LegSite}
 use Rattle.run_states.specs.RunState.{RunState}
 use Rattle.run_states.specs.Words.{labels_at}
-use Rattle.run_table.specs.TableState.{TableState}
+use Rattle.run_states.specs.TableState.{TableState}
 use Rattle.table_views.specs.GroupLines.{group_lines}
 use Rattle.table_views.specs.Texts.{leg_members, leg_words, line, listed, quoted}
 use Rattle.table_views.specs.declared.form.Form.{Form}

@@ -5,11 +5,11 @@ use Rattle.std.specs.Option.{option_map_or}
 use Rattle.run_states.specs.Places.{leg_sites_of_run}
 use Rattle.run_states.specs.RunState.{RunState}
 use Rattle.run_states.specs.declared.place.LegSite.{LegSite}
-use Rattle.run_table.specs.TableState.{TableState}
+use Rattle.run_states.specs.TableState.{TableState}
 use Rattle.table_views.specs.Members.{number_or_null}
 use Rattle.table_views.specs.Pages.{IsPage, page_text, rows_from}
 use Rattle.table_views.specs.QueueLines.{is_ready_at, ready_row}
-use Rattle.table_views.specs.Limits.{most_looked}
+use Rattle.definitions.specs.Limits.{most_looked}
 
 -- the places of the legs of the run at an index
 abbrev pub legs_at : List RunState → ℕ → List LegSite

@@ -4,7 +4,7 @@ use Rattle.std.specs.List.{count_by}
 use Rattle.std.specs.Str.{bytes_eq}
 use Rattle.wf_value.specs.Words.{outcome_word}
 use Rattle.run_states.specs.RunState.{RunState}
-use Rattle.run_table.specs.ViewText.{status_text}
+use Rattle.run_states.specs.ViewText.{status_text}
 use Rattle.table_views.specs.MetricLines.{capped, head, value_line}
 use Rattle.table_views.specs.RunRows.{conclusion_at}
 use Rattle.table_views.specs.declared.run_counts.RunCounts.{RunCounts}

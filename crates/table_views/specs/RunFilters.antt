@@ -2,9 +2,9 @@
 use Rattle.std.specs.Prelude.{ℕ, List, ◌&&◌, Bool, true, false, Option, Some, None}
 use Rattle.std.specs.Str.{bytes_eq}
 use Rattle.wf_reader.specs.Event.{event_of}
-use Rattle.run_plan.specs.Admitted.{Admitted}
+use Rattle.definitions.specs.Admitted.{Admitted}
 use Rattle.run_states.specs.RunState.{RunState}
-use Rattle.run_table.specs.ViewText.{Seen, status_text}
+use Rattle.run_states.specs.ViewText.{Seen, status_text}
 use Rattle.table_views.specs.RunRows.{conclusion_at, own_group, ref_of}
 use Rattle.table_views.specs.declared.run_filter.RunFilter.{RunFilter}
 

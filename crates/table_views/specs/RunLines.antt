@@ -8,7 +8,7 @@ use Rattle.run_plan.specs.declared.planned.PlannedJob.{PlannedJob}
 use Rattle.run_states.specs.RunState.{JobState, LegState}
 use Rattle.run_states.specs.declared.phases.JobPhase.{JobPhase}
 use Rattle.run_states.specs.declared.phases.JobPhase.TheVariants as job
-use Rattle.run_table.specs.ViewText.{Seen, conclusion_text, leg_text, seen_text, status_text}
+use Rattle.run_states.specs.ViewText.{Seen, conclusion_text, leg_text, seen_text, status_text}
 use Rattle.table_views.specs.Texts.{line, listed, quoted}
 use Rattle.table_views.specs.declared.form.Form.{Form}
 use Rattle.table_views.specs.declared.form.Form.TheVariants as form

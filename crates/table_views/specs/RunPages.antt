@@ -2,13 +2,13 @@
 use Rattle.std.specs.Prelude.{◌≡◌, ℕ, ◌+◌, ◌-◌, List, [], ◌∷◌, codes, length, min, nat_lt, Option, Some, None, if◌then◌else◌}
 use Rattle.std.specs.Option.{option_map_or}
 use Rattle.run_states.specs.RunState.{RunState}
-use Rattle.run_table.specs.TableState.{TableState}
-use Rattle.run_table.specs.ViewText.{seen_of}
+use Rattle.run_states.specs.TableState.{TableState}
+use Rattle.run_states.specs.ViewText.{seen_of}
 use Rattle.table_views.specs.Members.{number_or_null}
 use Rattle.table_views.specs.Pages.{IsPage, page_text, rows_from}
 use Rattle.table_views.specs.RunFilters.{is_shown}
 use Rattle.table_views.specs.RunRows.{run_row}
-use Rattle.table_views.specs.Limits.{most_looked}
+use Rattle.definitions.specs.Limits.{most_looked}
 use Rattle.table_views.specs.declared.run_filter.RunFilter.{RunFilter}
 
 -- the runs below an id, or all

@@ -6,14 +6,14 @@ use Rattle.wf_value.specs.declared.scalar.Scalar.TheVariants as scalar
 use Rattle.needs_graph.specs.Results.{conclusion_of}
 use Rattle.wf_reader.specs.Contexts.{sent_value}
 use Rattle.wf_reader.specs.Event.{event_of}
-use Rattle.run_plan.specs.Admitted.{Admitted}
+use Rattle.definitions.specs.Admitted.{Admitted}
 use Rattle.group_name.specs.KeyTexts.{name_bytes}
 use Rattle.run_states.specs.GroupOf.{group_at}
 use Rattle.run_states.specs.RunState.{JobState, RunState}
 use Rattle.run_states.specs.declared.holder.Holder.TheVariants.{Run}
 use Rattle.run_states.specs.declared.phases.RunPhase.{RunPhase}
 use Rattle.run_states.specs.declared.phases.RunPhase.TheVariants as phase
-use Rattle.run_table.specs.ViewText.{Seen, results_of, status_text}
+use Rattle.run_states.specs.ViewText.{Seen, results_of, status_text}
 use Rattle.table_views.specs.Members.{member, text_or_null}
 use Rattle.table_views.specs.Texts.{quoted}
 

@@ -19,15 +19,15 @@ use Rattle.run_states.specs.declared.phases.LegPhase.TheVariants as leg
 use Rattle.run_states.specs.declared.phases.RunPhase.{RunPhase}
 use Rattle.run_states.specs.declared.phases.RunPhase.TheVariants as phase
 use Rattle.run_states.specs.declared.place.LegSite.{LegSite}
-use Rattle.run_table.specs.TableState.{RunnerState, TableState}
-use Rattle.run_table.specs.ViewText.{Seen, leg_text}
+use Rattle.run_states.specs.TableState.{RunnerState, TableState}
+use Rattle.run_states.specs.ViewText.{Seen, leg_text}
 use Rattle.table_views.specs.Members.{member, number_or_null, text_or_null}
 use Rattle.table_views.specs.Pages.{IsPage, rows_from}
 use Rattle.table_views.specs.QueueLines.{labels_json}
 use Rattle.table_views.specs.RunLines.{state_text}
 use Rattle.table_views.specs.RunRows.{own_group, run_members}
 use Rattle.table_views.specs.Texts.{line, listed, quoted}
-use Rattle.table_views.specs.Limits.{most_looked}
+use Rattle.definitions.specs.Limits.{most_looked}
 
 -- ---- what is waited for
 

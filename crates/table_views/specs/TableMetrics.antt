@@ -4,7 +4,7 @@ use Rattle.std.specs.List.{count_by, filter}
 use Rattle.run_states.specs.Places.{leg_sites}
 use Rattle.run_states.specs.RunState.{RunState}
 use Rattle.run_states.specs.declared.place.LegSite.{LegSite}
-use Rattle.run_table.specs.TableState.{RunnerState, TableState}
+use Rattle.run_states.specs.TableState.{RunnerState, TableState}
 use Rattle.table_views.specs.LegCounting.{leg_lines}
 use Rattle.table_views.specs.MetricLines.{capped, head, metric, value_line}
 use Rattle.table_views.specs.NamedCounts.{named, others, times}

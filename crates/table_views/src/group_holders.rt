@@ -2,7 +2,7 @@
 
 ghost use Rattle.std.specs.Prelude.{◌≡◌, ◌&&◌, ◌++◌, ◌∷◌, ◌<◌, ◌^◌, [], IfOk, OnOk, Ok, filter_map, length, map, string_bytes};
 ghost use Rattle.std.specs.List.{All};
-ghost use Rattle.stated_limits.specs.Limits.{max_runs};
+ghost use Rattle.definitions.specs.Limits.{max_runs};
 ghost use Rattle.wf_value.specs.Gives.{ErrsOnlyByMemory, Gives};
 ghost use Rattle.run_states.specs.Holders.{run_of};
 ghost use Rattle.table_views.specs.HolderPages.{IsHolderPage, holder_members, holder_row, holder_rows, holding_word, is_group_shown, row_of_holder};

@@ -3,7 +3,7 @@
 
 ghost use Rattle.std.specs.Prelude.{◌≡◌, ◌||◌, ◌++◌, ◌<◌, [], ◌∷◌, IfOk, IfSome, None, Ok, OnOk, Some, codes, filter_map, find, length, map, string_bytes};
 ghost use Rattle.std.specs.List.{All};
-ghost use Rattle.stated_limits.specs.Limits.{max_runs};
+ghost use Rattle.definitions.specs.Limits.{max_runs};
 ghost use Rattle.wf_value.specs.Gives.{ErrsOnlyByMemory, Gives};
 ghost use Rattle.run_states.specs.Groups.{all_holders, is_in_progress_in, is_pending_in};
 ghost use Rattle.run_states.specs.Holders.{run_of};

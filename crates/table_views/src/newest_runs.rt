@@ -3,7 +3,7 @@
 ghost use Rattle.std.specs.Prelude.{◌≡◌, ◌<◌, ◌≤◌, ◌++◌, ◌^◌, IfOk, List, OnOk, length, string_bytes};
 ghost use Rattle.run_states.specs.RunState.{RunState};
 ghost use Rattle.wf_value.specs.Gives.{ErrsOnlyByMemory};
-ghost use Rattle.stated_limits.specs.Limits.{max_runs};
+ghost use Rattle.definitions.specs.Limits.{max_runs};
 ghost use Rattle.table_views.specs.RunPages.{IsRunsPage, newest_rows, next_below, runs_below, shown_row};
 
 use crate::members::number_or_null;

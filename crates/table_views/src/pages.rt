@@ -2,7 +2,7 @@
 
 ghost use Rattle.std.specs.Prelude.{◌≡◌, ◌++◌, ◌+◌, ◌-◌, ◌<◌, ◌≤◌, ◌^◌, IfOk, OnOk, Ok, string_bytes};
 ghost use Rattle.wf_value.specs.Gives.{ErrsOnlyByMemory, Gives};
-ghost use Rattle.table_views.specs.Limits.{most_looked};
+ghost use Rattle.definitions.specs.Limits.{most_looked};
 ghost use Rattle.table_views.specs.Pages.{IsPage, page_text, rows_from};
 
 use crate::members::push_member;

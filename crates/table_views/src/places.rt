@@ -2,7 +2,7 @@
 
 ghost use Rattle.std.specs.Prelude.{◌≡◌, ◌++◌, ◌<◌, IfOk, OnOk};
 ghost use Rattle.std.specs.List.{All};
-ghost use Rattle.stated_limits.specs.Limits.{max_runs};
+ghost use Rattle.definitions.specs.Limits.{max_runs};
 ghost use Rattle.run_states.specs.Places.{leg_sites, leg_sites_of_job, leg_sites_of_run};
 ghost use Rattle.table_views.specs.Placed.{IsWithin};
 

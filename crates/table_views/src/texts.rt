@@ -2,7 +2,7 @@
 
 ghost use Rattle.std.specs.Prelude.{◌≡◌, ◌++◌, ◌<◌, IfOk, Ok, OnOk, string_bytes};
 ghost use Rattle.std.specs.List.{join_with_byte};
-ghost use Rattle.stated_limits.specs.Limits.{max_runs};
+ghost use Rattle.definitions.specs.Limits.{max_runs};
 ghost use Rattle.wf_value.specs.Gives.{Gives};
 ghost use Rattle.table_views.specs.Texts.{leg_members, leg_words, listed, quoted};
 

@@ -5,7 +5,7 @@ use Rattle.std.specs.List.{slice_split}
 use Rattle.std.specs.Str.{is_utf8, IsUtf8}
 use Rattle.std.proofs.Math.Seq.{split_at}
 use Rattle.std.proofs.lemmas.Str.{IsUtf8-from_is_utf8, is_utf8-from_IsUtf8}
-use Rattle.run_plan.specs.SmallText.{found_if}
+use Rattle.definitions.specs.SmallText.{found_if}
 use Rattle.view_sessions.specs.Queries.{after_part, all_added, no_query, part_added, parts_of}
 use Rattle.view_sessions.specs.declared.fault.ViewFault.{ViewFault}
 use Rattle.view_sessions.specs.declared.path.Path.{Path}

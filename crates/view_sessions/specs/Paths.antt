@@ -2,7 +2,7 @@
 use Rattle.std.specs.Prelude.{ℕ, List, drop, take, codes, Bool, true, false, Option, Some, None, option_map, if◌then◌else◌}
 use Rattle.std.specs.Option.{option_map_or}
 use Rattle.std.specs.Str.{bytes_eq}
-use Rattle.run_plan.specs.SmallText.{found_if, number_of}
+use Rattle.definitions.specs.SmallText.{found_if, number_of}
 use Rattle.view_sessions.specs.declared.board_file.BoardFile.TheVariants.{Page, Script, Style}
 use Rattle.view_sessions.specs.declared.parameter.Parameter.{Parameter}
 use Rattle.view_sessions.specs.declared.parameter.Parameter.TheVariants as parameter

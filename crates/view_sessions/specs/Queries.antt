@@ -2,7 +2,7 @@
 use Rattle.std.specs.Prelude.{ℕ, List, [], ◌∷◌, Bool, true, ◌||◌, not, is_some, Option, Some, None, option_and_then, ◌==◌, unwrap_or, Result, Ok, Err, if◌then◌else◌}
 use Rattle.std.specs.List.{slice_split}
 use Rattle.std.specs.Option.{option_map_or}
-use Rattle.run_plan.specs.SmallText.{number_of}
+use Rattle.definitions.specs.SmallText.{number_of}
 use Rattle.view_sessions.specs.Cursors.{cursor_of}
 use Rattle.view_sessions.specs.Paths.{is_of, parameter_named}
 use Rattle.view_sessions.specs.Values.{after_byte, before_byte, decoded, is_conclusion, is_status, limit_of, small_number}

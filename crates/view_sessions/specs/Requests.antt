@@ -3,7 +3,7 @@
 use Rattle.std.specs.Prelude.{◌≡◌, ◌⊎◌, ℕ, ◌≤◌, ◌<◌, ◌&&◌, ◌||◌, List, codes, drop, length, not, Bool, true, false, if◌then◌else◌, Option, Some, None, Result, Ok, Err}
 use Rattle.std.specs.List.{list_any}
 use Rattle.std.specs.Str.{bytes_eq}
-use Rattle.stated_limits.specs.Limits.{max_head}
+use Rattle.definitions.specs.Limits.{max_head}
 use Rattle.httparse.specs.Grammar.{HasNoRequest, MayBecomeRequest, RequestHead}
 use Rattle.http1.specs.Fields.{Header}
 use Rattle.http1.specs.Text.{eq_ignore_case}

@@ -4,7 +4,7 @@ use Rattle.std.specs.List.{position}
 use Rattle.std.specs.Option.{option_map_or}
 use Rattle.std.specs.Str.{bytes_eq, is_utf8}
 use Rattle.percent_encoding.specs.Percent.{percent_decode}
-use Rattle.run_plan.specs.SmallText.{found_if, number_of}
+use Rattle.definitions.specs.SmallText.{found_if, number_of}
 
 -- the bytes before the first of a byte, or all
 abbrev pub before_byte : ℕ → List ℕ → List ℕ

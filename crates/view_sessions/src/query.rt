@@ -3,7 +3,7 @@
 ghost use Rattle.std.specs.Prelude.{◌≡◌, ◌==◌, ◌≤◌, Ok, is_some, option_map};
 ghost use Rattle.std.specs.List.{position};
 ghost use Rattle.wf_value.specs.Gives.{Gives};
-ghost use Rattle.run_plan.specs.SmallText.{number_of};
+ghost use Rattle.definitions.specs.SmallText.{number_of};
 ghost use Rattle.view_sessions.specs.Queries.{cursor_in, first_run, given, index_in, is_after, is_first, is_of_form, limit_in, no_query, number_in, part_added, query_of, text_added, value_added, wait_in, with_value};
 ghost use Rattle.view_sessions.specs.Values.{after_byte, before_byte, decoded, is_conclusion, is_status, limit_of, small_number};
 

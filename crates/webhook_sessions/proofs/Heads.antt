@@ -3,7 +3,7 @@ use Rattle.std.proofs.Common.{◌≡◌, ◌⊎◌, ℕ, ◌+◌, ◌<◌, ◌�
 use Rattle.std.specs.Prelude.{min, codes, cond, nat_le, Option, Some, None, Result, Ok, Err, ⊤}
 use Rattle.std.proofs.lemmas.Bool.Decides.{nat_tests}
 use Rattle.std.proofs.lemmas.List.{drop-drop, length-map}
-use Rattle.stated_limits.specs.Limits.{max_body}
+use Rattle.definitions.specs.Limits.{max_body}
 use lib.Seq.{drop-append-le}
 use Rattle.httparse.specs.declared.spans.HeaderSpan.{HeaderSpan}
 use Rattle.httparse.specs.declared.spans.RequestSpans.{RequestSpans}
@@ -12,7 +12,7 @@ use Rattle.httparse.specs.Spans.{RequestOverflows, IsRequestAt, IsRequestWithin,
 use Rattle.httparse.proofs.GrammarLemmas.{ReadsRequest-append}
 use Rattle.http1.specs.Fields.{values_named}
 use Rattle.wf_value.specs.declared.refusal.Refusal.{Refusal}
-use Rattle.run_plan.specs.Decimal.{is_decimal}
+use Rattle.definitions.specs.Decimal.{is_decimal}
 use Rattle.act_sessions.specs.declared.request.Next.{Next}
 use Rattle.act_sessions.specs.declared.request.Next.TheVariants.{Waits, Whole}
 use Rattle.act_sessions.specs.declared.request.Progress.{Progress}

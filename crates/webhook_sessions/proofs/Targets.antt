@@ -9,7 +9,7 @@ use Rattle.std.proofs.Math.Seq.{drop-append_seam, take-append_seam}
 use Rattle.std.proofs.lemmas.Bool.{and_parts, both_ways, cases_Bool, eqb-true, le-ltb, lt-ltb}
 use Rattle.std.proofs.lemmas.List.{append-nil}
 use Rattle.std.proofs.lemmas.Slice.Eq.{bytes_eq-Decides}
-use Rattle.run_plan.specs.SmallText.{found_if, is_number, number_of, runner_name_of}
+use Rattle.definitions.specs.SmallText.{found_if, is_number, number_of, runner_name_of}
 use Rattle.webhook_sessions.specs.declared.path.Path.{Path}
 use Rattle.webhook_sessions.specs.declared.path.Path.TheVariants.{Events, Run, Body, Cancel, Attempt, Lost}
 use Rattle.webhook_sessions.specs.Paths.{IsTargetOf, after_prefix, at_slash, before_end, part_of_run, path_of, run_path, runner_path}

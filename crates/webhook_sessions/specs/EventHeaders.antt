@@ -1,7 +1,7 @@
 -- The delivery id and the event name in the head of a posted event. GitHub Docs, "Webhook events and payloads", Delivery headers.
 use Rattle.std.specs.Prelude.{ℕ, List, [], ◌∷◌, Bool, codes, Result, Ok, Err, if◌then◌else◌}
 use Rattle.http1.specs.Fields.{Header, values_named}
-use Rattle.run_plan.specs.SmallText.{is_short, is_delivery_byte, is_event_byte}
+use Rattle.definitions.specs.SmallText.{is_short, is_delivery_byte, is_event_byte}
 use Rattle.webhook_sessions.specs.declared.fault.Fault.{Fault}
 use Rattle.webhook_sessions.specs.declared.fault.Fault.TheVariants.{EventHeader}
 

@@ -1,6 +1,6 @@
 -- What the code finds of a request after a head of `n` bytes.
 use Rattle.std.specs.Prelude.{◌≡◌, ℕ, ◌+◌, ◌≤◌, ◌<◌, List, ◌++◌, length, drop, Some, None, Result, Ok, Err}
-use Rattle.stated_limits.specs.Limits.{max_body}
+use Rattle.definitions.specs.Limits.{max_body}
 use Rattle.wf_value.specs.Gives.{no_memory}
 use Rattle.wf_value.specs.declared.refusal.Refusal.{Refusal}
 use Rattle.act_sessions.specs.declared.request.Next.{Next}

@@ -1,7 +1,7 @@
 -- The rules of an HTTP/1.1 session. A request is a head as in the grammar of `httparse`, RFC 9112, sections 2 to 5, and a body of as many
 -- bytes as its `Content-Length` says. The limits `max_head` and `max_fields` of a head are defined by this project.
 use Rattle.std.specs.Prelude.{◌≡◌, ◌⊎◌, ℕ, ◌+◌, ◌≤◌, ◌<◌, List, [], ◌++◌, length, take, Some, None}
-use Rattle.stated_limits.specs.Limits.{max_body, max_fields, max_head, max_requests}
+use Rattle.definitions.specs.Limits.{max_body, max_fields, max_head, max_requests}
 use Rattle.httparse.specs.Grammar.{RequestHead, ReadsRequest, HasNoRequest, MayBecomeRequest, EndsInTarget, print_request}
 use Rattle.httparse.specs.Spans.{RequestOverflows}
 use Rattle.act_sessions.specs.declared.request.Request.{Request}

@@ -3,7 +3,7 @@ use Rattle.std.specs.Prelude.{◌≡◌, ℕ, ◌-◌, ◌==◌, List, ◌++◌,
 use Rattle.std.specs.List.{position}
 use Rattle.std.specs.Option.{option_map_or}
 use Rattle.std.specs.Str.{bytes_eq}
-use Rattle.run_plan.specs.SmallText.{found_if, number_of, runner_name_of}
+use Rattle.definitions.specs.SmallText.{found_if, number_of, runner_name_of}
 use Rattle.webhook_sessions.specs.declared.path.Path.{Path}
 use Rattle.webhook_sessions.specs.declared.path.Path.TheVariants.{Events, Run, Body, Cancel, Attempt, Lost}
 

@@ -1,7 +1,7 @@
 ghost use Rattle.std.specs.Prelude.{◌≡◌, IfOk, IsTrue};
 ghost use Rattle.std.specs.Result.{result_map_both};
 ghost use Rattle.http1.specs.Fields.{values_named};
-ghost use Rattle.run_plan.specs.SmallText.{is_short, is_delivery_byte, is_event_byte};
+ghost use Rattle.definitions.specs.SmallText.{is_short, is_delivery_byte, is_event_byte};
 ghost use Rattle.webhook_sessions.specs.EventHeaders.{event_headers, one_of_form};
 
 use crate::fault::Fault;

@@ -1,6 +1,6 @@
 //! Laws of the definitions.
 ghost use Rattle.std.specs.Prelude.{◌≡◌, ◌⊎◌, ◌<◌, ◌↔◌, ℕ, List, length, Some};
-ghost use Rattle.stated_limits.specs.Limits.{max_head};
+ghost use Rattle.definitions.specs.Limits.{max_head};
 ghost use Rattle.httparse.specs.Grammar.{HasNoRequest};
 ghost use Rattle.act_sessions.specs.declared.request.Request.{Request};
 ghost use Rattle.webhook_sessions.specs.declared.fault.Fault.{Fault as Faulty};

@@ -5,7 +5,7 @@ use Rattle.std.specs.List.{list_all}
 use Rattle.std.specs.Bool.{Decides}
 use Rattle.std.proofs.lemmas.Bool.Decides.{Decides-and, Decides-or, Decides-by_and}
 use Rattle.std.proofs.lemmas.Slice.Eq.{bytes_eq-Decides}
-use Rattle.stated_limits.specs.Limits.{max_references}
+use Rattle.definitions.specs.Limits.{max_references}
 use Rattle.wf_expr.specs.Profile.{IsShared, IsInContext, InProfile, IsAllowed, OfReference, OfReferences, IsInProfile, AllowedIn}
 use Rattle.wf_expr.specs.Profile.{reference_count}
 use Rattle.wf_expr.specs.Parsing.{is_result, is_shared, is_in_context, is_path, is_allowed, of_reference, of_references, is_in_profile}

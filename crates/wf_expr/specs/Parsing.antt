@@ -3,7 +3,7 @@ use Rattle.std.specs.Prelude.{ℕ, List, [], ◌∷◌, Bool, true, false, ◌&&
 use Rattle.std.specs.Prelude.{codes, sum_by, nat_le, if◌then◌else◌}
 use Rattle.std.specs.List.{list_all}
 use Rattle.std.specs.Str.{bytes_eq}
-use Rattle.stated_limits.specs.Limits.{max_references}
+use Rattle.definitions.specs.Limits.{max_references}
 use Rattle.wf_value.specs.declared.refusal.Refusal.{Refusal}
 use Rattle.wf_expr.specs.Faults.{wrong_expression, wrong_place}
 use Rattle.wf_expr.specs.Profile.{reference_count}

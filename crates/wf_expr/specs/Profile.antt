@@ -1,7 +1,7 @@
 -- The contexts and paths that a template may use. GitHub Docs, "Contexts reference" (About contexts, Context availability).
 use Rattle.std.specs.Prelude.{◌≡◌, ◌⊎◌, ◌≤◌, ℕ, List, [], ◌∷◌, Bool, true, false, codes, All, sum_by, count_by}
 use Rattle.std.specs.Str.{chars}
-use Rattle.stated_limits.specs.Limits.{max_references}
+use Rattle.definitions.specs.Limits.{max_references}
 use Rattle.wf_expr.specs.Grammar.{EncodesPieces}
 use Rattle.wf_expr.specs.declared.place.ContextSite.{ContextSite}
 use Rattle.wf_expr.specs.declared.place.ContextSite.TheVariants.{Workflow, Job}

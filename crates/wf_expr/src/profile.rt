@@ -1,5 +1,5 @@
 ghost use Rattle.std.specs.Prelude.{◌≡◌, ◌↔◌, ◌≤◌, [], ◌∷◌, IsTrue, All, codes, count_by, sum_by};
-ghost use Rattle.stated_limits.specs.Limits.{max_references};
+ghost use Rattle.definitions.specs.Limits.{max_references};
 ghost use Rattle.wf_expr.specs.Profile.{IsShared, IsInContext, InProfile, IsAllowed, OfReference, OfReferences, AllowedIn};
 ghost use Rattle.wf_expr.specs.Profile.{IsInProfile, is_reference, reference_count};
 

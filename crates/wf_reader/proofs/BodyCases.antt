@@ -4,7 +4,7 @@ use Rattle.std.proofs.Common.{if◌then◌else◌, Ok, Err, IsUtf8, refl, ap, ar
 use Rattle.std.specs.Str.{is_utf8}
 use Rattle.std.proofs.lemmas.Str.{IsUtf8-from_is_utf8, is_utf8-from_IsUtf8}
 use Rattle.std.proofs.lemmas.Bool.Decides.{nat_tests}
-use Rattle.stated_limits.specs.Limits.{max_body}
+use Rattle.definitions.specs.Limits.{max_body}
 use Rattle.serde_json.specs.Data.{Data, null}
 use Rattle.serde_json.specs.Read.{read}
 use Rattle.wf_value.specs.declared.code.Code.TheVariants.{NotJson, TooLong}

@@ -2,7 +2,7 @@
 -- defined by this project.
 use Rattle.std.specs.Prelude.{ℕ, List, length, nat_le, if◌then◌else◌, Option, None, unwrap_or}
 use Rattle.std.specs.Str.{is_utf8}
-use Rattle.stated_limits.specs.Limits.{max_body}
+use Rattle.definitions.specs.Limits.{max_body}
 use Rattle.serde_json.specs.Data.{Data, null}
 use Rattle.serde_json.specs.Read.{read}
 use Rattle.wf_value.specs.declared.code.Code.TheVariants.{NotJson, TooLong}

@@ -1,6 +1,6 @@
 -- The order of the jobs of a workflow.
 use Rattle.std.specs.Prelude.{List, Bool}
-use Rattle.wf_value.specs.Names.{rises_by}
+use Rattle.definitions.specs.Rising.{rises_by}
 use Rattle.wf_reader.specs.declared.job.Job.{Job}
 
 -- whether the ids strictly increase in byte order

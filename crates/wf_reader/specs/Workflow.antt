@@ -1,7 +1,7 @@
 -- A workflow: its faults and its value. Other members are ignored. GitHub Docs, "Workflow syntax for GitHub Actions": name,
 -- concurrency, jobs.
 use Rattle.std.specs.Prelude.{ℕ, List, [], ◌∷◌, ◌++◌, map, length, nat_le, codes, flat_map, option_map}
-use Rattle.stated_limits.specs.Limits.{max_jobs}
+use Rattle.definitions.specs.Limits.{max_jobs}
 use Rattle.serde_json.specs.Data.{Data}
 use Rattle.serde_json.specs.Find.{get}
 use Rattle.wf_value.specs.declared.code.Code.TheVariants.{WrongKind, TooManyJobs}

@@ -2,7 +2,7 @@ ghost use Rattle.std.specs.Prelude.{◌≡◌, IsTrue, IfOk, map, flat_map, stri
 ghost use Rattle.std.specs.List.{filter};
 ghost use Rattle.serde_json.specs.View.{view};
 ghost use Rattle.wf_value.specs.Gives.{Gives};
-ghost use Rattle.wf_value.specs.Names.{names_rise};
+ghost use Rattle.definitions.specs.Rising.{names_rise};
 ghost use Rattle.wf_value.specs.declared.code.Code.TheVariants.{StrategyMember};
 ghost use Rattle.wf_value.specs.declared.refusal.Refusal.TheVariants.{Numbered};
 ghost use Rattle.wf_reader.specs.Faults.{unless_faulty};

@@ -1,6 +1,6 @@
 ghost use Rattle.std.specs.Prelude.{◌≡◌, ◌<◌, ◌≤◌, map, codes, flat_map, length, string_bytes, false, Err};
 ghost use Rattle.std.specs.Str.{is_utf8};
-ghost use Rattle.stated_limits.specs.Limits.{max_body};
+ghost use Rattle.definitions.specs.Limits.{max_body};
 ghost use Rattle.serde_json.specs.View.{view};
 ghost use Rattle.wf_value.specs.Gives.{Gives};
 ghost use Rattle.wf_value.specs.declared.code.Code.TheVariants.{NotJson, TooLong};

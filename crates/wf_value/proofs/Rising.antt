@@ -8,7 +8,7 @@ use Rattle.std.specs.List.{IsAllAdjacentAnswer}
 use Rattle.std.specs.Ordering.{nat_cmp, is_lt, is_eq, ordering_reverse}
 use Rattle.std.proofs.lemmas.Bool.{and_parts, and_from, and_right, cases_lt, cases_eq, false≢true}
 use Rattle.std.proofs.lemmas.Cmp.{tied_itself}
-use Rattle.wf_value.specs.Names.{rises_by}
+use Rattle.definitions.specs.Rising.{rises_by}
 
 abbrev pub name_cmp : List ℕ → List ℕ → Ordering
 name_cmp = slice_cmp nat_cmp

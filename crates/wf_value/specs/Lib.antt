@@ -1,6 +1,5 @@
 pub mod Gives
 pub mod Matrix
-pub mod Names
 pub mod RefusalText
 pub mod ScalarCode
 pub mod ScalarValue

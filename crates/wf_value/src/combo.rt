@@ -1,6 +1,6 @@
 ghost use Rattle.std.specs.Prelude.{◌≡◌, ◌↔◌, ◌++◌, ◌∷◌, [], length, IsTrue, Ok, OnErr};
 ghost use Rattle.wf_value.specs.Gives.{Gives};
-ghost use Rattle.wf_value.specs.Names.{names_rise};
+ghost use Rattle.definitions.specs.Rising.{names_rise};
 
 use crate::chars::Chars;
 use crate::refusal::Refusal;
@@ -20,7 +20,7 @@ pub struct Combo {
 impl Model for Combo {
     ghost use Rattle.std.specs.Prelude.{List, ℕ, IsTrue};
     ghost use Rattle.wf_value.specs.declared.scalar.Scalar.{Scalar};
-    ghost use Rattle.wf_value.specs.Names.{names_rise};
+    ghost use Rattle.definitions.specs.Rising.{names_rise};
     ghost use Rattle.wf_value.specs.ScalarCode.{coded_pairs};
 
     ghost Value = { List (List ℕ × Scalar) };

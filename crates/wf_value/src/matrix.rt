@@ -1,5 +1,5 @@
 ghost use Rattle.std.specs.Prelude.{◌≡◌, IsTrue};
-ghost use Rattle.wf_value.specs.Names.{names_rise};
+ghost use Rattle.definitions.specs.Rising.{names_rise};
 
 use crate::chars::Chars;
 use crate::combo::Combo;
@@ -56,7 +56,7 @@ pub struct Matrix {
 
 impl Model for Matrix {
     ghost use Rattle.std.specs.Prelude.{IsTrue};
-    ghost use Rattle.wf_value.specs.Names.{names_rise};
+    ghost use Rattle.definitions.specs.Rising.{names_rise};
     ghost use Rattle.wf_value.specs.Matrix.{MatrixLists, coded_matrix};
 
     ghost Value = { MatrixLists };

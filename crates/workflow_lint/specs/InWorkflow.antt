@@ -2,7 +2,7 @@
 -- syntax for GitHub Actions".
 use Rattle.std.specs.Prelude.{ℕ, List, [], ◌∷◌, ◌++◌, is_some, if◌then◌else◌, codes, flat_map, length, nat_le}
 use Rattle.std.specs.Option.{option_map_or}
-use Rattle.stated_limits.specs.Limits.{max_body, max_jobs}
+use Rattle.definitions.specs.Limits.{max_body, max_jobs}
 use Rattle.serde_json.specs.Data.{Data}
 use Rattle.serde_json.specs.Find.{as_object}
 use Rattle.wf_value.specs.declared.code.Code.TheVariants.{NotJson, TooLong, TooManyJobs, WrongKind}

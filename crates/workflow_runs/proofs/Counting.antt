@@ -15,7 +15,7 @@ use Rattle.std.specs.Cmp.{IsEquivalence}
 use Rattle.indexmap.specs.IndexMap.{IndexMap}
 use Rattle.std.specs.Map.{lookup}
 use Rattle.wf_reader.specs.Event.{event_of}
-use Rattle.run_plan.specs.Admitted.{Admitted}
+use Rattle.definitions.specs.Admitted.{Admitted}
 use Rattle.run_states.specs.RunNumber.{events, number_of_next, same_workflow}
 use Rattle.run_states.specs.RunState.{RunState}
 use Rattle.workflow_runs.specs.Counted.{AreCounted, count_of}

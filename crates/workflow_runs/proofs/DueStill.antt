@@ -5,7 +5,7 @@ use Rattle.std.proofs.lemmas.Bool.{and_parts}
 use Rattle.group_book.specs.Books.{slot_in}
 use Rattle.group_book.proofs.Exact.{it_is_in, its_group, pick}
 use Rattle.group_name.specs.Group.{Group}
-use Rattle.run_plan.specs.Admitted.{Admitted}
+use Rattle.definitions.specs.Admitted.{Admitted}
 use Rattle.run_marks.specs.Marked.{is_marked}
 use Rattle.run_states.specs.FirstOf.{changed_at}
 use Rattle.run_states.specs.GroupOf.{group_at}

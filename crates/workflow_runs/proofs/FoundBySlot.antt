@@ -4,7 +4,7 @@ use Rattle.std.specs.List.{AllByRecursion, list_any}
 use Rattle.std.specs.Option.{option_map_or}
 use Rattle.std.proofs.Common.{arith, ap, ap₂, sym, ◌∙◌}
 use Rattle.std.proofs.lemmas.Bool.{true≢false}
-use Rattle.stated_limits.specs.Limits.{max_runs}
+use Rattle.definitions.specs.Limits.{max_runs}
 use Rattle.group_book.specs.Books.{slot_in}
 use Rattle.group_book.proofs.Exact.{it_is_in}
 use Rattle.group_name.specs.Group.{Group}

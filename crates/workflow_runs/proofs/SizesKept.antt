@@ -4,7 +4,7 @@ use Rattle.std.specs.List.{AllByRecursion}
 use Rattle.std.proofs.Common.{arith, ap, get_or, sym, subst}
 use Rattle.std.proofs.lemmas.List.{length-set}
 use Rattle.std.proofs.lemmas.List.Sums.{get_or-le-sum_by, sum_by-cons, sum_by-set, sum_by_push}
-use Rattle.stated_limits.specs.Limits.{max_runs}
+use Rattle.definitions.specs.Limits.{max_runs}
 use Rattle.run_states.specs.Changes.{changed}
 use Rattle.run_states.specs.RunState.{RunState}
 use Rattle.workflow_runs.specs.StoredSizes.{IsSizeOf, IsSmall, max_run_size, run_size}

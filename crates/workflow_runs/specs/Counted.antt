@@ -4,7 +4,7 @@ use Rattle.std.specs.Hash as fed
 use Rattle.std.specs.Option.{option_map_or}
 use Rattle.indexmap.specs.IndexMap.{IndexMap, get}
 use Rattle.wf_reader.specs.Event.{event_of}
-use Rattle.run_plan.specs.Admitted.{Admitted}
+use Rattle.definitions.specs.Admitted.{Admitted}
 use Rattle.run_states.specs.RunNumber.{same_workflow}
 use Rattle.workflow_runs.specs.declared.rows.counts.Counted.{Counted}
 

@@ -1,8 +1,8 @@
 -- How many bytes a run has in the text of a table, and the limits that bound them; and the size of all runs, as a table keeps it.
 use Rattle.std.specs.Prelude.{◌≡◌, ℕ, ◌+◌, ◌*◌, ◌≤◌, List, length, map, sum_by}
 use Rattle.std.specs.List.{AllByRecursion}
-use Rattle.stated_limits.specs.Limits.{max_body, max_jobs, max_text_bytes}
-use Rattle.run_plan.specs.Admitted.{Admitted}
+use Rattle.definitions.specs.Limits.{max_body, max_jobs, max_text_bytes}
+use Rattle.definitions.specs.Admitted.{Admitted}
 use Rattle.run_states.specs.RunState.{JobState, RunState}
 
 -- the number of legs of each job

@@ -2,7 +2,7 @@
 
 ghost use Rattle.std.specs.Prelude.{◌≡◌, ◌<◌, ◌^◌, ◌&&◌, IfSome, Some, false, if◌then◌else◌};
 ghost use Rattle.std.specs.Option.{option_map_or};
-ghost use Rattle.stated_limits.specs.Limits.{max_runs};
+ghost use Rattle.definitions.specs.Limits.{max_runs};
 ghost use Rattle.wf_value.specs.declared.outcome.Outcome.TheVariants.{Cancelled, Failure};
 ghost use Rattle.run_states.specs.Cells.{HaveTheirRoom, states};
 ghost use Rattle.run_states.specs.Fitting.{OnlyAtWork, first_fit, is_ready, is_served, is_stopping_leg, site_of_lease};

@@ -1,10 +1,10 @@
 //! Admits an event: creates its run, unless its delivery has one already.
 
 ghost use Rattle.std.specs.Prelude.{◌≡◌, ◌<◌, true, length, Ok, OnErr, IsOk};
-ghost use Rattle.stated_limits.specs.Limits.{max_runs};
+ghost use Rattle.definitions.specs.Limits.{max_runs};
 ghost use Rattle.wf_value.specs.Gives.{Gives};
-ghost use Rattle.run_table.specs.Sound.{IsSound};
-ghost use Rattle.run_table.specs.Step.{admission_answer, admitted, admitting, is_allocation_free, outcome};
+ghost use Rattle.run_states.specs.Sound.{IsSound};
+ghost use Rattle.run_states.specs.Step.{admission_answer, admitted, admitting, is_allocation_free, outcome};
 
 use crate::table_data::{TableData, id_of, refused};
 use run_plan::{Prepared, Reply};

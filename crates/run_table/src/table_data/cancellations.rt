@@ -1,8 +1,8 @@
 //! Cancels a run, unless it has completed.
 
 ghost use Rattle.std.specs.Prelude.{◌≡◌};
-ghost use Rattle.run_table.specs.Sound.{IsSound};
-ghost use Rattle.run_table.specs.Step.{answer_of_run, cancel_answer, cancelled, outcome};
+ghost use Rattle.run_states.specs.Sound.{IsSound};
+ghost use Rattle.run_states.specs.Step.{answer_of_run, cancel_answer, cancelled, outcome};
 
 use crate::table_data::{TableData, place_of, refused};
 use run_plan::{Number, Reply};

@@ -1,8 +1,8 @@
 //! Finds the leg of a lease that a runner holds.
 
 ghost use Rattle.std.specs.Prelude.{◌≡◌, ◌<◌, ◌^◌, IfSome, option_and_then};
-ghost use Rattle.run_table.specs.KeptSite.{kept_site};
-ghost use Rattle.run_table.specs.Sound.{IsSound};
+ghost use Rattle.run_states.specs.KeptSite.{kept_site};
+ghost use Rattle.run_states.specs.Sound.{IsSound};
 ghost use Rattle.run_states.specs.Fitting.{OnlyAtWork, site_of_lease};
 
 use crate::leases::leg_has_lease;

@@ -2,8 +2,8 @@
 
 ghost use Rattle.std.specs.Prelude.{◌≡◌, true, Ok, IsOk, Some};
 ghost use Rattle.wf_value.specs.Gives.{Gives};
-ghost use Rattle.run_table.specs.Sound.{IsSound};
-ghost use Rattle.run_table.specs.Step.{beat_answer, fetch_answer, is_allocation_free, look_answer, seen};
+ghost use Rattle.run_states.specs.Sound.{IsSound};
+ghost use Rattle.run_states.specs.Step.{beat_answer, fetch_answer, is_allocation_free, look_answer, seen};
 
 use crate::runner::holds_this;
 use crate::table_data::{TableData, place_of, refused};

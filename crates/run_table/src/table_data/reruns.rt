@@ -2,8 +2,8 @@
 
 ghost use Rattle.std.specs.Prelude.{◌≡◌, Ok, IsOk, OnErr, true};
 ghost use Rattle.wf_value.specs.Gives.{Gives};
-ghost use Rattle.run_table.specs.Sound.{IsSound};
-ghost use Rattle.run_table.specs.Step.{answer_of_attempt, answer_of_next, is_allocation_free, outcome, rerun, rerun_answer};
+ghost use Rattle.run_states.specs.Sound.{IsSound};
+ghost use Rattle.run_states.specs.Step.{answer_of_attempt, answer_of_next, is_allocation_free, outcome, rerun, rerun_answer};
 
 use crate::table_data::{TableData, place_of, refused};
 use run_plan::{Attempt, Reply};

@@ -3,7 +3,7 @@
 ghost use Rattle.std.specs.Bool.{Decides};
 ghost use Rattle.std.specs.List.{position};
 ghost use Rattle.std.specs.Prelude.{◌≡◌, Some};
-ghost use Rattle.run_table.specs.Sound.{DeliveriesDiffer};
+ghost use Rattle.run_states.specs.Sound.{DeliveriesDiffer};
 ghost use Rattle.run_states.specs.NewRun.{is_delivered_as};
 
 use run_states::Run;

@@ -1,10 +1,10 @@
 //! How many runs there are of each workflow, so that the number of the next run is known without a scan of the runs.
 
 ghost use Rattle.std.specs.Prelude.{◌≡◌, ◌<◌, ◌+◌, IfOk, OnOk, if◌then◌else◌};
-ghost use Rattle.stated_limits.specs.Limits.{max_runs};
+ghost use Rattle.definitions.specs.Limits.{max_runs};
 ghost use Rattle.indexmap.specs.IndexMap.{spare};
 ghost use Rattle.wf_value.specs.Gives.{ErrsOnlyByMemory};
-ghost use Rattle.run_plan.specs.Admitted.{Admitted};
+ghost use Rattle.definitions.specs.Admitted.{Admitted};
 ghost use Rattle.run_states.specs.RunNumber.{same_workflow};
 ghost use Rattle.workflow_runs.specs.Counted.{count_of};
 

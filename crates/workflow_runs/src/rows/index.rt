@@ -4,7 +4,7 @@ ghost use Rattle.std.specs.Prelude.{◌≡◌, ◌<◌, ℕ, [], IfOk, List, Ok,
 ghost use Rattle.std.specs.Str.{bytes_eq};
 ghost use Rattle.indexmap.specs.IndexMap.{get_by_text, spare};
 ghost use Rattle.wf_value.specs.Gives.{ErrsOnlyByMemory, Gives};
-ghost use Rattle.run_plan.specs.Admitted.{Admitted};
+ghost use Rattle.definitions.specs.Admitted.{Admitted};
 ghost use Rattle.run_states.specs.RunNumber.{same_workflow};
 ghost use Rattle.run_bindings.specs.LabelNumbers.{LegsAreOffered};
 ghost use Rattle.workflow_runs.specs.Counted.{AreCounted, count_of};

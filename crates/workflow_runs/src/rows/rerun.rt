@@ -1,7 +1,7 @@
 //! Re-runs: a run begins again in its next attempt. GitHub Docs, "Re-running workflows and jobs".
 
 ghost use Rattle.std.specs.Prelude.{◌≡◌, ◌≤◌, ◌+◌, ◌<◌, IfOk, IfSome, Ok, OnErr, OnOk, Some, option_map, slice_set, vec_len};
-ghost use Rattle.stated_limits.specs.Limits.{last_attempt};
+ghost use Rattle.definitions.specs.Limits.{last_attempt};
 ghost use Rattle.wf_value.specs.Gives.{ErrsOnlyByMemory, Gives};
 ghost use Rattle.run_states.specs.NewRun.{again};
 ghost use Rattle.run_states.specs.Places.{run_at, with_run};

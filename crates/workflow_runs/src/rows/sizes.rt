@@ -2,7 +2,7 @@
 
 ghost use Rattle.std.specs.Prelude.{◌≡◌, ◌+◌, ◌*◌, ◌≤◌, [], length, sum_by};
 ghost use Rattle.std.specs.List.{AllByRecursion};
-ghost use Rattle.stated_limits.specs.Limits.{max_jobs};
+ghost use Rattle.definitions.specs.Limits.{max_jobs};
 ghost use Rattle.run_plan.specs.PlanOf.{faults_of, plan_of};
 ghost use Rattle.run_states.specs.Cells.{rooms, states};
 ghost use Rattle.run_states.specs.Changes.{changed};

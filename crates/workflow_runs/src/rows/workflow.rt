@@ -24,7 +24,7 @@ pub(crate) struct Workflow {
 }
 
 impl Model for Workflow {
-    ghost use Rattle.run_plan.specs.Admitted.{Admitted, coded_admitted};
+    ghost use Rattle.definitions.specs.Admitted.{Admitted, coded_admitted};
 
     ghost Value = { Admitted };
 

@@ -2,7 +2,7 @@
 //! jobs".
 
 ghost use Rattle.std.specs.Prelude.{◌≡◌, ◌<◌, ◌∷◌, ◌++◌, ℕ, [], IfOk, IfSome, None, Ok, OnErr, Some, if◌then◌else◌, length, true};
-ghost use Rattle.stated_limits.specs.Limits.{last_attempt, max_runs};
+ghost use Rattle.definitions.specs.Limits.{last_attempt, max_runs};
 ghost use Rattle.wf_value.specs.Gives.{Gives};
 ghost use Rattle.run_marks.specs.Marked.{Covers, is_marked};
 ghost use Rattle.run_states.specs.Arrivals.{arrived};

@@ -1,7 +1,7 @@
 //! The group of a run or a leg, whether it waits for the group or holds it, and the holders of a group. Only `group` takes memory.
 
 ghost use Rattle.std.specs.Prelude.{◌≡◌, Some, ◌<◌, IfSome, Ok, false, true, find, is_some, option_and_then, option_map};
-ghost use Rattle.stated_limits.specs.Limits.{max_runs};
+ghost use Rattle.definitions.specs.Limits.{max_runs};
 ghost use Rattle.wf_value.specs.Gives.{Gives};
 ghost use Rattle.group_name.specs.BoundGroup.{group_at as bound_group_at};
 ghost use Rattle.run_states.specs.Arrivals.{is_in_group_of_run};

@@ -1,7 +1,7 @@
 //! Builds the runs of a table from the parts in which they are stored, and the book of groups from the table.
 
 ghost use Rattle.std.specs.Prelude.{◌≡◌, ◌≤◌, ◌<◌, ℕ, [], IfOk, IfSome, MatchOption, None, Some, length, option_and_then, true};
-ghost use Rattle.stated_limits.specs.Limits.{max_runs};
+ghost use Rattle.definitions.specs.Limits.{max_runs};
 ghost use Rattle.wf_value.specs.Gives.{ErrsOnlyByMemory};
 ghost use Rattle.group_name.specs.Group.{Group as GroupInWords};
 ghost use Rattle.group_book.specs.Books.{slot_in};

@@ -1,7 +1,7 @@
 use Rattle.std.proofs.Common.{rules, ◌≡◌, ◌⊎◌, ◌≤◌, ◌*◌, ℕ, List, length, refl, subst}
-use Rattle.gated_journal.specs.Layout.{ReadsNothing}
+use Rattle.definitions.specs.Area.{ReadsNothing}
 use Rattle.act_store.specs.AreaPrefix.{IsPrefixOf, ReadsSomething}
-use Rattle.act_store.specs.Limits.{first_read}
+use Rattle.definitions.specs.Limits.{first_read}
 use Rattle.act_store.proofs.AreaPrefixes.{alike, still_short}
 use Rattle.act_store.proofs.ReadTwice.{read_twice}
 use Rattle.act_store.proofs.area_prefix.read_prefix.Goals as goal

@@ -1,5 +1,5 @@
 use Rattle.std.proofs.Common.{◌≡◌, ◌-◌, ◌≤◌, vec_len}
-use Rattle.act_disk.specs.Images.{SameImages}
+use Rattle.definitions.specs.Disk.{SameImages}
 use Rattle.gated_journal.specs.Reading.{OnlyRead}
 use Rattle.act_store.specs.AreaPrefix.{IsPrefixOf, IsShort}
 use Rattle.act_store.proofs.area_prefix.read_prefix.Given as goal

@@ -1,5 +1,5 @@
 use Rattle.std.proofs.Common.{rules, arith, ◌+◌, ◌≤◌, take, subst, length-take-le}
-use Rattle.act_disk.specs.Images.{Holds}
+use Rattle.definitions.specs.Disk.{Holds}
 use Rattle.gated_journal.specs.TwoAreas.{other, start_of}
 use Rattle.act_store.proofs.Snapshots.{slice_on}
 use Rattle.act_store.proofs.check_slice.put_slice.Goals as goal

@@ -1,6 +1,6 @@
 use Rattle.std.proofs.Common.{◌≤◌, ◌<◌, length, arith, refl}
 use Rattle.std.proofs.KnownBytes.{Consumes-whole}
-use Rattle.stated_limits.specs.Limits.{max_input}
+use Rattle.definitions.specs.Limits.{max_input}
 use Rattle.acts_ops.specs.Input.{IsReadAs}
 use Rattle.acts_ops.proofs.Inputs.{too_long, unread}
 use Rattle.acts_ops.proofs.input.read_input.Goals as goal

@@ -1,6 +1,6 @@
 use Rattle.std.proofs.Common.{[], ap, refl, subst, inl, ◌∙◌}
 use Rattle.std.proofs.KnownBytes.{Appends-nil}
-use Rattle.run_table.specs.TableState.{TableState}
+use Rattle.run_states.specs.TableState.{TableState}
 use Rattle.act_store.specs.Images.{RecoversTo}
 use Rattle.act_store.specs.StoreState.{table_of}
 use Rattle.acts_ops.specs.Show.{shown}

@@ -2,7 +2,7 @@ use Rattle.std.specs.Prelude.{ok_or, Option, option_map}
 use Rattle.std.proofs.Common.{refl, subst}
 use Rattle.wf_value.specs.declared.code.Code.TheVariants.{NoRun}
 use Rattle.wf_value.specs.declared.refusal.Refusal.TheVariants.{Numbered}
-use Rattle.run_table.specs.ViewText.{Seen}
+use Rattle.run_states.specs.ViewText.{Seen}
 use Rattle.table_views.specs.RunLines.{run_line}
 use Rattle.acts_ops.specs.Show.{WritesWhat}
 use Rattle.acts_ops.proofs.Showing.{missing}

@@ -3,7 +3,7 @@ use Rattle.std.specs.Int.{to_be_bytes, w32}
 use Rattle.std.proofs.lemmas.List.{drop_at}
 use Rattle.std.proofs.Math.Nat.{mod-eq_of_lt}
 use Rattle.std.proofs.lemmas.Nat.{from_be_bytes-to_be_bytes_4}
-use Rattle.command_encodings.specs.Format.{word_bytes}
+use Rattle.definitions.specs.Format.{word_bytes}
 use Rattle.command_encodings.proofs.extend.count_one_more.Goals as goal
 
 pub returns : goal.returns

@@ -1,6 +1,6 @@
 use Rattle.std.proofs.Common.{refl, length}
 use Rattle.gated_journal.specs.Appends.{record_of}
-use Rattle.gated_journal.specs.Layout.{opened}
+use Rattle.definitions.specs.Area.{opened}
 use Rattle.gated_journal.proofs.TwoAreas.{append_keeps}
 use Rattle.gated_journal.proofs.laws.an_append_changes_no_choice.Goals as goal
 

@@ -1,5 +1,5 @@
 use Rattle.std.proofs.Common.{IsTrue}
-use Rattle.wf_value.specs.Names.{names_rise}
+use Rattle.definitions.specs.Rising.{names_rise}
 use Rattle.matrix_expand.specs.Numbered.{axes_of}
 use Rattle.matrix_expand.proofs.Legs.{names_rise-axes}
 use Rattle.matrix_expand.proofs.Merging.{ok_gives}

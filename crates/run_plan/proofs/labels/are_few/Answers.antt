@@ -1,7 +1,7 @@
 use Rattle.std.proofs.Common.{rules, tests, ap, nat_le}
 use Rattle.std.proofs.lemmas.Iterator.Consumers.{count_from_yields_List}
 use Rattle.std.proofs.lemmas.Iterator.Splits.{YieldsList-from_slice_split}
-use Rattle.stated_limits.specs.Limits.{max_labels}
+use Rattle.definitions.specs.Limits.{max_labels}
 use Rattle.run_plan.proofs.labels.are_few.Goals as goal
 
 pub returns : goal.returns

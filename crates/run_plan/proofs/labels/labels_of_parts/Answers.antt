@@ -2,7 +2,7 @@ use Rattle.std.proofs.Common.{rules, tests, ap, sym, ◌∙◌}
 use Rattle.std.specs.Prelude.{Ok}
 use Rattle.std.proofs.lemmas.Iterator.Consumers.{YieldsList-turn, YieldsList-end, YieldsList-at}
 use Rattle.std.proofs.lemmas.Iterator.Splits.{YieldsList-from_slice_split}
-use Rattle.run_plan.specs.SmallText.{is_short, is_label_byte, split_at_commas}
+use Rattle.definitions.specs.SmallText.{is_short, is_label_byte, split_at_commas}
 use Rattle.run_plan.proofs.Parts.{each_passes, passes_at}
 use Rattle.run_plan.proofs.labels.labels_of_parts.Goals as goal
 

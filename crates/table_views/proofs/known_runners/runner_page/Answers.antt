@@ -1,10 +1,10 @@
 use Rattle.std.proofs.Common.{◌∙◌, ◌-◌, ℕ, List, length, ap, ap₂, subst, sym}
 use Rattle.std.specs.Prelude.{codes, string_bytes}
-use Rattle.run_table.specs.TableState.{RunnerState}
+use Rattle.run_states.specs.TableState.{RunnerState}
 use Rattle.table_views.specs.Members.{text_or_null}
 use Rattle.table_views.specs.Pages.{IsPage, page_text, rows_from}
 use Rattle.table_views.specs.RunnerPages.{IsRunnerPage, next_name, runner_rows}
-use Rattle.table_views.specs.Limits.{most_looked}
+use Rattle.definitions.specs.Limits.{most_looked}
 use Rattle.table_views.proofs.Paging.{gives_ok, if_gives}
 use Rattle.table_views.proofs.known_runners.runner_page.Goals as goal
 

@@ -1,6 +1,6 @@
 use Rattle.std.proofs.Common.{◌≡◌, ◌+◌, take}
 use Rattle.std.specs.Prelude.{sum_by}
-use Rattle.stated_limits.specs.Limits.{max_references}
+use Rattle.definitions.specs.Limits.{max_references}
 use Rattle.wf_expr.specs.Profile.{reference_count}
 use Rattle.wf_expr.proofs.profile.are_few.Given as goal
 

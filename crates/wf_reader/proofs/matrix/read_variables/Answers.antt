@@ -1,5 +1,5 @@
 use Rattle.std.proofs.Common.{IsTrue, ap, refl, sym, subst}
-use Rattle.wf_value.specs.Names.{names_rise}
+use Rattle.definitions.specs.Rising.{names_rise}
 use Rattle.wf_value.proofs.PassedOn.{passed_on}
 use Rattle.wf_reader.specs.MatrixOf.{is_variable_name, variable_faults, variable_of}
 use Rattle.wf_reader.proofs.Entries.{kept, kept-sorted, kept_here, check_fails, all_done, rises-sorted}

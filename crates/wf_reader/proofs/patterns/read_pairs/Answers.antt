@@ -1,5 +1,5 @@
 use Rattle.std.proofs.Common.{IsTrue, refl, sym, subst}
-use Rattle.wf_value.specs.Names.{names_rise}
+use Rattle.definitions.specs.Rising.{names_rise}
 use Rattle.wf_value.proofs.PassedOn.{passed_on}
 use Rattle.wf_reader.specs.Patterns.{pair_faults, pair_of}
 use Rattle.wf_reader.proofs.Entries.{check_fails, check_left, check_done, all_done, rises-sorted}

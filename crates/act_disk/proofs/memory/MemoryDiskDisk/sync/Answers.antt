@@ -1,5 +1,5 @@
 use Rattle.std.proofs.Common.{refl, subst, length}
-use Rattle.act_disk.specs.Images.{Elapses}
+use Rattle.definitions.specs.Disk.{Elapses}
 use Rattle.act_disk.specs.Record.{Record, MayLeave, MayHaveLeft}
 use Rattle.act_disk.specs.declared.call.Call.TheVariants.{Sync}
 use Rattle.act_disk.proofs.RecordLemmas.{elapses}

@@ -1,5 +1,5 @@
 use Rattle.std.proofs.Common.{refl, subst, length}
-use Rattle.act_disk.specs.Images.{Torn, IsWritten, Follows, LeavesAny, Elapses}
+use Rattle.definitions.specs.Disk.{Torn, IsWritten, Follows, LeavesAny, Elapses}
 use Rattle.act_disk.specs.Record.{Record, bytes_of, MayLeave, MayHaveLeft}
 use Rattle.act_disk.specs.declared.call.Call.TheVariants.{Write}
 use Rattle.act_disk.proofs.RecordLemmas.{carried, written, any, follows, elapses}

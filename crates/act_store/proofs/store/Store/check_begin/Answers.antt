@@ -1,6 +1,6 @@
 use Rattle.std.proofs.Common.{rules, arith, ◌≡◌, ◌≤◌, ◌+◌, ◌∙◌, ℕ, ap, length, take, true, refl, subst, sym}
 use Rattle.std.specs.Prelude.{Some, option_map}
-use Rattle.act_disk.specs.Images.{EachSince, Holds}
+use Rattle.definitions.specs.Disk.{EachSince, Holds}
 use Rattle.act_disk.proofs.Moments.{started}
 use Rattle.gated_journal.specs.TwoAreas.{other, start_of}
 use Rattle.gated_journal.specs.declared.gate.GateState.TheVariants.{Closed}

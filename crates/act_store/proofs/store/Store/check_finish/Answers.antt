@@ -1,6 +1,6 @@
 use Rattle.std.proofs.Common.{rules, arith, ◌≡◌, ◌+◌, ◌-◌, List, ℕ, [], ap, length, true, refl, subst, sym}
 use Rattle.std.specs.Prelude.{Ok, OnOk, Result, Some}
-use Rattle.act_disk.specs.Images.{EachSince}
+use Rattle.definitions.specs.Disk.{EachSince}
 use Rattle.act_disk.proofs.Moments.{started}
 use Rattle.gated_journal.specs.TwoAreas.{other}
 use Rattle.gated_journal.specs.declared.gate.GateState.TheVariants.{Open}

@@ -1,5 +1,5 @@
 use Rattle.std.proofs.Common.{◌+◌}
-use Rattle.act_disk.specs.Images.{From}
+use Rattle.definitions.specs.Disk.{From}
 use Rattle.act_disk.proofs.Moments.{weakened}
 use Rattle.gated_journal.specs.Appends.{Appends}
 use Rattle.gated_journal.specs.OnDisk.{MayHaveGrown}

@@ -1,5 +1,5 @@
 use Rattle.std.proofs.Common.{◌+◌, length, subst, arith}
-use Rattle.act_disk.specs.Images.{IsWritten}
+use Rattle.definitions.specs.Disk.{IsWritten}
 use Rattle.gated_journal.specs.TwoAreas.{start_of, other}
 use Rattle.gated_journal.proofs.Composed.{on_ok}
 use Rattle.gated_journal.proofs.Filled.{holds_more}

@@ -1,6 +1,6 @@
 use Rattle.std.proofs.Common.{ap, ◌∙◌, subst, sym, Ok, List, ℕ}
 use Rattle.std.specs.Prelude.{map, false}
-use Rattle.run_plan.specs.Admitted.{Admitted}
+use Rattle.definitions.specs.Admitted.{Admitted}
 use Rattle.run_plan.specs.PlanOf.{plan_graph, plan_of}
 use Rattle.run_states.specs.Cells.{blocked_cells, rooms, states, legs_planned}
 use Rattle.run_states.specs.NeedsLeft.{NeedsAreLeft}

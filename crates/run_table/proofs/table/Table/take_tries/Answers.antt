@@ -1,7 +1,7 @@
 use Rattle.std.proofs.Common.{◌≡◌, ◌∙◌, List, ap, subst, sym}
 use Rattle.run_states.specs.RunState.{RunState}
-use Rattle.run_table.specs.Sound.{IsSound}
-use Rattle.run_table.specs.TableState.{TableState}
+use Rattle.run_states.specs.Sound.{IsSound}
+use Rattle.run_states.specs.TableState.{TableState}
 use Rattle.run_table.specs.declared.table.Table.TheInside.{Inside}
 use Rattle.run_table.proofs.table.Table.take_tries.Goals as goal
 

@@ -4,7 +4,7 @@ use Rattle.run_states.specs.Groups.{run_waits}
 use Rattle.run_states.specs.Resuming.{resume_at_arrival}
 use Rattle.run_states.specs.RunState.{RunState}
 use Rattle.run_states.specs.declared.holder.Holder.TheVariants.{Run}
-use Rattle.run_table.specs.TableState.{TableState}
+use Rattle.run_states.specs.TableState.{TableState}
 use Rattle.run_table.proofs.BeforeSettling.{entering_arrives, entering_settles, enters}
 use Rattle.run_table.proofs.EnteredRests.{entering_rests}
 use Rattle.run_table.proofs.table_data.TableData.enter.Goals as goal

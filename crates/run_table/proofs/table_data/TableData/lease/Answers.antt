@@ -4,12 +4,12 @@ use Rattle.std.proofs.lemmas.Option.{slice_get_within}
 use Rattle.run_plan.specs.declared.reply.Lease.{Lease as Leased}
 use Rattle.run_plan.specs.declared.reply.Reply.TheVariants as reply
 use Rattle.run_states.specs.Places.{with_leg}
-use Rattle.run_table.specs.Step.{lease_at}
+use Rattle.run_states.specs.Step.{lease_at}
 use Rattle.run_states.specs.Groups.{holds, leg_holds}
 use Rattle.run_states.specs.NewRun.{leased_leg}
 use Rattle.run_states.specs.RunState.{LegState, RunState}
 use Rattle.run_states.specs.declared.holder.Holder.TheVariants.{Leg}
-use Rattle.run_table.specs.TableState.{RunnerState, TableState}
+use Rattle.run_states.specs.TableState.{RunnerState, TableState}
 use Rattle.run_table.specs.IndexNamed.{index_named}
 use Rattle.run_states.proofs.JobKeeps.{leg_in}
 use Rattle.run_table.proofs.ClaimKeeps.{fitting_leg}

@@ -1,7 +1,7 @@
 use Rattle.std.proofs.Common.{ap, sym, subst, ◌∙◌, rules}
 use Rattle.std.specs.Bool.{Decides}
-use Rattle.run_table.specs.Sound.{IsOfALeg}
-use Rattle.run_table.specs.Step.{kept_lease}
+use Rattle.run_states.specs.Sound.{IsOfALeg}
+use Rattle.run_states.specs.Step.{kept_lease}
 use Rattle.stored_tables.specs.Stored.{site_in_runs}
 use Rattle.run_states.specs.declared.place.LegSite.{LegSite}
 use Rattle.run_states.proofs.OneAfterAnother.{not_so}

@@ -1,6 +1,6 @@
 use Rattle.std.proofs.Common.{◌≡◌, ◌<◌, ap, subst, sym, ◌∙◌, rules}
 use Rattle.std.specs.Prelude.{length}
-use Rattle.run_plan.specs.Admitted.{Admitted}
+use Rattle.definitions.specs.Admitted.{Admitted}
 use Rattle.run_states.specs.RunNumber.{number_of_next}
 use Rattle.workflow_runs.specs.RowsKept.{RowState}
 use Rattle.workflow_runs.proofs.Counting.{few_counted, next_counted}

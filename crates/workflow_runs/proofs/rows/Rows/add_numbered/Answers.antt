@@ -5,7 +5,7 @@ use Rattle.wf_value.proofs.PassedOn.{passed_on}
 use Rattle.group_book.specs.Books.{BookState}
 use Rattle.group_book.specs.declared.slot.Slot.{Slot}
 use Rattle.group_name.specs.Group.{Group}
-use Rattle.run_plan.specs.Admitted.{Admitted}
+use Rattle.definitions.specs.Admitted.{Admitted}
 use Rattle.label_lists.specs.Lists.{ListsState, OnlyGrows as ListsGrow}
 use Rattle.run_marks.specs.Marked.{SameMarks}
 use Rattle.run_states.specs.ActiveRuns.{is_active}

@@ -3,8 +3,8 @@ use Rattle.std.specs.Prelude.{ℕ, ◌==◌, ◌&&◌, ◌||◌, List, length, B
 use Rattle.std.specs.List.{list_all, slice_split}
 use Rattle.std.specs.Char.{is_ascii_digit, is_ascii_lowercase, is_ascii_alphanumeric, is_ascii_graphic}
 use Rattle.std.specs.Str.Parse.{digits_value}
-use Rattle.stated_limits.specs.Limits.{max_labels, max_text_bytes}
-use Rattle.run_plan.specs.Decimal.{is_decimal}
+use Rattle.definitions.specs.Limits.{max_labels, max_text_bytes}
+use Rattle.definitions.specs.Decimal.{is_decimal}
 
 abbrev pub is_of_short_length : List ℕ → Bool
 is_of_short_length text = nat_le 1 (length text) && nat_le (length text) max_text_bytes

@@ -6,12 +6,12 @@ use Rattle.std.specs.Prelude.{ℕ, ◌+◌, ◌-◌, ◌&&◌, List, [], ◌∷�
 use Rattle.std.specs.Prelude.{option_map, if◌then◌else◌}
 use Rattle.std.specs.List.{position}
 use Rattle.std.specs.Option.{option_or, option_map_or}
-use Rattle.stated_limits.specs.Limits.{last_attempt, last_number, max_runs}
+use Rattle.definitions.specs.Limits.{last_attempt, last_number, max_runs}
 use Rattle.wf_value.specs.declared.code.Code.{Code}
 use Rattle.wf_value.specs.declared.code.Code.TheVariants.{HasLease, LeaseNotHeld, LastCounter, NoRun, NoRunner}
 use Rattle.wf_value.specs.declared.code.Code.TheVariants.{RunCompleted, RunNotCompleted}
 use Rattle.wf_value.specs.declared.refusal.Refusal.TheVariants.{Numbered, Turn}
-use Rattle.run_plan.specs.Admitted.{Admitted}
+use Rattle.definitions.specs.Admitted.{Admitted}
 use Rattle.run_plan.specs.LastCommand.{is_last_claim, is_last_report}
 use Rattle.run_plan.specs.ReplyText.{carries_text}
 use Rattle.run_plan.specs.declared.command.Attempt.{Attempt}
@@ -26,15 +26,15 @@ use Rattle.run_plan.specs.declared.reply.Reply.TheVariants as reply
 use Rattle.run_states.specs.Arrivals.{arrived}
 use Rattle.run_states.specs.Fitting.{first_fit, is_lease_stopping}
 use Rattle.run_states.specs.Moves.{Move, Transition}
-use Rattle.run_table.specs.TableState.{Step, RunnerState, TableState}
+use Rattle.run_states.specs.TableState.{Step, RunnerState, TableState}
 use Rattle.run_states.specs.Places.{run_at, with_leg, with_run}
 use Rattle.run_states.specs.declared.place.LegSite.{LegSite}
 use Rattle.run_states.specs.RunState.{RunState}
 use Rattle.run_states.specs.Settling.{settled, settling_moves}
 use Rattle.run_states.specs.StopMoves.{stop_holder, with_ended, lease_end_moves}
 use Rattle.run_states.specs.Stops.{outcome_of_loss}
-use Rattle.run_table.specs.SequenceNumbers.{runner_named, answer_by_number, with_runner, holds_lease, holds_this}
-use Rattle.run_table.specs.ViewText.{Seen, seen_of, seen_text}
+use Rattle.run_states.specs.SequenceNumbers.{runner_named, answer_by_number, with_runner, holds_lease, holds_this}
+use Rattle.run_states.specs.ViewText.{Seen, seen_of, seen_text}
 use Rattle.run_states.specs.Words.{job_id, combo_at}
 use Rattle.run_plan.specs.declared.last_command.LastCommand.TheVariants as last
 use Rattle.run_plan.specs.declared.last_command.ClaimReply.{ClaimReply}

@@ -2,16 +2,16 @@
 -- them: "Workflow syntax for GitHub Actions" (jobs, jobs.<job_id>.strategy, jobs.<job_id>.runs-on) and "Control the
 -- concurrency of workflows and jobs". This project defines leases, command numbers and kept replies.
 use Rattle.std.specs.Prelude.{◌≡◌, ℕ, ◌<◌, ◌≤◌, List, length, true, slice_get, Some, None}
-use Rattle.stated_limits.specs.Limits.{last_attempt, last_number, max_runs}
+use Rattle.definitions.specs.Limits.{last_attempt, last_number, max_runs}
 use Rattle.run_states.specs.Groups.{HasOneEach}
 use Rattle.run_states.specs.Parallel.{is_at_work, legs_at_work, most_at_work}
 use Rattle.run_states.specs.Places.{run_at, job_at, leg_at}
 use Rattle.run_states.specs.declared.place.LegSite.{LegSite}
 use Rattle.run_states.specs.Settling.{first_site}
-use Rattle.run_table.specs.Step.{lease_at}
-use Rattle.run_table.specs.TableState.{RunnerState, TableState}
+use Rattle.run_states.specs.Step.{lease_at}
+use Rattle.run_states.specs.TableState.{RunnerState, TableState}
 use Rattle.run_states.specs.RunState.{LegState, JobState, RunState}
-use Rattle.run_table.specs.SequenceNumbers.{names_rise}
+use Rattle.run_states.specs.SequenceNumbers.{names_rise}
 use Rattle.run_plan.specs.declared.last_command.LastCommand.{LastCommand}
 use Rattle.run_plan.specs.declared.last_command.LastCommand.TheVariants as last
 use Rattle.run_plan.specs.declared.last_command.ClaimReply.TheVariants as given

@@ -2,8 +2,8 @@
 use Rattle.std.specs.Prelude.{List, [], ◌∷◌}
 use Rattle.run_plan.specs.declared.command.Command.{Command}
 use Rattle.run_plan.specs.declared.reply.Reply.{Reply}
-use Rattle.run_table.specs.Step.{stepped}
-use Rattle.run_table.specs.TableState.{TableState}
+use Rattle.run_states.specs.Step.{stepped}
+use Rattle.run_states.specs.TableState.{TableState}
 
 -- the table after all of them
 abbrev pub after : TableState → List Command → TableState

@@ -90,3 +90,37 @@ max_line = 512
 -- lines of a runner's session
 abbrev pub max_lines : ℕ
 max_lines = 1024
+
+-- ---- how much is written and read at a time. Decisions of this project
+
+-- the most bytes of a checkpoint that one call writes
+abbrev pub max_slice : ℕ
+max_slice = 4096
+
+-- bytes of an area that an opening reads first
+abbrev pub first_read : ℕ
+first_read = 65536
+
+-- ---- how much is taken from a client at a time, and how much of its answers waits. Decisions of this project
+
+-- requests that are taken at a time
+abbrev pub max_taken : ℕ
+max_taken = 16
+
+-- A client's next request is taken only while fewer bytes of answers than these are withheld from it.
+abbrev pub max_withheld : ℕ
+max_withheld = 65536
+
+-- ---- how many lines are kept, and how many a page has. Decisions of this project
+
+abbrev pub most_kept : ℕ
+most_kept = 20000
+
+abbrev pub page_lines : ℕ
+page_lines = 1000
+
+-- ---- how far a page looks. A decision of this project
+
+-- the most indices at which a page looks
+abbrev pub most_looked : ℕ
+most_looked = 10000

@@ -6,13 +6,13 @@ use Rattle.std.specs.Cmp.Lexicographic.{slice_cmp}
 use Rattle.std.specs.Option.{option_map_or}
 use Rattle.std.specs.Ordering.{is_lt, nat_cmp}
 use Rattle.std.specs.Str.{bytes_eq}
-use Rattle.wf_value.specs.Names.{rises_by}
+use Rattle.definitions.specs.Rising.{rises_by}
 use Rattle.wf_value.specs.declared.refusal.Refusal.TheVariants.{Turn}
 use Rattle.run_plan.specs.LastCommand.{kept_reply}
 use Rattle.run_plan.specs.ReplyText.{carries_text}
 use Rattle.run_plan.specs.declared.reply.Reply.{Reply}
 use Rattle.run_plan.specs.declared.reply.Reply.TheVariants as reply
-use Rattle.run_table.specs.TableState.{RunnerState}
+use Rattle.run_states.specs.TableState.{RunnerState}
 use Rattle.run_plan.specs.declared.last_command.LastCommand.{LastCommand}
 
 abbrev pub is_named : List ℕ → RunnerState → Bool
