@@ -6,7 +6,7 @@ use Rattle.std.proofs.lemmas.Bool.Decides.{nat_tests}
 use mathlib.Core.List.{IsPrefix}
 use Rattle.act_desk.specs.declared.event.Event.{Event}
 use Rattle.act_desk.specs.declared.event.Note.{Note}
-use Rattle.act_desk.specs.Lines.{line, next_of, IsUnused}
+use Rattle.act_desk.specs.inner.Lines.{line, next_of, IsUnused}
 
 line_step : (b : Bool) (e : Event) (to key : ℕ) (xs ys : List Note) → line to (xs ++ ys) ≡ line to xs ++ line (next_of to xs) ys
     → line key (xs ++ ys) ≡ line key xs ++ line (next_of key xs) ys

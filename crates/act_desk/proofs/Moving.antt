@@ -5,7 +5,7 @@ use Rattle.std.proofs.lemmas.List.{append-nil, get_or-set_same, length-set}
 use prog.Atomic.{either}
 use Rattle.logbook.specs.Pages.{Cell, Nib, cell, adds, gives, keeps, may_write, no_nib, step, Moves}
 use Rattle.act_desk.specs.declared.event.Note.{Note}
-use Rattle.act_desk.specs.Lines.{IsKept, AreUsed, IsUnused, Adds, Looks, Reserves}
+use Rattle.act_desk.specs.inner.Lines.{IsKept, AreUsed, IsUnused, Adds, Looks, Reserves}
 
 abbrev pub shown : List Note → List Note
 shown log = []

@@ -3,7 +3,6 @@ pub mod Begins
 pub mod Events
 pub mod Faults
 pub mod Flushing
-pub mod Lines
-pub mod Lone
 pub mod Settled
 pub mod Shown
+pub mod inner

@@ -29,7 +29,7 @@ pub struct Alone<D: Disk> {
 
 impl<D: Disk> Model for Alone<D> {
     ghost use Rattle.act_sessions.specs.Exchange.{exchanges_in};
-    ghost use Rattle.act_desk.specs.Lone.{Lone};
+    ghost use Rattle.act_desk.specs.inner.Lone.{Lone};
 
     ghost Value = { Lone D };
 

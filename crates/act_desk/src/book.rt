@@ -3,7 +3,7 @@
 ghost use Rattle.std.specs.Prelude.{◌≡◌};
 ghost use mathlib.Core.List.{IsPrefix};
 ghost use Rattle.logbook.specs.Pages.{may_write};
-ghost use Rattle.act_desk.specs.Lines.{IsUnused, head_of};
+ghost use Rattle.act_desk.specs.inner.Lines.{IsUnused, head_of};
 
 use crate::book_rules::{Append, BookRule, Look, Next, NoResource, Reserve};
 use crate::event::Note;

@@ -7,7 +7,7 @@ pub struct BookRule;
 impl Rule<Note, u64> for BookRule {
     ghost use Rattle.std.specs.Prelude.{[]};
     ghost use base.Fml.{ftrue};
-    ghost use Rattle.act_desk.specs.Lines.{IsKept};
+    ghost use Rattle.act_desk.specs.inner.Lines.{IsKept};
 
     ghost holds = { λ cells log. IsKept cells log };
 
@@ -35,7 +35,7 @@ impl Gain<Note, u64> for NoResource {
 pub struct Reserve;
 
 impl Play<Note, u64> for Reserve {
-    ghost use Rattle.act_desk.specs.Lines.{Reserves};
+    ghost use Rattle.act_desk.specs.inner.Lines.{Reserves};
 
     ghost then = { Reserves };
 }
@@ -44,7 +44,7 @@ impl Play<Note, u64> for Reserve {
 pub struct Look;
 
 impl Play<Note, u64> for Look {
-    ghost use Rattle.act_desk.specs.Lines.{Looks};
+    ghost use Rattle.act_desk.specs.inner.Lines.{Looks};
 
     ghost then = { Looks };
 }
@@ -53,7 +53,7 @@ impl Play<Note, u64> for Look {
 pub struct Append;
 
 impl Play<Note, u64> for Append {
-    ghost use Rattle.act_desk.specs.Lines.{Adds};
+    ghost use Rattle.act_desk.specs.inner.Lines.{Adds};
 
     ghost then = { Adds };
 }

@@ -2,7 +2,7 @@ ghost use Rattle.std.specs.Prelude.{◌≡◌, ◌+◌, ◌<◌, ◌≤◌, ◌^
 ghost use mathlib.Core.List.{IsPrefix};
 ghost use Rattle.logbook.specs.Pages.{may_write};
 ghost use Rattle.act_desk.specs.Events.{covered_in, entries_in, entry_of_event, told_in};
-ghost use Rattle.act_desk.specs.Lines.{head_of, line, next_of};
+ghost use Rattle.act_desk.specs.inner.Lines.{head_of, line, next_of};
 
 use crate::book::{BookWord, SeenBook, look, reserve};
 use crate::book_rules::{Append, BookRule, Next, NoResource};
@@ -63,7 +63,7 @@ impl<E: Named> Model for HistoryWriter<E> {
     ghost use Rattle.std.specs.Prelude.{◌≡◌, List, length};
     ghost use Rattle.logbook.specs.Pages.{may_write};
     ghost use Rattle.act_desk.specs.Events.{entries_in};
-    ghost use Rattle.act_desk.specs.Lines.{head_of, line, next_of};
+    ghost use Rattle.act_desk.specs.inner.Lines.{head_of, line, next_of};
     ghost use Rattle.act_desk.specs.declared.event.Event.{Event};
 
     ghost Value = { List Event };
@@ -161,7 +161,7 @@ pub struct HistoryPrefix<E: Named> {
 impl<E: Named> Model for HistoryPrefix<E> {
     ghost use Rattle.std.specs.Prelude.{◌≡◌, List, length};
     ghost use Rattle.act_desk.specs.Events.{entries_in};
-    ghost use Rattle.act_desk.specs.Lines.{line};
+    ghost use Rattle.act_desk.specs.inner.Lines.{line};
     ghost use Rattle.act_desk.specs.declared.event.Event.{Event};
 
     ghost Value = { List Event };

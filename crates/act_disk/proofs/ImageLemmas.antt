@@ -6,7 +6,8 @@ use Rattle.std.proofs.lemmas.List.{reverse-append, take-append-drop}
 use Rattle.wf_value.specs.Gives.{Gives}
 use Rattle.wf_value.specs.declared.refusal.Refusal.{Refusal}
 use Rattle.definitions.specs.Disk.{Torn}
-use Rattle.act_disk.specs.Laid.{laid, torn_refl, torn_laid}
+use Rattle.act_disk.specs.Laid.{laid}
+use Rattle.act_disk.specs.inner.Laid.{torn_refl, torn_laid}
 use Rattle.act_disk.specs.Record.{Record, fresh, seen_after, LeftAfter, bytes_of, MayHaveLeft}
 use Rattle.act_disk.specs.Image.{filled, filled_after, own_write, begun, LeftInside, laid_by}
 use Rattle.act_disk.specs.declared.call.Call.{Call}

@@ -3,9 +3,9 @@ use Rattle.std.proofs.Common.{◌≡◌, ◌+◌, ◌-◌, ◌≤◌, ℕ, List,
 use Rattle.std.proofs.lemmas.List.{length-take-le, drop-drop, take-append-le, drop_at, take_at}
 use Rattle.std.proofs.Math.Seq.{take-add}
 use borrow.Rule.Slice.PartMut.{put_mid}
-use Rattle.act_disk.specs.Past.{elapses_push, elapses_then}
+use Rattle.act_disk.specs.inner.Past.{elapses_push, elapses_then}
 use Rattle.act_disk.specs.SystemCalls.{FileCall, Gave, is_sound, contents, MayLeave, MayHaveLeft, IsHonest}
-use Rattle.act_disk.specs.FileCalls.{Reads}
+use Rattle.act_disk.specs.inner.FileCalls.{Reads}
 
 module _ (left : List ℕ → Type 0) (held : List ℕ) where
   pub read_more : (at : ℕ) (bytes : List ℕ) (old mid : List FileCall) → Reads left held old mid → Reads left held old (Gave at bytes ∷ mid)

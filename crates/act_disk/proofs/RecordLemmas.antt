@@ -2,8 +2,9 @@
 use Rattle.std.proofs.Common.{◌≡◌, ℕ, List, [], ◌∷◌, ◌++◌, length, reverse, sym, ◌∙◌, ap, subst, arith, Result, Ok, Err, OnOk, OnErr, is_ok}
 use Rattle.std.proofs.lemmas.List.{reverse-append, length-append}
 use Rattle.definitions.specs.Disk.{Torn, IsWritten, Follows, LeavesAny, Elapses}
-use Rattle.act_disk.specs.Laid.{torn_refl, written_laid}
-use Rattle.act_disk.specs.Past.{LeftSince, elapses_same, elapses_push}
+use Rattle.act_disk.specs.inner.Laid.{torn_refl, written_laid}
+use Rattle.act_disk.specs.Past.{LeftSince}
+use Rattle.act_disk.specs.inner.Past.{elapses_same, elapses_push}
 use Rattle.act_disk.specs.Record.{Record, seen_after, LeftAfter, bytes_of, MayLeave, MayHaveLeft}
 use Rattle.act_disk.specs.declared.call.Call.{Call}
 use Rattle.act_disk.specs.declared.call.Call.TheVariants.{Write}

@@ -2,8 +2,8 @@
 use Rattle.std.proofs.Common.{◌≡◌, ⊎_elim, ℕ, List, ◌∷◌, IsTrue, refl, sym, subst, Result, Ok, Err, OnOk, OnErr, is_ok}
 use Rattle.definitions.specs.Disk.{Only}
 use Rattle.act_disk.specs.SystemCalls.{FileCall, Synced, SyncFailed, is_sound, contents, MayLeave}
-use Rattle.act_disk.specs.SystemLaws.{contents_left}
-use Rattle.act_disk.specs.FileCalls.{MayHaveFailed, Passed}
+use Rattle.act_disk.specs.inner.SystemLaws.{contents_left}
+use Rattle.act_disk.specs.inner.FileCalls.{MayHaveFailed, Passed}
 use Rattle.act_disk.proofs.WriteLemmas.{passed_none, passed_one}
 
 -- a consequence of two facts at `Ok`, carried to another result of the same case

@@ -5,10 +5,11 @@ use Rattle.std.proofs.lemmas.List.{length-append, length-take-le, length-drop, l
 use Rattle.std.proofs.Math.Seq.{take-add}
 use Rattle.definitions.specs.Disk.{Torn, From, Follows}
 use Rattle.act_disk.proofs.Kept.{prefix_kept, rest_kept}
-use Rattle.act_disk.specs.Laid.{laid, torn_refl}
-use Rattle.act_disk.specs.Past.{elapses_same, elapses_push, elapses_then}
+use Rattle.act_disk.specs.Laid.{laid}
+use Rattle.act_disk.specs.inner.Laid.{torn_refl}
+use Rattle.act_disk.specs.inner.Past.{elapses_same, elapses_push, elapses_then}
 use Rattle.act_disk.specs.SystemCalls.{FileCall, Wrote, WriteFailed, Grew, GrowthFailed, contents, MayLeave, MayHaveLeft}
-use Rattle.act_disk.specs.FileCalls.{Puts, Breaks, MayHaveFailed, Passed, partly}
+use Rattle.act_disk.specs.inner.FileCalls.{Puts, Breaks, MayHaveFailed, Passed, partly}
 
 -- a write inside a range, after a write of that range, is a write of that range
 pub torn_within : (at n at' n' : ℕ) (a b c : List ℕ) → at ≤ at' → at' + n' ≤ at + n → Torn at n a b → Torn at' n' b c → Torn at n a c

@@ -1,13 +1,10 @@
 pub mod Failed
-pub mod FileCalls
 pub mod FileDisk
 pub mod Fuse
 pub mod HostFile
 pub mod Image
 pub mod Laid
-pub mod Noted
 pub mod Past
 pub mod Record
-pub mod RecordLaws
 pub mod SystemCalls
-pub mod SystemLaws
+pub mod inner

@@ -1,6 +1,6 @@
 ghost use Rattle.std.specs.Prelude.{◌≡◌, List, [], ◌∷◌, length, IfOk, ◌≤◌};
 ghost use Rattle.std.specs.Borrow.{ftrue};
-ghost use Rattle.act_disk.specs.Noted.{call_of};
+ghost use Rattle.act_disk.specs.inner.Noted.{call_of};
 ghost use Rattle.act_disk.specs.SystemCalls.{FileCall, measured, gave, wrote, grew, synced};
 
 use crate::system_call::SystemCall;

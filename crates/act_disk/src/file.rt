@@ -1,7 +1,7 @@
 ghost use Rattle.std.specs.Prelude.{◌≡◌, ◌↔◌, ◌+◌, ◌<◌, ◌≤◌, ◌^◌, ◌∷◌, IsTrue, false, max, length, take, drop, is_err, IfOk, IfErr};
 ghost use Rattle.std.specs.Prelude.{OnOk, OnErr};
 ghost use Rattle.act_disk.specs.Failed.{stream_failed};
-ghost use Rattle.act_disk.specs.FileCalls.{IsLong, IsSoundUntil, length_after};
+ghost use Rattle.act_disk.specs.inner.FileCalls.{IsLong, IsSoundUntil, length_after};
 ghost use Rattle.definitions.specs.Disk.{Torn, IsWritten, Follows, LeavesAny, SameImages, Only, Elapses, CountsFault};
 
 use crate::disk::Disk;
@@ -80,9 +80,9 @@ impl<F: SystemFile> Disk for FileDisk<F> {
     ghost use Rattle.act_disk.specs.FileDisk.{len_of, faults_of, made_of, failed_of, seen_of, images_of, moment_of};
     ghost use Rattle.act_disk.specs.FileDisk.{images_since_of, honest_of, StaysFailed};
     ghost use Rattle.std.proofs.Common.{sym};
-    ghost use Rattle.act_disk.specs.Past.{left_now, left_last};
+    ghost use Rattle.act_disk.specs.inner.Past.{left_now, left_last};
     ghost use Rattle.act_disk.specs.SystemCalls.{contents, MayLeave, MayHaveLeft, IsHonest};
-    ghost use Rattle.act_disk.specs.SystemLaws.{contents_left};
+    ghost use Rattle.act_disk.specs.inner.SystemLaws.{contents_left};
 
     ghost seen = { λ d. contents F.SystemFile.held (F.SystemFile.calls d.file) };
 

@@ -1,7 +1,7 @@
 //! One disk call as system calls: they cover the whole range and are retried after an interruption by a signal.
 ghost use Rattle.std.specs.Prelude.{◌≡◌, ◌+◌, ◌<◌, ◌≤◌, ◌^◌, ◌∷◌, true, false, is_err};
 ghost use Rattle.std.specs.Prelude.{length, take, drop, IsTrue, MatchResult, IfOk, IfErr, OnOk, OnErr};
-ghost use Rattle.act_disk.specs.FileCalls.{MayHaveFailed, Puts, Breaks, Reads};
+ghost use Rattle.act_disk.specs.inner.FileCalls.{MayHaveFailed, Puts, Breaks, Reads};
 ghost use Rattle.act_disk.specs.SystemCalls.{Measured, Gave, Wrote, WriteFailed, Grew};
 ghost use Rattle.act_disk.specs.SystemCalls.{GrowthFailed, Synced, SyncFailed, is_sound, contents, IsHonest};
 

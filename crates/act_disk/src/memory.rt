@@ -155,7 +155,7 @@ fn note(calls: &mut Vec<Call>, call: Call) -> Result<(), AllocError>
 impl Disk for MemoryDisk {
     ghost use Rattle.std.specs.Prelude.{length, refl};
     ghost use Rattle.act_disk.specs.Record.{bytes_of, MayLeave, MayHaveLeft};
-    ghost use Rattle.act_disk.specs.RecordLaws.{seen_may_stay, left_now, left_last};
+    ghost use Rattle.act_disk.specs.inner.RecordLaws.{seen_may_stay, left_now, left_last};
 
     ghost seen = { bytes_of };
 

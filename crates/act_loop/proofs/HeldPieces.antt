@@ -10,7 +10,7 @@ use Rattle.act_loop.specs.declared.pause.Pause.{Pause}
 use Rattle.act_loop.specs.Conversation.{AreAnswers, AreFew, Conversation, IsInMemory, IsLastText, answer_bytes}
 use Rattle.act_loop.specs.Hearing.{Hears}
 use Rattle.definitions.specs.Limits.{max_taken, max_withheld}
-use Rattle.act_loop.specs.Turns.{Moment, TakesTurns}
+use Rattle.act_loop.specs.inner.Turns.{Moment, TakesTurns}
 
 module _ {F : Type 0} (p : Rules F) where
   passed_append : (n k : ℕ) (us ts passed : List (Turn F)) → IsOpen p n us → n + length us ≡ k → ArePassed p k ts passed

@@ -11,12 +11,12 @@ use Rattle.act_sessions.specs.Exchange.{Exchange}
 use Rattle.act_sessions.specs.Rules.{Rules, Turn, Answered, Refused, Reads, exchanges_at, exchanges_of, is_last, request_of, texts, turn_text}
 use Rattle.act_store.specs.StoreState.{StoreState}
 use Rattle.act_loop.specs.declared.pause.Pause.TheVariants as pause
-use Rattle.act_loop.specs.Authors.{IsEntered}
+use Rattle.act_loop.specs.inner.Authors.{IsEntered}
 use Rattle.act_loop.specs.Conversation.{AreFew}
 use Rattle.act_loop.specs.Entering.{Enters}
 use Rattle.act_loop.specs.declared.author.Author.{Author}
 use Rattle.definitions.specs.Limits.{max_withheld}
-use Rattle.act_loop.specs.Turns.{Appended, EndsRound, Goes, Moment, TakesTurn, TakesTurns, Writes, pause_after}
+use Rattle.act_loop.specs.inner.Turns.{Appended, EndsRound, Goes, Moment, TakesTurn, TakesTurns, Writes, pause_after}
 use Rattle.act_sessions.proofs.Listing.{Reads_snoc, IsOpen_snoc, IsEnded_snoc, texts_snoc, exchanges_snoc}
 
 pub enters_then : {D : Type 0} (number : ℕ) (old mid new : StoreState D) (xs ys : List Exchange) → Enters number old xs mid → Enters number mid ys new

@@ -1,5 +1,3 @@
--- A service of many clients over one store, in one thread.
-pub mod Authors
 pub mod Clients
 pub mod Conversation
 pub mod Entering
@@ -8,4 +6,5 @@ pub mod Hearing
 pub mod Looking
 pub mod Service
 pub mod Slots
-pub mod Turns
+pub mod inner
+-- A service of many clients over one store, in one thread.

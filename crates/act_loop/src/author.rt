@@ -32,7 +32,7 @@ fn enter<D: Disk>(
 }
 
 impl<D: Disk> Submit<Store<D>> for Author {
-    ghost use Rattle.act_loop.specs.Authors.{IsEntered};
+    ghost use Rattle.act_loop.specs.inner.Authors.{IsEntered};
 
     ghost submits = { IsEntered };
 

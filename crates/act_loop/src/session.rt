@@ -3,7 +3,7 @@ ghost use Rattle.act_loop.specs.Clients.{sent_of};
 ghost use Rattle.act_loop.specs.Conversation.{Follows, IsLastText, no_conversation};
 ghost use Rattle.act_loop.specs.Hearing.{Hears};
 ghost use Rattle.definitions.specs.Limits.{max_taken};
-ghost use Rattle.act_loop.specs.Turns.{TakesTurns};
+ghost use Rattle.act_loop.specs.inner.Turns.{TakesTurns};
 
 use crate::byte_history::ByteHistory;
 use crate::exchange_history::ExchangeHistory;

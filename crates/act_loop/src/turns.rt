@@ -1,6 +1,6 @@
 ghost use Rattle.std.specs.Prelude.{◌≡◌, ◌<◌, ◌+◌, ℕ, List, length, min};
 ghost use Rattle.definitions.specs.Limits.{max_withheld};
-ghost use Rattle.act_loop.specs.Turns.{Appended, EndsRound, Goes, Moment, TakesTurn, TakesTurns, pause_after};
+ghost use Rattle.act_loop.specs.inner.Turns.{Appended, EndsRound, Goes, Moment, TakesTurn, TakesTurns, pause_after};
 
 use crate::author::Author;
 use crate::exchange_history::ExchangeHistory;

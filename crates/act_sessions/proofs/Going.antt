@@ -10,11 +10,11 @@ use Rattle.act_sessions.specs.declared.transcript.Ending.TheVariants as ending
 use Rattle.act_sessions.specs.declared.transcript.Part.TheVariants.{AwaitsInput, Over}
 use Rattle.act_sessions.specs.declared.error.SessionError.{SessionError}
 use Rattle.act_sessions.specs.declared.error.SessionError.TheVariants.{Memory, Broken}
-use Rattle.act_sessions.specs.Hearing.{Hears}
+use Rattle.act_sessions.specs.inner.Hearing.{Hears}
 use Rattle.act_sessions.specs.Rules.{Rules, Turn, request_of, exchanges_at, exchanges_of, is_last, Reads, turn_text, texts, IsSteady}
 use Rattle.act_sessions.specs.Session.{Moment, Position, Writes, Did, Goes, IsPart}
 use Rattle.act_sessions.specs.Exchange.{AreAsked}
-use Rattle.act_sessions.specs.Turns.{WritesNone, SubmitsTurn, TakesTurn, Aborts, HasPaused}
+use Rattle.act_sessions.specs.inner.Turns.{WritesNone, SubmitsTurn, TakesTurn, Aborts, HasPaused}
 use Rattle.act_sessions.proofs.Listing.{Reads_snoc, Reads_grows, IsOpen_snoc, IsEnded_snoc, texts_snoc, exchanges_snoc, all_listed, AreAsked_after, min_twice}
 
 abbrev pub at : ℕ → List ℕ → Position

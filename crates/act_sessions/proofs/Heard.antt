@@ -5,7 +5,7 @@ use Rattle.std.specs.Io.KnownBytes.{Consumes, Keeps}
 use Rattle.std.proofs.KnownBytes.{Consumes-kept, Consumes-trans}
 use Rattle.act_sessions.specs.declared.error.SessionError.{SessionError}
 use Rattle.act_sessions.specs.declared.error.SessionError.TheVariants.{Memory, Broken}
-use Rattle.act_sessions.specs.Hearing.{Awaits}
+use Rattle.act_sessions.specs.inner.Hearing.{Awaits}
 use Rattle.act_sessions.specs.Rules.{Rules}
 
 -- After a failed read, the bytes read before are less than a request, and the read took nothing, unless it was out of memory.

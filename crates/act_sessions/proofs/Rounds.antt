@@ -4,10 +4,10 @@ use Rattle.std.specs.Prelude.{Option, Some, None}
 use Rattle.act_sessions.specs.declared.request.Request.{Request}
 use Rattle.act_sessions.specs.declared.transcript.Part.TheVariants.{AwaitsInput}
 use Rattle.act_sessions.specs.declared.error.SessionError.{SessionError}
-use Rattle.act_sessions.specs.Hearing.{Awaits}
+use Rattle.act_sessions.specs.inner.Hearing.{Awaits}
 use Rattle.act_sessions.specs.Rules.{Rules, IsSteady}
 use Rattle.act_sessions.specs.Session.{Goes, IsPart, Moment, Position, first}
-use Rattle.act_sessions.specs.Turns.{EndsRound, HasPaused, TakesTurn}
+use Rattle.act_sessions.specs.inner.Turns.{EndsRound, HasPaused, TakesTurn}
 use Rattle.act_sessions.proofs.Going.{at, goes_on, over_by_last, waits_at_end, paused_waiting, paused_turn}
 
 -- a request came and was answered

@@ -14,7 +14,7 @@ use Rattle.act_sessions.specs.Rules.{Rules, Turn, Answered, Refused, request_of,
 use Rattle.act_sessions.specs.Session.{Moment, Writes, moment}
 use Rattle.act_sessions.specs.Exchange.{AreAsked, Exchange, Submits, Response, exchanges_by, exchanges_in}
 use Rattle.act_sessions.specs.Taking.{IsRecorded, TakesDemand}
-use Rattle.act_sessions.specs.Turns.{SubmitsTurn, TakesTurn, Says}
+use Rattle.act_sessions.specs.inner.Turns.{SubmitsTurn, TakesTurn, Says}
 
 Writes_from : (old mid new : Moment) (a b : List ℕ) → Writes mid new a → mid.output ≡ old.output → mid.count ≡ old.count → a ≡ b → Writes old new b
 Writes_from old mid new a b w o c e = (

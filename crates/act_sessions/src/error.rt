@@ -22,7 +22,7 @@ impl From<AllocError> for SessionError {
 /// Outside an answer the only refusals are 61, a failed stream, and out of memory.
 impl From<Refusal> for SessionError {
     ghost use Rattle.std.specs.Prelude.{◌≡◌};
-    ghost use Rattle.act_sessions.specs.SessionErrors.{error_of};
+    ghost use Rattle.act_sessions.specs.inner.SessionErrors.{error_of};
 
     ghost from_gives = { λ refusal e. e ≡ error_of refusal };
 

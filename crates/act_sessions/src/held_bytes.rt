@@ -21,7 +21,7 @@ pub struct HeldBytes<P: Protocol> {
 
 impl<P: Protocol> Model for HeldBytes<P> {
     ghost use Rattle.std.specs.Prelude.{ℕ, List};
-    ghost use Rattle.act_sessions.specs.Held.{IsHeld};
+    ghost use Rattle.act_sessions.specs.inner.Held.{IsHeld};
 
     ghost Value = { List ℕ };
 

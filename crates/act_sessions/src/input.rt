@@ -1,6 +1,6 @@
 ghost use Rattle.std.specs.Prelude.{◌≡◌, ◌≤◌, ◌<◌, ◌+◌, ◌++◌, ℕ, List, length, true, false, IfErr, IfOk, OnErr};
 ghost use Rattle.std.specs.Io.KnownBytes.{Consumes, IsAtEnd, Keeps};
-ghost use Rattle.act_sessions.specs.Hearing.{Awaits};
+ghost use Rattle.act_sessions.specs.inner.Hearing.{Awaits};
 
 use crate::error::SessionError;
 use crate::held_bytes::HeldBytes;

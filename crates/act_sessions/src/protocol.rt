@@ -1,8 +1,8 @@
 ghost use Rattle.std.specs.Prelude.{◌≡◌, ◌<◌, Ok, option_map, ℕ, List, ◌++◌};
 ghost use Rattle.wf_value.specs.Gives.{Gives};
 ghost use Rattle.act_sessions.specs.declared.request.Progress.{Progress as Reading};
-ghost use Rattle.act_sessions.specs.Held.{Keeps};
-ghost use Rattle.act_sessions.specs.Progress.{nothing_read};
+ghost use Rattle.act_sessions.specs.inner.Held.{Keeps};
+ghost use Rattle.act_sessions.specs.inner.Progress.{nothing_read};
 ghost use Rattle.act_sessions.specs.Rules.{IsNext, IsOne, IsSteady, Rules};
 
 use crate::request::{Next, Progress};

@@ -1,5 +1,5 @@
 ghost use Rattle.std.specs.Prelude.{◌≡◌};
-ghost use Rattle.act_sessions.specs.Progress.{nothing_read};
+ghost use Rattle.act_sessions.specs.inner.Progress.{nothing_read};
 
 use run_plan::Command;
 

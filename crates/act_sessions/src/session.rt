@@ -2,7 +2,7 @@ ghost use Rattle.std.specs.Prelude.{Option, ◌≡◌, ◌<◌, ◌≤◌, ◌++
 ghost use Rattle.act_sessions.specs.Ends.{HasFailed, HasFinished};
 ghost use Rattle.act_sessions.specs.Session.{moment, Goes, IsPart, Moment, Position};
 ghost use Rattle.act_sessions.specs.Exchange.{AreAsked, OnlyLastOpen, Exchange, exchanges_by};
-ghost use Rattle.act_sessions.specs.Turns.{EndsRound, Aborts, Says, TakesTurn};
+ghost use Rattle.act_sessions.specs.inner.Turns.{EndsRound, Aborts, Says, TakesTurn};
 
 use crate::answer::Answer;
 use crate::error::SessionError;

@@ -17,7 +17,7 @@ use Rattle.act_store.specs.Images.{IsAreaLength, RecoversTo}
 use Rattle.act_store.specs.Layouts.{current_version}
 use Rattle.act_store.specs.StoreState.{Checkpoint, StoreState}
 use Rattle.act_store.specs.Meaning.{MeansTable}
-use Rattle.act_store.specs.Promise.{IsCounted, IsSettled, IsConsistent}
+use Rattle.act_store.specs.inner.Promise.{IsCounted, IsSettled, IsConsistent}
 use Rattle.act_store.specs.PendingBatch.{BatchState, batch_state_of}
 use Rattle.act_store.specs.declared.entry.Entry.{Entry}
 use Rattle.act_store.specs.declared.layout.Layout.{Layout}

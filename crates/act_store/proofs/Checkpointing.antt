@@ -21,8 +21,8 @@ use Rattle.command_encodings.proofs.LengthLaws.{length_text}
 use Rattle.act_store.specs.Checkpoints.{first_gate, text_length}
 use Rattle.act_store.specs.Entries.{commands_of, table_after}
 use Rattle.act_store.specs.StoreState.{Checkpoint, StoreState, RecoversToEither, covered_table, table_of}
-use Rattle.act_store.specs.Promise.{IsCounted, IsSettled, IsConsistent}
-use Rattle.act_store.specs.StoreSeen.{as_state}
+use Rattle.act_store.specs.inner.Promise.{IsCounted, IsSettled, IsConsistent}
+use Rattle.act_store.specs.inner.StoreSeen.{as_state}
 use Rattle.act_store.specs.PendingBatch.{BatchState, batch_state_of}
 use Rattle.act_store.specs.declared.entry.Entry.{Entry}
 use Rattle.act_store.specs.declared.store.Store.TheInside.{Inside}

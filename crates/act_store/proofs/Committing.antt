@@ -17,8 +17,8 @@ use Rattle.act_store.specs.Images.{RecoversTo}
 use Rattle.act_store.specs.Layouts.{HasCommand}
 use Rattle.act_store.specs.StoreState.{StoreState, RecoversToEither, covered_table, pending_commands, table_of}
 use Rattle.act_store.specs.Plain.{committed, used_after}
-use Rattle.act_store.specs.Promise.{IsCounted, IsSettled, IsConsistent}
-use Rattle.act_store.specs.StoreSeen.{as_state}
+use Rattle.act_store.specs.inner.Promise.{IsCounted, IsSettled, IsConsistent}
+use Rattle.act_store.specs.inner.StoreSeen.{as_state}
 use Rattle.act_store.specs.PendingBatch.{BatchState, body_of, batch_state_of}
 use Rattle.act_store.specs.declared.entry.Entry.{Entry}
 use Rattle.act_store.specs.declared.store.Store.TheInside.{Inside}

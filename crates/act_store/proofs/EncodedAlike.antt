@@ -3,7 +3,7 @@ use Rattle.std.proofs.Common.{List, ℕ}
 use Rattle.std.specs.Prelude.{Err, IfOk, None, Ok, Option, Result, Some}
 use Rattle.wf_value.specs.declared.refusal.Refusal.{Refusal}
 use Rattle.act_store.specs.AreaPrefix.{ReadsAlike}
-use Rattle.act_store.specs.Encoded.{IsEncoded}
+use Rattle.act_store.specs.inner.Encoded.{IsEncoded}
 use Rattle.act_store.specs.declared.decoded_area.DecodedArea.{DecodedArea}
 
 alike_encoded : (bytes area : List ℕ) (o : Option DecodedArea) → ReadsAlike bytes area → IsEncoded bytes o → IsEncoded area o

@@ -13,7 +13,7 @@ use Rattle.act_store.specs.Entries.{IsLegal, commands_of, table_after}
 use Rattle.act_store.specs.Layouts.{HasCommand, has_command}
 use Rattle.act_store.specs.StoreState.{StoreState, pending_commands, table_of}
 use Rattle.act_store.specs.Plain.{area_full, failed_earlier, history_full, old_layout, record_end, refusal_of_apply, refusal_of_form, refusal_of_room}
-use Rattle.act_store.specs.Promise.{IsCounted}
+use Rattle.act_store.specs.inner.Promise.{IsCounted}
 use Rattle.act_store.specs.PendingBatch.{BatchState, batch_state_of, with_command}
 use Rattle.act_store.specs.declared.entry.Entry.{Entry}
 use Rattle.act_store.proofs.Histories.{commands-append, legal_more, table_more}

@@ -21,10 +21,10 @@ use Rattle.act_store.specs.Checkpoints.{IsFinished, finished, first_gate, gate_a
 use Rattle.act_store.specs.Entries.{commands_of, table_after}
 use Rattle.act_store.specs.Layouts.{HasCommand, batch_format, current_version, layout_of}
 use Rattle.act_store.specs.StoreState.{Checkpoint, StoreState, RecoversToEither, covered_table, table_of}
-use Rattle.act_store.specs.LastPart.{bodies_of, front_of, last_part, written_part}
+use Rattle.act_store.specs.inner.LastPart.{bodies_of, front_of, last_part, written_part}
 use Rattle.act_store.specs.Meaning.{MeansTable}
-use Rattle.act_store.specs.Promise.{IsBegun, IsCounted, IsPut, IsSettled, IsSnapshot, IsConsistent}
-use Rattle.act_store.specs.StoreSeen.{as_checkpoint, as_state}
+use Rattle.act_store.specs.inner.Promise.{IsBegun, IsCounted, IsPut, IsSettled, IsSnapshot, IsConsistent}
+use Rattle.act_store.specs.inner.StoreSeen.{as_checkpoint, as_state}
 use Rattle.act_store.specs.PendingBatch.{BatchState, batch_state_of}
 use Rattle.act_store.specs.declared.begun.Begun.{Begun}
 use Rattle.act_store.specs.declared.entry.Entry.{Entry}

@@ -10,7 +10,7 @@ use Rattle.run_states.specs.TableState.{TableState}
 use Rattle.command_encodings.specs.Commands.{batch}
 use Rattle.table_text.specs.FirstLayout.{is_in_first_layout}
 use Rattle.definitions.specs.Format.{NoneBeginsAnother}
-use Rattle.command_encodings.specs.ReadingCommands.{batch_at}
+use Rattle.command_encodings.specs.inner.ReadingCommands.{batch_at}
 use Rattle.command_encodings.proofs.CommandReaders.{batch_reads}
 use Rattle.command_encodings.proofs.Readers.{none_begins}
 use Rattle.table_text.proofs.WholeFirstTables.{first_batch_begins_none, first_begins_none}

@@ -9,7 +9,7 @@ use Rattle.gated_journal.specs.Appends.{record_of}
 use Rattle.definitions.specs.Area.{framed}
 use Rattle.run_plan.specs.declared.command.Command.{Command}
 use Rattle.command_encodings.specs.Commands.{batch, command_bytes}
-use Rattle.act_store.specs.LastPart.{IsLastPart, LastState, front_bytes, front_of, last_part, last_state, written_part, written_with}
+use Rattle.act_store.specs.inner.LastPart.{IsLastPart, LastState, front_bytes, front_of, last_part, last_state, written_part, written_with}
 use Rattle.act_store.specs.PendingBatch.{body_of, batch_state_of}
 use Rattle.act_store.proofs.Records.{batch_body}
 

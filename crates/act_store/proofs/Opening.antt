@@ -8,9 +8,9 @@ use Rattle.gated_journal.specs.Whole.{IsChosen, RecoversWhole}
 use Rattle.gated_journal.specs.declared.chosen.Chosen.{Chosen}
 use Rattle.gated_journal.specs.declared.side.Side.{Side}
 use Rattle.act_store.specs.Images.{HasNoArea, HasNoTable, IsAreaLength, RecoversFrom, RecoversTo}
-use Rattle.act_store.specs.Opened.{IsFound}
-use Rattle.act_store.specs.Promise.{IsSettled}
-use Rattle.act_store.specs.Encoded.{EncodesArea}
+use Rattle.act_store.specs.inner.Opened.{IsFound}
+use Rattle.act_store.specs.inner.Promise.{IsSettled}
+use Rattle.act_store.specs.inner.Encoded.{EncodesArea}
 use Rattle.act_store.specs.declared.located_area.LocatedArea.{LocatedArea}
 use Rattle.act_store.proofs.Encoding.{EncodesNone}
 

@@ -6,8 +6,8 @@ use Rattle.gated_journal.specs.TwoAreas.{IsGate, area_on, other}
 use Rattle.gated_journal.specs.declared.gate.GateState.{GateState}
 use Rattle.gated_journal.specs.declared.gate.GateState.TheVariants.{Open, Closed}
 use Rattle.act_store.specs.OtherGate.{IsShutBeside}
-use Rattle.act_store.specs.Promise.{IsConsistent}
-use Rattle.act_store.specs.StoreSeen.{as_state}
+use Rattle.act_store.specs.inner.Promise.{IsConsistent}
+use Rattle.act_store.specs.inner.StoreSeen.{as_state}
 use Rattle.act_store.specs.StoreState.{StoreState}
 use Rattle.act_store.specs.declared.store.Store.TheInside.{Inside}
 

@@ -7,7 +7,7 @@ use Rattle.act_store.specs.Checkpoints.{first_gate, gate_after, has_no_room, is_
 use Rattle.act_store.specs.Checkpoints.{refusal_of_last, refusal_of_slice, since, text_length}
 use Rattle.act_store.specs.StoreState.{Checkpoint, StoreState, table_of}
 use Rattle.act_store.specs.Plain.{area_full, checkpoint_order, failed_earlier, refusal_of_turn_over}
-use Rattle.act_store.specs.StoreSeen.{as_checkpoint, as_state}
+use Rattle.act_store.specs.inner.StoreSeen.{as_checkpoint, as_state}
 use Rattle.act_store.specs.declared.begun.Begun.{Begun}
 use Rattle.act_store.specs.declared.store.Store.TheInside.{Inside}
 

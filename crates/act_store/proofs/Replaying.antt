@@ -13,7 +13,7 @@ use Rattle.table_laws.proofs.LeasesStay.{after_both}
 use Rattle.definitions.specs.Format.{OpensWith as BeginsWith, Encodes}
 use Rattle.act_store.specs.Layouts.{batch_format}
 use Rattle.act_store.specs.Meaning.{EncodeCommands}
-use Rattle.act_store.specs.Replayed.{IsCarried, IsReplayed}
+use Rattle.act_store.specs.inner.Replayed.{IsCarried, IsReplayed}
 use Rattle.act_store.specs.declared.layout.Layout.{Layout}
 use Rattle.act_store.proofs.InLayout.{batches_begin_none}
 use Rattle.act_store.proofs.Meanings.{encode_more}

@@ -18,7 +18,7 @@ use Rattle.act_store.specs.StoreState.{StoreState, RecoverToCovered, RecoversToE
 use Rattle.act_store.specs.Layouts.{HasCommand, batch_format}
 use Rattle.act_store.specs.Meaning.{MeansTable}
 use Rattle.act_store.specs.Plain.{committed, used_after}
-use Rattle.act_store.specs.Promise.{IsSettled, IsConsistent}
+use Rattle.act_store.specs.inner.Promise.{IsSettled, IsConsistent}
 use Rattle.act_store.specs.declared.entry.Entry.{Entry}
 use Rattle.act_store.specs.declared.layout.Layout.{Layout}
 use Rattle.act_store.proofs.Histories.{table_split}

@@ -19,8 +19,8 @@ use Rattle.act_store.specs.Checkpoints.{first_gate, text_length}
 use Rattle.act_store.specs.Entries.{commands_of, table_after}
 use Rattle.act_store.specs.LaterEntries.{with_encoded}
 use Rattle.act_store.specs.Layouts.{current_version}
-use Rattle.act_store.specs.Promise.{IsBegun, IsPut, IsSnapshot}
-use Rattle.act_store.specs.StoreSeen.{as_checkpoint}
+use Rattle.act_store.specs.inner.Promise.{IsBegun, IsPut, IsSnapshot}
+use Rattle.act_store.specs.inner.StoreSeen.{as_checkpoint}
 use Rattle.act_store.specs.TableText.{EncodesTable}
 use Rattle.act_store.specs.declared.begun.Begun.{Begun}
 use Rattle.act_store.specs.declared.entry.Entry.{Entry}

@@ -8,7 +8,7 @@ ghost use Rattle.act_store.specs.Checkpoints.{IsFinished, dropped, has_no_room, 
 ghost use Rattle.act_store.specs.Images.{RecoversTo};
 ghost use Rattle.act_store.specs.StoreState.{RecoversToEither, table_of};
 ghost use Rattle.act_store.specs.Plain.{area_full, broken};
-ghost use Rattle.act_store.specs.StoreSeen.{as_checkpoint};
+ghost use Rattle.act_store.specs.inner.StoreSeen.{as_checkpoint};
 ghost use Rattle.act_store.specs.FaultCauses.{TellsFault};
 
 use crate::begun::Begun;

@@ -1,6 +1,6 @@
 ghost use Rattle.std.specs.Prelude.{◌≡◌, ◌<◌, IfErr, IfOk};
 ghost use Rattle.wf_value.specs.Gives.{no_memory};
-ghost use Rattle.act_store.specs.Encoded.{IsEncoded, IsTextOf};
+ghost use Rattle.act_store.specs.inner.Encoded.{IsEncoded, IsTextOf};
 
 use crate::layout::Layout;
 use crate::replay::replay;

@@ -1,5 +1,5 @@
 ghost use Rattle.std.specs.Prelude.{◌≡◌, ◌+◌, ◌-◌, ◌<◌, ◌≤◌, ◌^◌, [], ◌++◌, drop, length, slice_set, take, IfOk, OnErr, OnOk};
-ghost use Rattle.act_store.specs.LastPart.{front_bytes, front_of, written_part};
+ghost use Rattle.act_store.specs.inner.LastPart.{front_bytes, front_of, written_part};
 ghost use Rattle.act_store.specs.declared.pending_batch.TheConstants.{COUNT};
 
 use crate::pending_batch::COUNT;
@@ -27,7 +27,7 @@ pub struct LastPart {
 }
 
 impl Model for LastPart {
-    ghost use Rattle.act_store.specs.LastPart.{IsLastPart, LastState, last_state};
+    ghost use Rattle.act_store.specs.inner.LastPart.{IsLastPart, LastState, last_state};
 
     ghost Value = { LastState };
 

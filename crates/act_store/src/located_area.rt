@@ -6,9 +6,9 @@ ghost use Rattle.gated_journal.specs.Choice.{part};
 ghost use Rattle.gated_journal.specs.Reading.{OnlyRead};
 ghost use Rattle.run_states.specs.Sound.{IsSound};
 ghost use Rattle.act_store.specs.Images.{HasNoArea, HasNoTable, IsAreaLength};
-ghost use Rattle.act_store.specs.Opened.{IsFound};
+ghost use Rattle.act_store.specs.inner.Opened.{IsFound};
 ghost use Rattle.act_store.specs.Plain.{RefusesOpening, TellsNoArea, no_area, no_table};
-ghost use Rattle.act_store.specs.Encoded.{IsHalf, IsEncoded};
+ghost use Rattle.act_store.specs.inner.Encoded.{IsHalf, IsEncoded};
 ghost use Rattle.act_store.specs.FaultCauses.{TellsFault};
 
 use crate::area_prefix::read_prefix;

@@ -4,7 +4,7 @@ ghost use Rattle.run_plan.specs.declared.command.Command.{Command};
 ghost use Rattle.run_states.specs.Histories.{after};
 ghost use Rattle.definitions.specs.Format.{Encodes};
 ghost use Rattle.act_store.specs.Layouts.{batch_format};
-ghost use Rattle.act_store.specs.Replayed.{IsCarried, IsReplayed};
+ghost use Rattle.act_store.specs.inner.Replayed.{IsCarried, IsReplayed};
 
 use crate::layout::Layout;
 use gated_journal::record_at;

@@ -52,8 +52,8 @@ impl<D: Disk> Model for Store<D> {
 
     ghost Value = { StoreState D };
 
-    ghost use Rattle.act_store.specs.Promise.{IsBegun, IsCounted, IsConsistent};
-    ghost use Rattle.act_store.specs.StoreSeen.{as_state};
+    ghost use Rattle.act_store.specs.inner.Promise.{IsBegun, IsCounted, IsConsistent};
+    ghost use Rattle.act_store.specs.inner.StoreSeen.{as_state};
 
     ghost view = { as_state };
 

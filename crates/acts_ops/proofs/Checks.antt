@@ -21,7 +21,7 @@ use Rattle.wf_reader.proofs.Contents.{same_refusal}
 use Rattle.act_disk.specs.Failed.{stream_failed}
 use Rattle.acts_ops.specs.Check.{leg_line, leg_lines, job_lines, plan_lines, checked, Written, ChecksTo}
 use Rattle.acts_ops.specs.Input.{RefusesInput}
-use Rattle.acts_ops.specs.Writes.{Writes}
+use Rattle.acts_ops.specs.inner.Writes.{Writes}
 
 -- ---- legs
 

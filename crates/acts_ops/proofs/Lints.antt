@@ -10,7 +10,7 @@ use Rattle.workflow_lint.specs.Plans.{found_in}
 use Rattle.workflow_lint.specs.declared.finding.Finding.{Finding}
 use Rattle.acts_ops.specs.Input.{RefusesInput}
 use Rattle.acts_ops.specs.Lint.{Lints, LintsTo, linted}
-use Rattle.acts_ops.specs.Writes.{PrefixWritten}
+use Rattle.acts_ops.specs.inner.Writes.{PrefixWritten}
 
 -- the findings, as they are written
 pub slice_is : (text : List ℕ) (found slice : List Finding) → ◌≡◌ {A = Result (List Finding) Refusal} (Ok (found_in text)) (Ok found)

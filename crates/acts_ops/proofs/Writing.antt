@@ -8,7 +8,7 @@ use Rattle.wf_value.specs.Gives.{no_memory}
 use Rattle.wf_value.specs.declared.refusal.Refusal.{Refusal}
 use Rattle.act_disk.specs.Failed.{device_failed, stream_failed}
 use Rattle.act_store.specs.FaultCauses.{TellsFault}
-use Rattle.acts_ops.specs.Writes.{PrefixWritten, Writes}
+use Rattle.acts_ops.specs.inner.Writes.{PrefixWritten, Writes}
 
 -- one more part has been fully written
 pub past_part : (out part more all : List ℕ) → out ++ (part ++ more) ≡ all → (out ++ part) ++ more ≡ all

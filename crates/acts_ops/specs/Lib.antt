@@ -7,4 +7,4 @@ pub mod Made
 pub mod PlainStore
 pub mod Play
 pub mod Show
-pub mod Writes
+pub mod inner

@@ -18,7 +18,7 @@ use Rattle.table_views.specs.RunnerLines.{runner_lines}
 use Rattle.table_views.specs.declared.form.Form.{Form}
 use Rattle.act_store.specs.Images.{HasNoArea, HasNoTable, RecoversTo}
 use Rattle.act_store.specs.Plain.{RefusesOpening, no_area, no_table}
-use Rattle.acts_ops.specs.Writes.{Writes}
+use Rattle.acts_ops.specs.inner.Writes.{Writes}
 use Rattle.acts_ops.specs.declared.shown.Shown.{Shown}
 use Rattle.acts_ops.specs.declared.shown.Shown.TheVariants as what
 

@@ -4,7 +4,7 @@ ghost use Rattle.wf_value.specs.Gives.{Gives};
 ghost use Rattle.run_plan.specs.PlanOf.{job_faults, legs_faults, planned_job, workflow_plan};
 ghost use Rattle.acts_ops.specs.Check.{ChecksTo, Written, checked, job_lines, leg_line, leg_lines, leg_text, plan_lines};
 ghost use Rattle.acts_ops.specs.Input.{ReadsAtMost};
-ghost use Rattle.acts_ops.specs.Writes.{Writes};
+ghost use Rattle.acts_ops.specs.inner.Writes.{Writes};
 
 use crate::input::read_input;
 use byte_streams::{flush, write_whole};

@@ -3,7 +3,7 @@ ghost use Rattle.std.specs.Io.KnownBytes.{Appends};
 ghost use Rattle.workflow_lint.specs.Lines.{finding_lines};
 ghost use Rattle.acts_ops.specs.Input.{ReadsAtMost};
 ghost use Rattle.acts_ops.specs.Lint.{Lints, LintsTo, is_any};
-ghost use Rattle.acts_ops.specs.Writes.{Writes};
+ghost use Rattle.acts_ops.specs.inner.Writes.{Writes};
 
 use crate::input::read_input;
 use byte_streams::{flush, write_whole};

@@ -11,7 +11,7 @@ ghost use Rattle.table_views.specs.QueueLines.{queue_lines};
 ghost use Rattle.table_views.specs.RunLines.{run_line};
 ghost use Rattle.table_views.specs.RunnerLines.{runner_lines};
 ghost use Rattle.acts_ops.specs.Show.{Shows, WritesWhat, one_run, run_lines, shown};
-ghost use Rattle.acts_ops.specs.Writes.{Writes};
+ghost use Rattle.acts_ops.specs.inner.Writes.{Writes};
 
 use crate::shown::Shown;
 use act_disk::Disk;

@@ -16,9 +16,9 @@ use Rattle.run_plan.specs.declared.command.Command.TheVariants as requested
 use Rattle.definitions.specs.Format.{Format, word, text, pair}
 use Rattle.command_encodings.specs.Commands.{is_numbered, number, small_text, labels, is_faultless, body, outcome_byte, outcome, admit, claim}
 use Rattle.command_encodings.specs.Commands.{done, beat, rerun, IsEncoded, command_bytes, command, batch}
-use Rattle.command_encodings.specs.Reading.{Reader, word_at, text_at, pair_at, parts_at}
-use Rattle.command_encodings.specs.ReadingCommands.{number_at, small_text_at, labels_at, body_at, result_of, result_at, admit_at, claim_at}
-use Rattle.command_encodings.specs.ReadingCommands.{done_at, beat_at, rerun_at, command_of, command_at, batch_at}
+use Rattle.command_encodings.specs.inner.Reading.{Reader, word_at, text_at, pair_at, parts_at}
+use Rattle.command_encodings.specs.inner.ReadingCommands.{number_at, small_text_at, labels_at, body_at, result_of, result_at, admit_at, claim_at}
+use Rattle.command_encodings.specs.inner.ReadingCommands.{done_at, beat_at, rerun_at, command_of, command_at, batch_at}
 use Rattle.wf_value.proofs.Bytes.{AreBytes, AreBytes-drop}
 use Rattle.command_encodings.proofs.Readers.{Prefixes, Reads, bind_some, some_bind, word_reads, text_reads, only_reads, pair_reads, parts_reads}
 use Rattle.command_encodings.proofs.Readers.{counted_reads}

@@ -4,7 +4,7 @@ use Rattle.std.proofs.Common.{◌≡◌, ℕ, List, [], ◌∷◌, ◌++◌, ref
 use Rattle.std.specs.Prelude.{Option, None, Some}
 use Rattle.std.proofs.lemmas.Option.{same_Some, none-some}
 use Rattle.definitions.specs.Format.{Format, byte, follow, present, row}
-use Rattle.command_encodings.specs.Reading.{◌>>=◌, Reader, byte_at, follow_at, items_at, present_at}
+use Rattle.command_encodings.specs.inner.Reading.{◌>>=◌, Reader, byte_at, follow_at, items_at, present_at}
 use Rattle.wf_value.proofs.Bytes.{AreBytes, AreBytes-drop}
 use Rattle.command_encodings.proofs.Readers.{Prefixes, Reads, bind_some, some_bind, items_sound, items_complete}
 

@@ -2,7 +2,7 @@
 use Rattle.std.proofs.Common.{append_assoc, ◌≡◌, ◌++◌, ◌∙◌, ℕ, List, ap, drop, length, sym, take}
 use Rattle.std.proofs.Math.Seq.{take-length, take-append_seam}
 use Rattle.std.proofs.lemmas.List.{take-append-drop}
-use Rattle.command_encodings.specs.Writing.{Keeps}
+use Rattle.command_encodings.specs.inner.Writing.{Keeps}
 
 -- nothing was appended
 pub unchanged : (before after : List ℕ) → after ≡ before → Keeps before after

@@ -21,8 +21,8 @@ use Rattle.definitions.specs.SmallText.{is_of_short_length, is_short, is_label_b
 use Rattle.command_encodings.specs.declared.decode_error.DecodeError.{DecodeError}
 use Rattle.command_encodings.specs.declared.decode_error.DecodeError.TheVariants.{NoMemory, NoEncoding}
 use Rattle.command_encodings.specs.Commands.{is_numbered, are_none, is_faultless, small_text, labels}
-use Rattle.command_encodings.specs.Reading.{◌>>=◌, Fails, kept, text_at, items_at}
-use Rattle.command_encodings.specs.ReadingCommands.{small_text_at}
+use Rattle.command_encodings.specs.inner.Reading.{◌>>=◌, Fails, kept, text_at, items_at}
+use Rattle.command_encodings.specs.inner.ReadingCommands.{small_text_at}
 use Rattle.command_encodings.proofs.Readers.{bind_some}
 
 -- a length can hold the size of a short text

@@ -3,7 +3,7 @@ use Rattle.std.proofs.Common.{◌≡◌, ℕ, suc, ◌-◌, ◌+◌, ◌≤◌, 
 use Rattle.std.specs.Prelude.{Option, Some}
 use Rattle.command_encodings.specs.declared.decode_error.DecodeError.{DecodeError}
 use Rattle.command_encodings.specs.declared.decode_error.DecodeError.TheVariants.{NoMemory, NoEncoding}
-use Rattle.command_encodings.specs.Reading.{Reader, Fails, items_at, with_prefix}
+use Rattle.command_encodings.specs.inner.Reading.{Reader, Fails, items_at, with_prefix}
 use Rattle.command_encodings.proofs.Readers.{prefix_all, prefix_none, prefix_more}
 
 pub goes_on : {A : Type 0} (at : Reader A) (prefix : List A) (count i : ℕ) (bytes : List ℕ) (x : A) (after : List ℕ)

@@ -10,8 +10,8 @@ use Rattle.std.proofs.lemmas.Nat.{from_be_bytes-to_be_bytes_4}
 use Rattle.std.proofs.lemmas.Option.{same_Some, none-some, cond_some, some_pair_parts}
 use Rattle.definitions.specs.Format.{Format, NoneBeginsAnother, HasOneEncoding, ReadsPrefix, word, word_bytes, text, text_bytes, only}
 use Rattle.definitions.specs.Format.{pair, parts, counted}
-use Rattle.command_encodings.specs.Reading.{◌>>=◌, Reader, word_at, bytes_at, text_at, kept, only_at, pair_at, parts_at, items_at, with_prefix}
-use Rattle.command_encodings.specs.Reading.{counted_at, some_at}
+use Rattle.command_encodings.specs.inner.Reading.{◌>>=◌, Reader, word_at, bytes_at, text_at, kept, only_at, pair_at, parts_at, items_at, with_prefix}
+use Rattle.command_encodings.specs.inner.Reading.{counted_at, some_at}
 use Rattle.wf_value.proofs.Bytes.{AreBytes, AreBytes-drop, spell_number, number_below}
 
 given_if : {X : Type 0} (b : Bool) (o : Option X) (x : X) → (if b then o else None) ≡ Some x → (b ≡ true) × (o ≡ Some x)

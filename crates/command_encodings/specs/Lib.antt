@@ -1,5 +1,3 @@
 pub mod Commands
 pub mod Lengths
-pub mod Reading
-pub mod ReadingCommands
-pub mod Writing
+pub mod inner

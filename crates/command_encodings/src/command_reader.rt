@@ -4,8 +4,8 @@ ghost use Rattle.run_plan.specs.declared.command.Attempt.{Attempt};
 ghost use Rattle.run_plan.specs.declared.command.Command.TheVariants as requested;
 ghost use Rattle.command_encodings.specs.declared.decode_error.DecodeError.TheVariants.{NoEncoding};
 ghost use Rattle.command_encodings.specs.Commands.{is_faultless};
-ghost use Rattle.command_encodings.specs.Reading.{Finds, kept, parts_at};
-ghost use Rattle.command_encodings.specs.ReadingCommands.{admit_at, rerun_at, batch_at, beat_at, claim_at, command_at, command_of, done_at};
+ghost use Rattle.command_encodings.specs.inner.Reading.{Finds, kept, parts_at};
+ghost use Rattle.command_encodings.specs.inner.ReadingCommands.{admit_at, rerun_at, batch_at, beat_at, claim_at, command_at, command_of, done_at};
 
 use crate::decode_error::DecodeError;
 use crate::fields::{is_within, labels_at, number_at, result_at, small_text_at};
@@ -45,7 +45,7 @@ fn prepared_of(
     }
 }
 
-#[tactic(auto, unfolding(crate::specs::ReadingCommands::admit_at, crate::specs::ReadingCommands::body_at))]
+#[tactic(auto, unfolding(crate::specs::inner::ReadingCommands::admit_at, crate::specs::inner::ReadingCommands::body_at))]
 pub fn admit_at(alloc: Global, bytes: &[u8]) -> Result<(Prepared, &[u8]), DecodeError>
     ensures { Finds (λ f. (f.0, f.1.now)) result (admit_at bytes.now) }
 {
@@ -56,7 +56,7 @@ pub fn admit_at(alloc: Global, bytes: &[u8]) -> Result<(Prepared, &[u8]), Decode
     Ok((prepared, rest))
 }
 
-#[tactic(auto, unfolding(crate::specs::ReadingCommands::claim_at))]
+#[tactic(auto, unfolding(crate::specs::inner::ReadingCommands::claim_at))]
 fn claim_at(alloc: Global, bytes: &[u8]) -> Result<(Claim, &[u8]), DecodeError>
     ensures { Finds (λ f. (f.0, f.1.now)) result (claim_at bytes.now) }
 {
@@ -71,7 +71,7 @@ fn claim_at(alloc: Global, bytes: &[u8]) -> Result<(Claim, &[u8]), DecodeError>
     Ok((claim, rest))
 }
 
-#[tactic(auto, unfolding(crate::specs::ReadingCommands::done_at))]
+#[tactic(auto, unfolding(crate::specs::inner::ReadingCommands::done_at))]
 fn done_at(alloc: Global, bytes: &[u8]) -> Result<(Done, &[u8]), DecodeError>
     ensures { Finds (λ f. (f.0, f.1.now)) result (done_at bytes.now) }
 {
@@ -88,7 +88,7 @@ fn done_at(alloc: Global, bytes: &[u8]) -> Result<(Done, &[u8]), DecodeError>
     Ok((done, rest))
 }
 
-#[tactic(auto, unfolding(crate::specs::ReadingCommands::beat_at))]
+#[tactic(auto, unfolding(crate::specs::inner::ReadingCommands::beat_at))]
 fn beat_at(alloc: Global, bytes: &[u8]) -> Result<(Beat, &[u8]), DecodeError>
     ensures { Finds (λ f. (f.0, f.1.now)) result (beat_at bytes.now) }
 {
@@ -103,7 +103,7 @@ fn beat_at(alloc: Global, bytes: &[u8]) -> Result<(Beat, &[u8]), DecodeError>
 
 /// A re-run at the front of the bytes, and the bytes after it. It returns the whole command because an `Attempt` is
 /// copied.
-#[tactic(auto, unfolding(crate::specs::ReadingCommands::rerun_at))]
+#[tactic(auto, unfolding(crate::specs::inner::ReadingCommands::rerun_at))]
 fn rerun_at(bytes: &[u8]) -> Result<(Command, &[u8]), DecodeError>
     ensures { Finds (λ f. (f.0, f.1.now)) result (parts_at (λ (a : Attempt). requested.Rerun a) rerun_at bytes.now) }
 {
@@ -117,7 +117,7 @@ fn rerun_at(bytes: &[u8]) -> Result<(Command, &[u8]), DecodeError>
 }
 
 /// The command of a kind at the front of the bytes, and the bytes after it.
-#[tactic(auto, unfolding(crate::specs::ReadingCommands::command_of))]
+#[tactic(auto, unfolding(crate::specs::inner::ReadingCommands::command_of))]
 fn command_of(alloc: Global, kind: u8, bytes: &[u8]) -> Result<(Command, &[u8]), DecodeError>
     ensures { Finds (λ f. (f.0, f.1.now)) result (command_of kind bytes.now) }
 {
@@ -160,7 +160,7 @@ fn command_of(alloc: Global, kind: u8, bytes: &[u8]) -> Result<(Command, &[u8]),
 }
 
 /// The command at the front of the bytes, and the bytes after it.
-#[tactic(auto, unfolding(crate::specs::ReadingCommands::command_at))]
+#[tactic(auto, unfolding(crate::specs::inner::ReadingCommands::command_at))]
 pub fn command_at(alloc: Global, bytes: &[u8]) -> Result<(Command, &[u8]), DecodeError>
     ensures { Finds (λ f. (f.0, f.1.now)) result (command_at bytes.now) }
 {
@@ -179,7 +179,7 @@ impl ReadAt for Command {
 }
 
 /// The counted commands at the front of the bytes, and the bytes after them.
-#[tactic(auto, unfolding(crate::specs::ReadingCommands::batch_at))]
+#[tactic(auto, unfolding(crate::specs::inner::ReadingCommands::batch_at))]
 pub(crate) fn batch_at(alloc: Global, bytes: &[u8]) -> Result<(Vec<Command>, &[u8]), DecodeError>
     ensures { Finds (λ f. (f.0.items, f.1.now)) result (batch_at bytes.now) }
 {

@@ -2,8 +2,8 @@ ghost use Rattle.std.specs.Prelude.{◌≡◌, ◌≤◌, ◌&&◌, IfOk, nat_le
 ghost use Rattle.definitions.specs.Limits.{last_number};
 ghost use Rattle.definitions.specs.SmallText.{short_text_of};
 ghost use Rattle.command_encodings.specs.Commands.{is_numbered};
-ghost use Rattle.command_encodings.specs.Reading.{Finds, kept};
-ghost use Rattle.command_encodings.specs.ReadingCommands.{labels_at, number_at, result_at, result_of, small_text_at};
+ghost use Rattle.command_encodings.specs.inner.Reading.{Finds, kept};
+ghost use Rattle.command_encodings.specs.inner.ReadingCommands.{labels_at, number_at, result_at, result_of, small_text_at};
 
 use crate::decode_error::DecodeError;
 use crate::list_reader::{ReadAt, list_at};
@@ -31,7 +31,7 @@ fn numbered(value: u32) -> Result<u32, DecodeError>
 }
 
 /// The command's number at the front of the bytes, and the bytes after it.
-#[tactic(auto, unfolding(crate::specs::ReadingCommands::number_at))]
+#[tactic(auto, unfolding(crate::specs::inner::ReadingCommands::number_at))]
 pub fn number_at(bytes: &[u8]) -> Result<(u32, &[u8]), DecodeError>
     ensures gives { Finds (λ f. (f.0, f.1.now)) result (number_at bytes.now) }
     ensures range { IfOk result (λ f. (1 ≤ f.0) × (f.0 ≤ last_number)) }
@@ -53,7 +53,7 @@ fn small_text_of<F: Form>(alloc: Global, text: &[u8]) -> Result<SmallText<F>, De
 }
 
 /// The text of a form at the front of the bytes, and the bytes after it.
-#[tactic(auto, unfolding(crate::specs::ReadingCommands::small_text_at))]
+#[tactic(auto, unfolding(crate::specs::inner::ReadingCommands::small_text_at))]
 pub fn small_text_at<F: Form>(
     alloc: Global,
     bytes: &[u8],
@@ -74,7 +74,7 @@ impl<F: Form> ReadAt for SmallText<F> {
 }
 
 /// The counted labels at the front of the bytes, and the bytes after them.
-#[tactic(auto, unfolding(crate::specs::ReadingCommands::labels_at))]
+#[tactic(auto, unfolding(crate::specs::inner::ReadingCommands::labels_at))]
 pub(crate) fn labels_at(alloc: Global, bytes: &[u8]) -> Result<(Labels, &[u8]), DecodeError>
     ensures { Finds (λ f. (f.0, f.1.now)) result (labels_at bytes.now) }
 {
@@ -99,7 +99,7 @@ fn result_of(byte: u8) -> Result<Outcome, DecodeError>
 }
 
 /// The result at the front of the bytes, and the bytes after it.
-#[tactic(auto, unfolding(crate::specs::ReadingCommands::result_at))]
+#[tactic(auto, unfolding(crate::specs::inner::ReadingCommands::result_at))]
 pub(crate) fn result_at(bytes: &[u8]) -> Result<(Outcome, &[u8]), DecodeError>
     ensures { Finds (λ f. (f.0, f.1.now)) result (result_at bytes.now) }
 {

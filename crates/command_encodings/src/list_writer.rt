@@ -3,7 +3,7 @@
 
 ghost use Rattle.std.specs.Prelude.{◌≡◌, ◌++◌, ◌≤◌, ℕ, List, flat_map, vec_capacity, OnErr, OnOk};
 ghost use Rattle.std.specs.List.{AllByRecursion};
-ghost use Rattle.command_encodings.specs.Writing.{Keeps};
+ghost use Rattle.command_encodings.specs.inner.Writing.{Keeps};
 
 use std::alloc::AllocError;
 

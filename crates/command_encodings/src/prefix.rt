@@ -1,9 +1,9 @@
-ghost use Rattle.command_encodings.specs.Reading.{Finds, byte_at, bytes_at, text_at, word_at};
+ghost use Rattle.command_encodings.specs.inner.Reading.{Finds, byte_at, bytes_at, text_at, word_at};
 
 use crate::decode_error::DecodeError;
 
 /// The first byte, and the bytes after it.
-#[tactic(auto, unfolding(crate::specs::Reading::byte_at))]
+#[tactic(auto, unfolding(crate::specs::inner::Reading::byte_at))]
 pub fn byte_at(bytes: &[u8]) -> Result<(u8, &[u8]), DecodeError>
     ensures { Finds (λ f. (f.0, f.1.now)) result (byte_at bytes.now) }
 {
@@ -14,7 +14,7 @@ pub fn byte_at(bytes: &[u8]) -> Result<(u8, &[u8]), DecodeError>
 }
 
 /// The number in the first four bytes, and the bytes after it.
-#[tactic(auto, unfolding(crate::specs::Reading::word_at))]
+#[tactic(auto, unfolding(crate::specs::inner::Reading::word_at))]
 pub fn word_at(bytes: &[u8]) -> Result<(u32, &[u8]), DecodeError>
     ensures { Finds (λ f. (f.0, f.1.now)) result (word_at bytes.now) }
 {
@@ -37,7 +37,7 @@ fn bytes_at(bytes: &[u8], count: usize) -> Result<(&[u8], &[u8]), DecodeError>
 }
 
 /// The bytes that follow their length, and the bytes after them.
-#[tactic(auto, unfolding(crate::specs::Reading::text_at))]
+#[tactic(auto, unfolding(crate::specs::inner::Reading::text_at))]
 pub fn text_at(bytes: &[u8]) -> Result<(&[u8], &[u8]), DecodeError>
     ensures { Finds (λ f. (f.0.now, f.1.now)) result (text_at bytes.now) }
 {

@@ -4,7 +4,7 @@ ghost use Rattle.std.specs.Prelude.{◌≡◌, [], ◌∷◌, ◌++◌, ◌<◌,
 ghost use Rattle.command_encodings.specs.Commands.{IsEncoded, admit, beat, body, claim, command_bytes, done, fields_of, kind_of, labels};
 ghost use Rattle.command_encodings.specs.Commands.{number, outcome_byte, rerun, small_text};
 ghost use Rattle.definitions.specs.Format.{text_bytes, word_bytes};
-ghost use Rattle.command_encodings.specs.Writing.{Keeps};
+ghost use Rattle.command_encodings.specs.inner.Writing.{Keeps};
 
 use crate::list_writer::{Push, push_list};
 use run_plan::{Attempt, Beat, Claim, Command, Done, Form, Labels, Number, Prepared, SmallText};

@@ -5,7 +5,7 @@ ghost use Rattle.std.specs.List.{AllByRecursion};
 ghost use Rattle.wf_value.specs.Gives.{no_memory};
 ghost use Rattle.command_encodings.specs.Commands.{IsEncoded, batch, command};
 ghost use Rattle.definitions.specs.Format.{Appends};
-ghost use Rattle.command_encodings.specs.Writing.{Keeps};
+ghost use Rattle.command_encodings.specs.inner.Writing.{Keeps};
 
 use crate::list_writer::push_list;
 use crate::push::{push_command, push_word};

@@ -24,7 +24,7 @@ pub(crate) struct ToldChanges {
 impl Model for ToldChanges {
     ghost use Rattle.std.specs.Prelude.{List, map};
     ghost use Rattle.covered_log.specs.Lines.{Change};
-    ghost use Rattle.covered_log.specs.Told.{change_of};
+    ghost use Rattle.covered_log.specs.inner.Told.{change_of};
 
     ghost Value = { List Change };
 

@@ -6,7 +6,7 @@ use Rattle.run_states.specs.RunState.{JobState}
 use Rattle.run_states.specs.declared.phases.JobPhase.{JobPhase}
 use Rattle.run_states.specs.declared.phases.JobPhase.TheVariants as job_phase
 use Rattle.table_text.specs.Tables.{job, job_byte, leg}
-use Rattle.table_text.specs.Writing.{JobHasBytes}
+use Rattle.table_text.specs.inner.Writing.{JobHasBytes}
 
 job_byte_fits : (p : JobPhase) → job_byte p < 256
 job_byte_fits job_phase.Blocked = omega arith

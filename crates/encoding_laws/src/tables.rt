@@ -3,7 +3,7 @@ ghost use Rattle.run_plan.specs.declared.last_command.LastCommand.TheVariants as
 ghost use Rattle.run_states.specs.Sound.{IsSound};
 ghost use Rattle.stored_tables.specs.Stored.{stored_last, stored_lease, stored_runner, stored_table};
 ghost use Rattle.table_text.specs.Tables.{job, kept_lease, last_command, lease, leg, run, runner, table};
-ghost use Rattle.table_text.specs.Writing.{HasByte, JobHasBytes, KeptHasBytes, RunHasBytes};
+ghost use Rattle.table_text.specs.inner.Writing.{HasByte, JobHasBytes, KeptHasBytes, RunHasBytes};
 
 use crate::commands::{admit_fits, claim_fits, done_fits, number_fits, small_text_fits};
 use crate::lists::{Fits, all_fit};

@@ -7,8 +7,9 @@ use Rattle.std.proofs.lemmas.Map.Keys.{IsDistinct-head, IsDistinct-tail}
 use Rattle.indexmap.specs.IndexSet.{insert_key}
 use Rattle.run_marks.specs.Marked.{is_marked}
 use Rattle.label_lists.specs.Requesting.{RequestingState, requests_in, may_offer_in, place_of}
-use Rattle.label_lists.specs.Known.{KnownState, OnlyEnters, requests_at, offers_at}
-use Rattle.label_lists.specs.Labels.{labels_eq}
+use Rattle.label_lists.specs.inner.Known.{KnownState, OnlyEnters}
+use Rattle.label_lists.specs.Known.{requests_at, offers_at}
+use Rattle.label_lists.specs.inner.Labels.{labels_eq}
 use Rattle.label_lists.proofs.SameLabels.{each_passes}
 use Rattle.label_lists.proofs.Writes.{appended}
 

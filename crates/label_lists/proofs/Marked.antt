@@ -5,7 +5,8 @@ use Rattle.std.proofs.lemmas.Grind.{common_steps}
 use Rattle.run_marks.specs.First.{IsFirstFrom}
 use Rattle.run_marks.specs.Marked.{Covers, SameMarks, is_marked}
 use Rattle.label_lists.specs.Requesting.{RequestingState}
-use Rattle.label_lists.specs.Known.{AreMarked, IsBefore, offers_at}
+use Rattle.label_lists.specs.inner.Known.{AreMarked}
+use Rattle.label_lists.specs.Known.{IsBefore, offers_at}
 use Rattle.label_lists.proofs.Entering.{offers_appended}
 
 -- the marks stay correct if no further run may have a ready leg

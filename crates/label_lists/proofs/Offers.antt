@@ -8,7 +8,8 @@ use Rattle.std.proofs.lemmas.List.{get_or_default}
 use Rattle.run_marks.specs.Bits.{Puts}
 use Rattle.run_marks.specs.First.{IsFirstFrom}
 use Rattle.run_marks.specs.Marked.{Covers, SameMarks, is_marked}
-use Rattle.label_lists.specs.Requesting.{RequestingState, Begins, IsOrdered, PutsRun, may_offer_in, place_of}
+use Rattle.label_lists.specs.Requesting.{RequestingState, may_offer_in, place_of}
+use Rattle.label_lists.specs.inner.Requesting.{Begins, IsOrdered, PutsRun}
 use Rattle.label_lists.proofs.Places.{Rises, StandsAt, no_less, place_found, place_there, rises_pushed}
 
 -- the mark at the index of a run, if it has one

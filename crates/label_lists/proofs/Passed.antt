@@ -4,8 +4,10 @@ use Rattle.std.specs.List.Sorted.{IsBinarySearchResult}
 use Rattle.std.specs.Option.{option_map_or}
 use Rattle.std.specs.Ordering.{nat_cmp}
 use Rattle.std.proofs.lemmas.List.Sorted.{searched}
-use Rattle.label_lists.specs.Requesting.{RequestingState, Begins, IsPassed, requests_in, place_of}
-use Rattle.label_lists.specs.Known.{IsPassedFor, KnownState, SameRequested, requests_at}
+use Rattle.label_lists.specs.Requesting.{RequestingState, requests_in, place_of}
+use Rattle.label_lists.specs.inner.Requesting.{Begins, IsPassed}
+use Rattle.label_lists.specs.inner.Known.{IsPassedFor, KnownState, SameRequested}
+use Rattle.label_lists.specs.Known.{requests_at}
 use Rattle.label_lists.specs.Lists.{HasPlace, IsPassedUnder, ListsState, labels_of}
 use Rattle.label_lists.proofs.Places.{Rises, missing, no_less, place_found, place_there}
 use Rattle.label_lists.proofs.Writes.{within_if}

@@ -10,7 +10,8 @@ use Rattle.std.proofs.lemmas.List.Folds.{position_or_len_push}
 use Rattle.std.proofs.lemmas.List.Quantifiers.{position-Some}
 use Rattle.std.proofs.lemmas.List.Sorted.{searched}
 use Rattle.std.proofs.lemmas.List.Sums.{position_or_len_is, prefix_len-le-length}
-use Rattle.label_lists.specs.Requesting.{Begins, place_of}
+use Rattle.label_lists.specs.inner.Requesting.{Begins}
+use Rattle.label_lists.specs.Requesting.{place_of}
 
 abbrev pub Rises : List ℕ → Type 0
 Rises runs = (i j : ℕ) → i < j → j < length runs → get_or runs i 0 < get_or runs j 0

@@ -7,8 +7,8 @@ use Rattle.std.proofs.lemmas.Map.Keys.{IsDistinct-head, IsDistinct-tail}
 use Rattle.std.specs.Cmp.{first_so, second_so}
 use Rattle.std.specs.Cmp.Lexicographic.{bytes_decides}
 use Rattle.std.specs.Str.{bytes_eq}
-use Rattle.label_lists.specs.Known.{HasEachOnce}
-use Rattle.label_lists.specs.Labels.{labels_eq}
+use Rattle.label_lists.specs.inner.Known.{HasEachOnce}
+use Rattle.label_lists.specs.inner.Labels.{labels_eq}
 
 same : (xs ys : List (List ℕ)) → labels_eq xs ys ≡ true → xs ≡ ys
 same [] [] h = refl

@@ -4,8 +4,10 @@ use Rattle.std.proofs.Math.Dec.{eqb-suc-suc, eqb-suc-zero, eqb-zero-suc}
 use Rattle.std.specs.Cmp.{nat_eq_equiv}
 use Rattle.std.specs.Option.{option_map_or}
 use Rattle.std.proofs.lemmas.Bool.{eqb-true}
-use Rattle.label_lists.specs.Requesting.{RequestingState, PutsRun, SameRequesting, SameOffers, requests_in, may_offer_in}
-use Rattle.label_lists.specs.Known.{PutsAt, SameRequested, requests_at, offers_at}
+use Rattle.label_lists.specs.Requesting.{RequestingState, requests_in, may_offer_in}
+use Rattle.label_lists.specs.inner.Requesting.{PutsRun, SameRequesting, SameOffers}
+use Rattle.label_lists.specs.inner.Known.{PutsAt, SameRequested}
+use Rattle.label_lists.specs.Known.{requests_at, offers_at}
 
 module _ (f : RequestingState → Bool) where
   abbrev pub tested_at : List RequestingState → ℕ → Bool

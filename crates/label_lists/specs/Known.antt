@@ -1,13 +1,7 @@
 -- Lists of labels by number, each with the runs that have legs with these labels. This is defined by this project.
-use Rattle.std.specs.Prelude.{◌≡◌, ◌≤◌, ◌<◌, ◌&&◌, ℕ, List, length, Bool, true, false, nat_eq, Option, Some, IfSome, slice_get, if◌then◌else◌}
+use Rattle.std.specs.Prelude.{◌<◌, ℕ, List, Bool, false, Option, IfSome, slice_get}
 use Rattle.std.specs.Option.{option_map_or}
-use Rattle.run_marks.specs.Marked.{Covers, is_marked}
-use Rattle.label_lists.specs.Requesting.{RequestingState, IsPassed, requests_in, may_offer_in}
-
--- the lists in the order of their numbers, and the runs of each
-pub record KnownState : Type 0 where
-  pub lists : List (List (List ℕ))
-  pub requesting : List RequestingState
+use Rattle.label_lists.specs.Requesting.{RequestingState, requests_in, may_offer_in}
 
 -- whether the list of a number has the run
 abbrev pub requests_at : List RequestingState → ℕ → ℕ → Bool
@@ -17,38 +11,6 @@ requests_at requesting number run = option_map_or (λ a. requests_in a run) (sli
 abbrev pub offers_at : List RequestingState → ℕ → ℕ → Bool
 offers_at requesting number run = option_map_or (λ a. may_offer_in a run) (slice_get requesting number) false
 
--- no list has two numbers
-abbrev pub HasEachOnce : List (List (List ℕ)) → Type 0
-HasEachOnce lists = (m n : ℕ) (labels : List (List ℕ)) → slice_get lists m ≡ Some labels → slice_get lists n ≡ Some labels → m ≡ n
-
--- the list has a number, under which a later run is entered already and this run is not
-pub record IsPassedFor (known : KnownState) (labels : List (List ℕ)) (run : ℕ) : Type 0 where
-  pub number : ℕ
-  pub has_number : slice_get known.lists number ≡ Some labels
-  pub passed : IsPassed (requests_at known.requesting number) run
-
--- each list for which some run may have a ready leg is marked, and only lists are marked
-pub record AreMarked (requesting : List RequestingState) (offering : List ℕ) : Type 0 where
-  pub covers : Covers offering (length requesting)
-  pub marked : (number run : ℕ) → offers_at requesting number run ≡ true → is_marked offering number ≡ true
-  pub none_after : (number : ℕ) → length requesting ≤ number → is_marked offering number ≡ false
-
 -- the number is less than the result of an upward search, or the search found nothing
 abbrev pub IsBefore : ℕ → Option ℕ → Type 0
 IsBefore number found = IfSome found (λ n. number < n)
-
--- ---- changes
-
--- all lists keep their numbers and their runs, and the same runs may have ready legs
-pub record OnlyEnters (old new : KnownState) : Type 0 where
-  pub lists : (number : ℕ) (labels : List (List ℕ)) → slice_get old.lists number ≡ Some labels → slice_get new.lists number ≡ Some labels
-  pub requests : (number run : ℕ) → requests_at old.requesting number run ≡ true → requests_at new.requesting number run ≡ true
-  pub offers : (number run : ℕ) → offers_at new.requesting number run ≡ offers_at old.requesting number run
-
--- the mark of one run in one list has the given value; all others are unchanged
-abbrev pub PutsAt : Bool → ℕ → ℕ → List RequestingState → List RequestingState → Type 0
-PutsAt to number run old new = (n r : ℕ) → offers_at new n r ≡ (if nat_eq n number && nat_eq r run then to else offers_at old n r)
-
--- the lists have the same runs
-abbrev pub SameRequested : List RequestingState → List RequestingState → Type 0
-SameRequested old new = (n r : ℕ) → requests_at new n r ≡ requests_at old n r

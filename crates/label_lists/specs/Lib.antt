@@ -1,4 +1,4 @@
-pub mod Requesting
 pub mod Known
-pub mod Labels
 pub mod Lists
+pub mod Requesting
+pub mod inner

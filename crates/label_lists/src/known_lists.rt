@@ -3,8 +3,9 @@
 ghost use Rattle.std.specs.Prelude.{◌≡◌, ◌↔◌, ◌≤◌, ◌<◌, ◌^◌, ℕ, [], true, false, length, None, Some, IfErr, IfNone, IfOk, IfSome, Ok, slice_get};
 ghost use Rattle.wf_value.specs.Gives.{Gives, no_memory};
 ghost use Rattle.run_marks.specs.First.{IsFirstFrom};
-ghost use Rattle.label_lists.specs.Requesting.{IsPassed};
-ghost use Rattle.label_lists.specs.Known.{HasEachOnce, IsBefore, IsPassedFor, OnlyEnters, PutsAt, SameRequested, requests_at, offers_at};
+ghost use Rattle.label_lists.specs.inner.Requesting.{IsPassed};
+ghost use Rattle.label_lists.specs.inner.Known.{HasEachOnce, IsPassedFor, OnlyEnters, PutsAt, SameRequested};
+ghost use Rattle.label_lists.specs.Known.{IsBefore, requests_at, offers_at};
 
 use crate::label_list::LabelList;
 use crate::requesting_runs::RequestingRuns;
@@ -27,8 +28,8 @@ pub(crate) struct KnownLists {
 impl Model for KnownLists {
     ghost use Rattle.std.specs.Prelude.{◌≡◌, length};
     ghost use Rattle.indexmap.specs.IndexSet.{IsUnique};
-    ghost use Rattle.label_lists.specs.Known.{AreMarked, KnownState};
-    ghost use Rattle.label_lists.specs.Labels.{labels_eq};
+    ghost use Rattle.label_lists.specs.inner.Known.{AreMarked, KnownState};
+    ghost use Rattle.label_lists.specs.inner.Labels.{labels_eq};
 
     ghost Value = { KnownState };
 

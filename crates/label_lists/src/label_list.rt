@@ -6,7 +6,7 @@ ghost use Rattle.std.specs.Cmp.Rules.{comparing};
 ghost use Rattle.std.specs.Hash as fed;
 ghost use Rattle.std.specs.List.{fold};
 ghost use Rattle.std.proofs.Common.{rules};
-ghost use Rattle.label_lists.specs.Labels.{hashed, labels_eq};
+ghost use Rattle.label_lists.specs.inner.Labels.{hashed, labels_eq};
 
 use std::alloc::Global;
 use std::hash::{Hash, Hasher};

@@ -3,7 +3,8 @@
 ghost use Rattle.std.specs.Prelude.{◌≡◌, ◌↔◌, ◌||◌, ◌&&◌, ℕ, [], true, false, nat_eq, IfErr, IfOk, OnErr};
 ghost use Rattle.wf_value.specs.Gives.{Gives, no_memory};
 ghost use Rattle.run_marks.specs.First.{IsFirstFrom};
-ghost use Rattle.label_lists.specs.Requesting.{Begins, IsPassed, PutsRun, SameRequesting, SameOffers, requests_in, may_offer_in, place_of};
+ghost use Rattle.label_lists.specs.inner.Requesting.{Begins, IsPassed, PutsRun, SameRequesting, SameOffers};
+ghost use Rattle.label_lists.specs.Requesting.{requests_in, may_offer_in, place_of};
 
 use run_marks::RunBitmap;
 use std::alloc::Global;
@@ -18,7 +19,8 @@ pub(crate) struct RequestingRuns {
 }
 
 impl Model for RequestingRuns {
-    ghost use Rattle.label_lists.specs.Requesting.{RequestingState, IsOrdered};
+    ghost use Rattle.label_lists.specs.Requesting.{RequestingState};
+    ghost use Rattle.label_lists.specs.inner.Requesting.{IsOrdered};
 
     ghost Value = { RequestingState };
 

@@ -10,10 +10,10 @@ use Rattle.std.specs.Ordering.{is_eq}
 use Rattle.wf_value.specs.Matrix.{NamedValues, MatrixLists}
 use Rattle.matrix_expand.specs.Combinations.{Combination, value_at, has_pair, is_value, removes, agrees, kept, new_combinations, originals}
 use Rattle.matrix_expand.specs.Combinations.{choice_count}
-use Rattle.matrix_expand.specs.Numbered.{chosen, axes_of, axes_where, numbered_axes, original_at, original_count, choice_of, wanted_of}
-use Rattle.matrix_expand.specs.Numbered.{has_other, pattern_of, wanted_holds, pattern_agrees, pattern_removes, kept_from, kept_numbers}
-use Rattle.matrix_expand.specs.Numbered.{new_objects, kept_of, added_of}
-use Rattle.matrix_expand.specs.Values.{AxisValue, ChoiceValue}
+use Rattle.matrix_expand.specs.inner.Numbered.{chosen, axes_of, axes_where, numbered_axes, original_at, original_count, choice_of, wanted_of}
+use Rattle.matrix_expand.specs.inner.Numbered.{has_other, pattern_of, wanted_holds, pattern_agrees, pattern_removes, kept_from, kept_numbers}
+use Rattle.matrix_expand.specs.inner.Numbered.{new_objects, kept_of, added_of}
+use Rattle.matrix_expand.specs.inner.Values.{AxisValue, ChoiceValue}
 use Rattle.wf_value.proofs.Rising.{name_cmp}
 use Rattle.matrix_expand.proofs.Originals.{choices_are_numbered, choices_none}
 

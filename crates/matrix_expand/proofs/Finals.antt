@@ -18,10 +18,10 @@ use Rattle.definitions.specs.Rising.{names_rise}
 use Rattle.wf_value.specs.declared.scalar.Scalar.{Scalar}
 use Rattle.matrix_expand.specs.Combinations.{Combination, value_at, agrees, last_value, final_value, names_of, with_name, in_order}
 use Rattle.matrix_expand.specs.Combinations.{all_names, final_combination}
-use Rattle.matrix_expand.specs.Entries.{names_ascend, pairs_of, flagged, flags_of, added_value, object_entries, merged, SortsEntries}
-use Rattle.matrix_expand.specs.Entries.{final_from}
-use Rattle.matrix_expand.specs.Numbered.{chosen, axes_of, original_at, pattern_of, pattern_agrees}
-use Rattle.matrix_expand.specs.Values.{EntryValue}
+use Rattle.matrix_expand.specs.inner.Entries.{names_ascend, pairs_of, flagged, flags_of, added_value, object_entries, merged, SortsEntries}
+use Rattle.matrix_expand.specs.inner.Entries.{final_from}
+use Rattle.matrix_expand.specs.inner.Numbered.{chosen, axes_of, original_at, pattern_of, pattern_agrees}
+use Rattle.matrix_expand.specs.inner.Values.{EntryValue}
 use Rattle.matrix_expand.proofs.Agreement.{agrees_numbered}
 use Rattle.matrix_expand.proofs.Firsts.{value_at-firsts, names_rise-firsts, names_ascend-flagged, names_ascend-final, names_rise-map}
 use Rattle.matrix_expand.proofs.Merging.{value_at-merged, value_at-object, names_ascend-rise, pairs_of-object}

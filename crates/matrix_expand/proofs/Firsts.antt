@@ -13,9 +13,9 @@ use Rattle.std.proofs.lemmas.List.{at_drop_more}
 use Rattle.std.proofs.lemmas.Map.Lookups.{exact_bytes}
 use Rattle.definitions.specs.Rising.{names_rise}
 use Rattle.matrix_expand.specs.Combinations.{Combination, value_at}
-use Rattle.matrix_expand.specs.Entries.{is_least, names_ascend, pairs_of, flagged, is_last, firsts_after, merged, object_entries}
-use Rattle.matrix_expand.specs.Numbered.{original_at, chosen}
-use Rattle.matrix_expand.specs.Values.{AxisValue, EntryValue}
+use Rattle.matrix_expand.specs.inner.Entries.{is_least, names_ascend, pairs_of, flagged, is_last, firsts_after, merged, object_entries}
+use Rattle.matrix_expand.specs.inner.Numbered.{original_at, chosen}
+use Rattle.matrix_expand.specs.inner.Values.{AxisValue, EntryValue}
 use Rattle.matrix_expand.proofs.Merging.{names_ascend-merged, names_ascend-rise, pairs_of-object}
 use Rattle.matrix_expand.proofs.Rising.{same_test, below_all-less, rise_from}
 use Rattle.wf_value.proofs.Rising.{Equal-from_is_eq, name_cmp}

@@ -10,10 +10,10 @@ use Rattle.wf_value.specs.declared.code.Code.TheVariants.{LegCount}
 use Rattle.wf_value.specs.declared.refusal.Refusal.{Refusal}
 use Rattle.wf_value.specs.declared.refusal.Refusal.TheVariants.{Numbered}
 use Rattle.matrix_expand.specs.Combinations.{Combination, kept, final_combination, combinations, legs_or_refusal}
-use Rattle.matrix_expand.specs.Entries.{SortsEntries, final_from}
-use Rattle.matrix_expand.specs.Numbered.{axes_of, axes_where, numbered_axes, original_at, original_count, pattern_of, kept_from}
-use Rattle.matrix_expand.specs.Numbered.{kept_of, added_of, new_objects, kept_or_refusal}
-use Rattle.matrix_expand.specs.Values.{AxisValue, PatternValue, EntryValue}
+use Rattle.matrix_expand.specs.inner.Entries.{SortsEntries, final_from}
+use Rattle.matrix_expand.specs.inner.Numbered.{axes_of, axes_where, numbered_axes, original_at, original_count, pattern_of, kept_from}
+use Rattle.matrix_expand.specs.inner.Numbered.{kept_of, added_of, new_objects, kept_or_refusal}
+use Rattle.matrix_expand.specs.inner.Values.{AxisValue, PatternValue, EntryValue}
 use Rattle.matrix_expand.proofs.Agreement.{kept_is, new_is}
 use Rattle.matrix_expand.proofs.Finals.{final_is, mapped_twice}
 use Rattle.wf_value.proofs.Rising.{name_cmp}

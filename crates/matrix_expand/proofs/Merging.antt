@@ -16,9 +16,9 @@ use Rattle.wf_value.specs.declared.refusal.Refusal.{Refusal}
 use Rattle.wf_value.specs.Gives.{Gives}
 use Rattle.definitions.specs.Rising.{names_rise}
 use Rattle.matrix_expand.specs.Combinations.{Combination, value_at}
-use Rattle.matrix_expand.specs.Entries.{comes_before, placed, merged, is_least, names_ascend, pairs_of, flagged, added_value}
-use Rattle.matrix_expand.specs.Entries.{object_entries, SortsEntries}
-use Rattle.matrix_expand.specs.Values.{EntryValue}
+use Rattle.matrix_expand.specs.inner.Entries.{comes_before, placed, merged, is_least, names_ascend, pairs_of, flagged, added_value}
+use Rattle.matrix_expand.specs.inner.Entries.{object_entries, SortsEntries}
+use Rattle.matrix_expand.specs.inner.Values.{EntryValue}
 use Rattle.matrix_expand.proofs.Rising.{below_all_first, rise_rest}
 use Rattle.wf_value.proofs.Rising.{Equal-from_is_eq, Less-from_is_lt, name_cmp}
 use Rattle.wf_value.proofs.PassedOn.{same_Ok}

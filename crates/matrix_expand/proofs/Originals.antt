@@ -10,7 +10,7 @@ use Rattle.wf_value.specs.Matrix.{NamedValues}
 use Rattle.wf_value.specs.declared.scalar.Scalar.{Scalar}
 use Rattle.wf_value.specs.declared.scalar.Scalar.TheVariants.{Null}
 use Rattle.matrix_expand.specs.Combinations.{choices, choice_count}
-use Rattle.matrix_expand.specs.Numbered.{chosen, axes_of, original_at}
+use Rattle.matrix_expand.specs.inner.Numbered.{chosen, axes_of, original_at}
 
 range-append : (a n m : ℕ) → range_with_len a (n + m) ≡ range_with_len a n ++ range_with_len (a + n) m
 range-append a zero m =

@@ -11,8 +11,8 @@ use Rattle.std.proofs.Math.Nat.{mul_comm, mul-le-mul_right}
 use Rattle.wf_value.specs.Matrix.{NamedValues}
 use Rattle.wf_value.specs.declared.scalar.Scalar.{Scalar}
 use Rattle.matrix_expand.specs.Combinations.{Combination, choice_count}
-use Rattle.matrix_expand.specs.Numbered.{choice_of, wanted_of, has_other, kept_from, pattern_removes, pattern_agrees, new_objects}
-use Rattle.matrix_expand.specs.Values.{AxisValue, PatternValue}
+use Rattle.matrix_expand.specs.inner.Numbered.{choice_of, wanted_of, has_other, kept_from, pattern_removes, pattern_agrees, new_objects}
+use Rattle.matrix_expand.specs.inner.Values.{AxisValue, PatternValue}
 
 pub factors : (s a b : ℕ) → s ≡ a * b → 0 < s → (0 < a) × ((0 < b) × (s / a ≡ b))
 factors s zero b e h = absurd (omega arith)

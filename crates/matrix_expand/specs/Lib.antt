@@ -1,4 +1,2 @@
 pub mod Combinations
-pub mod Entries
-pub mod Numbered
-pub mod Values
+pub mod inner

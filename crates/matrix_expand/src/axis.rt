@@ -5,7 +5,7 @@ ghost use Rattle.std.specs.Ordering.{nat_cmp};
 ghost use Rattle.wf_value.specs.Gives.{Gives};
 ghost use Rattle.definitions.specs.Rising.{names_rise};
 ghost use Rattle.matrix_expand.specs.Combinations.{choice_count};
-ghost use Rattle.matrix_expand.specs.Numbered.{chosen, axes_of, choice_of};
+ghost use Rattle.matrix_expand.specs.inner.Numbered.{chosen, axes_of, choice_of};
 
 use std::alloc::Global;
 use std::cmp::Ordering;
@@ -21,7 +21,7 @@ pub struct Choice<'a> {
 
 impl<'a> Model for Choice<'a> {
     ghost use Rattle.std.specs.Prelude.{◌<◌, length};
-    ghost use Rattle.matrix_expand.specs.Values.{ChoiceValue, coded_choice};
+    ghost use Rattle.matrix_expand.specs.inner.Values.{ChoiceValue, coded_choice};
 
     ghost Value = { ChoiceValue };
 
@@ -67,7 +67,7 @@ pub struct Axis<'a> {
 }
 
 impl<'a> Model for Axis<'a> {
-    ghost use Rattle.matrix_expand.specs.Values.{AxisValue, coded_axis};
+    ghost use Rattle.matrix_expand.specs.inner.Values.{AxisValue, coded_axis};
 
     ghost Value = { AxisValue };
 

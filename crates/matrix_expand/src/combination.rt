@@ -2,8 +2,8 @@ ghost use Rattle.std.specs.Prelude.{◌≡◌, true, false, None, Ok, slice_inde
 ghost use Rattle.std.specs.Option.{option_copied};
 ghost use Rattle.wf_value.specs.Gives.{Gives};
 ghost use Rattle.definitions.specs.Rising.{names_rise};
-ghost use Rattle.matrix_expand.specs.Entries.{object_entries, names_ascend, pairs_of, flagged, firsts_after, is_last, flags_of, final_from};
-ghost use Rattle.matrix_expand.specs.Numbered.{original_at};
+ghost use Rattle.matrix_expand.specs.inner.Entries.{object_entries, names_ascend, pairs_of, flagged, firsts_after, is_last, flags_of, final_from};
+ghost use Rattle.matrix_expand.specs.inner.Numbered.{original_at};
 
 use crate::axis::Axis;
 use crate::entry::{Entry, merge};

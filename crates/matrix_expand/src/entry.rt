@@ -1,7 +1,7 @@
 ghost use Rattle.std.specs.Prelude.{◌≡◌, ◌+◌, ◌++◌, ◌^◌, ◌<◌, length, IsTrue, IfOk, IfErr, Ok};
 ghost use Rattle.wf_value.specs.Gives.{Gives, no_memory};
 ghost use Rattle.definitions.specs.Rising.{names_rise};
-ghost use Rattle.matrix_expand.specs.Entries.{object_entries, comes_before, merged, SortsEntries};
+ghost use Rattle.matrix_expand.specs.inner.Entries.{object_entries, comes_before, merged, SortsEntries};
 
 use std::alloc::Global;
 use std::marker::Model;
@@ -16,7 +16,7 @@ pub struct Entry<'a> {
 }
 
 impl<'a> Model for Entry<'a> {
-    ghost use Rattle.matrix_expand.specs.Values.{EntryValue, coded_entry};
+    ghost use Rattle.matrix_expand.specs.inner.Values.{EntryValue, coded_entry};
 
     ghost Value = { EntryValue };
 

@@ -4,7 +4,7 @@ ghost use Rattle.definitions.specs.Limits.{max_legs};
 ghost use Rattle.wf_value.specs.Gives.{Gives};
 ghost use Rattle.definitions.specs.Rising.{names_rise};
 ghost use Rattle.matrix_expand.specs.Combinations.{choice_count, combinations, legs_or_refusal, combinations_or_refusal};
-ghost use Rattle.matrix_expand.specs.Numbered.{original_count, numbered_axes, pattern_agrees, kept_of, kept_or_refusal, new_objects};
+ghost use Rattle.matrix_expand.specs.inner.Numbered.{original_count, numbered_axes, pattern_agrees, kept_of, kept_or_refusal, new_objects};
 
 use crate::axis::{Axis, axes};
 use crate::combination::final_combination;
@@ -33,7 +33,7 @@ impl<'a> Model for Expansion<'a> {
     ghost use Rattle.definitions.specs.Limits.{max_legs};
     ghost use Rattle.definitions.specs.Rising.{names_rise};
     ghost use Rattle.matrix_expand.specs.Combinations.{Combination};
-    ghost use Rattle.matrix_expand.specs.Entries.{names_ascend, pairs_of, final_from};
+    ghost use Rattle.matrix_expand.specs.inner.Entries.{names_ascend, pairs_of, final_from};
 
     ghost Value = { List Combination };
 

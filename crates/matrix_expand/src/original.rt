@@ -1,7 +1,7 @@
 ghost use Rattle.std.specs.Prelude.{◌≡◌, ◌+◌, min};
 ghost use Rattle.wf_value.specs.Gives.{Gives};
 ghost use Rattle.matrix_expand.specs.Combinations.{choice_count};
-ghost use Rattle.matrix_expand.specs.Numbered.{pattern_removes, kept_numbers, kept_or_refusal};
+ghost use Rattle.matrix_expand.specs.inner.Numbered.{pattern_removes, kept_numbers, kept_or_refusal};
 ghost use Rattle.std.specs.List.{list_any};
 
 use crate::pattern::Pattern;

@@ -2,7 +2,7 @@ ghost use Rattle.std.specs.Prelude.{◌≡◌, ◌&&◌, map, IsTrue, Ok};
 ghost use Rattle.std.specs.List.{list_all};
 ghost use Rattle.wf_value.specs.Gives.{Gives};
 ghost use Rattle.definitions.specs.Rising.{names_rise};
-ghost use Rattle.matrix_expand.specs.Numbered.{wanted_holds, pattern_agrees, pattern_removes, pattern_of};
+ghost use Rattle.matrix_expand.specs.inner.Numbered.{wanted_holds, pattern_agrees, pattern_removes, pattern_of};
 
 use crate::axis::{Axis, Choice, place_of};
 use std::alloc::Global;
@@ -17,7 +17,7 @@ struct WantedChoice<'a> {
 }
 
 impl<'a> Model for WantedChoice<'a> {
-    ghost use Rattle.matrix_expand.specs.Values.{WantedValue, coded_wanted};
+    ghost use Rattle.matrix_expand.specs.inner.Values.{WantedValue, coded_wanted};
 
     ghost Value = { WantedValue };
 
@@ -56,7 +56,7 @@ pub struct Pattern<'a> {
 }
 
 impl<'a> Model for Pattern<'a> {
-    ghost use Rattle.matrix_expand.specs.Values.{PatternValue, coded_pattern};
+    ghost use Rattle.matrix_expand.specs.inner.Values.{PatternValue, coded_pattern};
 
     ghost Value = { PatternValue };
 

@@ -3,7 +3,7 @@ use Rattle.std.proofs.Common.{◌≡◌, ◌⊎◌, ℕ, zero, suc, ◌<◌, ◌
 use Rattle.std.proofs.Common.{refl, ap, ◌∙◌, ⊎_elim, arith}
 use Rattle.std.proofs.lemmas.Bool.{and_parts, or_cases, or_left, or_right, and_from, cases_lt}
 use Rattle.std.proofs.lemmas.List.{get_or-map, length-map}
-use Rattle.needs_graph.specs.JobBitmap.{is_marked, either, through, passed, closed}
+use Rattle.needs_graph.specs.inner.JobBitmap.{is_marked, either, through, passed, closed}
 
 pub length-either : (xs ys : List Bool) → length (either xs ys) ≡ length xs
 length-either [] ys = refl

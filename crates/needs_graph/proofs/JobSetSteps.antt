@@ -6,8 +6,8 @@ use Rattle.std.specs.Int.Bits.{bit_or}
 use Rattle.std.proofs.lemmas.Bool.{cases_eq, cases_lt}
 use Rattle.std.proofs.lemmas.List.{get_or-set_same, get_or-set_other, get_or-take, get_or_past, length-take-le}
 use Rattle.std.proofs.lemmas.Nat.Bits.{bit_at_set_same, bit_at_set_other}
-use Rattle.needs_graph.specs.JobSets.{is_in}
-use Rattle.needs_graph.specs.JobBitmap.{is_marked}
+use Rattle.needs_graph.specs.inner.JobSets.{is_in}
+use Rattle.needs_graph.specs.inner.JobBitmap.{is_marked}
 
 -- a word with one more bit
 abbrev pub with_bit : ℕ → ℕ → ℕ

@@ -5,7 +5,7 @@ use Rattle.std.specs.Str.{bytes_eq}
 use Rattle.std.proofs.lemmas.Bool.{cases_eq, true≢false}
 use Rattle.std.proofs.lemmas.List.{get_or-take, get_or_default, length-take-le}
 use Rattle.std.proofs.lemmas.Slice.Eq.{bytes_eq-Decides}
-use Rattle.needs_graph.specs.Lookup.{Finds}
+use Rattle.needs_graph.specs.inner.Lookup.{Finds}
 use Rattle.definitions.specs.JobNeeds.{JobNeeds}
 
 -- the job at an index of a prefix

@@ -3,7 +3,7 @@ use Rattle.std.proofs.Common.{◌≡◌, ℕ, zero, suc, ◌+◌, ◌<◌, ◌�
 use Rattle.std.proofs.Common.{map, refl, sym, ap, ◌∙◌, zero-add, arith}
 use Rattle.std.specs.List.{filter, enumerate_from}
 use Rattle.std.proofs.lemmas.Bool.{true≢false}
-use Rattle.needs_graph.specs.JobBitmap.{is_marked, either, marked, through}
+use Rattle.needs_graph.specs.inner.JobBitmap.{is_marked, either, marked, through}
 use Rattle.needs_graph.proofs.Closure.{or_false}
 
 pub either_none : (xs : List Bool) → either xs [] ≡ xs

@@ -6,8 +6,8 @@ use Rattle.std.proofs.lemmas.Bool.{cond-true, cond-false}
 use Rattle.std.proofs.lemmas.List.{get_or_read, map-append, append-nil, take_all}
 use Rattle.std.proofs.lemmas.List.Elements.{filter_more}
 use Rattle.std.proofs.lemmas.List.FromFn.{length-enumerate_from, get_or-enumerate_from}
-use Rattle.needs_graph.specs.JobBitmap.{is_marked}
-use Rattle.needs_graph.specs.Rows.{own_ids}
+use Rattle.needs_graph.specs.inner.JobBitmap.{is_marked}
+use Rattle.needs_graph.specs.inner.Rows.{own_ids}
 use Rattle.definitions.specs.JobNeeds.{JobNeeds}
 
 abbrev reaches_itself : List (List Bool) → ℕ × JobNeeds → Bool

@@ -6,7 +6,8 @@ use Rattle.std.proofs.lemmas.List.Folds.{list_any_at}
 use Rattle.std.proofs.lemmas.List.FromFn.{length-range_with_len, get_or-range_with_len}
 use Rattle.std.proofs.lemmas.List.{get_or_default}
 use Rattle.std.specs.List.{range_with_len, enumerate_from, filter}
-use Rattle.needs_graph.specs.JobBitmap.{places, is_marked, marked}
+use Rattle.needs_graph.specs.Needs.{places}
+use Rattle.needs_graph.specs.inner.JobBitmap.{is_marked, marked}
 use Rattle.needs_graph.proofs.Members.{Has}
 
 kept : {X : Type 0} (b c : Bool) (a : ℕ) (x : X) (es : List (ℕ × X)) (ns : List ℕ) → b ≡ c → map (λ e. e.0) es ≡ ns

@@ -8,7 +8,7 @@ use Rattle.std.proofs.lemmas.List.{get_or-map, get_or-set_same, get_or-set_other
 use Rattle.std.proofs.lemmas.List.Folds.{list_any_more, list_all_more, list_any_none, list_any_at, list_all_at}
 use Rattle.std.proofs.lemmas.Slice.Eq.{bytes_eq-Decides}
 use Rattle.needs_graph.specs.Needs.{ids_rise, is_listed, is_job, unknown_need}
-use Rattle.needs_graph.specs.Rows.{needs_row, needs_row_of, needs_rows_of}
+use Rattle.needs_graph.specs.inner.Rows.{needs_row, needs_row_of, needs_rows_of}
 use Rattle.wf_value.specs.declared.refusal.Refusal.{Refusal}
 use Rattle.definitions.specs.JobNeeds.{JobNeeds}
 use Rattle.needs_graph.proofs.Closure.{or_false}

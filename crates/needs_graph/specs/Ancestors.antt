@@ -2,7 +2,7 @@
 -- needs. GitHub Docs, "Workflow syntax for GitHub Actions": `jobs.<job_id>.needs`.
 use Rattle.std.specs.Prelude.{◌≡◌, ◌<◌, ℕ, zero, suc, List, [], ◌∷◌, Bool, false, length, filter, nat_eq}
 use Rattle.std.specs.List.{Contains, slice_index_or, flat_map, list_any, range_with_len}
-use Rattle.needs_graph.specs.JobSets.{is_in}
+use Rattle.needs_graph.specs.inner.JobSets.{is_in}
 
 abbrev pub needs_at : List (List ℕ) → ℕ → List ℕ
 needs_at needs job = slice_index_or needs job []

@@ -1,7 +1,9 @@
 -- The needs of a workflow's jobs, and when they form no graph. GitHub Docs, "Workflow syntax for GitHub Actions":
 -- `jobs.<job_id>.needs`.
-use Rattle.std.specs.Prelude.{ℕ, ◌==◌, List, [], ◌∷◌, length, Bool, Result, Ok, Err, filter, map, if◌then◌else◌}
-use Rattle.std.specs.List.{list_any, list_all, enumerate_from}
+use Rattle.std.specs.Prelude.{ℕ, List, [], ◌∷◌, Bool, filter, map, if◌then◌else◌}
+use Rattle.std.specs.List.{enumerate_from}
+use Rattle.std.specs.Prelude.{◌==◌, length, Result, Ok, Err}
+use Rattle.std.specs.List.{list_any, list_all}
 use Rattle.std.specs.Str.{bytes_eq}
 use Rattle.definitions.specs.Rising.{rises_by}
 use Rattle.wf_value.specs.declared.code.Code.TheVariants.{UnknownNeed}
@@ -9,7 +11,10 @@ use Rattle.wf_value.specs.declared.refusal.Refusal.{Refusal}
 use Rattle.wf_value.specs.declared.refusal.Refusal.TheVariants.{Numbered, Cycle}
 use Rattle.definitions.specs.JobNeeds.{JobNeeds}
 use Rattle.needs_graph.specs.Ancestors.{is_ancestor}
-use Rattle.needs_graph.specs.JobBitmap.{places}
+
+-- the indices, from 0, of the elements that pass the test
+abbrev pub places : {X : Type 0} → (X → Bool) → List X → List ℕ
+places test xs = map (λ e. e.0) (filter (λ e. test e.1) (enumerate_from 0 xs))
 
 -- whether the ids strictly increase in byte order
 abbrev pub ids_rise : List JobNeeds → Bool

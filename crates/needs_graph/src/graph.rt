@@ -4,7 +4,7 @@ ghost use Rattle.wf_value.specs.Gives.{Gives};
 ghost use Rattle.needs_graph.specs.Ancestors.{needs_at, is_ancestor, dependents_of, HasWalk};
 ghost use Rattle.needs_graph.specs.Conditions.{ancestor_results, condition_value, has_failed, has_succeeded};
 ghost use Rattle.needs_graph.specs.Needs.{ids_rise, list_nothing, needs_of, graph_of};
-ghost use Rattle.needs_graph.specs.Rows.{own_ids};
+ghost use Rattle.needs_graph.specs.inner.Rows.{own_ids};
 
 use crate::conditions::{AncestorTest, ancestor_test_of, has_failed, has_succeeded, result_at};
 use crate::ended::HasResult;

@@ -1,7 +1,7 @@
 ghost use Rattle.std.specs.Prelude.{◌≡◌, ◌≢◌, ◌/◌, ◌<◌, IfOk, List, [], length, true, ℕ};
 ghost use Rattle.std.specs.List.{slice_index_or};
-ghost use Rattle.needs_graph.specs.JobSets.{is_in};
-ghost use Rattle.needs_graph.specs.JobBitmap.{is_marked};
+ghost use Rattle.needs_graph.specs.inner.JobSets.{is_in};
+ghost use Rattle.needs_graph.specs.inner.JobBitmap.{is_marked};
 
 use std::alloc::{AllocError, Global};
 use std::marker::Model;

@@ -2,7 +2,7 @@ ghost use Rattle.std.specs.Prelude.{◌≡◌, IfOk, Ok, List, ℕ, length};
 ghost use Rattle.std.specs.Str.{bytes_eq};
 ghost use Rattle.std.specs.HashMap.{get_by};
 ghost use Rattle.wf_value.specs.Gives.{Gives};
-ghost use Rattle.needs_graph.specs.Lookup.{Finds};
+ghost use Rattle.needs_graph.specs.inner.Lookup.{Finds};
 
 use crate::job_needs::JobNeeds;
 use std::alloc::{AllocError, Global};
@@ -21,7 +21,7 @@ impl<'a> Model for Lookup<'a> {
     ghost use Rattle.std.specs.Prelude.{List, ℕ};
     ghost use Rattle.std.specs.Str.{bytes_eq};
     ghost use Rattle.std.specs.HashMap.{get_by};
-    ghost use Rattle.needs_graph.specs.Lookup.{Finds};
+    ghost use Rattle.needs_graph.specs.inner.Lookup.{Finds};
     ghost use Rattle.definitions.specs.JobNeeds.{JobNeeds};
 
     ghost Value = { List JobNeeds };

@@ -1,7 +1,7 @@
 ghost use Rattle.std.specs.Prelude.{◌≡◌, ◌<◌, ◌≤◌, ℕ, Ok, IfOk, List, Bool, true, false, length, replicate, slice_set};
 ghost use Rattle.wf_value.specs.Gives.{Gives};
-ghost use Rattle.needs_graph.specs.JobSets.{is_in};
-ghost use Rattle.needs_graph.specs.JobBitmap.{is_marked, marked, either, through};
+ghost use Rattle.needs_graph.specs.inner.JobSets.{is_in};
+ghost use Rattle.needs_graph.specs.inner.JobBitmap.{is_marked, marked, either, through};
 
 use crate::job_set::JobSet;
 use std::alloc::{AllocError, Global};

@@ -7,7 +7,7 @@ use Rattle.std.proofs.lemmas.Bool.{cases_eq}
 use Rattle.std.proofs.lemmas.Option.{same_Some}
 use Rattle.label_lists.specs.Lists.{ListsState, OnlyGrows}
 use Rattle.run_states.proofs.Found.{at_the_end, before_the_end}
-use Rattle.run_bindings.specs.BoundJobs.{AreBeside, AreNumbersOf}
+use Rattle.run_bindings.specs.inner.BoundJobs.{AreBeside, AreNumbersOf}
 use Rattle.run_bindings.specs.GroupKeys.{AreLater, requests_of}
 use Rattle.run_bindings.specs.LabelNumbers.{IsListOf, list_number, number_in, texts_in, texts_of}
 use Rattle.run_bindings.specs.declared.bindings.JobBindings.{JobBindings}

@@ -7,7 +7,8 @@ use Rattle.std.proofs.lemmas.Bool.{cases_eq}
 use Rattle.std.proofs.lemmas.Option.{same_Some, slice_get_past}
 use Rattle.label_lists.specs.Lists.{HasPlace, ListsState, OnlyGrows, PutsOffer, labels_of, may_offer}
 use Rattle.run_states.proofs.NamedOnce.{not_same}
-use Rattle.run_bindings.specs.LabelNumbers.{AreListsOf, IsListOf, OnlyPuts, kept_texts, list_number, number_in, texts_in, texts_of}
+use Rattle.run_bindings.specs.LabelNumbers.{AreListsOf, IsListOf, kept_texts, list_number, number_in, texts_in, texts_of}
+use Rattle.run_bindings.specs.inner.LabelNumbers.{OnlyPuts}
 use Rattle.run_bindings.specs.declared.bindings.JobBindings.{JobBindings}
 use Rattle.run_bindings.specs.declared.label_numbers.ListNumbers.{ListNumbers}
 use Rattle.run_bindings.specs.declared.resolved_labels.ResolvedLabels.{ResolvedLabels}

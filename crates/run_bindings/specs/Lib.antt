@@ -1,8 +1,8 @@
 pub mod Bindings
 pub mod BoundFlags
 pub mod BoundGroups
-pub mod BoundJobs
 pub mod GroupKeys
 pub mod KnownLabels
 pub mod LabelNumbers
 pub mod PlainLabels
+pub mod inner

@@ -14,7 +14,7 @@ ghost use Rattle.run_plan.specs.declared.planned.PlannedJob.{PlannedJob as Plann
 ghost use Rattle.run_states.specs.Fitting.{has_labels};
 ghost use Rattle.run_bindings.specs.Bindings.{JobSays, KeepsLabels, KeepsLabelsAt, RunSays, group_request_of, flag_for};
 ghost use Rattle.run_bindings.specs.BoundGroups.{results_by_index};
-ghost use Rattle.run_bindings.specs.BoundJobs.{AddsOne, AreBeside, AreNumbersOf};
+ghost use Rattle.run_bindings.specs.inner.BoundJobs.{AddsOne, AreBeside, AreNumbersOf};
 ghost use Rattle.run_bindings.specs.GroupKeys.{AllAreLater, AreLater, decided};
 ghost use Rattle.run_bindings.specs.LabelNumbers.{AreListsOf};
 ghost use Rattle.run_bindings.specs.declared.bindings.JobBindings.{JobBindings as RequestsOfJob};

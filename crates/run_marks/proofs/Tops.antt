@@ -4,7 +4,8 @@ use Rattle.std.specs.Prelude.{refl}
 use Rattle.std.proofs.Common.{arith, ap, sym, ◌∙◌, inl, inr}
 use Rattle.std.proofs.lemmas.Bool.{cases_eq, true≢false}
 use Rattle.std.proofs.lemmas.Bool.Decides.{nat_tests}
-use Rattle.run_marks.specs.Bits.{IsTopOf, SameWords, row_has, word_has}
+use Rattle.run_marks.specs.inner.Bits.{IsTopOf, SameWords}
+use Rattle.run_marks.specs.Bits.{row_has, word_has}
 use Rattle.run_marks.proofs.Rows.{by_word, same_rows}
 use Rattle.run_marks.proofs.Words.{none_of_zero}
 

@@ -2,7 +2,8 @@
 //! time.
 
 ghost use Rattle.std.specs.Prelude.{◌*◌};
-ghost use Rattle.run_marks.specs.Bits.{IsTopOf, row_has};
+ghost use Rattle.run_marks.specs.inner.Bits.{IsTopOf};
+ghost use Rattle.run_marks.specs.Bits.{row_has};
 ghost use Rattle.run_marks.specs.First.{IsFirstFrom};
 
 use crate::row::first_in_row;

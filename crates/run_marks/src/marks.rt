@@ -20,7 +20,7 @@ pub struct RunBitmap {
 
 impl Model for RunBitmap {
     ghost use Rattle.std.specs.Prelude.{ℕ, List};
-    ghost use Rattle.run_marks.specs.Bits.{IsTopOf};
+    ghost use Rattle.run_marks.specs.inner.Bits.{IsTopOf};
 
     ghost Value = { List ℕ };
 

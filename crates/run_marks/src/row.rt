@@ -1,7 +1,8 @@
 //! A row of words as a bitmap: bit `k` is bit `k % 64` of word `k / 64`.
 
 ghost use Rattle.std.specs.Prelude.{◌≡◌, ◌≢◌, ◌*◌, ◌/◌, ◌≤◌, ◌<◌, true, false, length, max, nat_eq, slice_index, OnOk};
-ghost use Rattle.run_marks.specs.Bits.{AreFew, Puts, SameWords, SameWordsBut, row_has};
+ghost use Rattle.run_marks.specs.inner.Bits.{AreFew, SameWords, SameWordsBut};
+ghost use Rattle.run_marks.specs.Bits.{Puts, row_has};
 ghost use Rattle.run_marks.specs.First.{IsFirstFrom};
 
 use crate::word::{first_bit, with_bit, without_bit};

@@ -1,4 +1,4 @@
 pub mod LastCommand
 pub mod PlanOf
-pub mod PlannedWorkflows
 pub mod ReplyText
+pub mod inner

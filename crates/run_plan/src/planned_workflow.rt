@@ -9,7 +9,7 @@ ghost use Rattle.wf_value.specs.Gives.{Gives};
 ghost use Rattle.wf_reader.specs.Event.{event_of};
 ghost use Rattle.wf_reader.specs.Faults.{unless_faulty};
 ghost use Rattle.run_plan.specs.PlanOf.{faults_of, plan_of};
-ghost use Rattle.run_plan.specs.PlannedWorkflows.{IsOrigin, IsPlanned};
+ghost use Rattle.run_plan.specs.inner.PlannedWorkflows.{IsOrigin, IsPlanned};
 
 use crate::planned::Plan;
 use crate::planning::plan_jobs;

@@ -42,7 +42,7 @@ impl Model for Prepared {
     ghost use Rattle.wf_reader.specs.Event.{event_of};
     ghost use Rattle.definitions.specs.Admitted.{Admitted, coded_admitted};
     ghost use Rattle.run_plan.specs.PlanOf.{faults_of};
-    ghost use Rattle.run_plan.specs.PlannedWorkflows.{IsPlanned};
+    ghost use Rattle.run_plan.specs.inner.PlannedWorkflows.{IsPlanned};
 
     ghost Value = { Admitted };
 

@@ -7,7 +7,7 @@ use Rattle.std.proofs.Common.{arith, ap, subst, ◌∙◌, get_or}
 use Rattle.std.proofs.lemmas.List.{length-set}
 use Rattle.std.proofs.lemmas.Option.{gets, slice_get-map}
 use Rattle.run_plan.specs.declared.planned.PlannedJob.{PlannedJob}
-use Rattle.run_states.specs.Cells.{JobCells, cells_of, in_state, states, rooms, legs_planned, blocked_cells, result_of}
+use Rattle.run_states.specs.inner.Cells.{JobCells, cells_of, in_state, states, rooms, legs_planned, blocked_cells, result_of}
 use Rattle.run_states.specs.FirstOf.{changed_at}
 use Rattle.run_states.specs.JobResults.{finished_result}
 use Rattle.run_states.specs.JobResults.{results_of}

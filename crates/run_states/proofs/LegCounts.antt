@@ -7,11 +7,11 @@ use Rattle.std.proofs.Common.{arith, ap, sym, ◌∙◌}
 use Rattle.std.proofs.lemmas.Bool.{or_parts, true≢false}
 use Rattle.std.proofs.lemmas.Bool.Decides.{nat_tests}
 use Rattle.std.proofs.lemmas.List.Sums.{sum_by-cons}
-use Rattle.run_states.specs.ActiveRuns.{is_active_leg}
+use Rattle.run_states.specs.inner.ActiveRuns.{is_active_leg}
 use Rattle.run_states.specs.FirstOf.{first_some}
 use Rattle.run_states.specs.Fitting.{is_ready}
 use Rattle.run_states.specs.Groups.{leg_holds, leg_waits}
-use Rattle.run_states.specs.LegCounts.{AreCounted, is_unready_leg, legs_in}
+use Rattle.run_states.specs.inner.LegCounts.{AreCounted, is_unready_leg, legs_in}
 use Rattle.run_states.specs.Parallel.{is_at_work}
 use Rattle.run_states.specs.Places.{leg_site}
 use Rattle.run_states.specs.RunState.{LegState, RunState}

@@ -9,9 +9,9 @@ use Rattle.std.proofs.lemmas.List.{get_or_past}
 use Rattle.std.proofs.lemmas.List.Sums.{sum_by-cons}
 use Rattle.needs_graph.specs.Ancestors.{dependents_of, needs_at}
 use Rattle.definitions.specs.JobNeeds.{JobNeeds}
-use Rattle.needs_graph.specs.JobBitmap.{places}
+use Rattle.needs_graph.specs.Needs.{places}
 use Rattle.needs_graph.specs.Needs.{is_listed, needs_of}
-use Rattle.run_states.specs.NeedsLeft.{NamedOnce}
+use Rattle.run_states.specs.inner.NeedsLeft.{NamedOnce}
 
 -- ---- counts of numbers
 

@@ -9,12 +9,12 @@ use Rattle.wf_value.specs.declared.outcome.JobResult.{JobResult}
 use Rattle.needs_graph.specs.Ancestors.{dependents_of, needs_at}
 use Rattle.run_plan.specs.PlanOf.{plan_graph}
 use Rattle.run_plan.specs.declared.planned.PlannedJob.{PlannedJob}
-use Rattle.needs_graph.specs.JobBitmap.{places}
-use Rattle.run_states.specs.Cells.{JobCells, states}
+use Rattle.needs_graph.specs.Needs.{places}
+use Rattle.run_states.specs.inner.Cells.{JobCells, states}
 use Rattle.run_states.specs.FirstOf.{changed_at}
 use Rattle.run_states.specs.JobResults.{results_so_far, finished_result}
-use Rattle.run_states.specs.LegCounts.{one_where}
-use Rattle.run_states.specs.NeedsLeft.{ArePlanned, NamedOnce, NeedsAreLeft, needs_left_at, unfinished}
+use Rattle.run_states.specs.inner.LegCounts.{one_where}
+use Rattle.run_states.specs.inner.NeedsLeft.{ArePlanned, NamedOnce, NeedsAreLeft, needs_left_at, unfinished}
 use Rattle.run_states.specs.Rules.{finished_as}
 use Rattle.run_states.specs.RunState.{JobState}
 use Rattle.run_states.specs.Words.{all_have_results}

@@ -17,7 +17,7 @@ use Rattle.run_states.specs.RunState.{LegState, JobState, RunState}
 use Rattle.run_states.specs.SoundRuns.{LegsFit, LeaseFits, PhaseFits}
 use Rattle.run_states.specs.Stops.{cancelled, stopped_in, stopped_phase, stopped_run, stopped, stopped_where, with_stop_requested}
 use Rattle.run_states.specs.Stops.{with_stopped_legs}
-use Rattle.run_states.specs.WithinRun.{may_run_in}
+use Rattle.run_states.specs.inner.WithinRun.{may_run_in}
 use Rattle.run_states.specs.Words.{planned_legs}
 use Rattle.run_states.specs.declared.phases.JobPhase.{JobPhase}
 use Rattle.run_states.specs.declared.phases.JobPhase.TheVariants as job

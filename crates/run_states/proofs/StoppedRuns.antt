@@ -12,7 +12,7 @@ use Rattle.run_states.specs.Rules.{is_open, finished_as}
 use Rattle.run_states.specs.RunState.{JobState, RunState}
 use Rattle.run_states.specs.Stops.{is_open_at, stopped_in, stopped_run, stopped_where, with_stop_requested, with_job_stopped, with_jobs_stopped}
 use Rattle.run_states.specs.Stops.{with_stopped_legs}
-use Rattle.run_states.specs.WithinRun.{condition_in, may_run_in}
+use Rattle.run_states.specs.inner.WithinRun.{condition_in, may_run_in}
 use Rattle.run_states.specs.declared.phases.RunPhase.TheVariants as run
 use Rattle.run_states.proofs.StopKeeps.{where_result}
 use Rattle.run_states.proofs.Transitions.{changed_none, changed_same}

@@ -1,12 +1,5 @@
--- The holders of groups as the code names them, and which holders of a group a filter selects.
-use Rattle.std.specs.Prelude.{ℕ, List, ◌&&◌, find, not, Bool, false, Option}
-use Rattle.std.specs.Option.{option_map_or}
-use Rattle.run_states.specs.GroupOf.{group_at}
-use Rattle.run_states.specs.GroupWords.{same_holder}
-use Rattle.run_states.specs.Groups.{all_holders, is_pending_in, is_in_progress_in}
-use Rattle.run_states.specs.RunState.{RunState}
-use Rattle.run_states.specs.declared.holder.HolderFilter.{HolderFilter}
-use Rattle.run_states.specs.declared.holder.HolderFilter.TheVariants.{OthersPending, InProgress}
+-- The run of a holder.
+use Rattle.std.specs.Prelude.{ℕ}
 use Rattle.run_states.specs.declared.holder.Holder.{Holder}
 use Rattle.run_states.specs.declared.holder.Holder.TheVariants.{Run, Leg}
 
@@ -14,14 +7,3 @@ use Rattle.run_states.specs.declared.holder.Holder.TheVariants.{Run, Leg}
 abbrev pub run_of : Holder → ℕ
 run_of (Run r) = r
 run_of (Leg p) = p.run
-
--- ---- the holders that a filter selects in the group of a holder
-
--- whether the filter selects `other`: another holder that is pending there, or one that is in progress there
-abbrev pub is_conflicting : List RunState → Holder → HolderFilter → Holder → Bool
-is_conflicting runs h OthersPending other = option_map_or (λ g. is_pending_in runs g other && not (same_holder other h)) (group_at runs h) false
-is_conflicting runs h InProgress other = option_map_or (λ g. is_in_progress_in runs g other) (group_at runs h) false
-
--- the first of them in the table
-abbrev pub first_conflicting : List RunState → Holder → HolderFilter → Option Holder
-first_conflicting runs h holder_filter = find (is_conflicting runs h holder_filter) (all_holders runs)

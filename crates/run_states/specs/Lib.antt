@@ -1,9 +1,6 @@
-pub mod ActiveRuns
 pub mod Arrivals
 pub mod AsPlanned
-pub mod Cells
 pub mod Changes
-pub mod Claims
 pub mod FirstOf
 pub mod Fitting
 pub mod GroupLaw
@@ -14,14 +11,10 @@ pub mod Groups
 pub mod Histories
 pub mod Holders
 pub mod JobResults
-pub mod KeptSite
 pub mod LegContext
-pub mod LegCounts
 pub mod Moves
-pub mod NeedsLeft
 pub mod NewRun
 pub mod Parallel
-pub mod PlacedLegs
 pub mod Places
 pub mod Resuming
 pub mod Rules
@@ -40,3 +33,4 @@ pub mod TableState
 pub mod ViewText
 pub mod WithinRun
 pub mod Words
+pub mod inner

@@ -3,16 +3,11 @@
 -- events of other runs, and on nothing else of theirs.
 use Rattle.std.specs.Prelude.{ℕ, ◌&&◌, List, Bool, true, false, Option, Some, None, if◌then◌else◌}
 use Rattle.std.specs.List.{list_all}
-use Rattle.std.specs.Option.{option_or, option_map_or}
-use Rattle.needs_graph.specs.Results.{fails_job}
+use Rattle.std.specs.Option.{option_or}
 use Rattle.run_states.specs.FirstOf.{placed, first_some}
-use Rattle.run_states.specs.Fitting.{is_ready, is_served, has_lease}
 use Rattle.run_states.specs.Groups.{may_start}
-use Rattle.run_states.specs.Parallel.{has_room}
-use Rattle.run_states.specs.PlacedLegs.{PlacedLeg, placed_legs_of_run}
 pub use Rattle.run_states.specs.Places.{leg_site}
 use Rattle.run_states.specs.declared.place.LegSite.{LegSite}
-use Rattle.run_states.specs.Rules.{leg_end}
 pub use Rattle.run_states.specs.RunConditions.{condition_in, may_run_in, needs_finished_in}
 use Rattle.run_states.specs.RunState.{LegState, JobState, RunState}
 use Rattle.run_states.specs.StateWords.{is_live, is_blocked, is_done, is_finished}
@@ -23,8 +18,6 @@ use Rattle.run_states.specs.declared.phases.RunPhase.TheVariants as run
 use Rattle.run_states.specs.declared.place.RuleSite.{RuleSite}
 use Rattle.run_states.specs.declared.place.RuleSite.TheVariants.{Opening, AtLeg, Closing, Whole}
 use Rattle.run_states.specs.declared.holder.Holder.TheVariants.{Run, Leg}
-
--- ---- the first place where a rule applies
 
 -- whether a rule applies to the leg there
 abbrev pub goes_on_in : LegPhase → List RunState → LegSite → Bool
@@ -61,35 +54,3 @@ first_of_whole runs r x = if whole_goes_on_in x.phase runs r x then Some (Whole 
 
 abbrev pub first_in_run : List RunState → ℕ → RunState → Option RuleSite
 first_in_run runs r x = option_or (if is_live x.phase then first_in_jobs runs r x x.jobs else None) (first_of_whole runs r x)
-
--- ---- the first leg that fits
-
--- the first ready leg that the runner can serve
-abbrev pub served_in_job : List (List ℕ) → List RunState → ℕ → ℕ → JobState → Option LegSite
-served_in_job labels runs r j job =
-    first_some (λ l. if is_ready l.1.phase && is_served labels runs (leg_site r j l.0) then Some (leg_site r j l.0) else None)
-    (placed job.legs)
-
-abbrev pub fit_in_job : List (List ℕ) → List RunState → ℕ → ℕ → JobState → Option LegSite
-fit_in_job labels runs r j job = if has_room runs r j job then served_in_job labels runs r j job else None
-
-abbrev pub fit_in_jobs : List (List ℕ) → List RunState → ℕ → List JobState → Option LegSite
-fit_in_jobs labels runs r jobs = first_some (λ j. fit_in_job labels runs r j.0 j.1) (placed jobs)
-
-abbrev pub fit_in_run : List (List ℕ) → List RunState → ℕ → RunState → Option LegSite
-fit_in_run labels runs r run = fit_in_jobs labels runs r run.jobs
-
--- ---- the first leg that fails its job
-
--- the index of the leg, if it fails its job
-abbrev pub failing : List RunState → ℕ → ℕ → ℕ × LegState → Option ℕ
-failing runs r j l = if option_map_or fails_job (leg_end runs r j l) false then Some l.0 else None
-
--- ---- the leg with a lease
-
--- the place of the first of these legs that has the lease
-abbrev pub first_leased : ℕ → List PlacedLeg → Option LegSite
-first_leased lease legs = first_some (λ x. if has_lease lease x.leg then Some x.place else None) legs
-
-abbrev pub lease_in_run : ℕ → ℕ → RunState → Option LegSite
-lease_in_run lease r run = first_leased lease (placed_legs_of_run (r, run))

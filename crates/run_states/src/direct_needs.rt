@@ -5,7 +5,7 @@ ghost use Rattle.std.specs.List.{slice_index_or};
 ghost use Rattle.std.specs.Option.{option_copied};
 ghost use Rattle.needs_graph.specs.Ancestors.{needs_at};
 ghost use Rattle.run_plan.specs.PlanOf.{plan_of};
-ghost use Rattle.run_states.specs.Cells.{states};
+ghost use Rattle.run_states.specs.inner.Cells.{states};
 ghost use Rattle.run_states.specs.JobResults.{direct_needs, has_id, needs_in, results_so_far};
 ghost use Rattle.run_states.specs.LegContext.{under};
 

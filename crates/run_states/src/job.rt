@@ -1,10 +1,10 @@
 ghost use Rattle.std.specs.Prelude.{◌≡◌, ◌≤◌, Ok, length};
 ghost use Rattle.std.specs.List.{list_all};
 ghost use Rattle.wf_value.specs.Gives.{Gives};
-ghost use Rattle.run_states.specs.ActiveRuns.{has_active_leg, has_ready_leg};
-ghost use Rattle.run_states.specs.Cells.{in_state};
+ghost use Rattle.run_states.specs.inner.ActiveRuns.{has_active_leg, has_ready_leg};
+ghost use Rattle.run_states.specs.inner.Cells.{in_state};
 ghost use Rattle.run_states.specs.FirstOf.{changed_at};
-ghost use Rattle.run_states.specs.LegCounts.{AreCounted, has_unready_leg};
+ghost use Rattle.run_states.specs.inner.LegCounts.{AreCounted, has_unready_leg};
 ghost use Rattle.run_states.specs.NewRun.{blocked_job};
 ghost use Rattle.run_states.specs.Parallel.{legs_at_work};
 ghost use Rattle.run_states.specs.Rules.{leg_has_ended, is_done, is_finished, opened, finished_as};
@@ -33,8 +33,8 @@ pub struct Job {
 }
 
 impl Model for Job {
-    ghost use Rattle.run_states.specs.Cells.{JobCells, cells_of};
-    ghost use Rattle.run_states.specs.LegCounts.{AreCounted, legs_of_room};
+    ghost use Rattle.run_states.specs.inner.Cells.{JobCells, cells_of};
+    ghost use Rattle.run_states.specs.inner.LegCounts.{AreCounted, legs_of_room};
 
     ghost Value = { JobCells };
 
@@ -173,7 +173,7 @@ impl Job {
 }
 
 impl HasResult for Job {
-    ghost use Rattle.run_states.specs.Cells.{result_of};
+    ghost use Rattle.run_states.specs.inner.Cells.{result_of};
 
     ghost job_result = { result_of };
 

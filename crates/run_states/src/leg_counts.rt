@@ -4,7 +4,7 @@
 ghost use Rattle.std.specs.Prelude.{◌≡◌, ◌+◌, ◌<◌, ◌^◌, ◌||◌, [], nat_lt, replicate, true};
 ghost use Rattle.run_states.specs.Fitting.{is_ready};
 ghost use Rattle.run_states.specs.Groups.{leg_waits};
-ghost use Rattle.run_states.specs.LegCounts.{AreCounted, CanMove, one_where};
+ghost use Rattle.run_states.specs.inner.LegCounts.{AreCounted, CanMove, one_where};
 ghost use Rattle.run_states.specs.Parallel.{is_at_work};
 ghost use Rattle.run_states.specs.Rules.{new_leg};
 ghost use Rattle.run_states.specs.StateWords.{is_new};

@@ -3,17 +3,17 @@ ghost use Rattle.std.specs.List.{list_any, slice_index_or};
 ghost use Rattle.definitions.specs.Limits.{last_attempt};
 ghost use Rattle.wf_value.specs.Gives.{Gives};
 ghost use Rattle.run_plan.specs.PlanOf.{plan_of};
-ghost use Rattle.run_states.specs.ActiveRuns.{has_active_leg, has_ready_leg, is_active, offers_legs};
-ghost use Rattle.run_states.specs.Cells.{blocked_cells, legs_planned, rooms, states};
+ghost use Rattle.run_states.specs.inner.ActiveRuns.{has_active_leg, has_ready_leg, is_active, offers_legs};
+ghost use Rattle.run_states.specs.inner.Cells.{blocked_cells, legs_planned, rooms, states};
 ghost use Rattle.run_states.specs.Changes.{changed};
 ghost use Rattle.run_states.specs.FirstOf.{changed_at};
 ghost use Rattle.run_states.specs.JobResults.{results_so_far};
-ghost use Rattle.run_states.specs.Resuming.{job_again};
+ghost use Rattle.run_states.specs.inner.Resuming.{job_again};
 ghost use Rattle.run_states.specs.NewRun.{again, new_run, run_in_attempt};
 ghost use Rattle.run_states.specs.Rules.{opened, finished_as, run_in_phase};
 ghost use Rattle.run_states.specs.Settling.{legs_in_plan};
 ghost use Rattle.run_states.specs.Stops.{cancelled, is_open_at};
-ghost use Rattle.run_states.specs.WithinRun.{condition_in, may_run_in, needs_finished_in};
+ghost use Rattle.run_states.specs.inner.WithinRun.{condition_in, may_run_in, needs_finished_in};
 
 mod needs;
 mod of;
@@ -41,8 +41,8 @@ pub struct Run {
 
 impl Model for Run {
     ghost use Rattle.run_plan.specs.PlanOf.{plan_of};
-    ghost use Rattle.run_states.specs.Cells.{states};
-    ghost use Rattle.run_states.specs.NeedsLeft.{ArePlanned};
+    ghost use Rattle.run_states.specs.inner.Cells.{states};
+    ghost use Rattle.run_states.specs.inner.NeedsLeft.{ArePlanned};
     ghost use Rattle.run_states.specs.RunState.{RunState};
 
     ghost Value = { RunState };

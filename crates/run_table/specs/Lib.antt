@@ -1,3 +1,2 @@
-pub mod IndexNamed
-pub mod RunnerSizes
 pub mod Storable
+pub mod inner

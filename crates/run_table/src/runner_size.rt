@@ -1,7 +1,7 @@
 //! How many bytes a runner has in the text of a table.
 
 ghost use Rattle.std.specs.Prelude.{◌≡◌, ◌≤◌};
-ghost use Rattle.run_table.specs.RunnerSizes.{AreSized, last_size, max_runner_size, runner_size};
+ghost use Rattle.run_table.specs.inner.RunnerSizes.{AreSized, last_size, max_runner_size, runner_size};
 
 use crate::runner::Runner;
 use command_encodings::{WORD, claim_length, done_length, small_text_length};

@@ -2,8 +2,8 @@ ghost use Rattle.std.specs.Prelude.{◌≡◌, ◌<◌, ◌≤◌, ◌*◌, [], 
 ghost use Rattle.std.specs.Option.{option_map_or};
 ghost use Rattle.std.specs.Prelude.{sum_by, true};
 ghost use Rattle.wf_value.specs.Gives.{Gives};
-ghost use Rattle.run_table.specs.IndexNamed.{index_named};
-ghost use Rattle.run_table.specs.RunnerSizes.{max_runner_size, runner_size};
+ghost use Rattle.run_table.specs.inner.IndexNamed.{index_named};
+ghost use Rattle.run_table.specs.inner.RunnerSizes.{max_runner_size, runner_size};
 ghost use Rattle.run_states.specs.SequenceNumbers.{is_below, is_named, kept_named, names_rise, runner_named, with_runner};
 
 use crate::runner::Runner;
@@ -23,7 +23,7 @@ pub struct Runners {
 
 impl Model for Runners {
     ghost use Rattle.std.specs.Prelude.{◌≡◌, List, true};
-    ghost use Rattle.run_table.specs.RunnerSizes.{AreSized};
+    ghost use Rattle.run_table.specs.inner.RunnerSizes.{AreSized};
     ghost use Rattle.run_states.specs.TableState.{RunnerState};
     ghost use Rattle.run_states.specs.SequenceNumbers.{names_rise};
 

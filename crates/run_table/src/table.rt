@@ -1,7 +1,7 @@
 ghost use Rattle.std.specs.Prelude.{◌≡◌, ◌≤◌, ◌*◌, length, sum_by, true, IfOk, Ok, OnErr, IsOk};
 ghost use Rattle.definitions.specs.Limits.{last_number};
 ghost use Rattle.wf_value.specs.Gives.{Gives};
-ghost use Rattle.run_table.specs.RunnerSizes.{max_runner_size, runner_size};
+ghost use Rattle.run_table.specs.inner.RunnerSizes.{max_runner_size, runner_size};
 ghost use Rattle.run_states.specs.Sound.{IsSound};
 ghost use Rattle.run_table.specs.Storable.{IsStorable};
 ghost use Rattle.run_states.specs.Step.{read_only_reply, empty, is_allocation_free, seen, step};

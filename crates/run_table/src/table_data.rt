@@ -4,7 +4,7 @@ ghost use Rattle.std.specs.Prelude.{◌≡◌, ◌<◌, ◌+◌, ◌-◌, true, 
 ghost use Rattle.definitions.specs.Limits.{max_runs};
 ghost use Rattle.wf_value.specs.Gives.{Gives};
 ghost use Rattle.run_plan.specs.ReplyText.{carries_text};
-ghost use Rattle.run_states.specs.Claims.{is_claim};
+ghost use Rattle.run_states.specs.inner.Claims.{is_claim};
 ghost use Rattle.run_states.specs.Sound.{IsSound};
 ghost use Rattle.run_states.specs.Step.{empty, is_allocation_free, read_only_reply, refused, step};
 ghost use Rattle.run_states.specs.SequenceNumbers.{names_rise};

@@ -1,3 +1,3 @@
--- Sessions of runner lines.
-pub mod Laws
 pub mod Line
+pub mod inner
+-- Sessions of runner lines.

@@ -1,6 +1,6 @@
 ghost use Rattle.std.specs.Prelude.{◌≡◌, ◌≤◌, ◌==◌, Ok, length, position, take};
 ghost use Rattle.wf_value.specs.Gives.{Gives};
-ghost use Rattle.act_sessions.specs.Held.{Keeps};
+ghost use Rattle.act_sessions.specs.inner.Held.{Keeps};
 ghost use Rattle.act_sessions.specs.Rules.{IsNext};
 ghost use Rattle.runner_sessions.specs.Line.{HasNoFeed, LineKnown, command_by, command_of, request_in, runner_rules};
 

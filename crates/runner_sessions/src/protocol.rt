@@ -35,7 +35,7 @@ fn response_text(alloc: Global, answer: &Result<Reply, Refusal>) -> Result<Vec<u
 }
 
 impl Protocol for RunnerLines {
-    ghost use Rattle.runner_sessions.specs.Laws.{line_fresh, line_lasts, lines_one, lines_steady};
+    ghost use Rattle.runner_sessions.specs.inner.Laws.{line_fresh, line_lasts, lines_one, lines_steady};
     ghost use Rattle.runner_sessions.specs.Line.{LineKnown, runner_rules};
 
     type Fault = Refusal;

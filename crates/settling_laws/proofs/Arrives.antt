@@ -11,7 +11,7 @@ use Rattle.run_states.specs.FirstOf.{changed_at}
 use Rattle.run_states.specs.GroupOf.{cancels_in_progress, group_at}
 use Rattle.run_states.specs.GroupWords.{same_holder}
 use Rattle.run_states.specs.Groups.{HasOneBeside, all_holders, is_pending_in, is_in_progress_in, waits}
-use Rattle.run_states.specs.Holders.{first_conflicting}
+use Rattle.run_states.specs.inner.Holders.{first_conflicting}
 use Rattle.run_states.specs.Moves.{Transition, at_each, without_moves}
 use Rattle.run_states.specs.RunState.{LegState, JobState, RunState}
 use Rattle.run_states.specs.SoundRuns.{RunsAreSound}

@@ -6,7 +6,7 @@ use Rattle.std.specs.Option.{option_or}
 use Rattle.std.proofs.Common.{arith, ap, subst, sym, ◌∙◌, below_more, get_or}
 use Rattle.std.proofs.lemmas.Option.{slice_get-get_or, slice_get-map}
 use Rattle.std.proofs.lemmas.List.Folds.{find-append}
-use Rattle.run_states.specs.Cells.{JobCells, states}
+use Rattle.run_states.specs.inner.Cells.{JobCells, states}
 use Rattle.run_states.specs.FirstOf.{first_some, placed}
 use Rattle.run_states.specs.Resuming.{apply_at, NoneBefore}
 use Rattle.run_states.specs.RunState.{JobState}

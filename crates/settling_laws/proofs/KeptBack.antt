@@ -16,7 +16,7 @@ use Rattle.run_states.specs.RunState.{LegState, JobState, RunState}
 use Rattle.run_states.specs.StateWords.{is_live}
 use Rattle.run_states.proofs.JobKeeps.{with_job_of, with_leg_of}
 use Rattle.run_states.proofs.RunFits.{job_in_run, leg_in_job}
-use Rattle.settling_laws.specs.Releases.{ReleasesNone}
+use Rattle.settling_laws.specs.inner.Releases.{ReleasesNone}
 use Rattle.settling_laws.proofs.HoldersFade.{by_run, job_passes, leg_passes, passes, run_passes}
 use Rattle.settling_laws.proofs.OneEach.{GroupsStay, IsOneOf, not_taken, one_that_holds}
 use Rattle.run_states.specs.declared.holder.Holder.{Holder}

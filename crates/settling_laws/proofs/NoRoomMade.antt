@@ -8,8 +8,8 @@ use Rattle.run_states.specs.Arrivals.{displaced, room_made, room_made_for, stopp
 use Rattle.run_states.specs.GroupOf.{cancels_in_progress, group_at}
 use Rattle.run_states.specs.GroupWords.{same_holder}
 use Rattle.run_states.specs.Groups.{all_holders, holds, is_in, is_pending_in, is_in_progress_in, waits}
-use Rattle.run_states.specs.Holders.{first_conflicting, is_conflicting}
-use Rattle.run_states.specs.Resuming.{finds_others, makes_room}
+use Rattle.run_states.specs.inner.Holders.{first_conflicting, is_conflicting}
+use Rattle.run_states.specs.inner.Resuming.{finds_others, makes_room}
 use Rattle.run_states.specs.Moves.{at_each, without_moves}
 use Rattle.run_states.specs.RunState.{RunState}
 use Rattle.run_states.specs.StopMoves.{displace, stop_holder}

@@ -5,7 +5,7 @@ use Rattle.std.specs.Option.{option_or}
 use Rattle.std.proofs.Common.{arith, ap, ap₂, ◌∙◌}
 use Rattle.std.proofs.lemmas.List.{map-append}
 use Rattle.run_states.specs.FirstOf.{first_some, placed}
-use Rattle.run_states.specs.PlacedLegs.{PlacedLeg, placed_leg, placed_legs, placed_legs_of_job, placed_legs_of_run}
+use Rattle.run_states.specs.inner.PlacedLegs.{PlacedLeg, placed_leg, placed_legs, placed_legs_of_job, placed_legs_of_run}
 use Rattle.run_states.specs.Places.{leg_at, leg_site, leg_sites_of_job, leg_sites_of_run}
 use Rattle.run_states.specs.declared.place.LegSite.{LegSite}
 use Rattle.run_states.specs.RunState.{LegState, JobState, RunState}

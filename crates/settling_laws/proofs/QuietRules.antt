@@ -8,7 +8,7 @@ use Rattle.group_name.specs.Group.{Group}
 use Rattle.run_states.specs.Arrivals.{arrived}
 use Rattle.run_states.specs.GroupOf.{group_at}
 use Rattle.run_states.specs.Groups.{holds, leg_holds}
-use Rattle.run_states.specs.Resuming.{is_new_at, makes_room, may_invalidate_others}
+use Rattle.run_states.specs.inner.Resuming.{is_new_at, makes_room, may_invalidate_others}
 use Rattle.run_states.specs.Moves.{Transition}
 use Rattle.run_states.specs.Places.{job_at, leg_at, with_job, with_run}
 use Rattle.run_states.specs.declared.place.LegSite.{LegSite}

@@ -13,8 +13,10 @@ use Rattle.run_states.specs.Rules.{job_sites, run_sites, opening_rule, leg_rule,
 use Rattle.run_states.specs.RunState.{LegState, JobState, RunState}
 use Rattle.run_states.specs.Settling.{applies, first_site}
 use Rattle.run_states.specs.StateWords.{is_live, is_blocked, is_done, is_finished}
-use Rattle.run_states.specs.WithinRun.{goes_on, goes_on_in, leg_site, first_in_job, first_in_jobs, first_in_run, first_of_legs}
-use Rattle.run_states.specs.WithinRun.{needs_finished_in, whole_goes_on_in}
+use Rattle.run_states.specs.WithinRun.{goes_on, goes_on_in, first_in_job, first_in_jobs, first_in_run, first_of_legs}
+use Rattle.run_states.specs.inner.WithinRun.{leg_site}
+use Rattle.run_states.specs.inner.WithinRun.{needs_finished_in}
+use Rattle.run_states.specs.WithinRun.{whole_goes_on_in}
 use Rattle.run_states.specs.Words.{needs_have_finished}
 use Rattle.run_states.specs.declared.phases.LegPhase.{LegPhase}
 use Rattle.run_states.specs.declared.phases.LegPhase.TheVariants as leg

@@ -1,2 +1,1 @@
-pub mod Releases
-pub mod RunFacts
+pub mod inner

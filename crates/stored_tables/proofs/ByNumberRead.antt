@@ -4,7 +4,7 @@ use Rattle.std.specs.Prelude.{Option, Some, None, refl}
 use Rattle.std.proofs.Common.{arith, ap, sym, subst, ◌∙◌, inl, inr}
 use Rattle.std.proofs.lemmas.Bool.{cases_eq, true≢false}
 use Rattle.std.proofs.lemmas.Option.{none-some}
-use Rattle.stored_tables.specs.ByNumber.{Adds, Finds}
+use Rattle.stored_tables.specs.inner.ByNumber.{Adds, Finds}
 
 pub found_is : {P : Type 0} (number_of : P → Option ℕ) (n : ℕ) (o : Option P) (p : P) → Finds number_of n o → number_of p ≡ Some n
     → ((q : P) → number_of q ≡ Some n → q ≡ p) → o ≡ Some p

@@ -3,9 +3,9 @@ use Rattle.std.specs.Prelude.{◌≡◌, ◌⊎◌, ℕ, ◌+◌, ◌<◌, List,
 use Rattle.std.specs.List.{AllByRecursion}
 use Rattle.std.proofs.Common.{ap, sym, subst, ◌∙◌, inl, inr}
 use Rattle.std.proofs.lemmas.Option.{slice_get_within}
-use Rattle.stored_tables.specs.ByLease.{lease_in_job, lease_of_leg, lease_of_runner}
-use Rattle.stored_tables.specs.ByNumber.{Adds}
-use Rattle.run_states.specs.PlacedLegs.{PlacedLeg, placed_legs}
+use Rattle.stored_tables.specs.inner.ByLease.{lease_in_job, lease_of_leg, lease_of_runner}
+use Rattle.stored_tables.specs.inner.ByNumber.{Adds}
+use Rattle.run_states.specs.inner.PlacedLegs.{PlacedLeg, placed_legs}
 use Rattle.run_states.specs.Places.{job_at, leg_at, run_at}
 use Rattle.run_states.specs.declared.place.LegSite.{LegSite}
 use Rattle.run_states.specs.TableState.{RunnerState}

@@ -13,8 +13,8 @@ use Rattle.run_plan.specs.declared.last_command.KeptLease.{KeptLease}
 use Rattle.run_plan.specs.declared.last_command.LastCommand.{LastCommand}
 use Rattle.run_plan.specs.declared.last_command.LastCommand.TheVariants as last
 use Rattle.run_plan.specs.declared.planned.PlannedJob.{PlannedJob}
-use Rattle.stored_tables.specs.ByLease.{lease_of_leg}
-use Rattle.stored_tables.specs.ByNumber.{Finds}
+use Rattle.stored_tables.specs.inner.ByLease.{lease_of_leg}
+use Rattle.stored_tables.specs.inner.ByNumber.{Finds}
 use Rattle.run_states.specs.AsPlanned.{AreAsPlanned, HasRoom}
 use Rattle.run_states.specs.Fitting.{has_lease}
 use Rattle.run_states.specs.Places.{leg_at, plan_at, run_at}

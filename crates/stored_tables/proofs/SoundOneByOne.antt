@@ -3,10 +3,10 @@ use Rattle.std.specs.Prelude.{◌≡◌, ℕ, ◌≤◌, List, true, false, Opti
 use Rattle.std.specs.Option.{option_map_or}
 use Rattle.std.proofs.Common.{ap, sym, ◌∙◌}
 use Rattle.std.proofs.lemmas.Option.{same_Some}
-use Rattle.stored_tables.specs.ByLease.{lease_of_leg, lease_of_runner}
-use Rattle.stored_tables.specs.ByNumber.{Finds}
+use Rattle.stored_tables.specs.inner.ByLease.{lease_of_leg, lease_of_runner}
+use Rattle.stored_tables.specs.inner.ByNumber.{Finds}
 use Rattle.run_states.specs.Groups.{HasOneEach}
-use Rattle.stored_tables.specs.OneByOne.{EachLegIsSound, EachRunIsSound, EachRunnerIsSound, HoldsWork, IsFound, is_worked_on, leg_of, runner_of}
+use Rattle.stored_tables.specs.inner.OneByOne.{EachLegIsSound, EachRunIsSound, EachRunnerIsSound, HoldsWork, IsFound, is_worked_on, leg_of, runner_of}
 use Rattle.run_states.specs.Parallel.{is_at_work}
 use Rattle.run_states.specs.Places.{leg_at}
 use Rattle.run_states.specs.declared.place.LegSite.{LegSite}

@@ -1,5 +1,3 @@
-pub mod ByLease
-pub mod ByNumber
-pub mod OneByOne
 pub mod Stored
 pub mod TableOf
+pub mod inner

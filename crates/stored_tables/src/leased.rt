@@ -7,7 +7,7 @@ ghost use Rattle.std.specs.Prelude.{◌≡◌, ◌≤◌, IfOk, MatchOption, Non
 ghost use Rattle.definitions.specs.Limits.{max_runs};
 ghost use Rattle.wf_value.specs.Gives.{ErrsOnlyByMemory};
 ghost use Rattle.run_plan.specs.declared.last_command.KeptLease.{KeptLease as Kept};
-ghost use Rattle.stored_tables.specs.ByLease.{FindsLegs};
+ghost use Rattle.stored_tables.specs.inner.ByLease.{FindsLegs};
 ghost use Rattle.run_states.specs.Sound.{IsOfALeg};
 ghost use Rattle.run_states.specs.Step.{kept_lease};
 ghost use Rattle.stored_tables.specs.Stored.{site_in_runs};

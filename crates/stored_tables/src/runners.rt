@@ -4,7 +4,7 @@ ghost use Rattle.std.specs.BTreeMap.{get};
 ghost use Rattle.std.specs.Ordering.{nat_cmp};
 ghost use Rattle.std.specs.Prelude.{◌≡◌, IfOk, List, MatchOption, true};
 ghost use Rattle.wf_value.specs.Gives.{ErrsOnlyByMemory};
-ghost use Rattle.stored_tables.specs.ByLease.{FindsLegs};
+ghost use Rattle.stored_tables.specs.inner.ByLease.{FindsLegs};
 ghost use Rattle.stored_tables.specs.TableOf.{AreRunnersAs, IsLastAs, IsReplyAs, IsRunnerAs};
 ghost use Rattle.run_states.specs.TableState.{RunnerState};
 ghost use Rattle.run_states.specs.SequenceNumbers.{names_rise};

@@ -16,11 +16,11 @@ use Rattle.command_encodings.specs.Commands.{admit, command, number, small_text}
 use Rattle.table_text.specs.FirstLayout.{IsFirstKept, first_kept, first_kept_parts, first_last_command, first_run, first_runner, first_table}
 use Rattle.table_text.specs.FirstLayout.{unencoded}
 use Rattle.definitions.specs.Format.{Format, byte, counted, follow, only, pair, parts, row, word}
-use Rattle.command_encodings.specs.Reading.{byte_at, counted_at, follow_at, items_at, pair_at}
-use Rattle.command_encodings.specs.ReadingCommands.{admit_at, command_at, number_at, small_text_at}
-use Rattle.table_text.specs.ReadingFirst.{first_course_at, first_kept_at, first_kept_of, first_last_at, first_run_at, first_runner_at}
-use Rattle.table_text.specs.ReadingFirst.{first_runners_at, first_runs_at, first_table_at, unencoded_at, with_lease, without_lease}
-use Rattle.table_text.specs.ReadingTables.{flag_at, job_at, last_lease_at, last_of, lease_at, run_phase_at}
+use Rattle.command_encodings.specs.inner.Reading.{byte_at, counted_at, follow_at, items_at, pair_at}
+use Rattle.command_encodings.specs.inner.ReadingCommands.{admit_at, command_at, number_at, small_text_at}
+use Rattle.table_text.specs.inner.ReadingFirst.{first_course_at, first_kept_at, first_kept_of, first_last_at, first_run_at, first_runner_at}
+use Rattle.table_text.specs.inner.ReadingFirst.{first_runners_at, first_runs_at, first_table_at, unencoded_at, with_lease, without_lease}
+use Rattle.table_text.specs.inner.ReadingTables.{flag_at, job_at, last_lease_at, last_of, lease_at, run_phase_at}
 use Rattle.table_text.specs.Tables.{flag_byte, is_last_lease, job, jobs_planned, last_parts, lease, names_rise, run_byte}
 use Rattle.command_encodings.proofs.CommandReaders.{admit_reads, chosen, command_reads, number_reads, small_text_reads}
 use Rattle.command_encodings.proofs.FormReaders.{byte_reads, follow_reads, row_reads}

@@ -34,7 +34,7 @@ use Rattle.run_states.specs.declared.phases.RunPhase.TheVariants as run_phase
 use Rattle.command_encodings.specs.Commands.{admit, are_none, is_faultless}
 use Rattle.table_text.specs.Tables.{IsLease, flag_byte, is_attempt, job, leg, leg_byte, run, run_byte, runner, table}
 use Rattle.definitions.specs.Format.{only, word, word_bytes}
-use Rattle.table_text.specs.Writing.{HasByte, JobHasBytes, KeptHasBytes, RunHasBytes}
+use Rattle.table_text.specs.inner.Writing.{HasByte, JobHasBytes, KeptHasBytes, RunHasBytes}
 use Rattle.run_table.proofs.RunnerPut.{all_from_each}
 use Rattle.run_states.proofs.Found.{each_at}
 

@@ -8,7 +8,7 @@ use Rattle.run_plan.specs.declared.command.Command.TheVariants as requested
 use Rattle.run_plan.specs.declared.last_command.ClaimReply.TheVariants as given
 use Rattle.run_plan.specs.declared.last_command.LastCommand.{LastCommand}
 use Rattle.run_plan.specs.declared.last_command.LastCommand.TheVariants as kept_last
-use Rattle.run_table.specs.RunnerSizes.{last_size, runner_size}
+use Rattle.run_table.specs.inner.RunnerSizes.{last_size, runner_size}
 use Rattle.run_states.specs.TableState.{RunnerState}
 use Rattle.stored_tables.specs.Stored.{RunnerParts, TableParts, stored_last, stored_runner}
 use Rattle.run_states.specs.RunState.{LegState, JobState, RunState}

@@ -25,12 +25,12 @@ use Rattle.run_states.specs.declared.phases.RunPhase.{RunPhase}
 use Rattle.run_states.specs.declared.phases.RunPhase.TheVariants as run_phase
 use Rattle.command_encodings.specs.Commands.{admit, command, is_numbered, number, small_text}
 use Rattle.definitions.specs.Format.{Format, byte, counted, follow, only, pair, parts, present, row, word}
-use Rattle.command_encodings.specs.Reading.{byte_at, counted_at, follow_at, items_at, pair_at, parts_at, present_at, some_at, word_at}
-use Rattle.command_encodings.specs.ReadingCommands.{admit_at, command_at, number_at, small_text_at}
-use Rattle.table_text.specs.ReadingTables.{attempt_at, claim_with, course_at, flag_at, job_at, job_phase_at, job_phases, kept_at}
-use Rattle.table_text.specs.ReadingTables.{kept_lease_at, kept_of, last_at, last_lease_at, last_of, last_with, lease_at, lease_of}
-use Rattle.table_text.specs.ReadingTables.{leg_at, leg_phase_at, leg_phases, of_byte, place_at, report_with, run_at, run_phase_at}
-use Rattle.table_text.specs.ReadingTables.{run_phases, runner_at, runners_at, runs_at, table_at}
+use Rattle.command_encodings.specs.inner.Reading.{byte_at, counted_at, follow_at, items_at, pair_at, parts_at, present_at, some_at, word_at}
+use Rattle.command_encodings.specs.inner.ReadingCommands.{admit_at, command_at, number_at, small_text_at}
+use Rattle.table_text.specs.inner.ReadingTables.{attempt_at, claim_with, course_at, flag_at, job_at, job_phase_at, job_phases, kept_at}
+use Rattle.table_text.specs.inner.ReadingTables.{kept_lease_at, kept_of, last_at, last_lease_at, last_of, last_with, lease_at, lease_of}
+use Rattle.table_text.specs.inner.ReadingTables.{leg_at, leg_phase_at, leg_phases, of_byte, place_at, report_with, run_at, run_phase_at}
+use Rattle.table_text.specs.inner.ReadingTables.{run_phases, runner_at, runners_at, runs_at, table_at}
 use Rattle.table_text.specs.Tables.{IsKept, IsLease, flag_byte, is_attempt, is_last_lease, job, job_byte, jobs_planned, kept, kept_bytes}
 use Rattle.table_text.specs.Tables.{kept_lease, last_command, last_parts, lease, lease_word, leg, leg_byte, names_rise, place, run}
 use Rattle.table_text.specs.Tables.{run_byte, runner, table}

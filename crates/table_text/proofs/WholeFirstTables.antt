@@ -26,8 +26,8 @@ use Rattle.stored_tables.proofs.StoredOnce.{run_told, same_runners}
 use Rattle.command_encodings.specs.Commands.{batch}
 use Rattle.table_text.specs.FirstLayout.{first_batch, first_last_command, first_run, first_runner, first_table, is_in_first_layout}
 use Rattle.definitions.specs.Format.{NoneBeginsAnother, OpensWith, ReadsPrefix}
-use Rattle.command_encodings.specs.ReadingCommands.{batch_at}
-use Rattle.table_text.specs.ReadingFirst.{first_table_at}
+use Rattle.command_encodings.specs.inner.ReadingCommands.{batch_at}
+use Rattle.table_text.specs.inner.ReadingFirst.{first_table_at}
 use Rattle.table_text.specs.WholeFirstTables.{first_stored_last, first_stored_runner, first_stored_table, whole_first_table}
 use Rattle.command_encodings.proofs.CommandReaders.{batch_reads}
 use Rattle.table_text.proofs.FirstReaders.{first_table_reads}

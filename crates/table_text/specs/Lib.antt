@@ -1,8 +1,6 @@
 pub mod FirstLayout
-pub mod ReadingFirst
-pub mod ReadingTables
 pub mod TableLengths
 pub mod Tables
 pub mod WholeFirstTables
 pub mod WholeTables
-pub mod Writing
+pub mod inner

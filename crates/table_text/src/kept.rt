@@ -1,7 +1,7 @@
 //! The kept reply to a last command, at the front of bytes.
 
-ghost use Rattle.command_encodings.specs.Reading.{Finds};
-ghost use Rattle.table_text.specs.ReadingTables.{kept_at, kept_lease_at, kept_of, place_at};
+ghost use Rattle.command_encodings.specs.inner.Reading.{Finds};
+ghost use Rattle.table_text.specs.inner.ReadingTables.{kept_at, kept_lease_at, kept_of, place_at};
 
 use command_encodings::{DecodeError, number_at, word_at};
 use run_plan::Number;
@@ -19,7 +19,7 @@ pub(crate) enum StoredReply {
 }
 
 /// The place of a leg in an attempt of its run, and the bytes after it.
-#[tactic(auto, unfolding(crate::specs::ReadingTables::place_at))]
+#[tactic(auto, unfolding(crate::specs::inner::ReadingTables::place_at))]
 fn place_at(bytes: &[u8]) -> Result<(StoredSite, &[u8]), DecodeError>
     ensures { Finds (λ f. (f.0, f.1.now)) result (place_at bytes.now) }
 {
@@ -37,7 +37,7 @@ fn place_at(bytes: &[u8]) -> Result<(StoredSite, &[u8]), DecodeError>
 }
 
 /// A kept lease with its place, and the bytes after it.
-#[tactic(auto, unfolding(crate::specs::ReadingTables::kept_lease_at))]
+#[tactic(auto, unfolding(crate::specs::inner::ReadingTables::kept_lease_at))]
 fn kept_lease_at(bytes: &[u8]) -> Result<(StoredLease, &[u8]), DecodeError>
     ensures { Finds (λ f. (f.0, f.1.now)) result (kept_lease_at bytes.now) }
 {
@@ -55,7 +55,7 @@ fn kept_lease_at(bytes: &[u8]) -> Result<(StoredLease, &[u8]), DecodeError>
 }
 
 /// The kept reply whose first byte is `reply`, and the bytes after it.
-#[tactic(auto, unfolding(crate::specs::ReadingTables::kept_of))]
+#[tactic(auto, unfolding(crate::specs::inner::ReadingTables::kept_of))]
 fn kept_of(reply: u8, bytes: &[u8]) -> Result<(StoredReply, &[u8]), DecodeError>
     ensures { Finds (λ f. (f.0, f.1.now)) result (kept_of reply bytes.now) }
 {
@@ -71,7 +71,7 @@ fn kept_of(reply: u8, bytes: &[u8]) -> Result<(StoredReply, &[u8]), DecodeError>
 }
 
 /// The kept reply at the front of the bytes, and the bytes after it.
-#[tactic(auto, unfolding(crate::specs::ReadingTables::kept_at))]
+#[tactic(auto, unfolding(crate::specs::inner::ReadingTables::kept_at))]
 pub(crate) fn kept_at(bytes: &[u8]) -> Result<(StoredReply, &[u8]), DecodeError>
     ensures { Finds (λ f. (f.0, f.1.now)) result (kept_at bytes.now) }
 {

@@ -1,7 +1,7 @@
 ghost use Rattle.std.specs.Prelude.{◌≡◌, ◌≤◌, IfOk};
 ghost use Rattle.definitions.specs.Limits.{last_number};
-ghost use Rattle.command_encodings.specs.Reading.{Finds};
-ghost use Rattle.table_text.specs.ReadingTables.{lease_at, lease_of, optional_lease};
+ghost use Rattle.command_encodings.specs.inner.Reading.{Finds};
+ghost use Rattle.table_text.specs.inner.ReadingTables.{lease_at, lease_of, optional_lease};
 
 use command_encodings::{DecodeError, is_within, word_at};
 use run_plan::{LAST_NUMBER, Number};
@@ -21,7 +21,7 @@ fn lease_number(value: u32) -> Result<u32, DecodeError>
 }
 
 /// The lease's number at the front of the bytes, 0 for none, and the bytes after it.
-#[tactic(auto, unfolding(crate::specs::ReadingTables::lease_at))]
+#[tactic(auto, unfolding(crate::specs::inner::ReadingTables::lease_at))]
 pub(crate) fn lease_at(bytes: &[u8]) -> Result<(u32, &[u8]), DecodeError>
     ensures gives { Finds (λ f. (optional_lease f.0, f.1.now)) result (lease_at bytes.now) }
     ensures most { IfOk result (λ f. f.0 ≤ last_number) }

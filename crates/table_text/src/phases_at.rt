@@ -2,9 +2,9 @@
 
 ghost use Rattle.std.specs.Prelude.{not};
 ghost use Rattle.stored_tables.specs.Stored.{is_new};
-ghost use Rattle.command_encodings.specs.Reading.{Finds, kept};
-ghost use Rattle.table_text.specs.ReadingTables.{flag_at, flags, job_phase_at, job_phases, leg_phase_at, leg_phases, of_byte, run_phase_at};
-ghost use Rattle.table_text.specs.ReadingTables.{run_phases};
+ghost use Rattle.command_encodings.specs.inner.Reading.{Finds, kept};
+ghost use Rattle.table_text.specs.inner.ReadingTables.{flag_at, flags, job_phase_at, job_phases, leg_phase_at, leg_phases, of_byte, run_phase_at};
+ghost use Rattle.table_text.specs.inner.ReadingTables.{run_phases};
 ghost use Rattle.table_text.specs.Tables.{flag_byte, job_byte, leg_byte, run_byte};
 
 use command_encodings::{DecodeError, byte_at};
@@ -73,7 +73,7 @@ fn flag_of(byte: u8) -> Result<bool, DecodeError>
     }
 }
 
-#[tactic(auto, unfolding(crate::specs::ReadingTables::leg_phase_at))]
+#[tactic(auto, unfolding(crate::specs::inner::ReadingTables::leg_phase_at))]
 pub(crate) fn leg_phase_at(bytes: &[u8]) -> Result<(LegPhase, &[u8]), DecodeError>
     ensures { Finds (λ f. (f.0, f.1.now)) result (leg_phase_at bytes.now) }
 {
@@ -83,7 +83,7 @@ pub(crate) fn leg_phase_at(bytes: &[u8]) -> Result<(LegPhase, &[u8]), DecodeErro
     Ok((phase, rest))
 }
 
-#[tactic(auto, unfolding(crate::specs::ReadingTables::job_phase_at))]
+#[tactic(auto, unfolding(crate::specs::inner::ReadingTables::job_phase_at))]
 pub(crate) fn job_phase_at(bytes: &[u8]) -> Result<(JobPhase, &[u8]), DecodeError>
     ensures { Finds (λ f. (f.0, f.1.now)) result (job_phase_at bytes.now) }
 {
@@ -92,7 +92,7 @@ pub(crate) fn job_phase_at(bytes: &[u8]) -> Result<(JobPhase, &[u8]), DecodeErro
     Ok((phase, rest))
 }
 
-#[tactic(auto, unfolding(crate::specs::ReadingTables::run_phase_at))]
+#[tactic(auto, unfolding(crate::specs::inner::ReadingTables::run_phase_at))]
 pub(crate) fn run_phase_at(bytes: &[u8]) -> Result<(RunPhase, &[u8]), DecodeError>
     ensures { Finds (λ f. (f.0, f.1.now)) result (run_phase_at bytes.now) }
 {
@@ -101,7 +101,7 @@ pub(crate) fn run_phase_at(bytes: &[u8]) -> Result<(RunPhase, &[u8]), DecodeErro
     Ok((phase, rest))
 }
 
-#[tactic(auto, unfolding(crate::specs::ReadingTables::flag_at))]
+#[tactic(auto, unfolding(crate::specs::inner::ReadingTables::flag_at))]
 pub(crate) fn flag_at(bytes: &[u8]) -> Result<(bool, &[u8]), DecodeError>
     ensures { Finds (λ f. (f.0, f.1.now)) result (flag_at bytes.now) }
 {

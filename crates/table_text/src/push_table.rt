@@ -7,8 +7,8 @@ ghost use Rattle.stored_tables.specs.Stored.{stored_last, stored_lease, stored_r
 ghost use Rattle.definitions.specs.Format.{word_bytes};
 ghost use Rattle.table_text.specs.Tables.{flag_byte, job, job_byte, kept_lease, last_command, lease, lease_word, leg, leg_byte, run, run_byte, runner};
 ghost use Rattle.table_text.specs.Tables.{table};
-ghost use Rattle.command_encodings.specs.Writing.{Keeps};
-ghost use Rattle.table_text.specs.Writing.{HasByte, JobHasBytes, KeptHasBytes, RunHasBytes};
+ghost use Rattle.command_encodings.specs.inner.Writing.{Keeps};
+ghost use Rattle.table_text.specs.inner.Writing.{HasByte, JobHasBytes, KeptHasBytes, RunHasBytes};
 
 use crate::push_list::{Push, push_list};
 use command_encodings::{

@@ -1,7 +1,7 @@
 //! The runners of a table at the front of bytes.
 
-ghost use Rattle.command_encodings.specs.Reading.{Finds, kept};
-ghost use Rattle.table_text.specs.ReadingTables.{claim_with, last_at, last_with, report_with, runner_at, runners_at};
+ghost use Rattle.command_encodings.specs.inner.Reading.{Finds, kept};
+ghost use Rattle.table_text.specs.inner.ReadingTables.{claim_with, last_at, last_with, report_with, runner_at, runners_at};
 ghost use Rattle.table_text.specs.Tables.{names_rise};
 
 use crate::kept::{StoredReply, kept_at};
@@ -45,7 +45,7 @@ pub(crate) fn last_with(command: Command, kept: StoredReply) -> Result<LastParts
 }
 
 /// The last command of a runner with its kept reply.
-#[tactic(auto, unfolding(crate::specs::ReadingTables::last_at))]
+#[tactic(auto, unfolding(crate::specs::inner::ReadingTables::last_at))]
 fn last_at(alloc: Global, bytes: &[u8]) -> Result<(LastParts, &[u8]), DecodeError>
     ensures { Finds (λ f. (f.0, f.1.now)) result (last_at bytes.now) }
 {
@@ -62,7 +62,7 @@ fn last_at(alloc: Global, bytes: &[u8]) -> Result<(LastParts, &[u8]), DecodeErro
 impl ReadAt for RunnerParts {
     ghost prefix_at = { runner_at };
 
-    #[tactic(auto, unfolding(crate::specs::ReadingTables::runner_at))]
+    #[tactic(auto, unfolding(crate::specs::inner::ReadingTables::runner_at))]
     fn read_at(alloc: Global, bytes: &[u8]) -> Result<(RunnerParts, &[u8]), DecodeError> {
         let (name, rest) = small_text_at::<RunnerForm>(alloc, bytes)?;
         let (number, rest) = number_at(rest)?;
@@ -89,7 +89,7 @@ pub(crate) fn rising(runners: Vec<RunnerParts>) -> Result<Vec<RunnerParts>, Deco
 }
 
 /// The counted runners, and the bytes after them.
-#[tactic(auto, unfolding(crate::specs::ReadingTables::runners_at))]
+#[tactic(auto, unfolding(crate::specs::inner::ReadingTables::runners_at))]
 pub(crate) fn runners_at(
     alloc: Global,
     bytes: &[u8],

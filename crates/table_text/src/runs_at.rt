@@ -2,8 +2,8 @@
 
 ghost use Rattle.std.specs.Prelude.{◌≤◌, IfOk};
 ghost use Rattle.definitions.specs.Limits.{last_attempt, last_number};
-ghost use Rattle.command_encodings.specs.Reading.{Finds, items_at, kept};
-ghost use Rattle.table_text.specs.ReadingTables.{attempt_at, job_at, leg_at, optional_lease, run_at, runs_at};
+ghost use Rattle.command_encodings.specs.inner.Reading.{Finds, items_at, kept};
+ghost use Rattle.table_text.specs.inner.ReadingTables.{attempt_at, job_at, leg_at, optional_lease, run_at, runs_at};
 ghost use Rattle.table_text.specs.Tables.{is_attempt, jobs_planned};
 
 use crate::lease_fields::{lease_at, optional_lease};
@@ -16,7 +16,7 @@ use std::alloc::Global;
 use wf_value::Sequence;
 
 /// The leg at the front of the bytes: its phase, the number of its lease, 0 for none, and the bytes after it.
-#[tactic(auto, unfolding(crate::specs::ReadingTables::leg_at))]
+#[tactic(auto, unfolding(crate::specs::inner::ReadingTables::leg_at))]
 fn leg_parts_at(bytes: &[u8]) -> Result<(LegPhase, u32, &[u8]), DecodeError>
     ensures gives { Finds (λ f. (record { phase = f.0; lease = optional_lease f.1 }, f.2.now)) result (leg_at bytes.now) }
     ensures most { IfOk result (λ f. f.1 ≤ last_number) }
@@ -39,7 +39,7 @@ impl ReadAt for Leg {
 impl ReadAt for JobParts {
     ghost prefix_at = { job_at };
 
-    #[tactic(auto, unfolding(crate::specs::ReadingTables::job_at))]
+    #[tactic(auto, unfolding(crate::specs::inner::ReadingTables::job_at))]
     fn read_at(alloc: Global, bytes: &[u8]) -> Result<(JobParts, &[u8]), DecodeError> {
         let (phase, rest) = job_phase_at(bytes)?;
         let (count, rest) = word_at(rest)?;
@@ -64,7 +64,7 @@ fn attempt_of(value: u32) -> Result<u32, DecodeError>
 }
 
 /// The attempt number at the front of the bytes, and the bytes after it.
-#[tactic(auto, unfolding(crate::specs::ReadingTables::attempt_at))]
+#[tactic(auto, unfolding(crate::specs::inner::ReadingTables::attempt_at))]
 fn attempt_at(bytes: &[u8]) -> Result<(u32, &[u8]), DecodeError>
     ensures gives { Finds (λ f. (f.0, f.1.now)) result (attempt_at bytes.now) }
     ensures range { IfOk result (λ f. (1 ≤ f.0) × (f.0 ≤ last_attempt)) }
@@ -89,7 +89,7 @@ pub(crate) fn planned_jobs_at<'a>(
 impl ReadAt for RunParts {
     ghost prefix_at = { run_at };
 
-    #[tactic(auto, unfolding(crate::specs::ReadingTables::run_at, crate::specs::ReadingTables::course_at))]
+    #[tactic(auto, unfolding(crate::specs::inner::ReadingTables::run_at, crate::specs::inner::ReadingTables::course_at))]
     fn read_at(alloc: Global, bytes: &[u8]) -> Result<(RunParts, &[u8]), DecodeError> {
         let (prepared, rest) = admit_at(alloc, bytes)?;
         let (attempt, rest) = attempt_at(rest)?;
@@ -108,7 +108,7 @@ impl ReadAt for RunParts {
 }
 
 /// The counted runs, and the bytes after them.
-#[tactic(auto, unfolding(crate::specs::ReadingTables::runs_at))]
+#[tactic(auto, unfolding(crate::specs::inner::ReadingTables::runs_at))]
 pub(crate) fn runs_at(alloc: Global, bytes: &[u8]) -> Result<(Vec<RunParts>, &[u8]), DecodeError>
     ensures { Finds (λ f. (f.0.items, f.1.now)) result (runs_at bytes.now) }
 {

@@ -1,7 +1,7 @@
 //! The parts of a table, at the front of bytes.
 
-ghost use Rattle.command_encodings.specs.Reading.{Finds, kept};
-ghost use Rattle.table_text.specs.ReadingTables.{last_lease_at, table_at};
+ghost use Rattle.command_encodings.specs.inner.Reading.{Finds, kept};
+ghost use Rattle.table_text.specs.inner.ReadingTables.{last_lease_at, table_at};
 ghost use Rattle.table_text.specs.Tables.{is_last_lease};
 
 use crate::runners_at::runners_at;
@@ -22,7 +22,7 @@ fn last_lease_of(value: u32) -> Result<u32, DecodeError>
     Err(DecodeError::NoEncoding)
 }
 
-#[tactic(auto, unfolding(crate::specs::ReadingTables::last_lease_at))]
+#[tactic(auto, unfolding(crate::specs::inner::ReadingTables::last_lease_at))]
 pub(crate) fn last_lease_at(bytes: &[u8]) -> Result<(u32, &[u8]), DecodeError>
     ensures { Finds (λ f. (f.0, f.1.now)) result (last_lease_at bytes.now) }
 {
@@ -32,7 +32,7 @@ pub(crate) fn last_lease_at(bytes: &[u8]) -> Result<(u32, &[u8]), DecodeError>
 }
 
 /// The parts of a table at the front of the bytes, and the bytes after them.
-#[tactic(auto, unfolding(crate::specs::ReadingTables::table_at))]
+#[tactic(auto, unfolding(crate::specs::inner::ReadingTables::table_at))]
 pub(crate) fn table_at(alloc: Global, bytes: &[u8]) -> Result<(TableParts, &[u8]), DecodeError>
     ensures { Finds (λ f. (f.0, f.1.now)) result (table_at bytes.now) }
 {

@@ -12,7 +12,7 @@ use Rattle.run_states.specs.declared.holder.Holder.{Holder}
 use Rattle.run_states.specs.declared.holder.Holder.TheVariants.{Run, Leg}
 use Rattle.run_states.specs.declared.place.LegSite.{LegSite}
 use Rattle.run_states.proofs.Found.{all_append, all_map, all_weaken}
-use Rattle.table_views.specs.HolderOrder.{is_before, is_place_before}
+use Rattle.table_views.specs.inner.HolderOrder.{is_before, is_place_before}
 
 module _ {X : Type 0} (before : X → X → Bool) where
   abbrev pub Ascends : List X → Type 0

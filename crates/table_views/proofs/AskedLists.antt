@@ -6,7 +6,7 @@ use Rattle.std.proofs.lemmas.Option.{slice_get_cases}
 use Rattle.std.specs.Prelude.{Some, Option, slice_get, false}
 use Rattle.std.specs.List.{filter, flat_map}
 use Rattle.std.specs.Option.{option_map_or}
-use Rattle.run_states.specs.ActiveRuns.{offers_legs}
+use Rattle.run_states.specs.inner.ActiveRuns.{offers_legs}
 use Rattle.run_states.specs.FirstOf.{placed}
 use Rattle.run_states.specs.Places.{leg_sites_of_run}
 use Rattle.run_states.specs.RunState.{RunState}

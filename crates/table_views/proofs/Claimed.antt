@@ -6,7 +6,7 @@ use Rattle.group_name.specs.Group.{Group}
 use Rattle.run_states.specs.FirstOf.{placed}
 use Rattle.run_states.specs.declared.place.LegSite.{LegSite}
 use Rattle.run_states.specs.RunState.{RunState}
-use Rattle.table_views.specs.Claims.{claim_of}
+use Rattle.table_views.specs.inner.Claims.{claim_of}
 use Rattle.table_views.proofs.Placing.{one_place_more}
 use Rattle.run_states.specs.declared.holder.Holder.{Holder}
 use Rattle.run_states.specs.declared.holder.Holder.TheVariants.{Run, Leg}

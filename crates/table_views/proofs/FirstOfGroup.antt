@@ -15,9 +15,9 @@ use Rattle.run_states.specs.declared.holder.Holder.{Holder}
 use Rattle.run_states.specs.declared.holder.Holder.TheVariants.{Run, Leg}
 use Rattle.run_states.specs.declared.place.LegSite.{LegSite}
 use Rattle.run_states.proofs.Found.{each_of_append}
-use Rattle.table_views.specs.Claims.{claim_of, claims_of, said}
+use Rattle.table_views.specs.inner.Claims.{claim_of, claims_of, said}
 use Rattle.table_views.specs.GroupLines.{group_in_use}
-use Rattle.table_views.specs.HolderOrder.{is_before, is_earlier, is_place_before}
+use Rattle.table_views.specs.inner.HolderOrder.{is_before, is_earlier, is_place_before}
 use Rattle.table_views.specs.declared.claim.GroupClaim.{GroupClaim}
 use Rattle.table_views.proofs.Ascending.{Ascends, holders_ascend}
 

@@ -5,7 +5,7 @@ use Rattle.std.proofs.lemmas.Option.{get_or_from_slice_get, slice_get_within}
 use Rattle.std.specs.Prelude.{Bool, true, false, cond, Option, None, Some, option_and_then, slice_get}
 use Rattle.std.specs.List.{AllByRecursion, filter, flat_map, list_any}
 use Rattle.std.specs.Option.{option_map_or}
-use Rattle.run_states.specs.ActiveRuns.{has_ready_leg, offers_legs}
+use Rattle.run_states.specs.inner.ActiveRuns.{has_ready_leg, offers_legs}
 use Rattle.run_states.specs.FirstOf.{placed}
 use Rattle.run_states.specs.Fitting.{is_ready}
 use Rattle.run_states.specs.Places.{leg_site, leg_sites_of_job, leg_sites_of_run}

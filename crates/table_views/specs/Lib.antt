@@ -1,15 +1,12 @@
 pub mod ChangeLines
-pub mod Claims
 pub mod Distinct
 pub mod GroupLines
-pub mod HolderOrder
 pub mod HolderPages
 pub mod LegCounting
 pub mod Members
 pub mod MetricLines
 pub mod NamedCounts
 pub mod Pages
-pub mod Placed
 pub mod QueueLines
 pub mod ReadyPages
 pub mod RunCounting
@@ -22,3 +19,4 @@ pub mod RunnerLines
 pub mod RunnerPages
 pub mod TableMetrics
 pub mod Texts
+pub mod inner

@@ -6,7 +6,7 @@ ghost use Rattle.definitions.specs.Limits.{max_runs};
 ghost use Rattle.wf_value.specs.Gives.{ErrsOnlyByMemory, Gives};
 ghost use Rattle.run_states.specs.Holders.{run_of};
 ghost use Rattle.table_views.specs.HolderPages.{IsHolderPage, holder_members, holder_row, holder_rows, holding_word, is_group_shown, row_of_holder};
-ghost use Rattle.table_views.specs.Placed.{IsWithin};
+ghost use Rattle.table_views.specs.inner.Placed.{IsWithin};
 ghost use Rattle.run_states.specs.declared.holder.Holder.TheVariants as held;
 
 use crate::group_filter::GroupFilter;

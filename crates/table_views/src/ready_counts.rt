@@ -3,7 +3,7 @@
 ghost use Rattle.std.specs.Prelude.{◌≡◌, ◌++◌, ◌∷◌, ◌<◌, [], ℕ, IfOk, List, OnOk, flat_map, length, string_bytes};
 ghost use Rattle.std.specs.List.{All};
 ghost use Rattle.table_views.specs.NamedCounts.{AreCounts};
-ghost use Rattle.table_views.specs.Placed.{IsWithin};
+ghost use Rattle.table_views.specs.inner.Placed.{IsWithin};
 ghost use Rattle.table_views.specs.ReadyPages.{legs_at};
 ghost use Rattle.table_views.specs.TableMetrics.{asked, asked_at, ready_lines, ready_value};
 

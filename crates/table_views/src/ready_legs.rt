@@ -3,7 +3,7 @@
 ghost use Rattle.std.specs.Prelude.{◌≡◌, ◌++◌, ◌<◌, ◌^◌, IfOk, OnOk, length, map, string_bytes};
 ghost use Rattle.std.specs.List.{All, filter};
 ghost use Rattle.wf_value.specs.Gives.{ErrsOnlyByMemory};
-ghost use Rattle.table_views.specs.Placed.{IsWithin};
+ghost use Rattle.table_views.specs.inner.Placed.{IsWithin};
 ghost use Rattle.table_views.specs.QueueLines.{is_ready_at, ready_row};
 ghost use Rattle.table_views.specs.ReadyPages.{IsReadyPage, ready_rows};
 

@@ -2,7 +2,7 @@
 
 ghost use Rattle.std.specs.Prelude.{◌≡◌, ◌++◌, IfOk, Ok, option_map, string_bytes};
 ghost use Rattle.wf_value.specs.Gives.{Gives};
-ghost use Rattle.run_states.specs.Cells.{states};
+ghost use Rattle.run_states.specs.inner.Cells.{states};
 ghost use Rattle.table_views.specs.RunRows.{conclusion_at, event_members, number_members, origin_members, own_group, ref_of, run_members, run_row, state_members};
 
 use crate::members::{push_number, push_text, push_text_or_null};

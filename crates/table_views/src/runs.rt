@@ -2,7 +2,7 @@
 
 ghost use Rattle.std.specs.Prelude.{◌≡◌, ◌++◌, IfOk, Ok, codes, decimal, map, string_bytes};
 ghost use Rattle.wf_value.specs.Gives.{Gives};
-ghost use Rattle.run_states.specs.Cells.{states};
+ghost use Rattle.run_states.specs.inner.Cells.{states};
 ghost use Rattle.run_states.specs.ViewText.{seen_text};
 ghost use Rattle.table_views.specs.RunLines.{job_json, jobs_json, leg_json, run_json, run_line, run_start, state_text};
 

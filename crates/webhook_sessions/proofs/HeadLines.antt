@@ -15,7 +15,7 @@ use Rattle.httparse.proofs.OpenLemmas.{Completes_next, Section_after_lines, requ
 use Rattle.httparse.proofs.PieceLemmas.{FieldLines_push, RequestStart_deterministic, Section_deterministic, Section_skip, newline_not_stopped, print_field-append}
 use Rattle.httparse.proofs.RunLemmas.{Stops-append, run_unique}
 use Rattle.act_sessions.specs.declared.request.Progress.{Progress}
-use Rattle.webhook_sessions.specs.HeadLines.{AreUnfinished, AreUnfinishedLines, BeginsLines, Start}
+use Rattle.webhook_sessions.specs.inner.HeadLines.{AreUnfinished, AreUnfinishedLines, BeginsLines, Start}
 use Rattle.webhook_sessions.specs.Hooks.{HookWaits}
 
 -- ---- the first line feed

@@ -17,17 +17,17 @@ use Rattle.act_sessions.specs.declared.request.Next.{Next}
 use Rattle.act_sessions.specs.declared.request.Next.TheVariants.{Waits, Whole}
 use Rattle.act_sessions.specs.declared.request.Progress.{Progress}
 use Rattle.act_sessions.specs.Rules.{IsNext}
-use Rattle.act_sessions.specs.Held.{Keeps}
-use Rattle.act_sessions.specs.Progress.{nothing_read}
+use Rattle.act_sessions.specs.inner.Held.{Keeps}
+use Rattle.act_sessions.specs.inner.Progress.{nothing_read}
 use Rattle.webhook_sessions.specs.declared.fault.Fault.{Fault}
 use Rattle.webhook_sessions.specs.declared.fault.Fault.TheVariants.{BadHead}
 use Rattle.webhook_sessions.specs.Asking.{body_length, length_wanted, unread, with_body, posts_event}
 use Rattle.webhook_sessions.specs.EventHeaders.{event_headers}
-use Rattle.webhook_sessions.specs.FoundRequest.{IsFound}
+use Rattle.webhook_sessions.specs.inner.FoundRequest.{IsFound}
 use Rattle.webhook_sessions.specs.Heading.{Heading, heading_of}
-use Rattle.webhook_sessions.specs.HeadLines.{HeadKnown}
+use Rattle.webhook_sessions.specs.inner.HeadLines.{HeadKnown}
 use Rattle.webhook_sessions.specs.Hooks.{BeginsWith, HookReads, hooks}
-use Rattle.webhook_sessions.specs.Laws.{begins_still}
+use Rattle.webhook_sessions.specs.inner.Laws.{begins_still}
 use Rattle.webhook_sessions.specs.Length.{just, stated_by, stated_length, unless_coded}
 
 -- ---- no head

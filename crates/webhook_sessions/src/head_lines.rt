@@ -3,7 +3,7 @@
 ghost use Rattle.std.specs.Prelude.{◌≡◌, ◌==◌, true, position};
 ghost use Rattle.httparse.specs.Grammar.{HasNoRequest, MayBecomeRequest};
 ghost use Rattle.httparse.specs.Pieces.{Stops, is_newline};
-ghost use Rattle.webhook_sessions.specs.HeadLines.{AreUnfinishedLines, HeadKnown};
+ghost use Rattle.webhook_sessions.specs.inner.HeadLines.{AreUnfinishedLines, HeadKnown};
 
 use act_sessions::Progress;
 use httparse::Status;

@@ -16,9 +16,9 @@ const MAX_REQUESTS: u64 = 64;
 pub struct Hooks;
 
 impl Protocol for Hooks {
-    ghost use Rattle.webhook_sessions.specs.HeadLines.{HeadKnown};
+    ghost use Rattle.webhook_sessions.specs.inner.HeadLines.{HeadKnown};
     ghost use Rattle.webhook_sessions.specs.Hooks.{hooks};
-    ghost use Rattle.webhook_sessions.specs.Laws.{head_fresh, head_lasts, hooks_steady, hooks_one};
+    ghost use Rattle.webhook_sessions.specs.inner.Laws.{head_fresh, head_lasts, hooks_steady, hooks_one};
 
     type Fault = Fault;
 

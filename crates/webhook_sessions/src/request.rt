@@ -1,9 +1,9 @@
 ghost use Rattle.std.specs.Prelude.{◌≡◌, ◌≤◌, ◌+◌, length};
-ghost use Rattle.act_sessions.specs.Held.{Keeps};
+ghost use Rattle.act_sessions.specs.inner.Held.{Keeps};
 ghost use Rattle.act_sessions.specs.Rules.{IsNext};
 ghost use Rattle.webhook_sessions.specs.Asking.{request_after, unread};
-ghost use Rattle.webhook_sessions.specs.FoundRequest.{IsFound};
-ghost use Rattle.webhook_sessions.specs.HeadLines.{HeadKnown};
+ghost use Rattle.webhook_sessions.specs.inner.FoundRequest.{IsFound};
+ghost use Rattle.webhook_sessions.specs.inner.HeadLines.{HeadKnown};
 ghost use Rattle.webhook_sessions.specs.Hooks.{hooks};
 
 use crate::demand::demand_of;

@@ -9,7 +9,7 @@ use Rattle.wf_value.specs.declared.condition.Condition.{Condition}
 use Rattle.wf_expr.specs.declared.piece.Piece.{Piece}
 use Rattle.wf_reader.specs.Faults.{unless_faulty, fault, fault_unless, faults_in_order, faults_within, left_out}
 use Rattle.wf_reader.specs.Job.{is_job_id, inside_job, job_faults}
-use Rattle.wf_reader.specs.JobParts.{start_checks, start_faults, legs_checks, legs_faults}
+use Rattle.wf_reader.specs.inner.JobParts.{start_checks, start_faults, legs_checks, legs_faults}
 use Rattle.wf_reader.specs.declared.concurrency.Concurrency.{Concurrency}
 use Rattle.wf_reader.specs.declared.flag.Flag.{Flag}
 use Rattle.wf_reader.specs.declared.job.Job.{Job}

@@ -7,7 +7,7 @@ use Rattle.serde_json.specs.Data.{Data}
 use Rattle.serde_json.specs.Find.{get}
 use Rattle.wf_value.specs.declared.scalar.Scalar.{Scalar}
 use Rattle.wf_reader.specs.Json.{scalar_in}
-use Rattle.wf_reader.specs.JsonCode.{coded_json}
+use Rattle.wf_reader.specs.inner.JsonCode.{coded_json}
 
 -- the JSON of each context that is present
 pub record ContextObjects : Type 0 where

@@ -8,9 +8,7 @@ pub mod Faults
 pub mod Flags
 pub mod Job
 pub mod JobCode
-pub mod JobParts
 pub mod Json
-pub mod JsonCode
 pub mod MatrixOf
 pub mod MatrixValues
 pub mod Needs
@@ -18,3 +16,4 @@ pub mod Patterns
 pub mod Strategy
 pub mod Templates
 pub mod Workflow
+pub mod inner

@@ -2,7 +2,7 @@ ghost use Rattle.serde_json.specs.View.{view};
 ghost use Rattle.wf_value.specs.Gives.{Gives};
 ghost use Rattle.wf_reader.specs.Faults.{unless_faulty};
 ghost use Rattle.wf_reader.specs.Job.{job_faults, job_of};
-ghost use Rattle.wf_reader.specs.JobParts.{start_faults, start_of, legs_faults, legs_of};
+ghost use Rattle.wf_reader.specs.inner.JobParts.{start_faults, start_of, legs_faults, legs_of};
 
 use crate::concurrency::{Concurrency, read_concurrency};
 use crate::condition::read_condition;

@@ -1,7 +1,7 @@
 pub mod Gives
 pub mod Matrix
 pub mod RefusalText
-pub mod ScalarCode
 pub mod ScalarValue
 pub mod SpacedText
 pub mod Words
+pub mod inner

@@ -2,7 +2,7 @@
 use Rattle.std.specs.Prelude.{ℕ, List, refl}
 use Rattle.std.specs.Coded.{Coded, code_by, coded_ℕ, coded_list, coded×}
 use Rattle.wf_value.specs.declared.scalar.Scalar.{Scalar}
-use Rattle.wf_value.specs.ScalarCode.{coded_scalar, coded_pairs}
+use Rattle.wf_value.specs.inner.ScalarCode.{coded_scalar, coded_pairs}
 
 -- the name of a variable, and its values in list order
 abbrev pub NamedValues : Type 0

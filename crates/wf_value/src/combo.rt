@@ -21,7 +21,7 @@ impl Model for Combo {
     ghost use Rattle.std.specs.Prelude.{List, ℕ, IsTrue};
     ghost use Rattle.wf_value.specs.declared.scalar.Scalar.{Scalar};
     ghost use Rattle.definitions.specs.Rising.{names_rise};
-    ghost use Rattle.wf_value.specs.ScalarCode.{coded_pairs};
+    ghost use Rattle.wf_value.specs.inner.ScalarCode.{coded_pairs};
 
     ghost Value = { List (List ℕ × Scalar) };
 

@@ -13,7 +13,7 @@ use Rattle.wf_reader.specs.Body.{json_of}
 use Rattle.wf_reader.specs.Concurrency.{concurrency_faults, is_concurrency}
 use Rattle.wf_reader.specs.Faults.{fault, fault_unless, faults_in_order, left_out, optional, required, text_faults}
 use Rattle.wf_reader.specs.Job.{inside_job, is_job_id, job_faults, label_faults, labels_faults}
-use Rattle.wf_reader.specs.JobParts.{legs_checks, legs_faults, start_checks, start_faults}
+use Rattle.wf_reader.specs.inner.JobParts.{legs_checks, legs_faults, start_checks, start_faults}
 use Rattle.wf_reader.specs.Json.{item_list, member_at, members_of}
 use Rattle.wf_reader.specs.MatrixOf.{inside_matrix, matrix_faults, variable_faults, variables_in}
 use Rattle.wf_reader.specs.MatrixValues.{each_of_some, items_of, value_faults}

@@ -16,11 +16,11 @@ use Rattle.run_states.specs.declared.holder.Holder.TheVariants.{Run}
 use Rattle.run_states.specs.declared.phases.RunPhase.TheVariants as run
 use Rattle.run_states.proofs.Changed.{at_changed}
 use Rattle.run_states.proofs.Found.{at_the_end}
-use Rattle.workflow_runs.specs.Arriving.{ExactBeside, KeptBeside}
-use Rattle.workflow_runs.specs.Begun.{HaveTickets}
-use Rattle.workflow_runs.specs.GroupsKept.{AreTold, GroupsAreKept, arrivals_to_come, is_there}
-use Rattle.workflow_runs.specs.MarkedRuns.{AreMarked, is_due}
-use Rattle.workflow_runs.specs.RowsKept.{RowState}
+use Rattle.workflow_runs.specs.inner.Arriving.{ExactBeside, KeptBeside}
+use Rattle.workflow_runs.specs.inner.Begun.{HaveTickets}
+use Rattle.workflow_runs.specs.inner.GroupsKept.{AreTold, GroupsAreKept, arrivals_to_come, is_there}
+use Rattle.workflow_runs.specs.inner.MarkedRuns.{AreMarked, is_due}
+use Rattle.workflow_runs.specs.inner.RowsKept.{RowState}
 use Rattle.workflow_runs.proofs.DueStill.{due_changed}
 use Rattle.workflow_runs.proofs.MarkedRuns.{due_more, put_adds, put_marks, roomier}
 use Rattle.workflow_runs.proofs.RunComes.{added_beside, again_beside, again_still}

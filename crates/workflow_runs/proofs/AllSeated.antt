@@ -12,10 +12,10 @@ use Rattle.run_states.specs.RunState.{RunState}
 use Rattle.run_states.specs.declared.holder.Holder.{Holder}
 use Rattle.run_bindings.specs.GroupKeys.{ticket_in}
 use Rattle.run_bindings.specs.declared.bindings.RunBindings.{RunBindings}
-use Rattle.workflow_runs.specs.GroupsKept.{AreExact, GroupsAreKept}
-use Rattle.workflow_runs.specs.MarkedRuns.{AreMarked, is_due}
-use Rattle.workflow_runs.specs.RowsKept.{RowState}
-use Rattle.workflow_runs.specs.Seating.{AreApart, AreSeated, AreStored, HasSeats, HaveKeys, OneIsTaken, TakeSeats, in_slot, is_of}
+use Rattle.workflow_runs.specs.inner.GroupsKept.{AreExact, GroupsAreKept}
+use Rattle.workflow_runs.specs.inner.MarkedRuns.{AreMarked, is_due}
+use Rattle.workflow_runs.specs.inner.RowsKept.{RowState}
+use Rattle.workflow_runs.specs.inner.Seating.{AreApart, AreSeated, AreStored, HasSeats, HaveKeys, OneIsTaken, TakeSeats, in_slot, is_of}
 use Rattle.workflow_runs.specs.declared.runs.of.GroupSlot.{GroupSlot}
 use Rattle.workflow_runs.specs.declared.runs.of.GroupSlot.TheVariants.{InProgress, Pending}
 use Rattle.workflow_runs.proofs.GroupsHeld.{Entries}

@@ -10,7 +10,7 @@ use Rattle.run_states.specs.Arrivals.{arrived, room_made}
 use Rattle.run_states.specs.GroupOf.{cancels_in_progress, group_at}
 use Rattle.run_states.specs.GroupWords.{same_holder}
 use Rattle.run_states.specs.Groups.{waits}
-use Rattle.run_states.specs.Holders.{first_conflicting}
+use Rattle.run_states.specs.inner.Holders.{first_conflicting}
 use Rattle.run_states.specs.Moves.{without_moves}
 use Rattle.run_states.specs.RunState.{RunState}
 use Rattle.run_states.specs.SoundRuns.{RunsAreSound}
@@ -23,9 +23,9 @@ use Rattle.run_bindings.specs.declared.group_keys.HolderKey.TheVariants.{Known, 
 use Rattle.run_bindings.specs.declared.group_keys.KnownGroup.{KnownGroup}
 use Rattle.workflow_runs.proofs.SpentKeys.{one_each}
 use Rattle.settling_laws.proofs.Arrives.{arrived_by_stops}
-use Rattle.workflow_runs.specs.Arriving.{KeptBeside, stopped_if, waits_beside, with_first_stopped}
-use Rattle.workflow_runs.specs.GroupsKept.{Knows}
-use Rattle.workflow_runs.specs.RowsKept.{holder_key_at}
+use Rattle.workflow_runs.specs.inner.Arriving.{KeptBeside, stopped_if, waits_beside, with_first_stopped}
+use Rattle.workflow_runs.specs.inner.GroupsKept.{Knows}
+use Rattle.workflow_runs.specs.inner.RowsKept.{holder_key_at}
 use Rattle.workflow_runs.proofs.Arriving.{has_one_beside, nobody_conflicts}
 use Rattle.workflow_runs.proofs.SpentThere.{one_arrival_fewer}
 

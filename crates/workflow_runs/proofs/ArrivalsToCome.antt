@@ -5,7 +5,7 @@ use Rattle.std.proofs.lemmas.List.Sums.{sum_by-append, sum_by-cons}
 use Rattle.std.proofs.lemmas.Option.{same_Some}
 use Rattle.run_bindings.specs.GroupKeys.{arrivals_of}
 use Rattle.run_bindings.specs.declared.bindings.RunBindings.{RunBindings}
-use Rattle.workflow_runs.specs.GroupsKept.{arrivals_to_come}
+use Rattle.workflow_runs.specs.inner.GroupsKept.{arrivals_to_come}
 
 abbrev its_arrivals : RunBindings → ℕ
 its_arrivals kept = arrivals_of kept.keys

@@ -12,7 +12,7 @@ use Rattle.group_name.proofs.SameGroups.{own_group, same_is_one}
 use Rattle.run_states.specs.GroupOf.{group_at}
 use Rattle.run_states.specs.GroupWords.{same_holder}
 use Rattle.run_states.specs.Groups.{HasOneBeside, all_holders, holds, is_in, is_in_progress_in, is_pending_in, waits}
-use Rattle.run_states.specs.Holders.{first_conflicting, is_conflicting}
+use Rattle.run_states.specs.inner.Holders.{first_conflicting, is_conflicting}
 use Rattle.run_states.specs.RunState.{RunState}
 use Rattle.run_states.specs.SoundRuns.{RunsAreSound}
 use Rattle.run_states.specs.StopMoves.{stop_holder}
@@ -25,10 +25,10 @@ use Rattle.workflow_runs.proofs.SpentKeys.{one_each}
 use Rattle.settling_laws.proofs.ArrivalKeeps.{holder_tested, itself}
 use Rattle.settling_laws.proofs.HoldersKeep.{holder_stop_settles}
 use Rattle.settling_laws.proofs.SoundRuns.{runs_that_fit, sound_runs}
-use Rattle.workflow_runs.specs.Arriving.{ExactBeside, KeptBeside, stopped_if, waits_beside}
-use Rattle.workflow_runs.specs.GroupsKept.{AreExact, GroupsAreKept, arrivals_to_come}
-use Rattle.workflow_runs.specs.HolderChanges.{EndsOnly}
-use Rattle.workflow_runs.specs.RowsKept.{holder_key_at, keys_spent}
+use Rattle.workflow_runs.specs.inner.Arriving.{ExactBeside, KeptBeside, stopped_if, waits_beside}
+use Rattle.workflow_runs.specs.inner.GroupsKept.{AreExact, GroupsAreKept, arrivals_to_come}
+use Rattle.workflow_runs.specs.inner.HolderChanges.{EndsOnly}
+use Rattle.workflow_runs.specs.inner.RowsKept.{holder_key_at, keys_spent}
 use Rattle.workflow_runs.proofs.FoundBySlot.{find_same, found_by, in_progress_found}
 use Rattle.workflow_runs.proofs.GroupsHeld.{Entries, told_within}
 use Rattle.workflow_runs.proofs.HoldersThere.{holds_not, tells, there_if_holds, there_if_waits}

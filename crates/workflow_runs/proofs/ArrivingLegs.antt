@@ -3,7 +3,7 @@ use Rattle.std.specs.Prelude.{◌≡◌, List, true, false, Option, Some, None, 
 use Rattle.std.specs.Option.{option_map_or}
 use Rattle.std.proofs.Common.{ap}
 use Rattle.run_states.specs.Groups.{leg_waits, waits}
-use Rattle.run_states.specs.Resuming.{is_new_at}
+use Rattle.run_states.specs.inner.Resuming.{is_new_at}
 use Rattle.run_states.specs.Places.{leg_at}
 use Rattle.run_states.specs.declared.place.LegSite.{LegSite}
 use Rattle.run_states.specs.Rules.{with_leg_in}

@@ -27,9 +27,9 @@ use Rattle.run_bindings.specs.declared.group_keys.KnownGroup.{KnownGroup}
 use Rattle.run_bindings.specs.declared.groups.GroupRequest.{GroupRequest}
 use Rattle.run_bindings.proofs.BoundSays.{SaysBoth, as_short}
 use Rattle.workflow_runs.proofs.DecidedThere.{flags_decided_of, keys_decided_of, tickets_decided_of}
-use Rattle.workflow_runs.specs.Begun.{AreKnownIf, IsBegun, IsBegunBelow, has_legs_at}
-use Rattle.workflow_runs.specs.GroupsKept.{Knows, is_there}
-use Rattle.workflow_runs.specs.RowsKept.{IsUndecided, decided_in, holder_key_at}
+use Rattle.workflow_runs.specs.inner.Begun.{AreKnownIf, IsBegun, IsBegunBelow, has_legs_at}
+use Rattle.workflow_runs.specs.inner.GroupsKept.{Knows, is_there}
+use Rattle.workflow_runs.specs.inner.RowsKept.{IsUndecided, decided_in, holder_key_at}
 
 -- ---- the key of a holder is what its request gives
 

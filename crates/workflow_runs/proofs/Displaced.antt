@@ -14,9 +14,9 @@ use Rattle.run_states.specs.declared.holder.Holder.TheVariants.{Run, Leg}
 use Rattle.run_states.proofs.JobKeeps.{with_job_of, with_leg_of}
 use Rattle.run_states.proofs.StoppedRuns.{stopped_admitted}
 use Rattle.settling_laws.proofs.KeptBack.{RunsStillFor}
-use Rattle.workflow_runs.specs.Arriving.{stopped_if}
-use Rattle.workflow_runs.specs.HolderChanges.{EndsOnly}
-use Rattle.workflow_runs.specs.MarkedRuns.{AreMarked, is_due}
+use Rattle.workflow_runs.specs.inner.Arriving.{stopped_if}
+use Rattle.workflow_runs.specs.inner.HolderChanges.{EndsOnly}
+use Rattle.workflow_runs.specs.inner.MarkedRuns.{AreMarked, is_due}
 use Rattle.workflow_runs.proofs.Arriving.{stop_ends}
 use Rattle.workflow_runs.proofs.DueStill.{due_changed, still_in}
 use Rattle.workflow_runs.proofs.HoldersThere.{holds_not, tells}

@@ -17,10 +17,10 @@ use Rattle.run_states.specs.RunState.{RunState}
 use Rattle.run_states.specs.declared.holder.Holder.{Holder}
 use Rattle.run_states.proofs.Changed.{at_another, length-changed_at}
 use Rattle.settling_laws.proofs.KeptBack.{RunsStillFor, runs_still}
-use Rattle.workflow_runs.specs.BookSteps.{Leaves}
-use Rattle.workflow_runs.specs.GroupsKept.{AreExact}
-use Rattle.workflow_runs.specs.HolderChanges.{ChangesNobody, EndsOnly, SameHolders, StartsOnly}
-use Rattle.workflow_runs.specs.MarkedRuns.{AreMarked, is_due}
+use Rattle.workflow_runs.specs.inner.BookSteps.{Leaves}
+use Rattle.workflow_runs.specs.inner.GroupsKept.{AreExact}
+use Rattle.workflow_runs.specs.inner.HolderChanges.{ChangesNobody, EndsOnly, SameHolders, StartsOnly}
+use Rattle.workflow_runs.specs.inner.MarkedRuns.{AreMarked, is_due}
 use Rattle.workflow_runs.proofs.GroupsHeld.{Entries, in_progress_slot, pending_slot}
 use Rattle.workflow_runs.proofs.HoldersThere.{tells, there_if_holds, there_if_waits, within_there}
 use Rattle.workflow_runs.proofs.MarkedRuns.{due_unless}

@@ -8,7 +8,7 @@ use Rattle.group_name.specs.Group.{Group}
 use Rattle.run_states.specs.Arrivals.{arrived}
 use Rattle.run_states.specs.GroupOf.{cancels_in_progress, group_at}
 use Rattle.run_states.specs.Groups.{all_holders, is_in_progress_in, waits}
-use Rattle.run_states.specs.Holders.{first_conflicting, is_conflicting}
+use Rattle.run_states.specs.inner.Holders.{first_conflicting, is_conflicting}
 use Rattle.run_states.specs.Resuming.{resume_at_arrival}
 use Rattle.run_states.specs.RunState.{RunState}
 use Rattle.run_states.specs.SoundRuns.{RunsAreSound}
@@ -20,9 +20,9 @@ use Rattle.run_states.specs.declared.place.JobSite.{JobSite}
 use Rattle.run_states.proofs.Changed.{length-changed_at}
 use Rattle.run_states.proofs.JobKeeps.{with_job_of, with_leg_of}
 use Rattle.run_bindings.specs.declared.bindings.RunBindings.{RunBindings}
-use Rattle.workflow_runs.specs.Arriving.{KeptBeside, stopped_if, with_first_stopped}
-use Rattle.workflow_runs.specs.GroupsKept.{GroupsAreKept}
-use Rattle.workflow_runs.specs.RowsKept.{RowState, keys_spent}
+use Rattle.workflow_runs.specs.inner.Arriving.{KeptBeside, stopped_if, with_first_stopped}
+use Rattle.workflow_runs.specs.inner.GroupsKept.{GroupsAreKept}
+use Rattle.workflow_runs.specs.inner.RowsKept.{RowState, keys_spent}
 use Rattle.workflow_runs.proofs.ArrivalEnds.{arrives_alone, by_first_conflicts}
 use Rattle.workflow_runs.proofs.Arriving.{in_progress_same, its_now, kept_alone, kept_arrived, nobody_conflicts, pending_conflicts, stopped_sound, to_stop_found}
 use Rattle.workflow_runs.proofs.FoundBySlot.{find_same}

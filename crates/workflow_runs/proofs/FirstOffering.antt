@@ -5,7 +5,7 @@ use Rattle.std.proofs.lemmas.Bool.{cases_eq, cases_lt}
 use Rattle.label_lists.specs.Known.{IsBefore}
 use Rattle.label_lists.specs.Lists.{ListsState, may_offer}
 use Rattle.run_marks.specs.First.{IsFirstFrom}
-use Rattle.run_bindings.specs.LabelNumbers.{MayServe, ServesList}
+use Rattle.run_bindings.specs.inner.LabelNumbers.{MayServe, ServesList}
 
 pub first_passes : (has : ℕ → Bool) (from : ℕ) (found : Option ℕ) → IsFirstFrom has from found → (s : ℕ) → from ≤ s → IsBefore s found
     → has s ≡ false

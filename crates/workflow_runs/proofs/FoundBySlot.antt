@@ -11,14 +11,15 @@ use Rattle.group_name.specs.Group.{Group}
 use Rattle.run_states.specs.GroupOf.{cancels_in_progress, group_at}
 use Rattle.run_states.specs.GroupWords.{same_holder}
 use Rattle.run_states.specs.Groups.{all_holders, holds, is_in_progress_in, is_pending_in, is_taken, may_start, waits}
-use Rattle.run_states.specs.Holders.{first_conflicting, is_conflicting, run_of}
-use Rattle.run_states.specs.Resuming.{finds_others, makes_room}
+use Rattle.run_states.specs.inner.Holders.{first_conflicting, is_conflicting}
+use Rattle.run_states.specs.Holders.{run_of}
+use Rattle.run_states.specs.inner.Resuming.{finds_others, makes_room}
 use Rattle.run_states.specs.RunState.{RunState}
 use Rattle.run_states.specs.declared.holder.Holder.{Holder}
 use Rattle.run_states.specs.declared.holder.HolderFilter.TheVariants.{InProgress, OthersPending}
 use Rattle.settling_laws.proofs.ArrivalKeeps.{holder_tested}
 use Rattle.settling_laws.proofs.OneEach.{each_holder}
-use Rattle.workflow_runs.specs.GroupsKept.{AreExact, is_there}
+use Rattle.workflow_runs.specs.inner.GroupsKept.{AreExact, is_there}
 use Rattle.workflow_runs.proofs.GroupsHeld.{Entries, taken_by_slot}
 use Rattle.workflow_runs.proofs.HoldersThere.{one_of, there_if_holds, there_if_waits, within_there}
 

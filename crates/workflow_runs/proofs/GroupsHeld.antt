@@ -17,9 +17,9 @@ use Rattle.run_states.specs.declared.holder.Holder.{Holder}
 use Rattle.run_states.specs.declared.holder.Holder.TheVariants.{Leg}
 use Rattle.run_bindings.specs.declared.bindings.RunBindings.{RunBindings}
 use Rattle.settling_laws.proofs.OneEach.{not_taken}
-use Rattle.workflow_runs.specs.BookSteps.{Begins, HasLeftGroup, Leaves}
-use Rattle.workflow_runs.specs.GroupsKept.{AreExact, AreTold, GroupsAreKept, arrivals_to_come}
-use Rattle.workflow_runs.specs.HolderChanges.{ChangesNobody, EndsOnly, SameHolders, StartsOnly}
+use Rattle.workflow_runs.specs.inner.BookSteps.{Begins, HasLeftGroup, Leaves}
+use Rattle.workflow_runs.specs.inner.GroupsKept.{AreExact, AreTold, GroupsAreKept, arrivals_to_come}
+use Rattle.workflow_runs.specs.inner.HolderChanges.{ChangesNobody, EndsOnly, SameHolders, StartsOnly}
 use Rattle.workflow_runs.proofs.HoldersThere.{holds_not, tells, there_if_holds, there_if_new, there_if_waits}
 
 abbrev pub Entries : Type 0

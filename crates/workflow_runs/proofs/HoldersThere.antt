@@ -6,7 +6,7 @@ use Rattle.std.proofs.lemmas.Option.{slice_get_within}
 use Rattle.run_states.specs.Groups.{holds, leg_holds, leg_waits, run_waits, waits}
 use Rattle.run_states.specs.Holders.{run_of}
 use Rattle.run_states.specs.Places.{leg_at, run_at}
-use Rattle.run_states.specs.Resuming.{is_new_at}
+use Rattle.run_states.specs.inner.Resuming.{is_new_at}
 use Rattle.run_states.specs.RunState.{LegState, RunState}
 use Rattle.run_states.specs.StateWords.{is_live, is_new}
 use Rattle.run_states.specs.declared.holder.Holder.{Holder}
@@ -20,7 +20,7 @@ use Rattle.run_states.proofs.JobKeeps.{leg_in}
 use Rattle.run_states.proofs.Optional.{some_of}
 use Rattle.settling_laws.proofs.ArrivalKeeps.{one_or_another}
 use Rattle.settling_laws.proofs.OneEach.{IsOneOf}
-use Rattle.workflow_runs.specs.GroupsKept.{is_there}
+use Rattle.workflow_runs.specs.inner.GroupsKept.{is_there}
 
 -- a holder is the given one, or another
 pub tells : (h one : Holder) → (h ≡ one) ⊎ (h ≡ one → ⊥)

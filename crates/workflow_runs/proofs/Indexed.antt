@@ -15,7 +15,7 @@ use Rattle.definitions.specs.Admitted.{Admitted}
 use Rattle.run_states.specs.NewRun.{is_delivered_as}
 use Rattle.run_states.specs.RunNumber.{events}
 use Rattle.run_states.specs.RunState.{RunState}
-use Rattle.workflow_runs.specs.Delivered.{FindsFirst, has_delivery}
+use Rattle.workflow_runs.specs.inner.Delivered.{FindsFirst, has_delivery}
 
 -- ---- the first element of a list that passes a test
 

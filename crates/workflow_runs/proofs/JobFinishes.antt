@@ -17,7 +17,7 @@ use Rattle.run_states.proofs.Optional.{from_and_then}
 use Rattle.run_states.proofs.RunFits.{RunsFit}
 use Rattle.run_states.proofs.Settles.{StayFit}
 use Rattle.settling_laws.proofs.SoundRuns.{runs_that_fit}
-use Rattle.workflow_runs.specs.HolderChanges.{ChangesNobody}
+use Rattle.workflow_runs.specs.inner.HolderChanges.{ChangesNobody}
 use Rattle.workflow_runs.proofs.FirstRules.{closes, finishes_where, opens}
 use Rattle.workflow_runs.proofs.OneChange.{changes_nobody, settled_adds, settled_keeps}
 

@@ -11,7 +11,7 @@ use Rattle.needs_graph.specs.declared.ended.LegEnd.{LegEnd}
 use Rattle.run_states.specs.FirstOf.{first_some, placed}
 use Rattle.run_states.specs.Rules.{leg_end, outcome_of}
 use Rattle.run_states.specs.RunState.{LegState, RunState}
-use Rattle.run_states.specs.WithinRun.{failing, leg_site}
+use Rattle.run_states.specs.inner.WithinRun.{failing, leg_site}
 use Rattle.run_states.specs.declared.place.LegSite.{LegSite}
 use Rattle.run_states.specs.Words.{continues_on_error}
 

@@ -5,14 +5,14 @@ use Rattle.group_book.specs.Books.{BookState, slot_in}
 use Rattle.group_name.specs.Group.{Group}
 use Rattle.run_states.specs.GroupOf.{cancels_in_progress, group_at}
 use Rattle.run_states.specs.Groups.{may_start, waits}
-use Rattle.run_states.specs.Resuming.{makes_room}
+use Rattle.run_states.specs.inner.Resuming.{makes_room}
 use Rattle.run_states.specs.RunState.{RunState}
 use Rattle.run_states.specs.declared.holder.Holder.{Holder}
 use Rattle.run_bindings.specs.declared.bindings.RunBindings.{RunBindings}
 use Rattle.run_bindings.specs.declared.group_keys.HolderKey.TheVariants.{Known}
 use Rattle.run_bindings.specs.declared.group_keys.KnownGroup.{KnownGroup}
-use Rattle.workflow_runs.specs.GroupsKept.{GroupsAreKept, is_there}
-use Rattle.workflow_runs.specs.RowsKept.{holder_key_at, key_at}
+use Rattle.workflow_runs.specs.inner.GroupsKept.{GroupsAreKept, is_there}
+use Rattle.workflow_runs.specs.inner.RowsKept.{holder_key_at, key_at}
 use Rattle.workflow_runs.proofs.ArrivalEnds.{its_flag}
 use Rattle.workflow_runs.proofs.FoundBySlot.{makes_room_by, may_start_by}
 

@@ -10,7 +10,7 @@ use Rattle.run_states.specs.Changes.{changed}
 use Rattle.run_states.specs.GroupOf.{group_at}
 use Rattle.run_states.specs.Groups.{holds, leg_holds, leg_waits, waits}
 use Rattle.run_states.specs.Places.{leg_at, with_leg, with_run}
-use Rattle.run_states.specs.Resuming.{is_new_at}
+use Rattle.run_states.specs.inner.Resuming.{is_new_at}
 use Rattle.run_states.specs.Rules.{with_leg_in}
 use Rattle.run_states.specs.RunState.{LegState, RunState}
 use Rattle.run_states.specs.SoundRuns.{RunsAreSound}
@@ -27,10 +27,10 @@ use Rattle.settling_laws.proofs.KeptBack.{RunsStillFor}
 use Rattle.settling_laws.proofs.RuleKeeps.{leg_goes, new_ends, newcomer_waits}
 use Rattle.settling_laws.proofs.SoundRuns.{runs_that_fit}
 use Rattle.wf_value.specs.declared.outcome.Outcome.TheVariants as outcome
-use Rattle.workflow_runs.specs.Arriving.{ExactBeside, KeptBeside, waits_beside}
-use Rattle.workflow_runs.specs.GroupsKept.{AreExact, GroupsAreKept}
-use Rattle.workflow_runs.specs.HolderChanges.{ChangesNobody, SameHolders, StaysAs}
-use Rattle.workflow_runs.specs.MarkedRuns.{AreMarked, is_due}
+use Rattle.workflow_runs.specs.inner.Arriving.{ExactBeside, KeptBeside, waits_beside}
+use Rattle.workflow_runs.specs.inner.GroupsKept.{AreExact, GroupsAreKept}
+use Rattle.workflow_runs.specs.inner.HolderChanges.{ChangesNobody, SameHolders, StaysAs}
+use Rattle.workflow_runs.specs.inner.MarkedRuns.{AreMarked, is_due}
 use Rattle.workflow_runs.proofs.Arriving.{itself_beside, others_as_before}
 use Rattle.workflow_runs.proofs.DueStill.{due_changed, still_in}
 use Rattle.workflow_runs.proofs.GroupsHeld.{Entries, told_within}

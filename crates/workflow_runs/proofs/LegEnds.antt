@@ -20,7 +20,7 @@ use Rattle.run_states.proofs.JobKeeps.{leg_in, leg_stays}
 use Rattle.run_states.proofs.Optional.{some_of}
 use Rattle.run_states.proofs.Settles.{StayFit}
 use Rattle.settling_laws.proofs.SoundRuns.{runs_that_fit, sound_runs}
-use Rattle.workflow_runs.specs.HolderChanges.{ChangesNobody, EndsOnly}
+use Rattle.workflow_runs.specs.inner.HolderChanges.{ChangesNobody, EndsOnly}
 use Rattle.workflow_runs.proofs.HoldersThere.{there_if_holds, within_there}
 use Rattle.workflow_runs.proofs.OneHolder.{leg_ends, leg_within}
 

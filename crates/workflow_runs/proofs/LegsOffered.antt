@@ -11,8 +11,10 @@ use Rattle.run_states.specs.declared.place.LegSite.{LegSite}
 use Rattle.run_states.specs.RunState.{RunState}
 use Rattle.run_states.specs.declared.change.Change.{Change}
 use Rattle.run_states.specs.declared.change.Change.TheVariants as change
-use Rattle.run_bindings.specs.LabelNumbers.{AreListsOf, IsOffered, IsReadyAt, JobsOffer, LegsAreOffered, OnlyMarks, OnlyPuts, is_ready_in}
-use Rattle.run_bindings.specs.LabelNumbers.{list_number, offers_list}
+use Rattle.run_bindings.specs.LabelNumbers.{AreListsOf}
+use Rattle.run_bindings.specs.inner.LabelNumbers.{IsOffered, IsReadyAt, JobsOffer, LegsAreOffered, OnlyMarks, OnlyPuts, is_ready_in}
+use Rattle.run_bindings.specs.LabelNumbers.{list_number}
+use Rattle.run_bindings.specs.inner.LabelNumbers.{offers_list}
 use Rattle.run_bindings.specs.declared.bindings.RunBindings.{RunBindings}
 use Rattle.run_bindings.proofs.LabelNumbers.{puts_one, still_lists}
 use Rattle.settling_laws.proofs.HoldersFade.{by_run, passes, run_passes}

@@ -18,9 +18,9 @@ use Rattle.run_states.specs.WithinRun.{first_in_run}
 use Rattle.run_states.specs.declared.place.RuleSite.{RuleSite}
 use Rattle.run_states.proofs.Found.{before_the_end}
 use Rattle.run_states.proofs.LegFacts.{SameUpTo}
-use Rattle.settling_laws.specs.Releases.{ReleasesNone}
-use Rattle.workflow_runs.specs.MarkedRuns.{AreMarked, is_due}
-use Rattle.settling_laws.specs.RunFacts.{is_so_at}
+use Rattle.settling_laws.specs.inner.Releases.{ReleasesNone}
+use Rattle.workflow_runs.specs.inner.MarkedRuns.{AreMarked, is_due}
+use Rattle.settling_laws.specs.inner.RunFacts.{is_so_at}
 use Rattle.settling_laws.proofs.GroupStays.{same_group}
 use Rattle.settling_laws.proofs.KeptBack.{KeepsBackIn, RunsStillFor, back_still, runs_still}
 use Rattle.workflow_runs.proofs.HoldersOfRuns.{holder_within, same_holds}

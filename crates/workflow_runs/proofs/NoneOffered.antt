@@ -15,12 +15,13 @@ use Rattle.run_states.specs.Parallel.{has_room}
 use Rattle.run_states.specs.Places.{leg_at, leg_site, plan_at, run_at}
 use Rattle.run_states.specs.declared.place.LegSite.{LegSite}
 use Rattle.run_states.specs.RunState.{JobState, LegState, RunState}
-use Rattle.run_states.specs.WithinRun.{fit_in_job, fit_in_run, served_in_job}
+use Rattle.run_states.specs.inner.WithinRun.{fit_in_job, fit_in_run, served_in_job}
 use Rattle.run_states.specs.Words.{label_texts, labels_at}
 use Rattle.run_states.proofs.RunFits.{job_in_run, leg_in_job}
 use Rattle.run_bindings.specs.Bindings.{AreBound}
 use Rattle.run_bindings.specs.KnownLabels.{AreAlike}
-use Rattle.run_bindings.specs.LabelNumbers.{IsReadyAt, LegsAreOffered, MayServe, ServesList, list_number, texts_of}
+use Rattle.run_bindings.specs.inner.LabelNumbers.{IsReadyAt, LegsAreOffered, MayServe, ServesList}
+use Rattle.run_bindings.specs.LabelNumbers.{list_number, texts_of}
 use Rattle.run_bindings.specs.declared.bindings.RunBindings.{RunBindings}
 use Rattle.workflow_runs.proofs.KnownSays.{KnownLabels, texts_there}
 use Rattle.run_bindings.proofs.LabelNumbers.{as_long}

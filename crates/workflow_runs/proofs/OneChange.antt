@@ -23,8 +23,8 @@ use Rattle.settling_laws.proofs.GroupStays.{leg_cancels_stays, run_facts_stay}
 use Rattle.settling_laws.proofs.HoldersFade.{Weakens, by_run, leg_before, leg_change_weakens, leg_passes, job_passes, passed_changed, passes, run_passes}
 use Rattle.settling_laws.proofs.OneEach.{IsOneOf, groups_stay}
 use Rattle.wf_value.specs.declared.outcome.JobResult.{JobResult}
-use Rattle.workflow_runs.specs.GroupsKept.{is_blocked_at, is_there, is_unopened}
-use Rattle.workflow_runs.specs.HolderChanges.{ChangesNobody, SameHolders, StaysAs}
+use Rattle.workflow_runs.specs.inner.GroupsKept.{is_blocked_at, is_there, is_unopened}
+use Rattle.workflow_runs.specs.inner.HolderChanges.{ChangesNobody, SameHolders, StaysAs}
 use Rattle.workflow_runs.proofs.HoldersThere.{one_of}
 
 -- ---- a reading that stays the same in the element that changes stays the same at each index

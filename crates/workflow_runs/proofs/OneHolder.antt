@@ -29,8 +29,8 @@ use Rattle.settling_laws.proofs.HoldersFade.{Weakens, by_run, job_passes, leg_pa
 use Rattle.settling_laws.proofs.HoldersKeep.{leg_stop_settles, run_stop_settles}
 use Rattle.settling_laws.proofs.RuleKeeps.{leg_goes, phase_settles, waiting_starts}
 use Rattle.settling_laws.proofs.SoundRuns.{runs_that_fit}
-use Rattle.workflow_runs.specs.GroupsKept.{is_unopened}
-use Rattle.workflow_runs.specs.HolderChanges.{ChangesNobody, EndsOnly, StartsOnly, StaysAs}
+use Rattle.workflow_runs.specs.inner.GroupsKept.{is_unopened}
+use Rattle.workflow_runs.specs.inner.HolderChanges.{ChangesNobody, EndsOnly, StartsOnly, StaysAs}
 use Rattle.workflow_runs.proofs.HoldersThere.{tells, there_if_holds, there_if_waits}
 use Rattle.workflow_runs.proofs.OneChange.{AddsNothing, any_phase, leg_adds, leg_others, phase_adds, phase_others, same_holders, same_reading}
 

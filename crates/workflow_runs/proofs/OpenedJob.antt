@@ -44,9 +44,9 @@ use Rattle.settling_laws.proofs.KeptBack.{RunsStillFor}
 use Rattle.settling_laws.proofs.GroupStays.{run_facts_stay}
 use Rattle.settling_laws.proofs.SoundRuns.{runs_that_fit}
 use Rattle.workflow_runs.proofs.Stays.{changed_admitted}
-use Rattle.workflow_runs.specs.GroupsKept.{AreTold, GroupsAreKept, arrivals_to_come, is_blocked_at, is_unopened}
-use Rattle.workflow_runs.specs.MarkedRuns.{AreMarked, is_due}
-use Rattle.workflow_runs.specs.RowsKept.{IsUndecided, keys_decided}
+use Rattle.workflow_runs.specs.inner.GroupsKept.{AreTold, GroupsAreKept, arrivals_to_come, is_blocked_at, is_unopened}
+use Rattle.workflow_runs.specs.inner.MarkedRuns.{AreMarked, is_due}
+use Rattle.workflow_runs.specs.inner.RowsKept.{IsUndecided, keys_decided}
 use Rattle.workflow_runs.proofs.DueStill.{due_changed, events_after}
 use Rattle.workflow_runs.proofs.FirstRules.{opens, opens_where}
 use Rattle.workflow_runs.proofs.Opening.{kept_opened, results_same, still_opened}

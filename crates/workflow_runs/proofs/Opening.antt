@@ -14,7 +14,7 @@ use Rattle.run_states.specs.Groups.{holds, is_in, leg_holds, leg_waits, run_wait
 use Rattle.run_states.specs.Holders.{run_of}
 use Rattle.run_states.specs.JobResults.{results_so_far, finished_result}
 use Rattle.run_states.specs.Places.{job_at, leg_at, run_at, with_job}
-use Rattle.run_states.specs.Resuming.{is_new_at}
+use Rattle.run_states.specs.inner.Resuming.{is_new_at}
 use Rattle.run_states.specs.RunState.{JobState, LegState, RunState}
 use Rattle.run_states.specs.StateWords.{is_blocked, is_live, is_new, opened}
 use Rattle.run_states.specs.declared.holder.Holder.{Holder}
@@ -40,9 +40,9 @@ use Rattle.settling_laws.proofs.KeptBack.{RunsStillFor, runs_still}
 use Rattle.settling_laws.proofs.HoldersFade.{by_run, job_passes, leg_passes, passes, run_passes}
 use Rattle.settling_laws.proofs.OneEach.{groups_stay}
 use Rattle.settling_laws.proofs.OneEachRules.{replicate_fails}
-use Rattle.workflow_runs.specs.GroupsKept.{AreExact, AreShaped, AreTold, GroupsAreKept, Knows, arrivals_to_come, is_blocked_at, is_there, is_unopened}
-use Rattle.workflow_runs.specs.HolderChanges.{StaysAs}
-use Rattle.workflow_runs.specs.RowsKept.{decided_in, holder_key_at, keys_decided}
+use Rattle.workflow_runs.specs.inner.GroupsKept.{AreExact, AreShaped, AreTold, GroupsAreKept, Knows, arrivals_to_come, is_blocked_at, is_there, is_unopened}
+use Rattle.workflow_runs.specs.inner.HolderChanges.{StaysAs}
+use Rattle.workflow_runs.specs.inner.RowsKept.{decided_in, holder_key_at, keys_decided}
 use Rattle.workflow_runs.proofs.GroupsHeld.{Entries}
 use Rattle.workflow_runs.proofs.HoldersThere.{one_of, tells, there_if_holds, there_if_new, there_if_waits}
 use Rattle.workflow_runs.proofs.OneChange.{cancels_stay, some_is}

@@ -5,7 +5,7 @@ use Rattle.std.proofs.Common.{arith, ap, sym, ◌∙◌}
 use Rattle.std.proofs.lemmas.Option.{same_Some, slice_get-map}
 use Rattle.run_plan.specs.PlanOf.{plan_of}
 use Rattle.run_plan.specs.declared.planned.PlannedJob.{PlannedJob}
-use Rattle.run_states.specs.Cells.{HaveTheirRoom, JobCells, legs_planned, rooms}
+use Rattle.run_states.specs.inner.Cells.{HaveTheirRoom, JobCells, legs_planned, rooms}
 use Rattle.run_states.specs.Places.{run_at}
 use Rattle.run_states.specs.RunState.{RunState}
 use Rattle.run_states.specs.Words.{planned_legs}

@@ -17,7 +17,7 @@ use Rattle.run_states.specs.declared.change.Change.TheVariants as change
 use Rattle.run_states.proofs.JobKeeps.{leg_elsewhere, leg_in, with_job_of, with_leg_of}
 use Rattle.run_states.proofs.LeaseReads.{place_or_another}
 use Rattle.run_states.proofs.Transitions.{with_leg_none}
-use Rattle.run_bindings.specs.LabelNumbers.{IsReadyAt}
+use Rattle.run_bindings.specs.inner.LabelNumbers.{IsReadyAt}
 use Rattle.settling_laws.proofs.HoldersFade.{Weakens, job_passes, leg_before, leg_change_weakens, leg_passes, passed_changed, passed_map}
 use Rattle.settling_laws.proofs.HoldersFade.{passes}
 use Rattle.settling_laws.proofs.OneEachRules.{replicate_fails}

@@ -9,8 +9,8 @@ use Rattle.run_states.specs.declared.holder.Holder.{Holder}
 use Rattle.run_bindings.specs.Bindings.{AreBound}
 use Rattle.run_bindings.specs.GroupKeys.{arrivals_of}
 use Rattle.run_bindings.specs.declared.bindings.RunBindings.{RunBindings}
-use Rattle.workflow_runs.specs.Begun.{AddsOrStays, HasAdded, IsBegun}
-use Rattle.workflow_runs.specs.RowsKept.{RowState}
+use Rattle.workflow_runs.specs.inner.Begun.{AddsOrStays, HasAdded, IsBegun}
+use Rattle.workflow_runs.specs.inner.RowsKept.{RowState}
 use Rattle.workflow_runs.proofs.ArrivalsToCome.{expected_added}
 use Rattle.workflow_runs.proofs.ToldMore.{older_added, tickets_added, told_added}
 

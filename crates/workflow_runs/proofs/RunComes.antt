@@ -29,8 +29,8 @@ use Rattle.workflow_runs.proofs.HoldersOfRuns.{same_holds}
 use Rattle.settling_laws.proofs.KeptBack.{RunsStillFor, runs_still}
 use Rattle.settling_laws.proofs.GroupStays.{same_group}
 use Rattle.settling_laws.proofs.SoundRuns.{runs_that_fit}
-use Rattle.workflow_runs.specs.Arriving.{ExactBeside, waits_beside}
-use Rattle.workflow_runs.specs.GroupsKept.{AreExact, is_there}
+use Rattle.workflow_runs.specs.inner.Arriving.{ExactBeside, waits_beside}
+use Rattle.workflow_runs.specs.inner.GroupsKept.{AreExact, is_there}
 use Rattle.workflow_runs.proofs.Arriving.{itself_beside, others_as_before}
 use Rattle.workflow_runs.proofs.DueStill.{events_after}
 use Rattle.workflow_runs.proofs.GroupsHeld.{Entries}

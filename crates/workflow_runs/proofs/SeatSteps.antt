@@ -12,7 +12,7 @@ use Rattle.run_states.specs.declared.holder.Holder.TheVariants.{Run, Leg}
 use Rattle.run_states.specs.declared.place.LegSite.{LegSite}
 use Rattle.run_bindings.specs.GroupKeys.{ticket_in}
 use Rattle.run_bindings.specs.declared.bindings.RunBindings.{RunBindings}
-use Rattle.workflow_runs.specs.Seating.{HaveKeys, OneIsTaken, TakeSeats, in_job, is_of, jobs_below, legs_below, legs_of_run, runs_below}
+use Rattle.workflow_runs.specs.inner.Seating.{HaveKeys, OneIsTaken, TakeSeats, in_job, is_of, jobs_below, legs_below, legs_of_run, runs_below}
 use Rattle.workflow_runs.specs.declared.runs.of.GroupSlot.{GroupSlot}
 use Rattle.workflow_runs.proofs.GroupsHeld.{Entries}
 use Rattle.workflow_runs.proofs.Seating.{alike, nobody_seated, seated_then, taken_then}

@@ -17,10 +17,10 @@ use Rattle.run_bindings.specs.GroupKeys.{ticket_in}
 use Rattle.run_bindings.specs.declared.bindings.RunBindings.{RunBindings}
 use Rattle.workflow_runs.proofs.SpentKeys.{one_each}
 use Rattle.settling_laws.proofs.ArrivalKeeps.{itself}
-use Rattle.workflow_runs.specs.GroupsKept.{AreExact, AreTold, is_there}
-use Rattle.workflow_runs.specs.BookSteps.{Begins}
-use Rattle.workflow_runs.specs.RowsKept.{holder_key_at, key_at, keys_spent}
-use Rattle.workflow_runs.specs.Seating.{AreApart, AreSeated, AreSeatedOrTaken, BeginsIf, HasSeats, NobodyIsBeside, OneIsTaken, SitsDown, TakeSeats, beside_slot, in_slot, is_of}
+use Rattle.workflow_runs.specs.inner.GroupsKept.{AreExact, AreTold, is_there}
+use Rattle.workflow_runs.specs.inner.BookSteps.{Begins}
+use Rattle.workflow_runs.specs.inner.RowsKept.{holder_key_at, key_at, keys_spent}
+use Rattle.workflow_runs.specs.inner.Seating.{AreApart, AreSeated, AreSeatedOrTaken, BeginsIf, HasSeats, NobodyIsBeside, OneIsTaken, SitsDown, TakeSeats, beside_slot, in_slot, is_of}
 use Rattle.workflow_runs.specs.declared.runs.of.GroupSlot.{GroupSlot}
 use Rattle.workflow_runs.specs.declared.runs.of.GroupSlot.TheVariants.{InProgress, Pending}
 use Rattle.workflow_runs.proofs.Arriving.{another}

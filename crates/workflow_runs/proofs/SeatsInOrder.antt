@@ -14,8 +14,8 @@ use Rattle.run_states.specs.declared.holder.Holder.TheVariants.{Run, Leg}
 use Rattle.run_states.proofs.JobKeeps.{leg_in}
 use Rattle.run_states.proofs.Optional.{some_of}
 use Rattle.settling_laws.proofs.ArrivalKeeps.{holder_tested}
-use Rattle.workflow_runs.specs.GroupsKept.{is_there}
-use Rattle.workflow_runs.specs.Seating.{in_job, is_of, jobs_below, legs_below, legs_of_run, runs_below}
+use Rattle.workflow_runs.specs.inner.GroupsKept.{is_there}
+use Rattle.workflow_runs.specs.inner.Seating.{in_job, is_of, jobs_below, legs_below, legs_of_run, runs_below}
 use Rattle.workflow_runs.specs.declared.runs.of.GroupSlot.{GroupSlot}
 use Rattle.workflow_runs.specs.declared.runs.of.GroupSlot.TheVariants.{InProgress, Pending}
 use Rattle.workflow_runs.proofs.HoldersThere.{there_if_holds, there_if_waits, within_there}

@@ -11,8 +11,8 @@ use Rattle.run_bindings.specs.declared.bindings.RunBindings.{RunBindings}
 use Rattle.run_bindings.specs.declared.group_keys.HolderKey.{HolderKey}
 use Rattle.run_states.specs.Holders.{run_of}
 use Rattle.run_bindings.specs.GroupKeys.{with_spent}
-use Rattle.workflow_runs.specs.GroupsKept.{AreShaped}
-use Rattle.workflow_runs.specs.RowsKept.{keys_spent}
+use Rattle.workflow_runs.specs.inner.GroupsKept.{AreShaped}
+use Rattle.workflow_runs.specs.inner.RowsKept.{keys_spent}
 
 abbrev IsShaped : RunBindings → Type 0
 IsShaped b = length b.keys.jobs ≡ length b.jobs

@@ -9,7 +9,7 @@ use Rattle.run_states.specs.FirstOf.{changed_at}
 use Rattle.run_states.specs.Groups.{holds, leg_holds, leg_waits, waits}
 use Rattle.run_states.specs.Holders.{run_of}
 use Rattle.run_states.specs.Places.{job_at, leg_at}
-use Rattle.run_states.specs.Resuming.{is_new_at}
+use Rattle.run_states.specs.inner.Resuming.{is_new_at}
 use Rattle.run_states.specs.RunState.{JobState, LegState, RunState}
 use Rattle.run_states.specs.StateWords.{is_blocked, is_new}
 use Rattle.run_states.specs.declared.holder.Holder.{Holder}
@@ -26,8 +26,8 @@ use Rattle.run_bindings.specs.declared.group_keys.HolderKey.{HolderKey}
 use Rattle.run_bindings.specs.declared.group_keys.HolderKey.TheVariants.{Known}
 use Rattle.run_bindings.specs.declared.group_keys.KnownGroup.{KnownGroup}
 use Rattle.workflow_runs.proofs.SpentKeys.{arrivals_spent, key_spent, known_spent, one_each, spent_elsewhere, spent_here, sum_lowered}
-use Rattle.workflow_runs.specs.GroupsKept.{AreTold, Knows, arrivals_to_come, is_blocked_at, is_there, is_unopened}
-use Rattle.workflow_runs.specs.RowsKept.{holder_key_at, keys_spent}
+use Rattle.workflow_runs.specs.inner.GroupsKept.{AreTold, Knows, arrivals_to_come, is_blocked_at, is_there, is_unopened}
+use Rattle.workflow_runs.specs.inner.RowsKept.{holder_key_at, keys_spent}
 use Rattle.workflow_runs.proofs.Shaped.{shaped_spent}
 use Rattle.workflow_runs.proofs.HoldersThere.{tells, there_if_holds, there_if_waits}
 

@@ -10,7 +10,7 @@ use Rattle.definitions.specs.Admitted.{Admitted}
 use Rattle.label_lists.specs.Lists.{ListsState, OnlyGrows}
 use Rattle.run_marks.specs.Bits.{Puts}
 use Rattle.run_marks.specs.Marked.{SameMarks}
-use Rattle.run_states.specs.ActiveRuns.{is_active}
+use Rattle.run_states.specs.inner.ActiveRuns.{is_active}
 use Rattle.run_states.specs.FirstOf.{changed_at}
 use Rattle.run_states.specs.GroupOf.{RunFacts, run_facts_at}
 use Rattle.run_states.specs.RunNumber.{AreNumbered, events, number_of_next, numbers_after, run_number, same_workflow}
@@ -19,15 +19,16 @@ use Rattle.run_states.proofs.Changed.{at_another, at_changed}
 use Rattle.run_states.proofs.LegFacts.{attempt_at}
 use Rattle.run_states.proofs.Optional.{from_map}
 use Rattle.run_bindings.specs.Bindings.{AreBound, RunSays}
-use Rattle.run_bindings.specs.LabelNumbers.{AreListsOf, IsOffered, JobsOffer, LegsAreOffered, OnlyPuts}
+use Rattle.run_bindings.specs.LabelNumbers.{AreListsOf}
+use Rattle.run_bindings.specs.inner.LabelNumbers.{IsOffered, JobsOffer, LegsAreOffered, OnlyPuts}
 use Rattle.run_bindings.specs.declared.bindings.RunBindings.{RunBindings}
 use Rattle.run_bindings.proofs.Binding.{one_more as one_more_bound}
 use Rattle.run_bindings.proofs.BoundSays.{facts_of_run, run_told}
 use Rattle.settling_laws.proofs.GroupStays.{run_facts_stay}
 use Rattle.indexmap.specs.IndexMap.{get_by_text}
-use Rattle.workflow_runs.specs.Counted.{AreCounted, count_of}
-use Rattle.workflow_runs.specs.Delivered.{FindsFirst}
-use Rattle.workflow_runs.specs.RowsKept.{RunsAreKept}
+use Rattle.workflow_runs.specs.inner.Counted.{AreCounted, count_of}
+use Rattle.workflow_runs.specs.inner.Delivered.{FindsFirst}
+use Rattle.workflow_runs.specs.inner.RowsKept.{RunsAreKept}
 use Rattle.workflow_runs.specs.declared.rows.index.Index.{Index}
 use Rattle.workflow_runs.proofs.Indexed.{finds_the_same}
 use Rattle.workflow_runs.proofs.LegsOffered.{offered_grown, offered_with}

@@ -26,7 +26,7 @@ use Rattle.run_states.proofs.StoppedRuns.{all_jobs_stopped, is_to_stop, job_that
 use Rattle.run_states.proofs.Transitions.{changed_none, changed_same}
 use Rattle.settling_laws.proofs.HoldersKeep.{leg_stop_settles}
 use Rattle.settling_laws.proofs.SoundRuns.{runs_that_fit, sound_runs}
-use Rattle.workflow_runs.specs.HolderChanges.{ChangesNobody}
+use Rattle.workflow_runs.specs.inner.HolderChanges.{ChangesNobody}
 use Rattle.workflow_runs.proofs.OneChange.{asked, asked_adds, asked_keeps, changes_nobody}
 use Rattle.workflow_runs.proofs.OneHolder.{leg_within}
 

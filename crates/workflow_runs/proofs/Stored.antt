@@ -11,10 +11,10 @@ use Rattle.run_states.specs.declared.holder.Holder.TheVariants.{Run, Leg}
 use Rattle.run_states.proofs.Found.{before_the_end}
 use Rattle.run_bindings.specs.GroupKeys.{holder_key, ticket_in}
 use Rattle.run_bindings.specs.declared.bindings.RunBindings.{RunBindings}
-use Rattle.workflow_runs.specs.Begun.{HaveTickets}
-use Rattle.workflow_runs.specs.GroupsKept.{AreTold, arrivals_to_come, is_there}
-use Rattle.workflow_runs.specs.RowsKept.{RowState}
-use Rattle.workflow_runs.specs.Seating.{AreStored}
+use Rattle.workflow_runs.specs.inner.Begun.{HaveTickets}
+use Rattle.workflow_runs.specs.inner.GroupsKept.{AreTold, arrivals_to_come, is_there}
+use Rattle.workflow_runs.specs.inner.RowsKept.{RowState}
+use Rattle.workflow_runs.specs.inner.Seating.{AreStored}
 use Rattle.workflow_runs.proofs.HoldersThere.{within_there}
 use Rattle.workflow_runs.proofs.MarkedRuns.{events_before}
 use Rattle.settling_laws.proofs.GroupStays.{same_group}

@@ -10,7 +10,7 @@ use Rattle.std.proofs.lemmas.Option.{same_Some, slice_get-map}
 use Rattle.run_plan.specs.PlanOf.{plan_of}
 use Rattle.run_plan.specs.declared.planned.PlannedJob.{PlannedJob}
 use Rattle.run_plan.proofs.FewLegs.{few_planned}
-use Rattle.run_states.specs.Cells.{JobCells, legs_planned, rooms, states}
+use Rattle.run_states.specs.inner.Cells.{JobCells, legs_planned, rooms, states}
 use Rattle.run_states.specs.Changes.{changed}
 use Rattle.run_states.specs.FirstOf.{changed_at}
 use Rattle.run_states.specs.RunState.{JobState, LegState, RunState}

@@ -12,7 +12,7 @@ use Rattle.run_states.specs.GroupOf.{group_at}
 use Rattle.run_states.specs.Holders.{run_of}
 use Rattle.run_states.specs.NewRun.{again, blocked_job}
 use Rattle.run_states.specs.Places.{run_at, with_run}
-use Rattle.run_states.specs.Resuming.{is_new_at}
+use Rattle.run_states.specs.inner.Resuming.{is_new_at}
 use Rattle.run_states.specs.RunNumber.{events}
 use Rattle.run_states.specs.RunState.{JobState, LegState, RunState}
 use Rattle.run_states.specs.StateWords.{is_blocked, is_new}
@@ -30,9 +30,9 @@ use Rattle.run_bindings.specs.declared.group_keys.HolderKey.{HolderKey}
 use Rattle.run_bindings.specs.declared.group_keys.HolderKey.TheVariants.{NoGroup}
 use Rattle.run_bindings.proofs.BoundSays.{SaysBoth, said_there}
 use Rattle.settling_laws.proofs.GroupStays.{same_flag, same_group}
-use Rattle.workflow_runs.specs.Begun.{AreKnownIf, HaveTickets, IsBegun, IsBegunBelow, has_legs_at}
-use Rattle.workflow_runs.specs.GroupsKept.{AreTold, Knows, is_blocked_at, is_there, is_unopened}
-use Rattle.workflow_runs.specs.RowsKept.{holder_key_at}
+use Rattle.workflow_runs.specs.inner.Begun.{AreKnownIf, HaveTickets, IsBegun, IsBegunBelow, has_legs_at}
+use Rattle.workflow_runs.specs.inner.GroupsKept.{AreTold, Knows, is_blocked_at, is_there, is_unopened}
+use Rattle.workflow_runs.specs.inner.RowsKept.{holder_key_at}
 use Rattle.workflow_runs.proofs.Begun.{begun_has_ticket, begun_knows}
 use Rattle.workflow_runs.proofs.DueStill.{events_after}
 use Rattle.workflow_runs.proofs.HoldersThere.{there_if_new, within_there}

@@ -1,11 +1,2 @@
-pub mod Arriving
-pub mod Begun
-pub mod BookSteps
-pub mod Counted
-pub mod Delivered
-pub mod GroupsKept
-pub mod HolderChanges
-pub mod MarkedRuns
-pub mod RowsKept
-pub mod Seating
 pub mod StoredSizes
+pub mod inner

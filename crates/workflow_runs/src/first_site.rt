@@ -2,7 +2,7 @@
 
 ghost use Rattle.std.specs.Prelude.{◌≡◌, ◌+◌, ◌<◌, ◌^◌, Some, option_map};
 ghost use Rattle.std.specs.List.{list_all};
-ghost use Rattle.run_states.specs.Cells.{states};
+ghost use Rattle.run_states.specs.inner.Cells.{states};
 ghost use Rattle.run_states.specs.Resuming.{JobsRestBefore, NoneBefore, apply_at};
 ghost use Rattle.run_states.specs.Places.{job_at, leg_at, run_at};
 ghost use Rattle.run_states.specs.RunState.{RunState};

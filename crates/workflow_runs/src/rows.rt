@@ -21,10 +21,10 @@ ghost use Rattle.run_states.specs.NewRun.{is_delivered_as};
 ghost use Rattle.run_states.specs.Groups.{holds, waits};
 ghost use Rattle.run_states.specs.Places.{job_at, leg_at, run_at, with_run};
 ghost use Rattle.run_states.specs.RunNumber.{events, number_of_next, run_number};
-ghost use Rattle.workflow_runs.specs.Begun.{AddsOrStays, IsBegun, IsBegunBelow, has_legs_at};
-ghost use Rattle.workflow_runs.specs.GroupsKept.{arrivals_to_come};
+ghost use Rattle.workflow_runs.specs.inner.Begun.{AddsOrStays, IsBegun, IsBegunBelow, has_legs_at};
+ghost use Rattle.workflow_runs.specs.inner.GroupsKept.{arrivals_to_come};
 ghost use Rattle.workflow_runs.specs.StoredSizes.{max_run_size, run_size};
-ghost use Rattle.workflow_runs.specs.RowsKept.{IsUndecided, decided_in, holder_key_at, key_at, keys_decided, keys_spent};
+ghost use Rattle.workflow_runs.specs.inner.RowsKept.{IsUndecided, decided_in, holder_key_at, key_at, keys_decided, keys_spent};
 
 mod active;
 pub(crate) mod counts;
@@ -65,7 +65,7 @@ pub(crate) struct Rows {
 }
 
 impl Model for Rows {
-    ghost use Rattle.workflow_runs.specs.RowsKept.{RowState, RunsAreKept};
+    ghost use Rattle.workflow_runs.specs.inner.RowsKept.{RowState, RunsAreKept};
     ghost use Rattle.workflow_runs.specs.StoredSizes.{IsSizeOf};
 
     ghost Value = { RowState };

@@ -48,8 +48,8 @@ pub struct Runs {
 impl Model for Runs {
     ghost use Rattle.std.specs.Prelude.{List};
     ghost use Rattle.run_states.specs.RunState.{RunState};
-    ghost use Rattle.workflow_runs.specs.GroupsKept.{GroupsAreKept};
-    ghost use Rattle.workflow_runs.specs.MarkedRuns.{AreMarked, is_due};
+    ghost use Rattle.workflow_runs.specs.inner.GroupsKept.{GroupsAreKept};
+    ghost use Rattle.workflow_runs.specs.inner.MarkedRuns.{AreMarked, is_due};
 
     ghost Value = { List RunState };
 

@@ -3,7 +3,7 @@
 ghost use Rattle.std.specs.Prelude.{◌≡◌, ◌<◌, ◌^◌, IfSome, map};
 ghost use Rattle.std.specs.Iterator.{YieldsFirstBy, item_count};
 ghost use Rattle.run_states.specs.FirstOf.{placed};
-ghost use Rattle.run_states.specs.PlacedLegs.{placed_leg, placed_legs, placed_legs_of_run};
+ghost use Rattle.run_states.specs.inner.PlacedLegs.{placed_leg, placed_legs, placed_legs_of_run};
 
 use crate::runs::Runs;
 use run_states::{Job, Leg, LegSite, Run};
@@ -25,7 +25,7 @@ pub struct Legs<'a> {
 
 impl<'a> Model for Legs<'a> {
     ghost use Rattle.std.specs.Prelude.{List};
-    ghost use Rattle.run_states.specs.PlacedLegs.{Fits, PlacedLeg, to_come};
+    ghost use Rattle.run_states.specs.inner.PlacedLegs.{Fits, PlacedLeg, to_come};
 
     ghost Value = { List PlacedLeg };
 

@@ -1,10 +1,10 @@
 //! For each job of a run, the number of its direct needs that have not finished. Each job keeps its count, so opening a job reads no list.
 
 ghost use Rattle.std.specs.Prelude.{◌≡◌, ◌≢◌, ◌-◌, ℕ, count_by, length, nat_eq};
-ghost use Rattle.run_states.specs.Cells.{rooms, states};
+ghost use Rattle.run_states.specs.inner.Cells.{rooms, states};
 ghost use Rattle.run_states.specs.FirstOf.{changed_at};
 ghost use Rattle.run_states.specs.JobResults.{results_so_far};
-ghost use Rattle.run_states.specs.NeedsLeft.{NamedOnce, NeedsAreLeft, needs_left_at, unfinished};
+ghost use Rattle.run_states.specs.inner.NeedsLeft.{NamedOnce, NeedsAreLeft, needs_left_at, unfinished};
 ghost use Rattle.run_states.specs.Rules.{finished_as};
 
 use crate::job::Job;

@@ -4,7 +4,7 @@ ghost use Rattle.std.specs.Prelude.{◌≡◌, IfOk, MatchOption, length};
 ghost use Rattle.wf_value.specs.Gives.{ErrsOnlyByMemory};
 ghost use Rattle.run_plan.specs.PlanOf.{plan_of};
 ghost use Rattle.run_states.specs.AsPlanned.{HaveRoom, IsAsPlanned};
-ghost use Rattle.run_states.specs.Cells.{legs_planned, rooms, states};
+ghost use Rattle.run_states.specs.inner.Cells.{legs_planned, rooms, states};
 
 use crate::job::Job;
 use crate::run::Run;

@@ -9,7 +9,7 @@ ghost use Rattle.run_states.specs.Sound.{IsSound};
 ghost use Rattle.run_states.specs.Places.{run_at};
 ghost use Rattle.run_states.specs.Step.{claim_answer, claimed, claiming, claiming_runner, is_allocation_free, kept_lease_at};
 ghost use Rattle.run_states.specs.Step.{lease_answer, lease_at, leasing, outcome, serving_nothing, unchanged};
-ghost use Rattle.run_table.specs.IndexNamed.{index_named};
+ghost use Rattle.run_table.specs.inner.IndexNamed.{index_named};
 ghost use Rattle.run_plan.specs.declared.last_command.ClaimReply.TheVariants as given;
 
 use crate::leases::kept_lease;

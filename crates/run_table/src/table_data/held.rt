@@ -1,7 +1,7 @@
 //! Finds the leg of a lease that a runner holds.
 
 ghost use Rattle.std.specs.Prelude.{◌≡◌, ◌<◌, ◌^◌, IfSome, option_and_then};
-ghost use Rattle.run_states.specs.KeptSite.{kept_site};
+ghost use Rattle.run_states.specs.inner.KeptSite.{kept_site};
 ghost use Rattle.run_states.specs.Sound.{IsSound};
 ghost use Rattle.run_states.specs.Fitting.{OnlyAtWork, site_of_lease};
 

@@ -8,7 +8,7 @@ ghost use Rattle.run_states.specs.SoundRuns.{RunsAreSound};
 ghost use Rattle.run_states.specs.Step.{is_allocation_free, losing, loss_answer, lost, outcome};
 ghost use Rattle.run_states.specs.StopMoves.{with_ended};
 ghost use Rattle.run_states.specs.Stops.{outcome_of_loss};
-ghost use Rattle.run_table.specs.IndexNamed.{index_named};
+ghost use Rattle.run_table.specs.inner.IndexNamed.{index_named};
 
 use crate::runner::Runner;
 use crate::table_data::{TableData, refused};

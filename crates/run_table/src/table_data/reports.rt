@@ -4,7 +4,7 @@ ghost use Rattle.std.specs.Prelude.{◌≡◌, true, Ok, OnErr, IsOk};
 ghost use Rattle.wf_value.specs.Gives.{Gives};
 ghost use Rattle.run_states.specs.Sound.{IsSound};
 ghost use Rattle.run_states.specs.Step.{is_allocation_free, outcome, report_answer, reported, reporting};
-ghost use Rattle.run_table.specs.IndexNamed.{index_named};
+ghost use Rattle.run_table.specs.inner.IndexNamed.{index_named};
 
 use crate::runner::{Runner, holds_this};
 use crate::sequence_numbers::answer_to_report;

@@ -4,8 +4,8 @@ ghost use Rattle.std.specs.BTreeMap.{get};
 ghost use Rattle.std.specs.Ordering.{nat_cmp};
 ghost use Rattle.std.specs.Prelude.{◌≡◌, ℕ, IfOk, OnOk, Some};
 ghost use Rattle.wf_value.specs.Gives.{ErrsOnlyByMemory};
-ghost use Rattle.stored_tables.specs.ByLease.{lease_of_leg, lease_of_runner};
-ghost use Rattle.stored_tables.specs.ByNumber.{Adds, Finds};
+ghost use Rattle.stored_tables.specs.inner.ByLease.{lease_of_leg, lease_of_runner};
+ghost use Rattle.stored_tables.specs.inner.ByNumber.{Adds, Finds};
 
 use run_plan::Number;
 use run_states::LegSite;

@@ -3,7 +3,7 @@
 
 ghost use Rattle.std.specs.Bool.{Decides};
 ghost use Rattle.std.specs.Prelude.{◌≡◌, Some};
-ghost use Rattle.stored_tables.specs.OneByOne.{EachRunnerIsSound, HoldsWork, RunnerIsSound, is_worked_on, runner_of};
+ghost use Rattle.stored_tables.specs.inner.OneByOne.{EachRunnerIsSound, HoldsWork, RunnerIsSound, is_worked_on, runner_of};
 ghost use Rattle.run_states.specs.Sound.{IsLastOf};
 
 use crate::sound::leases::Leases;

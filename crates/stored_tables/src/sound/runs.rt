@@ -4,7 +4,7 @@
 ghost use Rattle.std.specs.Bool.{Decides};
 ghost use Rattle.std.specs.Prelude.{◌≡◌};
 ghost use Rattle.std.specs.List.{list_all};
-ghost use Rattle.stored_tables.specs.OneByOne.{EachRunIsSound, RunIsSound};
+ghost use Rattle.stored_tables.specs.inner.OneByOne.{EachRunIsSound, RunIsSound};
 ghost use Rattle.run_states.specs.Sound.{AttemptIsGiven};
 ghost use Rattle.run_states.specs.SoundRuns.{PhaseFits};
 ghost use Rattle.run_states.specs.StateWords.{is_blocked};

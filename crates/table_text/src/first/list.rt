@@ -1,7 +1,7 @@
 //! Consecutive values of the first layout at the front of bytes.
 
 ghost use Rattle.std.specs.Prelude.{ℕ, List, Option};
-ghost use Rattle.command_encodings.specs.Reading.{Finds, items_at};
+ghost use Rattle.command_encodings.specs.inner.Reading.{Finds, items_at};
 
 use command_encodings::DecodeError;
 use std::alloc::Global;

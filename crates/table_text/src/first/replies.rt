@@ -1,7 +1,7 @@
 //! The kept reply to a last command, in the first layout.
 
-ghost use Rattle.command_encodings.specs.Reading.{Finds};
-ghost use Rattle.table_text.specs.ReadingFirst.{first_kept_at, first_kept_of};
+ghost use Rattle.command_encodings.specs.inner.Reading.{Finds};
+ghost use Rattle.table_text.specs.inner.ReadingFirst.{first_kept_at, first_kept_of};
 
 use crate::kept::StoredReply;
 use crate::lease_fields::{lease_at, optional_lease};
@@ -22,7 +22,7 @@ fn first_kept_of(reply: u8, lease: Option<Number>) -> Result<StoredReply, Decode
 }
 
 /// The kept reply at the front of the bytes, and the bytes after it.
-#[tactic(auto, unfolding(crate::specs::ReadingFirst::first_kept_at))]
+#[tactic(auto, unfolding(crate::specs::inner::ReadingFirst::first_kept_at))]
 pub(crate) fn first_kept_at(bytes: &[u8]) -> Result<(StoredReply, &[u8]), DecodeError>
     ensures { Finds (λ f. (f.0, f.1.now)) result (first_kept_at bytes.now) }
 {

@@ -1,7 +1,7 @@
 //! The runners of a table of the first layout.
 
-ghost use Rattle.command_encodings.specs.Reading.{Finds};
-ghost use Rattle.table_text.specs.ReadingFirst.{first_last_at, first_runner_at, first_runners_at};
+ghost use Rattle.command_encodings.specs.inner.Reading.{Finds};
+ghost use Rattle.table_text.specs.inner.ReadingFirst.{first_last_at, first_runner_at, first_runners_at};
 
 use super::list::{ReadFirstAt, first_list_at};
 use super::replies::first_kept_at;
@@ -13,7 +13,7 @@ use std::alloc::Global;
 use stored_tables::{LastParts, RunnerParts};
 
 /// The last command of a runner with its kept reply.
-#[tactic(auto, unfolding(crate::specs::ReadingFirst::first_last_at))]
+#[tactic(auto, unfolding(crate::specs::inner::ReadingFirst::first_last_at))]
 fn first_last_at(alloc: Global, bytes: &[u8]) -> Result<(LastParts, &[u8]), DecodeError>
     ensures { Finds (λ f. (f.0, f.1.now)) result (first_last_at bytes.now) }
 {
@@ -30,7 +30,7 @@ fn first_last_at(alloc: Global, bytes: &[u8]) -> Result<(LastParts, &[u8]), Deco
 impl ReadFirstAt for RunnerParts {
     ghost first_prefix_at = { first_runner_at };
 
-    #[tactic(auto, unfolding(crate::specs::ReadingFirst::first_runner_at))]
+    #[tactic(auto, unfolding(crate::specs::inner::ReadingFirst::first_runner_at))]
     fn read_first_at(alloc: Global, bytes: &[u8]) -> Result<(RunnerParts, &[u8]), DecodeError> {
         let (name, rest) = small_text_at::<RunnerForm>(alloc, bytes)?;
         let (number, rest) = number_at(rest)?;
@@ -47,7 +47,7 @@ impl ReadFirstAt for RunnerParts {
 }
 
 /// The counted runners, and the bytes after them.
-#[tactic(auto, unfolding(crate::specs::ReadingFirst::first_runners_at))]
+#[tactic(auto, unfolding(crate::specs::inner::ReadingFirst::first_runners_at))]
 pub(super) fn first_runners_at(
     alloc: Global,
     bytes: &[u8],

@@ -1,7 +1,7 @@
 //! The runs of a table of the first layout. Each is at its first attempt.
 
-ghost use Rattle.command_encodings.specs.Reading.{Finds};
-ghost use Rattle.table_text.specs.ReadingFirst.{first_run_at, first_runs_at};
+ghost use Rattle.command_encodings.specs.inner.Reading.{Finds};
+ghost use Rattle.table_text.specs.inner.ReadingFirst.{first_run_at, first_runs_at};
 
 use super::list::{ReadFirstAt, first_list_at};
 use crate::phases_at::{flag_at, run_phase_at};
@@ -15,7 +15,7 @@ use wf_value::Sequence;
 impl ReadFirstAt for RunParts {
     ghost first_prefix_at = { first_run_at };
 
-    #[tactic(auto, unfolding(crate::specs::ReadingFirst::first_run_at, crate::specs::ReadingFirst::first_course_at))]
+    #[tactic(auto, unfolding(crate::specs::inner::ReadingFirst::first_run_at, crate::specs::inner::ReadingFirst::first_course_at))]
     fn read_first_at(alloc: Global, bytes: &[u8]) -> Result<(RunParts, &[u8]), DecodeError> {
         let (prepared, rest) = admit_at(alloc, bytes)?;
         let (phase, rest) = run_phase_at(rest)?;
@@ -33,7 +33,7 @@ impl ReadFirstAt for RunParts {
 }
 
 /// The counted runs, and the bytes after them.
-#[tactic(auto, unfolding(crate::specs::ReadingFirst::first_runs_at))]
+#[tactic(auto, unfolding(crate::specs::inner::ReadingFirst::first_runs_at))]
 pub(super) fn first_runs_at(
     alloc: Global,
     bytes: &[u8],

@@ -1,7 +1,7 @@
 //! The parts of a table of the first layout.
 
-ghost use Rattle.command_encodings.specs.Reading.{Finds};
-ghost use Rattle.table_text.specs.ReadingFirst.{first_table_at};
+ghost use Rattle.command_encodings.specs.inner.Reading.{Finds};
+ghost use Rattle.table_text.specs.inner.ReadingFirst.{first_table_at};
 
 use super::runners::first_runners_at;
 use super::runs::first_runs_at;
@@ -12,7 +12,7 @@ use stored_tables::TableParts;
 use wf_value::Sequence;
 
 /// The parts of a table at the front of the bytes, and the bytes after them.
-#[tactic(auto, unfolding(crate::specs::ReadingFirst::first_table_at))]
+#[tactic(auto, unfolding(crate::specs::inner::ReadingFirst::first_table_at))]
 pub(super) fn first_table_at(
     alloc: Global,
     bytes: &[u8],

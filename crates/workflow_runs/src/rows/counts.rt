@@ -6,7 +6,7 @@ ghost use Rattle.indexmap.specs.IndexMap.{spare};
 ghost use Rattle.wf_value.specs.Gives.{ErrsOnlyByMemory};
 ghost use Rattle.definitions.specs.Admitted.{Admitted};
 ghost use Rattle.run_states.specs.RunNumber.{same_workflow};
-ghost use Rattle.workflow_runs.specs.Counted.{count_of};
+ghost use Rattle.workflow_runs.specs.inner.Counted.{count_of};
 
 use crate::rows::workflow::Workflow;
 use indexmap::IndexMap;

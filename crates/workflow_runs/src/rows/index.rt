@@ -6,9 +6,9 @@ ghost use Rattle.indexmap.specs.IndexMap.{get_by_text, spare};
 ghost use Rattle.wf_value.specs.Gives.{ErrsOnlyByMemory, Gives};
 ghost use Rattle.definitions.specs.Admitted.{Admitted};
 ghost use Rattle.run_states.specs.RunNumber.{same_workflow};
-ghost use Rattle.run_bindings.specs.LabelNumbers.{LegsAreOffered};
-ghost use Rattle.workflow_runs.specs.Counted.{AreCounted, count_of};
-ghost use Rattle.workflow_runs.specs.Delivered.{FindsFirst};
+ghost use Rattle.run_bindings.specs.inner.LabelNumbers.{LegsAreOffered};
+ghost use Rattle.workflow_runs.specs.inner.Counted.{AreCounted, count_of};
+ghost use Rattle.workflow_runs.specs.inner.Delivered.{FindsFirst};
 
 use crate::rows::counts::Counts;
 use crate::rows::places::DeliveryIndexes;

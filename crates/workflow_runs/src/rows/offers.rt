@@ -5,11 +5,12 @@ ghost use Rattle.std.specs.Prelude.{◌≡◌, ◌≤◌, ◌<◌, ℕ, IfNone, 
 ghost use Rattle.label_lists.specs.Known.{IsBefore};
 ghost use Rattle.label_lists.specs.Lists.{HasPlace, may_offer};
 ghost use Rattle.std.specs.List.{list_any};
-ghost use Rattle.run_states.specs.Cells.{states};
+ghost use Rattle.run_states.specs.inner.Cells.{states};
 ghost use Rattle.run_states.specs.FirstOf.{placed};
 ghost use Rattle.run_states.specs.Fitting.{is_ready};
-ghost use Rattle.run_bindings.specs.LabelNumbers.{IsOffered, JobsOffer, LegsOffer, MayServe, OnlyMarks, OnlyPuts, ServesList, job_offers, leg_offers};
-ghost use Rattle.run_bindings.specs.LabelNumbers.{list_number, number_in, offers_list};
+ghost use Rattle.run_bindings.specs.inner.LabelNumbers.{IsOffered, JobsOffer, LegsOffer, MayServe, OnlyMarks, OnlyPuts, ServesList, job_offers, leg_offers};
+ghost use Rattle.run_bindings.specs.LabelNumbers.{list_number, number_in};
+ghost use Rattle.run_bindings.specs.inner.LabelNumbers.{offers_list};
 
 use label_lists::LabelLists;
 use run_bindings::label_numbers::list_number;

@@ -7,8 +7,8 @@ ghost use Rattle.run_states.specs.NewRun.{again};
 ghost use Rattle.run_states.specs.Places.{run_at, with_run};
 ghost use Rattle.run_states.specs.RunNumber.{events, run_number};
 ghost use Rattle.run_bindings.specs.GroupKeys.{arrivals_of};
-ghost use Rattle.workflow_runs.specs.Begun.{HaveTickets};
-ghost use Rattle.workflow_runs.specs.GroupsKept.{AreTold, arrivals_to_come};
+ghost use Rattle.workflow_runs.specs.inner.Begun.{HaveTickets};
+ghost use Rattle.workflow_runs.specs.inner.GroupsKept.{AreTold, arrivals_to_come};
 
 use crate::rows::offers::offer_run;
 use crate::rows::sizes::run_size;

@@ -4,7 +4,7 @@ ghost use Rattle.std.specs.Prelude.{◌≡◌, ◌+◌, ◌*◌, ◌≤◌, [], 
 ghost use Rattle.std.specs.List.{AllByRecursion};
 ghost use Rattle.definitions.specs.Limits.{max_jobs};
 ghost use Rattle.run_plan.specs.PlanOf.{faults_of, plan_of};
-ghost use Rattle.run_states.specs.Cells.{rooms, states};
+ghost use Rattle.run_states.specs.inner.Cells.{rooms, states};
 ghost use Rattle.run_states.specs.Changes.{changed};
 ghost use Rattle.run_states.specs.Settling.{legs_in_plan};
 ghost use Rattle.run_states.specs.declared.change.Change.TheVariants.{Open};

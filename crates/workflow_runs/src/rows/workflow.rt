@@ -9,7 +9,7 @@ ghost use Rattle.std.proofs.lemmas.Slice.Eq.{bytes_eq-Decides};
 ghost use Rattle.wf_value.specs.Gives.{Gives};
 ghost use Rattle.wf_reader.specs.Event.{event_of};
 ghost use Rattle.run_states.specs.RunNumber.{same_workflow};
-ghost use Rattle.workflow_runs.specs.Counted.{hashed};
+ghost use Rattle.workflow_runs.specs.inner.Counted.{hashed};
 
 use run_plan::Prepared;
 use std::alloc::AllocError;

@@ -8,10 +8,12 @@ ghost use Rattle.run_marks.specs.Marked.{Covers, is_marked};
 ghost use Rattle.run_states.specs.Arrivals.{arrived};
 ghost use Rattle.run_states.specs.GroupOf.{cancels_in_progress, group_at};
 ghost use Rattle.run_states.specs.Groups.{run_waits, waits};
-ghost use Rattle.run_states.specs.Holders.{first_conflicting, run_of};
+ghost use Rattle.run_states.specs.inner.Holders.{first_conflicting};
+ghost use Rattle.run_states.specs.Holders.{run_of};
 ghost use Rattle.run_states.specs.NewRun.{again};
 ghost use Rattle.run_states.specs.Places.{run_at, with_run};
-ghost use Rattle.run_states.specs.Resuming.{is_new_at, resume_at_arrival};
+ghost use Rattle.run_states.specs.inner.Resuming.{is_new_at};
+ghost use Rattle.run_states.specs.Resuming.{resume_at_arrival};
 ghost use Rattle.run_states.specs.Rules.{newcomer_rule};
 ghost use Rattle.run_states.specs.SoundRuns.{RunsAreSound};
 ghost use Rattle.run_states.specs.StopMoves.{stop_holder};
@@ -19,9 +21,9 @@ ghost use Rattle.run_states.specs.declared.holder.Holder.{Holder as HolderInWord
 ghost use Rattle.run_states.specs.declared.holder.Holder.TheVariants as held;
 ghost use Rattle.run_states.specs.declared.holder.HolderFilter.TheVariants.{InProgress, OthersPending};
 ghost use Rattle.run_states.specs.declared.phases.RunPhase.TheVariants as run;
-ghost use Rattle.workflow_runs.specs.Arriving.{KeptBeside, stopped_if, with_first_stopped};
-ghost use Rattle.workflow_runs.specs.GroupsKept.{GroupsAreKept};
-ghost use Rattle.workflow_runs.specs.MarkedRuns.{AreMarked, is_due};
+ghost use Rattle.workflow_runs.specs.inner.Arriving.{KeptBeside, stopped_if, with_first_stopped};
+ghost use Rattle.workflow_runs.specs.inner.GroupsKept.{GroupsAreKept};
+ghost use Rattle.workflow_runs.specs.inner.MarkedRuns.{AreMarked, is_due};
 
 use crate::rows::Rows;
 use crate::runs::Runs;

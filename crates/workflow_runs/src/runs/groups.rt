@@ -9,11 +9,11 @@ ghost use Rattle.run_states.specs.GroupOf.{RunFacts, group_at, run_facts_at};
 ghost use Rattle.run_states.specs.Groups.{all_holders, holds, is_in_progress_in, is_pending_in, may_start, waits};
 ghost use Rattle.run_states.specs.Holders.{run_of};
 ghost use Rattle.run_states.specs.Places.{run_at};
-ghost use Rattle.run_states.specs.Resuming.{makes_room};
+ghost use Rattle.run_states.specs.inner.Resuming.{makes_room};
 ghost use Rattle.run_states.specs.declared.holder.Holder.TheVariants as held;
 ghost use Rattle.run_bindings.specs.Bindings.{RunSays};
 ghost use Rattle.run_bindings.specs.BoundGroups.{results_by_index};
-ghost use Rattle.workflow_runs.specs.GroupsKept.{is_there};
+ghost use Rattle.workflow_runs.specs.inner.GroupsKept.{is_there};
 
 use crate::runs::Runs;
 use group_name::GroupKey;

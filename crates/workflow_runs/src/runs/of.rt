@@ -12,9 +12,9 @@ ghost use Rattle.run_states.specs.GroupWords.{same_holder};
 ghost use Rattle.run_states.specs.Groups.{HasOneEach};
 ghost use Rattle.run_states.specs.declared.holder.Holder.{Holder as HolderInWords};
 ghost use Rattle.run_bindings.specs.GroupKeys.{ticket_in};
-ghost use Rattle.workflow_runs.specs.RowsKept.{holder_key_at, key_at};
+ghost use Rattle.workflow_runs.specs.inner.RowsKept.{holder_key_at, key_at};
 ghost use Rattle.workflow_runs.specs.declared.runs.of.GroupSlot.TheVariants.{InProgress};
-ghost use Rattle.workflow_runs.specs.Seating.{AreSeatedOrTaken, AreStored, BeginsIf, HasSeats, HaveKeys, SitsDown, in_job, in_slot, is_of, legs_of_run};
+ghost use Rattle.workflow_runs.specs.inner.Seating.{AreSeatedOrTaken, AreStored, BeginsIf, HasSeats, HaveKeys, SitsDown, in_job, in_slot, is_of, legs_of_run};
 
 use crate::rows::Rows;
 use crate::runs::Runs;

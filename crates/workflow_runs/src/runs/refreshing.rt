@@ -4,14 +4,15 @@ ghost use Rattle.std.specs.Prelude.{◌≡◌, ℕ, ◌<◌, ◌≤◌, IfNone, 
 ghost use Rattle.std.specs.Bool.{Decides};
 ghost use Rattle.definitions.specs.Limits.{max_runs};
 ghost use Rattle.run_marks.specs.Marked.{is_marked};
-ghost use Rattle.run_states.specs.ActiveRuns.{is_active};
+ghost use Rattle.run_states.specs.inner.ActiveRuns.{is_active};
 ghost use Rattle.run_states.specs.Fitting.{first_fit};
 ghost use Rattle.run_states.specs.Resuming.{JobsRestBefore, RestBefore, apply_at};
 ghost use Rattle.run_states.specs.Places.{run_at};
 ghost use Rattle.run_states.specs.RunState.{RunState};
 ghost use Rattle.run_states.specs.Settling.{first_site};
-ghost use Rattle.run_states.specs.WithinRun.{first_in_run, fit_in_run};
-ghost use Rattle.settling_laws.specs.RunFacts.{is_so_at};
+ghost use Rattle.run_states.specs.WithinRun.{first_in_run};
+ghost use Rattle.run_states.specs.inner.WithinRun.{fit_in_run};
+ghost use Rattle.settling_laws.specs.inner.RunFacts.{is_so_at};
 
 use crate::first_site::first_in_run_at;
 use crate::fit::first_fit;

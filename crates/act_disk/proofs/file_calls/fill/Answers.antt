@@ -1,6 +1,6 @@
 use Rattle.std.proofs.Common.{◌≡◌, ◌+◌, ◌-◌, ◌≤◌, List, length, take, drop, sym, subst, rules, arith}
 use Rattle.std.proofs.lemmas.List.{places, length-take, length-drop}
-use Rattle.act_disk.specs.FileCalls.{Reads}
+use Rattle.act_disk.specs.inner.FileCalls.{Reads}
 use Rattle.act_disk.specs.SystemCalls.{FileCall, contents, IsHonest}
 use Rattle.act_disk.proofs.ReadLemmas.{read_more, gave_bytes, filled_more}
 use Rattle.act_disk.proofs.file_calls.fill.Goals as goal

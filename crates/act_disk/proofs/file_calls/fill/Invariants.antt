@@ -1,5 +1,5 @@
 use Rattle.std.proofs.Common.{◌≡◌, ◌-◌, ◌≤◌, length, take, drop, IsTrue}
-use Rattle.act_disk.specs.FileCalls.{Reads}
+use Rattle.act_disk.specs.inner.FileCalls.{Reads}
 use Rattle.act_disk.specs.SystemCalls.{is_sound, contents, IsHonest}
 use Rattle.act_disk.proofs.file_calls.fill.Given as goal
 

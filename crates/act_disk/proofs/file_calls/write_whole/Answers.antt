@@ -1,6 +1,6 @@
 use Rattle.std.proofs.Common.{◌≡◌, ◌+◌, ◌-◌, ◌≤◌, ◌∷◌, ℕ, List, length, take, drop, sym, subst, arith}
 use Rattle.std.proofs.lemmas.List.{length-drop, take_all}
-use Rattle.act_disk.specs.FileCalls.{Puts, MayHaveFailed}
+use Rattle.act_disk.specs.inner.FileCalls.{Puts, MayHaveFailed}
 use Rattle.act_disk.specs.SystemCalls.{FileCall, Wrote, WriteFailed}
 use Rattle.act_disk.proofs.WriteLemmas.{put_one, put_more, broke_first, broke_later}
 use Rattle.act_disk.proofs.file_calls.write_whole.Goals as goal

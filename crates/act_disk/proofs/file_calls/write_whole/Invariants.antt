@@ -1,5 +1,5 @@
 use Rattle.std.proofs.Common.{◌-◌, ◌<◌, ◌≤◌, length}
-use Rattle.act_disk.specs.FileCalls.{Puts}
+use Rattle.act_disk.specs.inner.FileCalls.{Puts}
 use Rattle.act_disk.proofs.file_calls.write_whole.Given as goal
 
 abbrev pub invariant-loop-count : goal.invariant-loop-count

@@ -1,7 +1,7 @@
 use Rattle.std.proofs.Common.{List, subst}
 use Rattle.act_sessions.specs.Exchange.{Exchange}
 use Rattle.act_loop.specs.declared.author.Author.{Author}
-use Rattle.act_loop.specs.Turns.{TakesTurn}
+use Rattle.act_loop.specs.inner.Turns.{TakesTurn}
 use Rattle.act_loop.proofs.TurnsSoFar.{turn_appended}
 use Rattle.act_loop.proofs.turns.append_turn.Goals as goal
 

@@ -2,7 +2,7 @@ use Rattle.std.proofs.Common.{Ok, subst, sym}
 use Rattle.std.specs.Prelude.{Option, Some}
 use Rattle.act_sessions.specs.Taking.{Finds}
 use Rattle.act_loop.specs.declared.pause.Pause.{Pause}
-use Rattle.act_loop.specs.Turns.{EndsRound, Moment}
+use Rattle.act_loop.specs.inner.Turns.{EndsRound, Moment}
 use Rattle.act_loop.proofs.TurnsSoFar.{round_ends}
 use Rattle.act_loop.proofs.turns.take_round.Goals as goal
 

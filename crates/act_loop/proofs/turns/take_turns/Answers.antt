@@ -1,7 +1,7 @@
 use Rattle.std.proofs.Common.{arith, inr, min, length, ℕ, ◌+◌, ◌<◌, ◌≡◌}
 use Rattle.std.specs.Prelude.{None}
 use Rattle.definitions.specs.Limits.{max_withheld}
-use Rattle.act_loop.specs.Turns.{EndsRound, Moment}
+use Rattle.act_loop.specs.inner.Turns.{EndsRound, Moment}
 use Rattle.act_loop.proofs.TurnsSoFar.{goes_pauses}
 use Rattle.act_loop.proofs.turns.take_turns.Goals as goal
 

@@ -1,4 +1,4 @@
-use Rattle.act_loop.specs.Turns.{Goes}
+use Rattle.act_loop.specs.inner.Turns.{Goes}
 use Rattle.act_loop.proofs.turns.take_turns.Given as goal
 
 abbrev pub invariant-rounds : goal.invariant-rounds

@@ -3,7 +3,7 @@ use Rattle.std.specs.Prelude.{Some, None}
 use Rattle.act_sessions.specs.declared.transcript.Ending.TheVariants.{Done}
 use Rattle.act_sessions.specs.declared.transcript.Part.TheVariants.{AwaitsInput, Over}
 use Rattle.act_sessions.specs.Session.{moment, first, IsPart}
-use Rattle.act_sessions.specs.Turns.{EndsRound, HasPaused}
+use Rattle.act_sessions.specs.inner.Turns.{EndsRound, HasPaused}
 use Rattle.act_sessions.proofs.Closing.{part_told}
 use Rattle.act_sessions.proofs.Going.{at, goes_start, gave_up}
 use Rattle.act_sessions.proofs.session.run_part.Goals as goal

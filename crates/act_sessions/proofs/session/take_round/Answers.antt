@@ -1,9 +1,9 @@
 use Rattle.std.proofs.Common.{Ok, Err}
 use Rattle.std.specs.Prelude.{Some, None}
 use Rattle.std.proofs.lemmas.Result.{err_from_is_err_and}
-use Rattle.act_sessions.specs.Hearing.{Awaits}
+use Rattle.act_sessions.specs.inner.Hearing.{Awaits}
 use Rattle.act_sessions.specs.Session.{moment}
-use Rattle.act_sessions.specs.Turns.{TakesTurn}
+use Rattle.act_sessions.specs.inner.Turns.{TakesTurn}
 use Rattle.act_sessions.proofs.Rounds.{round_heard, round_failed, round_at_end, round_waiting}
 use Rattle.act_sessions.proofs.session.take_round.Goals as goal
 

@@ -1,7 +1,7 @@
 use Rattle.std.proofs.Common.{List, ℕ, refl, ap, subst}
 use Rattle.act_sessions.specs.Exchange.{exchanges_in}
 use Rattle.act_sessions.specs.Session.{moment}
-use Rattle.act_sessions.specs.Turns.{Says}
+use Rattle.act_sessions.specs.inner.Turns.{Says}
 use Rattle.act_sessions.proofs.Turning.{turn_written, turn_starved}
 use Rattle.act_sessions.proofs.session.write_turn.Goals as goal
 

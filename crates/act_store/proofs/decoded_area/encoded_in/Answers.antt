@@ -3,8 +3,8 @@ use Rattle.std.specs.Prelude.{None, Option, Some}
 use Rattle.gated_journal.specs.ScannedHead.{head_of}
 use Rattle.run_states.specs.TableState.{TableState}
 use Rattle.act_store.specs.Layouts.{layout_of}
-use Rattle.act_store.specs.Replayed.{IsReplayed}
-use Rattle.act_store.specs.Encoded.{IsTextOf}
+use Rattle.act_store.specs.inner.Replayed.{IsReplayed}
+use Rattle.act_store.specs.inner.Encoded.{IsTextOf}
 use Rattle.act_store.proofs.Encoding.{none_layout, none_read, none_replayed, none_text, some_replayed}
 use Rattle.act_store.proofs.decoded_area.encoded_in.Goals as goal
 

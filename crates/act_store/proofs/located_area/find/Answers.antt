@@ -4,7 +4,7 @@ use Rattle.gated_journal.specs.Choice.{part}
 use Rattle.gated_journal.specs.TwoAreas.{area_on, start_of}
 use Rattle.gated_journal.specs.Whole.{IsChosen}
 use Rattle.gated_journal.specs.declared.chosen.Chosen.{Chosen}
-use Rattle.act_store.specs.Encoded.{IsHalf, IsEncoded}
+use Rattle.act_store.specs.inner.Encoded.{IsHalf, IsEncoded}
 use Rattle.act_store.specs.declared.decoded_area.DecodedArea.{DecodedArea}
 use Rattle.act_store.proofs.Opening.{no_table_in}
 use Rattle.act_store.proofs.ReadTwice.{read_twice}

@@ -1,6 +1,6 @@
 use Rattle.std.proofs.Common.{ap, subst, ◌∙◌}
 use Rattle.acts_ops.specs.Check.{leg_lines}
-use Rattle.acts_ops.specs.Writes.{Writes}
+use Rattle.acts_ops.specs.inner.Writes.{Writes}
 use Rattle.acts_ops.proofs.Checks.{lines_of_job}
 use Rattle.acts_ops.proofs.check.write_job.Goals as goal
 

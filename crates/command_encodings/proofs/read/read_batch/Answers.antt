@@ -1,6 +1,6 @@
 use Rattle.std.proofs.Common.{arith}
 use Rattle.command_encodings.specs.Commands.{batch}
-use Rattle.command_encodings.specs.ReadingCommands.{batch_at}
+use Rattle.command_encodings.specs.inner.ReadingCommands.{batch_at}
 use Rattle.command_encodings.proofs.CommandReaders.{batch_reads}
 use Rattle.command_encodings.proofs.Readers.{found_as_prefix, none_as_prefix}
 use Rattle.command_encodings.proofs.read.read_batch.Goals as goal

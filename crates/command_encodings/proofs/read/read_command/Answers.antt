@@ -1,6 +1,6 @@
 use Rattle.std.proofs.Common.{arith}
 use Rattle.command_encodings.specs.Commands.{command}
-use Rattle.command_encodings.specs.ReadingCommands.{command_at}
+use Rattle.command_encodings.specs.inner.ReadingCommands.{command_at}
 use Rattle.command_encodings.proofs.CommandReaders.{command_reads}
 use Rattle.command_encodings.proofs.Readers.{found_as_prefix, none_as_prefix}
 use Rattle.command_encodings.proofs.read.read_command.Goals as goal

@@ -3,7 +3,7 @@ use Rattle.std.specs.List.{AllByRecursion}
 use Rattle.stored_tables.specs.Stored.{stored_runner}
 use Rattle.run_states.specs.TableState.{RunnerState}
 use Rattle.table_text.specs.Tables.{run, runner}
-use Rattle.table_text.specs.Writing.{KeptHasBytes, RunHasBytes}
+use Rattle.table_text.specs.inner.Writing.{KeptHasBytes, RunHasBytes}
 use Rattle.table_text.proofs.TableKnown.{runners_have_bytes, runs_have_bytes, table_takes}
 use Rattle.encoding_laws.proofs.tables.table_fits.Goals as goal
 

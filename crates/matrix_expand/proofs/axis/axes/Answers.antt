@@ -1,7 +1,7 @@
 use Rattle.std.proofs.Common.{◌≡◌, ◌+◌, ◌/◌, ◌∷◌, length, drop, refl, sym, ap, ◌∙◌}
 use Rattle.std.proofs.lemmas.List.{at_drop_more}
 use Rattle.matrix_expand.specs.Combinations.{choice_count}
-use Rattle.matrix_expand.specs.Numbered.{axes_of}
+use Rattle.matrix_expand.specs.inner.Numbered.{axes_of}
 use Rattle.matrix_expand.proofs.Steps.{choices_more, pushed}
 use Rattle.matrix_expand.proofs.axis.axes.Goals as goal
 

@@ -1,6 +1,6 @@
 use Rattle.std.proofs.Common.{◌≡◌, ◌<◌, ◌++◌, drop}
 use Rattle.matrix_expand.specs.Combinations.{choice_count}
-use Rattle.matrix_expand.specs.Numbered.{axes_of}
+use Rattle.matrix_expand.specs.inner.Numbered.{axes_of}
 use Rattle.matrix_expand.proofs.axis.axes.Given as goal
 
 -- the stride is the number of choices of the remaining variables

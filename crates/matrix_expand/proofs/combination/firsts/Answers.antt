@@ -1,7 +1,7 @@
 use Rattle.std.proofs.Common.{◌≡◌, ◌+◌, ◌++◌, ◌∷◌, None, Some, true, false, get_or, drop, refl, sym, ap, ◌∙◌}
 use Rattle.std.specs.Option.{option_copied}
 use Rattle.definitions.specs.Rising.{names_rise}
-use Rattle.matrix_expand.specs.Entries.{flagged, firsts_after, is_last}
+use Rattle.matrix_expand.specs.inner.Entries.{flagged, firsts_after, is_last}
 use Rattle.matrix_expand.proofs.Firsts.{firsts_drop, names_ascend-flagged, names_rise-firsts, names_rise_front}
 use Rattle.matrix_expand.proofs.combination.firsts.Goals as goal
 

@@ -1,6 +1,6 @@
 use Rattle.std.proofs.Common.{◌≡◌, ◌++◌, None, drop}
 use Rattle.std.specs.Option.{option_copied}
-use Rattle.matrix_expand.specs.Entries.{flagged, firsts_after}
+use Rattle.matrix_expand.specs.inner.Entries.{flagged, firsts_after}
 use Rattle.matrix_expand.proofs.combination.firsts.Given as goal
 
 -- the pairs so far, followed by the remaining ones, are all pairs

@@ -1,5 +1,5 @@
 use Rattle.std.proofs.Common.{◌≡◌, map, take}
-use Rattle.matrix_expand.specs.Numbered.{pattern_agrees}
+use Rattle.matrix_expand.specs.inner.Numbered.{pattern_agrees}
 use Rattle.matrix_expand.proofs.combination.flags.Given as goal
 
 abbrev pub invariant-loop-pattern : goal.invariant-loop-pattern

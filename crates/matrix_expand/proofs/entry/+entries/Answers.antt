@@ -1,5 +1,5 @@
 use Rattle.std.proofs.Common.{◌/◌, ◌∷◌, [], length, arith}
-use Rattle.matrix_expand.specs.Entries.{SortsEntries, object_entries, merged}
+use Rattle.matrix_expand.specs.inner.Entries.{SortsEntries, object_entries, merged}
 use Rattle.matrix_expand.proofs.Merging.{SortsEntries-one, SortsEntries-merged, ok_gives, only_one}
 use Rattle.matrix_expand.proofs.entry.+entries.Goals as goal
 

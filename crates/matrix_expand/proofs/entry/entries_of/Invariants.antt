@@ -1,5 +1,5 @@
 use Rattle.std.proofs.Common.{◌≡◌, take}
-use Rattle.matrix_expand.specs.Entries.{object_entries}
+use Rattle.matrix_expand.specs.inner.Entries.{object_entries}
 use Rattle.matrix_expand.proofs.entry.entries_of.Given as goal
 
 abbrev pub invariant-loop-name : goal.invariant-loop-name

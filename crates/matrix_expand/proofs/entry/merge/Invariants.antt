@@ -1,5 +1,5 @@
 use Rattle.std.proofs.Common.{◌≡◌, ◌≤◌, ◌+◌, ◌-◌, ◌++◌, drop, length}
-use Rattle.matrix_expand.specs.Entries.{merged}
+use Rattle.matrix_expand.specs.inner.Entries.{merged}
 use Rattle.matrix_expand.proofs.entry.merge.Given as goal
 
 -- the merged entries so far, followed by the merge of the remaining ones, are all entries

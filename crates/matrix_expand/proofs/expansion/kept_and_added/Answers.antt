@@ -1,8 +1,8 @@
 use Rattle.std.proofs.Common.{◌≡◌, Ok, inr, map, length, sym, ap, ◌∙◌, arith}
 use Rattle.std.proofs.lemmas.Bool.{true≢false}
 use Rattle.std.proofs.lemmas.List.{length-map}
-use Rattle.matrix_expand.specs.Entries.{SortsEntries}
-use Rattle.matrix_expand.specs.Numbered.{pattern_of}
+use Rattle.matrix_expand.specs.inner.Entries.{SortsEntries}
+use Rattle.matrix_expand.specs.inner.Numbered.{pattern_of}
 use Rattle.matrix_expand.proofs.Legs.{added_are, all_are, legs_counted, legs_miscounted}
 use Rattle.matrix_expand.proofs.expansion.kept_and_added.Goals as goal
 use Rattle.wf_value.proofs.PassedOn.{same_Ok}

@@ -1,6 +1,6 @@
 use Rattle.std.proofs.Common.{refl}
 use Rattle.wf_value.proofs.PassedOn.{passed_on}
-use Rattle.matrix_expand.specs.Numbered.{kept_of}
+use Rattle.matrix_expand.specs.inner.Numbered.{kept_of}
 use Rattle.matrix_expand.proofs.Legs.{legs_refused}
 use Rattle.matrix_expand.proofs.expansion.legs.Goals as goal
 

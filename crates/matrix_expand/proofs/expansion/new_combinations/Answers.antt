@@ -1,6 +1,6 @@
 use Rattle.std.proofs.Common.{◌+◌, ◌++◌, ◌∷◌, [], map, cond, drop, sym, ap, ◌∙◌}
 use Rattle.std.proofs.lemmas.List.{map_push}
-use Rattle.matrix_expand.specs.Numbered.{new_objects}
+use Rattle.matrix_expand.specs.inner.Numbered.{new_objects}
 use Rattle.matrix_expand.proofs.Steps.{pushed, new_more}
 use Rattle.matrix_expand.proofs.expansion.new_combinations.Goals as goal
 use Rattle.matrix_expand.proofs.expansion.new_combinations.Goals.{then-not-agrees_with_some+in_ok-push, else-not-agrees_with_some}

@@ -1,5 +1,5 @@
 use Rattle.std.proofs.Common.{◌≡◌, ◌++◌, map, drop}
-use Rattle.matrix_expand.specs.Numbered.{new_objects}
+use Rattle.matrix_expand.specs.inner.Numbered.{new_objects}
 use Rattle.matrix_expand.proofs.expansion.new_combinations.Given as goal
 
 abbrev pub invariant-loop-include : goal.invariant-loop-include

@@ -1,6 +1,6 @@
 use Rattle.std.proofs.Common.{IsTrue}
 use Rattle.definitions.specs.Rising.{names_rise}
-use Rattle.matrix_expand.specs.Numbered.{axes_of}
+use Rattle.matrix_expand.specs.inner.Numbered.{axes_of}
 use Rattle.matrix_expand.proofs.Legs.{names_rise-axes}
 use Rattle.matrix_expand.proofs.Merging.{ok_gives}
 use Rattle.matrix_expand.proofs.expansion.number_variables.Goals as goal

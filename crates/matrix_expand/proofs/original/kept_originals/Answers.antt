@@ -1,5 +1,5 @@
 use Rattle.std.proofs.Common.{◌+◌, ◌-◌, not, ◌++◌, ◌∷◌, [], cond, sym, ap, ◌∙◌, arith, length-append}
-use Rattle.matrix_expand.specs.Numbered.{kept_from}
+use Rattle.matrix_expand.specs.inner.Numbered.{kept_from}
 use Rattle.matrix_expand.proofs.Steps.{kept_more, pushed}
 use Rattle.matrix_expand.proofs.original.kept_originals.Goals as goal
 use Rattle.matrix_expand.proofs.original.kept_originals.Goals.{then-not-is_removed+else-len-eq-MAX_LEGS+in_ok-push, else-not-is_removed}

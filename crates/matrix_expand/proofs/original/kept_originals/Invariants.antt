@@ -1,5 +1,5 @@
 use Rattle.std.proofs.Common.{◌≡◌, ◌≤◌, ◌-◌, ◌++◌, length}
-use Rattle.matrix_expand.specs.Numbered.{kept_from}
+use Rattle.matrix_expand.specs.inner.Numbered.{kept_from}
 use Rattle.matrix_expand.proofs.original.kept_originals.Given as goal
 
 -- the numbers kept so far, followed by the remaining ones, are all kept numbers

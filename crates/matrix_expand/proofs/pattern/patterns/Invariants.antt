@@ -1,5 +1,5 @@
 use Rattle.std.proofs.Common.{◌≡◌, map, take}
-use Rattle.matrix_expand.specs.Numbered.{pattern_of}
+use Rattle.matrix_expand.specs.inner.Numbered.{pattern_of}
 use Rattle.matrix_expand.proofs.pattern.patterns.Given as goal
 
 abbrev pub invariant-loop-object : goal.invariant-loop-object

@@ -1,6 +1,6 @@
 use Rattle.std.proofs.Common.{◌≡◌, ◌∙◌, ◌<◌, length, ap, arith}
 use Rattle.std.proofs.lemmas.Grind.{common_steps}
-use Rattle.needs_graph.specs.JobSets.{is_in}
+use Rattle.needs_graph.specs.inner.JobSets.{is_in}
 use Rattle.needs_graph.proofs.JobSetSteps.{next_is_in, next_is_out}
 use Rattle.needs_graph.proofs.job_set.words_of.Goals as goal
 use Rattle.needs_graph.proofs.job_set.words_of.Goals.{then-mark, else-mark}

@@ -1,6 +1,6 @@
 use Rattle.std.proofs.Common.{◌≡◌, ℕ, ◌+◌, ◌/◌, take, length}
-use Rattle.needs_graph.specs.JobSets.{is_in}
-use Rattle.needs_graph.specs.JobBitmap.{is_marked}
+use Rattle.needs_graph.specs.inner.JobSets.{is_in}
+use Rattle.needs_graph.specs.inner.JobBitmap.{is_marked}
 use Rattle.needs_graph.proofs.job_set.words_of.Given as goal
 
 -- the set contains exactly the marked jobs so far

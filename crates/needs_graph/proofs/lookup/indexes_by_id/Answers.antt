@@ -2,7 +2,7 @@ use Rattle.std.proofs.Common.{â„•, List, Option, Some, cond, take, sym, subst, â
 use Rattle.std.specs.Str.{bytes_eq}
 use Rattle.std.specs.HashMap.{get_by}
 use Rattle.std.proofs.lemmas.Map.Text.{hash_map_updates_str}
-use Rattle.needs_graph.specs.Lookup.{Finds}
+use Rattle.needs_graph.specs.inner.Lookup.{Finds}
 use Rattle.needs_graph.proofs.LookupSteps.{finds_more}
 use Rattle.needs_graph.proofs.lookup.indexes_by_id.Goals as goal
 

@@ -1,5 +1,5 @@
 use Rattle.std.proofs.Common.{◌≡◌, take}
-use Rattle.needs_graph.specs.JobBitmap.{either}
+use Rattle.needs_graph.specs.inner.JobBitmap.{either}
 use Rattle.needs_graph.proofs.marks.add_marks.Given as goal
 
 -- the first marks of the second set are added

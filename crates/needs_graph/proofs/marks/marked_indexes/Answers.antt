@@ -1,7 +1,7 @@
 use Rattle.std.proofs.Common.{◌<◌, ◌∙◌, length, ap, take, arith}
 use Rattle.std.proofs.lemmas.Grind.{common_steps}
 use Rattle.std.proofs.lemmas.List.{length-take-le, take_all}
-use Rattle.needs_graph.specs.JobBitmap.{marked}
+use Rattle.needs_graph.specs.inner.JobBitmap.{marked}
 use Rattle.needs_graph.proofs.MarkSteps.{marked_more, marked_trimmed}
 use Rattle.needs_graph.proofs.marks.marked_indexes.Goals as goal
 use Rattle.needs_graph.proofs.marks.marked_indexes.Goals.{then-mark+in_ok-push, else-mark}

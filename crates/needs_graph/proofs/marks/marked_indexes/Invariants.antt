@@ -1,5 +1,5 @@
 use Rattle.std.proofs.Common.{◌≡◌, take}
-use Rattle.needs_graph.specs.JobBitmap.{marked}
+use Rattle.needs_graph.specs.inner.JobBitmap.{marked}
 use Rattle.needs_graph.proofs.marks.marked_indexes.Given as goal
 
 -- the indices so far are those of the marks so far

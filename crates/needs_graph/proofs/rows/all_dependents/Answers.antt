@@ -1,6 +1,7 @@
 use Rattle.std.proofs.Common.{zero-add}
 use Rattle.std.proofs.lemmas.List.FromFn.{map-range_with_len_more}
-use Rattle.needs_graph.specs.JobBitmap.{is_marked, places}
+use Rattle.needs_graph.specs.inner.JobBitmap.{is_marked}
+use Rattle.needs_graph.specs.Needs.{places}
 use Rattle.needs_graph.proofs.rows.all_dependents.Goals as goal
 
 pub loop-job-preserved : goal.loop-job-preserved

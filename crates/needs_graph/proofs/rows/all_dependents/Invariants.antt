@@ -1,6 +1,7 @@
 use Rattle.std.proofs.Common.{◌≡◌, map}
 use Rattle.std.specs.List.{range_with_len}
-use Rattle.needs_graph.specs.JobBitmap.{is_marked, places}
+use Rattle.needs_graph.specs.inner.JobBitmap.{is_marked}
+use Rattle.needs_graph.specs.Needs.{places}
 use Rattle.needs_graph.proofs.rows.all_dependents.Given as goal
 
 abbrev pub invariant-loop-job : goal.invariant-loop-job

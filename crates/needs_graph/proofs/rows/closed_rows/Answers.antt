@@ -1,7 +1,7 @@
 use Rattle.std.proofs.Common.{◌≡◌, ◌∙◌, ◌+◌, ◌++◌, ◌<◌, [], take, suc, length, map, ap, arith}
 use Rattle.std.specs.List.{slice_index_or}
 use Rattle.std.proofs.lemmas.List.{append-nil, drop_all, get_or_default, length-map, take_all}
-use Rattle.needs_graph.specs.JobBitmap.{through, closed}
+use Rattle.needs_graph.specs.inner.JobBitmap.{through, closed}
 use Rattle.needs_graph.proofs.Closure.{length-closed}
 use Rattle.needs_graph.proofs.MarkSteps.{through_same}
 use Rattle.needs_graph.proofs.rows.closed_rows.Goals as goal

@@ -1,5 +1,5 @@
 use Rattle.std.proofs.Common.{◌≡◌}
-use Rattle.needs_graph.specs.JobBitmap.{closed}
+use Rattle.needs_graph.specs.inner.JobBitmap.{closed}
 use Rattle.needs_graph.proofs.rows.closed_rows.Given as goal
 
 abbrev pub invariant-loop-job : goal.invariant-loop-job

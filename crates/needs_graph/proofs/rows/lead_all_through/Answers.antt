@@ -1,6 +1,6 @@
 use Rattle.std.proofs.Common.{◌<◌, ◌∙◌, length, ap, set, sym, arith}
 use Rattle.std.proofs.lemmas.List.Edits.{map_over_more}
-use Rattle.needs_graph.specs.JobBitmap.{through}
+use Rattle.needs_graph.specs.inner.JobBitmap.{through}
 use Rattle.needs_graph.proofs.rows.lead_all_through.Goals as goal
 
 pub loop-row-preserved : goal.loop-row-preserved

@@ -1,5 +1,5 @@
 use Rattle.std.proofs.Common.{◌≡◌, ◌++◌, map, take, drop}
-use Rattle.needs_graph.specs.JobBitmap.{through}
+use Rattle.needs_graph.specs.inner.JobBitmap.{through}
 use Rattle.needs_graph.proofs.rows.lead_all_through.Given as goal
 
 -- the rows so far pass through the job, and the others are unchanged

@@ -1,6 +1,6 @@
 use Rattle.std.proofs.Common.{◌≡◌, ◌∙◌, ap, sym, arith}
 use Rattle.wf_value.proofs.PassedOn.{passed_on}
-use Rattle.needs_graph.specs.Rows.{needs_row_of}
+use Rattle.needs_graph.specs.inner.Rows.{needs_row_of}
 use Rattle.needs_graph.proofs.RowSteps.{rows_refused}
 use Rattle.needs_graph.proofs.rows.needs_rows.Goals as goal
 

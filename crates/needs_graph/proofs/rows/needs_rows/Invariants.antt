@@ -1,7 +1,7 @@
 use Rattle.std.proofs.Common.{◌≡◌, map, take, true}
 use Rattle.std.specs.List.{list_all}
 use Rattle.needs_graph.specs.Needs.{is_job}
-use Rattle.needs_graph.specs.Rows.{needs_row}
+use Rattle.needs_graph.specs.inner.Rows.{needs_row}
 use Rattle.needs_graph.proofs.rows.needs_rows.Given as goal
 
 -- the jobs so far list only known jobs, and their rows are done

@@ -4,7 +4,7 @@ use Rattle.std.proofs.lemmas.Option.{same_Some, slice_get_read}
 use Rattle.run_plan.specs.PlanOf.{plan_of}
 use Rattle.run_plan.specs.declared.planned.PlannedJob.{PlannedJob}
 use Rattle.run_bindings.specs.Bindings.{JobSays}
-use Rattle.run_bindings.specs.BoundJobs.{AreBeside}
+use Rattle.run_bindings.specs.inner.BoundJobs.{AreBeside}
 use Rattle.run_bindings.specs.declared.bindings.JobBindings.{JobBindings}
 use Rattle.run_bindings.specs.declared.group_keys.HolderKey.{HolderKey}
 use Rattle.run_bindings.specs.declared.label_numbers.ListNumbers.{ListNumbers}

@@ -4,7 +4,7 @@ use Rattle.label_lists.specs.Lists.{OnlyGrows}
 use Rattle.run_plan.specs.PlanOf.{plan_of}
 use Rattle.run_plan.specs.declared.planned.PlannedJob.{PlannedJob}
 use Rattle.run_bindings.specs.Bindings.{JobSays}
-use Rattle.run_bindings.specs.BoundJobs.{AreBeside}
+use Rattle.run_bindings.specs.inner.BoundJobs.{AreBeside}
 use Rattle.run_bindings.specs.declared.bindings.JobBindings.{JobBindings}
 use Rattle.run_bindings.proofs.bindings.bind_jobs.Given as goal
 

@@ -2,7 +2,7 @@ use Rattle.std.proofs.Common.{Ok, ap, sym, subst}
 use Rattle.wf_value.proofs.PassedOn.{passed_on}
 use Rattle.wf_reader.specs.Event.{event_faults, event_of}
 use Rattle.run_plan.specs.PlanOf.{plan_faults}
-use Rattle.run_plan.specs.PlannedWorkflows.{IsOrigin}
+use Rattle.run_plan.specs.inner.PlannedWorkflows.{IsOrigin}
 use Rattle.wf_reader.proofs.InOrder.{first_decides, same_value}
 use Rattle.run_plan.proofs.Prepares.{refused_run, faultless_run, plan_of_run}
 use Rattle.run_plan.proofs.planned_workflow.origin_and_plan.Goals as goal

@@ -2,7 +2,7 @@ use Rattle.std.specs.Prelude.{Some, None, refl}
 use Rattle.std.proofs.Common.{ap, ◌∙◌}
 use Rattle.definitions.specs.Admitted.{Admitted}
 use Rattle.run_plan.specs.PlanOf.{plan_of}
-use Rattle.run_states.specs.Cells.{states}
+use Rattle.run_states.specs.inner.Cells.{states}
 use Rattle.run_states.proofs.DirectNeeds.{need_found}
 use Rattle.run_states.proofs.direct_needs.result_of_need.Goals as goal
 

@@ -1,6 +1,6 @@
 use Rattle.std.proofs.Common.{◌≡◌, take}
 use Rattle.std.specs.Prelude.{map}
-use Rattle.run_states.specs.Cells.{blocked_cells}
+use Rattle.run_states.specs.inner.Cells.{blocked_cells}
 use Rattle.run_states.proofs.run.blocked_jobs.Given as goal
 
 -- one blocked job for each job of the plan so far

@@ -1,6 +1,6 @@
 use Rattle.std.proofs.Common.{◌≡◌, ◌++◌}
 use Rattle.std.specs.Prelude.{string_bytes}
-use Rattle.run_states.specs.Cells.{states}
+use Rattle.run_states.specs.inner.Cells.{states}
 use Rattle.run_states.specs.ViewText.{jobs_text}
 use Rattle.run_table.proofs.view_text.push_jobs.Given as goal
 

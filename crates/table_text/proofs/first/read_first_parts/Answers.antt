@@ -1,5 +1,5 @@
 use Rattle.std.proofs.Common.{arith}
-use Rattle.table_text.specs.ReadingFirst.{first_table_at}
+use Rattle.table_text.specs.inner.ReadingFirst.{first_table_at}
 use Rattle.table_text.specs.FirstLayout.{first_table}
 use Rattle.command_encodings.proofs.Readers.{found_as_prefix, none_as_prefix}
 use Rattle.table_text.proofs.FirstReaders.{first_table_reads}

@@ -1,4 +1,4 @@
-use Rattle.table_text.specs.ReadingTables.{table_at}
+use Rattle.table_text.specs.inner.ReadingTables.{table_at}
 use Rattle.table_text.specs.Tables.{table}
 use Rattle.command_encodings.proofs.Readers.{none_begins}
 use Rattle.table_text.proofs.TableReaders.{table_reads}

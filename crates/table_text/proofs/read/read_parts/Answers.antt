@@ -1,5 +1,5 @@
 use Rattle.std.proofs.Common.{arith}
-use Rattle.table_text.specs.ReadingTables.{table_at}
+use Rattle.table_text.specs.inner.ReadingTables.{table_at}
 use Rattle.table_text.specs.Tables.{table}
 use Rattle.command_encodings.proofs.Readers.{found_as_prefix, none_as_prefix}
 use Rattle.table_text.proofs.TableReaders.{table_reads}

@@ -2,7 +2,7 @@ use Rattle.std.proofs.Common.{◌≡◌, take}
 use Rattle.std.specs.List.{All, flat_map}
 use Rattle.run_states.specs.FirstOf.{placed}
 use Rattle.run_states.specs.Places.{leg_sites_of_run}
-use Rattle.table_views.specs.Placed.{IsWithin}
+use Rattle.table_views.specs.inner.Placed.{IsWithin}
 use Rattle.table_views.proofs.places.leg_sites.Given as goal
 
 -- the legs of the runs so far have been added

@@ -5,7 +5,7 @@ use Rattle.run_states.specs.FirstOf.{placed}
 use Rattle.run_states.specs.Places.{leg_site}
 use Rattle.run_states.specs.declared.place.LegSite.{LegSite}
 use Rattle.run_states.specs.RunState.{LegState}
-use Rattle.table_views.specs.Placed.{IsWithin}
+use Rattle.table_views.specs.inner.Placed.{IsWithin}
 use Rattle.table_views.proofs.Placing.{added_more, one_place_more}
 use Rattle.table_views.proofs.places.push_legs_of_job.Goals as goal
 

@@ -3,7 +3,7 @@ use Rattle.std.specs.List.{All}
 use Rattle.run_states.specs.FirstOf.{placed}
 use Rattle.run_states.specs.Places.{leg_site}
 use Rattle.run_states.specs.RunState.{LegState}
-use Rattle.table_views.specs.Placed.{IsWithin}
+use Rattle.table_views.specs.inner.Placed.{IsWithin}
 use Rattle.table_views.proofs.places.push_legs_of_job.Given as goal
 
 -- the legs so far have been added

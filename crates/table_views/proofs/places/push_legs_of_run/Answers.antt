@@ -1,7 +1,7 @@
 use Rattle.std.proofs.Common.{◌≡◌, ◌∙◌, ◌++◌, ◌<◌, length, take, get_or, ap, sym, arith}
 use Rattle.std.proofs.lemmas.List.{get_or-map, length-map}
 use Rattle.std.specs.List.{flat_map}
-use Rattle.run_states.specs.Cells.{JobCells, states}
+use Rattle.run_states.specs.inner.Cells.{JobCells, states}
 use Rattle.run_states.specs.FirstOf.{placed}
 use Rattle.run_states.specs.Places.{leg_sites_of_job}
 use Rattle.table_views.proofs.Placing.{added_more, one_more}

@@ -1,5 +1,5 @@
 use Rattle.std.proofs.Common.{◌-◌, length}
-use Rattle.webhook_sessions.specs.HeadLines.{AreUnfinishedLines}
+use Rattle.webhook_sessions.specs.inner.HeadLines.{AreUnfinishedLines}
 use Rattle.webhook_sessions.proofs.head_lines.read_on.Given as goal
 
 -- so many lines were read, and the head is incomplete

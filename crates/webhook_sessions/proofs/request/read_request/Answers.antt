@@ -2,7 +2,7 @@ use Rattle.std.proofs.Common.{◌≡◌, ◌+◌, ◌≤◌, ◌∙◌, inl, sub
 use Rattle.std.proofs.lemmas.List.{take_all, take_rest}
 use Rattle.httparse.specs.Grammar.{HasNoRequest, MayBecomeRequest}
 use Rattle.httparse.specs.Spans.{IsRequestOf, IsRequestWithin}
-use Rattle.webhook_sessions.specs.FoundRequest.{IsFound}
+use Rattle.webhook_sessions.specs.inner.FoundRequest.{IsFound}
 use Rattle.webhook_sessions.specs.Heading.{heading_of}
 use Rattle.act_sessions.proofs.Waiting.{waits_until_more}
 use Rattle.webhook_sessions.specs.Hooks.{HookWaits, hooks}

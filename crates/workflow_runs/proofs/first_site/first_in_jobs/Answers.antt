@@ -1,5 +1,5 @@
 use Rattle.std.proofs.Common.{arith, rules}
-use Rattle.run_states.specs.Cells.{JobCells}
+use Rattle.run_states.specs.inner.Cells.{JobCells}
 use Rattle.run_states.specs.WithinRun.{first_in_job}
 use Rattle.settling_laws.proofs.Firsts.{job_answers, job_passed, no_job_answers, none_before-map}
 use Rattle.workflow_runs.proofs.first_site.first_in_jobs.Goals as goal

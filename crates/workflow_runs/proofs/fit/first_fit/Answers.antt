@@ -1,6 +1,6 @@
 use Rattle.std.proofs.Common.{arith, sym, ◌∙◌, below_more, ◌≡◌, length, refl, true, false, rules}
 use Rattle.std.specs.Prelude.{is_some}
-use Rattle.run_states.specs.WithinRun.{fit_in_run}
+use Rattle.run_states.specs.inner.WithinRun.{fit_in_run}
 use Rattle.settling_laws.proofs.Firsts.{answer_found, answer_passed, none_found}
 use Rattle.workflow_runs.proofs.NoneOffered.{none_before}
 use Rattle.workflow_runs.proofs.ReadThere.{read_there}

@@ -1,5 +1,5 @@
 use Rattle.std.proofs.Common.{◌-◌, length}
-use Rattle.run_states.specs.WithinRun.{fit_in_run}
+use Rattle.run_states.specs.inner.WithinRun.{fit_in_run}
 use Rattle.run_states.specs.Resuming.{NoneBefore}
 use Rattle.workflow_runs.proofs.fit.first_fit.Given as goal
 

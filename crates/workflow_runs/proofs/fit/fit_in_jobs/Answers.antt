@@ -1,7 +1,7 @@
 use Rattle.std.specs.Prelude.{◌<◌, length, refl}
 use Rattle.std.proofs.Common.{arith, rules}
 use Rattle.std.proofs.lemmas.Option.{slice_get_read}
-use Rattle.run_states.specs.WithinRun.{fit_in_job}
+use Rattle.run_states.specs.inner.WithinRun.{fit_in_job}
 use Rattle.settling_laws.proofs.Firsts.{job_answers, job_passed, no_job_answers}
 use Rattle.workflow_runs.proofs.fit.fit_in_jobs.Goals as goal
 

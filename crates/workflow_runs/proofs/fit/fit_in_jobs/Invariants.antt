@@ -1,4 +1,4 @@
-use Rattle.run_states.specs.WithinRun.{fit_in_job}
+use Rattle.run_states.specs.inner.WithinRun.{fit_in_job}
 use Rattle.run_states.specs.Resuming.{NoneBefore}
 use Rattle.workflow_runs.proofs.fit.fit_in_jobs.Given as goal
 

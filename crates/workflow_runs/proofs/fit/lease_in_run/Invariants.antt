@@ -1,5 +1,5 @@
 use Rattle.std.proofs.Common.{◌≡◌}
-use Rattle.run_states.specs.WithinRun.{first_leased, lease_in_run}
+use Rattle.run_states.specs.inner.WithinRun.{first_leased, lease_in_run}
 use Rattle.workflow_runs.proofs.fit.lease_in_run.Given as goal
 
 -- the first leg that has the lease is still to come

@@ -1,7 +1,7 @@
 use Rattle.std.specs.Prelude.{◌≡◌}
 use Rattle.std.specs.List.{AllByRecursion}
-use Rattle.run_states.specs.PlacedLegs.{PlacedLeg}
-use Rattle.run_states.specs.WithinRun.{served_in_job}
+use Rattle.run_states.specs.inner.PlacedLegs.{PlacedLeg}
+use Rattle.run_states.specs.inner.WithinRun.{served_in_job}
 use Rattle.settling_laws.proofs.PlacedLegs.{IsInJob, first_passing}
 use Rattle.workflow_runs.proofs.Sought.{serves}
 use Rattle.workflow_runs.proofs.fit.served_in_job.Given as goal

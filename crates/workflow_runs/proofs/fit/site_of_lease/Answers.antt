@@ -1,9 +1,9 @@
 use Rattle.std.proofs.Common.{arith, sym, ◌∙◌, below_more, ◌≡◌, length, true, false, rules}
 use Rattle.std.specs.Prelude.{None, is_some}
-use Rattle.run_states.specs.ActiveRuns.{is_active}
+use Rattle.run_states.specs.inner.ActiveRuns.{is_active}
 use Rattle.run_states.specs.Resuming.{apply_at}
-use Rattle.run_states.specs.WithinRun.{lease_in_run}
-use Rattle.settling_laws.specs.RunFacts.{is_so_at}
+use Rattle.run_states.specs.inner.WithinRun.{lease_in_run}
+use Rattle.settling_laws.specs.inner.RunFacts.{is_so_at}
 use Rattle.settling_laws.proofs.Firsts.{answer_found, answer_passed, none_found}
 use Rattle.workflow_runs.proofs.NoneActive.{no_lease, none_before}
 use Rattle.workflow_runs.proofs.Sought.{place_of_lease_by_run}

@@ -1,5 +1,5 @@
 use Rattle.std.proofs.Common.{◌-◌, length}
-use Rattle.run_states.specs.WithinRun.{lease_in_run}
+use Rattle.run_states.specs.inner.WithinRun.{lease_in_run}
 use Rattle.run_states.specs.Resuming.{NoneBefore}
 use Rattle.workflow_runs.proofs.fit.site_of_lease.Given as goal
 

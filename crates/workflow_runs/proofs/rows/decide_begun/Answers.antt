@@ -1,7 +1,7 @@
 use Rattle.std.proofs.Common.{◌≡◌, ◌+◌, ap, arith, subst, sym, ◌∙◌}
 use Rattle.run_bindings.specs.declared.bindings.RunBindings.{RunBindings}
-use Rattle.workflow_runs.specs.Begun.{IsBegunBelow}
-use Rattle.workflow_runs.specs.RowsKept.{decided_in}
+use Rattle.workflow_runs.specs.inner.Begun.{IsBegunBelow}
+use Rattle.workflow_runs.specs.inner.RowsKept.{decided_in}
 use Rattle.workflow_runs.proofs.Begun.{all_begun, begun_more, begun_passed, not_yet}
 use Rattle.workflow_runs.proofs.rows.decide_begun.Goals as goal
 use Rattle.workflow_runs.proofs.rows.decide_begun.Goals.{else-has_legs, then-has_legs}

@@ -1,5 +1,5 @@
 use Rattle.std.proofs.Common.{◌≡◌}
-use Rattle.workflow_runs.specs.Begun.{IsBegunBelow}
+use Rattle.workflow_runs.specs.inner.Begun.{IsBegunBelow}
 use Rattle.workflow_runs.proofs.rows.decide_begun.Given as goal
 
 -- the jobs before `j` that have legs are decided

@@ -1,6 +1,6 @@
 use Rattle.std.proofs.Common.{◌≤◌, ap, subst, arith, length, List}
 use mathlib.Core.List.{IsPrefix}
-use Rattle.act_desk.specs.Lines.{line}
+use Rattle.act_desk.specs.inner.Lines.{line}
 use Rattle.act_desk.specs.declared.event.Note.{Note}
 use Rattle.act_desk.proofs.Lines.{line_prefix}
 use Rattle.act_desk.proofs.Prefixes.{prefix_shorter}

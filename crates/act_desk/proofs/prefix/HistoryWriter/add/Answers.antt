@@ -1,7 +1,7 @@
 use Rattle.std.proofs.Common.{◌≡◌, ◌∙◌, ◌++◌, ◌∷◌, [], List, length, ap, arith, length-append, subst, sym}
 use mathlib.Core.List.{IsPrefix}
 use Rattle.act_desk.specs.Events.{entries_in, entry_of_event}
-use Rattle.act_desk.specs.Lines.{IsUnused, line, next_of}
+use Rattle.act_desk.specs.inner.Lines.{IsUnused, line, next_of}
 use Rattle.act_desk.specs.declared.event.Event.{Event}
 use Rattle.act_desk.specs.declared.event.Note.{Note}
 use Rattle.act_desk.proofs.Eventful.{entries_few, entries_more, one_at_most}

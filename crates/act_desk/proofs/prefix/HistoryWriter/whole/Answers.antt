@@ -2,7 +2,7 @@ use Rattle.std.proofs.Common.{◌≡◌, ◌∙◌, List, length, ap, subst, sym
 use mathlib.Core.List.{IsPrefix}
 use Rattle.logbook.specs.Pages.{Nib}
 use Rattle.act_desk.specs.Events.{entries_in}
-use Rattle.act_desk.specs.Lines.{IsUnused, line, next_of}
+use Rattle.act_desk.specs.inner.Lines.{IsUnused, line, next_of}
 use Rattle.act_desk.specs.declared.event.Event.{Event}
 use Rattle.act_desk.proofs.Lines.{line_prefix, same_line, same_next}
 use Rattle.act_desk.proofs.Prefixes.{prefix_trans}

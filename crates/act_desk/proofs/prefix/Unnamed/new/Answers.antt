@@ -1,6 +1,6 @@
 use Rattle.std.proofs.Common.{◌≡◌, ◌∙◌, ℕ, ap, sym, true}
 use Rattle.logbook.specs.Pages.{Named, Nib}
-use Rattle.act_desk.specs.Lines.{head_of}
+use Rattle.act_desk.specs.inner.Lines.{head_of}
 use Rattle.act_desk.proofs.Lines.{unused_line, unused_next}
 use Rattle.act_desk.proofs.prefix.Unnamed.new.Goals as goal
 

@@ -4,7 +4,7 @@ use Rattle.act_disk.proofs.Walks.{split, join, fsplit3, feq_i, suffices, frame, 
 use Rattle.act_disk.proofs.Walks.{pass_all, free_all, look_at, sets, mut_vals, mut_Tells, shr_vals, shr_Tells, plain, nothing, opens}
 use Rattle.act_disk.proofs.Walks.{closes, yes, RefOf, named_lft, Stays, walk_of, says, stay_ref, stay_dropped, Goes-ref, Goes-dropped}
 use Rattle.act_disk.proofs.Walks.{ends_at, owns, types_at, fsplit}
-use Rattle.act_disk.specs.Noted.{call_of}
+use Rattle.act_disk.specs.inner.Noted.{call_of}
 use Rattle.act_disk.specs.contracts.call_log.CallLog.note as f
 use Rattle.act_disk.specs.contracts.call_log.CallLog.{the_row as Log}
 use Rattle.act_disk.specs.contracts.system_call.SystemCall as Call

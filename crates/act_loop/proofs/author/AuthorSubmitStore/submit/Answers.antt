@@ -3,7 +3,7 @@ use Rattle.std.specs.Prelude.{Option}
 use Rattle.run_plan.specs.declared.command.Command.{Command}
 use Rattle.act_sessions.specs.Exchange.{Response}
 use Rattle.act_sessions.proofs.Taken.{command_taken}
-use Rattle.act_loop.specs.Authors.{IsEntered}
+use Rattle.act_loop.specs.inner.Authors.{IsEntered}
 use Rattle.act_loop.specs.declared.author.Author.{Author}
 use Rattle.act_loop.proofs.author.AuthorSubmitStore.submit.Goals as goal
 

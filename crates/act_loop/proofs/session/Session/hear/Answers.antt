@@ -1,7 +1,7 @@
 use Rattle.std.proofs.Common.{[], refl, subst, sym, take, append-nil, true, false}
 use Rattle.act_loop.specs.Hearing.{Hears}
 use Rattle.act_loop.specs.Conversation.{Conversation}
-use Rattle.act_loop.specs.Turns.{Moment}
+use Rattle.act_loop.specs.inner.Turns.{Moment}
 use Rattle.act_loop.specs.declared.pause.Pause.TheVariants as pause
 use Rattle.act_loop.proofs.HeldPieces.{at_more, at_over, at_starved, at_waiting, full_of, hears_after}
 use Rattle.act_loop.proofs.session.Session.hear.Goals as goal

@@ -1,7 +1,7 @@
 use Rattle.std.proofs.Common.{rules, arith, ◌≡◌, ◌+◌, ◌-◌, ◌≤◌, ◌∙◌, ◌++◌, List, ℕ, ap, length, take, OnErr, OnOk}
 use Rattle.std.specs.Prelude.{vec_len}
 use Rattle.std.proofs.lemmas.Result.{on_ok_weaker, on_err_weaker}
-use Rattle.act_store.specs.LastPart.{IsLastPart, LastState, last_state}
+use Rattle.act_store.specs.inner.LastPart.{IsLastPart, LastState, last_state}
 use Rattle.act_store.proofs.LastPart.{at_most, encoded_of, grown}
 use Rattle.act_store.proofs.last_part.LastPart.add.Goals as goal
 

@@ -1,6 +1,6 @@
 use Rattle.std.proofs.Common.{rules, arith, ◌≡◌, ◌+◌, ◌-◌, ◌≤◌, ◌∙◌, ◌∷◌, [], ◌++◌, List, ℕ, ap, drop, length, set, subst, sym, take}
 use Rattle.std.proofs.lemmas.List.{length-set, length-take, take_at}
-use Rattle.act_store.specs.LastPart.{LastState}
+use Rattle.act_store.specs.inner.LastPart.{LastState}
 use Rattle.act_store.proofs.LastPart.{encoded_of, is_part, long_front, some_taken_off, state_is}
 use Rattle.act_store.proofs.last_part.LastPart.take_off.Goals as goal
 

@@ -7,8 +7,8 @@ use Rattle.definitions.specs.Disk.{EachSince}
 use Rattle.act_disk.proofs.Moments.{started}
 use Rattle.act_store.specs.StoreState.{Checkpoint, StoreState, RecoversToEither}
 use Rattle.act_store.specs.Plain.{refusal_of_apply}
-use Rattle.act_store.specs.Promise.{IsCounted, IsConsistent}
-use Rattle.act_store.specs.StoreSeen.{as_checkpoint, as_state}
+use Rattle.act_store.specs.inner.Promise.{IsCounted, IsConsistent}
+use Rattle.act_store.specs.inner.StoreSeen.{as_checkpoint, as_state}
 use Rattle.act_store.specs.LaterEntries.{with_encoded}
 use Rattle.act_store.specs.declared.entry.Entry.{Entry}
 use Rattle.act_store.proofs.Entering.{IsAdmitted, counted_entered, few_wait, is_admitted, record_is_short}

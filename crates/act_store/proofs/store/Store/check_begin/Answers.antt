@@ -6,8 +6,8 @@ use Rattle.gated_journal.specs.TwoAreas.{other, start_of}
 use Rattle.gated_journal.specs.declared.gate.GateState.TheVariants.{Closed}
 use Rattle.act_store.specs.Checkpoints.{first_gate, text_length}
 use Rattle.act_store.specs.StoreState.{RecoversToEither, StoreState, table_of}
-use Rattle.act_store.specs.Promise.{IsBegun}
-use Rattle.act_store.specs.StoreSeen.{as_checkpoint, as_state}
+use Rattle.act_store.specs.inner.Promise.{IsBegun}
+use Rattle.act_store.specs.inner.StoreSeen.{as_checkpoint, as_state}
 use Rattle.act_store.specs.declared.begun.Begun.{Begun}
 use Rattle.act_store.proofs.Checkpointing.{begin_moments, counted_with, few_runners, settled_again, consistent_failed, consistent_with, table_sound}
 use Rattle.act_store.proofs.Committing.{now_of}

@@ -6,10 +6,10 @@ use Rattle.gated_journal.specs.TwoAreas.{other}
 use Rattle.gated_journal.specs.declared.gate.GateState.TheVariants.{Open}
 use Rattle.gated_journal.specs.declared.side.Side.{Side}
 use Rattle.act_store.specs.Images.{RecoversTo}
-use Rattle.act_store.specs.LastPart.{LastState}
+use Rattle.act_store.specs.inner.LastPart.{LastState}
 use Rattle.act_store.specs.StoreState.{StoreState, RecoversToEither, table_of}
-use Rattle.act_store.specs.Promise.{IsBegun, IsConsistent}
-use Rattle.act_store.specs.StoreSeen.{as_checkpoint, as_state}
+use Rattle.act_store.specs.inner.Promise.{IsBegun, IsConsistent}
+use Rattle.act_store.specs.inner.StoreSeen.{as_checkpoint, as_state}
 use Rattle.act_store.specs.PendingBatch.{batch_state_of}
 use Rattle.act_store.specs.declared.begun.Begun.{Begun}
 use Rattle.act_store.specs.declared.layout.Layout.TheVariants as layouts

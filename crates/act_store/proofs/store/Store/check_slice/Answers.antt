@@ -2,10 +2,10 @@ use Rattle.std.proofs.Common.{rules, arith, ◌≡◌, ◌≤◌, ap, length, tr
 use Rattle.std.specs.Prelude.{Some}
 use Rattle.gated_journal.specs.Whole.{RecoversWhole}
 use Rattle.gated_journal.specs.declared.gate.GateState.TheVariants.{Closed}
-use Rattle.act_store.specs.LastPart.{LastState}
+use Rattle.act_store.specs.inner.LastPart.{LastState}
 use Rattle.act_store.specs.StoreState.{RecoversToEither}
-use Rattle.act_store.specs.Promise.{IsBegun, IsSnapshot}
-use Rattle.act_store.specs.StoreSeen.{as_checkpoint, as_state}
+use Rattle.act_store.specs.inner.Promise.{IsBegun, IsSnapshot}
+use Rattle.act_store.specs.inner.StoreSeen.{as_checkpoint, as_state}
 use Rattle.act_store.specs.declared.begun.Begun.{Begun}
 use Rattle.act_store.proofs.Checkpointing.{counted_with, slice_moments, slice_settles, consistent_failed, consistent_with}
 use Rattle.act_store.proofs.Committing.{now_of}

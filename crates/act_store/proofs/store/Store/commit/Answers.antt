@@ -2,8 +2,8 @@ use Rattle.std.proofs.Common.{rules, ◌≡◌, ℕ, List, ◌+◌, ◌<◌, ◌
 use Rattle.act_store.specs.Images.{RecoversTo}
 use Rattle.act_store.specs.StoreState.{StoreState, RecoverToCovered, RecoversToEither, table_of}
 use Rattle.act_store.specs.Plain.{committed, used_after}
-use Rattle.act_store.specs.Promise.{IsCounted, IsSettled, IsConsistent}
-use Rattle.act_store.specs.StoreSeen.{as_state}
+use Rattle.act_store.specs.inner.Promise.{IsCounted, IsSettled, IsConsistent}
+use Rattle.act_store.specs.inner.StoreSeen.{as_state}
 use Rattle.act_store.specs.PendingBatch.{body_of}
 use Rattle.act_store.proofs.Checkpointing.{counted_with, consistent_failed}
 use Rattle.act_store.proofs.Committing.{now_of, none_waits, all_recovers, counted_committed, commit_moments}

@@ -3,7 +3,7 @@ use Rattle.run_states.specs.Sound.{IsSound}
 use Rattle.act_store.specs.GroupsOfHistory.{KeepsGroups}
 use Rattle.act_store.specs.StoreState.{StoreState, RecoverToCovered}
 use Rattle.act_store.proofs.GroupsOfHistory.{keeps_groups}
-use Rattle.act_store.specs.StoreSeen.{as_state}
+use Rattle.act_store.specs.inner.StoreSeen.{as_state}
 use Rattle.act_store.proofs.Settling.{recover_to_covered}
 use Rattle.act_store.proofs.store.Store.covered.Goals as goal
 

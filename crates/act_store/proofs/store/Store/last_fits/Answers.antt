@@ -5,7 +5,7 @@ use Rattle.command_encodings.specs.Commands.{command_bytes}
 use Rattle.act_store.specs.Checkpoints.{has_no_room}
 use Rattle.act_store.specs.Entries.{commands_of}
 use Rattle.act_store.specs.StoreState.{StoreState}
-use Rattle.act_store.specs.StoreSeen.{as_checkpoint}
+use Rattle.act_store.specs.inner.StoreSeen.{as_checkpoint}
 use Rattle.act_store.proofs.Finishing.{fits_is}
 use Rattle.act_store.proofs.store.Store.last_fits.Goals as goal
 

@@ -3,7 +3,7 @@ use Rattle.std.specs.Prelude.{nat_lt}
 use Rattle.run_states.specs.TableState.{RunnerState}
 use Rattle.act_store.specs.Checkpoints.{first_gate, text_length}
 use Rattle.act_store.specs.StoreState.{StoreState, table_of}
-use Rattle.act_store.specs.StoreSeen.{as_state}
+use Rattle.act_store.specs.inner.StoreSeen.{as_state}
 use Rattle.act_store.proofs.Checkpointing.{too_many}
 use Rattle.act_store.proofs.RefusalsOfCheckpoints.{no_room}
 use Rattle.act_store.proofs.store.Store.text_that_fits.Goals as goal

@@ -4,8 +4,8 @@ use Rattle.run_states.specs.Sound.{IsSound}
 use Rattle.run_states.specs.TableState.{TableState}
 use Rattle.act_store.specs.StoreState.{StoreState, covered_table}
 use Rattle.act_store.specs.Plain.{refusal_of_turn_over}
-use Rattle.act_store.specs.Promise.{IsBegun}
-use Rattle.act_store.specs.StoreSeen.{as_checkpoint, as_state}
+use Rattle.act_store.specs.inner.Promise.{IsBegun}
+use Rattle.act_store.specs.inner.StoreSeen.{as_checkpoint, as_state}
 use Rattle.act_store.proofs.Beginning.{counted_begun, consistent_begun}
 use Rattle.act_store.proofs.Checkpointing.{all_table, nothing_waits, table_sound}
 use Rattle.act_store.proofs.RefusalsOfCheckpoints.{may_turn_over, none_begun}

@@ -1,7 +1,7 @@
 use Rattle.std.proofs.Common.{sym, subst}
 use Rattle.std.specs.List.{AllByRecursion}
 use Rattle.table_text.specs.Tables.{leg}
-use Rattle.table_text.specs.Writing.{HasByte}
+use Rattle.table_text.specs.inner.Writing.{HasByte}
 use Rattle.encoding_laws.proofs.Facts.{job_takes}
 use Rattle.encoding_laws.proofs.tables.JobFits.fits.Goals as goal
 

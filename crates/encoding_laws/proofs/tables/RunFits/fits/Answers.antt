@@ -1,10 +1,10 @@
 use Rattle.std.proofs.Common.{sym, subst}
 use Rattle.std.specs.List.{AllByRecursion}
-use Rattle.run_states.specs.Cells.{JobCells}
+use Rattle.run_states.specs.inner.Cells.{JobCells}
 use Rattle.run_states.proofs.Found.{each_of_map}
 use Rattle.command_encodings.specs.Commands.{admit}
 use Rattle.table_text.specs.Tables.{job}
-use Rattle.table_text.specs.Writing.{JobHasBytes}
+use Rattle.table_text.specs.inner.Writing.{JobHasBytes}
 use Rattle.table_text.proofs.TableKnown.{all_seen, run_takes}
 use Rattle.encoding_laws.proofs.tables.RunFits.fits.Goals as goal
 

@@ -1,8 +1,9 @@
 use Rattle.std.proofs.Common.{◌≡◌, ℕ, ◌∷◌, ◌++◌, ◌+◌, [], Bool, List, Some, false, length, length-append, if◌then◌else◌, not, slice_get, sym, subst, ap, ◌∙◌, rules}
 use Rattle.std.specs.List.{list_any}
 use Rattle.run_marks.specs.Marked.{Covers}
-use Rattle.label_lists.specs.Known.{AreMarked, KnownState, OnlyEnters, requests_at, offers_at}
-use Rattle.label_lists.specs.Labels.{labels_eq}
+use Rattle.label_lists.specs.inner.Known.{AreMarked, KnownState, OnlyEnters}
+use Rattle.label_lists.specs.Known.{requests_at, offers_at}
+use Rattle.label_lists.specs.inner.Labels.{labels_eq}
 use Rattle.label_lists.proofs.Entering.{requested_appended, list_stays, offers_appended, own_place}
 use Rattle.label_lists.proofs.Marked.{marked_appended}
 use Rattle.label_lists.proofs.SameLabels.{each_once, nowhere, one_list}

@@ -1,8 +1,9 @@
 use Rattle.std.proofs.Common.{◌≡◌, ◌↔◌, ◌<◌, false, IfOk, length, set, refl, sym, subst, ◌∙◌}
 use Rattle.std.proofs.lemmas.List.{length-set}
 use Rattle.std.proofs.lemmas.Option.{slice_get_read}
-use Rattle.label_lists.specs.Requesting.{IsPassed}
-use Rattle.label_lists.specs.Known.{KnownState, OnlyEnters, requests_at}
+use Rattle.label_lists.specs.inner.Requesting.{IsPassed}
+use Rattle.label_lists.specs.inner.Known.{KnownState, OnlyEnters}
+use Rattle.label_lists.specs.Known.{requests_at}
 use Rattle.label_lists.proofs.Marked.{still_marked}
 use Rattle.label_lists.proofs.Passed.{passed_there}
 use Rattle.label_lists.proofs.Writes.{requested_still, entered_now, entered_still, offers_kept}

@@ -1,5 +1,5 @@
 use Rattle.std.proofs.Common.{subst}
-use Rattle.label_lists.specs.Known.{KnownState, HasEachOnce}
+use Rattle.label_lists.specs.inner.Known.{KnownState, HasEachOnce}
 use Rattle.label_lists.proofs.SameLabels.{each_once}
 use Rattle.label_lists.proofs.known_lists.KnownLists.len.Goals as goal
 

@@ -1,7 +1,8 @@
 use Rattle.std.proofs.Common.{◌≡◌, true, length, set, refl, sym, subst}
 use Rattle.std.proofs.lemmas.Option.{slice_get_read}
 use Rattle.label_lists.specs.Requesting.{requests_in}
-use Rattle.label_lists.specs.Known.{KnownState, PutsAt, SameRequested, requests_at}
+use Rattle.label_lists.specs.inner.Known.{KnownState, PutsAt, SameRequested}
+use Rattle.label_lists.specs.Known.{requests_at}
 use Rattle.label_lists.proofs.Writes.{requested_written, offers_written, within_if}
 use Rattle.label_lists.proofs.known_lists.KnownLists.mark.Goals as goal
 

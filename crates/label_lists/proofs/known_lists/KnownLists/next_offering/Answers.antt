@@ -1,5 +1,6 @@
 use Rattle.std.proofs.Common.{◌≡◌, ◌≤◌, ◌<◌, false, length, IfSome, subst, ap, ◌∙◌}
-use Rattle.label_lists.specs.Known.{KnownState, offers_at}
+use Rattle.label_lists.specs.inner.Known.{KnownState}
+use Rattle.label_lists.specs.Known.{offers_at}
 use Rattle.label_lists.proofs.Marked.{next_passed, next_some}
 use Rattle.label_lists.proofs.known_lists.KnownLists.next_offering.Goals as goal
 

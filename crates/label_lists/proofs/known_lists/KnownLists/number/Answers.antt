@@ -1,5 +1,5 @@
 use Rattle.std.proofs.Common.{◌≡◌, ℕ, ◌<◌, IfNone, IfSome, Some, length, slice_get, subst, sym}
-use Rattle.label_lists.specs.Known.{KnownState}
+use Rattle.label_lists.specs.inner.Known.{KnownState}
 use Rattle.label_lists.proofs.SameLabels.{number_none, number_once, number_there}
 use Rattle.label_lists.proofs.known_lists.KnownLists.number.Goals as goal
 

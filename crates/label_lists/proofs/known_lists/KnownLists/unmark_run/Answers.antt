@@ -1,7 +1,7 @@
 use Rattle.std.proofs.Common.{◌<◌, ◌&&◌, false, length, nat_eq, set, refl, sym, subst, ◌∙◌}
 use Rattle.std.proofs.lemmas.List.{length-set}
 use Rattle.std.proofs.lemmas.Option.{slice_get_read}
-use Rattle.label_lists.specs.Known.{KnownState, PutsAt, SameRequested}
+use Rattle.label_lists.specs.inner.Known.{KnownState, PutsAt, SameRequested}
 use Rattle.label_lists.proofs.Marked.{still_marked, was_before}
 use Rattle.label_lists.proofs.Writes.{requested_written, offers_written}
 use Rattle.label_lists.proofs.known_lists.KnownLists.unmark_run.Goals as goal

@@ -1,5 +1,5 @@
 use Rattle.std.proofs.Common.{◌≡◌, ◌↔◌, ℕ, ◌+◌, Option, None, IfOk, sym, subst}
-use Rattle.label_lists.specs.Known.{IsPassedFor}
+use Rattle.label_lists.specs.inner.Known.{IsPassedFor}
 use Rattle.label_lists.specs.Lists.{IsPassedUnder, ListsState}
 use Rattle.label_lists.proofs.Passed.{number_where_some, zero_where_none}
 use Rattle.label_lists.proofs.lists.LabelLists.enter.Goals as goal

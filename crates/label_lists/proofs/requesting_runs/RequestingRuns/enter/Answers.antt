@@ -1,7 +1,8 @@
 use Rattle.std.proofs.Common.{◌≡◌, ◌↔◌, ◌<◌, ◌≤◌, arith, true, false, length, is_some, Ok, Err, sym, subst, ap, ◌∙◌}
 use Rattle.std.specs.List.Sorted.{IsBinarySearchResult}
 use Rattle.std.specs.Ordering.{nat_cmp}
-use Rattle.label_lists.specs.Requesting.{RequestingState, Begins, IsOrdered, IsPassed, place_of}
+use Rattle.label_lists.specs.Requesting.{RequestingState, place_of}
+use Rattle.label_lists.specs.inner.Requesting.{Begins, IsOrdered, IsPassed}
 use Rattle.label_lists.proofs.Offers.{ordered_pushed}
 use Rattle.label_lists.proofs.Passed.{requests_itself, comes_before, comes_last, has_place}
 use Rattle.label_lists.proofs.Places.{requests_already, requests_pushed, begins_after, found}

@@ -1,6 +1,7 @@
 use Rattle.std.proofs.Common.{None, Some, sym, subst}
 use Rattle.run_marks.specs.First.{IsFirstFrom}
-use Rattle.label_lists.specs.Requesting.{RequestingState, Begins, may_offer_in}
+use Rattle.label_lists.specs.Requesting.{RequestingState, may_offer_in}
+use Rattle.label_lists.specs.inner.Requesting.{Begins}
 use Rattle.label_lists.proofs.Offers.{first_found, none_found}
 use Rattle.label_lists.proofs.requesting_runs.RequestingRuns.first_from.Goals as goal
 

@@ -1,7 +1,8 @@
 use Rattle.std.proofs.Common.{Ok, Err, subst}
 use Rattle.std.specs.List.Sorted.{IsBinarySearchResult}
 use Rattle.std.specs.Ordering.{nat_cmp}
-use Rattle.label_lists.specs.Requesting.{RequestingState, Begins}
+use Rattle.label_lists.specs.Requesting.{RequestingState}
+use Rattle.label_lists.specs.inner.Requesting.{Begins}
 use Rattle.label_lists.proofs.Places.{begins_at, begins_after}
 use Rattle.label_lists.proofs.requesting_runs.RequestingRuns.first_place.Goals as goal
 

@@ -1,5 +1,6 @@
 use Rattle.std.proofs.Common.{false, sym, subst, ap, ◌∙◌}
-use Rattle.label_lists.specs.Requesting.{RequestingState, PutsRun, place_of}
+use Rattle.label_lists.specs.Requesting.{RequestingState, place_of}
+use Rattle.label_lists.specs.inner.Requesting.{PutsRun}
 use Rattle.label_lists.proofs.Offers.{puts_run}
 use Rattle.label_lists.proofs.requesting_runs.RequestingRuns.unmark.Goals as goal
 

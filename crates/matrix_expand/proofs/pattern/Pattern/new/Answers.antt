@@ -1,6 +1,6 @@
 use Rattle.std.proofs.Common.{◌≡◌, ◌+◌, ◌++◌, ◌∷◌, ◌||◌, drop, refl, sym, ap, true, ◌∙◌}
 use Rattle.std.proofs.lemmas.Bool.{or_right}
-use Rattle.matrix_expand.specs.Numbered.{wanted_of}
+use Rattle.matrix_expand.specs.inner.Numbered.{wanted_of}
 use Rattle.matrix_expand.proofs.Steps.{wanted_more, others_more, wanted_skips, others_found, pushed}
 use Rattle.matrix_expand.proofs.pattern.Pattern.new.Goals as goal
 use Rattle.matrix_expand.proofs.pattern.Pattern.new.Goals.{in-Some+in_ok-push-in-Some, in-None}

@@ -1,5 +1,5 @@
 use Rattle.std.proofs.Common.{◌≡◌, ◌++◌, ◌||◌, drop}
-use Rattle.matrix_expand.specs.Numbered.{wanted_of, has_other}
+use Rattle.matrix_expand.specs.inner.Numbered.{wanted_of, has_other}
 use Rattle.matrix_expand.proofs.pattern.Pattern.new.Given as goal
 
 -- the pairs so far, followed by the remaining ones, are all pairs

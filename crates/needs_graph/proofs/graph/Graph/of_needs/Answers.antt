@@ -2,7 +2,7 @@ use Rattle.std.proofs.Common.{◌≡◌, ◌∙◌, Bool, List, [], length, subs
 use Rattle.std.proofs.lemmas.List.{nil_from_length}
 use Rattle.std.proofs.lemmas.Bool.Decides.{nat_tests}
 use Rattle.wf_value.specs.declared.refusal.Refusal.TheVariants.{Cycle}
-use Rattle.needs_graph.specs.Rows.{IsSets}
+use Rattle.needs_graph.specs.inner.Rows.{IsSets}
 use Rattle.needs_graph.proofs.GraphFacts.{length-reached, ids_are, places_are, dependents_are, graph_cyclic, graph_made}
 use Rattle.needs_graph.proofs.GraphFacts.{graph_is_graph}
 use Rattle.needs_graph.proofs.graph.Graph.of_needs.Goals as goal

@@ -1,7 +1,7 @@
 use Rattle.std.proofs.Common.{◌≡◌, ◌∙◌, ℕ, List, Option, sym, subst, ap}
 use Rattle.std.specs.Str.{bytes_eq}
 use Rattle.std.specs.HashMap.{get_by}
-use Rattle.needs_graph.specs.Lookup.{Finds}
+use Rattle.needs_graph.specs.inner.Lookup.{Finds}
 use Rattle.definitions.specs.JobNeeds.{JobNeeds}
 use Rattle.needs_graph.proofs.lookup.Lookup.index_from.Goals as goal
 

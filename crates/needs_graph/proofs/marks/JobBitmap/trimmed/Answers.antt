@@ -1,5 +1,5 @@
 use Rattle.std.proofs.Common.{ap, sym, ◌∙◌}
-use Rattle.needs_graph.specs.JobBitmap.{either}
+use Rattle.needs_graph.specs.inner.JobBitmap.{either}
 use Rattle.needs_graph.proofs.MarkSteps.{either_trimmed}
 use Rattle.needs_graph.proofs.marks.JobBitmap.trimmed.Goals as goal
 

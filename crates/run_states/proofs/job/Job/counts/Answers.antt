@@ -1,6 +1,6 @@
 use Rattle.std.proofs.Common.{subst}
-use Rattle.run_states.specs.Cells.{JobCells}
-use Rattle.run_states.specs.LegCounts.{AreCounted}
+use Rattle.run_states.specs.inner.Cells.{JobCells}
+use Rattle.run_states.specs.inner.LegCounts.{AreCounted}
 use Rattle.run_states.proofs.job.Job.counts.Goals as goal
 
 pub returns : goal.returns

@@ -2,8 +2,8 @@ use Rattle.std.specs.List.{list_any}
 use Rattle.std.specs.Prelude.{◌||◌}
 use Rattle.std.proofs.Common.{ap, sym, ◌∙◌, ◌≡◌, false, rules}
 use Rattle.std.proofs.lemmas.Bool.{or_from}
-use Rattle.run_states.specs.ActiveRuns.{has_active_leg}
-use Rattle.run_states.specs.Cells.{JobCells}
+use Rattle.run_states.specs.inner.ActiveRuns.{has_active_leg}
+use Rattle.run_states.specs.inner.Cells.{JobCells}
 use Rattle.run_states.specs.Groups.{run_waits}
 use Rattle.run_states.specs.StateWords.{is_live}
 use Rattle.run_states.proofs.AnyOf.{list_any-map}

@@ -1,7 +1,7 @@
 use Rattle.std.specs.List.{list_any}
 use Rattle.std.proofs.Common.{ap, sym, ◌∙◌}
-use Rattle.run_states.specs.ActiveRuns.{has_ready_leg}
-use Rattle.run_states.specs.Cells.{JobCells}
+use Rattle.run_states.specs.inner.ActiveRuns.{has_ready_leg}
+use Rattle.run_states.specs.inner.Cells.{JobCells}
 use Rattle.run_states.proofs.AnyOf.{list_any-map}
 use Rattle.run_states.proofs.run.Run.offers_legs.Goals as goal
 

@@ -1,6 +1,6 @@
 use Rattle.std.proofs.Common.{subst, sym}
 use Rattle.run_plan.specs.PlanOf.{needs_listed}
-use Rattle.run_states.specs.NeedsLeft.{NamedOnce}
+use Rattle.run_states.specs.inner.NeedsLeft.{NamedOnce}
 use Rattle.run_states.proofs.NamedOnce.{named_once}
 use Rattle.run_states.proofs.run.Run.settle_job.Goals as goal
 

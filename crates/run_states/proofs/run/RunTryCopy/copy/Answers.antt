@@ -1,8 +1,8 @@
 use Rattle.std.proofs.Common.{◌≡◌, List, rules, subst}
 use Rattle.definitions.specs.Admitted.{Admitted}
 use Rattle.run_plan.specs.PlanOf.{plan_of}
-use Rattle.run_states.specs.Cells.{JobCells}
-use Rattle.run_states.specs.NeedsLeft.{ArePlanned}
+use Rattle.run_states.specs.inner.Cells.{JobCells}
+use Rattle.run_states.specs.inner.NeedsLeft.{ArePlanned}
 use Rattle.run_states.proofs.run.RunTryCopy.copy.Goals as goal
 use Rattle.wf_value.proofs.PassedOn.{same_Ok}
 

@@ -3,9 +3,9 @@ use Rattle.std.proofs.Common.{◌≡◌, ◌<◌, ap, arith, below_more, get_or,
 use Rattle.std.proofs.lemmas.Bool.{cases_lt}
 use Rattle.std.proofs.lemmas.List.{get_or_past, length-map}
 use Rattle.needs_graph.specs.Ancestors.{needs_at}
-use Rattle.run_states.specs.Cells.{JobCells, states}
+use Rattle.run_states.specs.inner.Cells.{JobCells, states}
 use Rattle.run_states.specs.JobResults.{results_so_far}
-use Rattle.run_states.specs.NeedsLeft.{needs_left_at, unfinished}
+use Rattle.run_states.specs.inner.NeedsLeft.{needs_left_at, unfinished}
 use Rattle.run_states.proofs.NeedsLeft.{left_elsewhere, left_there, none_past, written_same}
 use Rattle.run_states.proofs.run.needs.count_needs.Goals as goal
 

@@ -1,8 +1,8 @@
 use Rattle.std.proofs.Common.{◌≡◌, ◌<◌, ℕ}
 use Rattle.needs_graph.specs.Ancestors.{needs_at}
-use Rattle.run_states.specs.Cells.{rooms, states}
+use Rattle.run_states.specs.inner.Cells.{rooms, states}
 use Rattle.run_states.specs.JobResults.{results_so_far}
-use Rattle.run_states.specs.NeedsLeft.{needs_left_at, unfinished}
+use Rattle.run_states.specs.inner.NeedsLeft.{needs_left_at, unfinished}
 use Rattle.run_states.proofs.run.needs.count_needs.Given as goal
 
 -- the jobs before `j` have counted their needs

@@ -1,6 +1,6 @@
 use Rattle.std.proofs.Common.{◌≡◌, ◌-◌, ℕ, count_by, nat_eq, take}
-use Rattle.run_states.specs.Cells.{rooms, states}
-use Rattle.run_states.specs.NeedsLeft.{needs_left_at}
+use Rattle.run_states.specs.inner.Cells.{rooms, states}
+use Rattle.run_states.specs.inner.NeedsLeft.{needs_left_at}
 use Rattle.run_states.proofs.run.needs.lower_needs.Given as goal
 
 -- each count is lowered by the number of times that the job is listed so far

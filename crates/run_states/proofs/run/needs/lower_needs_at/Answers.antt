@@ -1,5 +1,5 @@
 use Rattle.std.proofs.Common.{◌≡◌, ◌-◌, ◌<◌, ap, get_or, length, rules, sym, ◌∙◌}
-use Rattle.run_states.specs.Cells.{JobCells}
+use Rattle.run_states.specs.inner.Cells.{JobCells}
 use Rattle.run_states.proofs.NeedsLeft.{left_elsewhere, left_read, left_there, written_same}
 use Rattle.run_states.proofs.run.needs.lower_needs_at.Goals as goal
 

@@ -2,7 +2,7 @@ use Rattle.std.proofs.Common.{◌≡◌, ◌+◌, ◌++◌, ◌∷◌, [], List,
 use Rattle.std.proofs.lemmas.List.{length-map, take_all}
 use Rattle.run_plan.specs.declared.planned.PlannedJob.{PlannedJob}
 use Rattle.run_states.specs.AsPlanned.{HasItsRoom, HasRoom}
-use Rattle.run_states.specs.Cells.{JobCells, legs_planned, rooms, states}
+use Rattle.run_states.specs.inner.Cells.{JobCells, legs_planned, rooms, states}
 use Rattle.run_states.proofs.OneAfterAnother.{all_passed, grown, one_passed, read_at}
 use Rattle.run_states.proofs.RoomsRead.{planned_here, room_here}
 use Rattle.run_states.proofs.run.of.jobs_of_parts.Goals as goal

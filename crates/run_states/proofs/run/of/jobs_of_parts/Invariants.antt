@@ -1,6 +1,6 @@
 use Rattle.std.proofs.Common.{◌≡◌, take}
 use Rattle.run_states.specs.AsPlanned.{HasItsRoom}
-use Rattle.run_states.specs.Cells.{legs_planned, rooms, states}
+use Rattle.run_states.specs.inner.Cells.{legs_planned, rooms, states}
 use Rattle.run_states.proofs.OneAfterAnother.{SoFar}
 use Rattle.run_states.proofs.run.of.jobs_of_parts.Given as goal
 

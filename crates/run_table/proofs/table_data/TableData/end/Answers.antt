@@ -1,7 +1,7 @@
 use Rattle.std.specs.Prelude.{◌≡◌, IfSome, List, Option, true}
 use Rattle.std.proofs.Common.{ap, subst, sym, ◌∙◌}
 use Rattle.run_states.specs.TableState.{RunnerState, TableState}
-use Rattle.run_table.specs.IndexNamed.{index_named}
+use Rattle.run_table.specs.inner.IndexNamed.{index_named}
 use Rattle.run_states.specs.Parallel.{is_at_work}
 use Rattle.run_states.specs.Places.{leg_at}
 use Rattle.run_states.specs.RunState.{RunState}

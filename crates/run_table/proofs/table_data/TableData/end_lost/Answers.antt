@@ -11,7 +11,7 @@ use Rattle.run_states.specs.Fitting.{is_stopping_leg}
 use Rattle.run_states.specs.Stops.{outcome_of_loss}
 use Rattle.run_states.specs.declared.place.LegSite.{LegSite}
 use Rattle.run_states.specs.TableState.{TableState}
-use Rattle.run_table.specs.IndexNamed.{index_named}
+use Rattle.run_table.specs.inner.IndexNamed.{index_named}
 use Rattle.run_states.specs.RunState.{RunState}
 use Rattle.run_table.proofs.BeforeSettling.{sound_as_they_are}
 use Rattle.run_table.proofs.LegHeld.{ended_at, held_is_at_work}

@@ -10,7 +10,7 @@ use Rattle.run_states.specs.NewRun.{leased_leg}
 use Rattle.run_states.specs.RunState.{LegState, RunState}
 use Rattle.run_states.specs.declared.holder.Holder.TheVariants.{Leg}
 use Rattle.run_states.specs.TableState.{RunnerState, TableState}
-use Rattle.run_table.specs.IndexNamed.{index_named}
+use Rattle.run_table.specs.inner.IndexNamed.{index_named}
 use Rattle.run_states.proofs.JobKeeps.{leg_in}
 use Rattle.run_table.proofs.ClaimKeeps.{fitting_leg}
 use Rattle.run_table.proofs.Leased.{leased_table}

@@ -1,7 +1,7 @@
 use Rattle.std.proofs.Common.{◌≡◌, None, Some, ap, sym, ◌∙◌, rules}
 use Rattle.std.specs.BTreeMap.{get}
 use Rattle.std.specs.Ordering.{nat_cmp}
-use Rattle.stored_tables.specs.ByLease.{lease_of_leg}
+use Rattle.stored_tables.specs.inner.ByLease.{lease_of_leg}
 use Rattle.stored_tables.proofs.ByNumberRead.{found_has}
 use Rattle.stored_tables.proofs.PartsRead.{no_present, present_lease, run_in_range, run_is_there}
 use Rattle.stored_tables.proofs.leased.Leased.present.Goals as goal

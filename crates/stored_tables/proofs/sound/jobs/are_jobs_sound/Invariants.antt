@@ -1,4 +1,4 @@
-use Rattle.stored_tables.specs.OneByOne.{JobIsSound}
+use Rattle.stored_tables.specs.inner.OneByOne.{JobIsSound}
 use Rattle.run_states.proofs.OneAfterAnother.{SoFar}
 use Rattle.stored_tables.proofs.sound.jobs.are_jobs_sound.Given as goal
 

@@ -1,7 +1,7 @@
 use Rattle.std.proofs.Common.{◌≡◌, ℕ, None, rules}
 use Rattle.std.specs.BTreeMap.{get}
 use Rattle.std.specs.Ordering.{nat_cmp}
-use Rattle.stored_tables.specs.ByLease.{lease_of_leg}
+use Rattle.stored_tables.specs.inner.ByLease.{lease_of_leg}
 use Rattle.stored_tables.proofs.LeasesPut.{all_put, leg_put}
 use Rattle.stored_tables.proofs.ByNumberRead.{all_found}
 use Rattle.stored_tables.proofs.sound.leases.legs_by_lease.Goals as goal

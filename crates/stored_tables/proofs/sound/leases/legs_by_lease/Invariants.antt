@@ -2,9 +2,9 @@ use Rattle.std.proofs.Common.{ℕ}
 use Rattle.std.specs.BTreeMap.{get}
 use Rattle.std.specs.Ordering.{nat_cmp}
 use Rattle.std.specs.Prelude.{Option}
-use Rattle.stored_tables.specs.ByNumber.{Adds}
+use Rattle.stored_tables.specs.inner.ByNumber.{Adds}
 use Rattle.stored_tables.proofs.LeasesPut.{HasLease}
-use Rattle.run_states.specs.PlacedLegs.{placed_legs}
+use Rattle.run_states.specs.inner.PlacedLegs.{placed_legs}
 use Rattle.run_states.specs.declared.place.LegSite.{LegSite}
 use Rattle.stored_tables.proofs.sound.leases.legs_by_lease.Given as goal
 

@@ -1,7 +1,7 @@
 use Rattle.std.proofs.Common.{◌≡◌, ℕ, None, Some, arith, rules}
 use Rattle.std.specs.BTreeMap.{get}
 use Rattle.std.specs.Ordering.{nat_cmp}
-use Rattle.stored_tables.specs.ByLease.{lease_of_runner}
+use Rattle.stored_tables.specs.inner.ByLease.{lease_of_runner}
 use Rattle.stored_tables.proofs.LeasesPut.{runner_put, runners_put}
 use Rattle.run_states.proofs.OneAfterAnother.{read_at}
 use Rattle.stored_tables.proofs.ByNumberRead.{all_found, none_added}

@@ -1,6 +1,6 @@
 use Rattle.std.specs.BTreeMap.{get}
 use Rattle.std.specs.Ordering.{nat_cmp}
-use Rattle.stored_tables.specs.ByNumber.{Adds}
+use Rattle.stored_tables.specs.inner.ByNumber.{Adds}
 use Rattle.stored_tables.proofs.LeasesPut.{SoFarOfRunners}
 use Rattle.stored_tables.proofs.sound.leases.runners_by_lease.Given as goal
 

@@ -1,4 +1,4 @@
-use Rattle.stored_tables.specs.OneByOne.{RunnerIsSound}
+use Rattle.stored_tables.specs.inner.OneByOne.{RunnerIsSound}
 use Rattle.run_states.proofs.OneAfterAnother.{SoFar}
 use Rattle.stored_tables.proofs.sound.runners.are_runners_sound.Given as goal
 

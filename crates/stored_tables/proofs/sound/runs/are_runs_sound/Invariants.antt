@@ -1,4 +1,4 @@
-use Rattle.stored_tables.specs.OneByOne.{RunIsSound}
+use Rattle.stored_tables.specs.inner.OneByOne.{RunIsSound}
 use Rattle.run_states.proofs.OneAfterAnother.{SoFar}
 use Rattle.stored_tables.proofs.sound.runs.are_runs_sound.Given as goal
 

@@ -1,6 +1,6 @@
 use Rattle.std.proofs.Common.{◌≡◌, ◌++◌, ◌∷◌, []}
 use Rattle.std.proofs.lemmas.Result.{err_from_is_err_and}
-use Rattle.command_encodings.specs.Reading.{items_at}
+use Rattle.command_encodings.specs.inner.Reading.{items_at}
 use Rattle.command_encodings.proofs.Loop.{goes_on, ends, is_done}
 use Rattle.table_text.proofs.first.list.first_list_at.Goals as goal
 

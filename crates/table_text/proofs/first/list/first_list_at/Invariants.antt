@@ -1,5 +1,5 @@
 use Rattle.std.proofs.Common.{◌≡◌, ◌-◌}
-use Rattle.command_encodings.specs.Reading.{items_at, with_prefix}
+use Rattle.command_encodings.specs.inner.Reading.{items_at, with_prefix}
 use Rattle.table_text.proofs.first.list.first_list_at.Given as goal
 
 -- the values so far and the remaining ones make up all

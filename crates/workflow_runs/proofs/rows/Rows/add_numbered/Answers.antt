@@ -8,19 +8,19 @@ use Rattle.group_name.specs.Group.{Group}
 use Rattle.definitions.specs.Admitted.{Admitted}
 use Rattle.label_lists.specs.Lists.{ListsState, OnlyGrows as ListsGrow}
 use Rattle.run_marks.specs.Marked.{SameMarks}
-use Rattle.run_states.specs.ActiveRuns.{is_active}
+use Rattle.run_states.specs.inner.ActiveRuns.{is_active}
 use Rattle.run_states.specs.GroupOf.{RunFacts}
 use Rattle.run_states.specs.RunNumber.{AreNumbered, number_of_next, same_workflow}
 use Rattle.run_states.specs.RunState.{RunState}
 use Rattle.run_states.specs.declared.holder.Holder.{Holder}
 use Rattle.run_bindings.specs.Bindings.{AreBound, RunSays}
-use Rattle.run_bindings.specs.LabelNumbers.{LegsAreOffered}
+use Rattle.run_bindings.specs.inner.LabelNumbers.{LegsAreOffered}
 use Rattle.run_bindings.specs.declared.bindings.RunBindings.{RunBindings}
 use Rattle.run_bindings.proofs.LabelNumbers.{grows_more}
-use Rattle.workflow_runs.specs.Begun.{HasAdded}
-use Rattle.workflow_runs.specs.Counted.{AreCounted, count_of}
-use Rattle.workflow_runs.specs.Delivered.{FindsFirst}
-use Rattle.workflow_runs.specs.RowsKept.{RowState, RunsAreKept}
+use Rattle.workflow_runs.specs.inner.Begun.{HasAdded}
+use Rattle.workflow_runs.specs.inner.Counted.{AreCounted, count_of}
+use Rattle.workflow_runs.specs.inner.Delivered.{FindsFirst}
+use Rattle.workflow_runs.specs.inner.RowsKept.{RowState, RunsAreKept}
 use Rattle.workflow_runs.proofs.Counting.{one_counted}
 use Rattle.workflow_runs.proofs.Indexed.{events_more, finds_one_more}
 use Rattle.workflow_runs.proofs.MarkedRuns.{one_more}

@@ -6,9 +6,9 @@ use Rattle.run_states.specs.Places.{with_run}
 use Rattle.run_states.specs.RunState.{RunState}
 use Rattle.run_states.specs.declared.place.LegSite.{LegSite}
 use Rattle.run_states.proofs.Doors.{changed_past, changed_within}
-use Rattle.run_bindings.specs.LabelNumbers.{IsOffered, IsReadyAt, LegsAreOffered}
+use Rattle.run_bindings.specs.inner.LabelNumbers.{IsOffered, IsReadyAt, LegsAreOffered}
 use Rattle.workflow_runs.proofs.Stays.{changed_admitted, changed_attempt}
-use Rattle.workflow_runs.specs.RowsKept.{RowState}
+use Rattle.workflow_runs.specs.inner.RowsKept.{RowState}
 use Rattle.workflow_runs.proofs.LegsOffered.{has_place, offered_after}
 use Rattle.workflow_runs.proofs.ReadyBefore.{ready_before}
 use Rattle.workflow_runs.proofs.StillBound.{still_kept}

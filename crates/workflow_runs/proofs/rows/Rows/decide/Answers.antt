@@ -8,8 +8,8 @@ use Rattle.run_states.proofs.Changed.{length-changed_at}
 use Rattle.run_states.proofs.Doors.{changed_within}
 use Rattle.run_bindings.specs.Bindings.{AreBound}
 use Rattle.run_bindings.specs.declared.bindings.RunBindings.{RunBindings}
-use Rattle.workflow_runs.specs.GroupsKept.{arrivals_to_come}
-use Rattle.workflow_runs.specs.RowsKept.{RowState, RunsAreKept, decided_in, keys_decided}
+use Rattle.workflow_runs.specs.inner.GroupsKept.{arrivals_to_come}
+use Rattle.workflow_runs.specs.inner.RowsKept.{RowState, RunsAreKept, decided_in, keys_decided}
 use Rattle.workflow_runs.proofs.ArrivalsToCome.{fewer_to_come}
 use Rattle.workflow_runs.proofs.StillBound.{kept_rekeyed, one_rekeyed}
 use Rattle.workflow_runs.proofs.rows.Rows.decide.Goals as goal

@@ -12,9 +12,9 @@ use Rattle.run_bindings.specs.Bindings.{RunSays}
 use Rattle.run_bindings.specs.declared.bindings.RunBindings.{RunBindings}
 use Rattle.run_bindings.proofs.BoundSays.{facts_of_run}
 use Rattle.run_bindings.proofs.LabelNumbers.{grows_more}
-use Rattle.workflow_runs.specs.Begun.{HaveTickets}
-use Rattle.workflow_runs.specs.GroupsKept.{AreTold, arrivals_to_come}
-use Rattle.workflow_runs.specs.RowsKept.{RowState}
+use Rattle.workflow_runs.specs.inner.Begun.{HaveTickets}
+use Rattle.workflow_runs.specs.inner.GroupsKept.{AreTold, arrivals_to_come}
+use Rattle.workflow_runs.specs.inner.RowsKept.{RowState}
 use Rattle.workflow_runs.proofs.ArrivalsToCome.{expected_again, its_share}
 use Rattle.workflow_runs.proofs.NextAttempt.{next_of, put}
 use Rattle.workflow_runs.proofs.StillBound.{bound_again, kept_again, kept_grown, offered_again}

@@ -1,7 +1,7 @@
 use Rattle.std.specs.Prelude.{◌≡◌, ◌<◌, List, Some, false, length, slice_get, refl}
 use Rattle.std.proofs.Common.{arith, rules, subst, sym, ◌∙◌}
 use Rattle.std.proofs.lemmas.Option.{slice_get_read}
-use Rattle.run_bindings.specs.LabelNumbers.{offers_list}
+use Rattle.run_bindings.specs.inner.LabelNumbers.{offers_list}
 use Rattle.run_bindings.specs.declared.label_numbers.ListNumbers.{ListNumbers}
 use Rattle.workflow_runs.proofs.LegsOffered.{number_unmarked}
 use Rattle.workflow_runs.proofs.rows.Rows.refresh_list.Goals as goal

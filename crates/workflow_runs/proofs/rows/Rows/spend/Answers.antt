@@ -8,7 +8,7 @@ use Rattle.run_states.proofs.Changed.{length-changed_at}
 use Rattle.run_states.proofs.Doors.{changed_past, changed_within}
 use Rattle.run_bindings.specs.GroupKeys.{KeyState, holder_key, ticket_in, with_spent}
 use Rattle.run_bindings.specs.declared.bindings.RunBindings.{RunBindings}
-use Rattle.workflow_runs.specs.RowsKept.{RowState, RunsAreKept, keys_spent}
+use Rattle.workflow_runs.specs.inner.RowsKept.{RowState, RunsAreKept, keys_spent}
 use Rattle.workflow_runs.proofs.StillBound.{kept_rekeyed, one_rekeyed}
 use Rattle.workflow_runs.proofs.rows.Rows.spend.Goals as goal
 

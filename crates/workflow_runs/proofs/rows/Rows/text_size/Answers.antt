@@ -1,7 +1,7 @@
 use Rattle.std.proofs.Common.{ap, ◌∙◌}
 use Rattle.std.specs.Prelude.{sum_by}
 use Rattle.workflow_runs.specs.StoredSizes.{run_size}
-use Rattle.workflow_runs.specs.RowsKept.{RowState}
+use Rattle.workflow_runs.specs.inner.RowsKept.{RowState}
 use Rattle.workflow_runs.proofs.SizesKept.{size_most}
 use Rattle.workflow_runs.proofs.rows.Rows.text_size.Goals as goal
 

@@ -1,6 +1,6 @@
 use Rattle.std.proofs.Common.{true}
-use Rattle.run_states.specs.Cells.{states}
-use Rattle.run_bindings.specs.LabelNumbers.{OnlyPuts}
+use Rattle.run_states.specs.inner.Cells.{states}
+use Rattle.run_bindings.specs.inner.LabelNumbers.{OnlyPuts}
 use Rattle.workflow_runs.proofs.OffersList.{JobsOfferUpTo}
 use Rattle.workflow_runs.proofs.rows.offers.offer_jobs.Given as goal
 

@@ -1,4 +1,4 @@
-use Rattle.run_bindings.specs.LabelNumbers.{OnlyPuts}
+use Rattle.run_bindings.specs.inner.LabelNumbers.{OnlyPuts}
 use Rattle.workflow_runs.proofs.OffersList.{LegsOfferUpTo}
 use Rattle.workflow_runs.proofs.rows.offers.offer_legs.Given as goal
 use Rattle.std.proofs.Common.{true}

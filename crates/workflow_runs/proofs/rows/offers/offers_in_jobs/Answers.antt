@@ -2,8 +2,8 @@ use Rattle.std.specs.Prelude.{◌≡◌, ℕ, List, Some, option_map, length, sl
 use Rattle.std.proofs.Common.{arith, ap, sym, ◌∙◌, rules}
 use Rattle.std.proofs.lemmas.List.{length-map}
 use Rattle.std.proofs.lemmas.Option.{slice_get_read, slice_get-map}
-use Rattle.run_states.specs.Cells.{JobCells, states}
-use Rattle.run_bindings.specs.LabelNumbers.{job_offers}
+use Rattle.run_states.specs.inner.Cells.{JobCells, states}
+use Rattle.run_bindings.specs.inner.LabelNumbers.{job_offers}
 use Rattle.workflow_runs.proofs.OffersList.{none_passes, one_more_fails, one_passes}
 use Rattle.workflow_runs.proofs.rows.offers.offers_in_jobs.Goals as goal
 

@@ -1,5 +1,5 @@
-use Rattle.run_states.specs.Cells.{states}
-use Rattle.run_bindings.specs.LabelNumbers.{job_offers}
+use Rattle.run_states.specs.inner.Cells.{states}
+use Rattle.run_bindings.specs.inner.LabelNumbers.{job_offers}
 use Rattle.workflow_runs.proofs.OffersList.{NonePasses}
 use Rattle.workflow_runs.proofs.rows.offers.offers_in_jobs.Given as goal
 

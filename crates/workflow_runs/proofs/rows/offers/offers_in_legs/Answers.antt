@@ -4,7 +4,8 @@ use Rattle.std.proofs.lemmas.Bool.Decides.{Decides-eqb}
 use Rattle.std.proofs.lemmas.Option.{slice_get_read}
 use Rattle.run_states.specs.Fitting.{is_ready}
 use Rattle.run_states.proofs.NamedOnce.{not_same}
-use Rattle.run_bindings.specs.LabelNumbers.{leg_offers, list_number}
+use Rattle.run_bindings.specs.inner.LabelNumbers.{leg_offers}
+use Rattle.run_bindings.specs.LabelNumbers.{list_number}
 use Rattle.workflow_runs.proofs.OffersList.{and_false, and_then_false, and_true, none_passes, one_more_fails, one_passes}
 use Rattle.workflow_runs.proofs.rows.offers.offers_in_legs.Goals.{else-is_ready-via-then-is_ready+else-list_number-number}
 use Rattle.workflow_runs.proofs.rows.offers.offers_in_legs.Goals.{else-is_ready-via-else-is_ready}

@@ -1,4 +1,4 @@
-use Rattle.run_bindings.specs.LabelNumbers.{leg_offers}
+use Rattle.run_bindings.specs.inner.LabelNumbers.{leg_offers}
 use Rattle.workflow_runs.proofs.OffersList.{NonePasses}
 use Rattle.workflow_runs.proofs.rows.offers.offers_in_legs.Given as goal
 

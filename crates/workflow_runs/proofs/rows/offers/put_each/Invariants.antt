@@ -1,6 +1,6 @@
 use Rattle.std.proofs.Common.{◌≡◌, ◌<◌, ℕ, Some, slice_get}
 use Rattle.label_lists.specs.Lists.{may_offer}
-use Rattle.run_bindings.specs.LabelNumbers.{OnlyPuts}
+use Rattle.run_bindings.specs.inner.LabelNumbers.{OnlyPuts}
 use Rattle.workflow_runs.proofs.rows.offers.put_each.Given as goal
 
 -- the run is marked or unmarked for the numbers so far

@@ -1,6 +1,7 @@
 use Rattle.std.proofs.Common.{◌≡◌, ◌<◌, ℕ}
 use Rattle.label_lists.specs.Lists.{may_offer}
-use Rattle.run_bindings.specs.LabelNumbers.{OnlyPuts, list_number}
+use Rattle.run_bindings.specs.inner.LabelNumbers.{OnlyPuts}
+use Rattle.run_bindings.specs.LabelNumbers.{list_number}
 use Rattle.workflow_runs.proofs.rows.offers.put_jobs.Given as goal
 
 -- the run is marked or unmarked for the legs of the jobs so far

@@ -6,9 +6,9 @@ use Rattle.run_states.specs.RunState.{RunState}
 use Rattle.run_states.specs.SoundRuns.{RunsAreSound}
 use Rattle.run_states.specs.declared.holder.Holder.{Holder}
 use Rattle.run_states.specs.declared.holder.Holder.TheVariants.{Run}
-use Rattle.workflow_runs.specs.GroupsKept.{GroupsAreKept}
-use Rattle.workflow_runs.specs.MarkedRuns.{AreMarked, is_due}
-use Rattle.workflow_runs.specs.RowsKept.{RowState}
+use Rattle.workflow_runs.specs.inner.GroupsKept.{GroupsAreKept}
+use Rattle.workflow_runs.specs.inner.MarkedRuns.{AreMarked, is_due}
+use Rattle.workflow_runs.specs.inner.RowsKept.{RowState}
 use Rattle.workflow_runs.proofs.Added.{added_waits, due_added, kept_beside_added}
 use Rattle.workflow_runs.proofs.Entered.{arrives, same_start}
 use Rattle.workflow_runs.proofs.MarkedRuns.{roomier}

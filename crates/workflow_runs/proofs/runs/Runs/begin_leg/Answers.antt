@@ -16,10 +16,10 @@ use Rattle.run_states.specs.declared.phases.LegPhase.TheVariants as leg
 use Rattle.run_bindings.specs.declared.bindings.RunBindings.{RunBindings}
 use Rattle.workflow_runs.proofs.ArrivingLegs.{arriving_sound, arriving_waits}
 use Rattle.wf_value.specs.declared.outcome.Outcome.TheVariants as outcome
-use Rattle.workflow_runs.specs.Arriving.{KeptBeside}
-use Rattle.workflow_runs.specs.GroupsKept.{GroupsAreKept}
-use Rattle.workflow_runs.specs.HolderChanges.{ChangesNobody}
-use Rattle.workflow_runs.specs.MarkedRuns.{AreMarked, is_due}
+use Rattle.workflow_runs.specs.inner.Arriving.{KeptBeside}
+use Rattle.workflow_runs.specs.inner.GroupsKept.{GroupsAreKept}
+use Rattle.workflow_runs.specs.inner.HolderChanges.{ChangesNobody}
+use Rattle.workflow_runs.specs.inner.MarkedRuns.{AreMarked, is_due}
 use Rattle.workflow_runs.proofs.Entered.{arrives}
 use Rattle.workflow_runs.proofs.HoldersThere.{there_if_new}
 use Rattle.workflow_runs.proofs.LegArrives.{cancelled_nobody, due_of_leg, kept_beside_leg, new_leg_within, waits_then}

@@ -7,8 +7,8 @@ use Rattle.run_states.specs.Holders.{run_of}
 use Rattle.run_states.specs.Places.{with_run}
 use Rattle.run_states.specs.RunState.{RunState}
 use Rattle.workflow_runs.proofs.Stays.{changed_admitted}
-use Rattle.workflow_runs.specs.HolderChanges.{EndsOnly}
-use Rattle.workflow_runs.specs.RowsKept.{key_at}
+use Rattle.workflow_runs.specs.inner.HolderChanges.{EndsOnly}
+use Rattle.workflow_runs.specs.inner.RowsKept.{key_at}
 use Rattle.workflow_runs.proofs.DueStill.{due_changed, next_within, still_after_end}
 use Rattle.workflow_runs.proofs.GroupsHeld.{kept_ended}
 use Rattle.workflow_runs.proofs.HoldersThere.{within_there}

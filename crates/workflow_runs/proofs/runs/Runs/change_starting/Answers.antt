@@ -6,8 +6,8 @@ use Rattle.run_states.specs.Holders.{run_of}
 use Rattle.run_states.specs.Places.{with_run}
 use Rattle.run_states.specs.RunState.{RunState}
 use Rattle.workflow_runs.proofs.Stays.{changed_admitted}
-use Rattle.workflow_runs.specs.HolderChanges.{StartsOnly}
-use Rattle.workflow_runs.specs.RowsKept.{key_at}
+use Rattle.workflow_runs.specs.inner.HolderChanges.{StartsOnly}
+use Rattle.workflow_runs.specs.inner.RowsKept.{key_at}
 use Rattle.workflow_runs.proofs.DueStill.{due_changed, still_after_start}
 use Rattle.workflow_runs.proofs.GroupsHeld.{free_slot, kept_started}
 use Rattle.workflow_runs.proofs.HoldersThere.{there_if_waits, within_there}

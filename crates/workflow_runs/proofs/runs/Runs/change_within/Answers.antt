@@ -4,7 +4,7 @@ use Rattle.run_states.specs.Changes.{changed}
 use Rattle.run_states.specs.Places.{with_run}
 use Rattle.run_states.specs.RunState.{RunState}
 use Rattle.workflow_runs.proofs.Stays.{changed_admitted}
-use Rattle.workflow_runs.specs.HolderChanges.{ChangesNobody}
+use Rattle.workflow_runs.specs.inner.HolderChanges.{ChangesNobody}
 use Rattle.workflow_runs.proofs.DueStill.{due_changed, still_where_nobody}
 use Rattle.workflow_runs.proofs.GroupsHeld.{kept_where_nobody}
 use Rattle.workflow_runs.proofs.MarkedRuns.{put_adds, put_marks}

@@ -6,7 +6,7 @@ use Rattle.run_states.specs.SoundRuns.{RunsAreSound}
 use Rattle.run_states.specs.StateWords.{leg_in_phase}
 use Rattle.run_states.specs.declared.holder.Holder.TheVariants.{Leg}
 use Rattle.run_states.specs.declared.phases.LegPhase.TheVariants as leg
-use Rattle.workflow_runs.specs.HolderChanges.{EndsOnly}
+use Rattle.workflow_runs.specs.inner.HolderChanges.{EndsOnly}
 use Rattle.workflow_runs.proofs.LegEnds.{leg_end, leg_end_sound}
 use Rattle.run_states.proofs.Transitions.{with_leg_none}
 use Rattle.workflow_runs.proofs.OneChange.{leg_written}

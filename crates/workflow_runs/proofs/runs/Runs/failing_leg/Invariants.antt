@@ -1,6 +1,6 @@
 use Rattle.std.specs.Prelude.{◌≡◌}
 use Rattle.run_states.specs.FirstOf.{first_some, placed}
-use Rattle.run_states.specs.WithinRun.{failing}
+use Rattle.run_states.specs.inner.WithinRun.{failing}
 use Rattle.workflow_runs.proofs.JobResult.{fails_at}
 use Rattle.settling_laws.proofs.PlacedLegs.{first_passing}
 use Rattle.workflow_runs.proofs.runs.Runs.failing_leg.Given as goal

@@ -1,8 +1,8 @@
 use Rattle.std.proofs.Common.{ap, subst, sym, ◌∙◌}
 use Rattle.run_states.specs.Places.{with_leg}
 use Rattle.run_states.specs.RunState.{LegState}
-use Rattle.workflow_runs.specs.HolderChanges.{ChangesNobody}
-use Rattle.workflow_runs.specs.RowsKept.{RowState}
+use Rattle.workflow_runs.specs.inner.HolderChanges.{ChangesNobody}
+use Rattle.workflow_runs.specs.inner.RowsKept.{RowState}
 use Rattle.workflow_runs.proofs.LegEnds.{leased_within, leg_is_leased}
 use Rattle.workflow_runs.proofs.runs.Runs.lease.Goals as goal
 

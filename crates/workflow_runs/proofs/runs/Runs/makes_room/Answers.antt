@@ -2,8 +2,8 @@ use Rattle.std.specs.Prelude.{◌≡◌, ◌&&◌, true, false, is_some}
 use Rattle.std.proofs.Common.{ap, sym, ◌∙◌}
 use Rattle.group_book.specs.Books.{slot_in}
 use Rattle.run_states.specs.Groups.{waits}
-use Rattle.run_states.specs.Resuming.{makes_room}
-use Rattle.workflow_runs.specs.GroupsKept.{is_there}
+use Rattle.run_states.specs.inner.Resuming.{makes_room}
+use Rattle.workflow_runs.specs.inner.GroupsKept.{is_there}
 use Rattle.workflow_runs.proofs.KnownGroups.{room_by_flag, room_by_pending}
 use Rattle.workflow_runs.proofs.runs.Runs.makes_room.Goals as goal
 

@@ -1,7 +1,7 @@
 use Rattle.std.specs.Prelude.{◌≡◌, is_some, not, true}
 use Rattle.std.proofs.Common.{ap, ◌∙◌}
 use Rattle.run_states.specs.Groups.{may_start}
-use Rattle.workflow_runs.specs.GroupsKept.{is_there}
+use Rattle.workflow_runs.specs.inner.GroupsKept.{is_there}
 use Rattle.workflow_runs.proofs.KnownGroups.{may_start_in, the_other}
 use Rattle.workflow_runs.proofs.runs.Runs.may_start.Goals as goal
 

@@ -5,10 +5,10 @@ use Rattle.run_states.specs.AsPlanned.{AreAsPlanned}
 use Rattle.run_states.specs.Groups.{HasOneEach}
 use Rattle.run_states.specs.RunState.{RunState}
 use Rattle.run_states.specs.declared.holder.Holder.{Holder}
-use Rattle.workflow_runs.specs.GroupsKept.{GroupsAreKept}
-use Rattle.workflow_runs.specs.MarkedRuns.{AreMarked, is_due}
-use Rattle.workflow_runs.specs.RowsKept.{RowState}
-use Rattle.workflow_runs.specs.Seating.{AreStored, HasSeats, HaveKeys}
+use Rattle.workflow_runs.specs.inner.GroupsKept.{GroupsAreKept}
+use Rattle.workflow_runs.specs.inner.MarkedRuns.{AreMarked, is_due}
+use Rattle.workflow_runs.specs.inner.RowsKept.{RowState}
+use Rattle.workflow_runs.specs.inner.Seating.{AreStored, HasSeats, HaveKeys}
 use Rattle.workflow_runs.specs.declared.runs.of.GroupSlot.TheVariants.{InProgress, Pending}
 use Rattle.workflow_runs.proofs.AllSeated.{all_are_due, all_exact, all_kept, keys_then, seats_then, start_keys, start_seats, two_in_progress, two_pending}
 use Rattle.workflow_runs.proofs.Seating.{are_seated, one_each_seated, one_is_taken, said_of}

@@ -9,7 +9,7 @@ use Rattle.run_states.specs.SoundRuns.{RunsAreSound}
 use Rattle.run_states.specs.StateWords.{opened}
 use Rattle.run_states.specs.Words.{planned_legs}
 use Rattle.run_states.specs.declared.change.Change.TheVariants as change
-use Rattle.workflow_runs.specs.GroupsKept.{arrivals_to_come}
+use Rattle.workflow_runs.specs.inner.GroupsKept.{arrivals_to_come}
 use Rattle.workflow_runs.proofs.MarkedRuns.{put_adds, put_marks}
 use Rattle.workflow_runs.proofs.OpenedJob.{due_open, job_is_undecided, kept_open, opened_is, opened_within}
 use Rattle.workflow_runs.proofs.runs.Runs.open_job.Goals as goal

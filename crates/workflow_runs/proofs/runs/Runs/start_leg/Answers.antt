@@ -2,7 +2,7 @@ use Rattle.std.proofs.Common.{subst, sym, ◌∙◌}
 use Rattle.run_states.specs.StateWords.{leg_in_phase}
 use Rattle.run_states.specs.declared.holder.Holder.TheVariants.{Leg}
 use Rattle.run_states.specs.declared.phases.LegPhase.TheVariants as leg
-use Rattle.workflow_runs.specs.HolderChanges.{StartsOnly}
+use Rattle.workflow_runs.specs.inner.HolderChanges.{StartsOnly}
 use Rattle.workflow_runs.proofs.OneHolder.{leg_starts}
 use Rattle.workflow_runs.proofs.OneChange.{leg_written}
 use Rattle.workflow_runs.proofs.runs.Runs.start_leg.Goals as goal

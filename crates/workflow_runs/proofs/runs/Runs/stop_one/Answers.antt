@@ -4,7 +4,7 @@ use Rattle.run_states.specs.SoundRuns.{RunsAreSound}
 use Rattle.run_states.specs.Stops.{stopped}
 use Rattle.run_states.specs.declared.holder.Holder.TheVariants.{Leg}
 use Rattle.run_states.proofs.Transitions.{with_leg_none}
-use Rattle.workflow_runs.specs.HolderChanges.{ChangesNobody, EndsOnly}
+use Rattle.workflow_runs.specs.inner.HolderChanges.{ChangesNobody, EndsOnly}
 use Rattle.workflow_runs.proofs.HoldersThere.{leg_within_there}
 use Rattle.workflow_runs.proofs.OneChange.{leg_written}
 use Rattle.workflow_runs.proofs.OneHolder.{leg_is_stopped}

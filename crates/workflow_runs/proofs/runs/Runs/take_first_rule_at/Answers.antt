@@ -1,6 +1,7 @@
 use Rattle.std.specs.Prelude.{◌≡◌, List, Some, IfSome, Bool, option_and_then}
 use Rattle.std.proofs.Common.{ap, subst, sym, ◌∙◌}
-use Rattle.run_states.specs.Resuming.{RestBefore, may_invalidate_others, resume_point}
+use Rattle.run_states.specs.Resuming.{RestBefore}
+use Rattle.run_states.specs.inner.Resuming.{may_invalidate_others, resume_point}
 use Rattle.run_states.specs.Moves.{Transition}
 use Rattle.run_states.specs.Rules.{rule_at}
 use Rattle.run_states.specs.RunState.{RunState}

@@ -4,8 +4,8 @@ use Rattle.run_states.specs.GroupOf.{group_at}
 use Rattle.run_states.specs.Groups.{waits}
 use Rattle.run_states.specs.RunState.{RunState}
 use Rattle.run_states.specs.SoundRuns.{RunsAreSound}
-use Rattle.workflow_runs.specs.Arriving.{stopped_if}
-use Rattle.workflow_runs.specs.MarkedRuns.{AreMarked, is_due}
+use Rattle.workflow_runs.specs.inner.Arriving.{stopped_if}
+use Rattle.workflow_runs.specs.inner.MarkedRuns.{AreMarked, is_due}
 use Rattle.workflow_runs.proofs.ArrivalEnds.{displaced_waits, its_flag, may_arrive}
 use Rattle.workflow_runs.proofs.Displaced.{due_displaced}
 use Rattle.workflow_runs.proofs.Entered.{entered_alone, entered_in_group, entered_rows}

@@ -5,8 +5,8 @@ use Rattle.group_name.specs.Group.{Group}
 use Rattle.run_states.specs.GroupOf.{group_at}
 use Rattle.run_states.specs.RunState.{RunState}
 use Rattle.run_bindings.specs.declared.bindings.RunBindings.{RunBindings}
-use Rattle.workflow_runs.specs.RowsKept.{holder_key_at, key_at, keys_spent}
-use Rattle.workflow_runs.specs.Seating.{HasSeats, SitsDown}
+use Rattle.workflow_runs.specs.inner.RowsKept.{holder_key_at, key_at, keys_spent}
+use Rattle.workflow_runs.specs.inner.Seating.{HasSeats, SitsDown}
 use Rattle.workflow_runs.proofs.Seating.{free_still, key_after, room_for_it, seats_still, seats_without, sits_down}
 use Rattle.workflow_runs.proofs.SpentThere.{another_key}
 use Rattle.workflow_runs.proofs.runs.of.arrive.Goals as goal

@@ -3,7 +3,7 @@ use Rattle.std.specs.Prelude.{[]}
 use Rattle.run_plan.specs.PlanOf.{plan_of}
 use Rattle.run_states.specs.AsPlanned.{IsAsPlanned}
 use Rattle.run_states.proofs.OneAfterAnother.{SoFar}
-use Rattle.workflow_runs.specs.Seating.{AreStored}
+use Rattle.workflow_runs.specs.inner.Seating.{AreStored}
 use Rattle.workflow_runs.proofs.runs.of.rows_of.Given as goal
 
 -- the runs before the index are added, each matching its plan

@@ -8,7 +8,7 @@ use Rattle.run_states.specs.GroupOf.{group_at}
 use Rattle.run_states.specs.GroupWords.{same_holder}
 use Rattle.run_states.proofs.Optional.{some_of}
 use Rattle.settling_laws.proofs.ArrivalKeeps.{itself}
-use Rattle.workflow_runs.specs.Seating.{in_slot, is_of}
+use Rattle.workflow_runs.specs.inner.Seating.{in_slot, is_of}
 use Rattle.workflow_runs.proofs.Seating.{group_by_key, in_no_group, its_place_is_taken, no_seat_for, one_seated}
 use Rattle.workflow_runs.proofs.runs.of.seat.Goals as goal
 use Rattle.workflow_runs.proofs.runs.of.seat.Goals.{In-Some}

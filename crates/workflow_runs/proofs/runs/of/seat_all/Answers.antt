@@ -4,8 +4,8 @@ use Rattle.run_states.specs.GroupWords.{same_holder}
 use Rattle.run_states.specs.RunState.{RunState}
 use Rattle.run_states.specs.declared.holder.Holder.{Holder}
 use Rattle.run_states.specs.declared.holder.Holder.TheVariants.{Run}
-use Rattle.workflow_runs.specs.RowsKept.{RowState}
-use Rattle.workflow_runs.specs.Seating.{HaveKeys, TakeSeats, legs_of_run, runs_below}
+use Rattle.workflow_runs.specs.inner.RowsKept.{RowState}
+use Rattle.workflow_runs.specs.inner.Seating.{HaveKeys, TakeSeats, legs_of_run, runs_below}
 use Rattle.workflow_runs.proofs.Seating.{are_seated, one_is_taken, said_of}
 use Rattle.workflow_runs.proofs.SeatSteps.{all_runs_seated, keys_still, leg_after_its_run, legs_taken, no_run_seated, run_itself, run_itself_taken, run_seated}
 use Rattle.workflow_runs.proofs.SeatsInOrder.{run_is_another}

@@ -1,5 +1,5 @@
 use Rattle.std.proofs.Common.{◌≡◌}
-use Rattle.workflow_runs.specs.Seating.{HasSeats, TakeSeats, runs_below}
+use Rattle.workflow_runs.specs.inner.Seating.{HasSeats, TakeSeats, runs_below}
 use Rattle.workflow_runs.proofs.runs.of.seat_all.Given as goal
 
 -- those before the index have their places

@@ -5,7 +5,7 @@ use Rattle.run_states.specs.RunState.{RunState}
 use Rattle.run_states.specs.declared.holder.Holder.{Holder}
 use Rattle.run_states.specs.declared.holder.Holder.TheVariants.{Leg}
 use Rattle.run_states.specs.declared.place.LegSite.{LegSite}
-use Rattle.workflow_runs.specs.Seating.{HaveKeys, TakeSeats, in_job, legs_below}
+use Rattle.workflow_runs.specs.inner.Seating.{HaveKeys, TakeSeats, in_job, legs_below}
 use Rattle.workflow_runs.proofs.Seating.{are_seated, one_is_taken, said_of}
 use Rattle.workflow_runs.proofs.SeatSteps.{all_legs_seated, keys_still, leg_in_its_job, leg_site, leg_seated, leg_taken, no_leg_seated}
 use Rattle.workflow_runs.proofs.SeatsInOrder.{leg_is_another}

@@ -1,6 +1,6 @@
 use Rattle.std.proofs.Common.{◌≡◌, ◌+◌, length}
 use Rattle.std.specs.Prelude.{sum_by}
-use Rattle.run_states.specs.PlacedLegs.{Fits, to_come}
+use Rattle.run_states.specs.inner.PlacedLegs.{Fits, to_come}
 use Rattle.run_states.specs.RunState.{RunState}
 use Rattle.workflow_runs.proofs.walk.LegsIterator.next.Given as goal
 

@@ -1,0 +1,4 @@
+-- Definitions that follow the code, or that proofs alone need. No promise names them.
+pub mod Known
+pub mod Labels
+pub mod Requesting

@@ -1,0 +1,5 @@
+-- Definitions that follow the code, or that proofs alone need. No promise names them.
+pub mod JobBitmap
+pub mod JobSets
+pub mod Lookup
+pub mod Rows

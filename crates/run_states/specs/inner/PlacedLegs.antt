@@ -1,0 +1,37 @@
+-- The legs of a table with their places, in the order of run, job and leg.
+use Rattle.std.specs.Prelude.{ℕ, ◌+◌, ◌<◌, ◌^◌, List, ◌++◌, length, map, flat_map}
+use Rattle.std.specs.List.{enumerate_from}
+use Rattle.run_states.specs.inner.Cells.{JobCells, states}
+use Rattle.run_states.specs.FirstOf.{placed}
+use Rattle.run_states.specs.Places.{leg_site}
+use Rattle.run_states.specs.declared.place.LegSite.{LegSite}
+use Rattle.run_states.specs.RunState.{LegState, JobState, RunState}
+
+pub record PlacedLeg : Type 0 where
+  pub place : LegSite
+  pub leg : LegState
+
+abbrev pub placed_leg : ℕ → ℕ → ℕ × LegState → PlacedLeg
+placed_leg r j l = record { place = leg_site r j l.0; leg = l.1 }
+
+abbrev pub placed_legs_of_job : ℕ → ℕ × JobState → List PlacedLeg
+placed_legs_of_job r j = map (placed_leg r j.0) (placed j.1.legs)
+
+abbrev pub placed_legs_of_run : ℕ × RunState → List PlacedLeg
+placed_legs_of_run r = flat_map (placed_legs_of_job r.0) (placed r.1.jobs)
+
+-- all legs of a table
+abbrev pub placed_legs : List RunState → List PlacedLeg
+placed_legs runs = flat_map placed_legs_of_run (placed runs)
+
+-- ---- from a place on
+
+-- these legs of a job, then the later jobs of its run, then the later runs; `at.leg`, `job` and `run` are the indices of the first of each
+abbrev pub to_come : LegSite → List LegState → ℕ → List JobCells → ℕ → List RunState → List PlacedLeg
+to_come at legs job jobs run runs =
+    map (placed_leg at.run at.job) (enumerate_from at.leg legs)
+    ++ (flat_map (placed_legs_of_job at.run) (enumerate_from job (states jobs)) ++ flat_map placed_legs_of_run (enumerate_from run runs))
+
+-- each index is one that a slice can have
+abbrev pub Fits : {X : Type 0} → ℕ → List X → Type 0
+Fits first xs = first + length xs < 2 ^ 63

@@ -1,0 +1,27 @@
+-- The leases of legs, by place, and the leases that runners hold.
+use Rattle.std.specs.Prelude.{ℕ, ◌≤◌, List, Option, length, option_and_then, slice_get}
+use Rattle.definitions.specs.Limits.{max_runs}
+use Rattle.stored_tables.specs.inner.ByNumber.{Finds}
+use Rattle.run_states.specs.Places.{run_at}
+use Rattle.run_states.specs.declared.place.LegSite.{LegSite}
+use Rattle.run_states.specs.TableState.{RunnerState}
+use Rattle.run_states.specs.RunState.{LegState, JobState, RunState}
+
+-- the lease of the leg at an index, if it has one
+abbrev pub lease_in_job : List LegState → ℕ → Option ℕ
+lease_in_job legs l = option_and_then (λ x. x.lease) (slice_get legs l)
+
+abbrev pub lease_in_run : List JobState → ℕ → ℕ → Option ℕ
+lease_in_run jobs j l = option_and_then (λ job. lease_in_job job.legs l) (slice_get jobs j)
+
+abbrev pub lease_of_leg : List RunState → LegSite → Option ℕ
+lease_of_leg runs p = option_and_then (λ run. lease_in_run run.jobs p.job p.leg) (run_at runs p.run)
+
+-- leg_of finds the legs by their leases, and there are at most as many runs as a table may have
+pub record FindsLegs (runs : List RunState) (leg_of : ℕ → Option LegSite) : Type 0 where
+  pub legs : (n : ℕ) → Finds (lease_of_leg runs) n (leg_of n)
+  pub few : length runs ≤ max_runs
+
+-- the lease that the runner at an index holds, if any
+abbrev pub lease_of_runner : List RunnerState → ℕ → Option ℕ
+lease_of_runner runners k = option_and_then (λ x. x.holds) (slice_get runners k)

@@ -1,0 +1,4 @@
+-- Definitions that follow the code, or that proofs alone need. No promise names them.
+pub mod FoundRequest
+pub mod HeadLines
+pub mod Laws
