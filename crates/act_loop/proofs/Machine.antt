@@ -8,9 +8,8 @@ use Rattle.std.proofs.lemmas.List.{length-set, map-append, take_all}
 use Rattle.wf_value.specs.declared.refusal.Refusal.{Refusal}
 use Rattle.run_plan.specs.declared.command.Command.{Command}
 use Rattle.run_plan.specs.declared.reply.Reply.{Reply}
-use Rattle.run_states.specs.Histories.{after as run_after, replies}
+use Rattle.run_states.specs.Step.{after as run_after, replies, stepped}
 use Rattle.run_states.specs.Sound.{IsSound}
-use Rattle.run_states.specs.Step.{stepped}
 use Rattle.run_states.specs.TableState.{TableState}
 use Rattle.act_store.specs.Entries.{IsLegal, commands_of, replies_of, table_after}
 use Rattle.act_store.specs.Images.{RecoversTo}

@@ -4,8 +4,7 @@ use Rattle.std.specs.Prelude.{min}
 use Rattle.wf_value.specs.Gives.{no_memory}
 use Rattle.run_plan.specs.declared.command.Command.{Command}
 use Rattle.act_sessions.specs.Rules.{Rules, Turn, Answered, Refused, request_of, exchanges_at, exchanges_of, is_last, IsEnded, IsOpen, IsSteady, Reads, turn_text, texts}
-use Rattle.act_sessions.specs.Last.{ends_session}
-use Rattle.act_sessions.specs.Exchange.{AreAsked, Response, Exchange}
+use Rattle.act_sessions.specs.Exchange.{ends_session, AreAsked, Response, Exchange}
 
 pub Reads_snoc : {F : Type 0} (p : Rules F) (bytes : List ℕ) (ts : List (Turn F)) (middle rest : List ℕ) (t : Turn F) → Reads p bytes ts middle
     → p.reads middle (request_of t) rest → Reads p bytes (ts ++ t ∷ []) rest

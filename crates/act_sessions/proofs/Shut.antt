@@ -5,10 +5,9 @@ use Rattle.std.specs.List.{list_any}
 use Rattle.wf_value.specs.RefusalText.{refusal_number}
 use Rattle.act_sessions.specs.declared.transcript.Ending.{Ending}
 use Rattle.act_sessions.specs.declared.transcript.Ending.TheVariants.{Done, Memory, Broken}
-use Rattle.act_sessions.specs.Last.{ends_session}
+use Rattle.act_sessions.specs.Exchange.{ends_session, OnlyLastOpen, Response, Exchange, leaves_open}
 use Rattle.act_sessions.specs.Rules.{Rules, Turn, Answered, Refused, exchanges_at, exchanges_of, is_last, IsOpen, IsEnded}
 use Rattle.act_sessions.specs.Session.{ArePassed, EndsSo}
-use Rattle.act_sessions.specs.Exchange.{OnlyLastOpen, Response, Exchange, leaves_open}
 use Rattle.act_sessions.proofs.Joining.{exchanges_append}
 
 -- Each answer settles whether its command was entered.

@@ -1,7 +1,6 @@
 pub mod Ends
 pub mod Exchange
 pub mod Joined
-pub mod Last
 pub mod Rules
 pub mod Session
 pub mod Taking

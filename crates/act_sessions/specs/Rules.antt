@@ -7,8 +7,7 @@ use Rattle.act_sessions.specs.declared.request.Demand.TheVariants as demand
 use Rattle.act_sessions.specs.declared.request.Next.{Next}
 use Rattle.act_sessions.specs.declared.request.Next.TheVariants.{Waits, Whole}
 use Rattle.act_sessions.specs.declared.request.Request.{Request}
-use Rattle.act_sessions.specs.Last.{ends_session}
-use Rattle.act_sessions.specs.Exchange.{Response, Exchange}
+use Rattle.act_sessions.specs.Exchange.{ends_session, Response, Exchange}
 
 -- A request with its answer. It is either a command, or a fault for which no command is submitted. The flag says whether the request
 -- closes the session.

@@ -1,6 +1,5 @@
 ghost use Rattle.std.specs.Prelude.{◌≡◌};
-ghost use Rattle.act_sessions.specs.Exchange.{is_one_of, leaves_open, open_codes};
-ghost use Rattle.act_sessions.specs.Last.{ends_by, ends_session};
+ghost use Rattle.act_sessions.specs.Exchange.{is_one_of, leaves_open, open_codes, ends_by, ends_session};
 
 use run_plan::Reply;
 use wf_value::{Code, Refusal};

@@ -13,10 +13,9 @@ use Rattle.run_states.specs.Sound.{IsSound}
 use Rattle.run_states.specs.Step.{empty}
 use Rattle.run_states.specs.TableState.{TableState}
 use Rattle.act_store.specs.Entries.{table_after}
-use Rattle.act_store.specs.Images.{IsAreaLength, RecoversTo}
+use Rattle.act_store.specs.Images.{IsAreaLength, RecoversTo, MeansTable}
 use Rattle.act_store.specs.Layouts.{current_version}
 use Rattle.act_store.specs.StoreState.{Checkpoint, StoreState}
-use Rattle.act_store.specs.Meaning.{MeansTable}
 use Rattle.act_store.specs.inner.Promise.{IsCounted, IsSettled, IsConsistent}
 use Rattle.act_store.specs.PendingBatch.{BatchState, batch_state_of}
 use Rattle.act_store.specs.declared.entry.Entry.{Entry}

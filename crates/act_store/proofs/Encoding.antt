@@ -8,11 +8,10 @@ use Rattle.wf_value.specs.declared.refusal.Refusal.{Refusal}
 use Rattle.run_states.specs.Sound.{IsSound}
 use Rattle.run_states.specs.TableState.{TableState}
 use Rattle.table_laws.proofs.ReachedTables.{after_is_sound}
-use Rattle.act_store.specs.Layouts.{layout_of}
-use Rattle.act_store.specs.Meaning.{MeansTable, EncodeCommands}
+use Rattle.act_store.specs.Layouts.{layout_of, EncodesTable}
+use Rattle.act_store.specs.Images.{MeansTable, EncodeCommands}
 use Rattle.act_store.specs.inner.Replayed.{IsReplayed}
 use Rattle.act_store.specs.inner.Encoded.{IsEncoded, EncodesArea}
-use Rattle.act_store.specs.TableText.{EncodesTable}
 use Rattle.act_store.specs.declared.decoded_area.DecodedArea.{DecodedArea}
 use Rattle.act_store.specs.declared.layout.Layout.{Layout}
 use Rattle.act_store.proofs.InLayout.{one_layout}

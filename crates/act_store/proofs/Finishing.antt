@@ -14,7 +14,7 @@ use Rattle.gated_journal.specs.Whole.{RecoversWhole, WholeOrSwitched}
 use Rattle.gated_journal.specs.declared.gate.GateState.{GateState}
 use Rattle.gated_journal.specs.declared.gate.GateState.TheVariants.{Open, Closed}
 use Rattle.run_plan.specs.declared.command.Command.{Command}
-use Rattle.run_states.specs.Histories.{after}
+use Rattle.run_states.specs.Step.{after}
 use Rattle.run_states.specs.TableState.{TableState}
 use Rattle.command_encodings.specs.Commands.{IsEncoded, batch, command_bytes}
 use Rattle.act_store.specs.Checkpoints.{IsFinished, finished, first_gate, gate_after, refusal_of_finish}
@@ -22,7 +22,7 @@ use Rattle.act_store.specs.Entries.{commands_of, table_after}
 use Rattle.act_store.specs.Layouts.{HasCommand, batch_format, current_version, layout_of}
 use Rattle.act_store.specs.StoreState.{Checkpoint, StoreState, RecoversToEither, covered_table, table_of}
 use Rattle.act_store.specs.inner.LastPart.{bodies_of, front_of, last_part, written_part}
-use Rattle.act_store.specs.Meaning.{MeansTable}
+use Rattle.act_store.specs.Images.{MeansTable}
 use Rattle.act_store.specs.inner.Promise.{IsBegun, IsCounted, IsPut, IsSettled, IsSnapshot, IsConsistent}
 use Rattle.act_store.specs.inner.StoreSeen.{as_checkpoint, as_state}
 use Rattle.act_store.specs.PendingBatch.{BatchState, batch_state_of}

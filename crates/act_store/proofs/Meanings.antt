@@ -5,12 +5,12 @@ use Rattle.std.proofs.lemmas.List.Concat.{flat_map-append}
 use Rattle.std.specs.List.{AllByRecursion, flat_map}
 use Rattle.definitions.specs.Area.{Head}
 use Rattle.run_plan.specs.declared.command.Command.{Command}
-use Rattle.run_states.specs.Histories.{after}
+use Rattle.run_states.specs.Step.{after}
 use Rattle.run_states.specs.TableState.{TableState}
 use Rattle.table_laws.proofs.LeasesStay.{after_both}
 use Rattle.command_encodings.specs.Commands.{batch}
 use Rattle.act_store.specs.Layouts.{batch_format}
-use Rattle.act_store.specs.Meaning.{EncodeCommands, MeansTable}
+use Rattle.act_store.specs.Images.{EncodeCommands, MeansTable}
 use Rattle.act_store.specs.declared.layout.Layout.{Layout}
 use Rattle.act_store.proofs.InLayout.{same_encoding}
 

@@ -6,12 +6,10 @@ use Rattle.gated_journal.specs.TwoAreas.{area_on, Encodes}
 use Rattle.gated_journal.specs.declared.side.Side.{Side}
 use Rattle.gated_journal.proofs.OneReading.{one_reading}
 use Rattle.run_plan.specs.declared.command.Command.{Command}
-use Rattle.run_states.specs.Histories.{after}
+use Rattle.run_states.specs.Step.{after}
 use Rattle.run_states.specs.TableState.{TableState}
-use Rattle.act_store.specs.Images.{RecoversTo}
-use Rattle.act_store.specs.Layouts.{batch_format}
-use Rattle.act_store.specs.Meaning.{MeansTable, EncodeCommands}
-use Rattle.act_store.specs.TableText.{EncodesTable}
+use Rattle.act_store.specs.Images.{RecoversTo, MeansTable, EncodeCommands}
+use Rattle.act_store.specs.Layouts.{batch_format, EncodesTable}
 use Rattle.act_store.specs.declared.layout.Layout.{Layout}
 use Rattle.act_store.proofs.InLayout.{batches_begin_none, one_layout}
 use Rattle.act_store.proofs.TextOfTable.{one_text}

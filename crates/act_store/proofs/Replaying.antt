@@ -7,12 +7,12 @@ use Rattle.gated_journal.specs.Scanned.{OpensWith, Parts}
 use Rattle.gated_journal.proofs.OneReading.{AreShort, same_frames}
 use Rattle.gated_journal.proofs.Parting.{all_parted, parts_more}
 use Rattle.run_plan.specs.declared.command.Command.{Command}
-use Rattle.run_states.specs.Histories.{after}
+use Rattle.run_states.specs.Step.{after}
 use Rattle.run_states.specs.TableState.{TableState}
 use Rattle.table_laws.proofs.LeasesStay.{after_both}
 use Rattle.definitions.specs.Format.{OpensWith as BeginsWith, Encodes}
 use Rattle.act_store.specs.Layouts.{batch_format}
-use Rattle.act_store.specs.Meaning.{EncodeCommands}
+use Rattle.act_store.specs.Images.{EncodeCommands}
 use Rattle.act_store.specs.inner.Replayed.{IsCarried, IsReplayed}
 use Rattle.act_store.specs.declared.layout.Layout.{Layout}
 use Rattle.act_store.proofs.InLayout.{batches_begin_none}

@@ -9,14 +9,13 @@ use Rattle.gated_journal.specs.Whole.{RecoversWhole, WholeOrGrew}
 use Rattle.gated_journal.specs.declared.gate.GateState.{GateState}
 use Rattle.gated_journal.specs.declared.side.Side.{Side}
 use Rattle.gated_journal.proofs.Grown.{opened-push}
-use Rattle.run_states.specs.Histories.{after}
+use Rattle.run_states.specs.Step.{after}
 use Rattle.run_states.specs.TableState.{TableState}
 use Rattle.command_encodings.specs.Commands.{batch}
 use Rattle.act_store.specs.Entries.{table_after}
-use Rattle.act_store.specs.Images.{IsAreaLength, RecoversFrom, RecoversTo}
+use Rattle.act_store.specs.Images.{IsAreaLength, RecoversFrom, RecoversTo, MeansTable}
 use Rattle.act_store.specs.StoreState.{StoreState, RecoverToCovered, RecoversToEither, covered_table, pending_commands, table_of}
 use Rattle.act_store.specs.Layouts.{HasCommand, batch_format}
-use Rattle.act_store.specs.Meaning.{MeansTable}
 use Rattle.act_store.specs.Plain.{committed, used_after}
 use Rattle.act_store.specs.inner.Promise.{IsSettled, IsConsistent}
 use Rattle.act_store.specs.declared.entry.Entry.{Entry}

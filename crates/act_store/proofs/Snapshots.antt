@@ -14,14 +14,13 @@ use Rattle.gated_journal.specs.declared.side.Side.{Side}
 use Rattle.run_plan.specs.declared.command.Command.{Command}
 use Rattle.run_states.specs.TableState.{TableState}
 use Rattle.command_encodings.specs.Commands.{IsEncoded, command_bytes}
-use Rattle.table_text.specs.WholeTables.{whole_table}
+use Rattle.table_text.specs.Tables.{whole_table}
 use Rattle.act_store.specs.Checkpoints.{first_gate, text_length}
 use Rattle.act_store.specs.Entries.{commands_of, table_after}
 use Rattle.act_store.specs.LaterEntries.{with_encoded}
-use Rattle.act_store.specs.Layouts.{current_version}
+use Rattle.act_store.specs.Layouts.{current_version, EncodesTable}
 use Rattle.act_store.specs.inner.Promise.{IsBegun, IsPut, IsSnapshot}
 use Rattle.act_store.specs.inner.StoreSeen.{as_checkpoint}
-use Rattle.act_store.specs.TableText.{EncodesTable}
 use Rattle.act_store.specs.declared.begun.Begun.{Begun}
 use Rattle.act_store.specs.declared.entry.Entry.{Entry}
 use Rattle.act_store.specs.declared.layout.Layout.TheVariants as layouts

@@ -7,10 +7,8 @@ use Rattle.stored_tables.specs.Stored.{stored_table}
 use Rattle.run_states.specs.TableState.{TableState}
 use Rattle.run_table.proofs.StepKeeps.{empty_is_sound}
 use Rattle.definitions.specs.Format.{OpensWith, ReadsPrefix, word_bytes}
-use Rattle.table_text.specs.Tables.{table}
-use Rattle.table_text.specs.WholeTables.{whole_table}
-use Rattle.act_store.specs.Layouts.{table_format}
-use Rattle.act_store.specs.TableText.{EncodesTable}
+use Rattle.table_text.specs.Tables.{table, whole_table}
+use Rattle.act_store.specs.Layouts.{table_format, EncodesTable}
 use Rattle.act_store.specs.declared.layout.Layout.{Layout}
 use Rattle.act_store.specs.declared.layout.Layout.TheVariants as layouts
 use Rattle.act_store.proofs.InLayout.{tables_begin_none, takes_sound}

@@ -3,7 +3,7 @@
 use Rattle.std.specs.Prelude.{◌≡◌, List, map}
 use Rattle.run_plan.specs.declared.command.Command.{Command}
 use Rattle.run_plan.specs.declared.reply.Reply.{Reply}
-use Rattle.run_states.specs.Histories.{after, replies}
+use Rattle.run_states.specs.Step.{after, replies}
 use Rattle.run_states.specs.TableState.{TableState}
 use Rattle.act_store.specs.declared.entry.Entry.{Entry}
 

@@ -1,15 +1,16 @@
--- The layouts of an area: the bytes that name them, and what each encodes. The second layout has the attempts of runs and is the one
--- written; the first one is read and appended to, but never created.
+-- The layouts of a store's texts.
 use Rattle.std.specs.Prelude.{ℕ, ◌==◌, Bool, true, IsTrue, List, Option, Some, None, if◌then◌else◌}
 use Rattle.run_plan.specs.declared.command.Command.{Command}
 use Rattle.run_states.specs.TableState.{TableState}
 use Rattle.command_encodings.specs.Commands.{batch}
-use Rattle.table_text.specs.FirstLayout.{first_batch, is_in_first_layout}
-use Rattle.definitions.specs.Format.{Format}
-use Rattle.table_text.specs.WholeFirstTables.{whole_first_table}
-use Rattle.table_text.specs.WholeTables.{whole_table}
+use Rattle.table_text.specs.FirstLayout.{first_batch, is_in_first_layout, whole_first_table}
+use Rattle.definitions.specs.Format.{Format, Encodes}
+use Rattle.table_text.specs.Tables.{whole_table}
 use Rattle.act_store.specs.declared.layout.Layout.{Layout}
 use Rattle.act_store.specs.declared.layout.Layout.TheVariants as layouts
+
+-- ---- the layouts of an area: the bytes that name them, and what each encodes. The second layout has the attempts of runs and is the one
+-- written; the first one is read and appended to, but never created.
 
 abbrev pub layout_byte : Layout → ℕ
 layout_byte layouts.First = 1
@@ -39,3 +40,9 @@ has_command layouts.Second command = true
 
 abbrev pub HasCommand : Layout → Command → Type 0
 HasCommand layout command = IsTrue (has_command layout command)
+
+-- ---- which bytes are the text of a table in a layout: exactly its encoding. An area begins with such a text, and the commands that follow in
+-- it start from that table.
+
+unfoldable pub EncodesTable : Layout → TableState → List ℕ → Type 0
+EncodesTable layout table text = Encodes (table_format layout) text table

@@ -6,12 +6,10 @@ pub mod GroupsOfHistory
 pub mod Images
 pub mod LaterEntries
 pub mod Layouts
-pub mod Meaning
 pub mod OtherGate
 pub mod PendingBatch
 pub mod Plain
 pub mod Reopened
 pub mod Steps
 pub mod StoreState
-pub mod TableText
 pub mod inner

@@ -4,14 +4,13 @@ ghost use Rattle.act_disk.specs.Failed.{device_failed};
 ghost use Rattle.definitions.specs.Disk.{EachSince};
 ghost use Rattle.definitions.specs.Area.{head_bytes};
 ghost use Rattle.run_states.specs.Sound.{IsSound};
-ghost use Rattle.table_text.specs.WholeTables.{whole_table};
+ghost use Rattle.table_text.specs.Tables.{whole_table};
 ghost use Rattle.act_store.specs.Checkpoints.{begun_at, first_gate, refusal_of_begin, text_length, checkpoint_length};
-ghost use Rattle.act_store.specs.Layouts.{current_version};
+ghost use Rattle.act_store.specs.Layouts.{current_version, EncodesTable};
 ghost use Rattle.act_store.specs.OtherGate.{IsShutBeside};
 ghost use Rattle.act_store.specs.StoreState.{RecoversToEither, table_of};
 ghost use Rattle.act_store.specs.declared.layout.Layout.TheVariants as layouts;
 ghost use Rattle.act_store.specs.Plain.{broken};
-ghost use Rattle.act_store.specs.TableText.{EncodesTable};
 ghost use Rattle.act_store.specs.FaultCauses.{TellsFault};
 
 use crate::begun::Begun;

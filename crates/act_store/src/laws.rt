@@ -1,12 +1,11 @@
 //! Laws about what images recover to.
 
 ghost use Rattle.std.specs.Prelude.{◌≡◌, ◌+◌, ℕ, List, length, drop};
-ghost use Rattle.definitions.specs.Admitted.{Admitted};
+ghost use Rattle.definitions.specs.SmallText.{Admitted};
 ghost use Rattle.run_plan.specs.declared.command.Attempt.{Attempt};
 ghost use Rattle.run_plan.specs.declared.command.Command.TheVariants as command;
 ghost use Rattle.run_plan.specs.declared.reply.Reply.TheVariants as reply;
-ghost use Rattle.run_states.specs.Histories.{replies};
-ghost use Rattle.run_states.specs.Step.{step, stepped};
+ghost use Rattle.run_states.specs.Step.{replies, step, stepped};
 ghost use Rattle.run_states.specs.TableState.{TableState};
 ghost use Rattle.table_laws.specs.ExactlyOnce.{HasNumber, IsRefused};
 ghost use Rattle.table_laws.specs.Remembered.{AreNoLaterNumbers, AreNoOtherAttempts};

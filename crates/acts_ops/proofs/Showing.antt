@@ -10,10 +10,10 @@ use Rattle.wf_value.specs.Gives.{no_memory}
 use Rattle.wf_value.specs.declared.code.Code.TheVariants.{NoRun}
 use Rattle.wf_value.specs.declared.refusal.Refusal.{Refusal}
 use Rattle.wf_value.specs.declared.refusal.Refusal.TheVariants.{Numbered}
-use Rattle.run_states.specs.RunNumber.{events, run_number}
+use Rattle.run_states.specs.LegContext.{events, run_number}
 use Rattle.run_states.specs.Step.{seen}
 use Rattle.run_states.specs.TableState.{TableState}
-use Rattle.run_states.specs.RunState.{RunState}
+use Rattle.run_states.specs.Runs.{RunState}
 use Rattle.run_states.specs.ViewText.{Seen}
 use Rattle.act_store.specs.Entries.{table_after}
 use Rattle.act_store.specs.Images.{HasNoArea, RecoversTo}

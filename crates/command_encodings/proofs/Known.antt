@@ -12,12 +12,11 @@ use Rattle.wf_value.specs.declared.refusal.Refusal.{Refusal}
 use Rattle.wf_value.specs.declared.refusal.Refusal.TheVariants.{Numbered}
 use Rattle.wf_value.specs.Gives.{no_memory}
 use Rattle.wf_value.specs.RefusalText.{refusal_number}
-use Rattle.wf_reader.specs.Body.{json_of}
+use Rattle.wf_reader.specs.Workflow.{json_of}
 use Rattle.wf_reader.specs.Event.{event_faults, event_faults_in, event_of}
 use Rattle.wf_reader.specs.Faults.{fault, required, unless_faulty}
-use Rattle.definitions.specs.Admitted.{Admitted}
+use Rattle.definitions.specs.SmallText.{Admitted, is_of_short_length, is_short, is_label_byte, are_labels}
 use Rattle.run_plan.specs.PlanOf.{faults_of, plan_faults}
-use Rattle.definitions.specs.SmallText.{is_of_short_length, is_short, is_label_byte, are_labels}
 use Rattle.command_encodings.specs.declared.decode_error.DecodeError.{DecodeError}
 use Rattle.command_encodings.specs.declared.decode_error.DecodeError.TheVariants.{NoMemory, NoEncoding}
 use Rattle.command_encodings.specs.Commands.{is_numbered, are_none, is_faultless, small_text, labels}

@@ -9,9 +9,8 @@ use Rattle.wf_value.specs.declared.outcome.Outcome.TheVariants as outcome
 use Rattle.wf_value.specs.declared.refusal.Refusal.{Refusal}
 use Rattle.wf_value.specs.declared.refusal.Refusal.TheVariants.{Numbered}
 use Rattle.wf_reader.specs.Faults.{unless_faulty}
-use Rattle.definitions.specs.Admitted.{Admitted}
+use Rattle.definitions.specs.SmallText.{Admitted, delivery_id_of, event_name_of, runner_name_of, label_list_of, number_of}
 use Rattle.run_plan.specs.PlanOf.{faults_of}
-use Rattle.definitions.specs.SmallText.{delivery_id_of, event_name_of, runner_name_of, label_list_of, number_of}
 use Rattle.run_plan.specs.declared.command.Command.{Command}
 use Rattle.run_plan.specs.declared.command.Command.TheVariants as command
 use Rattle.command_lines.specs.Fields.{at_space, three_fields}

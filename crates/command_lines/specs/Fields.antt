@@ -1,7 +1,7 @@
 -- The fields of a line, separated by single spaces.
 use Rattle.std.specs.Prelude.{ℕ, ◌+◌, List, take, drop, Option, option_map, option_and_then}
 use Rattle.std.specs.List.{position}
-use Rattle.wf_reader.specs.Condition.{is_space}
+use Rattle.wf_reader.specs.Job.{is_space}
 
 -- the text before the first space, and the text after it
 abbrev pub at_space : List ℕ → Option (List ℕ × List ℕ)

@@ -1,5 +1,5 @@
 ghost use Rattle.std.specs.Prelude.{◌≡◌, position, option_map};
-ghost use Rattle.wf_reader.specs.Condition.{is_space};
+ghost use Rattle.wf_reader.specs.Job.{is_space};
 ghost use Rattle.command_lines.specs.Fields.{at_space, three_fields};
 
 fn space_index(text: &[u8]) -> Option<usize>

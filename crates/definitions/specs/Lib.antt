@@ -1,9 +1,6 @@
-pub mod Admitted
 pub mod Area
-pub mod Decimal
 pub mod Disk
 pub mod Format
-pub mod JobNeeds
 pub mod Limits
 pub mod Rising
 pub mod SmallText

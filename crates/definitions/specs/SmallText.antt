@@ -1,10 +1,22 @@
--- The forms of small texts: ids, names, labels and numbers.
-use Rattle.std.specs.Prelude.{ℕ, ◌==◌, ◌&&◌, ◌||◌, List, length, Bool, not, nat_le, slice_index, Option, Some, None, if◌then◌else◌}
+-- Small texts and numbers in decimal digits.
+use Rattle.std.specs.Prelude.{ℕ, ◌&&◌, List, length, Bool, nat_le, Option, Some, None, if◌then◌else◌, ◌==◌, ◌||◌, not, slice_index, refl}
 use Rattle.std.specs.List.{list_all, slice_split}
 use Rattle.std.specs.Char.{is_ascii_digit, is_ascii_lowercase, is_ascii_alphanumeric, is_ascii_graphic}
 use Rattle.std.specs.Str.Parse.{digits_value}
 use Rattle.definitions.specs.Limits.{max_labels, max_text_bytes}
-use Rattle.definitions.specs.Decimal.{is_decimal}
+use Rattle.std.specs.Coded.{Coded, code_by, coded_ℕ, coded_list, coded×}
+
+-- ---- what a few decimal digits write.
+
+-- one to nine decimal digits
+abbrev pub is_decimal : List ℕ → Bool
+is_decimal text = nat_le 1 (length text) && nat_le (length text) 9 && list_all is_ascii_digit text
+
+-- the number that they write
+abbrev pub decimal_of : List ℕ → Option ℕ
+decimal_of text = if is_decimal text then Some (digits_value 10 text) else None
+
+-- ---- the forms of small texts: ids, names, labels and numbers.
 
 abbrev pub is_of_short_length : List ℕ → Bool
 is_of_short_length text = nat_le 1 (length text) && nat_le (length text) max_text_bytes
@@ -64,3 +76,18 @@ is_number text = is_decimal text && not (slice_index text 0 == 48)
 -- decimal, 1 to `last_number`, no leading zero
 abbrev pub number_of : List ℕ → Option ℕ
 number_of text = found_if (is_number text) (digits_value 10 text)
+
+-- ---- what is stored of an admitted event: its delivery, its name and the bytes of its body.
+
+pub record Admitted : Type 0 where
+  pub delivery : List ℕ
+  pub event : List ℕ
+  pub body : List ℕ
+
+abbrev pub coded_bytes : Coded (List ℕ)
+coded_bytes = coded_list coded_ℕ
+
+abbrev pub coded_admitted : Coded Admitted
+coded_admitted =
+    code_by (List ℕ × (List ℕ × List ℕ)) (coded× coded_bytes (coded× coded_bytes coded_bytes))
+    (λ a. (a.delivery, (a.event, a.body))) (λ p. record { delivery = p.0; event = p.1.0; body = p.1.1 }) (λ _. refl)

@@ -1,6 +1,6 @@
 ghost use Rattle.std.specs.Prelude.{◌≤◌, length};
 ghost use Rattle.command_encodings.specs.Commands.{batch, command};
-ghost use Rattle.table_text.specs.WholeTables.{whole_table};
+ghost use Rattle.table_text.specs.Tables.{whole_table};
 ghost use Rattle.encoding_laws.specs.Encoded.{IsEncodedOnce};
 
 use crate::commands::command_fits;

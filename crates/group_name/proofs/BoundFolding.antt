@@ -6,7 +6,7 @@ use Rattle.std.proofs.lemmas.Str.{IsUtf8-append, IsUtf8-nil, chars-nil, chars-ap
 use Rattle.std.specs.Option.{option_map_or}
 use Rattle.std.specs.Str.{chars}
 use lib.Utf8.{encode}
-use Rattle.wf_value.specs.Words.{result_word}
+use Rattle.wf_value.specs.ScalarValue.{result_word}
 use Rattle.wf_value.specs.declared.outcome.JobResult.{JobResult}
 use Rattle.wf_value.specs.declared.outcome.JobResult.TheVariants as result
 use Rattle.wf_expr.specs.Bound.{Results, first_result, bound_piece_text, bound_text}

@@ -7,7 +7,7 @@ use Rattle.std.specs.Str.{bytes_eq}
 use Rattle.std.specs.List.{filter, list_any, list_all, range_with_len, cons_option}
 use Rattle.std.specs.Option.{option_map}
 use Rattle.std.specs.Ordering.{is_eq}
-use Rattle.wf_value.specs.Matrix.{NamedValues, MatrixLists}
+use Rattle.wf_value.specs.ScalarValue.{NamedValues, MatrixLists}
 use Rattle.matrix_expand.specs.Combinations.{Combination, value_at, has_pair, is_value, removes, agrees, kept, new_combinations, originals}
 use Rattle.matrix_expand.specs.Combinations.{choice_count}
 use Rattle.matrix_expand.specs.inner.Numbered.{chosen, axes_of, axes_where, numbered_axes, original_at, original_count, choice_of, wanted_of}

@@ -13,7 +13,7 @@ use Rattle.std.proofs.lemmas.Bool.{and_parts, and_from, or_parts}
 use Rattle.std.proofs.lemmas.List.{get_or_at, length-map, append_assoc}
 use Rattle.std.proofs.lemmas.Map.Lookups.{exact_bytes}
 use Rattle.std.proofs.lemmas.List.Folds.{list_any-append}
-use Rattle.wf_value.specs.Matrix.{MatrixLists}
+use Rattle.wf_value.specs.ScalarValue.{MatrixLists}
 use Rattle.definitions.specs.Rising.{names_rise}
 use Rattle.wf_value.specs.declared.scalar.Scalar.{Scalar}
 use Rattle.matrix_expand.specs.Combinations.{Combination, value_at, agrees, last_value, final_value, names_of, with_name, in_order}

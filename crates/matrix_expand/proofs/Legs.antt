@@ -4,7 +4,7 @@ use Rattle.std.proofs.Common.{sym, ap, ◌∙◌, inl, inr, arith, length-append
 use Rattle.std.specs.Ordering.{is_lt}
 use Rattle.std.proofs.lemmas.Bool.{lt-ltb, le-ltb, cases_lt, and_parts, and_from}
 use Rattle.std.proofs.lemmas.List.{length-map}
-use Rattle.wf_value.specs.Matrix.{NamedValues, MatrixLists}
+use Rattle.wf_value.specs.ScalarValue.{NamedValues, MatrixLists}
 use Rattle.definitions.specs.Rising.{names_rise}
 use Rattle.wf_value.specs.declared.code.Code.TheVariants.{LegCount}
 use Rattle.wf_value.specs.declared.refusal.Refusal.{Refusal}

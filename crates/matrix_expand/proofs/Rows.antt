@@ -1,7 +1,7 @@
 -- The examples of the documentation, computed from the definitions.
 use Rattle.std.specs.Prelude.{◌≡◌, ℕ, pos, List, [], ◌∷◌, length, Option, Some, None, Result, Ok, Err, codes, refl, map, true, false}
 use Rattle.std.specs.List.{range_with_len, last_or}
-use Rattle.wf_value.specs.Matrix.{NamedValues, MatrixLists}
+use Rattle.wf_value.specs.ScalarValue.{NamedValues, MatrixLists}
 use Rattle.wf_value.specs.declared.code.Code.TheVariants.{MatrixTooLarge, LegCount}
 use Rattle.wf_value.specs.declared.refusal.Refusal.{Refusal}
 use Rattle.wf_value.specs.declared.refusal.Refusal.TheVariants.{Numbered}

@@ -8,7 +8,7 @@ use Rattle.std.proofs.lemmas.List.{at_drop_more, append_assoc}
 use Rattle.std.proofs.lemmas.Nat.{div-mul-add}
 use Rattle.std.proofs.lemmas.Option.{slice_get_read}
 use Rattle.std.proofs.Math.Nat.{mul_comm, mul-le-mul_right}
-use Rattle.wf_value.specs.Matrix.{NamedValues}
+use Rattle.wf_value.specs.ScalarValue.{NamedValues}
 use Rattle.wf_value.specs.declared.scalar.Scalar.{Scalar}
 use Rattle.matrix_expand.specs.Combinations.{Combination, choice_count}
 use Rattle.matrix_expand.specs.inner.Numbered.{choice_of, wanted_of, has_other, kept_from, pattern_removes, pattern_agrees, new_objects}

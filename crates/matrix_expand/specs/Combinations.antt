@@ -9,12 +9,11 @@ use Rattle.std.specs.Str.{bytes_eq}
 use Rattle.std.specs.FinMap.{find}
 use Rattle.std.specs.FinMap.Entries.{by_order}
 use Rattle.definitions.specs.Limits.{max_choices, max_legs}
-use Rattle.wf_value.specs.Matrix.{NamedValues, MatrixLists}
+use Rattle.wf_value.specs.ScalarValue.{NamedValues, MatrixLists, same_scalar}
 use Rattle.wf_value.specs.declared.code.Code.TheVariants.{MatrixTooLarge, LegCount}
 use Rattle.wf_value.specs.declared.refusal.Refusal.{Refusal}
 use Rattle.wf_value.specs.declared.refusal.Refusal.TheVariants.{Numbered}
 use Rattle.wf_value.specs.declared.scalar.Scalar.{Scalar}
-use Rattle.wf_value.specs.ScalarValue.{same_scalar}
 
 -- a value for each of several names
 abbrev pub Combination : Type 0

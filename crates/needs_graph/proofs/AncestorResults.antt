@@ -6,8 +6,7 @@ use Rattle.std.proofs.lemmas.Bool.{and_from, and_parts}
 use Rattle.std.proofs.lemmas.List.{get_or_default}
 use Rattle.std.proofs.lemmas.List.Folds.{Any-from_list_any, list_any_at}
 use Rattle.wf_value.specs.declared.outcome.JobResult.{JobResult}
-use Rattle.needs_graph.specs.Ancestors.{IsClosed, is_ancestor, ancestors_of, needs_at}
-use Rattle.needs_graph.specs.Conditions.{ancestor_results}
+use Rattle.needs_graph.specs.Needs.{IsClosed, is_ancestor, ancestors_of, needs_at, ancestor_results}
 use Rattle.needs_graph.proofs.Members.{Has, Contains-from_Has}
 use Rattle.needs_graph.proofs.Walks.{is_ancestor-from_walk}
 use Rattle.needs_graph.proofs.PlaceLists.{Has-filter_range_from}

@@ -2,7 +2,7 @@
 use Rattle.std.proofs.Common.{◌≡◌, ℕ, ◌≤◌, List, [], ◌∷◌, Bool, false, cond, eqb, length, refl, ap, ◌∙◌, arith}
 use Rattle.std.specs.List.{filter, list_any, range_with_len}
 use Rattle.std.proofs.lemmas.Bool.{false_from_ne_true}
-use Rattle.needs_graph.specs.Ancestors.{needs_at, dependents_of, IsClosed}
+use Rattle.needs_graph.specs.Needs.{needs_at, dependents_of, IsClosed}
 use Rattle.needs_graph.proofs.Members.{Contains-from_Has}
 
 none_kept : (test : ℕ → Bool) (xs : List ℕ) → ((x : ℕ) → test x ≡ false) → filter test xs ≡ []

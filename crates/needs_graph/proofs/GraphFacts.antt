@@ -9,12 +9,11 @@ use Rattle.std.proofs.lemmas.List.FromFn.{get_or-map-range_with_len}
 use Rattle.wf_value.specs.declared.refusal.Refusal.{Refusal}
 use Rattle.wf_value.specs.declared.refusal.Refusal.TheVariants.{Cycle}
 use Rattle.wf_value.proofs.PassedOn.{same_Ok}
-use Rattle.needs_graph.specs.Ancestors.{HasWalk, is_ancestor, IsClosed, IsGraph}
+use Rattle.needs_graph.specs.Needs.{HasWalk, is_ancestor, IsClosed, IsGraph, places}
 use Rattle.needs_graph.specs.inner.JobBitmap.{is_marked, marked, closed}
-use Rattle.needs_graph.specs.Needs.{places}
 use Rattle.needs_graph.specs.Needs.{is_listed, is_job, needs_of, own_ancestors, unless_cycle, unknown_need, graph_of}
 use Rattle.needs_graph.specs.inner.Rows.{needs_row, needs_rows, needs_rows_of, own_ids, dependents_by, IsSets}
-use Rattle.definitions.specs.JobNeeds.{JobNeeds}
+use Rattle.definitions.specs.Rising.{JobNeeds}
 use Rattle.needs_graph.proofs.Closure.{bit, length-closed}
 use Rattle.needs_graph.proofs.Reach.{needs_by, IsSquare, needs_by-IsClosed, is_ancestor-is_closed, past_is_none, sets_reach, dependents-by}
 use Rattle.needs_graph.proofs.RowSteps.{blank}

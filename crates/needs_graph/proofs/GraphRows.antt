@@ -1,9 +1,8 @@
 -- Examples of graphs and ancestors for small workflows, computed from the definitions.
 use Rattle.std.proofs.Common.{◌≡◌, ℕ, List, [], ◌∷◌, Ok, Err, codes, refl}
 use Rattle.wf_value.specs.declared.refusal.Refusal.TheVariants.{Cycle}
-use Rattle.needs_graph.specs.Ancestors.{ancestors_of, dependents_of}
-use Rattle.needs_graph.specs.Needs.{graph_of, needs_of, unknown_need}
-use Rattle.definitions.specs.JobNeeds.{JobNeeds}
+use Rattle.needs_graph.specs.Needs.{ancestors_of, dependents_of, graph_of, needs_of, unknown_need}
+use Rattle.definitions.specs.Rising.{JobNeeds}
 
 abbrev a : List ℕ
 a = codes "a"

@@ -1,7 +1,7 @@
 -- Properties of an ancestor.
 use Rattle.std.proofs.Common.{◌≡◌, ◌≢◌, ◌↔◌, ℕ, ◌<◌, List, true, length, sym, ap, ◌∙◌}
 use Rattle.std.proofs.lemmas.Bool.{true≢false}
-use Rattle.needs_graph.specs.Ancestors.{HasWalk, is_ancestor, IsGraph}
+use Rattle.needs_graph.specs.Needs.{HasWalk, is_ancestor, IsGraph}
 use Rattle.needs_graph.proofs.Walks.{walk_from_is_ancestor, is_ancestor-from_walk, walk_end_below}
 
 module _ (needs ancestors dependents : List (List ℕ)) (graph : IsGraph needs ancestors dependents) (job other : ℕ) where

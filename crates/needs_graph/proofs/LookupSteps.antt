@@ -6,7 +6,7 @@ use Rattle.std.proofs.lemmas.Bool.{cases_eq, true≢false}
 use Rattle.std.proofs.lemmas.List.{get_or-take, get_or_default, length-take-le}
 use Rattle.std.proofs.lemmas.Slice.Eq.{bytes_eq-Decides}
 use Rattle.needs_graph.specs.inner.Lookup.{Finds}
-use Rattle.definitions.specs.JobNeeds.{JobNeeds}
+use Rattle.definitions.specs.Rising.{JobNeeds}
 
 -- the job at an index of a prefix
 at_place : (jobs : List JobNeeds) (n place : ℕ) (d e : JobNeeds) → place < n → place < length jobs

@@ -6,9 +6,8 @@ use Rattle.std.proofs.lemmas.Bool.{and_parts, false≢true}
 use Rattle.std.proofs.lemmas.Bool.Decides.{nat_tests}
 use Rattle.std.proofs.lemmas.Grind.{common_steps}
 use Rattle.std.proofs.lemmas.List.{nil_from_length}
-use Rattle.needs_graph.specs.Ancestors.{IsGraph, dependents_of, is_ancestor, needs_at, walk_ends}
-use Rattle.needs_graph.specs.Needs.{places}
-use Rattle.definitions.specs.JobNeeds.{JobNeeds}
+use Rattle.needs_graph.specs.Needs.{IsGraph, dependents_of, is_ancestor, needs_at, walk_ends, places}
+use Rattle.definitions.specs.Rising.{JobNeeds}
 use Rattle.needs_graph.specs.inner.JobSets.{is_in}
 use Rattle.needs_graph.specs.Needs.{graph_of, is_job, is_listed, list_nothing, needs_of, own_ancestors}
 use Rattle.needs_graph.proofs.Members.{Has-from_Contains}

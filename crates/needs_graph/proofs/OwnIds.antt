@@ -8,7 +8,7 @@ use Rattle.std.proofs.lemmas.List.Elements.{filter_more}
 use Rattle.std.proofs.lemmas.List.FromFn.{length-enumerate_from, get_or-enumerate_from}
 use Rattle.needs_graph.specs.inner.JobBitmap.{is_marked}
 use Rattle.needs_graph.specs.inner.Rows.{own_ids}
-use Rattle.definitions.specs.JobNeeds.{JobNeeds}
+use Rattle.definitions.specs.Rising.{JobNeeds}
 
 abbrev reaches_itself : List (List Bool) → ℕ × JobNeeds → Bool
 reaches_itself rows e = is_marked (get_or rows e.0 []) e.0

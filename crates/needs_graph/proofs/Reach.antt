@@ -5,10 +5,9 @@ use Rattle.std.specs.List.{Contains, range_with_len, filter, list_any}
 use Rattle.std.proofs.lemmas.Bool.{cases_lt, false≢true, false_from_ne_true}
 use Rattle.std.proofs.lemmas.Bool.Decides.{same_from_decides}
 use Rattle.std.proofs.lemmas.List.{get_or-map, get_or_default, get_or_past, length-map}
-use Rattle.needs_graph.specs.Ancestors.{needs_at, IsWalk, HasWalk, is_ancestor, dependents_of, IsClosed}
+use Rattle.needs_graph.specs.Needs.{needs_at, IsWalk, HasWalk, is_ancestor, dependents_of, IsClosed, places}
 use Rattle.needs_graph.specs.inner.JobSets.{is_in}
 use Rattle.needs_graph.specs.inner.JobBitmap.{is_marked, marked, closed}
-use Rattle.needs_graph.specs.Needs.{places}
 use Rattle.needs_graph.specs.inner.Rows.{IsSets}
 use Rattle.needs_graph.proofs.Members.{Has, Contains-from_Has, Has-from_Contains}
 use Rattle.needs_graph.proofs.PlaceLists.{marked_by, places_by, Has-filter_range, Has-filter_range_from}

@@ -4,8 +4,7 @@ use Rattle.wf_value.specs.declared.condition.Condition.TheVariants as condition
 use Rattle.wf_value.specs.declared.outcome.Outcome.{Outcome}
 use Rattle.wf_value.specs.declared.outcome.Outcome.TheVariants as outcome
 use Rattle.wf_value.specs.declared.outcome.JobResult.TheVariants as job
-use Rattle.needs_graph.specs.Results.{gathered, conclusion_of}
-use Rattle.needs_graph.specs.Conditions.{condition_value}
+use Rattle.needs_graph.specs.Needs.{gathered, conclusion_of, condition_value}
 use Rattle.needs_graph.specs.declared.ended.LegEnd.{LegEnd}
 
 -- a leg, and whether its failure is ignored

@@ -10,7 +10,7 @@ use Rattle.std.proofs.lemmas.Slice.Eq.{bytes_eq-Decides}
 use Rattle.needs_graph.specs.Needs.{ids_rise, is_listed, is_job, unknown_need}
 use Rattle.needs_graph.specs.inner.Rows.{needs_row, needs_row_of, needs_rows_of}
 use Rattle.wf_value.specs.declared.refusal.Refusal.{Refusal}
-use Rattle.definitions.specs.JobNeeds.{JobNeeds}
+use Rattle.definitions.specs.Rising.{JobNeeds}
 use Rattle.needs_graph.proofs.Closure.{or_false}
 use Rattle.wf_value.proofs.Rising.{names_apart}
 

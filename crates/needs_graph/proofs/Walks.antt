@@ -8,7 +8,7 @@ use Rattle.std.proofs.lemmas.Map.Keys.{IsDistinct-tail, IsDistinct-cons}
 use Rattle.std.proofs.lemmas.List.Folds.{Any-from_list_any, list_any_at}
 use Rattle.std.proofs.lemmas.List.FromFn.{length-range_with_len, get_or-range_with_len}
 use Rattle.std.proofs.lemmas.Map.Steps.{length-le_from_distinct_below}
-use Rattle.needs_graph.specs.Ancestors.{needs_at, IsWalk, HasWalk, walk_ends, is_ancestor, IsClosed}
+use Rattle.needs_graph.specs.Needs.{needs_at, IsWalk, HasWalk, walk_ends, is_ancestor, IsClosed}
 use Rattle.needs_graph.proofs.Members.{Has, Contains-from_Has, Has-from_Contains, Has-flat_map, Has-flat_map_from}
 
 -- ---- joined walks

@@ -1,7 +1,7 @@
 ghost use Rattle.std.specs.Prelude.{◌≡◌, List, None, Option, map};
 ghost use Rattle.std.specs.List.{list_all, list_any, slice_index_or};
 ghost use Rattle.wf_value.specs.declared.outcome.JobResult.{JobResult};
-ghost use Rattle.needs_graph.specs.Conditions.{ancestor_test_value, condition_value, has_failed, has_succeeded};
+ghost use Rattle.needs_graph.specs.Needs.{ancestor_test_value, condition_value, has_failed, has_succeeded};
 
 use crate::ended::HasResult;
 use wf_value::{Condition, JobResult};

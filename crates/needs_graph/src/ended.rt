@@ -15,7 +15,7 @@ pub struct LegEnd {
 }
 
 impl LegEnd {
-    ghost use Rattle.needs_graph.specs.Results.{fails_job, was_cancelled};
+    ghost use Rattle.needs_graph.specs.Needs.{fails_job, was_cancelled};
 
     pub(crate) fn fails_job(self) -> bool
         ensures { result ≡ fails_job self }

@@ -1,9 +1,8 @@
 ghost use Rattle.std.specs.Prelude.{◌≡◌, ◌≢◌, ◌↔◌, ◌<◌, ◌&&◌, ◌==◌, [], not, false, true, IsTrue, None, Ok, length, map, slice_get, ℕ};
 ghost use Rattle.std.specs.List.{list_all, list_any, slice_index_or};
 ghost use Rattle.wf_value.specs.Gives.{Gives};
-ghost use Rattle.needs_graph.specs.Ancestors.{needs_at, is_ancestor, dependents_of, HasWalk};
-ghost use Rattle.needs_graph.specs.Conditions.{ancestor_results, condition_value, has_failed, has_succeeded};
-ghost use Rattle.needs_graph.specs.Needs.{ids_rise, list_nothing, needs_of, graph_of};
+ghost use Rattle.needs_graph.specs.Needs.{needs_at, is_ancestor, dependents_of, HasWalk, ids_rise, list_nothing, needs_of, graph_of};
+ghost use Rattle.needs_graph.specs.Needs.{ancestor_results, condition_value, has_failed, has_succeeded};
 ghost use Rattle.needs_graph.specs.inner.Rows.{own_ids};
 
 use crate::conditions::{AncestorTest, ancestor_test_of, has_failed, has_succeeded, result_at};
@@ -27,7 +26,7 @@ pub struct Graph {
 
 impl Model for Graph {
     ghost use Rattle.std.specs.Prelude.{List, ℕ};
-    ghost use Rattle.needs_graph.specs.Ancestors.{IsGraph};
+    ghost use Rattle.needs_graph.specs.Needs.{IsGraph};
 
     ghost Value = { List (List ℕ) };
 

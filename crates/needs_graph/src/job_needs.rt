@@ -12,7 +12,7 @@ pub struct JobNeeds<'a> {
 }
 
 impl<'a> Model for JobNeeds<'a> {
-    ghost use Rattle.definitions.specs.JobNeeds.{JobNeeds};
+    ghost use Rattle.definitions.specs.Rising.{JobNeeds};
 
     ghost Value = { JobNeeds };
 

@@ -22,7 +22,7 @@ impl<'a> Model for Lookup<'a> {
     ghost use Rattle.std.specs.Str.{bytes_eq};
     ghost use Rattle.std.specs.HashMap.{get_by};
     ghost use Rattle.needs_graph.specs.inner.Lookup.{Finds};
-    ghost use Rattle.definitions.specs.JobNeeds.{JobNeeds};
+    ghost use Rattle.definitions.specs.Rising.{JobNeeds};
 
     ghost Value = { List JobNeeds };
 

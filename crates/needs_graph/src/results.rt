@@ -1,6 +1,6 @@
 ghost use Rattle.std.specs.Prelude.{◌≡◌, filter_map};
 ghost use Rattle.std.specs.List.{list_any};
-ghost use Rattle.needs_graph.specs.Results.{conclusion_of, fails_job, gathered, job_cancelled, job_failed, was_cancelled};
+ghost use Rattle.needs_graph.specs.Needs.{conclusion_of, fails_job, gathered, job_cancelled, job_failed, was_cancelled};
 
 use crate::ended::{HasEnd, HasResult};
 use wf_value::{JobResult, Outcome};

@@ -1,8 +1,7 @@
 ghost use Rattle.std.specs.Prelude.{◌≡◌, [], IfOk, IsTrue, Ok, map, length, replicate};
 ghost use Rattle.wf_value.specs.Gives.{Gives};
 ghost use Rattle.needs_graph.specs.inner.JobBitmap.{is_marked, marked, through, closed};
-ghost use Rattle.needs_graph.specs.Needs.{places};
-ghost use Rattle.needs_graph.specs.Needs.{ids_rise};
+ghost use Rattle.needs_graph.specs.Needs.{places, ids_rise};
 ghost use Rattle.needs_graph.specs.inner.Rows.{needs_row_of, needs_rows_of, dependents_by, IsSets};
 
 use crate::job_needs::JobNeeds;

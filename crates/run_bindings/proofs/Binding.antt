@@ -9,28 +9,25 @@ use Rattle.std.proofs.Common.{arith, ap, inl, inr, sym, subst, ◌∙◌}
 use Rattle.std.proofs.lemmas.Bool.{and_parts}
 use Rattle.std.proofs.lemmas.List.{length-append}
 use Rattle.std.proofs.lemmas.Slice.Eq.{bytes_eq-Decides}
-use Rattle.wf_value.specs.ScalarValue.{scalar_text}
-use Rattle.wf_value.specs.Words.{result_word}
+use Rattle.wf_value.specs.ScalarValue.{scalar_text, result_word}
 use Rattle.wf_value.specs.declared.outcome.JobResult.{JobResult}
 use Rattle.wf_value.specs.declared.scalar.Scalar.{Scalar}
 use Rattle.wf_value.specs.declared.scalar.Scalar.TheVariants.{Null, Truth, Whole, Text}
 use Rattle.wf_value.proofs.OptionOr.{or_none}
 use Rattle.wf_expr.specs.Bound.{HasResults, Results, no_results, result_value}
-use Rattle.wf_expr.specs.ContextValue.{Values}
-use Rattle.wf_expr.specs.FlagValue.{sets_flag}
+use Rattle.wf_expr.specs.TemplateValue.{Values, sets_flag}
 use Rattle.wf_expr.proofs.FlagLemmas.{flag-text}
 use Rattle.wf_reader.specs.Contexts.{ContextObjects, sent_value}
 use Rattle.wf_reader.specs.Event.{event_of}
 use Rattle.wf_reader.specs.declared.concurrency.Concurrency.{Concurrency}
-use Rattle.needs_graph.specs.Ancestors.{needs_at}
-use Rattle.definitions.specs.Admitted.{Admitted}
+use Rattle.needs_graph.specs.Needs.{needs_at}
+use Rattle.definitions.specs.SmallText.{Admitted}
 use Rattle.run_plan.specs.PlanOf.{plan_graph, plan_of}
 use Rattle.run_plan.specs.declared.planned.PlannedJob.{PlannedJob}
 use Rattle.run_plan.specs.declared.planned.PlannedLeg.{PlannedLeg}
-use Rattle.run_states.specs.GroupOf.{RunFacts, concurrency_of_leg}
-use Rattle.run_states.specs.JobResults.{direct_needs, has_id, needs_in, results_so_far}
+use Rattle.run_states.specs.Groups.{RunFacts, concurrency_of_leg}
+use Rattle.run_states.specs.Runs.{direct_needs, has_id, needs_in, results_so_far, RunState}
 use Rattle.run_states.specs.LegContext.{LegFacts, context_of, under}
-use Rattle.run_states.specs.RunState.{RunState}
 use Rattle.run_bindings.specs.BoundGroups.{Says, SaysSo, facts_by, need_of_job}
 use Rattle.run_bindings.specs.declared.groups.GroupRequest.{GroupRequest}
 use Rattle.run_bindings.proofs.BoundSays.{as_long, as_short}

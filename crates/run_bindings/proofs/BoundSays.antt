@@ -5,24 +5,19 @@ use Rattle.std.specs.Fmt.{decimal}
 use Rattle.std.specs.Option.{option_map_or}
 use Rattle.std.proofs.Common.{arith, ap, subst, sym, ◌∙◌}
 use Rattle.wf_expr.specs.Bound.{Results}
-use Rattle.wf_expr.specs.ContextValue.{Values}
+use Rattle.wf_expr.specs.TemplateValue.{Values}
 use Rattle.wf_reader.specs.Event.{event_of}
 use Rattle.wf_reader.specs.declared.concurrency.Concurrency.{Concurrency}
 use Rattle.group_name.specs.Group.{Group}
 use Rattle.group_name.specs.BoundGroup.{group_at as bound_group_at}
 use Rattle.run_plan.specs.PlanOf.{plan_of}
 use Rattle.run_plan.specs.declared.planned.PlannedJob.{PlannedJob}
-use Rattle.run_states.specs.GroupOf.{RunFacts, concurrency_of_leg, cancels_in_progress, group_at, leg_cancels, leg_group, named_group}
-use Rattle.run_states.specs.GroupOf.{run_cancels}
-use Rattle.run_states.specs.GroupOf.{run_context, run_facts_at, run_group}
+use Rattle.run_states.specs.Groups.{RunFacts, concurrency_of_leg, cancels_in_progress, group_at, leg_cancels, leg_group, named_group}
+use Rattle.run_states.specs.Groups.{run_cancels, run_context, run_facts_at, run_group}
 use Rattle.run_states.specs.Holders.{run_of}
-use Rattle.run_states.specs.JobResults.{direct_needs}
-use Rattle.run_states.specs.LegContext.{LegFacts, context_of, facts_at}
-use Rattle.run_states.specs.Places.{run_at}
+use Rattle.run_states.specs.Runs.{direct_needs, run_at, RunState}
+use Rattle.run_states.specs.LegContext.{LegFacts, context_of, facts_at, events, run_number, is_set}
 use Rattle.run_states.specs.declared.place.LegSite.{LegSite}
-use Rattle.run_states.specs.RunNumber.{events, run_number}
-use Rattle.run_states.specs.RunState.{RunState}
-use Rattle.run_states.specs.Words.{is_set}
 use Rattle.run_bindings.specs.Bindings.{AreBound, RunSays, group_request_of}
 use Rattle.run_bindings.specs.BoundGroups.{SaysSo, facts_by, is_set_by, results_by_index}
 use Rattle.run_bindings.specs.declared.bindings.JobBindings.{JobBindings}

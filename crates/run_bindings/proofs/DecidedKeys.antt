@@ -8,7 +8,7 @@ use Rattle.std.proofs.lemmas.Option.{same_Some}
 use Rattle.wf_expr.specs.Bound.{Results}
 use Rattle.group_name.specs.BoundGroup.{group_at as bound_group_at}
 use Rattle.group_name.specs.Group.{Group}
-use Rattle.run_states.specs.FirstOf.{changed_at}
+use Rattle.run_states.specs.Runs.{changed_at}
 use Rattle.run_bindings.specs.BoundGroups.{is_set_by}
 use Rattle.run_bindings.specs.GroupKeys.{AreLater, IsLater, arrivals_in, arrivals_of, arrivals_of_legs, decided, has_no_group, known_as}
 use Rattle.run_bindings.specs.declared.group_keys.HolderKey.{HolderKey}

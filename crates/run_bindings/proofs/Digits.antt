@@ -3,7 +3,7 @@ use Rattle.std.specs.Prelude.{◌≡◌, ℕ, List, Option}
 use Rattle.std.specs.Fmt.{decimal}
 use Rattle.std.proofs.Common.{ap, ◌∙◌}
 use Rattle.wf_value.specs.declared.outcome.JobResult.{JobResult}
-use Rattle.definitions.specs.Admitted.{Admitted}
+use Rattle.definitions.specs.SmallText.{Admitted}
 use Rattle.run_plan.specs.declared.planned.PlannedJob.{PlannedJob}
 use Rattle.run_states.specs.LegContext.{LegFacts}
 

@@ -10,13 +10,12 @@ use Rattle.wf_value.specs.ScalarValue.{scalar_text}
 use Rattle.wf_value.specs.declared.scalar.Scalar.{Scalar}
 use Rattle.wf_expr.specs.Bound.{HasResults, NeedOf, Results, before_true, bound_of, bound_piece, bound_piece_text, bound_text}
 use Rattle.wf_expr.specs.Bound.{need_of_operand, no_results, result_value, with_results}
-use Rattle.wf_expr.specs.ContextValue.{Values}
-use Rattle.wf_expr.specs.TemplateValue.{piece_text, template_value}
+use Rattle.wf_expr.specs.TemplateValue.{Values, piece_text, template_value}
 use Rattle.wf_expr.specs.declared.bound.BoundPiece.{BoundPiece}
 use Rattle.wf_expr.specs.declared.piece.Piece.{Piece}
 use Rattle.wf_expr.specs.declared.piece.Piece.TheVariants.{Plain, Braced}
 use Rattle.wf_expr.proofs.BoundLemmas.{text-when-bound}
-use Rattle.run_states.specs.Words.{label_texts}
+use Rattle.run_states.specs.LegContext.{label_texts}
 use Rattle.run_bindings.specs.KnownLabels.{KeepsTexts, ask_nothing, needs_nothing, kept_of, otherwise_text, short_text}
 use Rattle.run_bindings.specs.declared.resolved_labels.ResolvedLabels.{ResolvedLabels}
 use Rattle.run_bindings.specs.declared.resolved_labels.ResolvedLabels.TheVariants as wanted

@@ -3,11 +3,10 @@ use Rattle.std.specs.Prelude.{◌≡◌, ℕ, ◌+◌, ◌<◌, ◌≤◌, List,
 use Rattle.std.proofs.Common.{ap, get_or, sym, take, ◌∙◌}
 use Rattle.std.proofs.lemmas.Grind.{take_at_read}
 use Rattle.std.proofs.lemmas.List.{map-append, take_all}
-use Rattle.wf_expr.specs.ContextValue.{Values}
-use Rattle.wf_expr.specs.TemplateValue.{template_value}
+use Rattle.wf_expr.specs.TemplateValue.{Values, template_value}
 use Rattle.wf_expr.specs.declared.piece.Piece.{Piece}
 use Rattle.wf_value.specs.ScalarValue.{scalar_text}
-use Rattle.run_states.specs.Words.{label_texts}
+use Rattle.run_states.specs.LegContext.{label_texts}
 use Rattle.run_bindings.specs.PlainLabels.{AreTheTexts}
 
 -- the labels so far, and one more

@@ -4,9 +4,9 @@ use Rattle.wf_expr.specs.Bound.{Results}
 use Rattle.wf_reader.specs.Event.{event_of}
 use Rattle.run_plan.specs.PlanOf.{plan_of}
 use Rattle.run_plan.specs.declared.planned.PlannedJob.{PlannedJob}
-use Rattle.run_states.specs.GroupOf.{RunFacts, concurrency_of_leg, run_context, run_facts_at}
+use Rattle.run_states.specs.Groups.{RunFacts, concurrency_of_leg, run_context, run_facts_at}
 use Rattle.run_states.specs.LegContext.{context_of}
-use Rattle.run_states.specs.RunState.{RunState}
+use Rattle.run_states.specs.Runs.{RunState}
 use Rattle.run_bindings.specs.BoundFlags.{FlagsSay}
 use Rattle.run_bindings.specs.BoundGroups.{SaysSo, facts_by}
 use Rattle.run_bindings.specs.KnownLabels.{AreKept, KeepsTexts}

@@ -4,9 +4,8 @@ use Rattle.wf_expr.specs.Bound.{Results}
 use Rattle.wf_reader.specs.declared.flag.Flag.{Flag}
 use Rattle.wf_reader.specs.declared.flag.Flag.TheVariants as flag
 use Rattle.run_plan.specs.declared.planned.PlannedJob.{PlannedJob}
-use Rattle.run_states.specs.GroupOf.{RunFacts}
-use Rattle.run_states.specs.LegContext.{context_of}
-use Rattle.run_states.specs.Words.{is_set}
+use Rattle.run_states.specs.Groups.{RunFacts}
+use Rattle.run_states.specs.LegContext.{context_of, is_set}
 use Rattle.run_bindings.specs.BoundGroups.{facts_by, is_set_by}
 use Rattle.run_bindings.specs.declared.groups.BoundFlag.{BoundFlag}
 

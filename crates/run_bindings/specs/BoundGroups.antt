@@ -6,17 +6,15 @@ use Rattle.std.specs.Prelude.{slice_get, if◌then◌else◌}
 use Rattle.std.specs.List.{slice_index_or}
 use Rattle.std.specs.Str.{bytes_eq}
 use Rattle.wf_expr.specs.Bound.{NeedOf, Results, bound_text}
-use Rattle.wf_expr.specs.ContextValue.{Values}
+use Rattle.wf_expr.specs.TemplateValue.{Values}
 use Rattle.wf_reader.specs.declared.concurrency.Concurrency.{Concurrency}
 use Rattle.group_name.specs.BoundGroup.{group_at as bound_group_at}
-use Rattle.needs_graph.specs.Ancestors.{needs_at}
+use Rattle.needs_graph.specs.Needs.{needs_at}
 use Rattle.run_plan.specs.PlanOf.{plan_graph, plan_of}
 use Rattle.run_plan.specs.declared.planned.PlannedJob.{PlannedJob}
-use Rattle.run_states.specs.GroupOf.{RunFacts, named_group}
-use Rattle.run_states.specs.JobResults.{has_id, results_so_far}
-use Rattle.run_states.specs.LegContext.{LegFacts}
-use Rattle.run_states.specs.RunState.{RunState}
-use Rattle.run_states.specs.Words.{is_set}
+use Rattle.run_states.specs.Groups.{RunFacts, named_group}
+use Rattle.run_states.specs.Runs.{has_id, results_so_far, RunState}
+use Rattle.run_states.specs.LegContext.{LegFacts, is_set}
 use Rattle.run_bindings.specs.declared.groups.GroupRequest.{GroupRequest}
 use Rattle.run_bindings.specs.declared.groups.BoundFlag.{BoundFlag}
 use Rattle.run_bindings.specs.declared.groups.BoundFlag.TheVariants as bound

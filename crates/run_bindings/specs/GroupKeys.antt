@@ -5,7 +5,7 @@ use Rattle.std.specs.Option.{option_map_or}
 use Rattle.wf_expr.specs.Bound.{Results}
 use Rattle.group_name.specs.BoundGroup.{HasRoomFor, group_at as bound_group_at}
 use Rattle.group_name.specs.Group.{Group}
-use Rattle.run_states.specs.FirstOf.{changed_at}
+use Rattle.run_states.specs.Runs.{changed_at}
 use Rattle.run_bindings.specs.BoundGroups.{is_set_by}
 use Rattle.run_bindings.specs.declared.bindings.JobBindings.{JobBindings}
 use Rattle.run_bindings.specs.declared.group_keys.HolderKey.{HolderKey}

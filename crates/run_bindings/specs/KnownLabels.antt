@@ -8,7 +8,7 @@ use Rattle.wf_expr.specs.Bound.{Results, bound_of, bound_text, no_results}
 use Rattle.wf_expr.specs.declared.bound.BoundPiece.{BoundPiece}
 use Rattle.run_plan.specs.PlanOf.{plan_of}
 use Rattle.run_plan.specs.declared.planned.PlannedJob.{PlannedJob}
-use Rattle.run_states.specs.GroupOf.{RunFacts}
+use Rattle.run_states.specs.Groups.{RunFacts}
 use Rattle.run_states.specs.LegContext.{context_of}
 use Rattle.run_bindings.specs.BoundGroups.{facts_by, need_of_job}
 use Rattle.run_bindings.specs.declared.resolved_labels.ResolvedLabels.{ResolvedLabels}

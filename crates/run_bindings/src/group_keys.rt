@@ -4,7 +4,7 @@
 ghost use Rattle.std.specs.Prelude.{◌≡◌, ◌+◌, IfOk, IfSome, Some, count_by, map, option_and_then, option_copied, slice_get};
 ghost use Rattle.std.specs.Option.{option_map_or};
 ghost use Rattle.wf_value.specs.Gives.{ErrsOnlyByMemory};
-ghost use Rattle.run_states.specs.FirstOf.{changed_at};
+ghost use Rattle.run_states.specs.Runs.{changed_at};
 ghost use Rattle.run_bindings.specs.GroupKeys.{AreLater, IsLater, arrivals_in, arrivals_of, arrivals_of_legs, decided, has_no_group, holder_key, key_in};
 ghost use Rattle.run_bindings.specs.GroupKeys.{key_of, spent, ticket_in, with_spent};
 ghost use Rattle.run_bindings.specs.declared.group_keys.KnownGroup.{KnownGroup as KnownInCode};

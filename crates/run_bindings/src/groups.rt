@@ -4,11 +4,10 @@
 ghost use Rattle.std.specs.Prelude.{◌≡◌, ℕ, IfOk, Some, length, slice_get};
 ghost use Rattle.wf_value.specs.Gives.{ErrsOnlyByMemory};
 ghost use Rattle.wf_expr.specs.Bound.{HasResults, Results};
-ghost use Rattle.wf_expr.specs.ContextValue.{Values};
+ghost use Rattle.wf_expr.specs.TemplateValue.{Values};
 ghost use Rattle.wf_reader.specs.Event.{event_of};
-ghost use Rattle.run_states.specs.GroupOf.{concurrency_of_leg, run_context};
-ghost use Rattle.run_states.specs.LegContext.{context_of};
-ghost use Rattle.run_states.specs.Words.{is_set};
+ghost use Rattle.run_states.specs.Groups.{concurrency_of_leg, run_context};
+ghost use Rattle.run_states.specs.LegContext.{context_of, is_set};
 ghost use Rattle.run_bindings.specs.BoundGroups.{Says, SaysSo, facts_by, is_set_by};
 ghost use Rattle.run_bindings.specs.declared.groups.GroupRequest.{GroupRequest as RequestedOfGroup};
 

@@ -1,6 +1,6 @@
 ghost use Rattle.std.specs.Prelude.{◌≡◌, option_and_then, option_map};
 ghost use Rattle.std.specs.Option.{option_copied};
-ghost use Rattle.wf_value.specs.Words.{result_word};
+ghost use Rattle.wf_value.specs.ScalarValue.{result_word};
 ghost use Rattle.wf_value.specs.declared.scalar.Scalar.TheVariants.{Text};
 ghost use Rattle.wf_expr.specs.ScalarView.{shown};
 ghost use Rattle.run_states.specs.LegContext.{contexts_of, github_of, inner_value, matrix_of, service_value, strategy_of};
@@ -33,7 +33,7 @@ pub(crate) struct LegContext<'a> {
 
 impl<'a> Model for LegContext<'a> {
     ghost use Rattle.std.specs.Prelude.{◌<◌, ◌^◌};
-    ghost use Rattle.run_states.specs.JobResults.{direct_needs};
+    ghost use Rattle.run_states.specs.Runs.{direct_needs};
     ghost use Rattle.run_states.specs.LegContext.{LegFacts};
 
     ghost Value = { LegFacts };

@@ -30,7 +30,7 @@ pub(crate) struct LegNeeds<'a> {
 
 impl<'a> Model for LegNeeds<'a> {
     ghost use Rattle.std.specs.Prelude.{ℕ};
-    ghost use Rattle.run_states.specs.RunState.{RunState};
+    ghost use Rattle.run_states.specs.Runs.{RunState};
 
     ghost Value = { RunState × ℕ };
 

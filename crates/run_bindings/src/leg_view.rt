@@ -25,7 +25,7 @@ pub struct LegView<'a> {
 impl<'a> Model for LegView<'a> {
     ghost use Rattle.std.specs.Fmt.{decimal};
     ghost use Rattle.std.specs.Prelude.{◌<◌, ◌^◌};
-    ghost use Rattle.run_states.specs.JobResults.{direct_needs};
+    ghost use Rattle.run_states.specs.Runs.{direct_needs};
     ghost use Rattle.run_states.specs.LegContext.{LegFacts};
 
     ghost Value = { LegFacts };

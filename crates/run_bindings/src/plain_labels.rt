@@ -1,8 +1,7 @@
 //! Labels that are plain text, which are the same for all legs of a job.
 
 ghost use Rattle.std.specs.Prelude.{◌≡◌, IfOk, IfSome};
-ghost use Rattle.wf_expr.specs.ContextValue.{Values};
-ghost use Rattle.wf_expr.specs.TemplateValue.{template_value};
+ghost use Rattle.wf_expr.specs.TemplateValue.{Values, template_value};
 ghost use Rattle.wf_value.specs.Gives.{ErrsOnlyByMemory};
 ghost use Rattle.wf_value.specs.ScalarValue.{scalar_text};
 ghost use Rattle.run_bindings.specs.PlainLabels.{AreTheTexts};

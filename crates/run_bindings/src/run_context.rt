@@ -2,7 +2,7 @@
 
 ghost use Rattle.std.specs.Prelude.{◌≡◌, ◌∷◌, [], codes, option_and_then, option_map};
 ghost use Rattle.wf_expr.specs.ScalarView.{shown};
-ghost use Rattle.run_states.specs.GroupOf.{value_in_github};
+ghost use Rattle.run_states.specs.Groups.{value_in_github};
 ghost use Rattle.run_states.specs.LegContext.{github_of_run, under};
 
 use crate::github_context::github_member;
@@ -25,7 +25,7 @@ pub struct RunContext<'a> {
 }
 
 impl<'a> Model for RunContext<'a> {
-    ghost use Rattle.run_states.specs.GroupOf.{RunFacts};
+    ghost use Rattle.run_states.specs.Groups.{RunFacts};
 
     ghost Value = { RunFacts };
 
@@ -38,7 +38,7 @@ impl<'a> Model for RunContext<'a> {
 }
 
 impl<'a> Context for RunContext<'a> {
-    ghost use Rattle.run_states.specs.GroupOf.{run_context};
+    ghost use Rattle.run_states.specs.Groups.{run_context};
 
     ghost values = { run_context };
 

@@ -24,7 +24,7 @@ pub(crate) struct RunIdentity<'a> {
 }
 
 impl<'a> Model for RunIdentity<'a> {
-    ghost use Rattle.run_states.specs.GroupOf.{RunFacts};
+    ghost use Rattle.run_states.specs.Groups.{RunFacts};
 
     ghost Value = { RunFacts };
 

@@ -10,14 +10,12 @@ use Rattle.serde_json.specs.Find.{as_object, get}
 use Rattle.wf_value.specs.declared.code.Code.{Code}
 use Rattle.wf_value.specs.declared.code.Code.TheVariants.{NotJson, TooLong, TooManyJobs, WrongKind}
 use Rattle.wf_value.specs.declared.refusal.Refusal.{Refusal}
-use Rattle.wf_reader.specs.Body.{json_of}
+use Rattle.wf_reader.specs.Workflow.{json_of, inside_workflow, jobs_faults, workflow_faults_in}
 use Rattle.wf_reader.specs.Event.{contexts_faults, event_faults, event_faults_in, event_of, filled_text_faults, inside_envelope}
 use Rattle.wf_expr.specs.declared.place.ContextSite.TheVariants as place
-use Rattle.wf_reader.specs.Concurrency.{concurrency_faults}
+use Rattle.wf_reader.specs.Job.{concurrency_faults, job_of}
 use Rattle.wf_reader.specs.Faults.{fault, faults_in_order, optional, required, text_faults}
-use Rattle.wf_reader.specs.Job.{job_of}
 use Rattle.wf_reader.specs.Json.{member_at, members_of}
-use Rattle.wf_reader.specs.Workflow.{inside_workflow, jobs_faults, workflow_faults_in}
 use Rattle.run_plan.specs.PlanOf.{faults_of, plan_of, planned_job, plan_faults}
 
 -- both parts of an empty list are empty

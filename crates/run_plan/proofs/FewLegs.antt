@@ -5,7 +5,7 @@ use Rattle.std.specs.Result.{result_unwrap_or}
 use Rattle.std.proofs.Common.{arith, sym, subst, inl, inr, cond}
 use Rattle.std.proofs.lemmas.Bool.{cases_Bool, ltb-false}
 use Rattle.std.proofs.lemmas.List.{length-map}
-use Rattle.wf_value.specs.Matrix.{MatrixLists}
+use Rattle.wf_value.specs.ScalarValue.{MatrixLists}
 use Rattle.wf_value.specs.declared.code.Code.TheVariants.{LegCount}
 use Rattle.wf_value.specs.declared.refusal.Refusal.TheVariants.{Numbered}
 use Rattle.wf_reader.specs.declared.job.Job.{Job}

@@ -8,7 +8,7 @@ use Rattle.wf_reader.specs.Faults.{unless_faulty}
 use Rattle.wf_reader.specs.JobCode as read
 use Rattle.wf_reader.specs.declared.job.Job.{Job}
 use Rattle.wf_reader.proofs.InOrder.{no_fault, same_value}
-use Rattle.definitions.specs.JobNeeds.{JobNeeds}
+use Rattle.definitions.specs.Rising.{JobNeeds}
 use Rattle.needs_graph.specs.Needs.{graph_of, ids_rise, is_job, needs_of, own_ancestors, unknown_need, unless_cycle}
 use Rattle.run_plan.specs.PlanOf.{jobs_faults, legs_faults, needs_faults, needs_listed, needs_of_job, needs_of_planned, planned_job}
 use Rattle.run_plan.specs.declared.planned.PlannedJob.{PlannedJob}

@@ -12,8 +12,7 @@ use Rattle.std.proofs.lemmas.Int.Digits.{digits_value-lt, digits_value_more}
 use Rattle.std.proofs.lemmas.Str.Parse.{digit_at, digits_value-take-le}
 use Rattle.std.proofs.lemmas.Str.{digit_value_digit}
 use Rattle.definitions.specs.Limits.{last_number}
-use Rattle.definitions.specs.Decimal.{is_decimal}
-use Rattle.definitions.specs.SmallText.{is_number}
+use Rattle.definitions.specs.SmallText.{is_decimal, is_number}
 
 digit_small : (b : ℕ) → is_ascii_digit b ≡ true → digit_value b < 10
 digit_small b h = grind (arith, common_steps)

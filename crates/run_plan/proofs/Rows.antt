@@ -3,13 +3,13 @@ use Rattle.std.specs.Prelude.{◌≡◌, ℕ, pos, List, [], ◌∷◌, map, Som
 use Rattle.std.specs.Fmt.{digits}
 use Rattle.std.specs.Str.{is_utf8, chars}
 use Rattle.serde_json.proofs.OnLiterals.{serde_json_on_literals}
-use Rattle.wf_value.specs.Matrix.{NamedValues}
+use Rattle.wf_value.specs.ScalarValue.{NamedValues}
 use Rattle.wf_value.specs.declared.code.Code.TheVariants.{HasLease, LegCount, MatrixTooLarge, UnknownNeed}
 use Rattle.wf_value.specs.declared.condition.Condition.TheVariants.{Success, Always}
 use Rattle.wf_value.specs.declared.refusal.Refusal.TheVariants.{Numbered, Cycle, Turn}
 use Rattle.wf_value.specs.declared.scalar.Scalar.TheVariants.{Null, Truth, Whole, Text}
 use lib.Utf8.{encode}
-use Rattle.wf_expr.specs.Reading.{run}
+use Rattle.wf_expr.specs.Parsing.{run}
 use Rattle.wf_expr.specs.declared.piece.Piece.TheVariants.{Plain}
 use Rattle.wf_reader.specs.declared.flag.Flag.TheVariants.{Fixed}
 use Rattle.wf_reader.specs.declared.job.Job.{Job}

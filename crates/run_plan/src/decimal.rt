@@ -3,7 +3,7 @@ ghost use Rattle.std.specs.List.{list_all};
 ghost use Rattle.std.specs.Char.{is_ascii_digit};
 ghost use Rattle.std.specs.Str.Parse.{digits_value};
 ghost use Rattle.definitions.specs.Limits.{last_number};
-ghost use Rattle.definitions.specs.Decimal.{decimal_of, is_decimal};
+ghost use Rattle.definitions.specs.SmallText.{decimal_of, is_decimal};
 
 /// The number that one to nine decimal digits write, which may begin with zeros.
 pub fn decimal_of(text: &[u8]) -> Option<u32>

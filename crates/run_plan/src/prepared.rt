@@ -40,7 +40,7 @@ impl Model for Prepared {
     ghost use Rattle.std.specs.Arc.{arc_value};
     ghost use Rattle.std.specs.Prelude.{◌≡◌, []};
     ghost use Rattle.wf_reader.specs.Event.{event_of};
-    ghost use Rattle.definitions.specs.Admitted.{Admitted, coded_admitted};
+    ghost use Rattle.definitions.specs.SmallText.{Admitted, coded_admitted};
     ghost use Rattle.run_plan.specs.PlanOf.{faults_of};
     ghost use Rattle.run_plan.specs.inner.PlannedWorkflows.{IsPlanned};
 

@@ -7,11 +7,10 @@ use Rattle.std.specs.Option.{option_map_or}
 use Rattle.std.specs.Str.{bytes_eq}
 use Rattle.wf_value.specs.declared.outcome.JobResult.{JobResult}
 use Rattle.run_plan.specs.declared.planned.PlannedJob.{PlannedJob}
-use Rattle.needs_graph.specs.Ancestors.{needs_at}
+use Rattle.needs_graph.specs.Needs.{needs_at}
 use Rattle.run_plan.specs.PlanOf.{plan_of}
-use Rattle.run_states.specs.JobResults.{direct_needs, has_id, needs_in, results_so_far, with_result}
+use Rattle.run_states.specs.Runs.{direct_needs, has_id, needs_in, results_so_far, with_result, JobState, RunState}
 use Rattle.run_states.specs.LegContext.{under}
-use Rattle.run_states.specs.RunState.{JobState, RunState}
 
 one_need : (id : List ℕ) (results : List (Option JobResult)) (k : ℕ) (o : Option PlannedJob) (more : List (List ℕ × Option JobResult))
     (found : Option ℕ)

@@ -8,11 +8,7 @@ use Rattle.std.proofs.lemmas.List.{length-set}
 use Rattle.std.proofs.lemmas.Option.{gets, slice_get-map}
 use Rattle.run_plan.specs.declared.planned.PlannedJob.{PlannedJob}
 use Rattle.run_states.specs.inner.Cells.{JobCells, cells_of, in_state, states, rooms, legs_planned, blocked_cells, result_of}
-use Rattle.run_states.specs.FirstOf.{changed_at}
-use Rattle.run_states.specs.JobResults.{finished_result}
-use Rattle.run_states.specs.JobResults.{results_of}
-use Rattle.run_states.specs.NewRun.{blocked_job}
-use Rattle.run_states.specs.RunState.{LegState}
+use Rattle.run_states.specs.Runs.{changed_at, finished_result, results_of, blocked_job, LegState}
 use Rattle.run_states.specs.Settling.{legs_in_plan}
 use Rattle.run_states.specs.declared.phases.JobPhase.{JobPhase}
 

@@ -6,7 +6,7 @@ use Rattle.std.proofs.Common.{arith, ap, subst, ◌∙◌, ltb, append_assoc, le
 use Rattle.std.proofs.lemmas.Bool.{ltb-true, ltb-false}
 use Rattle.std.proofs.lemmas.List.Folds.{find_at}
 use Rattle.std.proofs.lemmas.Option.{slice_get_past}
-use Rattle.run_states.specs.FirstOf.{placed}
+use Rattle.run_states.specs.Runs.{placed}
 
 -- the element that `find` returns
 pub record Found {X : Type 0} (P : X → Type 0) (test : X → Bool) (y : X) : Type 0 where

@@ -1,9 +1,8 @@
 -- What the phase of a job says about its legs.
 use Rattle.std.specs.Prelude.{◌≡◌, ℕ, List, [], length, true, refl}
 use Rattle.wf_value.specs.declared.outcome.JobResult.{JobResult}
-use Rattle.run_states.specs.RunState.{LegState}
-use Rattle.run_states.specs.SoundRuns.{LegsFit}
-use Rattle.run_states.specs.StateWords.{is_blocked, is_open}
+use Rattle.run_states.specs.Runs.{LegState, is_blocked, is_open}
+use Rattle.run_states.specs.Sound.{LegsFit}
 use Rattle.run_states.specs.declared.phases.JobPhase.{JobPhase}
 use Rattle.run_states.specs.declared.phases.JobPhase.TheVariants as job
 

@@ -8,14 +8,10 @@ use Rattle.std.proofs.lemmas.Bool.{or_parts, true≢false}
 use Rattle.std.proofs.lemmas.Bool.Decides.{nat_tests}
 use Rattle.std.proofs.lemmas.List.Sums.{sum_by-cons}
 use Rattle.run_states.specs.inner.ActiveRuns.{is_active_leg}
-use Rattle.run_states.specs.FirstOf.{first_some}
-use Rattle.run_states.specs.Fitting.{is_ready}
+use Rattle.run_states.specs.Runs.{first_some, leg_site, LegState, RunState, is_new, leg_has_ended, new_leg, outcome_of}
+use Rattle.run_states.specs.Fitting.{is_ready, is_at_work}
 use Rattle.run_states.specs.Groups.{leg_holds, leg_waits}
 use Rattle.run_states.specs.inner.LegCounts.{AreCounted, is_unready_leg, legs_in}
-use Rattle.run_states.specs.Parallel.{is_at_work}
-use Rattle.run_states.specs.Places.{leg_site}
-use Rattle.run_states.specs.RunState.{LegState, RunState}
-use Rattle.run_states.specs.StateWords.{is_new, leg_has_ended, new_leg, outcome_of}
 use Rattle.run_states.specs.WithinRun.{first_of_legs, goes_on, goes_on_in}
 use Rattle.run_states.specs.declared.leg_counts.LegCounts.{LegCounts}
 use Rattle.run_states.specs.declared.phases.LegPhase.{LegPhase}

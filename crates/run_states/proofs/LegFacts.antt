@@ -8,21 +8,17 @@ use Rattle.std.proofs.Common.{arith, ap, sym, ◌∙◌}
 use Rattle.std.proofs.lemmas.Bool.{and_parts}
 use Rattle.std.proofs.lemmas.Option.{same_Some, slice_get-map}
 use Rattle.wf_value.specs.declared.outcome.JobResult.{JobResult}
-use Rattle.needs_graph.specs.Ancestors.{needs_at}
-use Rattle.needs_graph.specs.Results.{gathered}
+use Rattle.needs_graph.specs.Needs.{needs_at, gathered}
 use Rattle.needs_graph.specs.declared.ended.LegEnd.{LegEnd}
-use Rattle.definitions.specs.Admitted.{Admitted}
+use Rattle.definitions.specs.SmallText.{Admitted}
 use Rattle.run_plan.specs.PlanOf.{plan_graph, plan_of}
 use Rattle.run_plan.specs.declared.planned.PlannedJob.{PlannedJob}
-use Rattle.run_states.specs.FirstOf.{placed}
-use Rattle.run_states.specs.JobResults.{direct_needs, needs_in, results_so_far, with_result}
-use Rattle.run_states.specs.LegContext.{LegFacts, context_of, context_at, facts_at, nothing}
-use Rattle.run_states.specs.Places.{plan_at, run_at}
+use Rattle.run_states.specs.Runs.{placed, direct_needs, needs_in, results_so_far, with_result, plan_at, run_at}
+use Rattle.run_states.specs.LegContext.{LegFacts, context_of, context_at, facts_at, nothing, events, same_workflow}
 use Rattle.run_states.specs.declared.place.LegSite.{LegSite}
-use Rattle.run_states.specs.Rules.{leg_end, outcome_of, result_at}
-use Rattle.run_states.specs.RunNumber.{events, same_workflow}
-use Rattle.run_states.specs.RunState.{LegState, JobState, RunState}
-use Rattle.run_states.specs.Words.{all_have_results, is_set_for, needs_have_finished, continues_on_error}
+use Rattle.run_states.specs.Settling.{leg_end, outcome_of, result_at}
+use Rattle.run_states.specs.Runs.{LegState, JobState, RunState}
+use Rattle.run_states.specs.LegContext.{all_have_results, is_set_for, needs_have_finished, continues_on_error}
 use Rattle.run_states.proofs.NeedsSettled.{KeepsResults, result_of_job}
 
 -- the facts of a leg, from its run's event and attempt, the events up to it, and the needs of its job

@@ -1,10 +1,9 @@
 -- The leases of the legs of a run and of a table, read place by place.
 use Rattle.std.specs.Prelude.{◌≡◌, ℕ, List, Bool, true, false, Option, Some, None, option_and_then, slice_get, if◌then◌else◌, refl}
 use Rattle.std.proofs.Common.{ap, sym, ◌∙◌}
-use Rattle.run_states.specs.Parallel.{is_at_work}
-use Rattle.run_states.specs.Places.{run_at, job_at, leg_at}
+use Rattle.run_states.specs.Fitting.{is_at_work}
+use Rattle.run_states.specs.Runs.{run_at, job_at, leg_at, LegState, JobState, RunState}
 use Rattle.run_states.specs.declared.place.LegSite.{LegSite}
-use Rattle.run_states.specs.RunState.{LegState, JobState, RunState}
 use Rattle.run_states.proofs.Optional.{From, from_and_then}
 
 -- the lease of a leg with a runner at work

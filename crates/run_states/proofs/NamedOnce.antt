@@ -7,10 +7,8 @@ use Rattle.std.proofs.Common.{arith, ap, sym, ◌∙◌, ⊎_elim}
 use Rattle.std.proofs.lemmas.Bool.{cases_lt, eqb-true, eq-eqb, false_from_ne_true}
 use Rattle.std.proofs.lemmas.List.{get_or_past}
 use Rattle.std.proofs.lemmas.List.Sums.{sum_by-cons}
-use Rattle.needs_graph.specs.Ancestors.{dependents_of, needs_at}
-use Rattle.definitions.specs.JobNeeds.{JobNeeds}
-use Rattle.needs_graph.specs.Needs.{places}
-use Rattle.needs_graph.specs.Needs.{is_listed, needs_of}
+use Rattle.needs_graph.specs.Needs.{dependents_of, needs_at, places, is_listed, needs_of}
+use Rattle.definitions.specs.Rising.{JobNeeds}
 use Rattle.run_states.specs.inner.NeedsLeft.{NamedOnce}
 
 -- ---- counts of numbers

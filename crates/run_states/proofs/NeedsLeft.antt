@@ -6,18 +6,15 @@ use Rattle.std.proofs.Common.{arith, ap, sym, ◌∙◌, get_or}
 use Rattle.std.proofs.lemmas.Bool.{eqb-true, eq-eqb, true≢false}
 use Rattle.std.proofs.lemmas.List.{get_or_past, length-map}
 use Rattle.wf_value.specs.declared.outcome.JobResult.{JobResult}
-use Rattle.needs_graph.specs.Ancestors.{dependents_of, needs_at}
+use Rattle.needs_graph.specs.Needs.{dependents_of, needs_at, places}
 use Rattle.run_plan.specs.PlanOf.{plan_graph}
 use Rattle.run_plan.specs.declared.planned.PlannedJob.{PlannedJob}
-use Rattle.needs_graph.specs.Needs.{places}
 use Rattle.run_states.specs.inner.Cells.{JobCells, states}
-use Rattle.run_states.specs.FirstOf.{changed_at}
-use Rattle.run_states.specs.JobResults.{results_so_far, finished_result}
+use Rattle.run_states.specs.Runs.{changed_at, results_so_far, finished_result, JobState}
 use Rattle.run_states.specs.inner.LegCounts.{one_where}
 use Rattle.run_states.specs.inner.NeedsLeft.{ArePlanned, NamedOnce, NeedsAreLeft, needs_left_at, unfinished}
-use Rattle.run_states.specs.Rules.{finished_as}
-use Rattle.run_states.specs.RunState.{JobState}
-use Rattle.run_states.specs.Words.{all_have_results}
+use Rattle.run_states.specs.Settling.{finished_as}
+use Rattle.run_states.specs.LegContext.{all_have_results}
 use Rattle.run_states.proofs.NamedOnce.{as_often, count_cons, count_no, count_yes, not_same}
 
 -- whether the job at an index has not finished

@@ -9,16 +9,14 @@ use Rattle.std.proofs.lemmas.Bool.{and_from, and_parts}
 use Rattle.std.proofs.lemmas.Option.{slice_get-get_or}
 use Rattle.wf_value.specs.declared.condition.Condition.{Condition}
 use Rattle.wf_value.specs.declared.outcome.JobResult.{JobResult}
-use Rattle.needs_graph.specs.Ancestors.{needs_at}
-use Rattle.needs_graph.specs.Conditions.{condition_value, ancestor_results as results_of_ancestors}
-use Rattle.definitions.specs.Admitted.{Admitted}
+use Rattle.needs_graph.specs.Needs.{needs_at, condition_value, ancestor_results as results_of_ancestors}
+use Rattle.definitions.specs.SmallText.{Admitted}
 use Rattle.run_plan.specs.PlanOf.{plan_of, plan_graph}
 use Rattle.run_states.specs.inner.Cells.{JobCells, result_of, states}
-use Rattle.run_states.specs.Places.{run_at}
-use Rattle.run_states.specs.RunState.{JobState, RunState}
+use Rattle.run_states.specs.Runs.{run_at, JobState, RunState}
 use Rattle.run_states.specs.inner.WithinRun.{condition_in, may_run_in, needs_finished_in}
-use Rattle.run_states.specs.Words.{all_have_results, job_results, needs_graph_at, needs_have_finished, needs_in, results_so_far}
-use Rattle.run_states.specs.Words.{finished_result}
+use Rattle.run_states.specs.LegContext.{all_have_results, job_results, needs_graph_at, needs_have_finished, needs_in, results_so_far}
+use Rattle.run_states.specs.LegContext.{finished_result}
 
 -- ---- by the run alone
 

@@ -5,7 +5,7 @@ use Rattle.std.proofs.lemmas.Option.{same_Some, slice_get-map}
 use Rattle.run_plan.specs.declared.planned.PlannedJob.{PlannedJob}
 use Rattle.run_states.specs.AsPlanned.{HasItsRoom, HasRoom}
 use Rattle.run_states.specs.inner.Cells.{legs_planned}
-use Rattle.run_states.specs.RunState.{JobState}
+use Rattle.run_states.specs.Runs.{JobState}
 
 pub room_here : (plan : List PlannedJob) (j : ℕ) (planned : PlannedJob) (x : JobState) → slice_get plan j ≡ Some planned
     → HasRoom (length planned.legs) x.legs → HasItsRoom plan j x

@@ -3,15 +3,14 @@ use Rattle.std.specs.Prelude.{◌≡◌, ℕ, List, [], length, true, Option, So
 use Rattle.std.proofs.Common.{ap, sym, ◌∙◌}
 use Rattle.std.specs.Option.{option_map_or}
 use Rattle.wf_value.specs.declared.outcome.JobResult.{JobResult}
-use Rattle.definitions.specs.Admitted.{Admitted}
+use Rattle.definitions.specs.SmallText.{Admitted}
 use Rattle.run_plan.specs.PlanOf.{plan_of}
 use Rattle.run_plan.specs.declared.planned.PlannedJob.{PlannedJob}
-use Rattle.run_states.specs.Places.{run_at, job_at, leg_at, plan_at}
+use Rattle.run_states.specs.Runs.{run_at, job_at, leg_at, plan_at, LegState, JobState, RunState}
 use Rattle.run_states.specs.declared.place.LegSite.{LegSite}
-use Rattle.run_states.specs.Rules.{result_at}
-use Rattle.run_states.specs.RunState.{LegState, JobState, RunState}
-use Rattle.run_states.specs.SoundRuns.{JobsAreThePlans, RunPhasesFit, PhaseFits, JobsFit, LegsFit, NeedsComeFirst, LeasesFit, LeaseFits}
-use Rattle.run_states.specs.Words.{needs_have_finished, planned_legs}
+use Rattle.run_states.specs.Settling.{result_at}
+use Rattle.run_states.specs.Sound.{JobsAreThePlans, RunPhasesFit, PhaseFits, JobsFit, LegsFit, NeedsComeFirst, LeasesFit, LeaseFits}
+use Rattle.run_states.specs.LegContext.{needs_have_finished, planned_legs}
 use Rattle.run_states.proofs.Optional.{from_and_then, and_then-option_map}
 
 pub record JobFits (planned : ℕ) (result : JobResult) (x : JobState) : Type 0 where

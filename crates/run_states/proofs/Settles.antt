@@ -3,13 +3,10 @@ use Rattle.std.specs.Prelude.{◌≡◌, ℕ, ◌≤◌, List, length, Option, S
 use Rattle.std.proofs.Common.{arith, ap, sym, ◌∙◌, subst}
 use Rattle.std.proofs.lemmas.Option.{slice_get-map}
 use Rattle.wf_value.specs.declared.outcome.JobResult.{JobResult}
-use Rattle.run_states.specs.FirstOf.{changed_at}
-use Rattle.run_states.specs.Places.{run_at}
+use Rattle.run_states.specs.Runs.{changed_at, run_at, RunState}
 use Rattle.run_states.specs.declared.place.LegSite.{LegSite}
-use Rattle.run_states.specs.Rules.{result_at}
-use Rattle.run_states.specs.RunNumber.{events}
-use Rattle.run_states.specs.RunState.{RunState}
-use Rattle.run_states.specs.Words.{planned_legs}
+use Rattle.run_states.specs.Settling.{result_at}
+use Rattle.run_states.specs.LegContext.{events, planned_legs}
 use Rattle.run_states.proofs.Changed.{reads_same, reads_stay, holds_of_each, length-changed_at}
 use Rattle.run_states.proofs.LegFacts.{SameUpTo, attempt_at, result_stays}
 use Rattle.run_states.proofs.LegReads.{had_in, works_in, had_at, works_at}

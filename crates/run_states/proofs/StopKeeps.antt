@@ -8,17 +8,14 @@ use Rattle.std.proofs.lemmas.List.{length-map}
 use Rattle.std.proofs.lemmas.Option.{slice_get-map}
 use Rattle.wf_value.specs.declared.outcome.JobResult.{JobResult}
 use Rattle.wf_value.specs.declared.outcome.JobResult.TheVariants as result
-use Rattle.run_states.specs.FirstOf.{changed_at, placed}
-use Rattle.run_states.specs.JobResults.{finished_result}
-use Rattle.run_states.specs.Parallel.{is_at_work}
-use Rattle.run_states.specs.Places.{run_at, job_at, with_job, with_run}
-use Rattle.run_states.specs.Rules.{is_open, is_finished, result_at, finished_as}
-use Rattle.run_states.specs.RunState.{LegState, JobState, RunState}
-use Rattle.run_states.specs.SoundRuns.{LegsFit, LeaseFits, PhaseFits}
+use Rattle.run_states.specs.Runs.{changed_at, placed, finished_result, run_at, job_at, with_job, with_run, LegState, JobState, RunState}
+use Rattle.run_states.specs.Fitting.{is_at_work}
+use Rattle.run_states.specs.Settling.{is_open, is_finished, result_at, finished_as}
+use Rattle.run_states.specs.Sound.{LegsFit, LeaseFits, PhaseFits}
 use Rattle.run_states.specs.Stops.{cancelled, stopped_in, stopped_phase, stopped_run, stopped, stopped_where, with_stop_requested}
 use Rattle.run_states.specs.Stops.{with_stopped_legs}
 use Rattle.run_states.specs.inner.WithinRun.{may_run_in}
-use Rattle.run_states.specs.Words.{planned_legs}
+use Rattle.run_states.specs.LegContext.{planned_legs}
 use Rattle.run_states.specs.declared.phases.JobPhase.{JobPhase}
 use Rattle.run_states.specs.declared.phases.JobPhase.TheVariants as job
 use Rattle.run_states.specs.declared.phases.LegPhase.{LegPhase}

@@ -5,11 +5,9 @@ use Rattle.std.specs.List.{enumerate_from}
 use Rattle.std.specs.Option.{option_map_or}
 use Rattle.std.proofs.Common.{arith, ap, sym, ◌∙◌}
 use Rattle.wf_value.specs.declared.outcome.JobResult.{JobResult}
-use Rattle.needs_graph.specs.Conditions.{condition_value, ancestor_results as results_of_ancestors}
-use Rattle.run_states.specs.FirstOf.{changed_at}
-use Rattle.run_states.specs.JobResults.{needs_in, finished_result}
-use Rattle.run_states.specs.Rules.{is_open, finished_as}
-use Rattle.run_states.specs.RunState.{JobState, RunState}
+use Rattle.needs_graph.specs.Needs.{condition_value, ancestor_results as results_of_ancestors}
+use Rattle.run_states.specs.Runs.{changed_at, needs_in, finished_result, JobState, RunState}
+use Rattle.run_states.specs.Settling.{is_open, finished_as}
 use Rattle.run_states.specs.Stops.{is_open_at, stopped_in, stopped_run, stopped_where, with_stop_requested, with_job_stopped, with_jobs_stopped}
 use Rattle.run_states.specs.Stops.{with_stopped_legs}
 use Rattle.run_states.specs.inner.WithinRun.{condition_in, may_run_in}

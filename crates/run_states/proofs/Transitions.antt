@@ -3,15 +3,10 @@ use Rattle.std.specs.Prelude.{◌≡◌, ℕ, zero, suc, List, [], ◌∷◌, Bo
 use Rattle.std.specs.Prelude.{option_map, option_and_then, slice_get, if◌then◌else◌, refl}
 use Rattle.std.proofs.Common.{ap, subst, sym, ◌∙◌}
 use Rattle.std.proofs.lemmas.Option.{same_Some}
-use Rattle.run_states.specs.FirstOf.{changed_at}
-use Rattle.run_states.specs.Moves.{Transition, without_moves}
-use Rattle.run_states.specs.Places.{job_at, leg_at, with_job, with_leg}
+use Rattle.run_states.specs.Runs.{changed_at, job_at, leg_at, with_job, with_leg, LegState, JobState, RunState}
+use Rattle.run_states.specs.GroupLaw.{Transition, without_moves}
 use Rattle.run_states.specs.declared.place.LegSite.{LegSite}
-use Rattle.run_states.specs.Rules.{is_done, finished_as, result_at, closing_rule}
-use Rattle.run_states.specs.Rules.{places}
-use Rattle.run_states.specs.Rules.{rule_at}
-use Rattle.run_states.specs.RunState.{LegState, JobState, RunState}
-use Rattle.run_states.specs.Settling.{applies, first_site, first_rule}
+use Rattle.run_states.specs.Settling.{is_done, finished_as, result_at, closing_rule, places, rule_at, applies, first_site, first_rule}
 use Rattle.run_states.specs.declared.place.RuleSite.{RuleSite}
 use Rattle.run_states.proofs.Found.{find_passes}
 

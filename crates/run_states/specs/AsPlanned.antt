@@ -3,8 +3,7 @@ use Rattle.std.specs.Prelude.{◌≡◌, ◌⊎◌, ℕ, ◌≤◌, List, [], le
 use Rattle.definitions.specs.Limits.{max_runs}
 use Rattle.run_plan.specs.PlanOf.{plan_of}
 use Rattle.run_plan.specs.declared.planned.PlannedJob.{PlannedJob}
-use Rattle.run_states.specs.Places.{run_at}
-use Rattle.run_states.specs.RunState.{LegState, JobState, RunState}
+use Rattle.run_states.specs.Runs.{run_at, LegState, JobState, RunState}
 
 -- a job has none of its legs, or all that its plan has
 abbrev pub HasRoom : ℕ → List LegState → Type 0

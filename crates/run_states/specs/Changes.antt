@@ -1,13 +1,10 @@
 -- What each change does to a run, and which leg it makes ready.
 use Rattle.std.specs.Prelude.{ℕ, true, Option, Some, None, if◌then◌else◌}
 use Rattle.run_plan.specs.PlanOf.{plan_of}
-use Rattle.run_states.specs.FirstOf.{changed_at}
+use Rattle.run_states.specs.Runs.{changed_at, leg_site, RunState, opened, run_in_phase, finished_as}
 use Rattle.run_states.specs.Fitting.{is_ready}
-use Rattle.run_states.specs.Places.{leg_site}
 use Rattle.run_states.specs.declared.place.LegSite.{LegSite}
-use Rattle.run_states.specs.RunState.{RunState}
 use Rattle.run_states.specs.Settling.{legs_in_plan}
-use Rattle.run_states.specs.StateWords.{opened, run_in_phase, finished_as}
 use Rattle.run_states.specs.Stops.{cancelled}
 use Rattle.run_states.specs.declared.change.Change.{Change}
 use Rattle.run_states.specs.declared.change.Change.TheVariants as change

@@ -1,17 +1,38 @@
--- Which leg a claim gets, and which leg has a lease: the first in the order of run, job and leg. GitHub Docs, "Workflow syntax for GitHub
--- Actions": jobs.<job_id>.runs-on, jobs.<job_id>.strategy.max-parallel. This project defines that labels compare without the case of ASCII
--- letters.
-use Rattle.std.specs.Prelude.{◌≡◌, ℕ, ◌&&◌, List, find, Bool, true, false, nat_eq, Option, Some}
-use Rattle.std.specs.List.{list_all, list_any}
+-- Which leg a claim gets.
+use Rattle.std.specs.Prelude.{ℕ, List, count_by, nat_lt, Bool, true, false, Option, option_and_then, ◌≡◌, ◌&&◌, find, nat_eq, Some}
 use Rattle.std.specs.Option.{option_map_or}
-use Rattle.std.specs.Str.{str_eq_ignore_ascii_case}
-use Rattle.run_states.specs.Parallel.{has_room, is_at_work}
-use Rattle.run_states.specs.Places.{job_at, leg_at, leg_sites}
-use Rattle.run_states.specs.declared.place.LegSite.{LegSite}
-use Rattle.run_states.specs.RunState.{LegState, RunState}
-use Rattle.run_states.specs.Words.{labels_at}
+use Rattle.run_states.specs.Runs.{plan_at, job_at, leg_at, leg_sites, JobState, RunState, LegState}
 use Rattle.run_states.specs.declared.phases.LegPhase.{LegPhase}
 use Rattle.run_states.specs.declared.phases.LegPhase.TheVariants as leg
+use Rattle.std.specs.List.{list_all, list_any}
+use Rattle.std.specs.Str.{str_eq_ignore_ascii_case}
+use Rattle.run_states.specs.declared.place.LegSite.{LegSite}
+use Rattle.run_states.specs.LegContext.{labels_at}
+
+-- ---- how many legs of a job run at once. GitHub Docs, "Workflow syntax for GitHub Actions", jobs.<job_id>.strategy.max-parallel. This project
+-- defines that a leg which is asked to stop counts until its runner has reported.
+
+-- whether a runner is at work on the leg
+abbrev pub is_at_work : LegPhase → Bool
+is_at_work leg.Running = true
+is_at_work leg.Stopping = true
+is_at_work _ = false
+
+-- how many legs of the job have a runner at work
+abbrev pub legs_at_work : JobState → ℕ
+legs_at_work job = count_by (λ l. is_at_work l.phase) job.legs
+
+-- the most legs of the job that may be at work at a time, if its plan sets a bound
+abbrev pub most_at_work : List RunState → ℕ → ℕ → Option ℕ
+most_at_work runs r j = option_and_then (λ planned. planned.max_parallel) (plan_at runs r j)
+
+-- whether one more leg of the job may run
+abbrev pub has_room : List RunState → ℕ → ℕ → JobState → Bool
+has_room runs r j job = option_map_or (λ most. nat_lt (legs_at_work job) most) (most_at_work runs r j) true
+
+-- ---- which leg a claim gets, and which leg has a lease: the first in the order of run, job and leg. GitHub Docs, "Workflow syntax for GitHub
+-- Actions": jobs.<job_id>.runs-on, jobs.<job_id>.strategy.max-parallel. This project defines that labels compare without the case of ASCII
+-- letters.
 
 -- whether the label is among these, ignoring the case of ASCII letters
 abbrev pub has_label : List (List ℕ) → List ℕ → Bool

@@ -1,10 +1,8 @@
 -- Where settling resumes after it has applied a rule: no rule applies before that place.
 use Rattle.std.specs.Prelude.{◌≡◌, ℕ, ◌<◌, List, true, is_some, Option, Some, None, option_and_then, slice_get}
 use Rattle.std.specs.Prelude.{if◌then◌else◌}
-use Rattle.run_states.specs.GroupOf.{group_at}
-use Rattle.run_states.specs.Places.{run_at}
-use Rattle.run_states.specs.RunState.{RunState}
-use Rattle.run_states.specs.StateWords.{is_live}
+use Rattle.run_states.specs.Groups.{group_at}
+use Rattle.run_states.specs.Runs.{run_at, RunState, is_live}
 use Rattle.run_states.specs.WithinRun.{first_in_job, first_in_run}
 use Rattle.run_states.specs.declared.place.JobSite.{JobSite}
 use Rattle.run_states.specs.declared.holder.Holder.TheVariants.{Run}

@@ -1,17 +1,14 @@
--- One step of the table: the reply to a command, the table after it, and the group moves on the way. Some commands
--- leave the table unchanged: those that are refused, in the order of their checks, a known delivery, an attempt that
--- has begun, a repeated command, a heartbeat, and a look or a fetch. The others change the table and then settle it;
--- the moves of their own change come first.
-use Rattle.std.specs.Prelude.{ℕ, ◌+◌, ◌-◌, ◌&&◌, List, [], ◌∷◌, ◌++◌, length, Bool, true, false, not, is_some, nat_eq, nat_le, Option, Some, None}
-use Rattle.std.specs.Prelude.{option_map, if◌then◌else◌}
+-- One step of the table, and the steps of a sequence of commands.
+use Rattle.std.specs.Prelude.{ℕ, ◌+◌, ◌-◌, ◌&&◌, List, [], ◌∷◌, ◌++◌, length, Bool, true, false, not, is_some, nat_eq, nat_le, Option, Some}
+use Rattle.std.specs.Prelude.{None, option_map, if◌then◌else◌}
 use Rattle.std.specs.List.{position}
 use Rattle.std.specs.Option.{option_or, option_map_or}
 use Rattle.definitions.specs.Limits.{last_attempt, last_number, max_runs}
 use Rattle.wf_value.specs.declared.code.Code.{Code}
-use Rattle.wf_value.specs.declared.code.Code.TheVariants.{HasLease, LeaseNotHeld, LastCounter, NoRun, NoRunner}
-use Rattle.wf_value.specs.declared.code.Code.TheVariants.{RunCompleted, RunNotCompleted}
+use Rattle.wf_value.specs.declared.code.Code.TheVariants.{HasLease, LeaseNotHeld, LastCounter, NoRun, NoRunner, RunCompleted}
+use Rattle.wf_value.specs.declared.code.Code.TheVariants.{RunNotCompleted}
 use Rattle.wf_value.specs.declared.refusal.Refusal.TheVariants.{Numbered, Turn}
-use Rattle.definitions.specs.Admitted.{Admitted}
+use Rattle.definitions.specs.SmallText.{Admitted}
 use Rattle.run_plan.specs.LastCommand.{is_last_claim, is_last_report}
 use Rattle.run_plan.specs.ReplyText.{carries_text}
 use Rattle.run_plan.specs.declared.command.Attempt.{Attempt}
@@ -23,27 +20,27 @@ use Rattle.run_plan.specs.declared.command.Command.TheVariants as command
 use Rattle.run_plan.specs.declared.reply.Lease.{Lease as Leased}
 use Rattle.run_plan.specs.declared.reply.Reply.{Reply}
 use Rattle.run_plan.specs.declared.reply.Reply.TheVariants as reply
-use Rattle.run_states.specs.Arrivals.{arrived}
+use Rattle.run_states.specs.Settling.{arrived, settled, settling_moves}
 use Rattle.run_states.specs.Fitting.{first_fit, is_lease_stopping}
-use Rattle.run_states.specs.Moves.{Move, Transition}
-use Rattle.run_states.specs.TableState.{Step, RunnerState, TableState}
-use Rattle.run_states.specs.Places.{run_at, with_leg, with_run}
+use Rattle.run_states.specs.GroupLaw.{Move, Transition}
+use Rattle.run_states.specs.TableState.{Step, RunnerState, TableState, runner_named, answer_by_number, with_runner, holds_lease, holds_this}
+use Rattle.run_states.specs.Runs.{run_at, with_leg, with_run, RunState, again, is_delivered_as, new_run, leased_leg}
 use Rattle.run_states.specs.declared.place.LegSite.{LegSite}
-use Rattle.run_states.specs.RunState.{RunState}
-use Rattle.run_states.specs.Settling.{settled, settling_moves}
-use Rattle.run_states.specs.StopMoves.{stop_holder, with_ended, lease_end_moves}
-use Rattle.run_states.specs.Stops.{outcome_of_loss}
-use Rattle.run_states.specs.SequenceNumbers.{runner_named, answer_by_number, with_runner, holds_lease, holds_this}
+use Rattle.run_states.specs.Stops.{stop_holder, with_ended, lease_end_moves, outcome_of_loss}
 use Rattle.run_states.specs.ViewText.{Seen, seen_of, seen_text}
-use Rattle.run_states.specs.Words.{job_id, combo_at}
+use Rattle.run_states.specs.LegContext.{job_id, combo_at}
 use Rattle.run_plan.specs.declared.last_command.LastCommand.TheVariants as last
 use Rattle.run_plan.specs.declared.last_command.ClaimReply.{ClaimReply}
 use Rattle.run_plan.specs.declared.last_command.ClaimReply.TheVariants as given
 use Rattle.run_plan.specs.declared.last_command.KeptLease.{KeptLease}
-use Rattle.run_states.specs.NewRun.{again, is_delivered_as, new_run, leased_leg}
 use Rattle.run_states.specs.declared.phases.RunPhase.{RunPhase}
 use Rattle.run_states.specs.declared.phases.RunPhase.TheVariants as run
 use Rattle.run_states.specs.declared.holder.Holder.TheVariants.{Run}
+
+-- ---- one step of the table: the reply to a command, the table after it, and the group moves on the way. Some commands
+-- leave the table unchanged: those that are refused, in the order of their checks, a known delivery, an attempt that
+-- has begun, a repeated command, a heartbeat, and a look or a fetch. The others change the table and then settle it;
+-- the moves of their own change come first.
 
 -- a table without runs or runners
 abbrev pub empty : TableState
@@ -295,3 +292,14 @@ read_only_reply t (command.Rerun requested) = rerun_answer t requested
 -- whether there is a reply and it holds no text, so that it needs no memory
 abbrev pub is_allocation_free : Option Reply → Bool
 is_allocation_free answer = option_map_or (λ reply. not (carries_text reply)) answer false
+
+-- ---- sequences of commands: the table after them, and the reply to each.
+
+-- the table after all of them
+abbrev pub after : TableState → List Command → TableState
+after t [] = t
+after t (c ∷ cs) = after (stepped t c).table cs
+
+abbrev pub replies : TableState → List Command → List Reply
+replies t [] = []
+replies t (c ∷ cs) = (stepped t c).reply ∷ replies (stepped t c).table cs

@@ -3,13 +3,13 @@ use Rattle.std.specs.Prelude.{ℕ, ◌-◌, List, ◌++◌, map, flat_map, Bool,
 use Rattle.std.specs.Prelude.{slice_get, if◌then◌else◌}
 use Rattle.std.specs.List.{list_any, zip, join_with_byte}
 use Rattle.std.specs.Fmt.{decimal}
-use Rattle.wf_value.specs.Words.{outcome_word, result_word}
-use Rattle.needs_graph.specs.Results.{conclusion_of}
+use Rattle.wf_value.specs.ScalarValue.{outcome_word, result_word}
+use Rattle.needs_graph.specs.Needs.{conclusion_of}
 use Rattle.run_plan.specs.PlanOf.{plan_of}
 use Rattle.run_plan.specs.declared.planned.PlannedJob.{PlannedJob}
-pub use Rattle.run_states.specs.JobResults.{results_of}
-use Rattle.run_states.specs.RunNumber.{events, run_number}
-use Rattle.run_states.specs.RunState.{LegState, JobState, RunState}
+pub use Rattle.run_states.specs.Runs.{results_of}
+use Rattle.run_states.specs.LegContext.{events, run_number}
+use Rattle.run_states.specs.Runs.{LegState, JobState, RunState}
 use Rattle.run_states.specs.declared.phases.JobPhase.{JobPhase}
 use Rattle.run_states.specs.declared.phases.JobPhase.TheVariants as job
 use Rattle.run_states.specs.declared.phases.LegPhase.{LegPhase}

@@ -4,13 +4,11 @@
 use Rattle.std.specs.Prelude.{ℕ, ◌&&◌, List, Bool, true, false, Option, Some, None, if◌then◌else◌}
 use Rattle.std.specs.List.{list_all}
 use Rattle.std.specs.Option.{option_or}
-use Rattle.run_states.specs.FirstOf.{placed, first_some}
+use Rattle.run_states.specs.Runs.{placed, first_some, LegState, JobState, RunState, is_live, is_blocked, is_done, is_finished}
 use Rattle.run_states.specs.Groups.{may_start}
-pub use Rattle.run_states.specs.Places.{leg_site}
+pub use Rattle.run_states.specs.Runs.{leg_site}
 use Rattle.run_states.specs.declared.place.LegSite.{LegSite}
-pub use Rattle.run_states.specs.RunConditions.{condition_in, may_run_in, needs_finished_in}
-use Rattle.run_states.specs.RunState.{LegState, JobState, RunState}
-use Rattle.run_states.specs.StateWords.{is_live, is_blocked, is_done, is_finished}
+pub use Rattle.run_states.specs.LegContext.{condition_in, may_run_in, needs_finished_in}
 use Rattle.run_states.specs.declared.phases.LegPhase.{LegPhase}
 use Rattle.run_states.specs.declared.phases.LegPhase.TheVariants as leg
 use Rattle.run_states.specs.declared.phases.RunPhase.{RunPhase}

@@ -3,10 +3,10 @@
 ghost use Rattle.std.specs.Prelude.{◌≡◌, None, find, option_and_then};
 ghost use Rattle.std.specs.List.{slice_index_or};
 ghost use Rattle.std.specs.Option.{option_copied};
-ghost use Rattle.needs_graph.specs.Ancestors.{needs_at};
+ghost use Rattle.needs_graph.specs.Needs.{needs_at};
 ghost use Rattle.run_plan.specs.PlanOf.{plan_of};
 ghost use Rattle.run_states.specs.inner.Cells.{states};
-ghost use Rattle.run_states.specs.JobResults.{direct_needs, has_id, needs_in, results_so_far};
+ghost use Rattle.run_states.specs.Runs.{direct_needs, has_id, needs_in, results_so_far};
 ghost use Rattle.run_states.specs.LegContext.{under};
 
 use crate::job::Job;
@@ -28,7 +28,7 @@ fn needs(run: &Run, j: usize) -> &[usize]
 }
 
 /// Whether the job at this index of the plan has the id.
-#[tactic(auto, unfolding(crate::specs::JobResults::has_id))]
+#[tactic(auto, unfolding(crate::specs::Runs::has_id))]
 fn has_id(plan: &[PlannedJob], place: usize, id: &str) -> bool
     ensures { result ≡ has_id plan.now id.now place }
 {
@@ -76,7 +76,7 @@ pub fn result_of_need(run: &Run, j: usize, id: &str) -> Option<JobResult>
 impl NeedResults for Run {
     ghost use Rattle.std.specs.Prelude.{None};
     ghost use Rattle.std.specs.List.{slice_index_or};
-    ghost use Rattle.run_states.specs.JobResults.{results_so_far};
+    ghost use Rattle.run_states.specs.Runs.{results_so_far};
 
     ghost result_of = { λ run j. slice_index_or (results_so_far run.jobs) j None };
 

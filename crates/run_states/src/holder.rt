@@ -21,7 +21,7 @@ pub enum HolderFilter {
 }
 
 impl Holder {
-    ghost use Rattle.run_states.specs.GroupWords.{same_holder};
+    ghost use Rattle.run_states.specs.GroupLaw.{same_holder};
     ghost use Rattle.run_states.specs.Holders.{run_of};
 
     /// The index of its run.

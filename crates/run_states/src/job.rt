@@ -3,11 +3,10 @@ ghost use Rattle.std.specs.List.{list_all};
 ghost use Rattle.wf_value.specs.Gives.{Gives};
 ghost use Rattle.run_states.specs.inner.ActiveRuns.{has_active_leg, has_ready_leg};
 ghost use Rattle.run_states.specs.inner.Cells.{in_state};
-ghost use Rattle.run_states.specs.FirstOf.{changed_at};
+ghost use Rattle.run_states.specs.Runs.{changed_at, blocked_job};
 ghost use Rattle.run_states.specs.inner.LegCounts.{AreCounted, has_unready_leg};
-ghost use Rattle.run_states.specs.NewRun.{blocked_job};
-ghost use Rattle.run_states.specs.Parallel.{legs_at_work};
-ghost use Rattle.run_states.specs.Rules.{leg_has_ended, is_done, is_finished, opened, finished_as};
+ghost use Rattle.run_states.specs.Fitting.{legs_at_work};
+ghost use Rattle.run_states.specs.Settling.{leg_has_ended, is_done, is_finished, opened, finished_as};
 
 mod of;
 

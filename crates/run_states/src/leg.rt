@@ -1,10 +1,9 @@
 ghost use Rattle.std.specs.Prelude.{◌≡◌, None, Some, false};
 ghost use Rattle.std.specs.Option.{option_map_or};
-ghost use Rattle.needs_graph.specs.Results.{is_cancelled, is_failure};
-ghost use Rattle.run_states.specs.Fitting.{has_lease, is_ready, is_stopping_leg};
-ghost use Rattle.run_states.specs.NewRun.{leased_leg};
-ghost use Rattle.run_states.specs.Parallel.{is_at_work};
-ghost use Rattle.run_states.specs.Rules.{leg_has_ended, leg_in_phase, new_leg, outcome_of};
+ghost use Rattle.needs_graph.specs.Needs.{is_cancelled, is_failure};
+ghost use Rattle.run_states.specs.Fitting.{has_lease, is_ready, is_stopping_leg, is_at_work};
+ghost use Rattle.run_states.specs.Runs.{leased_leg};
+ghost use Rattle.run_states.specs.Settling.{leg_has_ended, leg_in_phase, new_leg, outcome_of};
 ghost use Rattle.run_states.specs.Stops.{stopped};
 
 use crate::phases::LegPhase;
@@ -21,7 +20,7 @@ pub struct Leg {
 }
 
 impl Model for Leg {
-    ghost use Rattle.run_states.specs.RunState.{LegState};
+    ghost use Rattle.run_states.specs.Runs.{LegState};
 
     ghost Value = { LegState };
 

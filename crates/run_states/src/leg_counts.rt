@@ -2,12 +2,11 @@
 //! to find that there is none.
 
 ghost use Rattle.std.specs.Prelude.{◌≡◌, ◌+◌, ◌<◌, ◌^◌, ◌||◌, [], nat_lt, replicate, true};
-ghost use Rattle.run_states.specs.Fitting.{is_ready};
+ghost use Rattle.run_states.specs.Fitting.{is_ready, is_at_work};
 ghost use Rattle.run_states.specs.Groups.{leg_waits};
 ghost use Rattle.run_states.specs.inner.LegCounts.{AreCounted, CanMove, one_where};
-ghost use Rattle.run_states.specs.Parallel.{is_at_work};
-ghost use Rattle.run_states.specs.Rules.{new_leg};
-ghost use Rattle.run_states.specs.StateWords.{is_new};
+ghost use Rattle.run_states.specs.Settling.{new_leg};
+ghost use Rattle.run_states.specs.Runs.{is_new};
 
 use crate::leg::Leg;
 

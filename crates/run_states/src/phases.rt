@@ -35,10 +35,9 @@ pub enum RunPhase {
 }
 
 impl LegPhase {
-    ghost use Rattle.run_states.specs.Fitting.{is_ready, is_stopping_leg};
+    ghost use Rattle.run_states.specs.Fitting.{is_ready, is_stopping_leg, is_at_work};
     ghost use Rattle.run_states.specs.Groups.{leg_holds, leg_waits};
-    ghost use Rattle.run_states.specs.Parallel.{is_at_work};
-    ghost use Rattle.run_states.specs.StateWords.{is_new, outcome_of};
+    ghost use Rattle.run_states.specs.Runs.{is_new, outcome_of};
     ghost use Rattle.run_states.specs.Stops.{stopped_phase};
 
     pub fn is_ready(self) -> bool
@@ -129,8 +128,7 @@ impl LegPhase {
 }
 
 impl JobPhase {
-    ghost use Rattle.run_states.specs.JobResults.{finished_result};
-    ghost use Rattle.run_states.specs.StateWords.{is_blocked, is_open};
+    ghost use Rattle.run_states.specs.Runs.{finished_result, is_blocked, is_open};
 
     pub fn is_blocked(self) -> bool
         ensures { result ≡ is_blocked self }
@@ -163,7 +161,7 @@ impl JobPhase {
 
 impl RunPhase {
     ghost use Rattle.run_states.specs.Groups.{run_waits};
-    ghost use Rattle.run_states.specs.StateWords.{is_live};
+    ghost use Rattle.run_states.specs.Runs.{is_live};
 
     pub fn is_live(self) -> bool
         ensures { result ≡ is_live self }

@@ -9,7 +9,7 @@ pub struct LegSite {
 }
 
 impl LegSite {
-    ghost use Rattle.run_states.specs.Places.{leg_site};
+    ghost use Rattle.run_states.specs.Runs.{leg_site};
 
     pub fn new(run: usize, job: usize, leg: usize) -> Self
         ensures { result ≡ leg_site run job leg }

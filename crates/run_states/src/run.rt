@@ -6,12 +6,9 @@ ghost use Rattle.run_plan.specs.PlanOf.{plan_of};
 ghost use Rattle.run_states.specs.inner.ActiveRuns.{has_active_leg, has_ready_leg, is_active, offers_legs};
 ghost use Rattle.run_states.specs.inner.Cells.{blocked_cells, legs_planned, rooms, states};
 ghost use Rattle.run_states.specs.Changes.{changed};
-ghost use Rattle.run_states.specs.FirstOf.{changed_at};
-ghost use Rattle.run_states.specs.JobResults.{results_so_far};
+ghost use Rattle.run_states.specs.Runs.{changed_at, results_so_far, again, new_run, run_in_attempt};
 ghost use Rattle.run_states.specs.inner.Resuming.{job_again};
-ghost use Rattle.run_states.specs.NewRun.{again, new_run, run_in_attempt};
-ghost use Rattle.run_states.specs.Rules.{opened, finished_as, run_in_phase};
-ghost use Rattle.run_states.specs.Settling.{legs_in_plan};
+ghost use Rattle.run_states.specs.Settling.{opened, finished_as, run_in_phase, legs_in_plan};
 ghost use Rattle.run_states.specs.Stops.{cancelled, is_open_at};
 ghost use Rattle.run_states.specs.inner.WithinRun.{condition_in, may_run_in, needs_finished_in};
 
@@ -43,7 +40,7 @@ impl Model for Run {
     ghost use Rattle.run_plan.specs.PlanOf.{plan_of};
     ghost use Rattle.run_states.specs.inner.Cells.{states};
     ghost use Rattle.run_states.specs.inner.NeedsLeft.{ArePlanned};
-    ghost use Rattle.run_states.specs.RunState.{RunState};
+    ghost use Rattle.run_states.specs.Runs.{RunState};
 
     ghost Value = { RunState };
 

@@ -14,7 +14,7 @@ pub struct JobParts {
 }
 
 impl Model for JobParts {
-    ghost use Rattle.run_states.specs.RunState.{JobState};
+    ghost use Rattle.run_states.specs.Runs.{JobState};
 
     ghost Value = { JobState };
 
@@ -33,7 +33,7 @@ pub struct RunParts {
 }
 
 impl Model for RunParts {
-    ghost use Rattle.run_states.specs.RunState.{RunState};
+    ghost use Rattle.run_states.specs.Runs.{RunState};
 
     ghost Value = { RunState };
 

@@ -10,20 +10,18 @@ use Rattle.std.proofs.lemmas.Slice.Eq.{bytes_eq-Decides}
 use Rattle.definitions.specs.Limits.{last_attempt}
 use Rattle.wf_value.specs.declared.code.Code.TheVariants.{LastCounter}
 use Rattle.wf_value.proofs.OptionOr.{or_nothing}
-use Rattle.definitions.specs.Admitted.{Admitted}
+use Rattle.definitions.specs.SmallText.{Admitted}
 use Rattle.run_plan.specs.PlanOf.{plan_of}
 use Rattle.run_plan.specs.declared.planned.PlannedJob.{PlannedJob}
 use Rattle.run_plan.specs.declared.reply.Reply.TheVariants as reply
-use Rattle.run_states.specs.Parallel.{legs_at_work}
-use Rattle.run_states.specs.Places.{run_at}
+use Rattle.run_states.specs.Fitting.{legs_at_work}
+use Rattle.run_states.specs.Runs.{run_at, is_delivered_as, blocked_job, new_run, run_in_attempt, LegState, JobState, RunState}
 use Rattle.run_states.specs.declared.place.LegSite.{LegSite}
-use Rattle.run_states.specs.Rules.{result_at}
+use Rattle.run_states.specs.Settling.{result_at}
 use Rattle.run_states.specs.Sound.{AttemptsAreGiven, DeliveriesDiffer, ParallelIsBounded}
 use Rattle.run_states.specs.Step.{admission_answer, refused}
-use Rattle.run_states.specs.NewRun.{is_delivered_as, blocked_job, new_run, run_in_attempt}
 use Rattle.run_states.specs.TableState.{TableState}
-use Rattle.run_states.specs.RunState.{LegState, JobState, RunState}
-use Rattle.run_states.specs.Words.{planned_legs}
+use Rattle.run_states.specs.LegContext.{planned_legs}
 use Rattle.run_states.proofs.Found.{none_found, found_nowhere, each_at, at_the_end, before_the_end}
 use Rattle.run_table.proofs.Kept.{IsKept, StillHad, kept_still_had}
 use Rattle.run_states.proofs.LeaseReads.{leases_same}

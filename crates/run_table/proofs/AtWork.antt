@@ -6,12 +6,10 @@ use Rattle.std.proofs.Common.{arith, ap, sym, ◌∙◌, cond}
 use Rattle.std.proofs.lemmas.List.Sums.{sum_by-cons}
 use Rattle.std.proofs.lemmas.Option.{none-some}
 use Rattle.run_plan.specs.declared.planned.PlannedJob.{PlannedJob}
-use Rattle.run_states.specs.Parallel.{is_at_work, legs_at_work, most_at_work}
-use Rattle.run_states.specs.Places.{job_at, leg_site}
+use Rattle.run_states.specs.Fitting.{is_at_work, legs_at_work, most_at_work}
+use Rattle.run_states.specs.Runs.{job_at, leg_site, LegState, JobState, RunState}
 use Rattle.run_states.specs.declared.place.LegSite.{LegSite}
-use Rattle.run_states.specs.Sound.{ParallelIsBounded}
-use Rattle.run_states.specs.RunState.{LegState, JobState, RunState}
-use Rattle.run_states.specs.SoundRuns.{LeaseFits}
+use Rattle.run_states.specs.Sound.{ParallelIsBounded, LeaseFits}
 use Rattle.run_states.specs.declared.phases.LegPhase.{LegPhase}
 use Rattle.run_states.specs.declared.phases.LegPhase.TheVariants as leg
 use Rattle.run_states.proofs.LegReads.{work_of, works_at, works_is}

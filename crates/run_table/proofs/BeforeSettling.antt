@@ -3,25 +3,19 @@
 use Rattle.std.specs.Prelude.{◌≡◌, ℕ, ◌-◌, ◌<◌, List, [], ◌∷◌, ◌++◌, true, false, length, Option, Some, None, IfSome, refl}
 use Rattle.std.proofs.Common.{ap, sym, ◌∙◌, subst}
 use Rattle.std.proofs.lemmas.Option.{slice_get_within}
-use Rattle.definitions.specs.Admitted.{Admitted}
+use Rattle.definitions.specs.SmallText.{Admitted}
 use Rattle.run_plan.specs.declared.command.Attempt.{Attempt}
 use Rattle.run_plan.specs.declared.command.Done.{Done as Reported}
-use Rattle.run_states.specs.Arrivals.{arrived}
+use Rattle.run_states.specs.Settling.{arrived}
 use Rattle.run_states.specs.Fitting.{first_fit}
 use Rattle.run_states.specs.Groups.{HasOneBeside, HasOneEach, waits}
-use Rattle.run_states.specs.Places.{run_at, with_leg, with_run}
+use Rattle.run_states.specs.Runs.{run_at, with_leg, with_run, leg_has_ended, again, leased_leg, new_run, RunState}
 use Rattle.run_states.specs.declared.place.LegSite.{LegSite}
-use Rattle.run_states.specs.Sound.{IsSound}
-use Rattle.run_states.specs.SoundRuns.{RunsAreSound}
-use Rattle.run_states.specs.StateWords.{leg_has_ended}
+use Rattle.run_states.specs.Sound.{IsSound, RunsAreSound}
 use Rattle.run_states.specs.Step.{entered, entered_again, report_answer, rerun_answer}
-use Rattle.run_states.specs.NewRun.{again, leased_leg, new_run}
-use Rattle.run_states.specs.StopMoves.{with_ended}
-use Rattle.run_states.specs.Stops.{outcome_of_loss, stopped_run}
+use Rattle.run_states.specs.Stops.{with_ended, outcome_of_loss, stopped_run}
 use Rattle.run_states.specs.declared.phases.RunPhase.TheVariants as run
-use Rattle.run_states.specs.TableState.{RunnerState, TableState}
-use Rattle.run_states.specs.RunState.{RunState}
-use Rattle.run_states.specs.SequenceNumbers.{runner_named}
+use Rattle.run_states.specs.TableState.{RunnerState, TableState, runner_named}
 use Rattle.run_states.specs.declared.phases.LegPhase.{LegPhase}
 use Rattle.run_table.proofs.AdmitKeeps.{all_fit}
 use Rattle.run_table.proofs.BeginsAgain.{BeginsAgain, begins_again}

@@ -10,14 +10,11 @@ use Rattle.wf_value.specs.declared.outcome.JobResult.{JobResult}
 use Rattle.wf_value.specs.declared.refusal.Refusal.TheVariants.{Turn}
 use Rattle.run_plan.specs.declared.command.Attempt.{Attempt}
 use Rattle.run_plan.specs.declared.reply.Reply.TheVariants as reply
-use Rattle.run_states.specs.JobResults.{finished_result}
-use Rattle.run_states.specs.Parallel.{is_at_work}
-use Rattle.run_states.specs.Places.{run_at}
-use Rattle.run_states.specs.Rules.{result_at}
-use Rattle.run_states.specs.RunState.{LegState, JobState, RunState}
-use Rattle.run_states.specs.SoundRuns.{LegsFit, PhaseFits}
-use Rattle.run_states.specs.StateWords.{is_finished, leg_has_ended, outcome_of}
-use Rattle.run_states.specs.Words.{planned_legs}
+use Rattle.run_states.specs.Runs.{finished_result, run_at, LegState, JobState, RunState, is_finished, leg_has_ended, outcome_of}
+use Rattle.run_states.specs.Fitting.{is_at_work}
+use Rattle.run_states.specs.Settling.{result_at}
+use Rattle.run_states.specs.Sound.{LegsFit, PhaseFits}
+use Rattle.run_states.specs.LegContext.{planned_legs}
 use Rattle.run_states.specs.declared.phases.JobPhase.{JobPhase}
 use Rattle.run_states.specs.declared.phases.JobPhase.TheVariants as job
 use Rattle.run_states.specs.declared.phases.LegPhase.{LegPhase}

@@ -8,10 +8,9 @@ use Rattle.run_plan.specs.declared.command.Command.TheVariants as command
 use Rattle.run_plan.specs.declared.reply.Reply.TheVariants as reply
 use Rattle.run_plan.specs.declared.last_command.ClaimReply.TheVariants as given
 use Rattle.run_states.specs.Step.{step, empty, claiming_runner, refused}
-use Rattle.run_states.specs.NewRun.{blocked_job}
+use Rattle.run_states.specs.Runs.{blocked_job, JobState, RunState}
 use Rattle.run_states.specs.Stops.{outcome_of_loss, stopped_run, stopped_where}
 use Rattle.run_states.specs.TableState.{RunnerState, TableState}
-use Rattle.run_states.specs.RunState.{JobState, RunState}
 use Rattle.run_states.specs.declared.phases.JobPhase.TheVariants as job
 use Rattle.run_states.specs.declared.phases.LegPhase.TheVariants as leg
 use Rattle.run_states.specs.declared.phases.RunPhase.{RunPhase}

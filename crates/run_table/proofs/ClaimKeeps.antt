@@ -11,25 +11,19 @@ use Rattle.wf_value.specs.declared.code.Code.TheVariants.{HasLease, LastCounter}
 use Rattle.wf_value.proofs.OptionOr.{or_nothing}
 use Rattle.run_plan.specs.declared.command.Claim.{Claim as Claimed}
 use Rattle.run_plan.specs.declared.reply.Reply.{Reply}
-use Rattle.run_states.specs.FirstOf.{changed_at}
-use Rattle.run_states.specs.Fitting.{is_ready, is_served, may_run_too, fits, first_fit}
-use Rattle.run_states.specs.Parallel.{has_room, legs_at_work, most_at_work}
-use Rattle.run_states.specs.Places.{job_at, leg_at, leg_sites, run_at, with_leg}
+use Rattle.run_states.specs.Runs.{changed_at, job_at, leg_at, leg_sites, run_at, with_leg, leased_leg, LegState, JobState, RunState}
+use Rattle.run_states.specs.Fitting.{is_ready, is_served, may_run_too, fits, first_fit, has_room, legs_at_work, most_at_work}
 use Rattle.run_states.specs.declared.place.LegSite.{LegSite}
-use Rattle.run_states.specs.Rules.{leg_has_ended, result_at}
+use Rattle.run_states.specs.Settling.{leg_has_ended, result_at}
 use Rattle.run_plan.specs.LastCommand.{is_last_claim}
-use Rattle.run_states.specs.Sound.{IsLastOf, ParallelIsBounded}
+use Rattle.run_states.specs.Sound.{IsLastOf, ParallelIsBounded, LeaseFits, LegsFit}
 use Rattle.wf_value.specs.declared.outcome.JobResult.{JobResult}
-use Rattle.run_states.specs.SoundRuns.{LeaseFits, LegsFit}
-use Rattle.run_states.specs.Words.{planned_legs}
+use Rattle.run_states.specs.LegContext.{planned_legs}
 use Rattle.run_states.specs.declared.phases.JobPhase.{JobPhase}
 use Rattle.run_states.specs.declared.phases.JobPhase.TheVariants as job
 use Rattle.run_states.proofs.Optional.{from_and_then, from_map}
 use Rattle.run_states.specs.Step.{refused, has_no_lease_left, claim_answer, claiming_runner, kept_lease_at}
-use Rattle.run_states.specs.NewRun.{leased_leg}
-use Rattle.run_states.specs.TableState.{RunnerState, TableState}
-use Rattle.run_states.specs.RunState.{LegState, JobState, RunState}
-use Rattle.run_states.specs.SequenceNumbers.{runner_named, answer_by_number, with_runner, holds_lease}
+use Rattle.run_states.specs.TableState.{RunnerState, TableState, runner_named, answer_by_number, with_runner, holds_lease}
 use Rattle.run_plan.specs.declared.last_command.ClaimReply.TheVariants as given
 use Rattle.run_states.specs.declared.phases.LegPhase.{LegPhase}
 use Rattle.run_states.specs.declared.phases.LegPhase.TheVariants as leg

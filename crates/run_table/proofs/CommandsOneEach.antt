@@ -6,13 +6,9 @@ use Rattle.std.proofs.lemmas.Bool.{false≢true}
 use Rattle.wf_value.specs.declared.outcome.Outcome.{Outcome}
 use Rattle.run_states.specs.Fitting.{first_fit, site_of_lease}
 use Rattle.run_states.specs.Groups.{HasOneEach, holds, leg_holds}
-use Rattle.run_states.specs.NewRun.{leased_leg}
-use Rattle.run_states.specs.Places.{with_job, with_leg, with_run}
+use Rattle.run_states.specs.Runs.{leased_leg, with_job, with_leg, with_run, RunState, leg_has_ended, leg_in_phase}
 use Rattle.run_states.specs.declared.place.LegSite.{LegSite}
-use Rattle.run_states.specs.RunState.{RunState}
-use Rattle.run_states.specs.StateWords.{leg_has_ended, leg_in_phase}
-use Rattle.run_states.specs.StopMoves.{with_ended}
-use Rattle.run_states.specs.Stops.{after_end, stopped_run, stops_others, with_stopped_legs}
+use Rattle.run_states.specs.Stops.{with_ended, after_end, stopped_run, stops_others, with_stopped_legs}
 use Rattle.run_states.specs.declared.phases.LegPhase.{LegPhase}
 use Rattle.run_states.specs.declared.phases.LegPhase.TheVariants as leg
 use Rattle.run_table.proofs.ClaimKeeps.{fitting_leg}

@@ -5,7 +5,7 @@ use Rattle.wf_value.specs.declared.outcome.JobResult.{JobResult}
 use Rattle.wf_value.specs.declared.outcome.JobResult.TheVariants as result
 use Rattle.wf_value.specs.declared.scalar.Scalar.TheVariants.{Truth, Whole, Text}
 use Rattle.wf_reader.specs.declared.flag.Flag.TheVariants.{Fixed}
-use Rattle.definitions.specs.Admitted.{Admitted}
+use Rattle.definitions.specs.SmallText.{Admitted}
 use Rattle.run_plan.specs.declared.planned.PlannedJob.{PlannedJob}
 use Rattle.run_states.specs.LegContext.{LegFacts, context_of}
 

@@ -4,19 +4,16 @@ use Rattle.std.specs.Prelude.{option_and_then, slice_get, refl}
 use Rattle.std.proofs.Common.{arith, ap, inl, inr, sym, ◌∙◌}
 use Rattle.std.proofs.lemmas.Bool.{cases_eq, false≢true}
 use Rattle.std.proofs.lemmas.Option.{slice_get-map, slice_get_within}
-use Rattle.definitions.specs.Admitted.{Admitted}
+use Rattle.definitions.specs.SmallText.{Admitted}
 use Rattle.run_plan.specs.PlanOf.{plan_of}
 use Rattle.run_plan.specs.declared.planned.PlannedJob.{PlannedJob}
-use Rattle.run_states.specs.Arrivals.{arrived}
+use Rattle.run_states.specs.Settling.{arrived}
 use Rattle.run_states.specs.Groups.{HasOneBeside, HasOneEach, holds, leg_holds, leg_waits, run_waits, waits}
-use Rattle.run_states.specs.Places.{leg_at}
+use Rattle.run_states.specs.Runs.{leg_at, is_live, blocked_job, new_run, RunState}
 use Rattle.run_states.specs.declared.place.LegSite.{LegSite}
-use Rattle.run_states.specs.RunNumber.{events}
-use Rattle.run_states.specs.StateWords.{is_live}
+use Rattle.run_states.specs.LegContext.{events}
 use Rattle.run_states.specs.Step.{admission_answer, entered}
-use Rattle.run_states.specs.NewRun.{blocked_job, new_run}
 use Rattle.run_states.specs.TableState.{TableState}
-use Rattle.run_states.specs.RunState.{RunState}
 use Rattle.run_states.specs.declared.phases.LegPhase.{LegPhase}
 use Rattle.run_table.proofs.AdmitKeeps.{admit_keeps, all_fit}
 use Rattle.run_states.proofs.Found.{at_the_end, before_the_end}

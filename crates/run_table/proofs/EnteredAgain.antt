@@ -9,16 +9,12 @@ use Rattle.std.proofs.lemmas.Option.{none-some, same_Some}
 use Rattle.definitions.specs.Limits.{last_attempt}
 use Rattle.group_name.specs.Group.{Group, same_group}
 use Rattle.run_plan.specs.PlanOf.{plan_of}
-use Rattle.run_states.specs.GroupOf.{group_at}
+use Rattle.run_states.specs.Groups.{group_at, waits}
 use Rattle.run_states.specs.Groups.{HasOneBeside, HasOneEach, holds, is_in, is_pending_in, is_in_progress_in, leg_holds, leg_waits, run_waits}
-use Rattle.run_states.specs.Groups.{waits}
 use Rattle.run_states.specs.Holders.{run_of}
-use Rattle.run_states.specs.NewRun.{again}
-use Rattle.run_states.specs.Places.{leg_at, run_at, with_run}
+use Rattle.run_states.specs.Runs.{again, leg_at, run_at, with_run, LegState, JobState, RunState, is_live}
 use Rattle.run_states.specs.declared.place.LegSite.{LegSite}
-use Rattle.run_states.specs.RunNumber.{events}
-use Rattle.run_states.specs.RunState.{LegState, JobState, RunState}
-use Rattle.run_states.specs.StateWords.{is_live}
+use Rattle.run_states.specs.LegContext.{events}
 use Rattle.run_states.specs.declared.phases.LegPhase.{LegPhase}
 use Rattle.run_states.specs.Sound.{AttemptsAreGiven}
 use Rattle.run_states.specs.Step.{entered_again}

@@ -3,19 +3,15 @@ use Rattle.std.specs.Prelude.{◌≡◌, ℕ, ◌<◌, List, [], ◌∷◌, ◌+
 use Rattle.std.specs.Option.{option_map_or}
 use Rattle.std.proofs.Common.{arith, ap, sym, subst, ◌∙◌}
 use Rattle.std.proofs.lemmas.Option.{slice_get_within}
-use Rattle.definitions.specs.Admitted.{Admitted}
+use Rattle.definitions.specs.SmallText.{Admitted}
 use Rattle.group_name.specs.Group.{Group}
-use Rattle.run_states.specs.Arrivals.{arrived, room_made}
-use Rattle.run_states.specs.GroupOf.{cancels_in_progress, group_at}
-use Rattle.run_states.specs.Groups.{leg_holds}
+use Rattle.run_states.specs.Settling.{arrived, room_made, first_site}
+use Rattle.run_states.specs.Groups.{cancels_in_progress, group_at, leg_holds}
 use Rattle.run_states.specs.Resuming.{NoneBefore, RestBefore, resume_at_arrival}
-use Rattle.run_states.specs.Moves.{without_moves}
-use Rattle.run_states.specs.Settling.{first_site}
+use Rattle.run_states.specs.GroupLaw.{without_moves}
 use Rattle.run_states.specs.Sound.{IsSound}
-use Rattle.run_states.specs.NewRun.{new_run}
-use Rattle.run_states.specs.StateWords.{is_live}
+use Rattle.run_states.specs.Runs.{new_run, is_live, RunState}
 use Rattle.run_states.specs.TableState.{TableState}
-use Rattle.run_states.specs.RunState.{RunState}
 use Rattle.run_states.specs.WithinRun.{first_in_run}
 use Rattle.run_states.specs.declared.place.JobSite.{JobSite}
 use Rattle.run_table.proofs.BeforeSettling.{Enters}

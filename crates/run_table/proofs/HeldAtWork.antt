@@ -3,12 +3,9 @@ use Rattle.std.specs.Prelude.{◌≡◌, ℕ, List, true, Some, None, Option, op
 use Rattle.std.proofs.Common.{ap, sym, ◌∙◌}
 use Rattle.std.proofs.lemmas.Option.{same_Some}
 use Rattle.run_states.specs.Sound.{IsSound}
-use Rattle.run_states.specs.TableState.{RunnerState, TableState}
-use Rattle.run_states.specs.SequenceNumbers.{holds_this, runner_named}
-use Rattle.run_states.specs.Fitting.{OnlyAtWork}
-use Rattle.run_states.specs.Parallel.{is_at_work}
-use Rattle.run_states.specs.Places.{leg_at}
-use Rattle.run_states.specs.RunState.{LegState}
+use Rattle.run_states.specs.TableState.{RunnerState, TableState, holds_this, runner_named}
+use Rattle.run_states.specs.Fitting.{OnlyAtWork, is_at_work}
+use Rattle.run_states.specs.Runs.{leg_at, LegState}
 use Rattle.run_table.proofs.ReportKeeps.{holds_it}
 use Rattle.run_table.proofs.RunnerPut.{stood}
 

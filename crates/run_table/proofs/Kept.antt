@@ -7,17 +7,15 @@ use Rattle.std.proofs.lemmas.Option.{same_Some}
 use Rattle.definitions.specs.Limits.{last_attempt, last_number}
 use Rattle.run_states.specs.Groups.{HasOneEach}
 use Rattle.run_plan.specs.declared.planned.PlannedJob.{PlannedJob}
-use Rattle.run_states.specs.Places.{run_at, leg_at, plan_at}
+use Rattle.run_states.specs.Runs.{run_at, leg_at, plan_at, LegState, RunState}
 use Rattle.run_states.specs.declared.place.LegSite.{LegSite}
 use Rattle.run_states.specs.Settling.{first_site, settled}
 use Rattle.run_states.specs.Sound.{DeliveriesDiffer, LeasesAreGiven, LeasesDiffer, IsHeld, IsAtWork, WorkIsHeld}
-use Rattle.run_states.specs.Parallel.{is_at_work}
-use Rattle.run_states.specs.Words.{planned_legs}
+use Rattle.run_states.specs.Fitting.{is_at_work}
+use Rattle.run_states.specs.LegContext.{planned_legs}
 use Rattle.run_states.specs.Sound.{HeldIsAtWork, HeldOnce, LastsAreOwn, AttemptsAreGiven, KeptIsOfALeg, IsSound, ParallelIsBounded}
 use Rattle.run_states.specs.Step.{lease_at}
-use Rattle.run_states.specs.TableState.{RunnerState, TableState}
-use Rattle.run_states.specs.RunState.{LegState, RunState}
-use Rattle.run_states.specs.SequenceNumbers.{names_rise, runner_named}
+use Rattle.run_states.specs.TableState.{RunnerState, TableState, names_rise, runner_named}
 use Rattle.run_plan.specs.declared.last_command.LastCommand.{LastCommand}
 use Rattle.run_plan.specs.declared.last_command.LastCommand.TheVariants as last
 use Rattle.run_plan.specs.declared.last_command.ClaimReply.TheVariants as given

@@ -2,7 +2,7 @@
 use Rattle.std.specs.Prelude.{◌≡◌, ℕ, zero, suc, ◌+◌, List, [], ◌∷◌, Option, Some, None, option_and_then, slice_get, refl}
 use Rattle.std.specs.List.{enumerate_from}
 use Rattle.std.proofs.Common.{arith, ap, sym, ◌∙◌}
-use Rattle.run_states.specs.FirstOf.{first_some, placed}
+use Rattle.run_states.specs.Runs.{first_some, placed}
 use Rattle.run_states.proofs.OneAfterAnother.{OfEach}
 use Rattle.wf_value.proofs.OptionOr.{or_nothing}
 

@@ -2,8 +2,8 @@
 use Rattle.std.specs.Prelude.{⊤}
 use Rattle.std.specs.Fmt.{digits}
 use Rattle.group_name.proofs.OnLiterals.{group_name_on_literals}
-use Rattle.run_states.specs.GroupOf.{cancels_in_progress, group_at, run_facts_at}
-use Rattle.run_states.specs.JobResults.{direct_needs, has_id}
+use Rattle.run_states.specs.Groups.{cancels_in_progress, group_at, run_facts_at}
+use Rattle.run_states.specs.Runs.{direct_needs, has_id}
 use Rattle.run_states.specs.LegContext.{context_at, facts_at}
 use Rattle.wf_reader.proofs.OnLiterals.{wf_reader_on_literals}
 

@@ -12,20 +12,15 @@ use Rattle.wf_value.specs.declared.outcome.Outcome.TheVariants as outcome
 use Rattle.wf_value.proofs.OptionOr.{or_nothing}
 use Rattle.run_plan.specs.declared.command.Done.{Done as Reported}
 use Rattle.run_plan.specs.declared.reply.Reply.{Reply}
-use Rattle.run_states.specs.Fitting.{has_lease, site_of_lease}
-use Rattle.run_states.specs.Places.{leg_at, leg_sites, with_job, with_leg}
+use Rattle.run_states.specs.Fitting.{has_lease, site_of_lease, is_at_work}
+use Rattle.run_states.specs.Runs.{leg_at, leg_sites, with_job, with_leg, LegState}
 use Rattle.run_states.specs.declared.place.LegSite.{LegSite}
-use Rattle.run_states.specs.Rules.{leg_in_phase, outcome_of}
+use Rattle.run_states.specs.Settling.{leg_in_phase, outcome_of}
 use Rattle.run_plan.specs.LastCommand.{is_last_report}
-use Rattle.run_states.specs.Sound.{IsLastOf}
-use Rattle.run_states.specs.Parallel.{is_at_work}
-use Rattle.run_states.specs.SoundRuns.{LeaseFits}
+use Rattle.run_states.specs.Sound.{IsLastOf, LeaseFits}
 use Rattle.run_states.specs.Step.{refused, released, report_answer, reporting_runner}
-use Rattle.run_states.specs.StopMoves.{with_ended}
-use Rattle.run_states.specs.Stops.{after_end, outcome_of_loss, stops_others, with_stopped_legs}
-use Rattle.run_states.specs.TableState.{RunnerState, TableState}
-use Rattle.run_states.specs.RunState.{LegState}
-use Rattle.run_states.specs.SequenceNumbers.{is_named, runner_named, answer_by_number, with_runner, holds_this}
+use Rattle.run_states.specs.Stops.{with_ended, after_end, outcome_of_loss, stops_others, with_stopped_legs}
+use Rattle.run_states.specs.TableState.{RunnerState, TableState, is_named, runner_named, answer_by_number, with_runner, holds_this}
 use Rattle.run_states.specs.declared.phases.LegPhase.{LegPhase}
 use Rattle.run_states.specs.declared.phases.LegPhase.TheVariants as leg
 use Rattle.run_table.proofs.AtWork.{fewer_at_work}

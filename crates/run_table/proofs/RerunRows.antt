@@ -8,7 +8,7 @@ use Rattle.run_plan.specs.declared.command.Command.TheVariants as command
 use Rattle.run_plan.specs.declared.reply.Reply.TheVariants as reply
 use Rattle.run_states.specs.Step.{empty, refused, step}
 use Rattle.run_states.specs.TableState.{TableState}
-use Rattle.run_states.specs.NewRun.{again, blocked_job}
+use Rattle.run_states.specs.Runs.{again, blocked_job}
 use Rattle.run_states.specs.declared.phases.RunPhase.{RunPhase}
 use Rattle.run_states.specs.declared.phases.RunPhase.TheVariants as run
 use Rattle.run_table.proofs.CancelRows.{cancelled_job, run_of, table_of}

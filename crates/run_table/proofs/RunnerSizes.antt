@@ -10,8 +10,7 @@ use Rattle.std.proofs.lemmas.List.Sums.{get_or-le-sum_by, sum_by-cons, sum_by-in
 use Rattle.run_states.proofs.Found.{each_at}
 use Rattle.run_table.specs.inner.IndexNamed.{index_named}
 use Rattle.run_table.specs.inner.RunnerSizes.{AreSized, max_runner_size, runner_size}
-use Rattle.run_states.specs.SequenceNumbers.{is_named, kept_named, names_rise, runner_named, with_runner}
-use Rattle.run_states.specs.TableState.{RunnerState}
+use Rattle.run_states.specs.TableState.{is_named, kept_named, names_rise, runner_named, with_runner, RunnerState}
 use Rattle.run_table.proofs.RunnerOrder.{found_there, put_between, put_over}
 use Rattle.run_table.proofs.RunnerPut.{all_from_each, each_put}
 

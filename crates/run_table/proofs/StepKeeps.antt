@@ -4,7 +4,7 @@ use Rattle.std.specs.Option.{option_map_or}
 use Rattle.std.proofs.Common.{arith}
 use Rattle.std.proofs.lemmas.Option.{none-some}
 use Rattle.wf_value.specs.declared.code.Code.TheVariants.{LeaseNotHeld, NoRun, NoRunner}
-use Rattle.definitions.specs.Admitted.{Admitted}
+use Rattle.definitions.specs.SmallText.{Admitted}
 use Rattle.run_plan.specs.declared.command.Attempt.{Attempt}
 use Rattle.run_plan.specs.declared.command.Claim.{Claim as Claimed}
 use Rattle.run_plan.specs.declared.command.Done.{Done as Reported}
@@ -12,19 +12,15 @@ use Rattle.run_plan.specs.declared.command.Command.{Command}
 use Rattle.run_plan.specs.declared.command.Command.TheVariants as command
 use Rattle.run_plan.specs.declared.reply.Reply.{Reply}
 use Rattle.run_states.specs.Fitting.{first_fit}
-use Rattle.run_states.specs.TableState.{Step, TableState}
-use Rattle.run_states.specs.Places.{run_at, with_leg, with_run}
+use Rattle.run_states.specs.TableState.{Step, TableState, runner_named, with_runner}
+use Rattle.run_states.specs.Runs.{run_at, with_leg, with_run, leased_leg, RunState}
 use Rattle.run_states.specs.declared.place.LegSite.{LegSite}
 use Rattle.run_states.specs.Sound.{IsSound}
 use Rattle.run_states.specs.Step.{empty, entered, unchanged, admission_answer, admitting, admitted, claim_answer, claiming_runner}
 use Rattle.run_states.specs.Step.{kept_lease_at, leasing, serving_nothing, claiming, claimed, report_answer, reporting_runner}
-use Rattle.run_states.specs.NewRun.{leased_leg}
 use Rattle.run_states.specs.Step.{answer_of_run, cancel_answer, cancelling, cancelled, losing, lost, refused, released}
-use Rattle.run_states.specs.Stops.{outcome_of_loss, stopped_run}
+use Rattle.run_states.specs.Stops.{outcome_of_loss, stopped_run, with_ended}
 use Rattle.run_states.specs.Step.{entered_again, reporting, reported, rerun, rerun_answer, rerunning, stepped, step}
-use Rattle.run_states.specs.RunState.{RunState}
-use Rattle.run_states.specs.StopMoves.{with_ended}
-use Rattle.run_states.specs.SequenceNumbers.{runner_named, with_runner}
 use Rattle.run_plan.specs.declared.last_command.ClaimReply.TheVariants as given
 use Rattle.run_table.proofs.ClaimKeeps.{serving_keeps, leasing_keeps}
 use Rattle.run_table.proofs.CommandsOneEach.{ended_one_each, leased_one_each, stopped_one_each}

@@ -9,27 +9,22 @@ use Rattle.wf_value.specs.declared.outcome.JobResult.{JobResult}
 use Rattle.wf_value.specs.declared.outcome.JobResult.TheVariants as result
 use Rattle.wf_value.specs.declared.outcome.Outcome.TheVariants as outcome
 use Rattle.wf_value.specs.declared.refusal.Refusal.TheVariants.{Turn}
-use Rattle.needs_graph.specs.Ancestors.{needs_at}
-use Rattle.needs_graph.specs.Results.{gathered}
+use Rattle.needs_graph.specs.Needs.{needs_at, gathered}
 use Rattle.wf_reader.specs.declared.flag.Flag.TheVariants as flag
 use Rattle.run_plan.specs.PlanOf.{plan_of, plan_graph}
 use Rattle.run_plan.specs.declared.planned.PlannedJob.{PlannedJob}
 use Rattle.run_plan.specs.declared.command.Claim.{Claim as Claimed}
 use Rattle.run_plan.specs.declared.command.Command.TheVariants as command
 use Rattle.run_plan.specs.declared.reply.Reply.TheVariants as reply
-use Rattle.run_states.specs.Arrivals.{started}
+use Rattle.run_states.specs.Settling.{started, decided, may_run, new_leg, opened, rule_at, finished_as}
 use Rattle.run_states.specs.Fitting.{site_of_lease}
-use Rattle.run_states.specs.LegContext.{context_at}
-use Rattle.run_states.specs.Moves.{without_moves}
-use Rattle.run_states.specs.Places.{with_job}
-use Rattle.run_states.specs.Rules.{decided, may_run, new_leg, opened, rule_at, finished_as}
+use Rattle.run_states.specs.LegContext.{context_at, all_have_results, is_set_for, needs_have_finished, planned_legs}
+use Rattle.run_states.specs.GroupLaw.{without_moves}
+use Rattle.run_states.specs.Runs.{with_job, blocked_job, leased_leg, LegState, JobState, RunState}
 use Rattle.run_states.specs.Settling.{settled, first_site, first_rule, remaining_phases}
 use Rattle.run_states.specs.Step.{step, empty, claiming_runner, reporting_runner, refused}
-use Rattle.run_states.specs.NewRun.{blocked_job, leased_leg}
 use Rattle.run_states.specs.Stops.{with_stopped_legs}
 use Rattle.run_states.specs.TableState.{RunnerState, TableState}
-use Rattle.run_states.specs.RunState.{LegState, JobState, RunState}
-use Rattle.run_states.specs.Words.{all_have_results, is_set_for, needs_have_finished, planned_legs}
 use Rattle.run_plan.specs.declared.last_command.ClaimReply.TheVariants as given
 use Rattle.run_states.specs.declared.phases.JobPhase.TheVariants as job
 use Rattle.run_states.specs.declared.phases.LegPhase.TheVariants as leg

@@ -9,20 +9,14 @@ use Rattle.wf_value.specs.declared.outcome.JobResult.{JobResult}
 use Rattle.run_plan.specs.PlanOf.{plan_of}
 use Rattle.run_plan.specs.declared.planned.PlannedJob.{PlannedJob}
 use Rattle.run_plan.proofs.FewLegs.{few_planned}
-use Rattle.run_states.specs.FirstOf.{placed}
-use Rattle.run_states.specs.JobResults.{finished_result}
-use Rattle.run_states.specs.Places.{job_at, leg_at, run_at}
+use Rattle.run_states.specs.Runs.{placed, finished_result, job_at, leg_at, run_at, is_new, LegState, JobState, RunState}
 use Rattle.run_states.specs.declared.place.LegSite.{LegSite}
-use Rattle.run_states.specs.Rules.{leg_has_ended, is_live, is_finished, job_sites, leg_rule, leg_rule_in, outcome_of, places, result_at}
-use Rattle.run_states.specs.Rules.{run_sites}
-use Rattle.run_states.specs.Settling.{applies, first_site}
-use Rattle.run_states.specs.Sound.{IsSound}
-use Rattle.run_states.specs.SoundRuns.{LegsFit, PhaseFits}
+use Rattle.run_states.specs.Settling.{leg_has_ended, is_live, is_finished, job_sites, leg_rule, leg_rule_in, outcome_of, places, result_at}
+use Rattle.run_states.specs.Settling.{run_sites, applies, first_site}
+use Rattle.run_states.specs.Sound.{IsSound, LegsFit, PhaseFits}
 use Rattle.run_table.specs.Storable.{IsStorable, LegsAreFew}
-use Rattle.run_states.specs.StateWords.{is_new}
 use Rattle.run_states.specs.TableState.{TableState}
-use Rattle.run_states.specs.RunState.{LegState, JobState, RunState}
-use Rattle.run_states.specs.Words.{planned_legs}
+use Rattle.run_states.specs.LegContext.{planned_legs}
 use Rattle.run_states.specs.declared.phases.JobPhase.{JobPhase}
 use Rattle.run_states.specs.declared.phases.JobPhase.TheVariants as job
 use Rattle.run_states.specs.declared.phases.LegPhase.{LegPhase}

@@ -7,9 +7,9 @@ use Rattle.wf_value.specs.declared.outcome.JobResult.TheVariants as result
 use Rattle.wf_reader.specs.Event.{event_of}
 use Rattle.wf_reader.specs.declared.flag.Flag.TheVariants as flag
 use Rattle.run_plan.specs.PlanOf.{plan_of}
-use Rattle.definitions.specs.Admitted.{Admitted}
+use Rattle.definitions.specs.SmallText.{Admitted}
 use Rattle.run_plan.specs.declared.planned.PlannedJob.{PlannedJob}
-use Rattle.run_states.specs.RunState.{LegState, JobState, RunState}
+use Rattle.run_states.specs.Runs.{LegState, JobState, RunState}
 use Rattle.run_states.specs.ViewText.{seen_of, seen_text, run_text}
 use Rattle.run_states.specs.declared.phases.JobPhase.{JobPhase}
 use Rattle.run_states.specs.declared.phases.JobPhase.TheVariants as state

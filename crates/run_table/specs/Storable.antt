@@ -2,12 +2,9 @@
 -- encoding.
 use Rattle.std.specs.Prelude.{◌≡◌, ℕ, ◌≤◌, List, length, false, Some}
 use Rattle.definitions.specs.Limits.{max_runs}
-use Rattle.run_states.specs.Places.{job_at, leg_at}
+use Rattle.run_states.specs.Runs.{job_at, leg_at, LegState, JobState, RunState, is_new}
 use Rattle.run_states.specs.declared.place.LegSite.{LegSite}
-use Rattle.run_states.specs.RunState.{LegState, JobState, RunState}
-use Rattle.run_states.specs.SoundRuns.{JobsAreThePlans}
-use Rattle.run_states.specs.StateWords.{is_new}
-use Rattle.run_states.specs.Sound.{AttemptsAreGiven}
+use Rattle.run_states.specs.Sound.{JobsAreThePlans, AttemptsAreGiven}
 
 -- after settling none is
 abbrev pub NoLegIsNew : List RunState → Type 0

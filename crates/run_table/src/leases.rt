@@ -5,7 +5,7 @@ ghost use Rattle.std.specs.Prelude.{◌≡◌, ◌<◌, Ok, false};
 ghost use Rattle.definitions.specs.Limits.{max_runs};
 ghost use Rattle.wf_value.specs.Gives.{Gives};
 ghost use Rattle.run_states.specs.Fitting.{has_lease};
-ghost use Rattle.run_states.specs.Places.{leg_at};
+ghost use Rattle.run_states.specs.Runs.{leg_at};
 ghost use Rattle.run_states.specs.Step.{kept_lease, lease_at};
 
 use crate::table_data::id_of;

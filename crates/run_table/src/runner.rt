@@ -1,6 +1,6 @@
 ghost use Rattle.std.specs.Prelude.{◌≡◌, Ok, None, Some, option_map, false};
 ghost use Rattle.wf_value.specs.Gives.{Gives};
-ghost use Rattle.run_states.specs.SequenceNumbers.{holds_lease, holds_this};
+ghost use Rattle.run_states.specs.TableState.{holds_lease, holds_this};
 
 use run_plan::{Claim, ClaimReply, Done, LastCommand, Number, RunnerName};
 use std::alloc::Global;

@@ -5,7 +5,7 @@ ghost use Rattle.run_table.specs.inner.RunnerSizes.{max_runner_size, runner_size
 ghost use Rattle.run_states.specs.Sound.{IsSound};
 ghost use Rattle.run_table.specs.Storable.{IsStorable};
 ghost use Rattle.run_states.specs.Step.{read_only_reply, empty, is_allocation_free, seen, step};
-ghost use Rattle.run_states.specs.SequenceNumbers.{names_rise};
+ghost use Rattle.run_states.specs.TableState.{names_rise};
 
 use crate::runner::Runner;
 use crate::runners::Runners;

@@ -7,7 +7,7 @@ ghost use Rattle.run_plan.specs.ReplyText.{carries_text};
 ghost use Rattle.run_states.specs.inner.Claims.{is_claim};
 ghost use Rattle.run_states.specs.Sound.{IsSound};
 ghost use Rattle.run_states.specs.Step.{empty, is_allocation_free, read_only_reply, refused, step};
-ghost use Rattle.run_states.specs.SequenceNumbers.{names_rise};
+ghost use Rattle.run_states.specs.TableState.{names_rise};
 
 mod admissions;
 mod cancellations;

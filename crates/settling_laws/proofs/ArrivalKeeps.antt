@@ -7,14 +7,13 @@ use Rattle.std.proofs.Common.{ap, inl, inr, sym, ◌∙◌}
 use Rattle.std.proofs.lemmas.Bool.{and_from, and_parts, eq-eqb, eqb-true, true≢false}
 use Rattle.std.proofs.lemmas.Option.{same_Some}
 use Rattle.group_name.specs.Group.{Group}
-use Rattle.run_states.specs.Arrivals.{arrived, displaced, others_pending, room_made, stopped_where_requested}
-use Rattle.run_states.specs.GroupOf.{cancels_in_progress, group_at}
-use Rattle.run_states.specs.GroupWords.{same_holder, same_place as is_same_place}
+use Rattle.run_states.specs.Settling.{arrived, displaced, others_pending, room_made, stopped_where_requested}
+use Rattle.run_states.specs.Groups.{cancels_in_progress, group_at}
+use Rattle.run_states.specs.GroupLaw.{same_holder, same_place as is_same_place, at_each, without_moves}
 use Rattle.run_states.specs.Groups.{HasOneBeside, HasOneEach, all_holders, is_in, is_pending_in, in_progress_in, waits}
-use Rattle.run_states.specs.Moves.{at_each, without_moves}
 use Rattle.run_states.specs.declared.place.LegSite.{LegSite}
-use Rattle.run_states.specs.RunState.{RunState}
-use Rattle.run_states.specs.StopMoves.{displace, stop_holder}
+use Rattle.run_states.specs.Runs.{RunState}
+use Rattle.run_states.specs.Stops.{displace, stop_holder}
 use Rattle.run_states.proofs.LeaseReads.{same_place}
 use Rattle.run_states.proofs.RunFits.{RunsFit}
 use Rattle.settling_laws.proofs.HoldersFade.{each_fades, holder_stop_fades, stop_ends_waiting}

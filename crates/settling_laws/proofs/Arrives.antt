@@ -6,18 +6,13 @@ use Rattle.std.specs.Option.{option_map_or}
 use Rattle.std.proofs.Common.{ap, sym, ◌∙◌}
 use Rattle.std.proofs.lemmas.Bool.{and_parts, true≢false}
 use Rattle.group_name.specs.Group.{Group}
-use Rattle.run_states.specs.Arrivals.{arrived, displaced, in_progress_stopped, room_made, stopped_where_requested}
-use Rattle.run_states.specs.FirstOf.{changed_at}
-use Rattle.run_states.specs.GroupOf.{cancels_in_progress, group_at}
-use Rattle.run_states.specs.GroupWords.{same_holder}
-use Rattle.run_states.specs.Groups.{HasOneBeside, all_holders, is_pending_in, is_in_progress_in, waits}
+use Rattle.run_states.specs.Settling.{arrived, displaced, in_progress_stopped, room_made, stopped_where_requested}
+use Rattle.run_states.specs.Runs.{changed_at, LegState, JobState, RunState, leg_in_phase}
+use Rattle.run_states.specs.Groups.{cancels_in_progress, group_at, HasOneBeside, all_holders, is_pending_in, is_in_progress_in, waits}
+use Rattle.run_states.specs.GroupLaw.{same_holder, Transition, at_each, without_moves}
 use Rattle.run_states.specs.inner.Holders.{first_conflicting}
-use Rattle.run_states.specs.Moves.{Transition, at_each, without_moves}
-use Rattle.run_states.specs.RunState.{LegState, JobState, RunState}
-use Rattle.run_states.specs.SoundRuns.{RunsAreSound}
-use Rattle.run_states.specs.StateWords.{leg_in_phase}
-use Rattle.run_states.specs.StopMoves.{displace, stop_holder}
-use Rattle.run_states.specs.Stops.{stopped, stopped_in, stopped_phase, stopped_run, with_stop_requested}
+use Rattle.run_states.specs.Sound.{RunsAreSound}
+use Rattle.run_states.specs.Stops.{displace, stop_holder, stopped, stopped_in, stopped_phase, stopped_run, with_stop_requested}
 use Rattle.run_states.specs.declared.holder.HolderFilter.{HolderFilter}
 use Rattle.run_states.specs.declared.holder.HolderFilter.TheVariants.{OthersPending, InProgress}
 use Rattle.run_states.specs.declared.phases.LegPhase.{LegPhase}

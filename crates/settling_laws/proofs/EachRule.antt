@@ -4,18 +4,15 @@ use Rattle.std.specs.List.{list_all}
 use Rattle.std.proofs.Common.{subst}
 use Rattle.std.proofs.lemmas.Bool.{and_parts}
 use Rattle.wf_value.specs.declared.outcome.Outcome.TheVariants as outcome
-use Rattle.needs_graph.specs.Results.{conclusion_of}
-use Rattle.run_states.specs.Arrivals.{arrived, is_in_group_of_run, started}
+use Rattle.needs_graph.specs.Needs.{conclusion_of}
+use Rattle.run_states.specs.Settling.{arrived, is_in_group_of_run, started, whole_rule, whole_rule_in, with_leg_in}
 use Rattle.run_states.specs.Groups.{may_start}
-use Rattle.run_states.specs.JobResults.{results_of}
-use Rattle.run_states.specs.Moves.{Move, Transition, without_moves}
-use Rattle.run_states.specs.Places.{job_at, leg_at, run_at, with_job, with_run}
+use Rattle.run_states.specs.Runs.{results_of, job_at, leg_at, run_at, with_job, with_run, JobState, LegState, RunState}
+use Rattle.run_states.specs.GroupLaw.{Move, Transition, without_moves}
 use Rattle.run_states.specs.declared.place.LegSite.{LegSite}
-use Rattle.run_states.specs.Rules.{closing_rule, decided, leg_rule, leg_rule_in, newcomer_rule, opening_rule, result_at, rule_at}
-use Rattle.run_states.specs.Rules.{whole_rule, whole_rule_in, with_leg_in}
-use Rattle.run_states.specs.RunState.{JobState, LegState, RunState}
-use Rattle.run_states.specs.StateWords.{is_blocked, is_done, is_finished, run_in_phase, finished_as}
-use Rattle.run_states.specs.Words.{needs_have_finished}
+use Rattle.run_states.specs.Settling.{closing_rule, decided, leg_rule, leg_rule_in, newcomer_rule, opening_rule, result_at, rule_at}
+use Rattle.run_states.specs.Runs.{is_blocked, is_done, is_finished, run_in_phase, finished_as}
+use Rattle.run_states.specs.LegContext.{needs_have_finished}
 use Rattle.run_states.specs.declared.phases.LegPhase.{LegPhase}
 use Rattle.run_states.specs.declared.phases.LegPhase.TheVariants as leg
 use Rattle.run_states.specs.declared.phases.RunPhase.{RunPhase}

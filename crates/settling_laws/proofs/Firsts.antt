@@ -7,9 +7,8 @@ use Rattle.std.proofs.Common.{arith, ap, subst, sym, ◌∙◌, below_more, get_
 use Rattle.std.proofs.lemmas.Option.{slice_get-get_or, slice_get-map}
 use Rattle.std.proofs.lemmas.List.Folds.{find-append}
 use Rattle.run_states.specs.inner.Cells.{JobCells, states}
-use Rattle.run_states.specs.FirstOf.{first_some, placed}
+use Rattle.run_states.specs.Runs.{first_some, placed, JobState}
 use Rattle.run_states.specs.Resuming.{apply_at, NoneBefore}
-use Rattle.run_states.specs.RunState.{JobState}
 use Rattle.run_states.proofs.Found.{all_weaken, placed_get}
 use Rattle.run_states.proofs.Optional.{and_then-option_map}
 

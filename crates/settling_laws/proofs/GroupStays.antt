@@ -5,15 +5,12 @@ use Rattle.std.specs.Fmt.{decimal}
 use Rattle.std.specs.Option.{option_map_or}
 use Rattle.std.proofs.Common.{arith, ap, sym, ◌∙◌}
 use Rattle.std.proofs.lemmas.Option.{same_Some, slice_get-map}
-use Rattle.definitions.specs.Admitted.{Admitted}
-use Rattle.run_states.specs.GroupOf.{RunFacts, cancels_in_progress, group_at, leg_cancels, leg_group, run_cancels, run_facts_at, run_group}
+use Rattle.definitions.specs.SmallText.{Admitted}
+use Rattle.run_states.specs.Groups.{RunFacts, cancels_in_progress, group_at, leg_cancels, leg_group, run_cancels, run_facts_at, run_group}
 use Rattle.run_states.specs.Holders.{run_of}
-use Rattle.run_states.specs.LegContext.{facts_at}
-use Rattle.run_states.specs.Places.{leg_at, run_at}
+use Rattle.run_states.specs.LegContext.{facts_at, events, same_workflow, needs_have_finished}
+use Rattle.run_states.specs.Runs.{leg_at, run_at, LegState, RunState}
 use Rattle.run_states.specs.declared.place.LegSite.{LegSite}
-use Rattle.run_states.specs.RunNumber.{events, same_workflow}
-use Rattle.run_states.specs.RunState.{LegState, RunState}
-use Rattle.run_states.specs.Words.{needs_have_finished}
 use Rattle.run_states.proofs.JobKeeps.{leg_in, no_leg}
 use Rattle.run_states.proofs.LegFacts.{SameUpTo, attempt_at, facts_are, facts_stay, taken_same, leg_facts_in}
 use Rattle.run_states.proofs.RunFits.{RunsFit}

@@ -6,17 +6,14 @@ use Rattle.std.proofs.Common.{ap, sym, ◌∙◌}
 use Rattle.std.proofs.lemmas.Bool.{false≢true}
 use Rattle.std.proofs.lemmas.Option.{slice_get-map}
 use Rattle.wf_value.specs.declared.outcome.JobResult.TheVariants as result
-use Rattle.run_states.specs.FirstOf.{changed_at, placed}
+use Rattle.run_states.specs.Runs.{changed_at, placed, job_at, leg_at, run_at, with_job, with_leg, with_run, LegState, JobState, RunState}
 use Rattle.run_states.specs.Groups.{holds, leg_holds, leg_waits, run_waits, waits}
-use Rattle.run_states.specs.Moves.{Transition, at_each}
-use Rattle.run_states.specs.Places.{job_at, leg_at, run_at, with_job, with_leg, with_run}
+use Rattle.run_states.specs.GroupLaw.{Transition, at_each}
 use Rattle.run_states.specs.declared.place.LegSite.{LegSite}
-use Rattle.run_states.specs.RunConditions.{may_run_in}
-use Rattle.run_states.specs.RunState.{LegState, JobState, RunState}
-use Rattle.run_states.specs.StateWords.{is_live, is_open, finished_as}
-use Rattle.run_states.specs.StopMoves.{stop_holder}
+use Rattle.run_states.specs.LegContext.{may_run_in}
+use Rattle.run_states.specs.Runs.{is_live, is_open, finished_as}
+use Rattle.run_states.specs.Stops.{stop_holder, with_stopped_legs}
 use Rattle.run_states.specs.Stops.{cancelled, stopped, stopped_in, stopped_phase, stopped_run, stopped_where, with_stop_requested}
-use Rattle.run_states.specs.Stops.{with_stopped_legs}
 use Rattle.run_states.specs.declared.phases.LegPhase.{LegPhase}
 use Rattle.run_states.specs.declared.phases.LegPhase.TheVariants as leg
 use Rattle.run_states.specs.declared.phases.RunPhase.{RunPhase}

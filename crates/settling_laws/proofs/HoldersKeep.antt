@@ -3,16 +3,12 @@ use Rattle.std.specs.Prelude.{◌≡◌, ℕ, List, [], ◌∷◌, Bool, true, f
 use Rattle.std.specs.Option.{option_map_or}
 use Rattle.std.proofs.Common.{ap, sym, ◌∙◌, subst}
 use Rattle.group_name.specs.Group.{Group}
-use Rattle.run_states.specs.Arrivals.{arrived, displaced, others_pending, room_made, stopped_where_requested}
-use Rattle.run_states.specs.GroupOf.{cancels_in_progress, group_at}
-use Rattle.run_states.specs.Groups.{in_progress_in}
-use Rattle.run_states.specs.Moves.{Transition, at_each, without_moves}
-use Rattle.run_states.specs.Places.{leg_at, run_at, with_leg, with_run}
+use Rattle.run_states.specs.Settling.{arrived, displaced, others_pending, room_made, stopped_where_requested}
+use Rattle.run_states.specs.Groups.{cancels_in_progress, group_at, in_progress_in}
+use Rattle.run_states.specs.GroupLaw.{Transition, at_each, without_moves}
+use Rattle.run_states.specs.Runs.{leg_at, run_at, with_leg, with_run, LegState, RunState, leg_has_ended, outcome_of}
 use Rattle.run_states.specs.declared.place.LegSite.{LegSite}
-use Rattle.run_states.specs.RunState.{LegState, RunState}
-use Rattle.run_states.specs.StateWords.{leg_has_ended, outcome_of}
-use Rattle.run_states.specs.StopMoves.{displace, stop_holder}
-use Rattle.run_states.specs.Stops.{stopped, stopped_phase, stopped_run}
+use Rattle.run_states.specs.Stops.{displace, stop_holder, stopped, stopped_phase, stopped_run}
 use Rattle.run_states.specs.declared.phases.LegPhase.{LegPhase}
 use Rattle.run_states.specs.declared.phases.LegPhase.TheVariants as leg
 use Rattle.run_states.proofs.JobKeeps.{leg_in, leg_settles}

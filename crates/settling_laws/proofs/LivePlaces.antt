@@ -1,11 +1,8 @@
 -- Settling opens jobs of live runs only.
 use Rattle.std.specs.Prelude.{◌≡◌, ℕ, List, [], ◌∷◌, map, flat_map, Bool, true, false, if◌then◌else◌, Some, slice_get, refl}
 use Rattle.std.specs.List.{AllByRecursion}
-use Rattle.run_states.specs.FirstOf.{placed}
-use Rattle.run_states.specs.Places.{run_at}
-use Rattle.run_states.specs.Rules.{is_live, job_sites, run_sites, places}
-use Rattle.run_states.specs.RunState.{LegState, JobState, RunState}
-use Rattle.run_states.specs.Settling.{applies, first_site}
+use Rattle.run_states.specs.Runs.{placed, run_at, LegState, JobState, RunState}
+use Rattle.run_states.specs.Settling.{is_live, job_sites, run_sites, places, applies, first_site}
 use Rattle.run_states.specs.declared.phases.RunPhase.{RunPhase}
 use Rattle.run_states.specs.declared.phases.RunPhase.TheVariants as run
 use Rattle.run_states.specs.declared.place.RuleSite.{RuleSite}

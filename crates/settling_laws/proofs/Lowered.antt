@@ -11,17 +11,13 @@ use Rattle.wf_value.specs.declared.outcome.JobResult.TheVariants as result
 use Rattle.wf_value.specs.declared.outcome.Outcome.TheVariants as outcome
 use Rattle.run_plan.specs.PlanOf.{plan_of}
 use Rattle.run_plan.specs.declared.planned.PlannedJob.{PlannedJob}
-use Rattle.run_states.specs.FirstOf.{changed_at}
-use Rattle.run_states.specs.Moves.{Transition}
-use Rattle.run_states.specs.Places.{run_at, job_at, leg_at, with_run, with_job}
+use Rattle.run_states.specs.Runs.{changed_at, run_at, job_at, leg_at, with_run, with_job, LegState, JobState, RunState, finished_as}
+use Rattle.run_states.specs.GroupLaw.{Transition}
 use Rattle.run_states.specs.declared.place.LegSite.{LegSite}
-use Rattle.run_states.specs.Rules.{decided, may_run, result_at, rule_at, with_leg_in}
-use Rattle.run_states.specs.RunState.{LegState, JobState, RunState}
+use Rattle.run_states.specs.Settling.{decided, may_run, result_at, rule_at, with_leg_in, run_phases_left, run_left, remaining_phases}
 use Rattle.run_states.specs.Settling.{first_site, first_rule, leg_phases_left, leg_left, job_phases_left, job_left, legs_in_plan}
-use Rattle.run_states.specs.Settling.{run_phases_left, run_left, remaining_phases}
-use Rattle.run_states.specs.StateWords.{leg_has_ended, is_blocked, is_done, is_open, leg_in_phase, new_leg, opened, run_in_phase}
-use Rattle.run_states.specs.StateWords.{finished_as}
-use Rattle.run_states.specs.Words.{is_stopping, planned_legs}
+use Rattle.run_states.specs.Runs.{leg_has_ended, is_blocked, is_done, is_open, leg_in_phase, new_leg, opened, run_in_phase}
+use Rattle.run_states.specs.LegContext.{is_stopping, planned_legs}
 use Rattle.run_states.specs.declared.phases.JobPhase.TheVariants as job
 use Rattle.run_states.specs.declared.phases.LegPhase.{LegPhase}
 use Rattle.run_states.specs.declared.phases.LegPhase.TheVariants as leg

@@ -4,15 +4,13 @@ use Rattle.std.specs.Option.{option_map_or}
 use Rattle.std.proofs.Common.{ap, sym, ◌∙◌}
 use Rattle.std.proofs.lemmas.Bool.{and_from, and_parts, or_parts, true≢false}
 use Rattle.group_name.specs.Group.{Group}
-use Rattle.run_states.specs.Arrivals.{displaced, room_made, room_made_for, stopped_where_requested}
-use Rattle.run_states.specs.GroupOf.{cancels_in_progress, group_at}
-use Rattle.run_states.specs.GroupWords.{same_holder}
-use Rattle.run_states.specs.Groups.{all_holders, holds, is_in, is_pending_in, is_in_progress_in, waits}
+use Rattle.run_states.specs.Settling.{displaced, room_made, room_made_for, stopped_where_requested}
+use Rattle.run_states.specs.Groups.{cancels_in_progress, group_at, all_holders, holds, is_in, is_pending_in, is_in_progress_in, waits}
+use Rattle.run_states.specs.GroupLaw.{same_holder, at_each, without_moves}
 use Rattle.run_states.specs.inner.Holders.{first_conflicting, is_conflicting}
 use Rattle.run_states.specs.inner.Resuming.{finds_others, makes_room}
-use Rattle.run_states.specs.Moves.{at_each, without_moves}
-use Rattle.run_states.specs.RunState.{RunState}
-use Rattle.run_states.specs.StopMoves.{displace, stop_holder}
+use Rattle.run_states.specs.Runs.{RunState}
+use Rattle.run_states.specs.Stops.{displace, stop_holder}
 use Rattle.run_states.specs.declared.holder.HolderFilter.{HolderFilter}
 use Rattle.run_states.specs.declared.holder.HolderFilter.TheVariants.{OthersPending, InProgress}
 use Rattle.run_states.proofs.Found.{none_found}

@@ -5,17 +5,13 @@ use Rattle.std.proofs.Common.{ap, inl, inr, sym, ◌∙◌}
 use Rattle.std.proofs.lemmas.Bool.{cases_eq, false≢true}
 use Rattle.wf_value.specs.declared.outcome.JobResult.TheVariants as result
 use Rattle.wf_value.specs.declared.outcome.Outcome.TheVariants as outcome
-use Rattle.run_states.specs.Arrivals.{arrived}
+use Rattle.run_states.specs.Settling.{arrived, decided, may_run, result_at, rule_at, with_leg_in, first_rule, settled}
 use Rattle.run_states.specs.Groups.{HasOneEach, holds, leg_holds, leg_waits, may_start, run_waits, waits}
-use Rattle.run_states.specs.Moves.{Transition}
-use Rattle.run_states.specs.Places.{leg_at, run_at, with_job, with_leg, with_run}
+use Rattle.run_states.specs.GroupLaw.{Transition}
+use Rattle.run_states.specs.Runs.{leg_at, run_at, with_job, with_leg, with_run, LegState, RunState, finished_as}
 use Rattle.run_states.specs.declared.place.LegSite.{LegSite}
-use Rattle.run_states.specs.Rules.{decided, may_run, result_at, rule_at, with_leg_in}
-use Rattle.run_states.specs.RunState.{LegState, RunState}
-use Rattle.run_states.specs.Settling.{first_rule, settled}
-use Rattle.run_states.specs.StateWords.{is_live, leg_in_phase, new_leg, opened, run_in_phase}
-use Rattle.run_states.specs.StateWords.{finished_as}
-use Rattle.run_states.specs.Words.{is_stopping, planned_legs}
+use Rattle.run_states.specs.Runs.{is_live, leg_in_phase, new_leg, opened, run_in_phase}
+use Rattle.run_states.specs.LegContext.{is_stopping, planned_legs}
 use Rattle.run_states.specs.declared.phases.LegPhase.{LegPhase}
 use Rattle.run_states.specs.declared.phases.LegPhase.TheVariants as leg
 use Rattle.run_states.specs.declared.phases.RunPhase.TheVariants as run

@@ -1,11 +1,8 @@
 -- A rule changes only the run of its place, unless a leg arrives.
 use Rattle.std.specs.Prelude.{◌≡◌, ℕ, List, Some}
-use Rattle.run_states.specs.Moves.{Transition}
-use Rattle.run_states.specs.Places.{run_at}
-use Rattle.run_states.specs.Rules.{rule_at, run_of_site}
-use Rattle.run_states.specs.Rules.{IsNoArrival, decided, result_at}
-use Rattle.run_states.specs.RunState.{RunState}
-use Rattle.run_states.specs.StateWords.{leg_in_phase, run_in_phase, finished_as}
+use Rattle.run_states.specs.GroupLaw.{Transition}
+use Rattle.run_states.specs.Runs.{run_at, RunState, leg_in_phase, run_in_phase, finished_as}
+use Rattle.run_states.specs.Settling.{rule_at, run_of_site, IsNoArrival, decided, result_at}
 use Rattle.run_states.specs.declared.phases.LegPhase.TheVariants as leg
 use Rattle.run_states.specs.declared.phases.RunPhase.TheVariants as run
 use Rattle.run_states.specs.declared.place.RuleSite.{RuleSite}

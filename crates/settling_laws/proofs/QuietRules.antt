@@ -5,18 +5,14 @@ use Rattle.std.proofs.Common.{ap, sym, ◌∙◌, subst, inl, inr}
 use Rattle.std.proofs.lemmas.Bool.{cases_eq}
 use Rattle.wf_value.specs.declared.outcome.Outcome.TheVariants as outcome
 use Rattle.group_name.specs.Group.{Group}
-use Rattle.run_states.specs.Arrivals.{arrived}
-use Rattle.run_states.specs.GroupOf.{group_at}
-use Rattle.run_states.specs.Groups.{holds, leg_holds}
+use Rattle.run_states.specs.Settling.{arrived, decided, result_at, rule_at, with_leg_in, first_site}
+use Rattle.run_states.specs.Groups.{group_at, holds, leg_holds}
 use Rattle.run_states.specs.inner.Resuming.{is_new_at, makes_room, may_invalidate_others}
-use Rattle.run_states.specs.Moves.{Transition}
-use Rattle.run_states.specs.Places.{job_at, leg_at, with_job, with_run}
+use Rattle.run_states.specs.GroupLaw.{Transition}
+use Rattle.run_states.specs.Runs.{job_at, leg_at, with_job, with_run, LegState, JobState, RunState}
 use Rattle.run_states.specs.declared.place.LegSite.{LegSite}
-use Rattle.run_states.specs.Rules.{decided, result_at, rule_at, with_leg_in}
-use Rattle.run_states.specs.RunState.{LegState, JobState, RunState}
-use Rattle.run_states.specs.Settling.{first_site}
-use Rattle.run_states.specs.StateWords.{is_blocked, is_live, is_new, leg_in_phase, run_in_phase, finished_as}
-use Rattle.run_states.specs.Words.{planned_legs}
+use Rattle.run_states.specs.Runs.{is_blocked, is_live, is_new, leg_in_phase, run_in_phase, finished_as}
+use Rattle.run_states.specs.LegContext.{planned_legs}
 use Rattle.run_states.specs.declared.phases.LegPhase.{LegPhase}
 use Rattle.run_states.specs.declared.phases.LegPhase.TheVariants as leg
 use Rattle.run_states.specs.declared.phases.RunPhase.TheVariants as run

@@ -9,22 +9,18 @@ use Rattle.std.proofs.lemmas.Bool.{and_from, and_parts, cases_eq, cases_lt, eqb-
 use Rattle.std.proofs.lemmas.List.{get_or_past}
 use Rattle.wf_value.specs.declared.outcome.JobResult.{JobResult}
 use Rattle.wf_value.proofs.OptionOr.{or_nothing}
-use Rattle.needs_graph.specs.Ancestors.{dependents_of, needs_at}
-use Rattle.run_states.specs.FirstOf.{changed_at, first_some, placed}
+use Rattle.needs_graph.specs.Needs.{dependents_of, needs_at}
+use Rattle.run_states.specs.Runs.{changed_at, first_some, placed, needs_in, results_so_far, finished_result, leg_at, run_at}
 use Rattle.run_states.specs.Groups.{leg_waits, run_waits}
-use Rattle.run_states.specs.JobResults.{needs_in, results_so_far, finished_result}
 use Rattle.run_states.specs.Resuming.{NoneBefore, RestBefore}
 use Rattle.run_states.specs.inner.Resuming.{may_invalidate_others, has_finished, job_again, resume_point, resume_near}
-use Rattle.run_states.specs.Moves.{Transition}
-use Rattle.run_states.specs.Places.{leg_at, run_at}
-use Rattle.run_states.specs.Rules.{rule_at}
-use Rattle.run_states.specs.RunState.{LegState, JobState, RunState}
-use Rattle.run_states.specs.Settling.{first_site}
-use Rattle.run_states.specs.StateWords.{is_blocked, is_done, is_live}
+use Rattle.run_states.specs.GroupLaw.{Transition}
+use Rattle.run_states.specs.Settling.{rule_at, first_site}
+use Rattle.run_states.specs.Runs.{LegState, JobState, RunState, is_blocked, is_done, is_live}
 use Rattle.run_states.specs.WithinRun.{first_in_job, first_in_jobs, first_in_run, first_of_legs, first_of_open, first_of_whole, goes_on}
 use Rattle.run_states.specs.WithinRun.{goes_on_in, whole_goes_on_in}
 use Rattle.run_states.specs.inner.WithinRun.{leg_site, needs_finished_in}
-use Rattle.run_states.specs.Words.{all_have_results}
+use Rattle.run_states.specs.LegContext.{all_have_results}
 use Rattle.run_states.specs.declared.phases.LegPhase.{LegPhase}
 use Rattle.run_states.specs.declared.phases.LegPhase.TheVariants as leg
 use Rattle.run_states.specs.declared.phases.RunPhase.{RunPhase}

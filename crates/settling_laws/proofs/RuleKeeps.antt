@@ -8,19 +8,14 @@ use Rattle.std.proofs.Math.ListN.{length-replicate}
 use Rattle.wf_value.specs.declared.outcome.JobResult.{JobResult}
 use Rattle.wf_value.specs.declared.outcome.JobResult.TheVariants as result
 use Rattle.wf_value.specs.declared.outcome.Outcome.TheVariants as outcome
-use Rattle.run_states.specs.Arrivals.{arrived}
-use Rattle.run_states.specs.FirstOf.{changed_at}
-use Rattle.run_states.specs.Moves.{Transition}
-use Rattle.run_states.specs.Parallel.{is_at_work}
-use Rattle.run_states.specs.Places.{run_at, job_at, leg_at, with_run, with_job}
+use Rattle.run_states.specs.Settling.{arrived, decided, may_run, result_at, rule_at, with_leg_in}
+use Rattle.run_states.specs.Runs.{changed_at, run_at, job_at, leg_at, with_run, with_job, LegState, JobState, RunState, run_in_phase}
+use Rattle.run_states.specs.GroupLaw.{Transition}
+use Rattle.run_states.specs.Fitting.{is_at_work}
 use Rattle.run_states.specs.declared.place.LegSite.{LegSite}
-use Rattle.run_states.specs.Rules.{decided, may_run, result_at, rule_at, with_leg_in}
-use Rattle.run_states.specs.RunState.{LegState, JobState, RunState}
-use Rattle.run_states.specs.SoundRuns.{PhaseFits, MayLackLegs, LeaseFits}
-use Rattle.run_states.specs.StateWords.{leg_has_ended, is_done, is_open, is_finished, leg_in_phase, new_leg, opened, outcome_of}
-use Rattle.run_states.specs.StateWords.{run_in_phase}
-use Rattle.run_states.specs.StateWords.{finished_as}
-use Rattle.run_states.specs.Words.{needs_have_finished, is_stopping, planned_legs, finished_result}
+use Rattle.run_states.specs.Sound.{PhaseFits, MayLackLegs, LeaseFits}
+use Rattle.run_states.specs.Runs.{leg_has_ended, is_done, is_open, is_finished, leg_in_phase, new_leg, opened, outcome_of, finished_as}
+use Rattle.run_states.specs.LegContext.{needs_have_finished, is_stopping, planned_legs, finished_result}
 use Rattle.run_states.specs.declared.phases.JobPhase.{JobPhase}
 use Rattle.run_states.specs.declared.phases.JobPhase.TheVariants as job
 use Rattle.run_states.specs.declared.phases.LegPhase.{LegPhase}

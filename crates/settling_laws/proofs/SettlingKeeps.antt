@@ -1,10 +1,9 @@
 -- Settling keeps what each rule keeps.
 use Rattle.std.specs.Prelude.{◌≡◌, ℕ, zero, suc, List, Some, None, refl}
 use Rattle.std.specs.Option.{option_map_or}
-use Rattle.run_states.specs.Moves.{Transition, and_then, without_moves}
-use Rattle.run_states.specs.Rules.{rule_at}
-use Rattle.run_states.specs.RunState.{RunState}
-use Rattle.run_states.specs.Settling.{first_site, first_rule, remaining_phases, settled_within, settled}
+use Rattle.run_states.specs.GroupLaw.{Transition, and_then, without_moves}
+use Rattle.run_states.specs.Settling.{rule_at, first_site, first_rule, remaining_phases, settled_within, settled}
+use Rattle.run_states.specs.Runs.{RunState}
 use Rattle.run_states.specs.declared.place.RuleSite.{RuleSite}
 use Rattle.run_states.proofs.Optional.{from_and_then}
 use Rattle.run_states.proofs.RunFits.{RunsFit}

@@ -1,7 +1,7 @@
 -- What the runs of a table satisfy, stated for all runs and for each run.
 use Rattle.std.specs.Prelude.{List}
-use Rattle.run_states.specs.RunState.{RunState}
-use Rattle.run_states.specs.SoundRuns.{RunsAreSound}
+use Rattle.run_states.specs.Runs.{RunState}
+use Rattle.run_states.specs.Sound.{RunsAreSound}
 use Rattle.run_states.proofs.RunFits.{RunsFit, jobs_are_the_plans, jobs_fit, leases_fit, needs_come_first, run_phases_fit, runs_fit}
 
 pub runs_that_fit : (runs : List RunState) → RunsAreSound runs → RunsFit runs

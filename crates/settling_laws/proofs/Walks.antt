@@ -5,19 +5,17 @@ use Rattle.std.specs.List.{list_all}
 use Rattle.std.specs.Option.{option_or}
 use Rattle.std.proofs.Common.{ap, ◌∙◌}
 use Rattle.std.proofs.lemmas.List.Folds.{find-append}
-use Rattle.run_states.specs.FirstOf.{first_some, placed}
+use Rattle.run_states.specs.Runs.{first_some, placed, job_at, leg_at, LegState, JobState, RunState}
 use Rattle.run_states.specs.Groups.{may_start}
-use Rattle.run_states.specs.Places.{job_at, leg_at}
 use Rattle.run_states.specs.declared.place.LegSite.{LegSite}
-use Rattle.run_states.specs.Rules.{job_sites, run_sites, opening_rule, leg_rule, leg_rule_in, closing_rule, whole_rule, whole_rule_in}
-use Rattle.run_states.specs.RunState.{LegState, JobState, RunState}
+use Rattle.run_states.specs.Settling.{job_sites, run_sites, opening_rule, leg_rule, leg_rule_in, closing_rule, whole_rule, whole_rule_in}
 use Rattle.run_states.specs.Settling.{applies, first_site}
-use Rattle.run_states.specs.StateWords.{is_live, is_blocked, is_done, is_finished}
+use Rattle.run_states.specs.Runs.{is_live, is_blocked, is_done, is_finished}
 use Rattle.run_states.specs.WithinRun.{goes_on, goes_on_in, first_in_job, first_in_jobs, first_in_run, first_of_legs}
 use Rattle.run_states.specs.inner.WithinRun.{leg_site}
 use Rattle.run_states.specs.inner.WithinRun.{needs_finished_in}
 use Rattle.run_states.specs.WithinRun.{whole_goes_on_in}
-use Rattle.run_states.specs.Words.{needs_have_finished}
+use Rattle.run_states.specs.LegContext.{needs_have_finished}
 use Rattle.run_states.specs.declared.phases.LegPhase.{LegPhase}
 use Rattle.run_states.specs.declared.phases.LegPhase.TheVariants as leg
 use Rattle.run_states.specs.declared.phases.RunPhase.{RunPhase}

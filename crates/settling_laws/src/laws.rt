@@ -1,11 +1,9 @@
 //! Laws of settling.
 
 ghost use Rattle.std.specs.Prelude.{◌≡◌, ◌<◌, ℕ, List, Some, None};
-ghost use Rattle.run_states.specs.Moves.{Transition, and_then};
-ghost use Rattle.run_states.specs.Places.{run_at};
-ghost use Rattle.run_states.specs.Rules.{IsNoArrival, rule_at, run_of_site};
-ghost use Rattle.run_states.specs.Settling.{first_site, first_rule, remaining_phases, settled, settling};
-ghost use Rattle.run_states.specs.RunState.{RunState};
+ghost use Rattle.run_states.specs.GroupLaw.{Transition, and_then};
+ghost use Rattle.run_states.specs.Runs.{run_at, RunState};
+ghost use Rattle.run_states.specs.Settling.{IsNoArrival, rule_at, run_of_site, first_site, first_rule, remaining_phases, settled, settling};
 ghost use Rattle.run_states.specs.declared.place.RuleSite.{RuleSite};
 
 /// Settling terminates: each rule lowers the number of phases that the runs still have to pass.

@@ -5,8 +5,7 @@ use Rattle.wf_value.specs.Gives.{Gives}
 use Rattle.wf_value.specs.declared.refusal.Refusal.{Refusal}
 use Rattle.run_plan.specs.declared.command.Command.{Command}
 use Rattle.run_plan.specs.declared.reply.Reply.{Reply}
-use Rattle.run_states.specs.Histories.{after}
-use Rattle.run_states.specs.Step.{step, stepped}
+use Rattle.run_states.specs.Step.{after, step, stepped}
 use Rattle.run_states.specs.TableState.{TableState}
 
 after_next : (t : TableState) (cs : List Command) (i : ℕ) (d : Command) → i < length cs

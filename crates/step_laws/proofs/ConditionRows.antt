@@ -2,7 +2,7 @@
 use Rattle.std.proofs.Common.{Some, ◌≡◌, [], ◌∷◌, true, false, refl}
 use Rattle.wf_value.specs.declared.condition.Condition.TheVariants as condition
 use Rattle.wf_value.specs.declared.outcome.JobResult.TheVariants as job
-use Rattle.needs_graph.specs.Conditions.{condition_value}
+use Rattle.needs_graph.specs.Needs.{condition_value}
 
 cancelled_while_stopping : condition_value condition.Cancelled (Some job.Success ∷ []) true ≡ true
 cancelled_while_stopping = refl

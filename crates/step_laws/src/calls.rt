@@ -5,7 +5,7 @@ ghost use Rattle.table_laws.specs.GroupHistories.{all_moves, requests_cancellati
 ghost use Rattle.table_laws.specs.GroupHolders.{SayWhoHolds};
 ghost use Rattle.run_states.specs.GroupLaw.{KeepsLaw};
 ghost use Rattle.table_laws.specs.Names.{Names};
-ghost use Rattle.run_states.specs.Histories.{after};
+ghost use Rattle.run_states.specs.Step.{after};
 
 use run_plan::Command;
 use run_table::Table;

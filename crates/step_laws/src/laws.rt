@@ -2,7 +2,7 @@ ghost use Rattle.std.specs.Prelude.{◌≡◌, ◌-◌, ℕ, true, Some};
 ghost use Rattle.std.specs.List.{position};
 ghost use Rattle.wf_value.specs.declared.code.Code.{Code};
 ghost use Rattle.wf_value.specs.declared.refusal.Refusal.TheVariants.{Turn};
-ghost use Rattle.definitions.specs.Admitted.{Admitted};
+ghost use Rattle.definitions.specs.SmallText.{Admitted};
 ghost use Rattle.run_plan.specs.LastCommand.{is_last_claim, is_last_report};
 ghost use Rattle.run_plan.specs.declared.command.Attempt.{Attempt};
 ghost use Rattle.run_plan.specs.declared.command.Beat.{Beat};
@@ -11,13 +11,10 @@ ghost use Rattle.run_plan.specs.declared.command.Command.{Command};
 ghost use Rattle.run_plan.specs.declared.command.Command.TheVariants as command;
 ghost use Rattle.run_plan.specs.declared.command.Done.{Done};
 ghost use Rattle.run_plan.specs.declared.reply.Reply.TheVariants as reply;
-ghost use Rattle.run_states.specs.NewRun.{is_delivered_as};
-ghost use Rattle.run_states.specs.Places.{run_at};
-ghost use Rattle.run_states.specs.RunState.{RunState};
+ghost use Rattle.run_states.specs.Runs.{is_delivered_as, run_at, RunState};
 ghost use Rattle.run_states.specs.declared.phases.RunPhase.TheVariants as phase;
-ghost use Rattle.run_states.specs.SequenceNumbers.{runner_named};
+ghost use Rattle.run_states.specs.TableState.{runner_named, RunnerState, TableState};
 ghost use Rattle.run_states.specs.Step.{refused, stepped};
-ghost use Rattle.run_states.specs.TableState.{RunnerState, TableState};
 ghost use Rattle.step_laws.specs.Texts.{CarriesText, IsAnsweredAnyway};
 
 /// Every refusal is given memory or not, whatever the command is: those with a number alone (40 to 42, 44, 45, 48, 49), and 43 with the

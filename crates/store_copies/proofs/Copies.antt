@@ -8,9 +8,8 @@ use Rattle.gated_journal.specs.Choice.{newer, open_generation}
 use Rattle.definitions.specs.Area.{IsClosed, Reads, head_bytes}
 use Rattle.gated_journal.specs.declared.side.Side.TheVariants.{First}
 use Rattle.run_states.specs.TableState.{TableState}
-use Rattle.act_store.specs.Images.{IsAreaLength, RecoversTo}
-use Rattle.act_store.specs.Meaning.{MeansTable}
-use Rattle.act_store.specs.TableText.{EncodesTable}
+use Rattle.act_store.specs.Images.{IsAreaLength, RecoversTo, MeansTable}
+use Rattle.act_store.specs.Layouts.{EncodesTable}
 use Rattle.act_store.specs.declared.layout.Layout.TheVariants as layouts
 use Rattle.store_copies.specs.Copies.{copy_front, copy_head}
 

@@ -3,9 +3,8 @@ use Rattle.std.proofs.Common.{refl}
 use Rattle.run_states.specs.Sound.{IsSound}
 use Rattle.run_states.specs.TableState.{TableState}
 use Rattle.stored_tables.specs.Stored.{stored_table}
-use Rattle.table_text.specs.Tables.{table}
-use Rattle.table_text.specs.WholeTables.{whole_table}
-use Rattle.act_store.specs.TableText.{EncodesTable}
+use Rattle.table_text.specs.Tables.{table, whole_table}
+use Rattle.act_store.specs.Layouts.{EncodesTable}
 use Rattle.act_store.specs.declared.layout.Layout.TheVariants as layouts
 
 pub table_encodes : (t : TableState) → IsSound t → table.Takes (stored_table t) → EncodesTable layouts.Second t (whole_table.encoding t)

@@ -1,9 +1,9 @@
 ghost use Rattle.std.specs.Prelude.{◌≡◌, ◌+◌, ◌<◌, ◌≤◌, IfOk, IfSome, OnOk, is_some, length, true};
 ghost use Rattle.run_states.specs.Sound.{IsSound};
-ghost use Rattle.table_text.specs.WholeTables.{whole_table};
+ghost use Rattle.table_text.specs.Tables.{whole_table};
 ghost use Rattle.wf_value.specs.Gives.{ErrsOnlyByMemory};
 ghost use Rattle.act_store.specs.Images.{IsAreaLength, RecoversTo};
-ghost use Rattle.act_store.specs.TableText.{EncodesTable};
+ghost use Rattle.act_store.specs.Layouts.{EncodesTable};
 ghost use Rattle.act_store.specs.declared.layout.Layout.TheVariants as layouts;
 ghost use Rattle.store_copies.specs.Copies.{copy_bytes, copy_front, file_of, fits};
 

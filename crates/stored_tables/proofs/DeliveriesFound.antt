@@ -8,8 +8,7 @@ use Rattle.std.proofs.lemmas.Bool.Decides.{Decides-eqb, Decides-like}
 use Rattle.std.proofs.lemmas.Slice.Eq.{bytes_eq-Decides}
 use Rattle.std.proofs.lemmas.Option.{none-some, same_Some}
 use Rattle.run_states.specs.Sound.{DeliveriesDiffer}
-use Rattle.run_states.specs.NewRun.{is_delivered_as}
-use Rattle.run_states.specs.RunState.{RunState}
+use Rattle.run_states.specs.Runs.{is_delivered_as, RunState}
 use Rattle.run_states.proofs.Found.{each_at, found_nowhere, none_found}
 use Rattle.run_states.proofs.OneAfterAnother.{OfEach, no}
 use Rattle.workflow_runs.proofs.Indexed.{first_one}

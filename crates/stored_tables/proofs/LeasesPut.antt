@@ -6,10 +6,9 @@ use Rattle.std.proofs.lemmas.Option.{slice_get_within}
 use Rattle.stored_tables.specs.inner.ByLease.{lease_in_job, lease_of_leg, lease_of_runner}
 use Rattle.stored_tables.specs.inner.ByNumber.{Adds}
 use Rattle.run_states.specs.inner.PlacedLegs.{PlacedLeg, placed_legs}
-use Rattle.run_states.specs.Places.{job_at, leg_at, run_at}
+use Rattle.run_states.specs.Runs.{job_at, leg_at, run_at, LegState, JobState, RunState}
 use Rattle.run_states.specs.declared.place.LegSite.{LegSite}
 use Rattle.run_states.specs.TableState.{RunnerState}
-use Rattle.run_states.specs.RunState.{LegState, JobState, RunState}
 use Rattle.stored_tables.proofs.ByNumberRead.{adds_next, adds_on, adds_same, all_added, nothing_added}
 use Rattle.run_states.proofs.Found.{all_weaken}
 use Rattle.run_states.proofs.Optional.{from_and_then}

@@ -17,15 +17,14 @@ use Rattle.stored_tables.specs.inner.ByLease.{lease_of_leg}
 use Rattle.stored_tables.specs.inner.ByNumber.{Finds}
 use Rattle.run_states.specs.AsPlanned.{AreAsPlanned, HasRoom}
 use Rattle.run_states.specs.Fitting.{has_lease}
-use Rattle.run_states.specs.Places.{leg_at, plan_at, run_at}
+use Rattle.run_states.specs.Runs.{leg_at, plan_at, run_at, LegState, RunState}
 use Rattle.run_states.specs.declared.place.LegSite.{LegSite}
 use Rattle.run_states.specs.Sound.{IsOfALeg, KeptIsOfALeg, KeptLeasesAreOfLegs}
 use Rattle.run_states.specs.Step.{kept_lease, lease_at}
 use Rattle.stored_tables.specs.Stored.{RunnerParts, site_in_runs, stored_site}
 use Rattle.stored_tables.specs.TableOf.{AreRunnersAs, IsLastAs, IsLeaseAs, IsReplyAs, IsRunnerAs}
 use Rattle.run_states.specs.TableState.{RunnerState}
-use Rattle.run_states.specs.RunState.{LegState, RunState}
-use Rattle.run_states.specs.Words.{planned_legs}
+use Rattle.run_states.specs.LegContext.{planned_legs}
 use Rattle.stored_tables.specs.declared.parts.LastParts.{LastParts}
 use Rattle.stored_tables.specs.declared.parts.LastParts.TheVariants as stored
 use Rattle.stored_tables.specs.declared.parts.StoredLease.{StoredLease}

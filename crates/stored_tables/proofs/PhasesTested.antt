@@ -3,9 +3,8 @@ use Rattle.std.specs.Prelude.{◌≡◌, ℕ, List, Bool, true, false, Some, sli
 use Rattle.std.specs.Bool.{Decides}
 use Rattle.std.specs.List.{list_all}
 use Rattle.std.proofs.Common.{ap, sym, subst, ◌∙◌}
-use Rattle.run_states.specs.RunState.{JobState}
-use Rattle.run_states.specs.SoundRuns.{PhaseFits}
-use Rattle.run_states.specs.StateWords.{is_blocked, is_finished}
+use Rattle.run_states.specs.Runs.{JobState, is_blocked, is_finished}
+use Rattle.run_states.specs.Sound.{PhaseFits}
 use Rattle.run_states.specs.declared.phases.JobPhase.TheVariants as job
 use Rattle.run_states.specs.declared.phases.RunPhase.{RunPhase}
 use Rattle.run_states.specs.declared.phases.RunPhase.TheVariants as run

@@ -7,15 +7,13 @@ use Rattle.stored_tables.specs.inner.ByLease.{lease_of_leg, lease_of_runner}
 use Rattle.stored_tables.specs.inner.ByNumber.{Finds}
 use Rattle.run_states.specs.Groups.{HasOneEach}
 use Rattle.stored_tables.specs.inner.OneByOne.{EachLegIsSound, EachRunIsSound, EachRunnerIsSound, HoldsWork, IsFound, is_worked_on, leg_of, runner_of}
-use Rattle.run_states.specs.Parallel.{is_at_work}
-use Rattle.run_states.specs.Places.{leg_at}
+use Rattle.run_states.specs.Fitting.{is_at_work}
+use Rattle.run_states.specs.Runs.{leg_at, LegState, RunState}
 use Rattle.run_states.specs.declared.place.LegSite.{LegSite}
 use Rattle.run_states.specs.Settling.{first_site}
 use Rattle.run_states.specs.Sound.{DeliveriesDiffer, IsAtWork, IsHeld, IsSound, KeptLeasesAreOfLegs}
 use Rattle.run_states.specs.AsPlanned.{AreAsPlanned}
-use Rattle.run_states.specs.TableState.{RunnerState, TableState}
-use Rattle.run_states.specs.RunState.{LegState, RunState}
-use Rattle.run_states.specs.SequenceNumbers.{names_rise}
+use Rattle.run_states.specs.TableState.{RunnerState, TableState, names_rise}
 use Rattle.stored_tables.specs.declared.sound.leases.Leases.{Leases}
 use Rattle.run_states.proofs.JobKeeps.{job_in}
 use Rattle.run_states.proofs.LegReads.{had_from_leg, leg_from_had}

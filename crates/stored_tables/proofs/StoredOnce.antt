@@ -15,18 +15,15 @@ use Rattle.run_plan.specs.declared.last_command.LastCommand.{LastCommand}
 use Rattle.run_plan.specs.declared.last_command.LastCommand.TheVariants as last
 use Rattle.run_plan.specs.declared.planned.PlannedJob.{PlannedJob}
 use Rattle.run_plan.specs.declared.reply.Lease.{Lease}
-use Rattle.run_states.specs.Places.{leg_at, plan_at, run_at}
+use Rattle.run_states.specs.Runs.{leg_at, plan_at, run_at, LegState, RunState}
 use Rattle.run_states.specs.declared.place.LegSite.{LegSite}
-use Rattle.run_states.specs.Sound.{IsOfALeg, IsSound, LeasesDiffer}
-use Rattle.run_states.specs.SoundRuns.{LegsFit}
+use Rattle.run_states.specs.Sound.{IsOfALeg, IsSound, LeasesDiffer, LegsFit}
 use Rattle.run_states.specs.Step.{lease_at}
 use Rattle.stored_tables.specs.Stored.{RunnerParts, TableParts, stored_site}
 use Rattle.stored_tables.specs.TableOf.{AreRunnersAs, IsLastAs, IsLeaseAs, IsNoTable, IsPlacedAs, IsReplyAs, IsRunnerAs, IsStoredAs}
 use Rattle.run_states.specs.AsPlanned.{AreAsPlanned, HasRoom}
-use Rattle.run_states.specs.TableState.{RunnerState, TableState}
+use Rattle.run_states.specs.TableState.{RunnerState, TableState, names_rise}
 use Rattle.run_states.specs.Groups.{HasOneEach}
-use Rattle.run_states.specs.RunState.{LegState, RunState}
-use Rattle.run_states.specs.SequenceNumbers.{names_rise}
 use Rattle.stored_tables.specs.declared.parts.LastParts.{LastParts}
 use Rattle.stored_tables.specs.declared.parts.LastParts.TheVariants as stored
 use Rattle.stored_tables.specs.declared.parts.StoredLease.{StoredLease}

@@ -13,8 +13,8 @@ ghost use Rattle.run_states.specs.Step.{kept_lease};
 ghost use Rattle.stored_tables.specs.Stored.{site_in_runs};
 ghost use Rattle.stored_tables.specs.TableOf.{IsLeaseAs};
 ghost use Rattle.run_states.specs.AsPlanned.{AreAsPlanned};
-ghost use Rattle.run_states.specs.Places.{run_at};
-ghost use Rattle.run_states.specs.Words.{planned_legs};
+ghost use Rattle.run_states.specs.Runs.{run_at};
+ghost use Rattle.run_states.specs.LegContext.{planned_legs};
 
 use crate::parts::{StoredLease, StoredSite};
 use crate::sound::jobs::planned_legs;

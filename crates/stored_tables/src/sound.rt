@@ -9,7 +9,7 @@ ghost use Rattle.stored_tables.specs.inner.ByNumber.{Finds};
 ghost use Rattle.run_states.specs.Sound.{IsSound, KeptLeasesAreOfLegs};
 ghost use Rattle.run_states.specs.AsPlanned.{AreAsPlanned};
 ghost use Rattle.run_states.specs.Groups.{HasOneEach};
-ghost use Rattle.run_states.specs.SequenceNumbers.{names_rise};
+ghost use Rattle.run_states.specs.TableState.{names_rise};
 
 mod deliveries;
 pub(crate) mod jobs;

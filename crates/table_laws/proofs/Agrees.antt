@@ -1,7 +1,7 @@
 -- Two lists of moves that agree about some holders, under other names.
 use Rattle.std.specs.Prelude.{◌≡◌, List, [], ◌∷◌, ◌++◌, true, Some}
-use Rattle.run_states.specs.GroupWords.{has_arrived, has_ended, has_started, is_pending, is_in_progress, latest, next_displaced, was_stopped}
-use Rattle.run_states.specs.Moves.{Move}
+use Rattle.run_states.specs.GroupLaw.{has_arrived, has_ended, has_started, is_pending, is_in_progress, latest, next_displaced, was_stopped}
+use Rattle.run_states.specs.GroupLaw.{Move}
 use Rattle.run_states.specs.declared.holder.Holder.{Holder}
 
 -- no two holders have the same name

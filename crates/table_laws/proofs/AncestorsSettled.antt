@@ -6,9 +6,8 @@ use Rattle.std.specs.List.{flat_map, list_any, range_with_len, slice_index_or}
 use Rattle.std.proofs.Common.{ap, ◌∙◌}
 use Rattle.std.proofs.lemmas.Bool.{and_from, and_parts, eqb-true}
 use Rattle.wf_value.specs.declared.outcome.JobResult.{JobResult}
-use Rattle.needs_graph.specs.Ancestors.{ancestors_of, is_ancestor, needs_at, walk_ends}
-use Rattle.needs_graph.specs.Conditions.{results_at}
-use Rattle.run_states.specs.Words.{all_have_results}
+use Rattle.needs_graph.specs.Needs.{ancestors_of, is_ancestor, needs_at, walk_ends, results_at}
+use Rattle.run_states.specs.LegContext.{all_have_results}
 use Rattle.run_states.proofs.LegFacts.{result_kept}
 
 abbrev pub has_result : List (Option JobResult) → ℕ → Bool

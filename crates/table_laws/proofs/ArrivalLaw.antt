@@ -9,18 +9,16 @@ use Rattle.std.proofs.lemmas.List.{append-nil}
 use Rattle.std.proofs.lemmas.List.Elements.{filter_map-append}
 use Rattle.wf_value.specs.declared.outcome.Outcome.TheVariants.{Cancelled}
 use Rattle.group_name.specs.Group.{Group, same_group}
-use Rattle.run_states.specs.Arrivals.{arrived, displaced, others_pending, room_made, stopped_where_requested}
-use Rattle.run_states.specs.GroupOf.{cancels_in_progress, group_at}
-use Rattle.run_states.specs.GroupWords.{arrival_of, has_arrived, has_started, is_pending, is_in_progress, latest, next_displaced}
-use Rattle.run_states.specs.GroupWords.{same_holder, was_stopped}
+use Rattle.run_states.specs.Settling.{arrived, displaced, others_pending, room_made, stopped_where_requested}
+use Rattle.run_states.specs.Groups.{cancels_in_progress, group_at}
+use Rattle.run_states.specs.GroupLaw.{arrival_of, has_arrived, has_started, is_pending, is_in_progress, latest, next_displaced}
+use Rattle.run_states.specs.GroupLaw.{same_holder, was_stopped, Move, Transition, at_each, without_moves, BeginsWith, cancelled_end}
 use Rattle.run_states.specs.Groups.{HasOneBeside, holds, is_in, is_pending_in, is_in_progress_in, in_progress_in, waits}
-use Rattle.run_states.specs.Moves.{Move, Transition, at_each, without_moves}
-use Rattle.run_states.specs.RunState.{RunState}
-use Rattle.run_states.specs.StopMoves.{stop_holder}
+use Rattle.run_states.specs.Runs.{RunState}
+use Rattle.run_states.specs.Stops.{stop_holder}
 use Rattle.run_states.proofs.RunFits.{RunsFit}
 use Rattle.settling_laws.proofs.ArrivalKeeps.{requested_fades, displaced_one_each, itself, nobody_else, one_or_another}
 use Rattle.settling_laws.proofs.OneEach.{Comes, IsOneOf, group_is, one_that_holds, one_that_waits}
-use Rattle.run_states.specs.GroupLaw.{BeginsWith, cancelled_end}
 use Rattle.table_laws.proofs.ArrivalTold.{stop_begins, tells_then}
 use Rattle.table_laws.proofs.ChangesTold.{only_one}
 use Rattle.table_laws.proofs.GroupFollows.{displaced_waits, next_shown}

@@ -7,12 +7,10 @@ use Rattle.std.proofs.Common.{ap, ap₂, sym, ◌∙◌}
 use Rattle.std.proofs.lemmas.Bool.{and_from, and_parts, false≢true, true≢false}
 use Rattle.std.proofs.lemmas.List.{append-nil}
 use Rattle.group_name.specs.Group.{Group}
-use Rattle.run_states.specs.GroupOf.{cancels_in_progress}
-use Rattle.run_states.specs.GroupWords.{has_arrived, has_started, holder_of, is_pending, is_in_progress, is_the, same_holder}
+use Rattle.run_states.specs.Groups.{cancels_in_progress, is_stop_requested, waits}
+use Rattle.run_states.specs.GroupLaw.{has_arrived, has_started, holder_of, is_pending, is_in_progress, is_the, same_holder, Move}
 use Rattle.run_states.specs.Groups.{HasOneEach, all_holders, group_state, holds, is_in, is_pending_in, is_in_progress_in}
-use Rattle.run_states.specs.Groups.{is_stop_requested, waits}
-use Rattle.run_states.specs.Moves.{Move}
-use Rattle.run_states.specs.RunState.{RunState}
+use Rattle.run_states.specs.Runs.{RunState}
 use Rattle.run_states.proofs.Found.{find_passes, none_found}
 use Rattle.run_states.proofs.RunFits.{RunsFit}
 use Rattle.settling_laws.proofs.OneEach.{IsOneOf, each_holder, one_that_holds, one_that_waits}

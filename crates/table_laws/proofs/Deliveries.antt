@@ -9,21 +9,15 @@ use Rattle.std.proofs.lemmas.Bool.{lt-ltb, ltb-true, ltb-false}
 use Rattle.std.proofs.lemmas.List.{length-map}
 use Rattle.std.proofs.lemmas.Slice.Eq.{bytes_eq-Decides}
 use Rattle.wf_value.specs.declared.code.Code.TheVariants.{LastCounter}
-use Rattle.definitions.specs.Admitted.{Admitted}
+use Rattle.definitions.specs.SmallText.{Admitted}
 use Rattle.run_plan.specs.declared.command.Command.{Command}
 use Rattle.run_plan.specs.declared.command.Command.TheVariants as command
 use Rattle.run_plan.specs.declared.reply.Reply.TheVariants as reply
-use Rattle.run_states.specs.Histories.{after}
+use Rattle.run_states.specs.Step.{after, admitting, entered_again, rerun_answer, rerunning, refused, step, stepped, unchanged}
 use Rattle.run_states.specs.TableState.{Step, TableState}
-use Rattle.run_states.specs.Places.{with_run}
-use Rattle.run_states.specs.RunNumber.{events}
+use Rattle.run_states.specs.Runs.{with_run, again, is_delivered_as, RunState}
+use Rattle.run_states.specs.LegContext.{events}
 use Rattle.run_states.specs.Settling.{settled}
-use Rattle.run_states.specs.Step.{admitting}
-use Rattle.run_states.specs.NewRun.{again, is_delivered_as}
-use Rattle.run_states.specs.Step.{entered_again, rerun_answer, rerunning}
-use Rattle.run_states.specs.Step.{refused, step}
-use Rattle.run_states.specs.Step.{stepped, unchanged}
-use Rattle.run_states.specs.RunState.{RunState}
 use Rattle.run_states.proofs.Optional.{if_some}
 use Rattle.table_laws.proofs.RunsStay.{IsOfCourse, arrived_stays, run_stays, settled_stays}
 use Rattle.table_laws.proofs.StepsStay.{answered, entered_stays, keeps_all, keeps_itself, step_stays}

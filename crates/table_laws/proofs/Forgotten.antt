@@ -4,9 +4,8 @@ use Rattle.std.specs.List.{last_or}
 use Rattle.std.proofs.Common.{ap, ap₂, sym, ◌∙◌}
 use Rattle.std.proofs.lemmas.Bool.{true≢false}
 use Rattle.std.proofs.lemmas.Option.{same_Some}
-use Rattle.run_states.specs.GroupWords.{arrival_of, has_arrived, has_ended, has_started, is_pending, is_in_progress, latest}
-use Rattle.run_states.specs.GroupWords.{next_displaced, was_stopped}
-use Rattle.run_states.specs.Moves.{Move}
+use Rattle.run_states.specs.GroupLaw.{arrival_of, has_arrived, has_ended, has_started, is_pending, is_in_progress, latest, Move}
+use Rattle.run_states.specs.GroupLaw.{next_displaced, was_stopped}
 use Rattle.table_laws.proofs.Agrees.{Agrees}
 use Rattle.table_laws.proofs.NamedMoves.{latest_arrived}
 use Rattle.table_laws.proofs.OwnMoves.{arrived_by_own, ended_by_own, of_group, own, own_of_another, own_of_group, started_by_own}

@@ -7,10 +7,9 @@ use Rattle.std.proofs.lemmas.Bool.{false_from_ne_true, not-true, or_parts}
 use Rattle.std.proofs.lemmas.List.{append-nil}
 use Rattle.std.proofs.lemmas.Option.{same_Some}
 use Rattle.wf_value.specs.declared.outcome.Outcome.TheVariants.{Cancelled}
-use Rattle.run_states.specs.GroupState.{GroupState}
-use Rattle.run_states.specs.GroupWords.{arrival_of, end_of, start_of, stop_of, has_arrived, has_ended, has_started, was_stopped}
-use Rattle.run_states.specs.GroupWords.{holder_of, is_pending, is_in_progress, is_the, latest, next_displaced, same_holder}
-use Rattle.run_states.specs.Moves.{Move}
+use Rattle.run_states.specs.Groups.{GroupState}
+use Rattle.run_states.specs.GroupLaw.{arrival_of, end_of, start_of, stop_of, has_arrived, has_ended, has_started, was_stopped, Move}
+use Rattle.run_states.specs.GroupLaw.{holder_of, is_pending, is_in_progress, is_the, latest, next_displaced, same_holder}
 use Rattle.settling_laws.proofs.ArrivalKeeps.{holder_tested, itself}
 use Rattle.table_laws.specs.GroupChanges.{Change, Matches, changed, is_new, moves_of, stopped_at_arrival}
 use Rattle.run_states.specs.GroupLaw.{BeginsWith, cancelled_end}

@@ -6,12 +6,10 @@ use Rattle.std.proofs.Common.{◌≡◌, List, [], ◌∷◌, ◌++◌, Bool, tr
 use Rattle.std.proofs.Common.{refl, ap, ap₂, sym, subst, ◌∙◌}
 use Rattle.std.proofs.lemmas.Option.{none-some}
 use Rattle.std.proofs.lemmas.Bool.{and_right, or_right}
-use Rattle.run_states.specs.GroupState.{GroupState}
-use Rattle.run_states.specs.GroupWords.{has_arrived, is_the, same_holder}
-use Rattle.run_states.specs.Moves.{Move}
+use Rattle.run_states.specs.Groups.{GroupState}
+use Rattle.run_states.specs.GroupLaw.{has_arrived, is_the, same_holder, Move, KeepsLaw, cancelled_end}
 use Rattle.settling_laws.proofs.ArrivalKeeps.{holder_tested, itself}
 use Rattle.table_laws.specs.GroupChanges.{Change, Matches, base_moves, beyond_base, changed, is_new, moves_of, in_progress_moves}
-use Rattle.run_states.specs.GroupLaw.{KeepsLaw, cancelled_end}
 use Rattle.table_laws.proofs.GroupChangeKeeps.{change_keeps_law, change_matches}
 use Rattle.table_laws.proofs.GroupLawWalk.{Lawful, walk_is_law}
 use Rattle.table_laws.proofs.GroupSaid.{arrived_on, the_same}

@@ -6,11 +6,10 @@ use Rattle.std.proofs.lemmas.Bool.{and_right, not-true, or_right}
 use Rattle.std.proofs.lemmas.Option.{none-some}
 use Rattle.wf_value.specs.declared.outcome.Outcome.{Outcome}
 use Rattle.wf_value.specs.declared.outcome.Outcome.TheVariants.{Cancelled}
-use Rattle.run_states.specs.GroupState.{GroupState}
-use Rattle.run_states.specs.GroupWords.{has_arrived, has_ended, has_started, was_stopped, is_pending, is_in_progress, is_the, same_holder}
-use Rattle.run_states.specs.Moves.{Move}
+use Rattle.run_states.specs.Groups.{GroupState}
+use Rattle.run_states.specs.GroupLaw.{has_arrived, has_ended, has_started, was_stopped, is_pending, is_in_progress, is_the, same_holder}
+use Rattle.run_states.specs.GroupLaw.{Move, KeepsLaw}
 use Rattle.table_laws.specs.GroupChanges.{Change, Matches, MayAllBe, MayBe, after_all, changed, moves_of, moves_of_all}
-use Rattle.run_states.specs.GroupLaw.{KeepsLaw}
 use Rattle.table_laws.proofs.GroupArrival.{arrival_matches, arrival_walks}
 use Rattle.table_laws.proofs.GroupLawWalk.{Lawful, law_goes_on}
 use Rattle.table_laws.proofs.GroupSaid.{latest_on, pending_on, in_progress_on, runs_started, stopped_on}

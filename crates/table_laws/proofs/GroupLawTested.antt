@@ -7,11 +7,9 @@ use Rattle.std.proofs.lemmas.List.{append-nil}
 use Rattle.std.proofs.lemmas.Bool.{and_from, and_parts, not-true}
 use Rattle.wf_value.specs.declared.outcome.Outcome.{Outcome}
 use Rattle.wf_value.specs.declared.outcome.Outcome.TheVariants.{Success, Failure, Cancelled}
-use Rattle.run_states.specs.GroupWords.{has_ended, has_started, holder_of, is_in_progress, is_the, latest, next_displaced}
-use Rattle.run_states.specs.GroupWords.{same_holder, was_stopped}
-use Rattle.run_states.specs.Moves.{Move}
+use Rattle.run_states.specs.GroupLaw.{has_ended, has_started, holder_of, is_in_progress, is_the, latest, next_displaced, Move}
+use Rattle.run_states.specs.GroupLaw.{same_holder, was_stopped, BeginsWith, IsJustDisplaced, KeepsLaw, cancelled_end}
 use Rattle.settling_laws.proofs.ArrivalKeeps.{holder_tested, itself}
-use Rattle.run_states.specs.GroupLaw.{BeginsWith, IsJustDisplaced, KeepsLaw, cancelled_end}
 use Rattle.table_laws.specs.GroupLawTest.{allows, allows_all, begins_with_end, begins_with_stop, displaced_last, ends_displaced}
 use Rattle.table_laws.specs.GroupLawTest.{is_cancelled, keeps_law, stops_after}
 use Rattle.table_laws.proofs.GroupLawWalk.{Lawful, law_walks, walk_is_law}

@@ -1,8 +1,8 @@
 -- The law evaluated on examples: the cases of the documentation, and lists that break each rule.
 use Rattle.std.specs.Prelude.{◌≡◌, [], ◌∷◌, ◌++◌, Bool, true, false, Some, refl}
 use Rattle.wf_value.specs.declared.outcome.Outcome.TheVariants.{Success, Failure, Cancelled}
-use Rattle.run_states.specs.GroupState.{GroupState}
-use Rattle.run_states.specs.Moves.{Move}
+use Rattle.run_states.specs.Groups.{GroupState}
+use Rattle.run_states.specs.GroupLaw.{Move}
 use Rattle.table_laws.specs.GroupChanges.{base_moves, beyond_base}
 use Rattle.table_laws.specs.GroupLawTest.{keeps_law}
 use Rattle.run_states.specs.declared.holder.Holder.{Holder}

@@ -6,9 +6,8 @@ use Rattle.group_name.specs.Group.{Group}
 use Rattle.run_plan.specs.ReplyText.{reply_text}
 use Rattle.run_plan.specs.declared.command.Command.{Command}
 use Rattle.run_plan.specs.declared.command.Command.TheVariants as command
-use Rattle.run_states.specs.Histories.{replies}
-use Rattle.run_states.specs.Moves.{Move}
-use Rattle.run_states.specs.Step.{empty}
+use Rattle.run_states.specs.Step.{replies, empty}
+use Rattle.run_states.specs.GroupLaw.{Move}
 use Rattle.run_table.proofs.OnTables.{on_tables}
 use Rattle.table_laws.specs.GroupHistories.{all_moves, requests_cancellation, group_moves}
 use Rattle.table_laws.specs.GroupLawTest.{keeps_law}

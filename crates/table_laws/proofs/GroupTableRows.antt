@@ -3,8 +3,8 @@ use Rattle.std.specs.Prelude.{◌≡◌, ℕ, List, [], ◌∷◌, ◌++◌, cod
 use Rattle.wf_value.specs.declared.outcome.Outcome.TheVariants as outcome
 use Rattle.group_name.specs.Group.{Group}
 use Rattle.run_states.specs.Groups.{group_state, holders_in, pending_in, in_progress_in}
-use Rattle.run_states.specs.Moves.{Move}
-use Rattle.run_states.specs.RunState.{RunState}
+use Rattle.run_states.specs.GroupLaw.{Move}
+use Rattle.run_states.specs.Runs.{RunState}
 use Rattle.run_states.specs.declared.phases.JobPhase.TheVariants as job
 use Rattle.run_states.specs.declared.phases.LegPhase.TheVariants as leg
 use Rattle.run_states.specs.declared.phases.RunPhase.TheVariants as run

@@ -6,16 +6,12 @@ use Rattle.std.proofs.Common.{arith, ap, inl, inr, sym, ◌∙◌}
 use Rattle.std.proofs.lemmas.Bool.{cases_eq}
 use Rattle.std.proofs.lemmas.Option.{slice_get-map, slice_get_past, slice_get_within}
 use Rattle.group_name.specs.Group.{Group, same_group}
-use Rattle.definitions.specs.Admitted.{Admitted}
-use Rattle.run_states.specs.GroupOf.{cancels_in_progress, group_at, leg_cancels, run_cancels, run_facts_at}
-use Rattle.run_states.specs.Groups.{is_in}
+use Rattle.definitions.specs.SmallText.{Admitted}
+use Rattle.run_states.specs.Groups.{cancels_in_progress, group_at, leg_cancels, run_cancels, run_facts_at, is_in}
 use Rattle.run_states.specs.Holders.{run_of}
-use Rattle.run_states.specs.LegContext.{facts_at}
-use Rattle.run_states.specs.NewRun.{new_run}
-use Rattle.run_states.specs.Places.{leg_at, run_at}
+use Rattle.run_states.specs.LegContext.{facts_at, events}
+use Rattle.run_states.specs.Runs.{new_run, leg_at, run_at, LegState, RunState}
 use Rattle.run_states.specs.declared.place.LegSite.{LegSite}
-use Rattle.run_states.specs.RunNumber.{events}
-use Rattle.run_states.specs.RunState.{LegState, RunState}
 use Rattle.run_states.proofs.Found.{at_the_end, before_the_end}
 use Rattle.run_states.proofs.JobKeeps.{leg_in}
 use Rattle.run_states.proofs.LegFacts.{SameUpTo, attempt_at, facts_stay}

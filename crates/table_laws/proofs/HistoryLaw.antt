@@ -6,19 +6,15 @@ use Rattle.std.proofs.lemmas.Bool.{and_from, and_parts, and_right, false≢true,
 use Rattle.std.proofs.lemmas.List.{append-nil}
 use Rattle.group_name.specs.Group.{Group}
 use Rattle.run_plan.specs.declared.command.Command.{Command}
-use Rattle.run_states.specs.GroupOf.{cancels_in_progress}
-use Rattle.run_states.specs.GroupWords.{has_arrived}
-use Rattle.run_states.specs.Groups.{is_in}
-use Rattle.run_states.specs.Histories.{after}
-use Rattle.run_states.specs.Moves.{Move}
+use Rattle.run_states.specs.Groups.{cancels_in_progress, is_in}
+use Rattle.run_states.specs.GroupLaw.{has_arrived, Move, KeepsLaw}
+use Rattle.run_states.specs.Step.{after, stepped}
 use Rattle.run_states.specs.Sound.{IsSound}
-use Rattle.run_states.specs.Step.{stepped}
 use Rattle.run_states.specs.TableState.{Step, TableState}
 use Rattle.run_table.proofs.Kept.{kept_from_sound}
 use Rattle.run_states.proofs.RunFits.{RunsFit}
 use Rattle.run_table.proofs.StepKeeps.{stepped_is_sound}
 use Rattle.table_laws.specs.GroupHistories.{all_moves, requests_by, requests_cancellation, first_moves, group_moves, moves_in, step_moves}
-use Rattle.run_states.specs.GroupLaw.{KeepsLaw}
 use Rattle.table_laws.specs.Names.{Names, attempt_of, name_in}
 use Rattle.table_laws.proofs.AttemptNames.{again_rises}
 use Rattle.table_laws.proofs.Requesting.{requests_later, requests_now}

@@ -2,10 +2,8 @@
 -- has made no move.
 use Rattle.std.specs.Prelude.{◌≡◌, ℕ, ◌≤◌, List, [], ◌∷◌, ◌++◌, Some, refl}
 use Rattle.std.proofs.Common.{arith, ap, sym, ◌∙◌, subst}
-use Rattle.run_states.specs.GroupWords.{has_arrived, has_ended, has_started}
-use Rattle.run_states.specs.GroupWords.{was_stopped}
-use Rattle.run_states.specs.Moves.{Move}
-use Rattle.run_states.specs.RunState.{RunState}
+use Rattle.run_states.specs.GroupLaw.{has_arrived, has_ended, has_started, was_stopped, Move}
+use Rattle.run_states.specs.Runs.{RunState}
 use Rattle.table_laws.specs.Names.{Names, attempt_of, name_in}
 use Rattle.table_laws.proofs.Agrees.{Agrees, IsInjective}
 use Rattle.table_laws.proofs.ListWalk.{nil_is_no_cons}

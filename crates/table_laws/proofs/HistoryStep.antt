@@ -5,15 +5,12 @@ use Rattle.std.proofs.Common.{arith, ap, sym, ◌∙◌, subst}
 use Rattle.std.proofs.lemmas.Bool.{true≢false}
 use Rattle.std.proofs.lemmas.List.{append_cancel_left}
 use Rattle.group_name.specs.Group.{Group}
-use Rattle.run_states.specs.GroupOf.{cancels_in_progress}
-use Rattle.run_states.specs.GroupWords.{has_arrived, has_started, holder_of, latest, same_holder}
-use Rattle.run_states.specs.Groups.{is_in, waits}
-use Rattle.run_states.specs.Moves.{Move}
-use Rattle.run_states.specs.RunState.{RunState}
+use Rattle.run_states.specs.Groups.{cancels_in_progress, is_in, waits}
+use Rattle.run_states.specs.GroupLaw.{has_arrived, has_started, holder_of, latest, same_holder, Move, KeepsLaw}
+use Rattle.run_states.specs.Runs.{RunState}
 use Rattle.settling_laws.proofs.ArrivalKeeps.{holder_tested}
 use Rattle.run_states.specs.TableState.{Step}
 use Rattle.table_laws.specs.GroupHistories.{moves_in}
-use Rattle.run_states.specs.GroupLaw.{KeepsLaw}
 use Rattle.table_laws.specs.Names.{Names, attempt_of, name_in, renamed}
 use Rattle.table_laws.proofs.Agrees.{Agrees}
 use Rattle.table_laws.proofs.GroupLawWalk.{Lawful}

@@ -5,14 +5,12 @@ use Rattle.std.proofs.lemmas.Bool.{and_parts, or_right, true≢false}
 use Rattle.wf_value.specs.declared.outcome.Outcome.{Outcome}
 use Rattle.group_name.specs.Group.{Group}
 use Rattle.run_plan.specs.declared.command.Command.{Command}
-use Rattle.run_states.specs.GroupWords.{has_arrived, has_ended, has_started, next_displaced, was_stopped}
+use Rattle.run_states.specs.GroupLaw.{has_arrived, has_ended, has_started, next_displaced, was_stopped, Move}
 use Rattle.run_states.specs.Groups.{pending_in, in_progress_in}
-use Rattle.run_states.specs.Histories.{after}
-use Rattle.run_states.specs.Moves.{Move}
-use Rattle.run_states.specs.Places.{leg_at, run_at}
+use Rattle.run_states.specs.Step.{after}
+use Rattle.run_states.specs.Runs.{leg_at, run_at, RunState}
 use Rattle.run_states.specs.Sound.{IsSound}
 use Rattle.run_states.specs.TableState.{TableState}
-use Rattle.run_states.specs.RunState.{RunState}
 use Rattle.run_states.specs.declared.phases.LegPhase.{LegPhase}
 use Rattle.run_states.specs.declared.phases.LegPhase.TheVariants as leg
 use Rattle.run_states.specs.declared.phases.RunPhase.{RunPhase}

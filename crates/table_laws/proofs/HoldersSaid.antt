@@ -4,11 +4,10 @@ use Rattle.std.proofs.Common.{ap, ap₂, sym, ◌∙◌, subst}
 use Rattle.std.proofs.lemmas.Bool.{and_parts}
 use Rattle.group_name.specs.Group.{Group}
 use Rattle.run_plan.specs.declared.command.Command.{Command}
-use Rattle.run_states.specs.GroupWords.{is_pending, is_in_progress, was_stopped}
+use Rattle.run_states.specs.GroupLaw.{is_pending, is_in_progress, was_stopped, Move}
 use Rattle.run_states.specs.Groups.{holds, is_in, is_pending_in, is_in_progress_in, is_stop_requested, waits}
-use Rattle.run_states.specs.Histories.{after}
-use Rattle.run_states.specs.Moves.{Move}
-use Rattle.run_states.specs.RunState.{RunState}
+use Rattle.run_states.specs.Step.{after}
+use Rattle.run_states.specs.Runs.{RunState}
 use Rattle.run_states.specs.Sound.{IsSound}
 use Rattle.run_states.specs.TableState.{TableState}
 use Rattle.table_laws.specs.GroupHistories.{all_moves}

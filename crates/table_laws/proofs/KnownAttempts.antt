@@ -12,14 +12,11 @@ use Rattle.run_plan.specs.declared.command.Command.TheVariants as command
 use Rattle.run_plan.specs.declared.reply.Reply.TheVariants as reply
 use Rattle.wf_value.specs.declared.code.Code.TheVariants.{LastCounter, NoRun, RunNotCompleted}
 use Rattle.wf_value.specs.declared.refusal.Refusal.TheVariants.{Turn}
-use Rattle.run_states.specs.NewRun.{again}
-use Rattle.run_states.specs.Places.{run_at, with_run}
-use Rattle.run_states.specs.RunState.{RunState}
+use Rattle.run_states.specs.Runs.{again, run_at, with_run, RunState}
 use Rattle.run_states.proofs.Changed.{at_another, at_changed}
 use Rattle.run_states.proofs.LegFacts.{attempt_at}
-use Rattle.run_states.specs.Histories.{after, replies}
+use Rattle.run_states.specs.Step.{after, replies, stepped, unchanged}
 use Rattle.run_states.specs.Step.{answer_of_attempt, answer_of_next, entered_again, has_completed, outcome, refused, rerun_answer, rerunning, step}
-use Rattle.run_states.specs.Step.{stepped, unchanged}
 use Rattle.run_states.specs.TableState.{TableState}
 use Rattle.run_table.proofs.BeginsAgain.{BeginsAgain, begins_again}
 use Rattle.table_laws.specs.ExactlyOnce.{IsRefused}

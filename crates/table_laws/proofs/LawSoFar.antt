@@ -7,11 +7,11 @@ use Rattle.std.proofs.lemmas.List.{append-nil}
 use Rattle.std.proofs.lemmas.Bool.{and_from, or_parts}
 use Rattle.wf_value.specs.declared.outcome.Outcome.{Outcome}
 use Rattle.group_name.specs.Group.{Group}
-use Rattle.run_states.specs.GroupWords.{arrival_of, has_arrived, has_ended, has_started, is_in_progress, latest}
+use Rattle.run_states.specs.GroupLaw.{arrival_of, has_arrived, has_ended, has_started, is_in_progress, latest}
 use Rattle.run_states.specs.Groups.{holds, is_in, may_start, waits}
-use Rattle.run_states.specs.Moves.{Move, Transition, and_then, without_moves}
-use Rattle.run_states.specs.RunState.{RunState}
-use Rattle.run_states.specs.StopMoves.{stop_holder}
+use Rattle.run_states.specs.GroupLaw.{Move, Transition, and_then, without_moves}
+use Rattle.run_states.specs.Runs.{RunState}
+use Rattle.run_states.specs.Stops.{stop_holder}
 use Rattle.settling_laws.proofs.HoldersFade.{holder_stop_fades}
 use Rattle.settling_laws.proofs.OneEach.{IsOneOf, free_to_start, one_that_holds, one_that_waits}
 use Rattle.table_laws.proofs.ChangesTold.{stop_tells}

@@ -11,20 +11,15 @@ use Rattle.run_plan.specs.declared.command.Command.TheVariants as command
 use Rattle.run_plan.specs.declared.reply.Reply.{Reply}
 use Rattle.wf_value.specs.declared.code.Code.TheVariants.{LeaseNotHeld, NoRunner}
 use Rattle.run_states.specs.Fitting.{first_fit}
-use Rattle.run_states.specs.Histories.{after}
-use Rattle.run_states.specs.TableState.{Step, TableState}
-use Rattle.run_states.specs.Places.{with_leg, with_run}
+use Rattle.run_states.specs.Step.{after, admission_answer, admitting, cancel_answer, cancelling, claim_answer, claimed, claiming, entered}
+use Rattle.run_states.specs.TableState.{Step, TableState, runner_named}
+use Rattle.run_states.specs.Runs.{with_leg, with_run, again, leased_leg, LegState, RunState}
 use Rattle.run_states.specs.declared.place.LegSite.{LegSite}
 use Rattle.run_states.specs.Settling.{settled}
 use Rattle.run_states.specs.Sound.{IsSound}
-use Rattle.run_states.specs.Step.{admission_answer, admitting, cancel_answer, cancelling, claim_answer, claimed, claiming, entered}
 use Rattle.run_states.specs.Step.{leasing, losing, lost, refused, released, report_answer, reporting, serving_nothing}
-use Rattle.run_states.specs.NewRun.{again, leased_leg}
 use Rattle.run_states.specs.Step.{entered_again, rerun, rerun_answer, rerunning, stepped, unchanged}
-use Rattle.run_states.specs.RunState.{LegState, RunState}
-use Rattle.run_states.specs.StopMoves.{with_ended}
-use Rattle.run_states.specs.Stops.{outcome_of_loss, stopped_run}
-use Rattle.run_states.specs.SequenceNumbers.{runner_named}
+use Rattle.run_states.specs.Stops.{with_ended, outcome_of_loss, stopped_run}
 use Rattle.run_table.proofs.AdmitKeeps.{same_reads}
 use Rattle.run_table.proofs.BeginsAgain.{begins_again}
 use Rattle.run_table.proofs.ClaimKeeps.{fitting_leg, had_changes, leasing_keeps, ready_has_no_lease}

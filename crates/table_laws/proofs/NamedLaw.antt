@@ -1,9 +1,7 @@
 -- Moves after others that satisfy the law, by the names of those.
 use Rattle.std.specs.Prelude.{◌≡◌, List, ◌++◌, map, Bool, true}
-use Rattle.run_states.specs.GroupWords.{has_arrived}
-use Rattle.run_states.specs.Moves.{Move}
+use Rattle.run_states.specs.GroupLaw.{has_arrived, Move, KeepsLaw}
 use Rattle.table_laws.proofs.Agrees.{Agrees, IsInjective}
-use Rattle.run_states.specs.GroupLaw.{KeepsLaw}
 use Rattle.table_laws.specs.Names.{renamed}
 use Rattle.table_laws.proofs.GroupLawWalk.{Lawful, law_goes_on}
 use Rattle.table_laws.proofs.ListWalk.{Walk}

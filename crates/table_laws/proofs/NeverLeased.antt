@@ -7,16 +7,13 @@ use Rattle.std.proofs.lemmas.List.{append-nil}
 use Rattle.std.proofs.lemmas.Option.{none-some}
 use Rattle.group_name.specs.Group.{Group}
 use Rattle.run_plan.specs.declared.command.Command.{Command}
-use Rattle.run_states.specs.GroupWords.{has_arrived, has_started, next_displaced}
-use Rattle.run_states.specs.Moves.{Move}
-use Rattle.run_states.specs.Places.{leg_at, run_at}
+use Rattle.run_states.specs.GroupLaw.{has_arrived, has_started, next_displaced, Move}
+use Rattle.run_states.specs.Runs.{leg_at, run_at, LegState, RunState}
 use Rattle.run_states.specs.declared.place.LegSite.{LegSite}
-use Rattle.run_states.specs.RunState.{LegState, RunState}
 use Rattle.run_states.proofs.JobKeeps.{leg_in, no_leg}
 use Rattle.run_states.proofs.LegReads.{had_at, had_from_leg, leg_from_had}
-use Rattle.run_states.specs.Histories.{after}
+use Rattle.run_states.specs.Step.{after, stepped}
 use Rattle.run_states.specs.Sound.{IsSound}
-use Rattle.run_states.specs.Step.{stepped}
 use Rattle.run_states.specs.TableState.{TableState}
 use Rattle.run_table.proofs.StepKeeps.{stepped_is_sound}
 use Rattle.table_laws.specs.GroupHistories.{IsOf, all_moves, first_moves, group_moves, moves_in, step_moves}

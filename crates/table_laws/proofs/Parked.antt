@@ -7,12 +7,9 @@ use Rattle.std.proofs.lemmas.Bool.{cases_eq, eq-eqb, false≢true, ne_eqb}
 use Rattle.std.proofs.lemmas.Option.{same_Some}
 use Rattle.run_states.specs.Groups.{holds, leg_holds, leg_waits, run_waits, waits}
 use Rattle.run_states.specs.Holders.{run_of}
-use Rattle.run_states.specs.Moves.{Move}
-use Rattle.run_states.specs.NewRun.{again}
-use Rattle.run_states.specs.Places.{leg_at, run_at, with_run}
+use Rattle.run_states.specs.GroupLaw.{Move}
+use Rattle.run_states.specs.Runs.{again, leg_at, run_at, with_run, LegState, JobState, RunState, is_live, outcome_of}
 use Rattle.run_states.specs.declared.place.LegSite.{LegSite}
-use Rattle.run_states.specs.RunState.{LegState, JobState, RunState}
-use Rattle.run_states.specs.StateWords.{is_live, outcome_of}
 use Rattle.run_states.specs.declared.phases.LegPhase.{LegPhase}
 use Rattle.run_states.specs.declared.phases.LegPhase.TheVariants as leg
 use Rattle.run_states.specs.declared.phases.RunPhase.TheVariants as run

@@ -7,7 +7,7 @@ use Rattle.std.proofs.lemmas.Bool.{cases_eq}
 use Rattle.std.proofs.lemmas.Option.{none-some, same_Some, slice_get_past}
 use Rattle.wf_value.specs.declared.code.Code.TheVariants.{LeaseNotHeld, NoRunner}
 use Rattle.wf_value.specs.declared.outcome.Outcome.{Outcome}
-use Rattle.definitions.specs.Admitted.{Admitted}
+use Rattle.definitions.specs.SmallText.{Admitted}
 use Rattle.run_plan.specs.declared.command.Attempt.{Attempt}
 use Rattle.run_plan.specs.declared.command.Claim.{Claim as Claimed}
 use Rattle.run_plan.specs.declared.command.Done.{Done as Reported}
@@ -16,24 +16,20 @@ use Rattle.run_plan.specs.declared.command.Command.TheVariants as command
 use Rattle.run_plan.specs.declared.last_command.ClaimReply.TheVariants as given
 use Rattle.run_plan.specs.declared.reply.Reply.{Reply}
 use Rattle.run_plan.specs.declared.reply.Reply.TheVariants as reply
-use Rattle.run_states.specs.FirstOf.{changed_at}
+use Rattle.run_states.specs.Runs.{changed_at, leg_at, run_at, with_job, with_leg, with_run, again, new_run, leased_leg}
 use Rattle.run_states.specs.Fitting.{first_fit, site_of_lease}
-use Rattle.run_states.specs.Histories.{after, replies}
-use Rattle.run_states.specs.Moves.{Move}
-use Rattle.run_states.specs.TableState.{Step, TableState}
-use Rattle.run_states.specs.Places.{leg_at, run_at, with_job, with_leg, with_run}
+use Rattle.run_states.specs.Step.{after, replies, empty, at_rest_after, entered, unchanged, admission_answer, admitting, admitted}
+use Rattle.run_states.specs.GroupLaw.{Move}
+use Rattle.run_states.specs.TableState.{Step, TableState, runner_named, with_runner}
 use Rattle.run_states.specs.declared.place.LegSite.{LegSite}
-use Rattle.run_states.specs.Rules.{leg_in_phase}
+use Rattle.run_states.specs.Settling.{leg_in_phase}
 use Rattle.run_states.specs.Sound.{IsSound}
-use Rattle.run_states.specs.Step.{empty, at_rest_after, entered, unchanged, admission_answer, admitting, admitted}
-use Rattle.run_states.specs.NewRun.{again, new_run, leased_leg}
-use Rattle.run_states.specs.StopMoves.{lease_end_moves, with_ended, stop_holder}
+use Rattle.run_states.specs.Stops.{lease_end_moves, with_ended, stop_holder}
 use Rattle.run_states.specs.Step.{claim_answer, claiming_runner, entered_again, rerun, rerun_answer, rerunning}
 use Rattle.run_states.specs.Step.{kept_lease_at, lease_at, leasing, serving_nothing, claiming, report_answer, reporting_runner}
 use Rattle.run_states.specs.Step.{reporting, reported, stepped, cancel_answer, cancelling, cancelled, losing, lost, refused, released}
-use Rattle.run_states.specs.RunState.{LegState, JobState, RunState}
+use Rattle.run_states.specs.Runs.{LegState, JobState, RunState}
 use Rattle.run_states.specs.Stops.{after_end, outcome_of_loss, stopped_run, stops_others, with_stopped_legs}
-use Rattle.run_states.specs.SequenceNumbers.{runner_named, with_runner}
 use Rattle.run_states.specs.declared.phases.LegPhase.TheVariants as leg
 use Rattle.run_table.proofs.AdmitKeeps.{no_lease, same_reads}
 use Rattle.run_table.proofs.BeginsAgain.{begins_again}

@@ -2,7 +2,7 @@
 use Rattle.std.proofs.Common.{◌≡◌, ℕ, ◌+◌, true, List, [], ◌∷◌, refl, sym, ◌∙◌, ap, subst}
 use Rattle.std.specs.Prelude.{Option, Some, None, option_map}
 use Rattle.std.proofs.lemmas.Option.{same_Some}
-use Rattle.definitions.specs.Admitted.{Admitted}
+use Rattle.definitions.specs.SmallText.{Admitted}
 use Rattle.run_plan.specs.declared.command.Command.{Command}
 use Rattle.run_plan.specs.declared.command.Command.TheVariants as command
 use Rattle.run_plan.specs.declared.last_command.LastCommand.{LastCommand}
@@ -10,8 +10,7 @@ use Rattle.run_plan.specs.declared.last_command.LastCommand.TheVariants as last
 use Rattle.run_plan.specs.declared.reply.Reply.{Reply}
 use Rattle.run_plan.specs.declared.reply.Reply.TheVariants as reply
 use Rattle.run_plan.proofs.SameCommands.{claims_decide, reports_decide}
-use Rattle.run_states.specs.Histories.{after, replies}
-use Rattle.run_states.specs.Step.{step, stepped}
+use Rattle.run_states.specs.Step.{after, replies, step, stepped}
 use Rattle.run_states.specs.TableState.{TableState}
 use Rattle.table_laws.specs.ExactlyOnce.{HasNumber, IsRefused}
 use Rattle.table_laws.specs.Remembered.{AreNoLaterNumbers, IsNoLaterNumber, KnowsDelivery, LastCommandIs, kept_command}

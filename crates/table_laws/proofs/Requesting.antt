@@ -4,9 +4,8 @@ use Rattle.std.specs.Option.{unwrap_or}
 use Rattle.std.proofs.Common.{ap, sym, ◌∙◌}
 use Rattle.std.proofs.lemmas.Bool.{or_parts}
 use Rattle.group_name.specs.Group.{Group}
-use Rattle.run_states.specs.GroupOf.{cancels_in_progress}
-use Rattle.run_states.specs.GroupWords.{arrival_of, has_arrived, same_holder}
-use Rattle.run_states.specs.Moves.{Move}
+use Rattle.run_states.specs.Groups.{cancels_in_progress}
+use Rattle.run_states.specs.GroupLaw.{arrival_of, has_arrived, same_holder, Move}
 use Rattle.settling_laws.proofs.ArrivalKeeps.{holder_tested}
 use Rattle.run_states.specs.TableState.{Step}
 use Rattle.table_laws.specs.GroupHistories.{requests_in, moves_in, step_moves}

@@ -9,14 +9,11 @@ use Rattle.std.proofs.lemmas.List.{append-nil}
 use Rattle.std.proofs.lemmas.Option.{same_Some}
 use Rattle.group_name.specs.Group.{Group, same_group}
 use Rattle.run_plan.specs.declared.command.Attempt.{Attempt}
-use Rattle.run_states.specs.GroupOf.{cancels_in_progress}
-use Rattle.run_states.specs.GroupWords.{has_arrived, has_ended, has_started, is_pending, is_in_progress, latest, next_displaced, same_holder}
-use Rattle.run_states.specs.Groups.{is_in, waits}
+use Rattle.run_states.specs.Groups.{cancels_in_progress, is_in, waits}
+use Rattle.run_states.specs.GroupLaw.{has_arrived, has_ended, has_started, is_pending, is_in_progress, latest, next_displaced, same_holder}
 use Rattle.run_states.specs.Holders.{run_of}
-use Rattle.run_states.specs.Moves.{Move, Transition}
-use Rattle.run_states.specs.NewRun.{again}
-use Rattle.run_states.specs.Places.{with_run}
-use Rattle.run_states.specs.RunState.{RunState}
+use Rattle.run_states.specs.GroupLaw.{Move, Transition}
+use Rattle.run_states.specs.Runs.{again, with_run, RunState}
 use Rattle.run_states.specs.Settling.{remaining_phases, settled, settling}
 use Rattle.run_states.proofs.RunFits.{RunsFit}
 use Rattle.settling_laws.proofs.ArrivalKeeps.{itself, one_or_another}

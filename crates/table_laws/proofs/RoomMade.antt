@@ -6,17 +6,14 @@ use Rattle.std.proofs.lemmas.Bool.{and_parts, not-true}
 use Rattle.std.proofs.lemmas.Option.{same_Some}
 use Rattle.wf_value.specs.declared.outcome.Outcome.TheVariants.{Cancelled}
 use Rattle.group_name.specs.Group.{Group}
-use Rattle.run_states.specs.Arrivals.{displaced, others_pending, stopped_where_requested}
-use Rattle.run_states.specs.GroupWords.{arrival_of}
-use Rattle.run_states.specs.GroupWords.{same_holder}
+use Rattle.run_states.specs.Settling.{displaced, others_pending, stopped_where_requested}
+use Rattle.run_states.specs.GroupLaw.{arrival_of, same_holder, Move, at_each, BeginsWith, cancelled_end}
 use Rattle.run_states.specs.Groups.{HasOneBeside, is_in, is_pending_in, in_progress_in, waits}
-use Rattle.run_states.specs.Moves.{Move, at_each}
-use Rattle.run_states.specs.RunState.{RunState}
-use Rattle.run_states.specs.StopMoves.{displace, stop_holder}
+use Rattle.run_states.specs.Runs.{RunState}
+use Rattle.run_states.specs.Stops.{displace, stop_holder}
 use Rattle.settling_laws.proofs.ArrivalKeeps.{itself}
 use Rattle.settling_laws.proofs.HoldersFade.{each_fades, holder_stop_fades}
 use Rattle.settling_laws.proofs.OneEach.{Fades, one_that_waits}
-use Rattle.run_states.specs.GroupLaw.{BeginsWith, cancelled_end}
 use Rattle.table_laws.proofs.ArrivalTold.{displace_tells, each_tells, tells_nothing, tells_then}
 use Rattle.table_laws.proofs.ChangesTold.{stop_tells}
 use Rattle.table_laws.proofs.GroupTruths.{not_both}

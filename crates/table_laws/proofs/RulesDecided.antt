@@ -6,22 +6,16 @@ use Rattle.std.proofs.Common.{ap, sym, ◌∙◌, subst}
 use Rattle.std.proofs.lemmas.Bool.{and_parts}
 use Rattle.wf_value.specs.declared.outcome.JobResult.TheVariants as result
 use Rattle.wf_value.specs.declared.outcome.Outcome.TheVariants as outcome
-use Rattle.needs_graph.specs.Conditions.{condition_value}
-use Rattle.needs_graph.specs.Results.{fails_job, was_cancelled}
+use Rattle.needs_graph.specs.Needs.{condition_value, fails_job, was_cancelled}
 use Rattle.group_name.specs.Group.{Group}
-use Rattle.run_states.specs.Arrivals.{arrived, displaced, others_pending, room_made, stopped_where_requested}
-use Rattle.run_states.specs.GroupOf.{cancels_in_progress, group_at}
-use Rattle.run_states.specs.Groups.{in_progress_in}
-use Rattle.run_states.specs.Moves.{Transition, at_each, without_moves}
-use Rattle.run_states.specs.Places.{run_at, job_at, with_run, with_job}
-use Rattle.run_states.specs.Rules.{rule_at}
-use Rattle.run_states.specs.Rules.{decided, leg_ends, may_run, result_at, with_leg_in}
-use Rattle.run_states.specs.RunState.{JobState, RunState}
-use Rattle.run_states.specs.Settling.{settled}
-use Rattle.run_states.specs.StateWords.{leg_has_ended, is_done, is_open, leg_in_phase, opened, run_in_phase, finished_as}
-use Rattle.run_states.specs.StopMoves.{displace, stop_holder}
-use Rattle.run_states.specs.Stops.{stopped, stopped_run}
-use Rattle.run_states.specs.Words.{ancestor_results, condition_of, is_stopping, needs_have_finished, planned_legs}
+use Rattle.run_states.specs.Settling.{arrived, displaced, others_pending, room_made, stopped_where_requested, rule_at, settled}
+use Rattle.run_states.specs.Groups.{cancels_in_progress, group_at, in_progress_in}
+use Rattle.run_states.specs.GroupLaw.{Transition, at_each, without_moves}
+use Rattle.run_states.specs.Runs.{run_at, job_at, with_run, with_job, JobState, RunState}
+use Rattle.run_states.specs.Settling.{decided, leg_ends, may_run, result_at, with_leg_in}
+use Rattle.run_states.specs.Runs.{leg_has_ended, is_done, is_open, leg_in_phase, opened, run_in_phase, finished_as}
+use Rattle.run_states.specs.Stops.{displace, stop_holder, stopped, stopped_run}
+use Rattle.run_states.specs.LegContext.{ancestor_results, condition_of, is_stopping, needs_have_finished, planned_legs}
 use Rattle.run_states.specs.declared.phases.JobPhase.{JobPhase}
 use Rattle.run_states.specs.declared.phases.JobPhase.TheVariants as job
 use Rattle.run_states.specs.declared.phases.LegPhase.TheVariants as leg

@@ -9,24 +9,17 @@ use Rattle.std.proofs.lemmas.Option.{none-some, same_Some}
 use Rattle.wf_value.specs.declared.outcome.JobResult.TheVariants as result
 use Rattle.wf_value.specs.declared.outcome.Outcome.TheVariants as outcome
 use Rattle.group_name.specs.Group.{Group}
-use Rattle.needs_graph.specs.Results.{conclusion_of}
-use Rattle.run_states.specs.Arrivals.{arrived, displaced, room_made, started}
-use Rattle.run_states.specs.GroupOf.{cancels_in_progress, group_at}
-use Rattle.run_states.specs.GroupWords.{holder_of, same_holder}
+use Rattle.needs_graph.specs.Needs.{conclusion_of}
+use Rattle.run_states.specs.Settling.{arrived, displaced, room_made, started, decided, may_run, result_at, rule_at, with_leg_in}
+use Rattle.run_states.specs.Groups.{cancels_in_progress, group_at}
+use Rattle.run_states.specs.GroupLaw.{holder_of, same_holder, Move, Transition, and_then, without_moves}
 use Rattle.run_states.specs.Groups.{HasOneBeside, HasOneEach, holds, is_in, leg_waits, may_start, run_waits, waits}
-use Rattle.run_states.specs.JobResults.{results_of}
-use Rattle.run_states.specs.Moves.{Move, Transition, and_then, without_moves}
-use Rattle.run_states.specs.Places.{job_at, leg_at, run_at, with_job, with_run}
+use Rattle.run_states.specs.Runs.{results_of, job_at, leg_at, run_at, with_job, with_run, LegState, JobState, RunState}
 use Rattle.run_states.specs.declared.place.LegSite.{LegSite}
-use Rattle.run_states.specs.Rules.{decided, may_run, result_at}
-use Rattle.run_states.specs.Rules.{rule_at}
-use Rattle.run_states.specs.Rules.{with_leg_in}
-use Rattle.run_states.specs.RunState.{LegState, JobState, RunState}
 use Rattle.run_states.specs.Settling.{first_site, first_rule, settled_within}
-use Rattle.run_states.specs.SoundRuns.{PhaseFits}
-use Rattle.run_states.specs.StateWords.{leg_has_ended, is_blocked, is_done, is_live, is_open, leg_in_phase, opened}
-use Rattle.run_states.specs.StateWords.{run_in_phase, finished_as}
-use Rattle.run_states.specs.Words.{is_stopping, planned_legs}
+use Rattle.run_states.specs.Sound.{PhaseFits}
+use Rattle.run_states.specs.Runs.{leg_has_ended, is_blocked, is_done, is_live, is_open, leg_in_phase, opened, run_in_phase, finished_as}
+use Rattle.run_states.specs.LegContext.{is_stopping, planned_legs}
 use Rattle.run_states.specs.declared.phases.LegPhase.{LegPhase}
 use Rattle.run_states.specs.declared.phases.LegPhase.TheVariants as leg
 use Rattle.run_states.specs.declared.phases.RunPhase.{RunPhase}

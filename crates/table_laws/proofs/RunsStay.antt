@@ -5,20 +5,15 @@ use Rattle.std.specs.Prelude.{Some, None, if◌then◌else◌}
 use Rattle.std.specs.Option.{option_map_or}
 use Rattle.wf_value.specs.declared.outcome.Outcome.{Outcome}
 use Rattle.wf_value.specs.declared.outcome.Outcome.TheVariants as outcome
-use Rattle.run_states.specs.Arrivals.{arrived, displaced, others_pending, room_made, stopped_where_requested}
-use Rattle.run_states.specs.FirstOf.{changed_at}
+use Rattle.run_states.specs.Settling.{arrived, displaced, others_pending, room_made, stopped_where_requested, decided, leg_in_phase}
+use Rattle.run_states.specs.Runs.{changed_at, with_job, with_leg, with_run, JobState, LegState, RunState}
 use Rattle.run_states.specs.Fitting.{site_of_lease}
-use Rattle.run_states.specs.GroupOf.{cancels_in_progress, group_at}
-use Rattle.run_states.specs.Groups.{in_progress_in}
-use Rattle.run_states.specs.Moves.{Transition, and_then, at_each, without_moves}
-use Rattle.run_states.specs.Places.{with_job, with_leg, with_run}
+use Rattle.run_states.specs.Groups.{cancels_in_progress, group_at, in_progress_in}
+use Rattle.run_states.specs.GroupLaw.{Transition, and_then, at_each, without_moves}
 use Rattle.run_states.specs.declared.place.LegSite.{LegSite}
-use Rattle.run_states.specs.Rules.{decided, leg_in_phase}
-use Rattle.run_states.specs.Rules.{result_at, rule_at, run_in_phase, finished_as}
-use Rattle.run_states.specs.Rules.{with_leg_in}
-use Rattle.run_states.specs.RunState.{JobState, LegState, RunState}
+use Rattle.run_states.specs.Settling.{result_at, rule_at, run_in_phase, finished_as, with_leg_in}
 use Rattle.run_states.specs.Settling.{first_site, first_rule, remaining_phases, settled, settled_within}
-use Rattle.run_states.specs.StopMoves.{with_ended, displace, stop_holder}
+use Rattle.run_states.specs.Stops.{with_ended, displace, stop_holder}
 use Rattle.run_states.specs.Stops.{after_end, stopped, stopped_in, stopped_run, stops_others, with_stop_requested, with_stopped_legs}
 use Rattle.run_states.specs.declared.phases.LegPhase.TheVariants as leg
 use Rattle.run_states.specs.declared.phases.RunPhase.{RunPhase}

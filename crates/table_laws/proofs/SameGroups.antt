@@ -4,11 +4,9 @@ use Rattle.std.specs.Prelude.{◌≡◌, ◌⊎◌, List, [], Bool, true, false,
 use Rattle.std.proofs.Common.{ap, inl, inr, sym, ◌∙◌, subst}
 use Rattle.std.proofs.lemmas.Bool.{true≢false}
 use Rattle.group_name.specs.Group.{Group}
-use Rattle.run_states.specs.GroupWords.{has_arrived}
+use Rattle.run_states.specs.GroupLaw.{has_arrived, Move}
 use Rattle.run_states.specs.Groups.{is_in}
-use Rattle.run_states.specs.Moves.{Move}
-use Rattle.run_states.specs.Places.{leg_at, run_at}
-use Rattle.run_states.specs.RunState.{LegState, RunState}
+use Rattle.run_states.specs.Runs.{leg_at, run_at, LegState, RunState}
 use Rattle.run_states.proofs.RunFits.{RunsFit}
 use Rattle.settling_laws.proofs.OneEach.{IsOneOf, one_that_waits}
 use Rattle.table_laws.proofs.GroupsKept.{Grows, is_in_kept}

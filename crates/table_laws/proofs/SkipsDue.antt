@@ -7,7 +7,7 @@ use Rattle.std.proofs.lemmas.Bool.{cases_eq}
 use Rattle.std.proofs.lemmas.Option.{same_Some}
 use Rattle.wf_value.specs.declared.code.Code.TheVariants.{LeaseNotHeld, NoRunner}
 use Rattle.wf_value.specs.declared.outcome.Outcome.{Outcome}
-use Rattle.definitions.specs.Admitted.{Admitted}
+use Rattle.definitions.specs.SmallText.{Admitted}
 use Rattle.run_plan.specs.PlanOf.{plan_of}
 use Rattle.run_plan.specs.declared.command.Attempt.{Attempt}
 use Rattle.run_plan.specs.declared.command.Claim.{Claim as Claimed}
@@ -16,21 +16,16 @@ use Rattle.run_plan.specs.declared.command.Command.{Command}
 use Rattle.run_plan.specs.declared.command.Command.TheVariants as command
 use Rattle.run_plan.specs.declared.reply.Reply.{Reply}
 use Rattle.run_states.specs.Fitting.{first_fit, site_of_lease}
-use Rattle.run_states.specs.Histories.{after}
-use Rattle.run_states.specs.TableState.{Step, TableState}
-use Rattle.run_states.specs.Places.{run_at, with_job, with_leg, with_run}
+use Rattle.run_states.specs.Step.{after, empty, entered, unchanged, admission_answer, admitting, admitted, claim_answer, leasing}
+use Rattle.run_states.specs.TableState.{Step, TableState, runner_named}
+use Rattle.run_states.specs.Runs.{run_at, with_job, with_leg, with_run, again, new_run, leased_leg, JobState, RunState}
 use Rattle.run_states.specs.declared.place.LegSite.{LegSite}
-use Rattle.run_states.specs.Rules.{leg_in_phase}
+use Rattle.run_states.specs.Settling.{leg_in_phase}
 use Rattle.run_states.specs.Sound.{IsSound}
-use Rattle.run_states.specs.Step.{empty, entered, unchanged, admission_answer, admitting, admitted, claim_answer, leasing}
-use Rattle.run_states.specs.NewRun.{again, new_run, leased_leg}
 use Rattle.run_states.specs.Step.{entered_again, rerun, rerun_answer, rerunning}
 use Rattle.run_states.specs.Step.{serving_nothing, claiming, claimed, report_answer, reporting, reported, stepped}
-use Rattle.run_states.specs.StopMoves.{with_ended}
+use Rattle.run_states.specs.Stops.{with_ended, after_end, outcome_of_loss, stopped_run, stops_others, with_stopped_legs}
 use Rattle.run_states.specs.Step.{cancel_answer, cancelling, cancelled, losing, lost, refused, released}
-use Rattle.run_states.specs.RunState.{JobState, RunState}
-use Rattle.run_states.specs.Stops.{after_end, outcome_of_loss, stopped_run, stops_others, with_stopped_legs}
-use Rattle.run_states.specs.SequenceNumbers.{runner_named}
 use Rattle.run_states.specs.declared.phases.LegPhase.TheVariants as leg
 use Rattle.run_table.proofs.AdmitKeeps.{all_fit, job_is_blocked}
 use Rattle.run_table.proofs.ClaimKeeps.{leasing_keeps}

@@ -8,7 +8,7 @@ use Rattle.std.proofs.lemmas.Bool.{cases_eq, false≢true, true≢false}
 use Rattle.std.proofs.lemmas.Option.{none-some, same_Some, slice_get-map}
 use Rattle.wf_value.specs.declared.outcome.Outcome.{Outcome}
 use Rattle.group_name.specs.Group.{Group}
-use Rattle.definitions.specs.Admitted.{Admitted}
+use Rattle.definitions.specs.SmallText.{Admitted}
 use Rattle.run_plan.specs.PlanOf.{plan_of}
 use Rattle.run_plan.specs.declared.command.Attempt.{Attempt}
 use Rattle.run_plan.specs.declared.command.Claim.{Claim as Claimed}
@@ -20,27 +20,21 @@ use Rattle.run_plan.specs.declared.planned.PlannedJob.{PlannedJob}
 use Rattle.run_plan.specs.declared.reply.Reply.{Reply}
 use Rattle.run_plan.specs.declared.reply.Reply.TheVariants as reply
 use Rattle.wf_value.specs.declared.code.Code.TheVariants.{LeaseNotHeld, NoRunner}
-use Rattle.run_states.specs.Fitting.{first_fit, has_lease, site_of_lease}
-use Rattle.run_states.specs.GroupOf.{cancels_in_progress}
-use Rattle.run_states.specs.Groups.{HasOneEach, holds, is_in, leg_holds}
-use Rattle.run_states.specs.Moves.{Move, Transition, without_moves}
-use Rattle.run_states.specs.TableState.{Step, RunnerState, TableState}
-use Rattle.run_states.specs.Parallel.{is_at_work}
-use Rattle.run_states.specs.Places.{job_at, leg_at, leg_sites, run_at, with_job, with_leg}
+use Rattle.run_states.specs.Fitting.{first_fit, has_lease, site_of_lease, is_at_work}
+use Rattle.run_states.specs.Groups.{cancels_in_progress, HasOneEach, holds, is_in, leg_holds}
+use Rattle.run_states.specs.GroupLaw.{Move, Transition, without_moves}
+use Rattle.run_states.specs.TableState.{Step, RunnerState, TableState, runner_named, with_runner}
+use Rattle.run_states.specs.Runs.{job_at, leg_at, leg_sites, run_at, with_job, with_leg, leg_has_ended, leg_in_phase, RunState}
 use Rattle.run_states.specs.declared.place.LegSite.{LegSite}
 use Rattle.run_states.specs.Settling.{remaining_phases, settled, settling}
 use Rattle.run_states.specs.Sound.{IsSound}
-use Rattle.run_states.specs.StateWords.{leg_has_ended, leg_in_phase}
-use Rattle.run_states.specs.Step.{admission_answer, admitted, admitting, at_rest_after, cancel_answer, cancelled}
-use Rattle.run_states.specs.NewRun.{blocked_job, leased_leg, new_run}
+use Rattle.run_states.specs.Step.{admission_answer, admitted, admitting, at_rest_after, cancel_answer, cancelled, serving_nothing, stepped}
+use Rattle.run_states.specs.Runs.{blocked_job, leased_leg, new_run}
 use Rattle.run_states.specs.Step.{cancelling, claim_answer, claimed, claiming, claiming_runner, entered, kept_lease_at, lease_at, leasing, losing, lost}
-use Rattle.run_states.specs.StopMoves.{lease_end_moves, with_ended, end_moves, legs_stop_moves, others_stop_moves, stop_holder}
+use Rattle.run_states.specs.Stops.{lease_end_moves, with_ended, end_moves, legs_stop_moves, others_stop_moves, stop_holder}
 use Rattle.run_states.specs.Step.{refused, released, report_answer, reported, reporting, reporting_runner, rerun, rerun_answer, rerunning}
-use Rattle.run_states.specs.Step.{serving_nothing, stepped}
 use Rattle.run_states.specs.Step.{unchanged}
-use Rattle.run_states.specs.RunState.{RunState}
 use Rattle.run_states.specs.Stops.{after_end, outcome_of_loss, stops_others, with_stopped_legs}
-use Rattle.run_states.specs.SequenceNumbers.{runner_named, with_runner}
 use Rattle.run_states.specs.declared.phases.LegPhase.{LegPhase}
 use Rattle.run_states.specs.declared.phases.LegPhase.TheVariants as leg
 use Rattle.run_table.proofs.AdmitKeeps.{all_fit}

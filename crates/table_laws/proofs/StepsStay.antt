@@ -6,23 +6,18 @@ use Rattle.std.specs.Option.{option_map_or}
 use Rattle.std.proofs.lemmas.List.{append-nil, map-append}
 use Rattle.wf_value.specs.declared.code.Code.TheVariants.{LeaseNotHeld, NoRunner}
 use Rattle.wf_value.specs.declared.outcome.Outcome.{Outcome}
-use Rattle.definitions.specs.Admitted.{Admitted}
+use Rattle.definitions.specs.SmallText.{Admitted}
 use Rattle.run_plan.specs.declared.command.Claim.{Claim as Claimed}
 use Rattle.run_plan.specs.declared.command.Command.{Command}
 use Rattle.run_plan.specs.declared.command.Command.TheVariants as command
 use Rattle.run_plan.specs.declared.reply.Reply.{Reply}
 use Rattle.run_states.specs.Fitting.{first_fit}
-use Rattle.run_states.specs.NewRun.{leased_leg, new_run}
-use Rattle.run_states.specs.Places.{with_leg}
-use Rattle.run_states.specs.RunState.{LegState, RunState}
+use Rattle.run_states.specs.Runs.{leased_leg, new_run, with_leg, LegState, RunState}
 use Rattle.run_states.specs.Settling.{settled}
-use Rattle.run_states.specs.StopMoves.{with_ended, stop_holder}
-use Rattle.run_states.specs.Stops.{outcome_of_loss}
+use Rattle.run_states.specs.Stops.{with_ended, stop_holder, outcome_of_loss}
 use Rattle.run_states.specs.Step.{admission_answer, admitting, cancel_answer, cancelling, claim_answer, claiming, entered}
-use Rattle.run_states.specs.Step.{leasing, losing, lost, refused, released, report_answer, reporting, serving_nothing}
-use Rattle.run_states.specs.Step.{stepped, unchanged}
-use Rattle.run_states.specs.TableState.{Step, TableState}
-use Rattle.run_states.specs.SequenceNumbers.{runner_named}
+use Rattle.run_states.specs.Step.{leasing, losing, lost, refused, released, report_answer, reporting, serving_nothing, stepped, unchanged}
+use Rattle.run_states.specs.TableState.{Step, TableState, runner_named}
 use Rattle.table_laws.proofs.RunsStay.{IsOfCourse, arrived_stays, ended_stays, leg_stays, settled_stays, stop_stays}
 use Rattle.run_states.specs.declared.holder.Holder.TheVariants.{Run}
 

@@ -8,17 +8,14 @@ use Rattle.std.proofs.lemmas.Option.{slice_get-map}
 use Rattle.std.proofs.lemmas.Bool.{and_from}
 use Rattle.wf_value.specs.declared.outcome.JobResult.{JobResult}
 use Rattle.wf_value.specs.declared.outcome.JobResult.TheVariants as result
-use Rattle.needs_graph.specs.Ancestors.{needs_at}
-use Rattle.definitions.specs.JobNeeds.{JobNeeds}
-use Rattle.needs_graph.specs.Needs.{places}
-use Rattle.needs_graph.specs.Needs.{is_listed, needs_of}
+use Rattle.needs_graph.specs.Needs.{needs_at, places, is_listed, needs_of}
+use Rattle.definitions.specs.Rising.{JobNeeds}
 use Rattle.run_plan.specs.PlanOf.{needs_listed, needs_of_planned, plan_of}
-use Rattle.run_states.specs.Places.{run_at, job_at, with_run}
-use Rattle.run_states.specs.Rules.{is_open, finished_as}
-use Rattle.run_states.specs.RunState.{JobState, RunState}
+use Rattle.run_states.specs.Runs.{run_at, job_at, with_run, JobState, RunState}
+use Rattle.run_states.specs.Settling.{is_open, finished_as}
 use Rattle.run_states.specs.Stops.{cancelled, stopped_in, stopped_run, stopped_where, with_stop_requested, with_stopped_legs}
 use Rattle.run_states.specs.inner.WithinRun.{may_run_in, needs_finished_in}
-use Rattle.run_states.specs.Words.{all_have_results, needs_have_finished, results_so_far}
+use Rattle.run_states.specs.LegContext.{all_have_results, needs_have_finished, results_so_far}
 use Rattle.run_states.specs.declared.phases.JobPhase.{JobPhase}
 use Rattle.run_states.specs.declared.phases.RunPhase.{RunPhase}
 use Rattle.run_states.specs.declared.phases.RunPhase.TheVariants as run

@@ -7,18 +7,13 @@ use Rattle.std.proofs.lemmas.Bool.{cases_eq, eqb-true}
 use Rattle.std.proofs.lemmas.Option.{slice_get-map}
 use Rattle.wf_value.specs.declared.outcome.JobResult.TheVariants as result
 use Rattle.wf_value.specs.declared.outcome.Outcome.TheVariants.{Cancelled}
-use Rattle.run_states.specs.FirstOf.{changed_at, placed}
-use Rattle.run_states.specs.GroupWords.{holder_of, same_holder}
-use Rattle.run_states.specs.Moves.{Move, Transition}
-use Rattle.run_states.specs.Places.{leg_site, run_at, with_run}
+use Rattle.run_states.specs.Runs.{changed_at, placed, leg_site, run_at, with_run, LegState, JobState, RunState, is_open, finished_as}
+use Rattle.run_states.specs.GroupLaw.{holder_of, same_holder, Move, Transition}
 use Rattle.run_states.specs.declared.place.LegSite.{LegSite}
-use Rattle.run_states.specs.RunConditions.{may_run_in}
-use Rattle.run_states.specs.RunState.{LegState, JobState, RunState}
-use Rattle.run_states.specs.StateWords.{is_open, finished_as}
-use Rattle.run_states.specs.StopMoves.{jobs_stop_moves, leg_stop_moves, legs_stop_moves, run_stop_moves, run_stop_moves_in, stop_holder}
-use Rattle.run_states.specs.StopMoves.{stop_request_moves, where_stop_moves}
+use Rattle.run_states.specs.LegContext.{may_run_in}
+use Rattle.run_states.specs.Stops.{jobs_stop_moves, leg_stop_moves, legs_stop_moves, run_stop_moves, run_stop_moves_in, stop_holder}
+use Rattle.run_states.specs.Stops.{stop_request_moves, where_stop_moves, with_stopped_legs}
 use Rattle.run_states.specs.Stops.{cancelled, stopped, stopped_in, stopped_phase, stopped_run, stopped_where, with_stop_requested}
-use Rattle.run_states.specs.Stops.{with_stopped_legs}
 use Rattle.run_states.specs.declared.phases.LegPhase.{LegPhase}
 use Rattle.run_states.specs.declared.phases.LegPhase.TheVariants as leg
 use Rattle.run_states.specs.declared.phases.RunPhase.{RunPhase}

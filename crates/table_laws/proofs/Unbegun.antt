@@ -10,22 +10,17 @@ use Rattle.std.proofs.lemmas.Option.{same_Some, slice_get-map}
 use Rattle.wf_value.specs.declared.outcome.JobResult.TheVariants as result
 use Rattle.wf_value.specs.declared.outcome.Outcome.{Outcome}
 use Rattle.wf_value.specs.declared.outcome.Outcome.TheVariants as outcome
-use Rattle.definitions.specs.Admitted.{Admitted}
-use Rattle.run_states.specs.FirstOf.{changed_at}
+use Rattle.definitions.specs.SmallText.{Admitted}
+use Rattle.run_states.specs.Runs.{changed_at, new_run, job_at, leg_at, run_at, with_job, with_leg, with_run, LegState, JobState, RunState}
 use Rattle.run_states.specs.Groups.{holds, leg_holds, leg_waits, run_waits, waits}
-use Rattle.run_states.specs.Moves.{Transition, at_each}
-use Rattle.run_states.specs.NewRun.{new_run}
-use Rattle.run_states.specs.Places.{job_at, leg_at, run_at, with_job, with_leg, with_run}
+use Rattle.run_states.specs.GroupLaw.{Transition, at_each}
 use Rattle.run_states.specs.declared.place.LegSite.{LegSite}
-use Rattle.run_states.specs.Rules.{result_at}
-use Rattle.run_states.specs.RunConditions.{may_run_in}
-use Rattle.run_states.specs.RunState.{LegState, JobState, RunState}
-use Rattle.run_states.specs.SoundRuns.{LeaseFits, PhaseFits}
-use Rattle.run_states.specs.StateWords.{is_live, is_open, new_leg, run_in_phase, finished_as}
-use Rattle.run_states.specs.StopMoves.{stop_holder}
+use Rattle.run_states.specs.Settling.{result_at}
+use Rattle.run_states.specs.LegContext.{may_run_in, planned_legs}
+use Rattle.run_states.specs.Sound.{LeaseFits, PhaseFits}
+use Rattle.run_states.specs.Runs.{is_live, is_open, new_leg, run_in_phase, finished_as}
+use Rattle.run_states.specs.Stops.{stop_holder, with_stopped_legs}
 use Rattle.run_states.specs.Stops.{cancelled, stopped, stopped_in, stopped_phase, stopped_run, stopped_where, with_stop_requested}
-use Rattle.run_states.specs.Stops.{with_stopped_legs}
-use Rattle.run_states.specs.Words.{planned_legs}
 use Rattle.run_states.specs.declared.phases.JobPhase.TheVariants as job
 use Rattle.run_states.specs.declared.phases.LegPhase.{LegPhase}
 use Rattle.run_states.specs.declared.phases.LegPhase.TheVariants as leg

@@ -6,9 +6,8 @@ use Rattle.std.specs.List.{list_any}
 use Rattle.std.specs.Option.{option_map_or}
 use Rattle.wf_value.specs.declared.outcome.Outcome.{Outcome}
 use Rattle.wf_value.specs.declared.outcome.Outcome.TheVariants.{Cancelled}
-use Rattle.run_states.specs.GroupState.{GroupState}
-use Rattle.run_states.specs.GroupWords.{has_arrived, holder_of, is_pending, is_in_progress, is_the, latest, same_holder, was_stopped}
-use Rattle.run_states.specs.Moves.{Move}
+use Rattle.run_states.specs.Groups.{GroupState}
+use Rattle.run_states.specs.GroupLaw.{has_arrived, holder_of, is_pending, is_in_progress, is_the, latest, same_holder, was_stopped, Move}
 use Rattle.run_states.specs.GroupLaw.{cancelled_end}
 use Rattle.run_states.specs.declared.holder.Holder.{Holder}
 

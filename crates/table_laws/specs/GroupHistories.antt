@@ -7,15 +7,12 @@ use Rattle.wf_value.specs.declared.outcome.JobResult.TheVariants as result
 use Rattle.wf_value.specs.declared.outcome.Outcome.TheVariants as outcome
 use Rattle.group_name.specs.Group.{Group}
 use Rattle.run_plan.specs.declared.command.Command.{Command}
-use Rattle.run_states.specs.GroupOf.{cancels_in_progress}
-use Rattle.run_states.specs.GroupWords.{arrival_of, has_arrived, holder_of, same_holder}
-use Rattle.run_states.specs.Groups.{group_state, is_in}
-use Rattle.run_states.specs.Moves.{Move}
-use Rattle.run_states.specs.Places.{leg_at, run_at}
+use Rattle.run_states.specs.Groups.{cancels_in_progress, group_state, is_in}
+use Rattle.run_states.specs.GroupLaw.{arrival_of, has_arrived, holder_of, same_holder, Move}
+use Rattle.run_states.specs.Runs.{leg_at, run_at, LegState, JobState, RunState}
 use Rattle.run_states.specs.declared.place.LegSite.{LegSite}
 use Rattle.run_states.specs.Step.{stepped}
 use Rattle.run_states.specs.TableState.{Step, TableState}
-use Rattle.run_states.specs.RunState.{LegState, JobState, RunState}
 use Rattle.run_states.specs.declared.phases.JobPhase.TheVariants as job
 use Rattle.run_states.specs.declared.phases.LegPhase.TheVariants as leg
 use Rattle.run_states.specs.declared.phases.RunPhase.TheVariants as run

@@ -2,10 +2,9 @@
 -- stop. GitHub Docs, "Control the concurrency of workflows and jobs".
 use Rattle.std.specs.Prelude.{◌≡◌, ◌&&◌, Bool, true, List}
 use Rattle.group_name.specs.Group.{Group}
-use Rattle.run_states.specs.GroupWords.{is_pending, is_in_progress, was_stopped}
+use Rattle.run_states.specs.GroupLaw.{is_pending, is_in_progress, was_stopped, Move}
 use Rattle.run_states.specs.Groups.{is_pending_in, is_in_progress_in, is_stop_requested}
-use Rattle.run_states.specs.Moves.{Move}
-use Rattle.run_states.specs.RunState.{RunState}
+use Rattle.run_states.specs.Runs.{RunState}
 use Rattle.table_laws.specs.Names.{Names, name_in}
 use Rattle.run_states.specs.declared.holder.Holder.{Holder}
 

@@ -3,9 +3,8 @@
 use Rattle.std.specs.Prelude.{◌≡◌, ℕ, List}
 use Rattle.std.specs.Option.{option_map_or}
 use Rattle.run_states.specs.Holders.{run_of}
-use Rattle.run_states.specs.Moves.{Move}
-use Rattle.run_states.specs.Places.{run_at}
-use Rattle.run_states.specs.RunState.{RunState}
+use Rattle.run_states.specs.GroupLaw.{Move}
+use Rattle.run_states.specs.Runs.{run_at, RunState}
 use Rattle.run_states.specs.declared.holder.Holder.{Holder}
 
 -- Any names such that two attempts, or two holders, have different names.

@@ -2,10 +2,9 @@
 -- jobs.<job_id>.needs, jobs.<job_id>.if.
 use Rattle.std.specs.Prelude.{◌≡◌, ℕ, List, true, false, Some}
 use Rattle.wf_value.specs.declared.outcome.JobResult.TheVariants as result
-use Rattle.needs_graph.specs.Conditions.{condition_value}
-use Rattle.run_states.specs.Places.{job_at}
-use Rattle.run_states.specs.RunState.{JobState, RunState}
-use Rattle.run_states.specs.Words.{ancestor_results, condition_of, needs_have_finished}
+use Rattle.needs_graph.specs.Needs.{condition_value}
+use Rattle.run_states.specs.Runs.{job_at, JobState, RunState}
+use Rattle.run_states.specs.LegContext.{ancestor_results, condition_of, needs_have_finished}
 use Rattle.run_states.specs.declared.phases.JobPhase.TheVariants as job
 
 -- all needs of a skipped job have finished, and its condition is false for the results of its ancestors in a run that is not stopping

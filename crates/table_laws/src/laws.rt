@@ -1,20 +1,17 @@
 //! Laws of steps, and of what commands lead to.
 
 ghost use Rattle.std.specs.Prelude.{◌≡◌, ℕ, List, Some};
-ghost use Rattle.definitions.specs.Admitted.{Admitted};
+ghost use Rattle.definitions.specs.SmallText.{Admitted};
 ghost use Rattle.run_plan.specs.declared.command.Attempt.{Attempt};
 ghost use Rattle.run_plan.specs.declared.command.Command.{Command};
 ghost use Rattle.run_plan.specs.declared.command.Command.TheVariants as command;
 ghost use Rattle.run_plan.specs.declared.reply.Reply.{Reply};
 ghost use Rattle.run_plan.specs.declared.reply.Reply.TheVariants as reply;
-ghost use Rattle.run_states.specs.Histories.{after, replies};
-ghost use Rattle.run_states.specs.Places.{leg_at};
+ghost use Rattle.run_states.specs.Step.{after, replies, empty, lease_at, step, stepped};
+ghost use Rattle.run_states.specs.Runs.{leg_at, LegState};
 ghost use Rattle.run_states.specs.declared.place.LegSite.{LegSite};
-ghost use Rattle.run_states.specs.Sound.{IsSound, ParallelIsBounded};
-ghost use Rattle.run_states.specs.SoundRuns.{NeedsComeFirst};
-ghost use Rattle.run_states.specs.Step.{empty, lease_at, step, stepped};
+ghost use Rattle.run_states.specs.Sound.{IsSound, ParallelIsBounded, NeedsComeFirst};
 ghost use Rattle.run_states.specs.TableState.{TableState};
-ghost use Rattle.run_states.specs.RunState.{LegState};
 ghost use Rattle.table_laws.specs.ExactlyOnce.{HasNumber, HaveNoLaterNumber, IsRefused};
 ghost use Rattle.table_laws.specs.Remembered.{AreNoLaterNumbers, AreNoOtherAttempts, IsNoLaterNumber, IsNoOtherAttempt, KnowsAttempt};
 ghost use Rattle.table_laws.specs.Remembered.{KnowsDelivery, LastCommandIs};

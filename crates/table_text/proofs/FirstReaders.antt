@@ -3,12 +3,11 @@ use Rattle.std.proofs.Common.{◌≡◌, inl, inr, ℕ, List, refl, sym, ◌∙�
 use Rattle.std.specs.Prelude.{◌==◌, Bool, true, Option, Some, None, if◌then◌else◌}
 use Rattle.std.proofs.lemmas.Bool.{eqb-true}
 use Rattle.std.proofs.lemmas.Option.{same_Some, none-some}
-use Rattle.definitions.specs.Admitted.{Admitted}
-use Rattle.definitions.specs.SmallText.{is_runner_byte}
+use Rattle.definitions.specs.SmallText.{Admitted, is_runner_byte}
 use Rattle.stored_tables.specs.Stored.{RunnerParts, TableParts}
 use Rattle.stored_tables.specs.declared.parts.LastParts.{LastParts}
 use Rattle.stored_tables.specs.declared.parts.StoredLease.{StoredLease}
-use Rattle.run_states.specs.RunState.{JobState, RunState}
+use Rattle.run_states.specs.Runs.{JobState, RunState}
 use Rattle.run_states.specs.declared.phases.RunPhase.{RunPhase}
 use Rattle.table_text.specs.declared.kept.StoredReply.{StoredReply}
 use Rattle.table_text.specs.declared.kept.StoredReply.TheVariants as replied

@@ -20,13 +20,11 @@ use Rattle.run_plan.specs.declared.planned.PlannedJob.{PlannedJob}
 use Rattle.run_plan.specs.declared.reply.Lease.{Lease}
 use Rattle.run_plan.proofs.FewJobs.{few_jobs}
 use Rattle.run_plan.proofs.FewLegs.{few_planned}
-use Rattle.run_states.specs.Places.{job_at, plan_at}
+use Rattle.run_states.specs.Runs.{job_at, plan_at, LegState, JobState, RunState}
 use Rattle.run_states.specs.Sound.{IsOfALeg, IsSound, KeptIsOfALeg}
 use Rattle.run_table.specs.Storable.{IsStorable}
 use Rattle.stored_tables.specs.Stored.{stored_runner, stored_table}
-use Rattle.run_states.specs.TableState.{RunnerState, TableState}
-use Rattle.run_states.specs.RunState.{LegState, JobState, RunState}
-use Rattle.run_states.specs.SequenceNumbers.{names_rise}
+use Rattle.run_states.specs.TableState.{RunnerState, TableState, names_rise}
 use Rattle.run_states.specs.declared.phases.LegPhase.{LegPhase}
 use Rattle.run_states.specs.declared.phases.LegPhase.TheVariants as leg_phase
 use Rattle.run_states.specs.declared.phases.RunPhase.{RunPhase}

@@ -11,7 +11,7 @@ use Rattle.run_plan.specs.declared.last_command.LastCommand.TheVariants as kept_
 use Rattle.run_table.specs.inner.RunnerSizes.{last_size, runner_size}
 use Rattle.run_states.specs.TableState.{RunnerState}
 use Rattle.stored_tables.specs.Stored.{RunnerParts, TableParts, stored_last, stored_runner}
-use Rattle.run_states.specs.RunState.{LegState, JobState, RunState}
+use Rattle.run_states.specs.Runs.{LegState, JobState, RunState}
 use Rattle.workflow_runs.specs.StoredSizes.{job_size, leg_counts, run_size}
 use Rattle.stored_tables.specs.declared.parts.LastParts.{LastParts}
 use Rattle.stored_tables.specs.declared.parts.LastParts.TheVariants as last

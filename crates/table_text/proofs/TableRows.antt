@@ -3,7 +3,7 @@ use Rattle.std.specs.Prelude.{◌≡◌, ℕ, List, [], ◌∷◌, ◌++◌, cod
 use Rattle.wf_value.specs.declared.outcome.JobResult.TheVariants as result
 use Rattle.wf_value.specs.declared.outcome.Outcome.TheVariants as outcome
 use Rattle.stored_tables.specs.Stored.{RunnerParts, TableParts}
-use Rattle.run_states.specs.RunState.{LegState, JobState, RunState}
+use Rattle.run_states.specs.Runs.{LegState, JobState, RunState}
 use Rattle.stored_tables.specs.declared.parts.LastParts.TheVariants as last
 use Rattle.stored_tables.specs.declared.parts.StoredLease.{StoredLease}
 use Rattle.run_states.specs.declared.phases.JobPhase.{JobPhase}

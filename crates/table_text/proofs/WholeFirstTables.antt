@@ -11,8 +11,7 @@ use Rattle.run_plan.specs.declared.last_command.ClaimReply.TheVariants as given
 use Rattle.run_plan.specs.declared.last_command.KeptLease.{KeptLease}
 use Rattle.run_plan.specs.declared.last_command.LastCommand.{LastCommand}
 use Rattle.run_plan.specs.declared.last_command.LastCommand.TheVariants as last
-use Rattle.run_states.specs.Places.{run_at}
-use Rattle.run_states.specs.RunState.{RunState}
+use Rattle.run_states.specs.Runs.{run_at, RunState}
 use Rattle.run_states.proofs.Found.{each_at}
 use Rattle.run_states.specs.Sound.{IsOfALeg, IsSound, KeptIsOfALeg}
 use Rattle.stored_tables.specs.Stored.{RunnerParts, TableParts}
@@ -28,7 +27,7 @@ use Rattle.table_text.specs.FirstLayout.{first_batch, first_last_command, first_
 use Rattle.definitions.specs.Format.{NoneBeginsAnother, OpensWith, ReadsPrefix}
 use Rattle.command_encodings.specs.inner.ReadingCommands.{batch_at}
 use Rattle.table_text.specs.inner.ReadingFirst.{first_table_at}
-use Rattle.table_text.specs.WholeFirstTables.{first_stored_last, first_stored_runner, first_stored_table, whole_first_table}
+use Rattle.table_text.specs.FirstLayout.{first_stored_last, first_stored_runner, first_stored_table, whole_first_table}
 use Rattle.command_encodings.proofs.CommandReaders.{batch_reads}
 use Rattle.table_text.proofs.FirstReaders.{first_table_reads}
 use Rattle.command_encodings.proofs.Readers.{none_begins}

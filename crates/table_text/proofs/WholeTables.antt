@@ -9,14 +9,13 @@ use Rattle.run_states.specs.TableState.{TableState}
 use Rattle.stored_tables.specs.declared.parts.LastParts.{LastParts}
 use Rattle.stored_tables.specs.declared.parts.LastParts.TheVariants as last
 use Rattle.stored_tables.specs.declared.parts.StoredSite.{StoredSite}
-use Rattle.run_states.specs.RunState.{RunState}
+use Rattle.run_states.specs.Runs.{RunState}
 use Rattle.run_states.proofs.Found.{each_at}
 use Rattle.stored_tables.proofs.StoredOnce.{same_runners}
 use Rattle.stored_tables.proofs.StoredParts.{HasPlace, HavePlaces, is_stored, stored_again}
 use Rattle.definitions.specs.Format.{NoneBeginsAnother, OpensWith, ReadsPrefix, present}
 use Rattle.table_text.specs.inner.ReadingTables.{table_at}
-use Rattle.table_text.specs.Tables.{last_command, place, runner, table}
-use Rattle.table_text.specs.WholeTables.{whole_table}
+use Rattle.table_text.specs.Tables.{last_command, place, runner, table, whole_table}
 use Rattle.command_encodings.proofs.Readers.{none_begins}
 use Rattle.table_text.proofs.TableReaders.{table_reads}
 

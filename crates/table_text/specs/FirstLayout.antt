@@ -1,8 +1,5 @@
--- The encoding of a table and of a batch in the first layout of an area, where it differs from the second layout. The
--- attempt of a run is not encoded and is 1. The place of a kept lease is not encoded. A lease follows the byte of each
--- kept reply, 0 for none. No command asks for an attempt. This layout is read, and nothing is written in it. This is
--- defined by this project.
-use Rattle.std.specs.Prelude.{◌≡◌, ℕ, List, [], Bool, true, false, Option, Some, None}
+-- The first layout of tables.
+use Rattle.std.specs.Prelude.{◌≡◌, ℕ, List, [], Bool, true, false, Option, Some, None, map}
 use Rattle.std.specs.List.{list_all}
 use Rattle.definitions.specs.Limits.{max_runs}
 use Rattle.definitions.specs.SmallText.{is_runner_byte}
@@ -10,12 +7,23 @@ use Rattle.run_plan.specs.declared.command.Command.{Command}
 use Rattle.run_plan.specs.declared.command.Command.TheVariants as requested
 use Rattle.stored_tables.specs.Stored.{RunnerParts, TableParts}
 use Rattle.stored_tables.specs.declared.parts.LastParts.{LastParts}
-use Rattle.run_states.specs.RunState.{RunState}
+use Rattle.run_states.specs.Runs.{RunState}
 use Rattle.table_text.specs.declared.kept.StoredReply.{StoredReply}
 use Rattle.table_text.specs.declared.kept.StoredReply.TheVariants as replied
 use Rattle.command_encodings.specs.Commands.{admit, batch, command, number, small_text}
 use Rattle.definitions.specs.Format.{Format, byte, counted, follow, only, pair, parts, row, word}
 use Rattle.table_text.specs.Tables.{flag_byte, is_last_lease, job, jobs_planned, last_parts, lease, names_rise, run_byte}
+use Rattle.run_plan.specs.declared.last_command.ClaimReply.TheVariants as given
+use Rattle.run_plan.specs.declared.last_command.LastCommand.{LastCommand}
+use Rattle.run_plan.specs.declared.last_command.LastCommand.TheVariants as last
+use Rattle.run_states.specs.Sound.{IsSound}
+use Rattle.run_states.specs.TableState.{RunnerState, TableState}
+use Rattle.stored_tables.specs.declared.parts.LastParts.TheVariants as stored
+
+-- ---- the encoding of a table and of a batch in the first layout of an area, where it differs from the second layout. The
+-- attempt of a run is not encoded and is 1. The place of a kept lease is not encoded. A lease follows the byte of each
+-- kept reply, 0 for none. No command asks for an attempt. This layout is read, and nothing is written in it. This is
+-- defined by this project.
 
 -- a value that is not encoded, since it is always this one
 abbrev pub unencoded : {A : Type 0} → A → Format A
@@ -77,3 +85,24 @@ is_in_first_layout (requested.Rerun requests) = false
 
 abbrev pub first_batch : Format (List Command)
 first_batch = only (λ commands. list_all is_in_first_layout commands) batch
+
+-- ---- the encoding of a whole table in the first layout: a sound table whose runs are all at their first attempt is encoded
+-- as what that layout stores of it. A kept lease is stored as its number alone: its place is the leg that has it. This
+-- is defined by this project.
+
+abbrev pub first_stored_last : LastCommand → LastParts
+first_stored_last (last.Claim claim given.Nothing) = stored.Claim claim None
+first_stored_last (last.Claim claim (given.Lease kept)) = stored.Claim claim (Some (record { lease = kept.lease_reply.lease; place = None }))
+first_stored_last (last.Done report) = stored.Done report
+
+abbrev pub first_stored_runner : RunnerState → RunnerParts
+first_stored_runner r = record { name = r.name; number = r.number; last = first_stored_last r.last; holds = r.holds }
+
+abbrev pub first_stored_table : TableState → TableParts
+first_stored_table t = record { last_lease = t.last_lease; runs = t.runs; runners = map first_stored_runner t.runners }
+
+abbrev pub whole_first_table : Format TableState
+whole_first_table = record {
+  Takes = λ t. IsSound t × first_table.Takes (first_stored_table t);
+  encoding = λ t. first_table.encoding (first_stored_table t);
+}

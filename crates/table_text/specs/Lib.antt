@@ -1,6 +1,4 @@
 pub mod FirstLayout
 pub mod TableLengths
 pub mod Tables
-pub mod WholeFirstTables
-pub mod WholeTables
 pub mod inner

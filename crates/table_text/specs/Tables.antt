@@ -1,17 +1,15 @@
--- The encoding of a table, field by field. The bytes of a run do not contain the number of its jobs: it follows from
--- the body's plan. This is defined by this project.
+-- The encoding of a table.
 use Rattle.std.specs.Prelude.{ℕ, List, [], ◌∷◌, length, ◌&&◌, Bool, true, false, not, nat_le, Option, Some, None}
 use Rattle.definitions.specs.Limits.{last_attempt, last_number, max_runs}
 use Rattle.definitions.specs.Rising.{rises_by}
 use Rattle.wf_value.specs.declared.outcome.JobResult.TheVariants as result
 use Rattle.wf_value.specs.declared.outcome.Outcome.TheVariants as outcome
-use Rattle.definitions.specs.Admitted.{Admitted}
+use Rattle.definitions.specs.SmallText.{Admitted, is_runner_byte}
 use Rattle.run_plan.specs.PlanOf.{plan_of}
-use Rattle.definitions.specs.SmallText.{is_runner_byte}
 use Rattle.run_plan.specs.declared.command.Command.{Command}
 use Rattle.run_plan.specs.declared.command.Command.TheVariants as requested
-use Rattle.stored_tables.specs.Stored.{RunnerParts, TableParts, is_new}
-use Rattle.run_states.specs.RunState.{LegState, JobState, RunState}
+use Rattle.stored_tables.specs.Stored.{RunnerParts, TableParts, is_new, stored_table}
+use Rattle.run_states.specs.Runs.{LegState, JobState, RunState}
 use Rattle.stored_tables.specs.declared.parts.LastParts.{LastParts}
 use Rattle.stored_tables.specs.declared.parts.LastParts.TheVariants as last
 use Rattle.stored_tables.specs.declared.parts.StoredLease.{StoredLease}
@@ -26,6 +24,11 @@ use Rattle.table_text.specs.declared.kept.StoredReply.{StoredReply}
 use Rattle.table_text.specs.declared.kept.StoredReply.TheVariants as replied
 use Rattle.command_encodings.specs.Commands.{admit, command, number, small_text}
 use Rattle.definitions.specs.Format.{Format, byte, counted, follow, only, pair, parts, present, row, word, word_bytes}
+use Rattle.run_states.specs.Sound.{IsSound}
+use Rattle.run_states.specs.TableState.{TableState}
+
+-- ---- the encoding of a table, field by field. The bytes of a run do not contain the number of its jobs: it follows from
+-- the body's plan. This is defined by this project.
 
 -- ---- leases
 
@@ -145,3 +148,8 @@ names_rise runners = rises_by (λ r. r.name) runners
 abbrev pub table : Format TableParts
 table = parts (λ (t : TableParts). (t.last_lease, (t.runs, t.runners)))
     (pair (only is_last_lease word) (pair (counted 0 max_runs run) (only names_rise (counted 0 4294967295 runner))))
+
+-- ---- the encoding of a whole table: a sound table is encoded as its stored parts.
+
+abbrev pub whole_table : Format TableState
+whole_table = record { Takes = λ t. IsSound t × table.Takes (stored_table t); encoding = λ t. table.encoding (stored_table t) }

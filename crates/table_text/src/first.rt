@@ -5,9 +5,8 @@ ghost use Rattle.std.specs.Prelude.{◌≡◌, IfErr, IfOk};
 ghost use Rattle.std.specs.List.{list_all};
 ghost use Rattle.std.specs.Option.{option_map};
 ghost use Rattle.wf_value.specs.Gives.{no_memory};
-ghost use Rattle.table_text.specs.FirstLayout.{first_batch, first_table, is_in_first_layout};
+ghost use Rattle.table_text.specs.FirstLayout.{first_batch, first_table, is_in_first_layout, whole_first_table};
 ghost use Rattle.definitions.specs.Format.{ReadsPrefix};
-ghost use Rattle.table_text.specs.WholeFirstTables.{whole_first_table};
 
 mod list;
 pub(crate) mod replies;

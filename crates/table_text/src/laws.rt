@@ -5,10 +5,8 @@ ghost use Rattle.definitions.specs.Format.{HasOneEncoding, NoneBeginsAnother};
 ghost use Rattle.command_encodings.specs.Lengths.{length_of};
 ghost use Rattle.stored_tables.specs.Stored.{TableParts};
 ghost use Rattle.table_text.specs.TableLengths.{table_length};
-ghost use Rattle.table_text.specs.Tables.{table};
-ghost use Rattle.table_text.specs.FirstLayout.{first_batch};
-ghost use Rattle.table_text.specs.WholeFirstTables.{whole_first_table};
-ghost use Rattle.table_text.specs.WholeTables.{whole_table};
+ghost use Rattle.table_text.specs.Tables.{table, whole_table};
+ghost use Rattle.table_text.specs.FirstLayout.{first_batch, whole_first_table};
 
 /// No encoding of a table is a proper prefix of another.
 pub fn no_table_begins_another()

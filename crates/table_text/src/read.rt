@@ -2,8 +2,7 @@ ghost use Rattle.std.specs.Prelude.{◌≡◌, IfErr, IfOk};
 ghost use Rattle.std.specs.Option.{option_map};
 ghost use Rattle.wf_value.specs.Gives.{no_memory};
 ghost use Rattle.definitions.specs.Format.{ReadsPrefix};
-ghost use Rattle.table_text.specs.Tables.{table};
-ghost use Rattle.table_text.specs.WholeTables.{whole_table};
+ghost use Rattle.table_text.specs.Tables.{table, whole_table};
 
 use crate::table_at::table_at;
 use command_encodings::DecodeError;

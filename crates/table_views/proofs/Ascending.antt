@@ -4,10 +4,8 @@ use Rattle.std.specs.List.{AllByRecursion, enumerate_from}
 use Rattle.std.proofs.Common.{arith, ap, sym, ◌∙◌}
 use Rattle.std.proofs.lemmas.Bool.{eq-eqb, true≢false}
 use Rattle.std.proofs.lemmas.Bool.Decides.{Decides-ltb}
-use Rattle.run_states.specs.FirstOf.{placed}
+use Rattle.run_states.specs.Runs.{placed, leg_sites, leg_sites_of_job, leg_sites_of_run, JobState, LegState, RunState}
 use Rattle.run_states.specs.Groups.{all_holders}
-use Rattle.run_states.specs.Places.{leg_sites, leg_sites_of_job, leg_sites_of_run}
-use Rattle.run_states.specs.RunState.{JobState, LegState, RunState}
 use Rattle.run_states.specs.declared.holder.Holder.{Holder}
 use Rattle.run_states.specs.declared.holder.Holder.TheVariants.{Run, Leg}
 use Rattle.run_states.specs.declared.place.LegSite.{LegSite}

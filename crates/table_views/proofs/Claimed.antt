@@ -3,9 +3,8 @@ use Rattle.std.proofs.Common.{◌≡◌, ◌∙◌, ℕ, zero, suc, ◌+◌, ◌
 use Rattle.std.specs.Prelude.{filter_map, Option}
 use Rattle.std.proofs.lemmas.List.Elements.{filter_map-append}
 use Rattle.group_name.specs.Group.{Group}
-use Rattle.run_states.specs.FirstOf.{placed}
+use Rattle.run_states.specs.Runs.{placed, RunState}
 use Rattle.run_states.specs.declared.place.LegSite.{LegSite}
-use Rattle.run_states.specs.RunState.{RunState}
 use Rattle.table_views.specs.inner.Claims.{claim_of}
 use Rattle.table_views.proofs.Placing.{one_place_more}
 use Rattle.run_states.specs.declared.holder.Holder.{Holder}

@@ -8,9 +8,8 @@ use Rattle.std.proofs.lemmas.Bool.Decides.{Decides-ltb}
 use Rattle.std.proofs.lemmas.List.{take-map}
 use Rattle.group_name.specs.Group.{Group, same_group}
 use Rattle.group_name.proofs.SameGroups.{own_group, same_is_one}
-use Rattle.run_states.specs.GroupOf.{group_at}
-use Rattle.run_states.specs.Groups.{all_holders, holds, is_in_progress_in, is_pending_in, waits}
-use Rattle.run_states.specs.RunState.{RunState}
+use Rattle.run_states.specs.Groups.{group_at, all_holders, holds, is_in_progress_in, is_pending_in, waits}
+use Rattle.run_states.specs.Runs.{RunState}
 use Rattle.run_states.specs.declared.holder.Holder.{Holder}
 use Rattle.run_states.specs.declared.holder.Holder.TheVariants.{Run, Leg}
 use Rattle.run_states.specs.declared.place.LegSite.{LegSite}

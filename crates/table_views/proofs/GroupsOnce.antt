@@ -6,7 +6,7 @@ use Rattle.std.specs.Option.{option_map_or}
 use Rattle.std.proofs.lemmas.Grind.{flat_map-append}
 use Rattle.group_name.specs.Group.{Group, same_group}
 use Rattle.run_states.specs.Groups.{all_holders}
-use Rattle.run_states.specs.RunState.{RunState}
+use Rattle.run_states.specs.Runs.{RunState}
 use Rattle.table_views.specs.inner.Claims.{claim_of, claims_of, line_once, said}
 use Rattle.table_views.specs.GroupLines.{distinct_groups, group_in_use}
 use Rattle.table_views.specs.declared.claim.GroupClaim.{GroupClaim}

@@ -6,10 +6,8 @@ use Rattle.std.specs.Prelude.{Bool, true, false, cond, Option, None, Some, optio
 use Rattle.std.specs.List.{AllByRecursion, filter, flat_map, list_any}
 use Rattle.std.specs.Option.{option_map_or}
 use Rattle.run_states.specs.inner.ActiveRuns.{has_ready_leg, offers_legs}
-use Rattle.run_states.specs.FirstOf.{placed}
+use Rattle.run_states.specs.Runs.{placed, leg_site, leg_sites_of_job, leg_sites_of_run, JobState, LegState, RunState}
 use Rattle.run_states.specs.Fitting.{is_ready}
-use Rattle.run_states.specs.Places.{leg_site, leg_sites_of_job, leg_sites_of_run}
-use Rattle.run_states.specs.RunState.{JobState, LegState, RunState}
 use Rattle.run_states.specs.declared.place.LegSite.{LegSite}
 use Rattle.table_views.specs.QueueLines.{is_ready_at}
 

@@ -1,8 +1,8 @@
 -- The lines of changes: entries of the history, and runs as they are after a commit. The format is defined by this project.
 use Rattle.std.specs.Prelude.{ℕ, List, ◌++◌, codes, decimal, length, map}
-use Rattle.wf_value.specs.Words.{outcome_word}
+use Rattle.wf_value.specs.ScalarValue.{outcome_word}
 use Rattle.wf_reader.specs.Event.{event_of}
-use Rattle.definitions.specs.Admitted.{Admitted}
+use Rattle.definitions.specs.SmallText.{Admitted}
 use Rattle.run_plan.specs.ReplyText.{reply_text}
 use Rattle.run_plan.specs.declared.command.Attempt.{Attempt}
 use Rattle.run_plan.specs.declared.command.Beat.{Beat}
@@ -12,7 +12,7 @@ use Rattle.run_plan.specs.declared.command.Command.TheVariants as command
 use Rattle.run_plan.specs.declared.command.Done.{Done}
 use Rattle.run_plan.specs.declared.reply.Reply.{Reply}
 use Rattle.run_plan.specs.declared.reply.Reply.TheVariants as reply
-use Rattle.run_states.specs.RunState.{RunState}
+use Rattle.run_states.specs.Runs.{RunState}
 use Rattle.table_views.specs.Members.{member}
 use Rattle.table_views.specs.RunRows.{state_members}
 use Rattle.table_views.specs.Texts.{line, listed, quoted}

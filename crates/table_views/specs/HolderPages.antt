@@ -5,7 +5,7 @@ use Rattle.std.specs.Option.{option_and_then}
 use Rattle.group_name.specs.Group.{Group}
 use Rattle.group_name.specs.KeyTexts.{name_bytes, repository_bytes}
 use Rattle.run_states.specs.Groups.{holds}
-use Rattle.run_states.specs.RunState.{RunState}
+use Rattle.run_states.specs.Runs.{RunState}
 use Rattle.run_states.specs.declared.holder.Holder.{Holder}
 use Rattle.run_states.specs.declared.holder.Holder.TheVariants.{Run, Leg}
 use Rattle.run_states.specs.TableState.{TableState}

@@ -4,10 +4,9 @@ use Rattle.std.specs.Prelude.{ℕ, List, [], ◌++◌, map, codes, flat_map, Boo
 use Rattle.std.specs.List.{filter}
 use Rattle.std.specs.Option.{option_map_or}
 use Rattle.run_states.specs.Fitting.{is_ready}
-use Rattle.run_states.specs.Places.{leg_at, leg_sites}
+use Rattle.run_states.specs.Runs.{leg_at, leg_sites, RunState}
 use Rattle.run_states.specs.declared.place.LegSite.{LegSite}
-use Rattle.run_states.specs.RunState.{RunState}
-use Rattle.run_states.specs.Words.{labels_at}
+use Rattle.run_states.specs.LegContext.{labels_at}
 use Rattle.run_states.specs.TableState.{TableState}
 use Rattle.table_views.specs.GroupLines.{group_lines}
 use Rattle.table_views.specs.Texts.{leg_members, leg_words, line, listed, quoted}

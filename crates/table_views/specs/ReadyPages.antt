@@ -2,8 +2,7 @@
 use Rattle.std.specs.Prelude.{◌≡◌, ℕ, ◌+◌, ◌-◌, List, [], codes, length, map, min, nat_lt, slice_get, Option, Some, None, if◌then◌else◌}
 use Rattle.std.specs.List.{filter}
 use Rattle.std.specs.Option.{option_map_or}
-use Rattle.run_states.specs.Places.{leg_sites_of_run}
-use Rattle.run_states.specs.RunState.{RunState}
+use Rattle.run_states.specs.Runs.{leg_sites_of_run, RunState}
 use Rattle.run_states.specs.declared.place.LegSite.{LegSite}
 use Rattle.run_states.specs.TableState.{TableState}
 use Rattle.table_views.specs.Members.{number_or_null}

@@ -2,8 +2,8 @@
 use Rattle.std.specs.Prelude.{ℕ, List, [], ◌++◌, Bool, ◌&&◌, codes, map, unwrap_or}
 use Rattle.std.specs.List.{count_by}
 use Rattle.std.specs.Str.{bytes_eq}
-use Rattle.wf_value.specs.Words.{outcome_word}
-use Rattle.run_states.specs.RunState.{RunState}
+use Rattle.wf_value.specs.ScalarValue.{outcome_word}
+use Rattle.run_states.specs.Runs.{RunState}
 use Rattle.run_states.specs.ViewText.{status_text}
 use Rattle.table_views.specs.MetricLines.{capped, head, value_line}
 use Rattle.table_views.specs.RunRows.{conclusion_at}

@@ -1,7 +1,7 @@
 -- A page of the runs of a table, newest first.
 use Rattle.std.specs.Prelude.{◌≡◌, ℕ, ◌+◌, ◌-◌, List, [], ◌∷◌, codes, length, min, nat_lt, Option, Some, None, if◌then◌else◌}
 use Rattle.std.specs.Option.{option_map_or}
-use Rattle.run_states.specs.RunState.{RunState}
+use Rattle.run_states.specs.Runs.{RunState}
 use Rattle.run_states.specs.TableState.{TableState}
 use Rattle.run_states.specs.ViewText.{seen_of}
 use Rattle.table_views.specs.Members.{number_or_null}

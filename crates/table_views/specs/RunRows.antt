@@ -1,15 +1,15 @@
 -- A run as a row of a list. The format is defined by this project. GitHub Docs, "REST API endpoints for workflow runs" and "Contexts reference".
 use Rattle.std.specs.Prelude.{ℕ, ◌-◌, List, [], ◌∷◌, ◌++◌, codes, decimal, Option, Some, None, option_map, option_and_then}
-use Rattle.wf_value.specs.Words.{outcome_word}
+use Rattle.wf_value.specs.ScalarValue.{outcome_word}
 use Rattle.wf_value.specs.declared.scalar.Scalar.{Scalar}
 use Rattle.wf_value.specs.declared.scalar.Scalar.TheVariants as scalar
-use Rattle.needs_graph.specs.Results.{conclusion_of}
+use Rattle.needs_graph.specs.Needs.{conclusion_of}
 use Rattle.wf_reader.specs.Contexts.{sent_value}
 use Rattle.wf_reader.specs.Event.{event_of}
-use Rattle.definitions.specs.Admitted.{Admitted}
+use Rattle.definitions.specs.SmallText.{Admitted}
 use Rattle.group_name.specs.KeyTexts.{name_bytes}
-use Rattle.run_states.specs.GroupOf.{group_at}
-use Rattle.run_states.specs.RunState.{JobState, RunState}
+use Rattle.run_states.specs.Groups.{group_at}
+use Rattle.run_states.specs.Runs.{JobState, RunState}
 use Rattle.run_states.specs.declared.holder.Holder.TheVariants.{Run}
 use Rattle.run_states.specs.declared.phases.RunPhase.{RunPhase}
 use Rattle.run_states.specs.declared.phases.RunPhase.TheVariants as phase

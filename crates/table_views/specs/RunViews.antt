@@ -6,13 +6,10 @@ use Rattle.group_name.specs.KeyTexts.{name_bytes}
 use Rattle.run_plan.specs.PlanOf.{plan_of}
 use Rattle.run_plan.specs.ReplyText.{combo_text}
 use Rattle.run_plan.specs.declared.planned.PlannedJob.{PlannedJob}
-use Rattle.run_states.specs.Fitting.{may_run_too}
-use Rattle.run_states.specs.GroupOf.{group_at}
-use Rattle.run_states.specs.Parallel.{is_at_work, most_at_work}
-use Rattle.run_states.specs.FirstOf.{placed}
-use Rattle.run_states.specs.Places.{leg_site}
-use Rattle.run_states.specs.RunState.{JobState, LegState, RunState}
-use Rattle.run_states.specs.Words.{combo_at}
+use Rattle.run_states.specs.Fitting.{may_run_too, is_at_work, most_at_work}
+use Rattle.run_states.specs.Groups.{group_at}
+use Rattle.run_states.specs.Runs.{placed, leg_site, JobState, LegState, RunState}
+use Rattle.run_states.specs.LegContext.{combo_at}
 use Rattle.run_states.specs.declared.holder.Holder.TheVariants.{Leg}
 use Rattle.run_states.specs.declared.phases.LegPhase.{LegPhase}
 use Rattle.run_states.specs.declared.phases.LegPhase.TheVariants as leg

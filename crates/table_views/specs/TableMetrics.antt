@@ -1,8 +1,7 @@
 -- The numbers of a table, in Prometheus' text format. Their names are defined by this project.
 use Rattle.std.specs.Prelude.{ℕ, List, ◌++◌, codes, flat_map, is_some, length, map}
 use Rattle.std.specs.List.{count_by, filter}
-use Rattle.run_states.specs.Places.{leg_sites}
-use Rattle.run_states.specs.RunState.{RunState}
+use Rattle.run_states.specs.Runs.{leg_sites, RunState}
 use Rattle.run_states.specs.declared.place.LegSite.{LegSite}
 use Rattle.run_states.specs.TableState.{RunnerState, TableState}
 use Rattle.table_views.specs.LegCounting.{leg_lines}

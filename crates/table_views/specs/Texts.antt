@@ -3,8 +3,8 @@ use Rattle.std.specs.Prelude.{ℕ, ◌+◌, List, [], ◌∷◌, ◌++◌, codes
 use Rattle.std.specs.List.{join_with_byte}
 pub use Rattle.json.specs.Print.{quoted}
 use Rattle.run_states.specs.declared.place.LegSite.{LegSite}
-use Rattle.run_states.specs.RunState.{RunState}
-use Rattle.run_states.specs.Words.{job_id}
+use Rattle.run_states.specs.Runs.{RunState}
+use Rattle.run_states.specs.LegContext.{job_id}
 
 -- a line, with its line feed
 abbrev pub line : List ℕ → List ℕ

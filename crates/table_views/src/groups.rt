@@ -7,7 +7,7 @@ ghost use Rattle.definitions.specs.Limits.{max_runs};
 ghost use Rattle.wf_value.specs.Gives.{ErrsOnlyByMemory, Gives};
 ghost use Rattle.run_states.specs.Groups.{all_holders, is_in_progress_in, is_pending_in};
 ghost use Rattle.run_states.specs.Holders.{run_of};
-ghost use Rattle.run_states.specs.Places.{leg_sites};
+ghost use Rattle.run_states.specs.Runs.{leg_sites};
 ghost use Rattle.table_views.specs.inner.Claims.{claim_of, claims_of, line_once, said};
 ghost use Rattle.table_views.specs.GroupLines.{group_in_use, group_line, group_lines, holder_text};
 ghost use Rattle.table_views.specs.inner.HolderOrder.{is_before, is_earlier, is_place_before};

@@ -3,7 +3,7 @@
 ghost use Rattle.std.specs.Prelude.{◌≡◌, ◌++◌, ◌<◌, IfOk, OnOk};
 ghost use Rattle.std.specs.List.{All};
 ghost use Rattle.definitions.specs.Limits.{max_runs};
-ghost use Rattle.run_states.specs.Places.{leg_sites, leg_sites_of_job, leg_sites_of_run};
+ghost use Rattle.run_states.specs.Runs.{leg_sites, leg_sites_of_job, leg_sites_of_run};
 ghost use Rattle.table_views.specs.inner.Placed.{IsWithin};
 
 use run_plan::Number;

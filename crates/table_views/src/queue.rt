@@ -4,7 +4,7 @@ ghost use Rattle.std.specs.Prelude.{◌≡◌, ◌<◌, ◌^◌, Ok, false, map,
 ghost use Rattle.std.specs.List.{All};
 ghost use Rattle.wf_value.specs.Gives.{Gives};
 ghost use Rattle.run_states.specs.Fitting.{is_ready};
-ghost use Rattle.run_states.specs.Places.{leg_sites};
+ghost use Rattle.run_states.specs.Runs.{leg_sites};
 ghost use Rattle.table_views.specs.inner.Placed.{IsWithin};
 ghost use Rattle.table_views.specs.QueueLines.{is_ready_at, labels_json, queue_lines, ready_line, ready_lines, ready_row};
 ghost use Rattle.table_views.specs.declared.form.Form.TheVariants as form;

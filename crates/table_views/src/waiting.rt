@@ -2,8 +2,7 @@
 
 ghost use Rattle.std.specs.Prelude.{◌≡◌, Ok, codes, option_map, string_bytes};
 ghost use Rattle.wf_value.specs.Gives.{Gives};
-ghost use Rattle.run_states.specs.Fitting.{may_run_too};
-ghost use Rattle.run_states.specs.Parallel.{most_at_work};
+ghost use Rattle.run_states.specs.Fitting.{may_run_too, most_at_work};
 ghost use Rattle.table_views.specs.RunViews.{for_group, leg_group, leg_waits_for, ready_waits_for, run_waits_for};
 
 use crate::members::{number_or_null, push_member, push_text_or_null};

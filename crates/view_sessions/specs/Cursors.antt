@@ -1,7 +1,7 @@
 -- The text of a cursor: two numbers with a hyphen between, each as its high and its low part below 10^9, with a dot between. The form is defined by
 -- this project.
 use Rattle.std.specs.Prelude.{ℕ, ◌+◌, ◌*◌, ◌/◌, ◌%◌, ◌^◌, List, ◌++◌, codes, decimal, length, nat_lt, slice_index, ◌==◌, ◌&&◌, Option, Some, None, option_map, option_and_then, if◌then◌else◌}
-use Rattle.definitions.specs.Decimal.{decimal_of}
+use Rattle.definitions.specs.SmallText.{decimal_of}
 use Rattle.view_sessions.specs.Values.{after_byte, before_byte}
 use Rattle.view_sessions.specs.declared.cursor.Cursor.{Cursor}
 

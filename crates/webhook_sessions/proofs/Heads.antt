@@ -12,7 +12,7 @@ use Rattle.httparse.specs.Spans.{RequestOverflows, IsRequestAt, IsRequestWithin,
 use Rattle.httparse.proofs.GrammarLemmas.{ReadsRequest-append}
 use Rattle.http1.specs.Fields.{values_named}
 use Rattle.wf_value.specs.declared.refusal.Refusal.{Refusal}
-use Rattle.definitions.specs.Decimal.{is_decimal}
+use Rattle.definitions.specs.SmallText.{is_decimal}
 use Rattle.act_sessions.specs.declared.request.Next.{Next}
 use Rattle.act_sessions.specs.declared.request.Next.TheVariants.{Waits, Whole}
 use Rattle.act_sessions.specs.declared.request.Progress.{Progress}

@@ -3,7 +3,7 @@ use Rattle.std.specs.Prelude.{ℕ, Bool, true, false, ◌||◌, ◌&&◌, ◌==�
 use Rattle.std.specs.Str.{bytes_eq}
 use Rattle.wf_value.specs.declared.refusal.Refusal.{Refusal}
 use Rattle.wf_reader.specs.Faults.{unless_faulty}
-use Rattle.definitions.specs.Admitted.{Admitted}
+use Rattle.definitions.specs.SmallText.{Admitted}
 use Rattle.run_plan.specs.PlanOf.{faults_of}
 use Rattle.run_plan.specs.declared.command.Command.TheVariants as command
 use Rattle.act_sessions.specs.declared.request.Demand.{Demand}

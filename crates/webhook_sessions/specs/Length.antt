@@ -2,7 +2,7 @@
 use Rattle.std.specs.Prelude.{ℕ, List, [], ◌∷◌, nat_le, codes, Option, Some, None, Result, Ok, Err, if◌then◌else◌}
 use Rattle.std.specs.Str.Parse.{digits_value}
 use Rattle.definitions.specs.Limits.{max_body}
-use Rattle.definitions.specs.Decimal.{is_decimal}
+use Rattle.definitions.specs.SmallText.{is_decimal}
 use Rattle.http1.specs.Fields.{Header, values_named}
 use Rattle.webhook_sessions.specs.declared.fault.Fault.{Fault}
 use Rattle.webhook_sessions.specs.declared.fault.Fault.TheVariants.{NoLength, BadLength, TooLong}

@@ -5,8 +5,7 @@ use Rattle.wf_value.specs.declared.refusal.Refusal.{Refusal}
 use Rattle.wf_value.specs.declared.refusal.Refusal.TheVariants.{Numbered}
 use Rattle.run_plan.specs.declared.reply.Reply.{Reply}
 use Rattle.run_plan.specs.declared.reply.Reply.TheVariants as reply
-use Rattle.act_sessions.specs.Exchange.{is_one_of}
-use Rattle.act_sessions.specs.Last.{ends_by}
+use Rattle.act_sessions.specs.Exchange.{is_one_of, ends_by}
 use Rattle.webhook_sessions.specs.declared.fault.Fault.{Fault}
 use Rattle.webhook_sessions.specs.declared.fault.Fault.TheVariants.{BadHead, NoLength, BadLength, TooLong, EventHeader, NoPath, WrongMethod, Unprocessable}
 

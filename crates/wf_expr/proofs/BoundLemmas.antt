@@ -4,8 +4,7 @@ use Rattle.std.specs.Prelude.{Option, None, Some, map, filter_map, find, unwrap_
 use Rattle.std.proofs.Math.Path.{fun_ext}
 use Rattle.std.specs.List.{cons_option, flat_map}
 use Rattle.std.specs.Option.{option_map_or, option_or}
-use Rattle.wf_value.specs.ScalarValue.{is_truthy, scalar_text}
-use Rattle.wf_value.specs.Words.{result_word}
+use Rattle.wf_value.specs.ScalarValue.{is_truthy, scalar_text, result_word}
 use Rattle.wf_value.specs.declared.outcome.JobResult.{JobResult}
 use Rattle.wf_value.specs.declared.outcome.JobResult.TheVariants as result
 use Rattle.wf_value.specs.declared.scalar.Scalar.{Scalar}
@@ -13,8 +12,7 @@ use Rattle.wf_value.specs.declared.scalar.Scalar.TheVariants.{Text}
 use Rattle.wf_expr.specs.Bound.{Results, NeedOf, HasResults, no_results, with_results, result_value}
 use Rattle.wf_expr.specs.Bound.{first_result, bound_piece_text, bound_text}
 use Rattle.wf_expr.specs.Bound.{need_of_operand, before_true, referenced_needs, bound_piece, bound_of}
-use Rattle.wf_expr.specs.ContextValue.{Values}
-use Rattle.wf_expr.specs.TemplateValue.{operand_value, first_true, last_or, piece_text, template_value}
+use Rattle.wf_expr.specs.TemplateValue.{Values, operand_value, first_true, last_or, piece_text, template_value}
 use Rattle.wf_expr.specs.declared.bound.BoundPiece.{BoundPiece}
 use Rattle.wf_expr.specs.declared.piece.Operand.{Operand}
 use Rattle.wf_expr.specs.declared.piece.Operand.TheVariants.{Quoted, Reference}

@@ -8,8 +8,7 @@ use Rattle.std.specs.Str.{bytes_eq}
 use Rattle.wf_value.specs.declared.outcome.JobResult.TheVariants.{Failure, Skipped}
 use Rattle.wf_value.specs.declared.scalar.Scalar.TheVariants.{Null, Truth, Text}
 use Rattle.wf_expr.specs.Bound.{NeedOf, Results, bound_of, bound_text, with_results}
-use Rattle.wf_expr.specs.ContextValue.{Values}
-use Rattle.wf_expr.specs.TemplateValue.{template_value}
+use Rattle.wf_expr.specs.TemplateValue.{Values, template_value}
 use Rattle.wf_expr.specs.declared.piece.Operand.{Operand}
 use Rattle.wf_expr.specs.declared.piece.Operand.TheVariants.{Quoted, Reference}
 use Rattle.wf_expr.specs.declared.piece.Piece.{Piece}

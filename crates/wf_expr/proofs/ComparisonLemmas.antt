@@ -8,8 +8,7 @@ use Rattle.std.proofs.lemmas.List.{map-append, length-map}
 use Rattle.wf_value.specs.ScalarValue.{scalar_text}
 use Rattle.wf_value.proofs.Bytes.{same_parts}
 use Rattle.wf_expr.specs.Comparison.{folded, IsRestAfter}
-use Rattle.wf_expr.specs.ContextValue.{Values}
-use Rattle.wf_expr.specs.TemplateValue.{piece_text, template_value}
+use Rattle.wf_expr.specs.TemplateValue.{Values, piece_text, template_value}
 use Rattle.wf_expr.specs.declared.case.Case.{Case}
 use Rattle.wf_expr.specs.declared.case.Case.TheVariants.{Sensitive, Insensitive}
 use Rattle.wf_expr.specs.declared.piece.Piece.{Piece}

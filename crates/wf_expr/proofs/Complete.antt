@@ -8,10 +8,9 @@ use Rattle.std.specs.Str.{encode_utf8_all}
 use Rattle.std.specs.Char.{encode_utf8}
 use Rattle.std.proofs.lemmas.Str.{encode_ascii, length-encode, len_utf8_bounds}
 use Rattle.std.proofs.lemmas.Bool.{cond-false, cond-true}
-use Rattle.wf_expr.specs.Letters.{begins_name, continues_name}
+use Rattle.wf_expr.specs.Grammar.{begins_name, continues_name, EncodesPlain, EncodesPieces, BeginsBraced}
 use Rattle.wf_expr.specs.Grammar.{AreSpaces, IsName, EncodesNames, doubled, EncodesOperand, EncodesMore, EncodesBraced, HoldsNoOpening}
-use Rattle.wf_expr.specs.Grammar.{EncodesPlain, EncodesPieces, BeginsBraced}
-use Rattle.wf_expr.specs.Reading.{taken, run, plain_piece}
+use Rattle.wf_expr.specs.Parsing.{taken, run, plain_piece}
 use Rattle.wf_expr.specs.declared.piece.Operand.{Operand}
 use Rattle.wf_expr.specs.declared.piece.Operand.TheVariants.{Quoted, Reference}
 use Rattle.wf_expr.specs.declared.piece.Piece.{Piece}

@@ -8,7 +8,7 @@ use Rattle.std.specs.List.{AllByRecursion}
 use Rattle.wf_value.specs.ScalarValue.{scalar_text}
 use Rattle.wf_value.specs.declared.scalar.Scalar.{Scalar}
 use Rattle.wf_value.specs.declared.scalar.Scalar.TheVariants.{Null, Truth, Whole, Text}
-use Rattle.wf_expr.specs.FlagValue.{SetsFlag}
+use Rattle.wf_expr.specs.TemplateValue.{SetsFlag}
 
 -- no byte is above that of `9`
 abbrev AreLow : List ℕ → Type 0

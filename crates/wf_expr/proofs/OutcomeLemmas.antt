@@ -6,9 +6,8 @@ use Rattle.wf_value.specs.declared.refusal.Refusal.{Refusal}
 use Rattle.wf_value.specs.Gives.{Gives, no_memory}
 use Rattle.wf_expr.specs.Faults.{wrong_expression, wrong_place}
 use Rattle.wf_expr.specs.Outcome.{IsOutcome, EncodesNone, EncodesElsewhere}
-use Rattle.wf_expr.specs.Parsing.{is_in_profile, is_allowed_in, judged, template_of}
+use Rattle.wf_expr.specs.Parsing.{is_in_profile, is_allowed_in, judged, template_of, needed, pieces_of}
 use Rattle.wf_expr.specs.Profile.{Encodes, IsInProfile, AllowedIn}
-use Rattle.wf_expr.specs.Reading.{needed, pieces_of}
 use Rattle.wf_expr.specs.declared.piece.Piece.{Piece}
 use Rattle.wf_expr.specs.declared.place.ContextSite.{ContextSite}
 use Rattle.wf_expr.proofs.ProfileLemmas.{Decides-profile, Decides-allowed_in}

@@ -8,12 +8,10 @@ use lib.Utf8.{encode}
 use Rattle.wf_value.specs.declared.refusal.Refusal.{Refusal}
 use Rattle.wf_value.specs.declared.scalar.Scalar.{Scalar}
 use Rattle.wf_value.specs.declared.scalar.Scalar.TheVariants.{Null, Truth, Text}
-use Rattle.wf_expr.specs.ContextValue.{Values}
+use Rattle.wf_expr.specs.TemplateValue.{Values, template_value}
 use Rattle.wf_expr.specs.Faults.{wrong_expression, wrong_place}
-use Rattle.wf_expr.specs.Letters.{begins_name, continues_name}
-use Rattle.wf_expr.specs.Parsing.{template_of}
-use Rattle.wf_expr.specs.Reading.{run}
-use Rattle.wf_expr.specs.TemplateValue.{template_value}
+use Rattle.wf_expr.specs.Grammar.{begins_name, continues_name}
+use Rattle.wf_expr.specs.Parsing.{template_of, run}
 use Rattle.wf_expr.specs.declared.place.ContextSite.{ContextSite}
 use Rattle.wf_expr.specs.declared.place.ContextSite.TheVariants.{Workflow, Job}
 use Rattle.wf_expr.specs.declared.piece.Operand.TheVariants.{Quoted, Reference}

@@ -6,10 +6,9 @@ use Rattle.std.specs.Prelude.{Some, None, codes}
 use Rattle.std.specs.Str.{encode_utf8_all}
 use Rattle.std.specs.Char.{encode_utf8}
 use Rattle.std.proofs.lemmas.Str.{encode_ascii}
-use Rattle.wf_expr.specs.Letters.{begins_name, continues_name}
+use Rattle.wf_expr.specs.Grammar.{begins_name, continues_name, EncodesPlain, EncodesPieces, BeginsBraced}
 use Rattle.wf_expr.specs.Grammar.{AreSpaces, EncodesDotted, EncodesNames, doubled, EncodesJoined, EncodesMore, EncodesBraced, HoldsNoOpening}
-use Rattle.wf_expr.specs.Grammar.{EncodesPlain, EncodesPieces, BeginsBraced}
-use Rattle.wf_expr.specs.Reading.{taken, ended, run, plain_piece, after_name, after_operand, in_text}
+use Rattle.wf_expr.specs.Parsing.{taken, ended, run, plain_piece, after_name, after_operand, in_text}
 use Rattle.wf_expr.specs.declared.piece.Operand.{Operand}
 use Rattle.wf_expr.specs.declared.piece.Operand.TheVariants.{Quoted, Reference}
 use Rattle.wf_expr.specs.declared.piece.Piece.{Piece}

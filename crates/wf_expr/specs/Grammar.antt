@@ -1,13 +1,25 @@
--- The grammar of templates. GitHub Docs, "Evaluate expressions in workflows and actions" (About expressions, Literals, Operators)
--- and "Contexts reference" (About contexts).
-use Rattle.std.specs.Prelude.{◌≡◌, ◌≢◌, ℕ, List, [], ◌∷◌, ◌++◌, IsTrue, ◌==◌, if◌then◌else◌}
+-- The grammar of templates, and the letters of its names.
+use Rattle.std.specs.Prelude.{ℕ, Bool, ◌||◌, ◌==◌, ◌≡◌, ◌≢◌, List, [], ◌∷◌, ◌++◌, IsTrue, if◌then◌else◌}
+use Rattle.std.specs.Char.{is_ascii_alphabetic, is_ascii_digit}
 use Rattle.std.specs.List.{AllByRecursion}
 use Rattle.std.specs.Str.{encode_utf8_all}
-use Rattle.wf_expr.specs.Letters.{begins_name, continues_name}
 use Rattle.wf_expr.specs.declared.piece.Operand.{Operand}
 use Rattle.wf_expr.specs.declared.piece.Operand.TheVariants.{Quoted, Reference}
 use Rattle.wf_expr.specs.declared.piece.Piece.{Piece}
 use Rattle.wf_expr.specs.declared.piece.Piece.TheVariants.{Plain, Braced}
+
+-- ---- the characters of names.
+
+-- a letter A to Z, a to z, or `_`
+unfoldable pub begins_name : ℕ → Bool
+begins_name c = is_ascii_alphabetic c || c == 95
+
+-- one of those, a digit, or `-`
+unfoldable pub continues_name : ℕ → Bool
+continues_name c = begins_name c || is_ascii_digit c || c == 45
+
+-- ---- the grammar of templates. GitHub Docs, "Evaluate expressions in workflows and actions" (About expressions, Literals, Operators)
+-- and "Contexts reference" (About contexts).
 
 -- any number of U+0020
 abbrev pub AreSpaces : List ℕ → Type 0

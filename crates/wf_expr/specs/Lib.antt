@@ -1,14 +1,10 @@
 pub mod Bound
 pub mod Comparison
-pub mod ContextValue
 pub mod Faults
-pub mod FlagValue
 pub mod Grammar
-pub mod Letters
 pub mod Outcome
 pub mod Parsing
 pub mod Profile
 pub mod Properties
-pub mod Reading
 pub mod ScalarView
 pub mod TemplateValue

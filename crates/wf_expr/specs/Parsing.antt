@@ -1,19 +1,100 @@
--- Parsing a text for a place, as a function that computes what `Outcome` defines.
-use Rattle.std.specs.Prelude.{ℕ, List, [], ◌∷◌, Bool, true, false, ◌&&◌, ◌||◌, Option, Some, None, Result, Ok, Err}
-use Rattle.std.specs.Prelude.{codes, sum_by, nat_le, if◌then◌else◌}
-use Rattle.std.specs.List.{list_all}
-use Rattle.std.specs.Str.{bytes_eq}
-use Rattle.definitions.specs.Limits.{max_references}
+-- The template of a text, as a function: reading it from left to right, and judging what was read.
+use Rattle.std.specs.Prelude.{ℕ, List, [], ◌∷◌, ◌++◌, Option, Some, None, Result, Ok, Err, ◌==◌, if◌then◌else◌, codes, Bool, true, false}
+use Rattle.std.specs.Prelude.{◌&&◌, ◌||◌, sum_by, nat_le}
+use Rattle.std.specs.Char.{encode_utf8}
+use Rattle.std.specs.Option.{option_and_then}
+use Rattle.std.specs.Str.{chars, bytes_eq}
 use Rattle.wf_value.specs.declared.refusal.Refusal.{Refusal}
 use Rattle.wf_expr.specs.Faults.{wrong_expression, wrong_place}
-use Rattle.wf_expr.specs.Profile.{reference_count}
-use Rattle.wf_expr.specs.Reading.{pieces_of}
-use Rattle.wf_expr.specs.declared.place.ContextSite.{ContextSite}
-use Rattle.wf_expr.specs.declared.place.ContextSite.TheVariants.{Workflow, Job}
+use Rattle.wf_expr.specs.Grammar.{begins_name, continues_name}
 use Rattle.wf_expr.specs.declared.piece.Operand.{Operand}
 use Rattle.wf_expr.specs.declared.piece.Operand.TheVariants.{Quoted, Reference}
 use Rattle.wf_expr.specs.declared.piece.Piece.{Piece}
 use Rattle.wf_expr.specs.declared.piece.Piece.TheVariants.{Plain, Braced}
+use Rattle.wf_expr.specs.declared.reader.Reader.{Reader}
+use Rattle.wf_expr.specs.declared.reader.Reader.TheVariants.{InText, AfterDollar, AfterBrace, OperandDue, InName, AfterName, NameDue}
+use Rattle.wf_expr.specs.declared.reader.Reader.TheVariants.{InQuoted, AfterQuote, AfterOperand, AfterBar, AfterClose}
+use Rattle.std.specs.List.{list_all}
+use Rattle.definitions.specs.Limits.{max_references}
+use Rattle.wf_expr.specs.Profile.{reference_count}
+use Rattle.wf_expr.specs.declared.place.ContextSite.{ContextSite}
+use Rattle.wf_expr.specs.declared.place.ContextSite.TheVariants.{Workflow, Job}
+
+-- ---- parsing a template from left to right, one character at a time. The module `Grammar` defines which texts it accepts.
+
+-- 17 for None
+abbrev pub needed : {X : Type 0} → Option X → Result X Refusal
+needed None = Err wrong_expression
+needed (Some x) = Ok x
+
+-- plain text is a piece unless it is empty
+abbrev pub plain_piece : List ℕ → List Piece
+plain_piece [] = []
+plain_piece (b ∷ bs) = Plain (b ∷ bs) ∷ []
+
+abbrev pub in_text : List Piece → List ℕ → ℕ → Reader
+in_text ps word c = if c == 36 then AfterDollar ps word else InText ps (word ++ encode_utf8 c)
+
+abbrev pub after_operand : List Piece → List Operand → ℕ → Option Reader
+after_operand ps os c =
+    if c == 32 then Some (AfterOperand ps os)
+    else if c == 124 then Some (AfterBar ps os)
+    else if c == 125 then Some (AfterClose ps os)
+    else None
+
+abbrev pub after_name : List Piece → List Operand → List (List ℕ) → ℕ → Option Reader
+after_name ps os names c =
+    if c == 32 then Some (AfterName ps os names)
+    else if c == 46 then Some (NameDue ps os names)
+    else after_operand ps (os ++ Reference names ∷ []) c
+
+-- the state after one more character, or None if no template continues this way
+abbrev pub taken : Reader → ℕ → Option Reader
+taken (InText ps word) c = Some (in_text ps word c)
+taken (AfterDollar ps word) c = if c == 123 then Some (AfterBrace ps word) else Some (in_text ps (word ++ codes "$") c)
+taken (AfterBrace ps word) c = if c == 123 then Some (OperandDue (ps ++ plain_piece word) []) else Some (in_text ps (word ++ codes "${") c)
+taken (OperandDue ps os) c =
+    if c == 32 then Some (OperandDue ps os)
+    else if c == 39 then Some (InQuoted ps os [])
+    else if begins_name c then Some (InName ps os [] (encode_utf8 c))
+    else None
+taken (NameDue ps os names) c =
+    if c == 32 then Some (NameDue ps os names) else if begins_name c then Some (InName ps os names (encode_utf8 c)) else None
+taken (InName ps os names word) c =
+    if continues_name c then Some (InName ps os names (word ++ encode_utf8 c)) else after_name ps os (names ++ word ∷ []) c
+taken (AfterName ps os names) c = after_name ps os names c
+taken (InQuoted ps os word) c = if c == 39 then Some (AfterQuote ps os word) else Some (InQuoted ps os (word ++ encode_utf8 c))
+taken (AfterQuote ps os word) c =
+    if c == 39 then Some (InQuoted ps os (word ++ encode_utf8 c)) else after_operand ps (os ++ Quoted word ∷ []) c
+taken (AfterOperand ps os) c = after_operand ps os c
+taken (AfterBar ps os) c = if c == 124 then Some (OperandDue ps os) else None
+taken (AfterClose ps os) c = if c == 125 then Some (InText (ps ++ Braced os ∷ []) []) else None
+
+-- the pieces at the end of the text, or None inside a `${{`
+abbrev pub ended : Reader → Option (List Piece)
+ended (InText ps word) = Some (ps ++ plain_piece word)
+ended (AfterDollar ps word) = Some (ps ++ plain_piece (word ++ codes "$"))
+ended (AfterBrace ps word) = Some (ps ++ plain_piece (word ++ codes "${"))
+ended (OperandDue ps os) = None
+ended (NameDue ps os names) = None
+ended (InName ps os names word) = None
+ended (AfterName ps os names) = None
+ended (InQuoted ps os word) = None
+ended (AfterQuote ps os word) = None
+ended (AfterOperand ps os) = None
+ended (AfterBar ps os) = None
+ended (AfterClose ps os) = None
+
+-- the pieces after all of these characters
+unfoldable pub run : Reader → List ℕ → Option (List Piece)
+run r [] = ended r
+run r (c ∷ cs) = option_and_then (λ next. run next cs) (taken r c)
+
+-- the pieces of a text
+abbrev pub pieces_of : List ℕ → Option (List Piece)
+pieces_of text = run (InText [] []) (chars text)
+
+-- ---- parsing a text for a place, as a function that computes what `Outcome` defines.
 
 -- whether the list is the one name `result`
 abbrev pub is_result : List (List ℕ) → Bool

@@ -3,9 +3,7 @@ ghost use Rattle.wf_value.specs.Gives.{Gives};
 ghost use Rattle.wf_value.specs.ScalarValue.{scalar_text};
 ghost use Rattle.wf_value.specs.declared.scalar.Scalar.{Scalar};
 ghost use Rattle.wf_expr.specs.Bound.{HasResults, Results, referenced_needs, bound_of, bound_piece, bound_text, need_of_operand, needs_of_piece};
-ghost use Rattle.wf_expr.specs.ContextValue.{Values};
-ghost use Rattle.wf_expr.specs.FlagValue.{SetsFlag};
-ghost use Rattle.wf_expr.specs.TemplateValue.{template_value};
+ghost use Rattle.wf_expr.specs.TemplateValue.{Values, SetsFlag, template_value};
 
 use crate::bound::{BoundPiece, BoundTemplate};
 use crate::context::Context;

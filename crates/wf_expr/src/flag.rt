@@ -1,5 +1,5 @@
 ghost use Rattle.std.specs.Prelude.{◌≡◌};
-ghost use Rattle.wf_expr.specs.FlagValue.{sets_flag};
+ghost use Rattle.wf_expr.specs.TemplateValue.{sets_flag};
 ghost use Rattle.wf_expr.specs.ScalarView.{shown};
 
 use crate::scalar_view::ScalarView;

@@ -1,8 +1,8 @@
 ghost use Rattle.std.specs.Prelude.{◌≡◌};
-ghost use Rattle.wf_expr.specs.Letters.{begins_name, continues_name};
+ghost use Rattle.wf_expr.specs.Grammar.{begins_name, continues_name};
 
 /// Whether the character may start a name: a letter A to Z, a to z, or `_`.
-#[tactic(auto, unfolding(crate::specs::Letters::begins_name))]
+#[tactic(auto, unfolding(crate::specs::Grammar::begins_name))]
 pub(crate) fn begins_name(c: char) -> bool
     ensures { result ≡ begins_name c }
 {
@@ -10,7 +10,7 @@ pub(crate) fn begins_name(c: char) -> bool
 }
 
 /// Whether the character may continue a name: one that may start it, a digit or `-`.
-#[tactic(auto, unfolding(crate::specs::Letters::continues_name))]
+#[tactic(auto, unfolding(crate::specs::Grammar::continues_name))]
 pub(crate) fn continues_name(c: char) -> bool
     ensures { result ≡ continues_name c }
 {

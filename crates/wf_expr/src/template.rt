@@ -5,11 +5,10 @@ ghost use Rattle.wf_value.specs.ScalarValue.{scalar_text};
 ghost use Rattle.wf_expr.specs.declared.piece.Piece.{Piece};
 ghost use Rattle.wf_value.specs.declared.refusal.Refusal.{Refusal};
 ghost use Rattle.wf_expr.specs.Faults.{wrong_expression, wrong_place};
-ghost use Rattle.wf_expr.specs.FlagValue.{SetsFlag, sets_flag};
+ghost use Rattle.wf_expr.specs.TemplateValue.{SetsFlag, sets_flag, template_value};
 ghost use Rattle.wf_expr.specs.Outcome.{IsOutcome, EncodesNone, EncodesElsewhere};
 ghost use Rattle.wf_expr.specs.Parsing.{template_of};
 ghost use Rattle.wf_expr.specs.Profile.{Encodes, AllowedIn};
-ghost use Rattle.wf_expr.specs.TemplateValue.{template_value};
 
 use crate::case::Case;
 use crate::comparison::are_text;

@@ -10,7 +10,7 @@ use Rattle.serde_json.specs.Read.{read}
 use Rattle.wf_value.specs.declared.code.Code.TheVariants.{NotJson, TooLong}
 use Rattle.wf_value.specs.declared.refusal.Refusal.{Refusal}
 use Rattle.wf_value.specs.declared.refusal.Refusal.TheVariants.{Numbered}
-use Rattle.wf_reader.specs.Body.{json_of, body_faults, body_value}
+use Rattle.wf_reader.specs.Workflow.{json_of, body_faults, body_value}
 use Rattle.wf_reader.specs.Faults.{unless_faulty, fault, required}
 
 not_utf8 : (bytes : List ℕ) (b : Bool) → is_utf8 bytes ≡ b → ¬ IsUtf8 bytes → is_utf8 bytes ≡ false

@@ -8,7 +8,7 @@ use Rattle.serde_json.specs.View.{members_view}
 use Rattle.serde_json.proofs.Views.{Entry}
 use Rattle.wf_value.specs.declared.code.Code.TheVariants.{WrongKind}
 use Rattle.wf_value.specs.declared.refusal.Refusal.{Refusal}
-use Rattle.wf_reader.specs.Concurrency.{has_its_names, is_concurrency, is_concurrency_name}
+use Rattle.wf_reader.specs.Job.{has_its_names, is_concurrency, is_concurrency_name}
 use Rattle.wf_reader.specs.Faults.{fault_unless, unless_faulty}
 use Rattle.wf_reader.proofs.Contents.{named, members_here}
 

@@ -4,8 +4,8 @@ use Rattle.wf_value.specs.declared.code.Code.TheVariants.{Expression, PlaceOfCon
 use Rattle.wf_expr.specs.declared.piece.Operand.TheVariants.{Reference}
 use Rattle.wf_expr.specs.declared.piece.Piece.TheVariants.{Plain, Braced}
 use Rattle.wf_expr.specs.declared.place.ContextSite.TheVariants as place
-use Rattle.wf_reader.specs.Body.{body_value}
-use Rattle.wf_reader.specs.Concurrency.{concurrency_faults, concurrency_in}
+use Rattle.wf_reader.specs.Workflow.{body_value}
+use Rattle.wf_reader.specs.Job.{concurrency_faults, concurrency_in}
 use Rattle.wf_reader.proofs.OnLiterals.{FaultsAre, wf_reader_on_literals}
 use Rattle.wf_reader.specs.declared.flag.Flag.TheVariants.{Fixed, Template}
 

@@ -3,9 +3,8 @@ use Rattle.std.proofs.Common.{◌≡◌, [], ◌∷◌, ◌++◌, false, codes, 
 use Rattle.serde_json.specs.Data.{null, boolean, string}
 use Rattle.wf_value.specs.declared.code.Code.TheVariants.{WrongKind}
 use Rattle.wf_value.specs.declared.condition.Condition.TheVariants.{Success, Failure, Always, Cancelled, NotCancelled, Never}
-use Rattle.wf_reader.specs.Body.{body_value}
-use Rattle.wf_reader.specs.Condition.{condition_in, condition_where}
-use Rattle.wf_reader.specs.Needs.{needs_faults, needs_in}
+use Rattle.wf_reader.specs.Workflow.{body_value}
+use Rattle.wf_reader.specs.Job.{condition_in, condition_where, needs_faults, needs_in}
 use Rattle.wf_reader.proofs.OnLiterals.{FaultsAre, ValuesAre, wf_reader_on_literals}
 
 -- ---- the `if` of a job

@@ -12,8 +12,8 @@ use Rattle.std.proofs.lemmas.Slice.Eq.{bytes_eq-Decides}
 use Rattle.serde_json.specs.Data.{string}
 use Rattle.wf_value.specs.declared.condition.Condition.{Condition}
 use Rattle.wf_expr.specs.Grammar.{AreSpaces}
-use Rattle.wf_reader.specs.Condition.{before, suffix, condition_in, condition_of_word, condition_words, inside_braces}
-use Rattle.wf_reader.specs.Condition.{is_space, past_spaces, trimmed, up_to_spaces, word_in}
+use Rattle.wf_reader.specs.Job.{before, suffix, condition_in, condition_of_word, condition_words, inside_braces}
+use Rattle.wf_reader.specs.Job.{is_space, past_spaces, trimmed, up_to_spaces, word_in}
 use Rattle.wf_reader.specs.ConditionTexts.{IsSpaced, IsBraced, EncodesCondition, in_braces}
 
 -- ---- spaces

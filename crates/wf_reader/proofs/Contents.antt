@@ -12,7 +12,7 @@ use Rattle.serde_json.proofs.Views.{Entry}
 use Rattle.wf_value.specs.declared.refusal.Refusal.{Refusal}
 use Rattle.wf_reader.specs.Faults.{unless_faulty}
 use Rattle.wf_reader.specs.Json.{item_list, member_list, members_of}
-use Rattle.wf_reader.specs.MatrixValues.{items_of, each_of_some}
+use Rattle.wf_reader.specs.Strategy.{items_of, each_of_some}
 
 -- ---- the contents of a value
 

@@ -7,15 +7,15 @@ use Rattle.serde_json.specs.Find.{as_array, as_object}
 use Rattle.serde_json.specs.View.{view, items_view, members_view}
 use Rattle.serde_json.specs.declared.value.Value.{Value}
 use Rattle.serde_json.proofs.Views.{Entry}
-use Rattle.wf_value.specs.Matrix.{NamedValues, MatrixLists}
+use Rattle.wf_value.specs.ScalarValue.{NamedValues, MatrixLists}
 use Rattle.wf_value.specs.declared.code.Code.TheVariants.{MatrixValue, StrategyMember}
 use Rattle.wf_value.specs.declared.refusal.Refusal.{Refusal}
 use Rattle.wf_value.specs.declared.scalar.Scalar.{Scalar}
 use Rattle.wf_reader.specs.Faults.{unless_faulty, fault}
 use Rattle.wf_reader.specs.Json.{members_of}
-use Rattle.wf_reader.specs.MatrixOf.{is_variable_name, variables_in, variable_faults, variable_of, inside_matrix, matrix_faults}
-use Rattle.wf_reader.specs.MatrixValues.{items_of, value_faults, scalar_or_null, each_of_some}
-use Rattle.wf_reader.specs.Patterns.{pair_faults, pair_of, pattern_faults, pattern_of, patterns_faults, patterns_of}
+use Rattle.wf_reader.specs.Strategy.{is_variable_name, variables_in, variable_faults, variable_of, inside_matrix, matrix_faults}
+use Rattle.wf_reader.specs.Strategy.{items_of, value_faults, scalar_or_null, each_of_some}
+use Rattle.wf_reader.specs.Strategy.{pair_faults, pair_of, pattern_faults, pattern_of, patterns_faults, patterns_of}
 use Rattle.wf_reader.proofs.Entries.{kept}
 use Rattle.wf_reader.proofs.Contents.{named, items_here, members_here, whole_list, filled_list, made_with, where_so, is_of-Some}
 use Rattle.wf_reader.proofs.InOrder.{same_value}

@@ -7,7 +7,7 @@ use Rattle.serde_json.specs.View.{view, items_view}
 use Rattle.serde_json.specs.declared.value.Value.{Value}
 use Rattle.wf_reader.specs.Faults.{unless_faulty, text_faults}
 use Rattle.wf_reader.specs.Json.{text_in}
-use Rattle.wf_reader.specs.Needs.{needs_faults, needs_in}
+use Rattle.wf_reader.specs.Job.{needs_faults, needs_in}
 use Rattle.wf_reader.proofs.Contents.{array-of, item_list-view, whole_list}
 
 -- the ids of a list are those of the value of `needs`

@@ -7,8 +7,8 @@ use Rattle.wf_value.specs.declared.code.Code.{Code}
 use Rattle.wf_value.specs.declared.refusal.Refusal.{Refusal}
 use Rattle.wf_value.specs.declared.refusal.Refusal.TheVariants.{Numbered}
 use lib.Utf8.{encode}
-use Rattle.wf_expr.specs.Letters.{begins_name, continues_name}
-use Rattle.wf_expr.specs.Reading.{run}
+use Rattle.wf_expr.specs.Grammar.{begins_name, continues_name}
+use Rattle.wf_expr.specs.Parsing.{run}
 
 -- with `unfolding wf_reader_on_literals`, `refl` computes the event of a body
 unfoldable pub wf_reader_on_literals : ⊤

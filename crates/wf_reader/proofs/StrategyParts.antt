@@ -7,7 +7,7 @@ use Rattle.serde_json.specs.Data.{Data}
 use Rattle.serde_json.specs.Find.{as_object}
 use Rattle.serde_json.specs.View.{members_view}
 use Rattle.serde_json.proofs.Views.{Entry}
-use Rattle.wf_value.specs.Matrix.{MatrixLists}
+use Rattle.wf_value.specs.ScalarValue.{MatrixLists}
 use Rattle.wf_value.specs.declared.code.Code.TheVariants.{StrategyMember}
 use Rattle.wf_value.specs.declared.refusal.Refusal.{Refusal}
 use Rattle.wf_value.specs.declared.refusal.Refusal.TheVariants.{Numbered}

@@ -3,7 +3,7 @@ use Rattle.std.proofs.Common.{◌≡◌, [], ◌∷◌, ◌++◌, true, codes, S
 use Rattle.std.specs.Prelude.{pos, negsuc}
 use Rattle.wf_value.specs.declared.code.Code.TheVariants.{MatrixValue, EmptyList, StrategyMember}
 use Rattle.wf_value.specs.declared.scalar.Scalar.TheVariants.{Null, Truth, Whole, Text}
-use Rattle.wf_reader.specs.Body.{body_value}
+use Rattle.wf_reader.specs.Workflow.{body_value}
 use Rattle.wf_reader.specs.Strategy.{strategy_faults, strategy_of}
 use Rattle.wf_reader.proofs.OnLiterals.{FaultsAre, wf_reader_on_literals}
 

@@ -5,7 +5,7 @@
 use Rattle.std.specs.Prelude.{◌≡◌, ◌⊎◌, ℕ, List, ◌++◌, codes, Some}
 use Rattle.wf_value.specs.declared.condition.Condition.{Condition}
 use Rattle.wf_expr.specs.Grammar.{AreSpaces}
-use Rattle.wf_reader.specs.Condition.{condition_of_word}
+use Rattle.wf_reader.specs.Job.{condition_of_word}
 
 -- a text with optional spaces around it
 pub record IsSpaced (text inner : List ℕ) : Type 0 where

@@ -6,11 +6,10 @@ use Rattle.serde_json.specs.Data.{Data}
 use Rattle.serde_json.specs.Find.{get}
 use Rattle.wf_value.specs.declared.code.Code.TheVariants.{WrongKind}
 use Rattle.wf_value.specs.declared.refusal.Refusal.{Refusal}
-use Rattle.wf_reader.specs.Body.{body_value, body_faults}
+use Rattle.wf_reader.specs.Workflow.{body_value, body_faults, workflow_faults_in, workflow_in}
 use Rattle.wf_reader.specs.Contexts.{contexts_in}
 use Rattle.wf_reader.specs.Faults.{fault_unless, faults_in_order, optional, required, object_faults, faults_within}
 use Rattle.wf_reader.specs.Json.{text_in, member_at}
-use Rattle.wf_reader.specs.Workflow.{workflow_faults_in, workflow_in}
 use Rattle.wf_reader.specs.declared.event.Event.{Event}
 
 abbrev pub filled_text_faults : Data → List Refusal

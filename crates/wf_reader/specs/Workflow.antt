@@ -1,18 +1,36 @@
--- A workflow: its faults and its value. Other members are ignored. GitHub Docs, "Workflow syntax for GitHub Actions": name,
--- concurrency, jobs.
-use Rattle.std.specs.Prelude.{ℕ, List, [], ◌∷◌, ◌++◌, map, length, nat_le, codes, flat_map, option_map}
-use Rattle.definitions.specs.Limits.{max_jobs}
-use Rattle.serde_json.specs.Data.{Data}
-use Rattle.serde_json.specs.Find.{get}
-use Rattle.wf_value.specs.declared.code.Code.TheVariants.{WrongKind, TooManyJobs}
+-- A workflow, and the body that it comes in.
+use Rattle.std.specs.Prelude.{ℕ, List, length, nat_le, if◌then◌else◌, Option, None, unwrap_or, [], ◌∷◌, ◌++◌, map, codes, flat_map}
+use Rattle.std.specs.Prelude.{option_map}
+use Rattle.std.specs.Str.{is_utf8}
+use Rattle.definitions.specs.Limits.{max_body, max_jobs}
+use Rattle.serde_json.specs.Data.{Data, null}
+use Rattle.serde_json.specs.Read.{read}
+use Rattle.wf_value.specs.declared.code.Code.TheVariants.{NotJson, TooLong, WrongKind, TooManyJobs}
 use Rattle.wf_value.specs.declared.refusal.Refusal.{Refusal}
+use Rattle.wf_reader.specs.Faults.{fault, required, fault_unless, faults_in_order, optional, text_faults, faults_within}
+use Rattle.serde_json.specs.Find.{get}
 use Rattle.wf_expr.specs.declared.place.ContextSite.TheVariants as place
-use Rattle.wf_reader.specs.Body.{body_value, body_faults}
-use Rattle.wf_reader.specs.Concurrency.{concurrency_faults, concurrency_in}
-use Rattle.wf_reader.specs.Faults.{fault, fault_unless, faults_in_order, optional, text_faults, faults_within}
-use Rattle.wf_reader.specs.Job.{job_faults, job_of}
+use Rattle.wf_reader.specs.Job.{concurrency_faults, concurrency_in, job_faults, job_of}
 use Rattle.wf_reader.specs.Json.{text_in, members_of, member_at}
 use Rattle.wf_reader.specs.declared.workflow.Workflow.{Workflow}
+
+-- ---- the JSON value of a body, and the faults of a body without one. RFC 8259; RFC 3629 for UTF-8. The limit `max_body` is
+-- defined by this project.
+
+-- the value of the text, if it is UTF-8 and JSON
+abbrev pub json_of : List ℕ → Option Data
+json_of bytes = if is_utf8 bytes then read bytes else None
+
+-- a longer body is not read; nothing inside a body without a value is checked
+abbrev pub body_faults : (Data → List Refusal) → List ℕ → List Refusal
+body_faults check bytes = if nat_le (length bytes) max_body then required NotJson check (json_of bytes) else fault TooLong
+
+-- the value, or null if there is none
+abbrev pub body_value : List ℕ → Data
+body_value bytes = unwrap_or (json_of bytes) null
+
+-- ---- a workflow: its faults and its value. Other members are ignored. GitHub Docs, "Workflow syntax for GitHub Actions": name,
+-- concurrency, jobs.
 
 -- 1 to `max_jobs` jobs, in the order of their ids; the upper limit is defined by this project
 abbrev pub jobs_faults : List (List ℕ × Data) → List Refusal

@@ -5,7 +5,7 @@ ghost use Rattle.serde_json.specs.View.{view};
 ghost use Rattle.wf_value.specs.Gives.{Gives};
 ghost use Rattle.wf_value.specs.declared.code.Code.TheVariants.{NotJson, TooLong};
 ghost use Rattle.wf_value.specs.declared.refusal.Refusal.TheVariants.{Numbered};
-ghost use Rattle.wf_reader.specs.Body.{body_faults, body_value};
+ghost use Rattle.wf_reader.specs.Workflow.{body_faults, body_value};
 ghost use Rattle.wf_reader.specs.Faults.{unless_faulty};
 
 use serde_json::Value;

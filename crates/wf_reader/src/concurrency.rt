@@ -3,10 +3,9 @@ ghost use Rattle.std.specs.List.{list_all};
 ghost use Rattle.serde_json.specs.Find.{get};
 ghost use Rattle.serde_json.specs.View.{view};
 ghost use Rattle.wf_value.specs.Gives.{Gives};
-ghost use Rattle.wf_reader.specs.Concurrency.{concurrency_faults, concurrency_in, group_text, has_its_names};
-ghost use Rattle.wf_reader.specs.Concurrency.{is_concurrency, is_concurrency_name, is_truth_or_text};
+ghost use Rattle.wf_reader.specs.Job.{concurrency_faults, concurrency_in, group_text, has_its_names, template_faults, template_in};
+ghost use Rattle.wf_reader.specs.Job.{is_concurrency, is_concurrency_name, is_truth_or_text};
 ghost use Rattle.wf_reader.specs.Faults.{unless_faulty, optional};
-ghost use Rattle.wf_reader.specs.Templates.{template_faults, template_in};
 
 use crate::fields::wrong_kind;
 use crate::flag::{Flag, read_flag};

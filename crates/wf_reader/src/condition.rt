@@ -2,8 +2,8 @@ ghost use Rattle.std.specs.Prelude.{◌≡◌, ◌↔◌, ℕ, List, Some, codes
 ghost use Rattle.serde_json.specs.Data.{string};
 ghost use Rattle.serde_json.specs.Find.{get};
 ghost use Rattle.serde_json.specs.View.{view};
-ghost use Rattle.wf_reader.specs.Condition.{condition_in, condition_faults, condition_of_word, condition_where};
-ghost use Rattle.wf_reader.specs.Condition.{inside_braces, past_spaces, trimmed, up_to_spaces, word_in};
+ghost use Rattle.wf_reader.specs.Job.{condition_in, condition_faults, condition_of_word, condition_where};
+ghost use Rattle.wf_reader.specs.Job.{inside_braces, past_spaces, trimmed, up_to_spaces, word_in};
 ghost use Rattle.wf_reader.specs.ConditionTexts.{EncodesCondition};
 ghost use Rattle.wf_reader.specs.Faults.{unless_faulty, optional};
 ghost use Rattle.wf_value.specs.declared.condition.Condition.{Condition};

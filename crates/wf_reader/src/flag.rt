@@ -2,7 +2,7 @@ ghost use Rattle.serde_json.specs.Find.{get};
 ghost use Rattle.serde_json.specs.View.{view};
 ghost use Rattle.wf_value.specs.Gives.{Gives};
 ghost use Rattle.wf_reader.specs.Faults.{unless_faulty, optional};
-ghost use Rattle.wf_reader.specs.Flags.{flag_faults, flag_in};
+ghost use Rattle.wf_reader.specs.Job.{flag_faults, flag_in};
 ghost use Rattle.wf_reader.specs.Json.{member_at};
 
 use crate::fields::wrong_kind;

@@ -6,7 +6,7 @@ ghost use Rattle.definitions.specs.Rising.{names_rise};
 ghost use Rattle.wf_value.specs.declared.code.Code.TheVariants.{StrategyMember};
 ghost use Rattle.wf_value.specs.declared.refusal.Refusal.TheVariants.{Numbered};
 ghost use Rattle.wf_reader.specs.Faults.{unless_faulty};
-ghost use Rattle.wf_reader.specs.MatrixOf.{is_variable_name, variable_faults, variable_of, matrix_faults, matrix_of};
+ghost use Rattle.wf_reader.specs.Strategy.{is_variable_name, variable_faults, variable_of, matrix_faults, matrix_of};
 
 use crate::patterns::read_patterns;
 use crate::values::{empty_list, matrix_value, read_values};

@@ -4,7 +4,7 @@ ghost use Rattle.serde_json.specs.View.{view};
 ghost use Rattle.wf_value.specs.Gives.{Gives};
 ghost use Rattle.wf_reader.specs.Faults.{unless_faulty, optional, text_faults};
 ghost use Rattle.wf_reader.specs.Json.{member_at, text_in};
-ghost use Rattle.wf_reader.specs.Needs.{needs_faults, needs_in};
+ghost use Rattle.wf_reader.specs.Job.{needs_faults, needs_in};
 
 use crate::fields::wrong_kind;
 use serde_json::Value;

@@ -4,7 +4,7 @@ ghost use Rattle.serde_json.specs.View.{view};
 ghost use Rattle.wf_value.specs.Gives.{Gives};
 ghost use Rattle.wf_reader.specs.Faults.{unless_faulty, optional};
 ghost use Rattle.wf_reader.specs.Json.{member_at};
-ghost use Rattle.wf_reader.specs.Patterns.{pair_faults, pair_of, pattern_faults, pattern_of, patterns_faults, patterns_of};
+ghost use Rattle.wf_reader.specs.Strategy.{pair_faults, pair_of, pattern_faults, pattern_of, patterns_faults, patterns_of};
 
 use crate::values::{empty_list, matrix_value, read_value};
 use serde_json::{Map, Value};

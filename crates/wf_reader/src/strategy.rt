@@ -4,9 +4,8 @@ ghost use Rattle.serde_json.specs.Find.{get, as_bool};
 ghost use Rattle.serde_json.specs.View.{view};
 ghost use Rattle.wf_value.specs.Gives.{Gives};
 ghost use Rattle.wf_reader.specs.Faults.{unless_faulty, optional};
-ghost use Rattle.wf_reader.specs.MatrixOf.{matrix_faults, matrix_of};
+ghost use Rattle.wf_reader.specs.Strategy.{matrix_faults, matrix_of, strategy_faults, strategy_of};
 ghost use Rattle.wf_reader.specs.Strategy.{is_strategy_name, fail_fast_faults, max_parallel_faults, max_parallel_in};
-ghost use Rattle.wf_reader.specs.Strategy.{strategy_faults, strategy_of};
 
 use crate::matrix::{read_matrix, strategy_member};
 use serde_json::{Map, Value};

@@ -1,7 +1,7 @@
 ghost use Rattle.wf_value.specs.Gives.{Gives};
 ghost use Rattle.wf_expr.specs.declared.place.ContextSite.TheVariants.{Job};
 ghost use Rattle.wf_reader.specs.Faults.{unless_faulty};
-ghost use Rattle.wf_reader.specs.Templates.{template_faults, template_in};
+ghost use Rattle.wf_reader.specs.Job.{template_faults, template_in};
 
 use std::alloc::Global;
 use wf_expr::{ContextSite, Template};

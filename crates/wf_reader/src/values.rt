@@ -4,7 +4,7 @@ ghost use Rattle.wf_value.specs.Gives.{Gives};
 ghost use Rattle.wf_value.specs.declared.code.Code.TheVariants.{EmptyList, MatrixValue};
 ghost use Rattle.wf_value.specs.declared.refusal.Refusal.TheVariants.{Numbered};
 ghost use Rattle.wf_reader.specs.Faults.{unless_faulty};
-ghost use Rattle.wf_reader.specs.MatrixValues.{value_faults, scalar_or_null};
+ghost use Rattle.wf_reader.specs.Strategy.{value_faults, scalar_or_null};
 
 use crate::scalars::scalar_of;
 use serde_json::Value;

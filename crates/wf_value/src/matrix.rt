@@ -14,7 +14,7 @@ pub struct Variable {
 }
 
 impl Model for Variable {
-    ghost use Rattle.wf_value.specs.Matrix.{NamedValues, coded_variable};
+    ghost use Rattle.wf_value.specs.ScalarValue.{NamedValues, coded_variable};
 
     ghost Value = { NamedValues };
 
@@ -57,7 +57,7 @@ pub struct Matrix {
 impl Model for Matrix {
     ghost use Rattle.std.specs.Prelude.{IsTrue};
     ghost use Rattle.definitions.specs.Rising.{names_rise};
-    ghost use Rattle.wf_value.specs.Matrix.{MatrixLists, coded_matrix};
+    ghost use Rattle.wf_value.specs.ScalarValue.{MatrixLists, coded_matrix};
 
     ghost Value = { MatrixLists };
 

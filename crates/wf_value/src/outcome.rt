@@ -9,7 +9,7 @@ pub enum Outcome {
 }
 
 impl Outcome {
-    ghost use Rattle.wf_value.specs.Words.{outcome_word};
+    ghost use Rattle.wf_value.specs.ScalarValue.{outcome_word};
 
     /// The printed word.
     pub fn word(self) -> &'static str
@@ -33,7 +33,7 @@ pub enum JobResult {
 }
 
 impl JobResult {
-    ghost use Rattle.wf_value.specs.Words.{result_word};
+    ghost use Rattle.wf_value.specs.ScalarValue.{result_word};
 
     /// The printed word, which is also the value of `needs.<job_id>.result`.
     pub fn word(self) -> &'static str

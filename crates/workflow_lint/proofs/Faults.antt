@@ -8,8 +8,7 @@ use Rattle.wf_expr.specs.Parsing.{template_of}
 use Rattle.wf_expr.specs.declared.place.ContextSite.{ContextSite}
 use Rattle.wf_expr.specs.declared.place.ContextSite.TheVariants as place
 use Rattle.wf_reader.specs.Faults.{outcome_faults, unless_faulty}
-use Rattle.wf_reader.specs.Flags.{flag_faults}
-use Rattle.wf_reader.specs.Job.{label_faults}
+use Rattle.wf_reader.specs.Job.{flag_faults, label_faults}
 
 -- ---- one fault at most: the first is all
 

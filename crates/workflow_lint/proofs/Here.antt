@@ -13,9 +13,7 @@ use Rattle.serde_json.proofs.Views.{Entry}
 use Rattle.wf_value.specs.declared.code.Code.TheVariants.{StrategyMember}
 use Rattle.wf_reader.specs.Faults.{fault_unless}
 use Rattle.wf_reader.specs.Json.{member_list, members_of}
-use Rattle.wf_reader.specs.MatrixOf.{is_variable_name, variables_in}
-use Rattle.wf_reader.specs.MatrixValues.{items_of}
-use Rattle.wf_reader.specs.Strategy.{is_strategy_name, names_faults}
+use Rattle.wf_reader.specs.Strategy.{is_variable_name, variables_in, items_of, is_strategy_name, names_faults}
 use Rattle.wf_reader.specs.declared.job.Job.{Job}
 use Rattle.wf_reader.proofs.Contents.{array-of, item_list-view, items_here, member_list-named, members_here, named}
 use Rattle.wf_reader.proofs.Entries.{kept}

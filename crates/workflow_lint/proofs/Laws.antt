@@ -9,18 +9,14 @@ use Rattle.wf_value.specs.declared.code.Code.TheVariants.{JobId, LeftOut, Matrix
 use Rattle.wf_value.specs.declared.refusal.Refusal.{Refusal}
 use Rattle.wf_expr.specs.declared.place.ContextSite.{ContextSite}
 use Rattle.wf_expr.specs.declared.place.ContextSite.TheVariants as place
-use Rattle.wf_reader.specs.Body.{json_of}
-use Rattle.wf_reader.specs.Concurrency.{concurrency_faults, is_concurrency}
+use Rattle.wf_reader.specs.Workflow.{json_of, inside_workflow, jobs_faults, workflow_faults, workflow_faults_in}
+use Rattle.wf_reader.specs.Job.{concurrency_faults, is_concurrency, inside_job, is_job_id, job_faults, label_faults, labels_faults}
 use Rattle.wf_reader.specs.Faults.{fault, fault_unless, faults_in_order, left_out, optional, required, text_faults}
-use Rattle.wf_reader.specs.Job.{inside_job, is_job_id, job_faults, label_faults, labels_faults}
 use Rattle.wf_reader.specs.inner.JobParts.{legs_checks, legs_faults, start_checks, start_faults}
 use Rattle.wf_reader.specs.Json.{item_list, member_at, members_of}
-use Rattle.wf_reader.specs.MatrixOf.{inside_matrix, matrix_faults, variable_faults, variables_in}
-use Rattle.wf_reader.specs.MatrixValues.{each_of_some, items_of, value_faults}
-use Rattle.wf_reader.specs.Needs.{needs_faults}
-use Rattle.wf_reader.specs.Patterns.{pair_faults, pattern_faults, patterns_faults}
-use Rattle.wf_reader.specs.Strategy.{inside_strategy, names_faults, strategy_faults}
-use Rattle.wf_reader.specs.Workflow.{inside_workflow, jobs_faults, workflow_faults, workflow_faults_in}
+use Rattle.wf_reader.specs.Strategy.{inside_matrix, matrix_faults, variable_faults, variables_in, each_of_some, items_of, value_faults}
+use Rattle.wf_reader.specs.Job.{needs_faults}
+use Rattle.wf_reader.specs.Strategy.{pair_faults, pattern_faults, patterns_faults, inside_strategy, names_faults, strategy_faults}
 use Rattle.wf_reader.proofs.InOrder.{of_both}
 use Rattle.workflow_lint.specs.Checks.{faults_by, found_by, items_at, optional_at}
 use Rattle.workflow_lint.specs.Findings.{at, refusals}

@@ -7,7 +7,7 @@ use Rattle.wf_value.specs.declared.refusal.Refusal.{Refusal}
 use Rattle.wf_reader.specs.Faults.{outcome_faults}
 use Rattle.wf_reader.specs.Workflow.{workflow_faults, workflow_of}
 use Rattle.wf_reader.specs.declared.job.Job.{Job}
-use Rattle.definitions.specs.JobNeeds.{JobNeeds}
+use Rattle.definitions.specs.Rising.{JobNeeds}
 use Rattle.needs_graph.specs.Needs.{graph_of, is_job, needs_of, own_ancestors, unknown_need, unless_cycle}
 use Rattle.run_plan.specs.PlanOf.{job_faults, jobs_faults, legs_faults, needs_of_job, plan_faults}
 use Rattle.workflow_lint.specs.Findings.{at, refusals}

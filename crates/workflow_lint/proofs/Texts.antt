@@ -7,9 +7,8 @@ use Rattle.serde_json.specs.Data.{Data, null}
 use Rattle.wf_value.specs.Gives.{Gives, no_memory}
 use Rattle.wf_value.specs.declared.code.Code.TheVariants.{NotJson, TooLong}
 use Rattle.wf_value.specs.declared.refusal.Refusal.{Refusal}
-use Rattle.wf_reader.specs.Body.{body_faults, body_value, json_of}
+use Rattle.wf_reader.specs.Workflow.{body_faults, body_value, json_of, workflow_faults, workflow_of}
 use Rattle.wf_reader.specs.Faults.{fault, required, unless_faulty}
-use Rattle.wf_reader.specs.Workflow.{workflow_faults, workflow_of}
 use Rattle.wf_reader.specs.declared.workflow.Workflow.{Workflow}
 use Rattle.workflow_lint.specs.Findings.{at, refusals}
 use Rattle.workflow_lint.specs.InWorkflow.{found_in_text, workflow_at}

@@ -6,12 +6,9 @@ use Rattle.serde_json.specs.Data.{Data}
 use Rattle.serde_json.specs.Find.{get}
 use Rattle.wf_value.specs.declared.code.Code.TheVariants.{LeftOut}
 use Rattle.wf_value.specs.declared.refusal.Refusal.{Refusal}
-use Rattle.wf_reader.specs.Condition.{condition_faults}
+use Rattle.wf_reader.specs.Job.{condition_faults, flag_faults, label_faults}
 use Rattle.wf_reader.specs.Faults.{fault, text_faults}
-use Rattle.wf_reader.specs.Flags.{flag_faults}
-use Rattle.wf_reader.specs.Job.{label_faults}
-use Rattle.wf_reader.specs.MatrixValues.{value_faults}
-use Rattle.wf_reader.specs.Strategy.{fail_fast_faults, max_parallel_faults}
+use Rattle.wf_reader.specs.Strategy.{value_faults, fail_fast_faults, max_parallel_faults}
 use Rattle.workflow_lint.specs.Findings.{at}
 use Rattle.workflow_lint.specs.Paths.{item_path, member_path}
 use Rattle.workflow_lint.specs.declared.check.Check.{Check}

@@ -6,11 +6,9 @@ use Rattle.serde_json.specs.Find.{as_array, as_object, as_str, get}
 use Rattle.wf_value.specs.declared.code.Code.TheVariants.{JobId, NoLabels, WrongKind}
 use Rattle.wf_expr.specs.declared.place.ContextSite.{ContextSite}
 use Rattle.wf_expr.specs.declared.place.ContextSite.TheVariants as place
-use Rattle.wf_reader.specs.Concurrency.{group_text, is_concurrency}
+use Rattle.wf_reader.specs.Job.{group_text, is_concurrency, is_job_id, labels_faults, template_faults}
 use Rattle.wf_reader.specs.Faults.{fault, fault_unless, text_faults}
-use Rattle.wf_reader.specs.Job.{is_job_id, labels_faults}
-use Rattle.wf_reader.specs.MatrixValues.{items_of}
-use Rattle.wf_reader.specs.Templates.{template_faults}
+use Rattle.wf_reader.specs.Strategy.{items_of}
 use Rattle.workflow_lint.specs.Checks.{found_by, items_at, optional_at}
 use Rattle.workflow_lint.specs.Findings.{at}
 use Rattle.workflow_lint.specs.InMatrix.{strategy_at}

@@ -5,9 +5,7 @@ use Rattle.serde_json.specs.Find.{as_array, as_object}
 use Rattle.wf_value.specs.declared.code.Code.TheVariants.{EmptyList, MatrixValue, StrategyMember}
 use Rattle.wf_reader.specs.Faults.{fault}
 use Rattle.wf_reader.specs.Json.{members_of}
-use Rattle.wf_reader.specs.MatrixOf.{variables_in}
-use Rattle.wf_reader.specs.MatrixValues.{items_of}
-use Rattle.wf_reader.specs.Strategy.{names_faults}
+use Rattle.wf_reader.specs.Strategy.{variables_in, items_of, names_faults}
 use Rattle.workflow_lint.specs.Checks.{found_by, items_at, members_at, optional_at}
 use Rattle.workflow_lint.specs.Findings.{at}
 use Rattle.workflow_lint.specs.declared.check.Check.TheVariants as check

@@ -7,7 +7,7 @@ use Rattle.serde_json.specs.Data.{Data}
 use Rattle.serde_json.specs.Find.{as_object}
 use Rattle.wf_value.specs.declared.code.Code.TheVariants.{NotJson, TooLong, TooManyJobs, WrongKind}
 use Rattle.wf_expr.specs.declared.place.ContextSite.TheVariants as place
-use Rattle.wf_reader.specs.Body.{json_of}
+use Rattle.wf_reader.specs.Workflow.{json_of}
 use Rattle.wf_reader.specs.Faults.{fault, fault_unless}
 use Rattle.wf_reader.specs.Json.{member_at, members_of}
 use Rattle.workflow_lint.specs.Checks.{found_by, optional_at}

@@ -6,7 +6,7 @@ use Rattle.wf_value.specs.declared.refusal.Refusal.{Refusal}
 use Rattle.wf_reader.specs.declared.job.Job.{Job}
 use Rattle.wf_reader.specs.Faults.{outcome_faults}
 use Rattle.wf_reader.specs.Workflow.{workflow_of}
-use Rattle.definitions.specs.JobNeeds.{JobNeeds}
+use Rattle.definitions.specs.Rising.{JobNeeds}
 use Rattle.needs_graph.specs.Needs.{graph_of, is_job, unknown_need}
 use Rattle.run_plan.specs.PlanOf.{job_faults, needs_of_job}
 use Rattle.workflow_lint.specs.Findings.{at}

@@ -4,8 +4,7 @@ ghost use Rattle.std.specs.Prelude.{◌≡◌, Err, IfOk, IsErr, is_some, option
 ghost use Rattle.serde_json.specs.View.{view};
 ghost use Rattle.wf_value.specs.Gives.{no_memory};
 ghost use Rattle.wf_reader.specs.Faults.{fault_unless, outcome_faults};
-ghost use Rattle.wf_reader.specs.Flags.{flag_faults};
-ghost use Rattle.wf_reader.specs.Job.{label_faults};
+ghost use Rattle.wf_reader.specs.Job.{flag_faults, label_faults};
 ghost use Rattle.wf_reader.specs.Json.{scalar_in};
 ghost use Rattle.workflow_lint.specs.Checks.{faults_by};
 

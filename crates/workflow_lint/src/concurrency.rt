@@ -2,9 +2,8 @@
 
 ghost use Rattle.std.specs.Prelude.{◌≡◌, ◌++◌, [], IfOk, OnOk, option_to_list, string_bytes, unwrap_or};
 ghost use Rattle.serde_json.specs.View.{view};
-ghost use Rattle.wf_reader.specs.Concurrency.{group_text, is_concurrency};
+ghost use Rattle.wf_reader.specs.Job.{group_text, is_concurrency, template_faults};
 ghost use Rattle.wf_reader.specs.Faults.{fault_unless};
-ghost use Rattle.wf_reader.specs.Templates.{template_faults};
 ghost use Rattle.wf_value.specs.declared.code.Code.TheVariants.{WrongKind};
 ghost use Rattle.workflow_lint.specs.Findings.{at};
 ghost use Rattle.workflow_lint.specs.InJob.{group_path};

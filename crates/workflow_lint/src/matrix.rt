@@ -4,7 +4,7 @@ ghost use Rattle.std.specs.Prelude.{◌≡◌, ◌++◌, OnOk, Some, map, string
 ghost use Rattle.std.specs.List.{filter};
 ghost use Rattle.serde_json.specs.Find.{as_object};
 ghost use Rattle.serde_json.specs.View.{members_view, view};
-ghost use Rattle.wf_reader.specs.MatrixOf.{is_variable_name};
+ghost use Rattle.wf_reader.specs.Strategy.{is_variable_name};
 ghost use Rattle.workflow_lint.specs.Checks.{members_at};
 ghost use Rattle.workflow_lint.specs.InMatrix.{inside_matrix_at, variable_at};
 

@@ -7,10 +7,8 @@ use Rattle.group_book.specs.Books.{BookState}
 use Rattle.run_marks.specs.Bits.{Puts}
 use Rattle.run_marks.specs.Marked.{Covers, SameMarks}
 use Rattle.run_states.specs.Groups.{run_waits, waits}
-use Rattle.run_states.specs.NewRun.{again}
-use Rattle.run_states.specs.Places.{run_at, with_run}
-use Rattle.run_states.specs.RunState.{RunState}
-use Rattle.run_states.specs.SoundRuns.{RunsAreSound}
+use Rattle.run_states.specs.Runs.{again, run_at, with_run, RunState}
+use Rattle.run_states.specs.Sound.{RunsAreSound}
 use Rattle.run_states.specs.declared.holder.Holder.{Holder}
 use Rattle.run_states.specs.declared.holder.Holder.TheVariants.{Run}
 use Rattle.run_states.specs.declared.phases.RunPhase.TheVariants as run

@@ -8,7 +8,7 @@ use Rattle.group_book.specs.Books.{BookState, slot_in}
 use Rattle.group_name.specs.Group.{Group}
 use Rattle.run_marks.specs.Marked.{Covers, is_marked}
 use Rattle.run_states.specs.Groups.{HasOneEach, holds, is_in, waits}
-use Rattle.run_states.specs.RunState.{RunState}
+use Rattle.run_states.specs.Runs.{RunState}
 use Rattle.run_states.specs.declared.holder.Holder.{Holder}
 use Rattle.run_bindings.specs.GroupKeys.{ticket_in}
 use Rattle.run_bindings.specs.declared.bindings.RunBindings.{RunBindings}

@@ -6,14 +6,12 @@ use Rattle.std.proofs.lemmas.Bool.{and_parts}
 use Rattle.group_book.specs.Books.{BookState, slot_in}
 use Rattle.group_book.proofs.Exact.{it_is_in}
 use Rattle.group_name.specs.Group.{Group}
-use Rattle.run_states.specs.Arrivals.{arrived, room_made}
-use Rattle.run_states.specs.GroupOf.{cancels_in_progress, group_at}
-use Rattle.run_states.specs.GroupWords.{same_holder}
-use Rattle.run_states.specs.Groups.{waits}
+use Rattle.run_states.specs.Settling.{arrived, room_made}
+use Rattle.run_states.specs.Groups.{cancels_in_progress, group_at, waits}
+use Rattle.run_states.specs.GroupLaw.{same_holder, without_moves}
 use Rattle.run_states.specs.inner.Holders.{first_conflicting}
-use Rattle.run_states.specs.Moves.{without_moves}
-use Rattle.run_states.specs.RunState.{RunState}
-use Rattle.run_states.specs.SoundRuns.{RunsAreSound}
+use Rattle.run_states.specs.Runs.{RunState}
+use Rattle.run_states.specs.Sound.{RunsAreSound}
 use Rattle.run_states.specs.declared.holder.Holder.{Holder}
 use Rattle.run_states.specs.declared.holder.HolderFilter.TheVariants.{InProgress, OthersPending}
 use Rattle.run_bindings.specs.GroupKeys.{key_in, ticket_in}

@@ -9,13 +9,12 @@ use Rattle.group_book.specs.declared.slot.Slot.{Slot}
 use Rattle.group_book.proofs.Exact.{exact_beside, exact_come, exact_replaced, exact_within, in_no_place, it_is_in, pick}
 use Rattle.group_name.specs.Group.{Group, same_group}
 use Rattle.group_name.proofs.SameGroups.{own_group, same_is_one}
-use Rattle.run_states.specs.GroupOf.{group_at}
-use Rattle.run_states.specs.GroupWords.{same_holder}
-use Rattle.run_states.specs.Groups.{HasOneBeside, all_holders, holds, is_in, is_in_progress_in, is_pending_in, waits}
+use Rattle.run_states.specs.Groups.{group_at, HasOneBeside, all_holders, holds, is_in, is_in_progress_in, is_pending_in, waits}
+use Rattle.run_states.specs.GroupLaw.{same_holder}
 use Rattle.run_states.specs.inner.Holders.{first_conflicting, is_conflicting}
-use Rattle.run_states.specs.RunState.{RunState}
-use Rattle.run_states.specs.SoundRuns.{RunsAreSound}
-use Rattle.run_states.specs.StopMoves.{stop_holder}
+use Rattle.run_states.specs.Runs.{RunState}
+use Rattle.run_states.specs.Sound.{RunsAreSound}
+use Rattle.run_states.specs.Stops.{stop_holder}
 use Rattle.run_states.specs.declared.holder.Holder.{Holder}
 use Rattle.run_states.specs.declared.holder.Holder.TheVariants.{Run, Leg}
 use Rattle.run_states.specs.declared.holder.HolderFilter.TheVariants.{InProgress, OthersPending}
@@ -35,7 +34,7 @@ use Rattle.workflow_runs.proofs.HoldersThere.{holds_not, tells, there_if_holds, 
 use Rattle.workflow_runs.proofs.OneHolder.{leg_is_stopped, leg_that_waits, run_is_cancelled, run_that_waits, stop_cancels}
 use Rattle.workflow_runs.proofs.SpentThere.{one_arrival_fewer, told_spent}
 use Rattle.workflow_runs.proofs.Stopping.{holds_no_more, waits_no_more}
-use Rattle.run_states.specs.Parallel.{is_at_work}
+use Rattle.run_states.specs.Fitting.{is_at_work}
 
 -- ---- the stop of a holder that waits ends it, and changes nobody else
 

@@ -4,12 +4,10 @@ use Rattle.std.specs.Option.{option_map_or}
 use Rattle.std.proofs.Common.{ap}
 use Rattle.run_states.specs.Groups.{leg_waits, waits}
 use Rattle.run_states.specs.inner.Resuming.{is_new_at}
-use Rattle.run_states.specs.Places.{leg_at}
+use Rattle.run_states.specs.Runs.{leg_at, LegState, RunState, is_new, leg_in_phase}
 use Rattle.run_states.specs.declared.place.LegSite.{LegSite}
-use Rattle.run_states.specs.Rules.{with_leg_in}
-use Rattle.run_states.specs.RunState.{LegState, RunState}
-use Rattle.run_states.specs.SoundRuns.{RunsAreSound}
-use Rattle.run_states.specs.StateWords.{is_new, leg_in_phase}
+use Rattle.run_states.specs.Settling.{with_leg_in}
+use Rattle.run_states.specs.Sound.{RunsAreSound}
 use Rattle.run_states.specs.declared.phases.LegPhase.{LegPhase}
 use Rattle.run_states.specs.declared.phases.LegPhase.TheVariants as leg
 use Rattle.settling_laws.proofs.HoldersFade.{leg_passes, passes}

@@ -5,10 +5,9 @@ use Rattle.std.specs.Option.{option_map_or}
 use Rattle.std.proofs.Common.{arith, ap, inl, inr, subst, sym, ◌∙◌}
 use Rattle.std.proofs.lemmas.Bool.{cases_eq, le-ltb, lt-ltb, ltb-false, ltb-true}
 use Rattle.std.proofs.lemmas.Option.{same_Some, slice_get-map, slice_get_within}
-use Rattle.run_states.specs.GroupOf.{group_at}
+use Rattle.run_states.specs.Groups.{group_at}
 use Rattle.run_states.specs.Holders.{run_of}
-use Rattle.run_states.specs.Places.{leg_at, run_at}
-use Rattle.run_states.specs.RunState.{JobState, LegState, RunState}
+use Rattle.run_states.specs.Runs.{leg_at, run_at, JobState, LegState, RunState}
 use Rattle.run_states.specs.declared.holder.Holder.{Holder}
 use Rattle.run_states.specs.declared.holder.Holder.TheVariants.{Run, Leg}
 use Rattle.run_states.specs.declared.place.LegSite.{LegSite}

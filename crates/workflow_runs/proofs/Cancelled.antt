@@ -2,10 +2,8 @@
 use Rattle.std.specs.Prelude.{◌≡◌, ℕ, List, true, Option, None}
 use Rattle.std.proofs.Common.{ap, sym, ◌∙◌}
 use Rattle.run_states.specs.Groups.{waits}
-use Rattle.run_states.specs.Places.{with_leg, with_run}
-use Rattle.run_states.specs.RunState.{LegState, RunState}
-use Rattle.run_states.specs.SoundRuns.{LeaseFits, RunsAreSound}
-use Rattle.run_states.specs.StateWords.{leg_in_phase, new_leg}
+use Rattle.run_states.specs.Runs.{with_leg, with_run, LegState, RunState, leg_in_phase, new_leg}
+use Rattle.run_states.specs.Sound.{LeaseFits, RunsAreSound}
 use Rattle.run_states.specs.Stops.{cancelled, stopped, stopped_phase, stopped_run}
 use Rattle.run_states.specs.declared.holder.Holder.TheVariants.{Leg, Run}
 use Rattle.run_states.specs.declared.phases.LegPhase.{LegPhase}

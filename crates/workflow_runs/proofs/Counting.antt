@@ -15,9 +15,9 @@ use Rattle.std.specs.Cmp.{IsEquivalence}
 use Rattle.indexmap.specs.IndexMap.{IndexMap}
 use Rattle.std.specs.Map.{lookup}
 use Rattle.wf_reader.specs.Event.{event_of}
-use Rattle.definitions.specs.Admitted.{Admitted}
-use Rattle.run_states.specs.RunNumber.{events, number_of_next, same_workflow}
-use Rattle.run_states.specs.RunState.{RunState}
+use Rattle.definitions.specs.SmallText.{Admitted}
+use Rattle.run_states.specs.LegContext.{events, number_of_next, same_workflow}
+use Rattle.run_states.specs.Runs.{RunState}
 use Rattle.workflow_runs.specs.inner.Counted.{AreCounted, count_of}
 use Rattle.workflow_runs.specs.declared.rows.counts.Counted.{Counted}
 use Rattle.workflow_runs.proofs.RunNumbers.{count_of_map}

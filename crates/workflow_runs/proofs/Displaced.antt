@@ -5,10 +5,9 @@ use Rattle.group_book.proofs.Exact.{pick}
 use Rattle.run_marks.specs.Marked.{is_marked}
 use Rattle.run_states.specs.Groups.{holds, waits}
 use Rattle.run_states.specs.Holders.{run_of}
-use Rattle.run_states.specs.RunState.{RunState}
-use Rattle.run_states.specs.SoundRuns.{RunsAreSound}
-use Rattle.run_states.specs.StopMoves.{stop_holder}
-use Rattle.run_states.specs.Stops.{stopped, stopped_run}
+use Rattle.run_states.specs.Runs.{RunState}
+use Rattle.run_states.specs.Sound.{RunsAreSound}
+use Rattle.run_states.specs.Stops.{stop_holder, stopped, stopped_run}
 use Rattle.run_states.specs.declared.holder.Holder.{Holder}
 use Rattle.run_states.specs.declared.holder.Holder.TheVariants.{Run, Leg}
 use Rattle.run_states.proofs.JobKeeps.{with_job_of, with_leg_of}

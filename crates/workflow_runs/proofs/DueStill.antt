@@ -5,15 +5,12 @@ use Rattle.std.proofs.lemmas.Bool.{and_parts}
 use Rattle.group_book.specs.Books.{slot_in}
 use Rattle.group_book.proofs.Exact.{it_is_in, its_group, pick}
 use Rattle.group_name.specs.Group.{Group}
-use Rattle.definitions.specs.Admitted.{Admitted}
+use Rattle.definitions.specs.SmallText.{Admitted}
 use Rattle.run_marks.specs.Marked.{is_marked}
-use Rattle.run_states.specs.FirstOf.{changed_at}
-use Rattle.run_states.specs.GroupOf.{group_at}
-use Rattle.run_states.specs.Groups.{holds, is_in, is_in_progress_in, waits}
+use Rattle.run_states.specs.Runs.{changed_at, with_run, RunState}
+use Rattle.run_states.specs.Groups.{group_at, holds, is_in, is_in_progress_in, waits}
 use Rattle.run_states.specs.Holders.{run_of}
-use Rattle.run_states.specs.Places.{with_run}
-use Rattle.run_states.specs.RunNumber.{events}
-use Rattle.run_states.specs.RunState.{RunState}
+use Rattle.run_states.specs.LegContext.{events}
 use Rattle.run_states.specs.declared.holder.Holder.{Holder}
 use Rattle.run_states.proofs.Changed.{at_another, length-changed_at}
 use Rattle.settling_laws.proofs.KeptBack.{RunsStillFor, runs_still}

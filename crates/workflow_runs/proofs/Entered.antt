@@ -5,13 +5,12 @@ use Rattle.std.proofs.Common.{ap, ap₂, subst, sym, ◌∙◌}
 use Rattle.group_book.specs.Books.{BookState, Puts, slot_in}
 use Rattle.group_book.specs.Slots.{with_newcomer}
 use Rattle.group_name.specs.Group.{Group}
-use Rattle.run_states.specs.Arrivals.{arrived}
-use Rattle.run_states.specs.GroupOf.{cancels_in_progress, group_at}
-use Rattle.run_states.specs.Groups.{all_holders, is_in_progress_in, waits}
+use Rattle.run_states.specs.Settling.{arrived}
+use Rattle.run_states.specs.Groups.{cancels_in_progress, group_at, all_holders, is_in_progress_in, waits}
 use Rattle.run_states.specs.inner.Holders.{first_conflicting, is_conflicting}
 use Rattle.run_states.specs.Resuming.{resume_at_arrival}
-use Rattle.run_states.specs.RunState.{RunState}
-use Rattle.run_states.specs.SoundRuns.{RunsAreSound}
+use Rattle.run_states.specs.Runs.{RunState}
+use Rattle.run_states.specs.Sound.{RunsAreSound}
 use Rattle.run_states.specs.Stops.{stopped, stopped_run}
 use Rattle.run_states.specs.declared.holder.Holder.{Holder}
 use Rattle.run_states.specs.declared.holder.Holder.TheVariants.{Leg, Run}

@@ -6,13 +6,12 @@ use Rattle.std.proofs.lemmas.Bool.{and_parts}
 use Rattle.std.proofs.lemmas.Option.{same_Some}
 use Rattle.wf_value.specs.declared.outcome.JobResult.TheVariants as result
 use Rattle.run_states.specs.Groups.{may_start}
-use Rattle.run_states.specs.Moves.{Transition, without_moves}
-use Rattle.run_states.specs.Places.{job_at, leg_at, run_at, with_job, with_run}
-use Rattle.run_states.specs.Rules.{closing_rule, decided, leg_rule, leg_rule_in, may_run, opening_rule, places, result_at, rule_at, whole_rule, whole_rule_in}
-use Rattle.run_states.specs.RunState.{JobState, LegState, RunState}
+use Rattle.run_states.specs.GroupLaw.{Transition, without_moves}
+use Rattle.run_states.specs.Runs.{job_at, leg_at, run_at, with_job, with_run, JobState, LegState, RunState}
+use Rattle.run_states.specs.Settling.{closing_rule, decided, leg_rule, leg_rule_in, may_run, opening_rule, places, result_at, rule_at, whole_rule, whole_rule_in}
 use Rattle.run_states.specs.Settling.{applies, first_site}
-use Rattle.run_states.specs.StateWords.{is_blocked, is_done, is_finished, opened, run_in_phase, finished_as}
-use Rattle.run_states.specs.Words.{is_stopping, needs_have_finished, planned_legs}
+use Rattle.run_states.specs.Runs.{is_blocked, is_done, is_finished, opened, run_in_phase, finished_as}
+use Rattle.run_states.specs.LegContext.{is_stopping, needs_have_finished, planned_legs}
 use Rattle.run_states.specs.declared.holder.Holder.TheVariants.{Leg, Run}
 use Rattle.run_states.specs.declared.phases.LegPhase.{LegPhase}
 use Rattle.run_states.specs.declared.phases.LegPhase.TheVariants as leg

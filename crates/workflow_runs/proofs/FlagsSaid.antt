@@ -3,18 +3,16 @@ use Rattle.std.specs.Prelude.{◌≡◌, ◌≤◌, ◌<◌, ◌&&◌, ℕ, zero
 use Rattle.std.specs.Option.{option_map_or}
 use Rattle.std.proofs.Common.{arith, ap, sym, ◌∙◌}
 use Rattle.std.proofs.lemmas.Option.{slice_get_past, slice_get_within}
-use Rattle.wf_expr.specs.ContextValue.{Values}
+use Rattle.wf_expr.specs.TemplateValue.{Values}
 use Rattle.wf_expr.specs.declared.piece.Piece.{Piece}
 use Rattle.wf_reader.specs.declared.flag.Flag.{Flag}
 use Rattle.wf_reader.specs.declared.flag.Flag.TheVariants as flag
 use Rattle.run_plan.specs.PlanOf.{plan_of}
 use Rattle.run_plan.specs.declared.planned.PlannedJob.{PlannedJob}
-use Rattle.run_states.specs.GroupOf.{RunFacts, run_facts_at}
-use Rattle.run_states.specs.LegContext.{context_at}
-use Rattle.run_states.specs.Places.{plan_at, run_at}
+use Rattle.run_states.specs.Groups.{RunFacts, run_facts_at}
+use Rattle.run_states.specs.LegContext.{context_at, continues_on_error, is_set, is_set_for}
+use Rattle.run_states.specs.Runs.{plan_at, run_at, RunState}
 use Rattle.run_states.specs.declared.place.LegSite.{LegSite}
-use Rattle.run_states.specs.RunState.{RunState}
-use Rattle.run_states.specs.Words.{continues_on_error, is_set, is_set_for}
 use Rattle.run_states.proofs.Optional.{from_and_then}
 use Rattle.run_bindings.specs.Bindings.{RunSays, flag_for}
 use Rattle.run_bindings.specs.BoundFlags.{FlagsSay, flags_bound}

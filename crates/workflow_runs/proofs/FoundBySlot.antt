@@ -8,13 +8,13 @@ use Rattle.definitions.specs.Limits.{max_runs}
 use Rattle.group_book.specs.Books.{slot_in}
 use Rattle.group_book.proofs.Exact.{it_is_in}
 use Rattle.group_name.specs.Group.{Group}
-use Rattle.run_states.specs.GroupOf.{cancels_in_progress, group_at}
-use Rattle.run_states.specs.GroupWords.{same_holder}
+use Rattle.run_states.specs.Groups.{cancels_in_progress, group_at}
+use Rattle.run_states.specs.GroupLaw.{same_holder}
 use Rattle.run_states.specs.Groups.{all_holders, holds, is_in_progress_in, is_pending_in, is_taken, may_start, waits}
 use Rattle.run_states.specs.inner.Holders.{first_conflicting, is_conflicting}
 use Rattle.run_states.specs.Holders.{run_of}
 use Rattle.run_states.specs.inner.Resuming.{finds_others, makes_room}
-use Rattle.run_states.specs.RunState.{RunState}
+use Rattle.run_states.specs.Runs.{RunState}
 use Rattle.run_states.specs.declared.holder.Holder.{Holder}
 use Rattle.run_states.specs.declared.holder.HolderFilter.TheVariants.{InProgress, OthersPending}
 use Rattle.settling_laws.proofs.ArrivalKeeps.{holder_tested}

@@ -10,9 +10,8 @@ use Rattle.group_book.specs.declared.slot.Slot.{Slot}
 use Rattle.group_book.proofs.Exact.{exact_beside, exact_come, exact_left, exact_within, in_no_place, not_of_kind, put_here}
 use Rattle.group_name.specs.Group.{Group, same_group}
 use Rattle.group_name.proofs.SameGroups.{own_group}
-use Rattle.run_states.specs.GroupOf.{group_at}
-use Rattle.run_states.specs.Groups.{all_holders, holds, is_in_progress_in, is_taken, may_start, waits}
-use Rattle.run_states.specs.RunState.{RunState}
+use Rattle.run_states.specs.Groups.{group_at, all_holders, holds, is_in_progress_in, is_taken, may_start, waits}
+use Rattle.run_states.specs.Runs.{RunState}
 use Rattle.run_states.specs.declared.holder.Holder.{Holder}
 use Rattle.run_states.specs.declared.holder.Holder.TheVariants.{Leg}
 use Rattle.run_bindings.specs.declared.bindings.RunBindings.{RunBindings}

@@ -5,9 +5,7 @@ use Rattle.std.proofs.Common.{ap}
 use Rattle.std.proofs.lemmas.Option.{slice_get_within}
 use Rattle.run_states.specs.Groups.{holds, leg_holds}
 use Rattle.run_states.specs.Holders.{run_of}
-use Rattle.run_states.specs.Places.{job_at, run_at}
-use Rattle.run_states.specs.RunState.{JobState, LegState, RunState}
-use Rattle.run_states.specs.StateWords.{is_live}
+use Rattle.run_states.specs.Runs.{job_at, run_at, JobState, LegState, RunState, is_live}
 use Rattle.run_states.specs.declared.holder.Holder.{Holder}
 use Rattle.run_states.specs.declared.holder.Holder.TheVariants.{Run, Leg}
 use Rattle.run_states.proofs.Optional.{from_and_then}

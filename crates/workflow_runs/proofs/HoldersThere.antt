@@ -5,10 +5,8 @@ use Rattle.std.proofs.Common.{inl, inr}
 use Rattle.std.proofs.lemmas.Option.{slice_get_within}
 use Rattle.run_states.specs.Groups.{holds, leg_holds, leg_waits, run_waits, waits}
 use Rattle.run_states.specs.Holders.{run_of}
-use Rattle.run_states.specs.Places.{leg_at, run_at}
+use Rattle.run_states.specs.Runs.{leg_at, run_at, LegState, RunState, is_live, is_new}
 use Rattle.run_states.specs.inner.Resuming.{is_new_at}
-use Rattle.run_states.specs.RunState.{LegState, RunState}
-use Rattle.run_states.specs.StateWords.{is_live, is_new}
 use Rattle.run_states.specs.declared.holder.Holder.{Holder}
 use Rattle.run_states.specs.declared.holder.Holder.TheVariants.{Run, Leg}
 use Rattle.run_states.specs.declared.phases.LegPhase.{LegPhase}

@@ -11,10 +11,9 @@ use Rattle.std.proofs.lemmas.List.{length-map, map-append}
 use Rattle.std.proofs.lemmas.List.Quantifiers.{position-Some}
 use Rattle.std.proofs.lemmas.Option.{get_or_from_slice_get, slice_get-get_or}
 use Rattle.indexmap.specs.IndexMap.{IndexMap, get_by_text}
-use Rattle.definitions.specs.Admitted.{Admitted}
-use Rattle.run_states.specs.NewRun.{is_delivered_as}
-use Rattle.run_states.specs.RunNumber.{events}
-use Rattle.run_states.specs.RunState.{RunState}
+use Rattle.definitions.specs.SmallText.{Admitted}
+use Rattle.run_states.specs.Runs.{is_delivered_as, RunState}
+use Rattle.run_states.specs.LegContext.{events}
 use Rattle.workflow_runs.specs.inner.Delivered.{FindsFirst, has_delivery}
 
 -- ---- the first element of a list that passes a test

@@ -4,13 +4,10 @@ use Rattle.std.proofs.Common.{subst}
 use Rattle.std.proofs.lemmas.Option.{slice_get_within}
 use Rattle.wf_value.specs.declared.outcome.JobResult.{JobResult}
 use Rattle.wf_value.specs.declared.outcome.JobResult.TheVariants as result
-use Rattle.run_states.specs.Places.{job_at, run_at, with_job}
-use Rattle.run_states.specs.Rules.{may_run, result_at}
-use Rattle.run_states.specs.RunState.{JobState, RunState}
-use Rattle.run_states.specs.Settling.{first_site}
-use Rattle.run_states.specs.SoundRuns.{RunsAreSound}
-use Rattle.run_states.specs.StateWords.{finished_as}
-use Rattle.run_states.specs.Words.{is_stopping}
+use Rattle.run_states.specs.Runs.{job_at, run_at, with_job, JobState, RunState, finished_as}
+use Rattle.run_states.specs.Settling.{may_run, result_at, first_site}
+use Rattle.run_states.specs.Sound.{RunsAreSound}
+use Rattle.run_states.specs.LegContext.{is_stopping}
 use Rattle.run_states.specs.declared.place.RuleSite.TheVariants.{Closing, Opening}
 use Rattle.run_states.proofs.JobKeeps.{with_job_of}
 use Rattle.run_states.proofs.Optional.{from_and_then}

@@ -6,14 +6,13 @@ use Rattle.std.specs.Option.{option_map_or, option_or}
 use Rattle.std.proofs.Common.{ap, ◌∙◌, sym}
 use Rattle.wf_value.specs.declared.outcome.JobResult.TheVariants as result
 use Rattle.wf_value.specs.declared.outcome.Outcome.{Outcome}
-use Rattle.needs_graph.specs.Results.{fails_job, gathered, is_cancelled, was_cancelled}
+use Rattle.needs_graph.specs.Needs.{fails_job, gathered, is_cancelled, was_cancelled}
 use Rattle.needs_graph.specs.declared.ended.LegEnd.{LegEnd}
-use Rattle.run_states.specs.FirstOf.{first_some, placed}
-use Rattle.run_states.specs.Rules.{leg_end, outcome_of}
-use Rattle.run_states.specs.RunState.{LegState, RunState}
+use Rattle.run_states.specs.Runs.{first_some, placed, LegState, RunState}
+use Rattle.run_states.specs.Settling.{leg_end, outcome_of}
 use Rattle.run_states.specs.inner.WithinRun.{failing, leg_site}
 use Rattle.run_states.specs.declared.place.LegSite.{LegSite}
-use Rattle.run_states.specs.Words.{continues_on_error}
+use Rattle.run_states.specs.LegContext.{continues_on_error}
 
 -- ---- the legs that fail it
 

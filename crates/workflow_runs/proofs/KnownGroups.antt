@@ -3,10 +3,9 @@ use Rattle.std.specs.Prelude.{◌≡◌, ◌&&◌, ◌||◌, List, not, Bool, tr
 use Rattle.std.proofs.Common.{ap, sym, ◌∙◌}
 use Rattle.group_book.specs.Books.{BookState, slot_in}
 use Rattle.group_name.specs.Group.{Group}
-use Rattle.run_states.specs.GroupOf.{cancels_in_progress, group_at}
-use Rattle.run_states.specs.Groups.{may_start, waits}
+use Rattle.run_states.specs.Groups.{cancels_in_progress, group_at, may_start, waits}
 use Rattle.run_states.specs.inner.Resuming.{makes_room}
-use Rattle.run_states.specs.RunState.{RunState}
+use Rattle.run_states.specs.Runs.{RunState}
 use Rattle.run_states.specs.declared.holder.Holder.{Holder}
 use Rattle.run_bindings.specs.declared.bindings.RunBindings.{RunBindings}
 use Rattle.run_bindings.specs.declared.group_keys.HolderKey.TheVariants.{Known}

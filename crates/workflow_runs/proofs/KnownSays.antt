@@ -4,15 +4,13 @@ use Rattle.std.specs.Option.{option_map_or}
 use Rattle.std.proofs.Common.{arith, ap, subst, sym, ◌∙◌}
 use Rattle.std.proofs.lemmas.Option.{same_Some}
 use Rattle.wf_expr.specs.Bound.{no_results}
-use Rattle.wf_expr.specs.ContextValue.{Values}
+use Rattle.wf_expr.specs.TemplateValue.{Values}
 use Rattle.run_plan.specs.PlanOf.{plan_of}
 use Rattle.run_plan.specs.declared.planned.PlannedJob.{PlannedJob}
-use Rattle.run_states.specs.GroupOf.{RunFacts, run_facts_at}
-use Rattle.run_states.specs.LegContext.{context_at, context_of, nothing}
-use Rattle.run_states.specs.Places.{plan_at, run_at}
+use Rattle.run_states.specs.Groups.{RunFacts, run_facts_at}
+use Rattle.run_states.specs.LegContext.{context_at, context_of, nothing, label_texts, labels_at}
+use Rattle.run_states.specs.Runs.{plan_at, run_at, RunState}
 use Rattle.run_states.specs.declared.place.LegSite.{LegSite}
-use Rattle.run_states.specs.RunState.{RunState}
-use Rattle.run_states.specs.Words.{label_texts, labels_at}
 use Rattle.run_states.proofs.Optional.{from_and_then}
 use Rattle.run_bindings.specs.Bindings.{AreBound, JobSays, KeepsLabels, KeepsLabelsAt, RunSays}
 use Rattle.run_bindings.specs.BoundGroups.{facts_by, need_of_job, results_by_index}

@@ -7,14 +7,11 @@ use Rattle.group_book.specs.Books.{BookState, slot_in}
 use Rattle.group_book.proofs.Exact.{Stays, exact_within, pick}
 use Rattle.run_marks.specs.Marked.{is_marked}
 use Rattle.run_states.specs.Changes.{changed}
-use Rattle.run_states.specs.GroupOf.{group_at}
-use Rattle.run_states.specs.Groups.{holds, leg_holds, leg_waits, waits}
-use Rattle.run_states.specs.Places.{leg_at, with_leg, with_run}
+use Rattle.run_states.specs.Groups.{group_at, holds, leg_holds, leg_waits, waits}
+use Rattle.run_states.specs.Runs.{leg_at, with_leg, with_run, LegState, RunState, is_new, leg_in_phase}
 use Rattle.run_states.specs.inner.Resuming.{is_new_at}
-use Rattle.run_states.specs.Rules.{with_leg_in}
-use Rattle.run_states.specs.RunState.{LegState, RunState}
-use Rattle.run_states.specs.SoundRuns.{RunsAreSound}
-use Rattle.run_states.specs.StateWords.{is_new, leg_in_phase}
+use Rattle.run_states.specs.Settling.{with_leg_in}
+use Rattle.run_states.specs.Sound.{RunsAreSound}
 use Rattle.run_states.specs.declared.change.Change.TheVariants as change
 use Rattle.run_states.specs.declared.holder.Holder.{Holder}
 use Rattle.run_states.specs.declared.holder.Holder.TheVariants.{Leg}

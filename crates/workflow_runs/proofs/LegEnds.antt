@@ -6,12 +6,9 @@ use Rattle.std.proofs.lemmas.Bool.{true≢false}
 use Rattle.wf_value.specs.declared.outcome.Outcome.{Outcome}
 use Rattle.wf_value.specs.declared.outcome.Outcome.TheVariants as outcome
 use Rattle.run_states.specs.Groups.{holds, leg_holds, leg_waits}
-use Rattle.run_states.specs.NewRun.{leased_leg}
-use Rattle.run_states.specs.Parallel.{is_at_work}
-use Rattle.run_states.specs.Places.{leg_at, with_leg}
-use Rattle.run_states.specs.RunState.{LegState, RunState}
-use Rattle.run_states.specs.SoundRuns.{LeaseFits, RunsAreSound}
-use Rattle.run_states.specs.StateWords.{leg_in_phase, outcome_of}
+use Rattle.run_states.specs.Runs.{leased_leg, leg_at, with_leg, LegState, RunState, leg_in_phase, outcome_of}
+use Rattle.run_states.specs.Fitting.{is_at_work}
+use Rattle.run_states.specs.Sound.{LeaseFits, RunsAreSound}
 use Rattle.run_states.specs.declared.holder.Holder.TheVariants.{Leg}
 use Rattle.run_states.specs.declared.phases.LegPhase.{LegPhase}
 use Rattle.run_states.specs.declared.phases.LegPhase.TheVariants as leg

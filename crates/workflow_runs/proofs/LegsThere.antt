@@ -2,10 +2,8 @@
 use Rattle.std.specs.Prelude.{◌≡◌, ℕ, List, [], ◌∷◌, map, Some, option_and_then, option_map, slice_get}
 use Rattle.std.specs.List.{AllByRecursion}
 use Rattle.std.proofs.Common.{ap, ◌∙◌}
-use Rattle.run_states.specs.FirstOf.{placed}
+use Rattle.run_states.specs.Runs.{placed, job_at, leg_at, leg_site, JobState, LegState, RunState}
 use Rattle.run_states.specs.inner.PlacedLegs.{PlacedLeg, placed_leg}
-use Rattle.run_states.specs.Places.{job_at, leg_at, leg_site}
-use Rattle.run_states.specs.RunState.{JobState, LegState, RunState}
 use Rattle.run_states.proofs.Found.{all_weaken, placed_get}
 use Rattle.run_states.proofs.Optional.{from_map}
 

@@ -11,9 +11,8 @@ use Rattle.run_marks.specs.Marked.{Covers, SameMarks, is_marked}
 use Rattle.run_states.specs.Groups.{holds, is_in}
 use Rattle.run_states.specs.Holders.{run_of}
 use Rattle.run_states.specs.Resuming.{apply_at}
-use Rattle.run_states.specs.Places.{run_at}
-use Rattle.run_states.specs.RunNumber.{events}
-use Rattle.run_states.specs.RunState.{RunState}
+use Rattle.run_states.specs.Runs.{run_at, RunState}
+use Rattle.run_states.specs.LegContext.{events}
 use Rattle.run_states.specs.WithinRun.{first_in_run}
 use Rattle.run_states.specs.declared.place.RuleSite.{RuleSite}
 use Rattle.run_states.proofs.Found.{before_the_end}

@@ -2,10 +2,7 @@
 use Rattle.std.specs.Prelude.{◌≡◌, ℕ, zero, suc, ◌<◌, List, [], ◌∷◌, length, Some, None, option_map, slice_get, slice_set, refl}
 use Rattle.std.proofs.Common.{ap, sym, get_or}
 use Rattle.std.proofs.lemmas.Option.{same_Some, slice_get_within}
-use Rattle.run_states.specs.FirstOf.{changed_at}
-use Rattle.run_states.specs.NewRun.{again}
-use Rattle.run_states.specs.Places.{with_run}
-use Rattle.run_states.specs.RunState.{RunState}
+use Rattle.run_states.specs.Runs.{changed_at, again, with_run, RunState}
 use Rattle.run_states.proofs.Doors.{changed_within}
 use Rattle.run_states.proofs.Optional.{from_map}
 

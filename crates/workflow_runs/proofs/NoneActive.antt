@@ -8,17 +8,13 @@ use Rattle.std.proofs.lemmas.Bool.{cases_eq, cases_lt, or_parts, true≢false}
 use Rattle.std.proofs.lemmas.Bool.Decides.{nat_tests}
 use Rattle.group_name.specs.Group.{Group}
 use Rattle.run_states.specs.inner.ActiveRuns.{has_active_leg, is_active, is_active_leg}
-use Rattle.run_states.specs.FirstOf.{first_some, placed}
-use Rattle.run_states.specs.Fitting.{OnlyAtWork, has_lease}
-use Rattle.run_states.specs.GroupWords.{same_holder}
+use Rattle.run_states.specs.Runs.{first_some, placed, leg_at, leg_site, JobState, LegState, RunState, is_live}
+use Rattle.run_states.specs.Fitting.{OnlyAtWork, has_lease, is_at_work}
+use Rattle.run_states.specs.GroupLaw.{same_holder}
 use Rattle.run_states.specs.Groups.{is_in, is_pending_in, leg_holds, leg_waits, run_waits, waits}
 use Rattle.run_states.specs.Resuming.{apply_at}
-use Rattle.run_states.specs.Parallel.{is_at_work}
 use Rattle.run_states.specs.inner.PlacedLegs.{PlacedLeg, placed_legs_of_run}
-use Rattle.run_states.specs.Places.{leg_at, leg_site}
 use Rattle.run_states.specs.declared.place.LegSite.{LegSite}
-use Rattle.run_states.specs.RunState.{JobState, LegState, RunState}
-use Rattle.run_states.specs.StateWords.{is_live}
 use Rattle.run_states.specs.inner.WithinRun.{lease_in_run}
 use Rattle.run_states.specs.declared.phases.LegPhase.{LegPhase}
 use Rattle.run_states.specs.declared.phases.LegPhase.TheVariants as a_leg

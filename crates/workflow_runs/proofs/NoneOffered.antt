@@ -8,15 +8,12 @@ use Rattle.std.proofs.lemmas.Option.{same_Some, slice_get_past}
 use Rattle.label_lists.specs.Known.{IsBefore}
 use Rattle.label_lists.specs.Lists.{ListsState, labels_of, may_offer}
 use Rattle.run_plan.specs.declared.planned.PlannedJob.{PlannedJob}
-use Rattle.run_states.specs.Fitting.{has_labels, is_ready, is_served}
-use Rattle.run_states.specs.LegContext.{context_at}
+use Rattle.run_states.specs.Fitting.{has_labels, is_ready, is_served, has_room}
+use Rattle.run_states.specs.LegContext.{context_at, label_texts, labels_at}
 use Rattle.run_states.specs.Resuming.{NoneBefore, apply_at}
-use Rattle.run_states.specs.Parallel.{has_room}
-use Rattle.run_states.specs.Places.{leg_at, leg_site, plan_at, run_at}
+use Rattle.run_states.specs.Runs.{leg_at, leg_site, plan_at, run_at, JobState, LegState, RunState}
 use Rattle.run_states.specs.declared.place.LegSite.{LegSite}
-use Rattle.run_states.specs.RunState.{JobState, LegState, RunState}
 use Rattle.run_states.specs.inner.WithinRun.{fit_in_job, fit_in_run, served_in_job}
-use Rattle.run_states.specs.Words.{label_texts, labels_at}
 use Rattle.run_states.proofs.RunFits.{job_in_run, leg_in_job}
 use Rattle.run_bindings.specs.Bindings.{AreBound}
 use Rattle.run_bindings.specs.KnownLabels.{AreAlike}

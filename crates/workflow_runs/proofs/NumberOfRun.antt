@@ -2,10 +2,9 @@
 use Rattle.std.specs.Prelude.{◌≡◌, ℕ, List, Some, option_map, slice_get}
 use Rattle.std.proofs.Common.{ap, sym, ◌∙◌}
 use Rattle.std.proofs.lemmas.Option.{same_Some, slice_get-map}
-use Rattle.definitions.specs.Admitted.{Admitted}
-use Rattle.run_states.specs.Places.{run_at}
-use Rattle.run_states.specs.RunNumber.{events, run_number}
-use Rattle.run_states.specs.RunState.{RunState}
+use Rattle.definitions.specs.SmallText.{Admitted}
+use Rattle.run_states.specs.Runs.{run_at, RunState}
+use Rattle.run_states.specs.LegContext.{events, run_number}
 
 numbered : (runs : List RunState) (r : ℕ) (x : RunState) → run_at runs r ≡ Some x
     → option_map (run_number (events runs) r) (slice_get (events runs) r) ≡ Some (run_number (events runs) r x.admitted)

@@ -8,9 +8,8 @@ use Rattle.std.proofs.lemmas.Bool.{cases_eq, or_parts, true≢false}
 use Rattle.std.proofs.lemmas.Option.{same_Some, slice_get_within}
 use Rattle.label_lists.specs.Lists.{ListsState, may_offer}
 use Rattle.run_states.specs.inner.ActiveRuns.{has_ready_leg}
-use Rattle.run_states.specs.FirstOf.{placed}
+use Rattle.run_states.specs.Runs.{placed, JobState, LegState, RunState}
 use Rattle.run_states.specs.Fitting.{is_ready}
-use Rattle.run_states.specs.RunState.{JobState, LegState, RunState}
 use Rattle.run_bindings.specs.inner.LabelNumbers.{LegsOffer, is_ready_in, is_ready_leg, job_offers, leg_offers}
 use Rattle.run_bindings.specs.LabelNumbers.{list_number}
 use Rattle.run_bindings.specs.inner.LabelNumbers.{offers_list}

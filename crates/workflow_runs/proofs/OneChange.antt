@@ -3,12 +3,9 @@ use Rattle.std.specs.Prelude.{◌≡◌, ◌&&◌, ℕ, zero, suc, List, [], ◌
 use Rattle.std.specs.Option.{option_map_or}
 use Rattle.std.proofs.Common.{ap, sym, ◌∙◌}
 use Rattle.std.proofs.lemmas.Bool.{true≢false}
-use Rattle.run_states.specs.FirstOf.{changed_at}
-use Rattle.run_states.specs.GroupOf.{cancels_in_progress, run_cancels}
-use Rattle.run_states.specs.Groups.{holds, leg_holds, leg_waits, run_waits, waits}
-use Rattle.run_states.specs.Places.{leg_at, run_at, with_leg, with_run}
-use Rattle.run_states.specs.RunState.{LegState, RunState}
-use Rattle.run_states.specs.StateWords.{is_blocked, is_live, is_new, run_in_phase, finished_as}
+use Rattle.run_states.specs.Runs.{changed_at, leg_at, run_at, with_leg, with_run, LegState, RunState}
+use Rattle.run_states.specs.Groups.{cancels_in_progress, run_cancels, holds, leg_holds, leg_waits, run_waits, waits}
+use Rattle.run_states.specs.Runs.{is_blocked, is_live, is_new, run_in_phase, finished_as}
 use Rattle.run_states.specs.declared.holder.Holder.{Holder}
 use Rattle.run_states.specs.declared.holder.Holder.TheVariants.{Run, Leg}
 use Rattle.run_states.specs.declared.phases.LegPhase.{LegPhase}

@@ -8,10 +8,9 @@ use Rattle.group_book.proofs.Exact.{pick}
 use Rattle.std.proofs.lemmas.Option.{same_Some, slice_get-map}
 use Rattle.wf_value.specs.declared.outcome.JobResult.TheVariants as result
 use Rattle.run_states.specs.Groups.{holds, leg_holds, leg_waits, may_start, run_waits, waits}
-use Rattle.run_states.specs.Places.{leg_at, run_at, with_leg, with_run}
-use Rattle.run_states.specs.RunState.{JobState, LegState, RunState}
-use Rattle.run_states.specs.SoundRuns.{PhaseFits, RunsAreSound}
-use Rattle.run_states.specs.StateWords.{is_live, is_new, is_finished, leg_in_phase, run_in_phase, finished_as}
+use Rattle.run_states.specs.Runs.{leg_at, run_at, with_leg, with_run, JobState, LegState, RunState}
+use Rattle.run_states.specs.Sound.{PhaseFits, RunsAreSound}
+use Rattle.run_states.specs.Runs.{is_live, is_new, is_finished, leg_in_phase, run_in_phase, finished_as}
 use Rattle.run_states.specs.Stops.{cancelled, stopped, stopped_in, stopped_phase, stopped_run}
 use Rattle.run_states.specs.declared.holder.Holder.{Holder}
 use Rattle.run_states.specs.declared.holder.Holder.TheVariants.{Run, Leg}

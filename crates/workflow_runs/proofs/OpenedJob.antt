@@ -10,15 +10,11 @@ use Rattle.run_plan.specs.PlanOf.{plan_of}
 use Rattle.group_book.specs.Books.{BookState}
 use Rattle.run_marks.specs.Marked.{is_marked}
 use Rattle.run_states.specs.Changes.{changed}
-use Rattle.run_states.specs.FirstOf.{changed_at}
-use Rattle.run_states.specs.GroupOf.{run_facts_at}
-use Rattle.run_states.specs.Places.{job_at, run_at, with_job, with_run}
-use Rattle.run_states.specs.Rules.{may_run}
-use Rattle.run_states.specs.RunState.{JobState, LegState, RunState}
-use Rattle.run_states.specs.Settling.{first_site}
-use Rattle.run_states.specs.SoundRuns.{LegsFit, RunsAreSound}
-use Rattle.run_states.specs.StateWords.{is_blocked, opened}
-use Rattle.run_states.specs.Words.{planned_legs}
+use Rattle.run_states.specs.Runs.{changed_at, job_at, run_at, with_job, with_run, JobState, LegState, RunState, is_blocked, opened}
+use Rattle.run_states.specs.Groups.{run_facts_at}
+use Rattle.run_states.specs.Settling.{may_run, first_site}
+use Rattle.run_states.specs.Sound.{LegsFit, RunsAreSound}
+use Rattle.run_states.specs.LegContext.{planned_legs}
 use Rattle.run_states.specs.declared.change.Change.TheVariants as change
 use Rattle.run_states.specs.declared.holder.Holder.{Holder}
 use Rattle.run_states.specs.declared.holder.Holder.TheVariants.{Leg}

@@ -8,15 +8,11 @@ use Rattle.std.proofs.lemmas.List.{nil_from_length}
 use Rattle.std.proofs.lemmas.Option.{same_Some}
 use Rattle.group_book.specs.Books.{BookState, slot_in}
 use Rattle.group_book.proofs.Exact.{exact_within}
-use Rattle.run_states.specs.FirstOf.{changed_at}
-use Rattle.run_states.specs.GroupOf.{group_at}
-use Rattle.run_states.specs.Groups.{holds, is_in, leg_holds, leg_waits, run_waits, waits}
+use Rattle.run_states.specs.Runs.{changed_at, results_so_far, finished_result, job_at, leg_at, run_at, with_job}
+use Rattle.run_states.specs.Groups.{group_at, holds, is_in, leg_holds, leg_waits, run_waits, waits}
 use Rattle.run_states.specs.Holders.{run_of}
-use Rattle.run_states.specs.JobResults.{results_so_far, finished_result}
-use Rattle.run_states.specs.Places.{job_at, leg_at, run_at, with_job}
 use Rattle.run_states.specs.inner.Resuming.{is_new_at}
-use Rattle.run_states.specs.RunState.{JobState, LegState, RunState}
-use Rattle.run_states.specs.StateWords.{is_blocked, is_live, is_new, opened}
+use Rattle.run_states.specs.Runs.{JobState, LegState, RunState, is_blocked, is_live, is_new, opened}
 use Rattle.run_states.specs.declared.holder.Holder.{Holder}
 use Rattle.run_states.specs.declared.holder.Holder.TheVariants.{Run, Leg}
 use Rattle.run_states.specs.declared.phases.JobPhase.{JobPhase}

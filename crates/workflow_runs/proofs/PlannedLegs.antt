@@ -6,9 +6,8 @@ use Rattle.std.proofs.lemmas.Option.{same_Some, slice_get-map}
 use Rattle.run_plan.specs.PlanOf.{plan_of}
 use Rattle.run_plan.specs.declared.planned.PlannedJob.{PlannedJob}
 use Rattle.run_states.specs.inner.Cells.{HaveTheirRoom, JobCells, legs_planned, rooms}
-use Rattle.run_states.specs.Places.{run_at}
-use Rattle.run_states.specs.RunState.{RunState}
-use Rattle.run_states.specs.Words.{planned_legs}
+use Rattle.run_states.specs.Runs.{run_at, RunState}
+use Rattle.run_states.specs.LegContext.{planned_legs}
 
 pub found_below : {X : Type 0} (xs : List X) (l : ℕ) → l < length xs → (x : X) × (slice_get xs l ≡ Some x)
 found_below [] l lt = absurd (omega (arith, lt))

@@ -7,11 +7,9 @@ use Rattle.run_plan.specs.PlanOf.{plan_of}
 use Rattle.run_states.specs.Changes.{changed}
 use Rattle.run_states.specs.Changes.{offered_by}
 use Rattle.run_states.specs.Fitting.{is_ready}
-use Rattle.run_states.specs.Places.{leg_at, leg_site, with_leg, with_run}
+use Rattle.run_states.specs.Runs.{leg_at, leg_site, with_leg, with_run, LegState, RunState, opened, run_in_phase, finished_as}
 use Rattle.run_states.specs.declared.place.LegSite.{LegSite}
-use Rattle.run_states.specs.RunState.{LegState, RunState}
 use Rattle.run_states.specs.Settling.{legs_in_plan}
-use Rattle.run_states.specs.StateWords.{opened, run_in_phase, finished_as}
 use Rattle.run_states.specs.declared.change.Change.{Change}
 use Rattle.run_states.specs.declared.change.Change.TheVariants as change
 use Rattle.run_states.proofs.JobKeeps.{leg_elsewhere, leg_in, with_job_of, with_leg_of}

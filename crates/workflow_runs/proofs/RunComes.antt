@@ -6,15 +6,11 @@ use Rattle.std.proofs.lemmas.Bool.{and_parts, cases_eq, true≢false}
 use Rattle.std.proofs.lemmas.Option.{same_Some, slice_get_past}
 use Rattle.group_book.specs.Books.{slot_in}
 use Rattle.group_book.proofs.Exact.{Stays, exact_within}
-use Rattle.run_states.specs.GroupOf.{group_at}
-use Rattle.run_states.specs.GroupWords.{same_holder}
-use Rattle.run_states.specs.Groups.{holds, is_in, leg_holds, leg_waits, run_waits, waits}
+use Rattle.run_states.specs.Groups.{group_at, holds, is_in, leg_holds, leg_waits, run_waits, waits}
+use Rattle.run_states.specs.GroupLaw.{same_holder}
 use Rattle.run_states.specs.Holders.{run_of}
-use Rattle.run_states.specs.NewRun.{again}
-use Rattle.run_states.specs.Places.{leg_at, run_at, with_run}
-use Rattle.run_states.specs.RunState.{JobState, LegState, RunState}
-use Rattle.run_states.specs.SoundRuns.{RunsAreSound}
-use Rattle.run_states.specs.StateWords.{is_live, leg_has_ended, outcome_of}
+use Rattle.run_states.specs.Runs.{again, leg_at, run_at, with_run, JobState, LegState, RunState, is_live, leg_has_ended, outcome_of}
+use Rattle.run_states.specs.Sound.{RunsAreSound}
 use Rattle.run_states.specs.declared.holder.Holder.{Holder}
 use Rattle.run_states.specs.declared.holder.Holder.TheVariants.{Run, Leg}
 use Rattle.run_states.specs.declared.phases.LegPhase.{LegPhase}

@@ -8,9 +8,9 @@ use Rattle.std.proofs.lemmas.List.{map-append, length-set}
 use Rattle.std.proofs.lemmas.List.Sums.{sum_by-append}
 use Rattle.std.proofs.lemmas.Slice.Eq.{bytes_eq-Decides}
 use Rattle.wf_reader.specs.Event.{event_of}
-use Rattle.definitions.specs.Admitted.{Admitted}
-use Rattle.run_states.specs.RunNumber.{events, same_workflow, run_number, numbers_after, AreNumbered}
-use Rattle.run_states.specs.RunState.{RunState}
+use Rattle.definitions.specs.SmallText.{Admitted}
+use Rattle.run_states.specs.LegContext.{events, same_workflow, run_number, numbers_after, AreNumbered}
+use Rattle.run_states.specs.Runs.{RunState}
 
 -- ---- counting
 

@@ -8,10 +8,9 @@ use Rattle.group_book.specs.declared.slot.Slot.{Slot}
 use Rattle.group_book.proofs.Exact.{exact_beside, exact_come, in_no_place, put_here}
 use Rattle.group_name.specs.Group.{Group, same_group}
 use Rattle.group_name.proofs.SameGroups.{own_group, same_is_one}
-use Rattle.run_states.specs.GroupOf.{group_at}
-use Rattle.run_states.specs.GroupWords.{same_holder}
-use Rattle.run_states.specs.Groups.{HasOneEach, holds, is_in, waits}
-use Rattle.run_states.specs.RunState.{RunState}
+use Rattle.run_states.specs.Groups.{group_at, HasOneEach, holds, is_in, waits}
+use Rattle.run_states.specs.GroupLaw.{same_holder}
+use Rattle.run_states.specs.Runs.{RunState}
 use Rattle.run_states.specs.declared.holder.Holder.{Holder}
 use Rattle.run_bindings.specs.GroupKeys.{ticket_in}
 use Rattle.run_bindings.specs.declared.bindings.RunBindings.{RunBindings}

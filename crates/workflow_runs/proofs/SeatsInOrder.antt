@@ -5,10 +5,9 @@ use Rattle.std.proofs.Common.{arith, ap, inl, inr, sym, subst, ◌∙◌}
 use Rattle.std.proofs.lemmas.Bool.{and_parts, cases_eq, eq-eqb, eqb-true, false_from_ne_true, true≢false}
 use Rattle.std.proofs.lemmas.Bool.Decides.{Decides-ltb}
 use Rattle.std.proofs.lemmas.Option.{slice_get_within}
-use Rattle.run_states.specs.GroupWords.{same_holder}
+use Rattle.run_states.specs.GroupLaw.{same_holder}
 use Rattle.run_states.specs.Holders.{run_of}
-use Rattle.run_states.specs.Places.{job_at, leg_at, run_at}
-use Rattle.run_states.specs.RunState.{JobState, RunState}
+use Rattle.run_states.specs.Runs.{job_at, leg_at, run_at, JobState, RunState}
 use Rattle.run_states.specs.declared.holder.Holder.{Holder}
 use Rattle.run_states.specs.declared.holder.Holder.TheVariants.{Run, Leg}
 use Rattle.run_states.proofs.JobKeeps.{leg_in}

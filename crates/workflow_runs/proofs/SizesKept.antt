@@ -6,7 +6,7 @@ use Rattle.std.proofs.lemmas.List.{length-set}
 use Rattle.std.proofs.lemmas.List.Sums.{get_or-le-sum_by, sum_by-cons, sum_by-set, sum_by_push}
 use Rattle.definitions.specs.Limits.{max_runs}
 use Rattle.run_states.specs.Changes.{changed}
-use Rattle.run_states.specs.RunState.{RunState}
+use Rattle.run_states.specs.Runs.{RunState}
 use Rattle.workflow_runs.specs.StoredSizes.{IsSizeOf, IsSmall, max_run_size, run_size}
 use Rattle.run_states.specs.declared.change.Change.{Change}
 use Rattle.workflow_runs.proofs.StoredSizes.{small_changed, small_size}

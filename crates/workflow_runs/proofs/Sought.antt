@@ -3,13 +3,10 @@ use Rattle.std.specs.Prelude.{◌≡◌, ℕ, ◌&&◌, List, find, [], ◌∷�
 use Rattle.std.specs.Prelude.{if◌then◌else◌, refl}
 use Rattle.std.specs.Option.{option_map_or}
 use Rattle.std.proofs.Common.{ap, sym, ◌∙◌}
-use Rattle.run_states.specs.FirstOf.{first_some, placed}
-use Rattle.run_states.specs.Fitting.{is_ready, is_served, may_run_too, fits, first_fit, has_lease, site_of_lease}
-use Rattle.run_states.specs.Parallel.{has_room}
+use Rattle.run_states.specs.Runs.{first_some, placed, leg_at, leg_sites_of_job, leg_sites_of_run, LegState, JobState, RunState}
+use Rattle.run_states.specs.Fitting.{is_ready, is_served, may_run_too, fits, first_fit, has_lease, site_of_lease, has_room}
 use Rattle.run_states.specs.inner.PlacedLegs.{PlacedLeg, placed_legs_of_run}
-use Rattle.run_states.specs.Places.{leg_at, leg_sites_of_job, leg_sites_of_run}
 use Rattle.run_states.specs.declared.place.LegSite.{LegSite}
-use Rattle.run_states.specs.RunState.{LegState, JobState, RunState}
 use Rattle.run_states.specs.inner.WithinRun.{leg_site, fit_in_job, fit_in_jobs, lease_in_run}
 use Rattle.settling_laws.proofs.Firsts.{find-flat_map, find-map, first_same_placed, first_some_same}
 use Rattle.settling_laws.proofs.PlacedLegs.{each_in_run, leg_there, places_of_run}

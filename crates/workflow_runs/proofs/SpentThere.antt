@@ -5,13 +5,10 @@ use Rattle.std.proofs.Common.{arith, ap, inl, inr, subst, sym, ◌∙◌}
 use Rattle.std.proofs.lemmas.Bool.{and_parts, cases_eq, eqb-true, true≢false}
 use Rattle.std.proofs.lemmas.Option.{same_Some, slice_get_within}
 use Rattle.group_book.proofs.Exact.{pick}
-use Rattle.run_states.specs.FirstOf.{changed_at}
+use Rattle.run_states.specs.Runs.{changed_at, job_at, leg_at, JobState, LegState, RunState, is_blocked, is_new}
 use Rattle.run_states.specs.Groups.{holds, leg_holds, leg_waits, waits}
 use Rattle.run_states.specs.Holders.{run_of}
-use Rattle.run_states.specs.Places.{job_at, leg_at}
 use Rattle.run_states.specs.inner.Resuming.{is_new_at}
-use Rattle.run_states.specs.RunState.{JobState, LegState, RunState}
-use Rattle.run_states.specs.StateWords.{is_blocked, is_new}
 use Rattle.run_states.specs.declared.holder.Holder.{Holder}
 use Rattle.run_states.specs.declared.holder.Holder.TheVariants.{Run, Leg}
 use Rattle.run_states.specs.declared.phases.LegPhase.{LegPhase}

@@ -1,7 +1,7 @@
 -- A change of a run keeps what was admitted, and the attempt.
 use Rattle.std.specs.Prelude.{◌≡◌, refl}
 use Rattle.run_states.specs.Changes.{changed}
-use Rattle.run_states.specs.RunState.{RunState}
+use Rattle.run_states.specs.Runs.{RunState}
 use Rattle.run_states.specs.declared.change.Change.{Change}
 use Rattle.run_states.specs.declared.change.Change.TheVariants as change
 

@@ -6,15 +6,14 @@ use Rattle.std.proofs.Common.{arith, ap, inl, inr, sym, subst, ◌∙◌, get_or
 use Rattle.std.proofs.lemmas.Bool.{cases_eq}
 use Rattle.std.proofs.lemmas.List.{length-append, length-map, length-set, map-append}
 use Rattle.std.proofs.lemmas.Option.{same_Some, slice_get_within}
-use Rattle.definitions.specs.Admitted.{Admitted}
+use Rattle.definitions.specs.SmallText.{Admitted}
 use Rattle.label_lists.specs.Lists.{ListsState, OnlyGrows}
 use Rattle.run_marks.specs.Bits.{Puts}
 use Rattle.run_marks.specs.Marked.{SameMarks}
 use Rattle.run_states.specs.inner.ActiveRuns.{is_active}
-use Rattle.run_states.specs.FirstOf.{changed_at}
-use Rattle.run_states.specs.GroupOf.{RunFacts, run_facts_at}
-use Rattle.run_states.specs.RunNumber.{AreNumbered, events, number_of_next, numbers_after, run_number, same_workflow}
-use Rattle.run_states.specs.RunState.{RunState}
+use Rattle.run_states.specs.Runs.{changed_at, RunState}
+use Rattle.run_states.specs.Groups.{RunFacts, run_facts_at}
+use Rattle.run_states.specs.LegContext.{AreNumbered, events, number_of_next, numbers_after, run_number, same_workflow}
 use Rattle.run_states.proofs.Changed.{at_another, at_changed}
 use Rattle.run_states.proofs.LegFacts.{attempt_at}
 use Rattle.run_states.proofs.Optional.{from_map}

@@ -4,13 +4,11 @@ use Rattle.std.specs.List.{enumerate_from}
 use Rattle.std.specs.Option.{option_map_or}
 use Rattle.std.proofs.Common.{arith, ap, subst, sym, ◌∙◌}
 use Rattle.std.proofs.lemmas.Option.{same_Some}
-use Rattle.run_states.specs.FirstOf.{changed_at}
+use Rattle.run_states.specs.Runs.{changed_at, job_at, leg_at, leg_site, run_at, with_job, with_leg, with_run, JobState, LegState, RunState}
 use Rattle.run_states.specs.Groups.{leg_holds, leg_waits}
-use Rattle.run_states.specs.Parallel.{is_at_work}
-use Rattle.run_states.specs.Places.{job_at, leg_at, leg_site, run_at, with_job, with_leg, with_run}
-use Rattle.run_states.specs.RunState.{JobState, LegState, RunState}
-use Rattle.run_states.specs.SoundRuns.{RunsAreSound}
-use Rattle.run_states.specs.StateWords.{is_new}
+use Rattle.run_states.specs.Fitting.{is_at_work}
+use Rattle.run_states.specs.Sound.{RunsAreSound}
+use Rattle.run_states.specs.Runs.{is_new}
 use Rattle.run_states.specs.Stops.{stopped, stopped_in, stopped_phase, stopped_run, with_job_stopped, with_stop_requested, with_stopped_legs}
 use Rattle.run_states.specs.declared.phases.LegPhase.{LegPhase}
 use Rattle.run_states.specs.declared.phases.LegPhase.TheVariants as leg

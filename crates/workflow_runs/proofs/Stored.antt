@@ -3,9 +3,9 @@ use Rattle.std.specs.Prelude.{◌≡◌, ◌+◌, ◌<◌, ◌≤◌, ◌++◌, 
 use Rattle.std.proofs.Common.{arith, ap, inl, inr, sym, ◌∙◌}
 use Rattle.std.proofs.lemmas.Bool.{cases_eq}
 use Rattle.group_book.specs.Books.{BookState}
-use Rattle.run_states.specs.GroupOf.{group_at}
+use Rattle.run_states.specs.Groups.{group_at}
 use Rattle.run_states.specs.Holders.{run_of}
-use Rattle.run_states.specs.RunState.{JobState, RunState}
+use Rattle.run_states.specs.Runs.{JobState, RunState}
 use Rattle.run_states.specs.declared.holder.Holder.{Holder}
 use Rattle.run_states.specs.declared.holder.Holder.TheVariants.{Run, Leg}
 use Rattle.run_states.proofs.Found.{before_the_end}

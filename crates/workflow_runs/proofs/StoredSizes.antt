@@ -12,10 +12,8 @@ use Rattle.run_plan.specs.declared.planned.PlannedJob.{PlannedJob}
 use Rattle.run_plan.proofs.FewLegs.{few_planned}
 use Rattle.run_states.specs.inner.Cells.{JobCells, legs_planned, rooms, states}
 use Rattle.run_states.specs.Changes.{changed}
-use Rattle.run_states.specs.FirstOf.{changed_at}
-use Rattle.run_states.specs.RunState.{JobState, LegState, RunState}
+use Rattle.run_states.specs.Runs.{changed_at, JobState, LegState, RunState, new_leg, opened, finished_as}
 use Rattle.run_states.specs.Settling.{legs_in_plan}
-use Rattle.run_states.specs.StateWords.{new_leg, opened, finished_as}
 use Rattle.workflow_runs.specs.StoredSizes.{IsSmall, job_size, leg_counts, max_run_size, run_size, texts_size}
 use Rattle.run_states.specs.declared.change.Change.{Change}
 use Rattle.run_states.specs.declared.change.Change.TheVariants as change

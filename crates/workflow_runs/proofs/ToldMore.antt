@@ -8,14 +8,11 @@ use Rattle.std.proofs.lemmas.Bool.{and_parts, cases_eq, eqb-true, le-ltb, trueâ‰
 use Rattle.std.proofs.lemmas.Option.{same_Some, slice_get-map}
 use Rattle.run_plan.specs.PlanOf.{plan_of}
 use Rattle.run_plan.specs.declared.planned.PlannedJob.{PlannedJob}
-use Rattle.run_states.specs.GroupOf.{group_at}
+use Rattle.run_states.specs.Groups.{group_at}
 use Rattle.run_states.specs.Holders.{run_of}
-use Rattle.run_states.specs.NewRun.{again, blocked_job}
-use Rattle.run_states.specs.Places.{run_at, with_run}
+use Rattle.run_states.specs.Runs.{again, blocked_job, run_at, with_run, JobState, LegState, RunState, is_blocked, is_new}
 use Rattle.run_states.specs.inner.Resuming.{is_new_at}
-use Rattle.run_states.specs.RunNumber.{events}
-use Rattle.run_states.specs.RunState.{JobState, LegState, RunState}
-use Rattle.run_states.specs.StateWords.{is_blocked, is_new}
+use Rattle.run_states.specs.LegContext.{events}
 use Rattle.run_states.specs.declared.holder.Holder.{Holder}
 use Rattle.run_states.specs.declared.holder.Holder.TheVariants.{Run, Leg}
 use Rattle.run_states.specs.declared.place.LegSite.{LegSite}

@@ -2,8 +2,8 @@
 use Rattle.std.specs.Prelude.{◌≡◌, ℕ, ◌+◌, ◌*◌, ◌≤◌, List, length, map, sum_by}
 use Rattle.std.specs.List.{AllByRecursion}
 use Rattle.definitions.specs.Limits.{max_body, max_jobs, max_text_bytes}
-use Rattle.definitions.specs.Admitted.{Admitted}
-use Rattle.run_states.specs.RunState.{JobState, RunState}
+use Rattle.definitions.specs.SmallText.{Admitted}
+use Rattle.run_states.specs.Runs.{JobState, RunState}
 
 -- the number of legs of each job
 abbrev pub leg_counts : List JobState → List ℕ

@@ -4,9 +4,7 @@ ghost use Rattle.std.specs.Prelude.{◌≡◌, ◌+◌, ◌<◌, ◌^◌, Some, 
 ghost use Rattle.std.specs.List.{list_all};
 ghost use Rattle.run_states.specs.inner.Cells.{states};
 ghost use Rattle.run_states.specs.Resuming.{JobsRestBefore, NoneBefore, apply_at};
-ghost use Rattle.run_states.specs.Places.{job_at, leg_at, run_at};
-ghost use Rattle.run_states.specs.RunState.{RunState};
-ghost use Rattle.run_states.specs.StateWords.{is_finished};
+ghost use Rattle.run_states.specs.Runs.{job_at, leg_at, run_at, RunState, is_finished};
 ghost use Rattle.run_states.specs.WithinRun.{first_in_job, first_in_jobs, first_in_run, first_of_legs, first_of_open, first_of_whole};
 ghost use Rattle.run_states.specs.WithinRun.{goes_on};
 

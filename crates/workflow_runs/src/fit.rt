@@ -5,11 +5,10 @@ ghost use Rattle.std.specs.Option.{option_map_or};
 ghost use Rattle.definitions.specs.Limits.{max_runs};
 ghost use Rattle.wf_value.specs.declared.outcome.Outcome.TheVariants.{Cancelled, Failure};
 ghost use Rattle.run_states.specs.inner.Cells.{HaveTheirRoom, states};
-ghost use Rattle.run_states.specs.Fitting.{OnlyAtWork, first_fit, is_ready, is_served, is_stopping_leg, site_of_lease};
-ghost use Rattle.run_states.specs.Parallel.{has_room};
-ghost use Rattle.run_states.specs.Places.{leg_at, run_at};
+ghost use Rattle.run_states.specs.Fitting.{OnlyAtWork, first_fit, is_ready, is_served, is_stopping_leg, site_of_lease, has_room};
+ghost use Rattle.run_states.specs.Runs.{leg_at, run_at};
 ghost use Rattle.run_states.specs.inner.WithinRun.{fit_in_job, fit_in_jobs, lease_in_run, served_in_job};
-ghost use Rattle.run_states.specs.Words.{planned_legs};
+ghost use Rattle.run_states.specs.LegContext.{planned_legs};
 
 use crate::first_site::count;
 use crate::runs::Runs;

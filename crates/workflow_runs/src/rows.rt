@@ -17,10 +17,9 @@ ghost use Rattle.run_bindings.specs.declared.bindings.RunBindings.{RunBindings a
 ghost use Rattle.run_bindings.specs.declared.group_keys.HolderKey.TheVariants as key;
 ghost use Rattle.run_bindings.specs.declared.group_keys.KnownGroup.{KnownGroup as KnownInCode};
 ghost use Rattle.run_states.specs.Changes.{changed};
-ghost use Rattle.run_states.specs.NewRun.{is_delivered_as};
+ghost use Rattle.run_states.specs.Runs.{is_delivered_as, job_at, leg_at, run_at, with_run};
 ghost use Rattle.run_states.specs.Groups.{holds, waits};
-ghost use Rattle.run_states.specs.Places.{job_at, leg_at, run_at, with_run};
-ghost use Rattle.run_states.specs.RunNumber.{events, number_of_next, run_number};
+ghost use Rattle.run_states.specs.LegContext.{events, number_of_next, run_number};
 ghost use Rattle.workflow_runs.specs.inner.Begun.{AddsOrStays, IsBegun, IsBegunBelow, has_legs_at};
 ghost use Rattle.workflow_runs.specs.inner.GroupsKept.{arrivals_to_come};
 ghost use Rattle.workflow_runs.specs.StoredSizes.{max_run_size, run_size};

@@ -4,13 +4,10 @@ ghost use Rattle.std.specs.List.{position};
 ghost use Rattle.std.specs.Option.{option_map_or};
 ghost use Rattle.definitions.specs.Limits.{max_runs};
 ghost use Rattle.wf_value.specs.Gives.{Gives};
-ghost use Rattle.run_states.specs.LegContext.{facts_at};
-ghost use Rattle.run_states.specs.NewRun.{is_delivered_as};
-ghost use Rattle.run_states.specs.Parallel.{most_at_work};
-ghost use Rattle.run_states.specs.Places.{job_at, leg_at, plan_at, run_at};
-ghost use Rattle.run_states.specs.RunNumber.{events, run_number};
+ghost use Rattle.run_states.specs.LegContext.{facts_at, events, run_number, combo_at, job_id};
+ghost use Rattle.run_states.specs.Runs.{is_delivered_as, job_at, leg_at, plan_at, run_at};
+ghost use Rattle.run_states.specs.Fitting.{most_at_work};
 ghost use Rattle.workflow_runs.specs.StoredSizes.{max_run_size, run_size};
-ghost use Rattle.run_states.specs.Words.{combo_at, job_id};
 
 mod arrivals;
 mod changes;
@@ -47,7 +44,7 @@ pub struct Runs {
 
 impl Model for Runs {
     ghost use Rattle.std.specs.Prelude.{List};
-    ghost use Rattle.run_states.specs.RunState.{RunState};
+    ghost use Rattle.run_states.specs.Runs.{RunState};
     ghost use Rattle.workflow_runs.specs.inner.GroupsKept.{GroupsAreKept};
     ghost use Rattle.workflow_runs.specs.inner.MarkedRuns.{AreMarked, is_due};
 

@@ -2,7 +2,7 @@
 
 ghost use Rattle.std.specs.Prelude.{◌≡◌, ◌<◌, ◌^◌, IfSome, map};
 ghost use Rattle.std.specs.Iterator.{YieldsFirstBy, item_count};
-ghost use Rattle.run_states.specs.FirstOf.{placed};
+ghost use Rattle.run_states.specs.Runs.{placed};
 ghost use Rattle.run_states.specs.inner.PlacedLegs.{placed_leg, placed_legs, placed_legs_of_run};
 
 use crate::runs::Runs;

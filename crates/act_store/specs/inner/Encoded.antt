@@ -2,12 +2,10 @@
 use Rattle.std.specs.Prelude.{◌≡◌, ℕ, ◌+◌, List, length, Option, Some, None}
 use Rattle.definitions.specs.Area.{Head, Reads, opened}
 use Rattle.run_states.specs.TableState.{TableState}
-use Rattle.act_store.specs.Images.{IsAreaLength}
-use Rattle.act_store.specs.Layouts.{layout_of}
-use Rattle.act_store.specs.Meaning.{MeansTable}
+use Rattle.act_store.specs.Images.{IsAreaLength, MeansTable}
+use Rattle.act_store.specs.Layouts.{layout_of, EncodesTable}
 use Rattle.act_store.specs.declared.decoded_area.DecodedArea.{DecodedArea}
 use Rattle.act_store.specs.declared.layout.Layout.{Layout}
-use Rattle.act_store.specs.TableText.{EncodesTable}
 
 -- The area reads as a head of this generation and layout and as bodies, which recover to this table. Its first closed gate is at `used`.
 pub record EncodesArea (area : List ℕ) (generation used : ℕ) (layout : Layout) (table : TableState) : Type 0 where

@@ -13,12 +13,10 @@ use Rattle.run_states.specs.Sound.{IsSound}
 use Rattle.run_states.specs.TableState.{TableState}
 use Rattle.command_encodings.specs.Commands.{IsEncoded, command_bytes}
 use Rattle.act_store.specs.Entries.{IsLegal, commands_of, table_after}
-use Rattle.act_store.specs.Images.{IsAreaLength}
+use Rattle.act_store.specs.Images.{IsAreaLength, MeansTable}
 use Rattle.act_store.specs.StoreState.{StoreState, RecoversToEither, covered_table, pending_commands, table_of}
-use Rattle.act_store.specs.Layouts.{HasCommand, current_version, layout_of}
-use Rattle.act_store.specs.Meaning.{MeansTable}
+use Rattle.act_store.specs.Layouts.{HasCommand, current_version, layout_of, EncodesTable}
 use Rattle.act_store.specs.Plain.{record_end}
-use Rattle.act_store.specs.TableText.{EncodesTable}
 use Rattle.act_store.specs.PendingBatch.{BatchState, batch_state_of}
 use Rattle.act_store.specs.declared.begun.Begun.{Begun}
 use Rattle.act_store.specs.declared.entry.Entry.{Entry}

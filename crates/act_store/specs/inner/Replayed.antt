@@ -3,11 +3,11 @@ use Rattle.std.specs.Prelude.{◌≡◌, ℕ, ◌<◌, ◌^◌, List, length, Op
 use Rattle.std.specs.List.{AllByRecursion}
 use Rattle.definitions.specs.Area.{record_bytes}
 use Rattle.run_plan.specs.declared.command.Command.{Command}
-use Rattle.run_states.specs.Histories.{after}
+use Rattle.run_states.specs.Step.{after}
 use Rattle.run_states.specs.TableState.{TableState}
 use Rattle.definitions.specs.Format.{Encodes}
 use Rattle.act_store.specs.Layouts.{batch_format}
-use Rattle.act_store.specs.Meaning.{EncodeCommands}
+use Rattle.act_store.specs.Images.{EncodeCommands}
 use Rattle.act_store.specs.declared.layout.Layout.{Layout}
 
 -- In this layout the body encodes a batch that leads from one table to the other, or it encodes none.

@@ -3,8 +3,7 @@ use Rattle.std.specs.Prelude.{ℕ, ◌==◌, List, [], ◌∷◌, Bool, if◌the
 use Rattle.definitions.specs.Limits.{max_labels}
 use Rattle.wf_value.specs.declared.outcome.Outcome.{Outcome}
 use Rattle.wf_value.specs.declared.outcome.Outcome.TheVariants as outcome
-use Rattle.definitions.specs.Admitted.{Admitted}
-use Rattle.definitions.specs.SmallText.{is_short, is_delivery_byte, is_event_byte, is_runner_byte, is_label_byte}
+use Rattle.definitions.specs.SmallText.{Admitted, is_short, is_delivery_byte, is_event_byte, is_runner_byte, is_label_byte}
 use Rattle.run_plan.specs.declared.command.Attempt.{Attempt}
 use Rattle.run_plan.specs.declared.command.Beat.{Beat}
 use Rattle.run_plan.specs.declared.command.Claim.{Claim}

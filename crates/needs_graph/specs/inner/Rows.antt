@@ -3,10 +3,9 @@ use Rattle.std.specs.Prelude.{◌≡◌, ℕ, List, [], Bool, length, Result, Ok
 use Rattle.std.specs.List.{list_all, enumerate_from, range_with_len, slice_index_or}
 use Rattle.wf_value.specs.declared.refusal.Refusal.{Refusal}
 use Rattle.needs_graph.specs.inner.JobSets.{is_in}
-use Rattle.definitions.specs.JobNeeds.{JobNeeds}
+use Rattle.definitions.specs.Rising.{JobNeeds}
 use Rattle.needs_graph.specs.inner.JobBitmap.{is_marked}
-use Rattle.needs_graph.specs.Needs.{places}
-use Rattle.needs_graph.specs.Needs.{is_listed, is_job, unknown_need}
+use Rattle.needs_graph.specs.Needs.{places, is_listed, is_job, unknown_need}
 
 -- for each job, whether it is listed
 abbrev pub needs_row : List JobNeeds → List (List ℕ) → List Bool

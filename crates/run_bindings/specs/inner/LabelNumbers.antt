@@ -6,11 +6,9 @@ use Rattle.std.specs.List.{list_any}
 use Rattle.std.specs.Option.{option_map_or}
 use Rattle.run_bindings.specs.LabelNumbers.{list_number, AreListsOf}
 use Rattle.label_lists.specs.Lists.{HasPlace, ListsState, labels_of, may_offer}
-use Rattle.run_states.specs.FirstOf.{placed}
+use Rattle.run_states.specs.Runs.{placed, leg_at, JobState, LegState, RunState}
 use Rattle.run_states.specs.Fitting.{has_labels, is_ready}
-use Rattle.run_states.specs.Places.{leg_at}
 use Rattle.run_states.specs.declared.place.LegSite.{LegSite}
-use Rattle.run_states.specs.RunState.{JobState, LegState, RunState}
 use Rattle.run_bindings.specs.KnownLabels.{AreAlike}
 use Rattle.run_bindings.specs.declared.bindings.RunBindings.{RunBindings}
 use Rattle.run_bindings.specs.declared.label_numbers.ListNumbers.{ListNumbers}

@@ -4,8 +4,7 @@ ghost use Rattle.std.specs.Prelude.{Ok};
 ghost use Rattle.wf_value.specs.Gives.{Gives};
 ghost use Rattle.wf_value.specs.ScalarValue.{scalar_text};
 ghost use Rattle.wf_expr.specs.TemplateValue.{template_value};
-ghost use Rattle.run_states.specs.LegContext.{context_of};
-ghost use Rattle.run_states.specs.Words.{label_texts};
+ghost use Rattle.run_states.specs.LegContext.{context_of, label_texts};
 
 use crate::leg_context::LegContext;
 use crate::leg_view::LegView;

@@ -3,8 +3,7 @@ use Rattle.std.specs.Prelude.{◌||◌, Bool}
 use Rattle.std.specs.List.{list_any}
 use Rattle.run_states.specs.Fitting.{is_ready}
 use Rattle.run_states.specs.Groups.{leg_holds, leg_waits, run_waits}
-use Rattle.run_states.specs.RunState.{JobState, LegState, RunState}
-use Rattle.run_states.specs.StateWords.{is_live}
+use Rattle.run_states.specs.Runs.{JobState, LegState, RunState, is_live}
 
 abbrev pub has_ready_leg : JobState → Bool
 has_ready_leg job = list_any (λ l. is_ready l.phase) job.legs

@@ -1,10 +1,9 @@
 -- The holders of groups as the code names them, and which holders of a group a filter selects.
 use Rattle.std.specs.Prelude.{List, ◌&&◌, find, not, Bool, false, Option}
 use Rattle.std.specs.Option.{option_map_or}
-use Rattle.run_states.specs.GroupOf.{group_at}
-use Rattle.run_states.specs.GroupWords.{same_holder}
-use Rattle.run_states.specs.Groups.{all_holders, is_pending_in, is_in_progress_in}
-use Rattle.run_states.specs.RunState.{RunState}
+use Rattle.run_states.specs.Groups.{group_at, all_holders, is_pending_in, is_in_progress_in}
+use Rattle.run_states.specs.GroupLaw.{same_holder}
+use Rattle.run_states.specs.Runs.{RunState}
 use Rattle.run_states.specs.declared.holder.HolderFilter.{HolderFilter}
 use Rattle.run_states.specs.declared.holder.HolderFilter.TheVariants.{OthersPending, InProgress}
 use Rattle.run_states.specs.declared.holder.Holder.{Holder}

@@ -5,7 +5,7 @@ use Rattle.std.specs.Prelude.{◌-◌, Option, Some, None}
 use Rattle.run_plan.specs.declared.last_command.LastCommand.{LastCommand}
 use Rattle.run_plan.specs.declared.last_command.LastCommand.TheVariants as last
 use Rattle.run_plan.specs.declared.last_command.ClaimReply.TheVariants as given
-use Rattle.run_states.specs.Places.{leg_site}
+use Rattle.run_states.specs.Runs.{leg_site}
 use Rattle.run_states.specs.declared.place.LegSite.{LegSite}
 
 abbrev pub kept_site : LastCommand → Option LegSite

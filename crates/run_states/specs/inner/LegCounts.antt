@@ -1,11 +1,9 @@
 -- How many legs of a job are in each phase that settling, claims and ends ask about.
 use Rattle.std.specs.Prelude.{◌≡◌, ◌<◌, ◌^◌, ◌||◌, ℕ, List, [], count_by, Bool, true, if◌then◌else◌}
 use Rattle.std.specs.List.{list_any}
-use Rattle.run_states.specs.Fitting.{is_ready}
+use Rattle.run_states.specs.Fitting.{is_ready, is_at_work}
 use Rattle.run_states.specs.Groups.{leg_waits}
-use Rattle.run_states.specs.Parallel.{is_at_work}
-use Rattle.run_states.specs.RunState.{JobState, LegState}
-use Rattle.run_states.specs.StateWords.{is_new}
+use Rattle.run_states.specs.Runs.{JobState, LegState, is_new}
 use Rattle.run_states.specs.declared.leg_counts.LegCounts.{LegCounts}
 use Rattle.run_states.specs.declared.phases.LegPhase.{LegPhase}
 

@@ -2,11 +2,11 @@
 use Rattle.std.specs.Prelude.{◌≡◌, ◌≤◌, ℕ, List, count_by, is_none, map, nat_eq, None, Option}
 use Rattle.std.specs.List.{slice_index_or}
 use Rattle.wf_value.specs.declared.outcome.JobResult.{JobResult}
-use Rattle.needs_graph.specs.Ancestors.{needs_at}
+use Rattle.needs_graph.specs.Needs.{needs_at}
 use Rattle.run_plan.specs.PlanOf.{plan_graph}
 use Rattle.run_plan.specs.declared.planned.PlannedJob.{PlannedJob}
 use Rattle.run_states.specs.inner.Cells.{JobCells, legs_planned, rooms, states}
-use Rattle.run_states.specs.JobResults.{results_so_far}
+use Rattle.run_states.specs.Runs.{results_so_far}
 
 -- how many of the jobs at these indices have no result so far
 abbrev pub unfinished : List (Option JobResult) → List ℕ → ℕ

@@ -2,10 +2,8 @@
 use Rattle.std.specs.Prelude.{ℕ, ◌+◌, ◌<◌, ◌^◌, List, ◌++◌, length, map, flat_map}
 use Rattle.std.specs.List.{enumerate_from}
 use Rattle.run_states.specs.inner.Cells.{JobCells, states}
-use Rattle.run_states.specs.FirstOf.{placed}
-use Rattle.run_states.specs.Places.{leg_site}
+use Rattle.run_states.specs.Runs.{placed, leg_site, LegState, JobState, RunState}
 use Rattle.run_states.specs.declared.place.LegSite.{LegSite}
-use Rattle.run_states.specs.RunState.{LegState, JobState, RunState}
 
 pub record PlacedLeg : Type 0 where
   pub place : LegSite

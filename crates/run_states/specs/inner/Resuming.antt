@@ -3,15 +3,11 @@ use Rattle.std.specs.Prelude.{ℕ, min, List, ◌&&◌, ◌||◌, Bool, false, i
 use Rattle.std.specs.Prelude.{if◌then◌else◌}
 use Rattle.std.specs.List.{slice_index_or}
 use Rattle.std.specs.Option.{option_map_or}
-use Rattle.needs_graph.specs.Ancestors.{dependents_of}
-use Rattle.run_states.specs.GroupOf.{cancels_in_progress, group_at}
-use Rattle.run_states.specs.Groups.{holds}
+use Rattle.needs_graph.specs.Needs.{dependents_of}
+use Rattle.run_states.specs.Groups.{cancels_in_progress, group_at, holds}
 use Rattle.run_states.specs.inner.Holders.{first_conflicting}
-use Rattle.run_states.specs.JobResults.{needs_in, results_so_far}
-use Rattle.run_states.specs.Places.{leg_at, run_at}
+use Rattle.run_states.specs.Runs.{needs_in, results_so_far, leg_at, run_at, RunState, is_new}
 use Rattle.run_states.specs.declared.place.LegSite.{LegSite}
-use Rattle.run_states.specs.RunState.{RunState}
-use Rattle.run_states.specs.StateWords.{is_new}
 use Rattle.run_states.specs.declared.holder.HolderFilter.TheVariants.{OthersPending, InProgress}
 use Rattle.run_states.specs.declared.place.JobSite.{JobSite}
 use Rattle.run_states.specs.declared.place.RuleSite.{RuleSite}

@@ -3,16 +3,14 @@
 -- events of other runs, and on nothing else of theirs.
 use Rattle.std.specs.Prelude.{ℕ, ◌&&◌, List, false, Option, Some, None, if◌then◌else◌}
 use Rattle.std.specs.Option.{option_map_or}
-use Rattle.needs_graph.specs.Results.{fails_job}
-use Rattle.run_states.specs.FirstOf.{placed, first_some}
-use Rattle.run_states.specs.Fitting.{is_ready, is_served, has_lease}
-use Rattle.run_states.specs.Parallel.{has_room}
+use Rattle.needs_graph.specs.Needs.{fails_job}
+use Rattle.run_states.specs.Runs.{placed, first_some, LegState, JobState, RunState}
+use Rattle.run_states.specs.Fitting.{is_ready, is_served, has_lease, has_room}
 use Rattle.run_states.specs.inner.PlacedLegs.{PlacedLeg, placed_legs_of_run}
-pub use Rattle.run_states.specs.Places.{leg_site}
+pub use Rattle.run_states.specs.Runs.{leg_site}
 use Rattle.run_states.specs.declared.place.LegSite.{LegSite}
-use Rattle.run_states.specs.Rules.{leg_end}
-pub use Rattle.run_states.specs.RunConditions.{condition_in, may_run_in, needs_finished_in}
-use Rattle.run_states.specs.RunState.{LegState, JobState, RunState}
+use Rattle.run_states.specs.Settling.{leg_end}
+pub use Rattle.run_states.specs.LegContext.{condition_in, may_run_in, needs_finished_in}
 use Rattle.run_states.specs.declared.phases.LegPhase.TheVariants as leg
 use Rattle.run_states.specs.declared.phases.RunPhase.TheVariants as run
 

@@ -2,10 +2,9 @@
 
 ghost use Rattle.std.specs.Prelude.{◌≡◌, ◌≢◌, ◌-◌, ℕ, count_by, length, nat_eq};
 ghost use Rattle.run_states.specs.inner.Cells.{rooms, states};
-ghost use Rattle.run_states.specs.FirstOf.{changed_at};
-ghost use Rattle.run_states.specs.JobResults.{results_so_far};
+ghost use Rattle.run_states.specs.Runs.{changed_at, results_so_far};
 ghost use Rattle.run_states.specs.inner.NeedsLeft.{NamedOnce, NeedsAreLeft, needs_left_at, unfinished};
-ghost use Rattle.run_states.specs.Rules.{finished_as};
+ghost use Rattle.run_states.specs.Settling.{finished_as};
 
 use crate::job::Job;
 use crate::run::is_finished_at;

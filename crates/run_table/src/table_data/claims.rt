@@ -6,7 +6,7 @@ ghost use Rattle.definitions.specs.Limits.{last_number, max_runs};
 ghost use Rattle.wf_value.specs.Gives.{Gives, no_memory};
 ghost use Rattle.run_states.specs.Fitting.{first_fit};
 ghost use Rattle.run_states.specs.Sound.{IsSound};
-ghost use Rattle.run_states.specs.Places.{run_at};
+ghost use Rattle.run_states.specs.Runs.{run_at};
 ghost use Rattle.run_states.specs.Step.{claim_answer, claimed, claiming, claiming_runner, is_allocation_free, kept_lease_at};
 ghost use Rattle.run_states.specs.Step.{lease_answer, lease_at, leasing, outcome, serving_nothing, unchanged};
 ghost use Rattle.run_table.specs.inner.IndexNamed.{index_named};

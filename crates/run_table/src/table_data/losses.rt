@@ -3,11 +3,9 @@
 ghost use Rattle.std.specs.Prelude.{◌≡◌, true, Ok, OnErr, IsOk};
 ghost use Rattle.wf_value.specs.Gives.{Gives};
 ghost use Rattle.run_states.specs.Fitting.{OnlyAtWork};
-ghost use Rattle.run_states.specs.Sound.{IsSound};
-ghost use Rattle.run_states.specs.SoundRuns.{RunsAreSound};
+ghost use Rattle.run_states.specs.Sound.{IsSound, RunsAreSound};
 ghost use Rattle.run_states.specs.Step.{is_allocation_free, losing, loss_answer, lost, outcome};
-ghost use Rattle.run_states.specs.StopMoves.{with_ended};
-ghost use Rattle.run_states.specs.Stops.{outcome_of_loss};
+ghost use Rattle.run_states.specs.Stops.{with_ended, outcome_of_loss};
 ghost use Rattle.run_table.specs.inner.IndexNamed.{index_named};
 
 use crate::runner::Runner;

@@ -2,7 +2,7 @@
 use Rattle.std.specs.Prelude.{◌≡◌, List, true}
 use Rattle.group_name.specs.Group.{Group}
 use Rattle.run_states.specs.Groups.{is_in_progress_in}
-use Rattle.run_states.specs.RunState.{RunState}
+use Rattle.run_states.specs.Runs.{RunState}
 use Rattle.run_states.specs.declared.holder.Holder.{Holder}
 
 -- each holder that is in progress in a group still is

@@ -4,7 +4,7 @@ ghost use Rattle.std.specs.Bool.{Decides};
 ghost use Rattle.std.specs.List.{position};
 ghost use Rattle.std.specs.Prelude.{◌≡◌, Some};
 ghost use Rattle.run_states.specs.Sound.{DeliveriesDiffer};
-ghost use Rattle.run_states.specs.NewRun.{is_delivered_as};
+ghost use Rattle.run_states.specs.Runs.{is_delivered_as};
 
 use run_states::Run;
 use workflow_runs::runs::Runs;

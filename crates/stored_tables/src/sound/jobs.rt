@@ -5,9 +5,9 @@ ghost use Rattle.std.specs.Bool.{Decides};
 ghost use Rattle.std.specs.Prelude.{◌≡◌};
 ghost use Rattle.run_states.specs.inner.Cells.{states};
 ghost use Rattle.stored_tables.specs.inner.OneByOne.{EachJobIsSound, IsWithinParallel, JobIsSound, NeedsAreFirst};
-ghost use Rattle.run_states.specs.Rules.{result_at};
-ghost use Rattle.run_states.specs.SoundRuns.{LegsFit, MayLackLegs};
-ghost use Rattle.run_states.specs.Words.{needs_have_finished, planned_legs};
+ghost use Rattle.run_states.specs.Settling.{result_at};
+ghost use Rattle.run_states.specs.Sound.{LegsFit, MayLackLegs};
+ghost use Rattle.run_states.specs.LegContext.{needs_have_finished, planned_legs};
 ghost use Rattle.run_states.specs.declared.phases.JobPhase.TheVariants.{Finished};
 
 use run_states::{Job, JobPhase};

@@ -4,7 +4,7 @@
 ghost use Rattle.std.specs.Bool.{Decides};
 ghost use Rattle.std.specs.Prelude.{◌≡◌, is_some, Some};
 ghost use Rattle.stored_tables.specs.inner.OneByOne.{EachLegIsSound, IsFound, IsGiven, LegIsSound, leg_of, runner_of};
-ghost use Rattle.run_states.specs.SoundRuns.{LeaseFits};
+ghost use Rattle.run_states.specs.Sound.{LeaseFits};
 
 use crate::sound::leases::Leases;
 use run_plan::Number;

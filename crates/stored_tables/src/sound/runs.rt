@@ -5,9 +5,8 @@ ghost use Rattle.std.specs.Bool.{Decides};
 ghost use Rattle.std.specs.Prelude.{◌≡◌};
 ghost use Rattle.std.specs.List.{list_all};
 ghost use Rattle.stored_tables.specs.inner.OneByOne.{EachRunIsSound, RunIsSound};
-ghost use Rattle.run_states.specs.Sound.{AttemptIsGiven};
-ghost use Rattle.run_states.specs.SoundRuns.{PhaseFits};
-ghost use Rattle.run_states.specs.StateWords.{is_blocked};
+ghost use Rattle.run_states.specs.Sound.{AttemptIsGiven, PhaseFits};
+ghost use Rattle.run_states.specs.Runs.{is_blocked};
 
 use crate::sound::jobs::are_jobs_sound;
 use run_states::{Job, LAST_ATTEMPT, Run, RunPhase};

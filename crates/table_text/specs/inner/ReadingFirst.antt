@@ -1,11 +1,10 @@
 -- Reading of a table in the first layout as a function, where it differs from the second layout.
 use Rattle.std.specs.Prelude.{ℕ, ◌==◌, List, Bool, if◌then◌else◌, Option, Some, None}
 use Rattle.definitions.specs.Limits.{max_runs}
-use Rattle.definitions.specs.Admitted.{Admitted}
-use Rattle.definitions.specs.SmallText.{is_runner_byte}
+use Rattle.definitions.specs.SmallText.{Admitted, is_runner_byte}
 use Rattle.stored_tables.specs.Stored.{RunnerParts, TableParts}
 use Rattle.stored_tables.specs.declared.parts.LastParts.{LastParts}
-use Rattle.run_states.specs.RunState.{JobState, RunState}
+use Rattle.run_states.specs.Runs.{JobState, RunState}
 use Rattle.run_states.specs.declared.phases.RunPhase.{RunPhase}
 use Rattle.table_text.specs.declared.kept.StoredReply.{StoredReply}
 use Rattle.table_text.specs.declared.kept.StoredReply.TheVariants as replied

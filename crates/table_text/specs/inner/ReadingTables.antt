@@ -3,14 +3,13 @@ use Rattle.std.specs.Prelude.{ℕ, ◌==◌, List, [], ◌∷◌, find, Bool, tr
 use Rattle.definitions.specs.Limits.{max_runs}
 use Rattle.wf_value.specs.declared.outcome.JobResult.TheVariants as result
 use Rattle.wf_value.specs.declared.outcome.Outcome.TheVariants as outcome
-use Rattle.definitions.specs.Admitted.{Admitted}
-use Rattle.definitions.specs.SmallText.{is_runner_byte}
+use Rattle.definitions.specs.SmallText.{Admitted, is_runner_byte}
 use Rattle.run_plan.specs.declared.command.Claim.{Claim}
 use Rattle.run_plan.specs.declared.command.Done.{Done}
 use Rattle.run_plan.specs.declared.command.Command.{Command}
 use Rattle.run_plan.specs.declared.command.Command.TheVariants as requested
 use Rattle.stored_tables.specs.Stored.{RunnerParts, TableParts, is_new}
-use Rattle.run_states.specs.RunState.{LegState, JobState, RunState}
+use Rattle.run_states.specs.Runs.{LegState, JobState, RunState}
 use Rattle.stored_tables.specs.declared.parts.LastParts.{LastParts}
 use Rattle.stored_tables.specs.declared.parts.LastParts.TheVariants as last
 use Rattle.stored_tables.specs.declared.parts.StoredLease.{StoredLease}

@@ -4,7 +4,7 @@ use Rattle.std.specs.List.{list_any}
 use Rattle.std.specs.Option.{option_map_or}
 use Rattle.group_name.specs.Group.{Group, same_group}
 use Rattle.run_states.specs.Groups.{all_holders}
-use Rattle.run_states.specs.RunState.{RunState}
+use Rattle.run_states.specs.Runs.{RunState}
 use Rattle.table_views.specs.GroupLines.{group_in_use}
 use Rattle.table_views.specs.declared.claim.GroupClaim.{GroupClaim}
 use Rattle.run_states.specs.declared.holder.Holder.{Holder}

@@ -5,13 +5,10 @@ use Rattle.serde_json.specs.Find.{get}
 use Rattle.wf_value.specs.declared.code.Code.TheVariants.{NoLabels}
 use Rattle.wf_value.specs.declared.refusal.Refusal.{Refusal}
 use Rattle.wf_expr.specs.declared.place.ContextSite.TheVariants as place
-use Rattle.wf_reader.specs.Concurrency.{concurrency_faults, concurrency_in}
-use Rattle.wf_reader.specs.Condition.{condition_faults, condition_where}
+use Rattle.wf_reader.specs.Job.{concurrency_faults, concurrency_in, condition_faults, condition_where, flag_faults, flag_in}
 use Rattle.wf_reader.specs.Faults.{faults_in_order, optional, required}
-use Rattle.wf_reader.specs.Flags.{flag_faults, flag_in}
-use Rattle.wf_reader.specs.Job.{labels_faults, requested_labels}
+use Rattle.wf_reader.specs.Job.{labels_faults, requested_labels, needs_faults, needs_in}
 use Rattle.wf_reader.specs.Json.{member_at}
-use Rattle.wf_reader.specs.Needs.{needs_faults, needs_in}
 use Rattle.wf_reader.specs.Strategy.{strategy_faults, strategy_of}
 use Rattle.wf_reader.specs.declared.job.Legs.{Legs}
 use Rattle.wf_reader.specs.declared.job.Start.{Start}

@@ -4,12 +4,11 @@ use Rattle.std.specs.Option.{option_map_or}
 use Rattle.group_book.specs.Books.{BookState, slot_in}
 use Rattle.group_book.specs.declared.slot.Slot.{Slot}
 use Rattle.group_name.specs.Group.{Group}
-use Rattle.run_states.specs.GroupOf.{group_at}
-use Rattle.run_states.specs.GroupWords.{same_holder}
-use Rattle.run_states.specs.Groups.{is_in, is_in_progress_in, waits}
+use Rattle.run_states.specs.Groups.{group_at, is_in, is_in_progress_in, waits}
+use Rattle.run_states.specs.GroupLaw.{same_holder}
 use Rattle.run_states.specs.inner.Holders.{first_conflicting}
-use Rattle.run_states.specs.RunState.{RunState}
-use Rattle.run_states.specs.StopMoves.{stop_holder}
+use Rattle.run_states.specs.Runs.{RunState}
+use Rattle.run_states.specs.Stops.{stop_holder}
 use Rattle.run_states.specs.declared.holder.Holder.{Holder}
 use Rattle.run_states.specs.declared.holder.HolderFilter.{HolderFilter}
 use Rattle.run_bindings.specs.GroupKeys.{ticket_in}

@@ -4,9 +4,9 @@ use Rattle.std.specs.Prelude.{◌≡◌, ◌≤◌, ◌<◌, ◌&&◌, ◌++◌,
 use Rattle.std.specs.Prelude.{Result, Ok, Err}
 use Rattle.std.specs.Option.{option_map_or}
 use Rattle.group_book.specs.Books.{BookState}
-use Rattle.run_states.specs.GroupOf.{group_at}
+use Rattle.run_states.specs.Groups.{group_at}
 use Rattle.run_states.specs.Holders.{run_of}
-use Rattle.run_states.specs.RunState.{RunState}
+use Rattle.run_states.specs.Runs.{RunState}
 use Rattle.run_states.specs.declared.holder.Holder.{Holder}
 use Rattle.run_bindings.specs.BoundGroups.{results_by_index}
 use Rattle.run_bindings.specs.GroupKeys.{AreLater, decided, requests_of, ticket_in}

@@ -4,8 +4,8 @@ use Rattle.std.specs.Hash as fed
 use Rattle.std.specs.Option.{option_map_or}
 use Rattle.indexmap.specs.IndexMap.{IndexMap, get}
 use Rattle.wf_reader.specs.Event.{event_of}
-use Rattle.definitions.specs.Admitted.{Admitted}
-use Rattle.run_states.specs.RunNumber.{same_workflow}
+use Rattle.definitions.specs.SmallText.{Admitted}
+use Rattle.run_states.specs.LegContext.{same_workflow}
 use Rattle.workflow_runs.specs.declared.rows.counts.Counted.{Counted}
 
 -- what the hash of the workflow of an event is fed

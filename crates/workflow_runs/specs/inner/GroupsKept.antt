@@ -5,12 +5,9 @@ use Rattle.std.specs.Option.{option_map_or}
 use Rattle.group_book.specs.Books.{BookState, slot_in}
 use Rattle.group_book.specs.declared.slot.Slot.{Slot}
 use Rattle.group_name.specs.Group.{Group}
-use Rattle.run_states.specs.GroupOf.{cancels_in_progress, group_at}
-use Rattle.run_states.specs.Groups.{is_in_progress_in, is_pending_in}
-use Rattle.run_states.specs.Places.{job_at, leg_at, run_at}
+use Rattle.run_states.specs.Groups.{cancels_in_progress, group_at, is_in_progress_in, is_pending_in}
+use Rattle.run_states.specs.Runs.{job_at, leg_at, run_at, JobState, RunState, is_blocked}
 use Rattle.run_states.specs.inner.Resuming.{is_new_at}
-use Rattle.run_states.specs.RunState.{JobState, RunState}
-use Rattle.run_states.specs.StateWords.{is_blocked}
 use Rattle.run_states.specs.declared.holder.Holder.{Holder}
 use Rattle.run_states.specs.declared.holder.Holder.TheVariants.{Run, Leg}
 use Rattle.run_states.specs.declared.place.LegSite.{LegSite}

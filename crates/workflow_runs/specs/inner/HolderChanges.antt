@@ -1,9 +1,8 @@
 -- Which holder a change of a run makes begin or end. A change concerns at most one.
 use Rattle.std.specs.Prelude.{◌≡◌, ℕ, List, true, false}
-use Rattle.run_states.specs.GroupOf.{cancels_in_progress, group_at}
-use Rattle.run_states.specs.Groups.{holds, may_start, waits}
+use Rattle.run_states.specs.Groups.{cancels_in_progress, group_at, holds, may_start, waits}
 use Rattle.run_states.specs.inner.Resuming.{is_new_at}
-use Rattle.run_states.specs.RunState.{RunState}
+use Rattle.run_states.specs.Runs.{RunState}
 use Rattle.run_states.specs.declared.holder.Holder.{Holder}
 use Rattle.run_states.specs.declared.place.LegSite.{LegSite}
 use Rattle.workflow_runs.specs.inner.GroupsKept.{is_blocked_at, is_there}

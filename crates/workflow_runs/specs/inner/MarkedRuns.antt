@@ -2,7 +2,7 @@
 -- the property is marked, and other runs may be.
 use Rattle.std.specs.Prelude.{◌≡◌, ℕ, List, length, Bool, true, slice_get, Some, is_some}
 use Rattle.run_marks.specs.Marked.{Covers, is_marked}
-use Rattle.run_states.specs.RunState.{RunState}
+use Rattle.run_states.specs.Runs.{RunState}
 use Rattle.run_states.specs.WithinRun.{first_in_run}
 
 -- whether a rule applies in the run

@@ -4,10 +4,9 @@ use Rattle.std.specs.Prelude.{◌≡◌, ℕ, List, map, Option, Some, option_an
 use Rattle.std.specs.Option.{option_map_or}
 use Rattle.group_name.specs.Group.{Group}
 use Rattle.run_states.specs.inner.ActiveRuns.{is_active}
-use Rattle.run_states.specs.FirstOf.{changed_at}
+use Rattle.run_states.specs.Runs.{changed_at, RunState}
 use Rattle.run_states.specs.Holders.{run_of}
-use Rattle.run_states.specs.RunNumber.{AreNumbered, events}
-use Rattle.run_states.specs.RunState.{RunState}
+use Rattle.run_states.specs.LegContext.{AreNumbered, events}
 use Rattle.run_states.specs.declared.holder.Holder.{Holder}
 use Rattle.run_bindings.specs.Bindings.{AreBound}
 use Rattle.run_bindings.specs.BoundGroups.{results_by_index}

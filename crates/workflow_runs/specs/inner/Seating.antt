@@ -3,10 +3,9 @@ use Rattle.std.specs.Prelude.{◌≡◌, ◌↔◌, ◌≤◌, ◌&&◌, ◌||�
 use Rattle.group_book.specs.Books.{BookState, slot_in}
 use Rattle.group_book.specs.declared.slot.Slot.{Slot}
 use Rattle.group_name.specs.Group.{Group, same_group}
-use Rattle.run_states.specs.GroupOf.{group_at}
-use Rattle.run_states.specs.Groups.{HasOneEach, holds, is_in, waits}
+use Rattle.run_states.specs.Groups.{group_at, HasOneEach, holds, is_in, waits}
 use Rattle.run_states.specs.Holders.{run_of}
-use Rattle.run_states.specs.RunState.{RunState}
+use Rattle.run_states.specs.Runs.{RunState}
 use Rattle.run_states.specs.declared.holder.Holder.{Holder}
 use Rattle.run_states.specs.declared.holder.Holder.TheVariants.{Run, Leg}
 use Rattle.run_bindings.specs.GroupKeys.{ticket_in}

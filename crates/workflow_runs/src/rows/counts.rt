@@ -4,8 +4,8 @@ ghost use Rattle.std.specs.Prelude.{◌≡◌, ◌<◌, ◌+◌, IfOk, OnOk, if�
 ghost use Rattle.definitions.specs.Limits.{max_runs};
 ghost use Rattle.indexmap.specs.IndexMap.{spare};
 ghost use Rattle.wf_value.specs.Gives.{ErrsOnlyByMemory};
-ghost use Rattle.definitions.specs.Admitted.{Admitted};
-ghost use Rattle.run_states.specs.RunNumber.{same_workflow};
+ghost use Rattle.definitions.specs.SmallText.{Admitted};
+ghost use Rattle.run_states.specs.LegContext.{same_workflow};
 ghost use Rattle.workflow_runs.specs.inner.Counted.{count_of};
 
 use crate::rows::workflow::Workflow;

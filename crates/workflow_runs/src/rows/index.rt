@@ -4,8 +4,8 @@ ghost use Rattle.std.specs.Prelude.{◌≡◌, ◌<◌, ℕ, [], IfOk, List, Ok,
 ghost use Rattle.std.specs.Str.{bytes_eq};
 ghost use Rattle.indexmap.specs.IndexMap.{get_by_text, spare};
 ghost use Rattle.wf_value.specs.Gives.{ErrsOnlyByMemory, Gives};
-ghost use Rattle.definitions.specs.Admitted.{Admitted};
-ghost use Rattle.run_states.specs.RunNumber.{same_workflow};
+ghost use Rattle.definitions.specs.SmallText.{Admitted};
+ghost use Rattle.run_states.specs.LegContext.{same_workflow};
 ghost use Rattle.run_bindings.specs.inner.LabelNumbers.{LegsAreOffered};
 ghost use Rattle.workflow_runs.specs.inner.Counted.{AreCounted, count_of};
 ghost use Rattle.workflow_runs.specs.inner.Delivered.{FindsFirst};

@@ -6,7 +6,7 @@ ghost use Rattle.label_lists.specs.Known.{IsBefore};
 ghost use Rattle.label_lists.specs.Lists.{HasPlace, may_offer};
 ghost use Rattle.std.specs.List.{list_any};
 ghost use Rattle.run_states.specs.inner.Cells.{states};
-ghost use Rattle.run_states.specs.FirstOf.{placed};
+ghost use Rattle.run_states.specs.Runs.{placed};
 ghost use Rattle.run_states.specs.Fitting.{is_ready};
 ghost use Rattle.run_bindings.specs.inner.LabelNumbers.{IsOffered, JobsOffer, LegsOffer, MayServe, OnlyMarks, OnlyPuts, ServesList, job_offers, leg_offers};
 ghost use Rattle.run_bindings.specs.LabelNumbers.{list_number, number_in};

@@ -3,9 +3,8 @@
 ghost use Rattle.std.specs.Prelude.{◌≡◌, ◌≤◌, ◌+◌, ◌<◌, IfOk, IfSome, Ok, OnErr, OnOk, Some, option_map, slice_set, vec_len};
 ghost use Rattle.definitions.specs.Limits.{last_attempt};
 ghost use Rattle.wf_value.specs.Gives.{ErrsOnlyByMemory, Gives};
-ghost use Rattle.run_states.specs.NewRun.{again};
-ghost use Rattle.run_states.specs.Places.{run_at, with_run};
-ghost use Rattle.run_states.specs.RunNumber.{events, run_number};
+ghost use Rattle.run_states.specs.Runs.{again, run_at, with_run};
+ghost use Rattle.run_states.specs.LegContext.{events, run_number};
 ghost use Rattle.run_bindings.specs.GroupKeys.{arrivals_of};
 ghost use Rattle.workflow_runs.specs.inner.Begun.{HaveTickets};
 ghost use Rattle.workflow_runs.specs.inner.GroupsKept.{AreTold, arrivals_to_come};

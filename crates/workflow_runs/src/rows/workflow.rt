@@ -8,7 +8,7 @@ ghost use Rattle.std.proofs.Common.{ap₂, rules};
 ghost use Rattle.std.proofs.lemmas.Slice.Eq.{bytes_eq-Decides};
 ghost use Rattle.wf_value.specs.Gives.{Gives};
 ghost use Rattle.wf_reader.specs.Event.{event_of};
-ghost use Rattle.run_states.specs.RunNumber.{same_workflow};
+ghost use Rattle.run_states.specs.LegContext.{same_workflow};
 ghost use Rattle.workflow_runs.specs.inner.Counted.{hashed};
 
 use run_plan::Prepared;
@@ -24,7 +24,7 @@ pub(crate) struct Workflow {
 }
 
 impl Model for Workflow {
-    ghost use Rattle.definitions.specs.Admitted.{Admitted, coded_admitted};
+    ghost use Rattle.definitions.specs.SmallText.{Admitted, coded_admitted};
 
     ghost Value = { Admitted };
 

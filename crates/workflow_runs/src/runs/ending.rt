@@ -3,12 +3,11 @@
 ghost use Rattle.std.specs.Prelude.{◌≡◌, ◌<◌, ◌^◌, IfSome, true};
 ghost use Rattle.std.specs.Option.{option_map_or};
 ghost use Rattle.run_states.specs.Groups.{holds};
-ghost use Rattle.run_states.specs.NewRun.{leased_leg};
+ghost use Rattle.run_states.specs.Runs.{leased_leg, leg_at, with_leg};
 ghost use Rattle.run_states.specs.declared.holder.Holder.TheVariants as held;
-ghost use Rattle.run_states.specs.Parallel.{is_at_work};
-ghost use Rattle.run_states.specs.Places.{leg_at, with_leg};
-ghost use Rattle.run_states.specs.Rules.{with_leg_in};
-ghost use Rattle.run_states.specs.SoundRuns.{RunsAreSound};
+ghost use Rattle.run_states.specs.Fitting.{is_at_work};
+ghost use Rattle.run_states.specs.Settling.{with_leg_in};
+ghost use Rattle.run_states.specs.Sound.{RunsAreSound};
 ghost use Rattle.run_states.specs.Stops.{after_end, fails_fast, stops_others};
 ghost use Rattle.run_states.specs.declared.phases.LegPhase.TheVariants.{Ended};
 

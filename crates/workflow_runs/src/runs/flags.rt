@@ -2,7 +2,7 @@
 //! so far. GitHub Docs, "Workflow syntax for GitHub Actions", `jobs.<job_id>.continue-on-error`.
 
 ghost use Rattle.std.specs.Prelude.{◌≡◌};
-ghost use Rattle.run_states.specs.Words.{continues_on_error};
+ghost use Rattle.run_states.specs.LegContext.{continues_on_error};
 
 use crate::runs::Runs;
 use run_states::LegSite;

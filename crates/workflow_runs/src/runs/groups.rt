@@ -4,11 +4,11 @@ ghost use Rattle.std.specs.Prelude.{◌≡◌, Some, ◌<◌, IfSome, Ok, false,
 ghost use Rattle.definitions.specs.Limits.{max_runs};
 ghost use Rattle.wf_value.specs.Gives.{Gives};
 ghost use Rattle.group_name.specs.BoundGroup.{group_at as bound_group_at};
-ghost use Rattle.run_states.specs.Arrivals.{is_in_group_of_run};
-ghost use Rattle.run_states.specs.GroupOf.{RunFacts, group_at, run_facts_at};
+ghost use Rattle.run_states.specs.Settling.{is_in_group_of_run};
+ghost use Rattle.run_states.specs.Groups.{RunFacts, group_at, run_facts_at};
 ghost use Rattle.run_states.specs.Groups.{all_holders, holds, is_in_progress_in, is_pending_in, may_start, waits};
 ghost use Rattle.run_states.specs.Holders.{run_of};
-ghost use Rattle.run_states.specs.Places.{run_at};
+ghost use Rattle.run_states.specs.Runs.{run_at};
 ghost use Rattle.run_states.specs.inner.Resuming.{makes_room};
 ghost use Rattle.run_states.specs.declared.holder.Holder.TheVariants as held;
 ghost use Rattle.run_bindings.specs.Bindings.{RunSays};

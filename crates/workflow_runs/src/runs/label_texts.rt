@@ -2,7 +2,7 @@
 
 ghost use Rattle.std.specs.Prelude.{◌<◌, ◌^◌, [], Ok, unwrap_or};
 ghost use Rattle.wf_value.specs.Gives.{Gives};
-ghost use Rattle.run_states.specs.Words.{labels_at};
+ghost use Rattle.run_states.specs.LegContext.{labels_at};
 
 use crate::runs::Runs;
 use run_states::LegSite;

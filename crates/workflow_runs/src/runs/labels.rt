@@ -3,7 +3,7 @@
 
 ghost use Rattle.std.specs.Prelude.{◌≡◌, ◌<◌};
 ghost use Rattle.run_states.specs.Fitting.{is_served};
-ghost use Rattle.run_states.specs.Words.{planned_legs};
+ghost use Rattle.run_states.specs.LegContext.{planned_legs};
 
 use crate::runs::Runs;
 use run_plan::Label;

@@ -4,18 +4,16 @@ ghost use Rattle.std.specs.Prelude.{◌≡◌, ◌<◌, false, if◌then◌else�
 ghost use Rattle.std.specs.Prelude.{filter_map};
 ghost use Rattle.std.specs.List.{list_any};
 ghost use Rattle.std.specs.Option.{option_map_or};
-ghost use Rattle.needs_graph.specs.Results.{fails_job, gathered, is_cancelled};
-ghost use Rattle.run_states.specs.FirstOf.{first_some, placed};
+ghost use Rattle.needs_graph.specs.Needs.{fails_job, gathered, is_cancelled};
+ghost use Rattle.run_states.specs.Runs.{first_some, placed, job_at, leg_at, run_at, with_job, outcome_of};
 ghost use Rattle.run_states.specs.Resuming.{RestBefore};
 ghost use Rattle.run_states.specs.inner.Resuming.{at_job_again, may_invalidate_others, is_new_at, resume_point};
-ghost use Rattle.run_states.specs.Places.{job_at, leg_at, run_at, with_job};
-ghost use Rattle.run_states.specs.Rules.{closing_rule, decided, leg_end, leg_rule, may_run, rule_at, whole_rule};
+ghost use Rattle.run_states.specs.Settling.{closing_rule, decided, leg_end, leg_rule, may_run, rule_at, whole_rule};
 ghost use Rattle.run_states.specs.Settling.{first_site, first_rule, settled};
-ghost use Rattle.run_states.specs.SoundRuns.{RunsAreSound};
-ghost use Rattle.run_states.specs.StateWords.{outcome_of};
+ghost use Rattle.run_states.specs.Sound.{RunsAreSound};
 ghost use Rattle.run_states.specs.declared.place.RuleSite.TheVariants.{AtLeg, Closing, Opening, Whole};
 ghost use Rattle.run_states.specs.inner.WithinRun.{failing};
-ghost use Rattle.run_states.specs.Words.{is_stopping};
+ghost use Rattle.run_states.specs.LegContext.{is_stopping};
 
 use crate::runs::Runs;
 use crate::walk::Legs;

@@ -2,10 +2,10 @@
 
 ghost use Rattle.std.specs.Prelude.{◌≡◌, ◌&&◌, Some, false, not, option_map};
 ghost use Rattle.std.specs.Option.{option_map_or};
-ghost use Rattle.run_states.specs.Places.{run_at, with_job, with_leg, with_run};
-ghost use Rattle.run_states.specs.RunConditions.{may_run_in};
-ghost use Rattle.run_states.specs.SoundRuns.{RunsAreSound};
-ghost use Rattle.run_states.specs.StopMoves.{stop_holder};
+ghost use Rattle.run_states.specs.Runs.{run_at, with_job, with_leg, with_run};
+ghost use Rattle.run_states.specs.LegContext.{may_run_in};
+ghost use Rattle.run_states.specs.Sound.{RunsAreSound};
+ghost use Rattle.run_states.specs.Stops.{stop_holder};
 ghost use Rattle.run_states.specs.Stops.{is_open_at, stopped, stopped_run, with_job_stopped, with_stop_requested, with_stopped_legs};
 ghost use Rattle.run_states.specs.declared.phases.RunPhase.TheVariants as run;
 

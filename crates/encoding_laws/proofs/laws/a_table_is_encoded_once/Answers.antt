@@ -1,4 +1,4 @@
-use Rattle.table_text.specs.WholeTables.{whole_table}
+use Rattle.table_text.specs.Tables.{whole_table}
 use Rattle.command_encodings.proofs.Readers.{one_encoding}
 use Rattle.encoding_laws.proofs.laws.a_table_is_encoded_once.Goals as goal
 

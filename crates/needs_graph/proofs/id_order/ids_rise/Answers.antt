@@ -1,7 +1,7 @@
 use Rattle.std.proofs.Common.{rules}
 use Rattle.std.proofs.lemmas.Fn.{always_returns_same}
 use Rattle.wf_value.proofs.Rising.{below, rise_told}
-use Rattle.definitions.specs.JobNeeds.{JobNeeds}
+use Rattle.definitions.specs.Rising.{JobNeeds}
 use Rattle.needs_graph.proofs.id_order.ids_rise.Goals as goal
 
 pub returns : goal.returns

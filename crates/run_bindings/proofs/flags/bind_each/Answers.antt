@@ -1,6 +1,6 @@
 use Rattle.std.specs.Prelude.{ℕ}
 use Rattle.wf_expr.specs.Bound.{Results}
-use Rattle.wf_expr.specs.ContextValue.{Values}
+use Rattle.wf_expr.specs.TemplateValue.{Values}
 use Rattle.run_states.specs.LegContext.{context_of}
 use Rattle.run_bindings.specs.BoundFlags.{SaysFlag}
 use Rattle.run_bindings.specs.BoundGroups.{facts_by}

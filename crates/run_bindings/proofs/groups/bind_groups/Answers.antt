@@ -1,7 +1,7 @@
 use Rattle.std.specs.Prelude.{◌≡◌, List, Some, slice_get}
 use Rattle.std.proofs.Common.{sym, subst}
 use Rattle.wf_reader.specs.Event.{event_of}
-use Rattle.run_states.specs.GroupOf.{concurrency_of_leg}
+use Rattle.run_states.specs.Groups.{concurrency_of_leg}
 use Rattle.run_states.specs.LegContext.{context_of}
 use Rattle.run_bindings.specs.BoundGroups.{SaysSo, facts_by}
 use Rattle.run_bindings.specs.declared.groups.GroupRequest.{GroupRequest}

@@ -1,10 +1,10 @@
 use Rattle.std.specs.Prelude.{◌≡◌, ℕ, List, Option, Some, None}
 use Rattle.std.proofs.Common.{ap, sym, subst, ◌∙◌}
 use Rattle.wf_expr.specs.Bound.{HasResults, Results}
-use Rattle.wf_expr.specs.ContextValue.{Values}
+use Rattle.wf_expr.specs.TemplateValue.{Values}
 use Rattle.wf_reader.specs.Event.{event_of}
 use Rattle.wf_reader.specs.declared.concurrency.Concurrency.{Concurrency}
-use Rattle.run_states.specs.GroupOf.{run_context}
+use Rattle.run_states.specs.Groups.{run_context}
 use Rattle.run_bindings.specs.BoundGroups.{Says, SaysSo, no_need}
 use Rattle.run_bindings.proofs.groups.bind_own.Goals as goal
 

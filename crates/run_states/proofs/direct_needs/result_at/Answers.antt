@@ -1,5 +1,5 @@
 use Rattle.std.proofs.Common.{ap, sym, ◌∙◌}
-use Rattle.run_states.specs.JobResults.{finished_result}
+use Rattle.run_states.specs.Runs.{finished_result}
 use Rattle.run_states.proofs.NeedsSettled.{result_read}
 use Rattle.run_states.proofs.direct_needs.result_at.Goals as goal
 

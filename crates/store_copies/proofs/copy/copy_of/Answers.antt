@@ -1,7 +1,7 @@
 use Rattle.std.proofs.Common.{◌≡◌, ◌+◌, ◌-◌, ◌<◌, ◌++◌, ℕ, List, length, ap, arith, refl, rules, subst, sym, length-append}
 use Rattle.std.specs.Prelude.{replicate, vec_len}
 use Rattle.std.proofs.lemmas.List.{length-replicate}
-use Rattle.table_text.specs.WholeTables.{whole_table}
+use Rattle.table_text.specs.Tables.{whole_table}
 use Rattle.act_store.specs.Images.{IsAreaLength, RecoversTo}
 use Rattle.store_copies.specs.Copies.{copy_front}
 use Rattle.store_copies.proofs.Copies.{copy_recovers, length_front}

@@ -1,8 +1,6 @@
 use Rattle.std.specs.Prelude.{refl}
 use Rattle.std.proofs.Common.{ℕ, ◌<◌, length, map, arith}
-use Rattle.run_states.specs.FirstOf.{placed}
-use Rattle.run_states.specs.RunState.{RunState}
-use Rattle.run_states.specs.Places.{leg_site}
+use Rattle.run_states.specs.Runs.{placed, RunState, leg_site}
 use Rattle.table_views.proofs.Claimed.{leg_claimed, place_read, run_claimed}
 use Rattle.table_views.proofs.groups.claims_of.Goals as goal
 use Rattle.run_states.specs.declared.holder.Holder.TheVariants.{Run}

@@ -1,7 +1,6 @@
 use Rattle.std.proofs.Common.{◌≡◌, ◌∙◌, ◌<◌, ℕ, List, [], ◌∷◌, ◌++◌, length, ap, sym, arith}
 use Rattle.std.specs.Prelude.{string_bytes}
-use Rattle.run_states.specs.Places.{leg_site}
-use Rattle.run_states.specs.RunState.{LegState}
+use Rattle.run_states.specs.Runs.{leg_site, LegState}
 use Rattle.run_states.specs.declared.place.LegSite.{LegSite}
 use Rattle.table_views.specs.RunViews.{leg_row}
 use Rattle.table_views.proofs.Paging.{gives_ok}

@@ -2,8 +2,7 @@ use Rattle.std.proofs.Common.{◌≡◌, ◌∙◌, ◌++◌, ◌<◌, length, t
 use Rattle.std.proofs.lemmas.List.{get_or-map, length-map}
 use Rattle.std.specs.List.{flat_map}
 use Rattle.run_states.specs.inner.Cells.{JobCells, states}
-use Rattle.run_states.specs.FirstOf.{placed}
-use Rattle.run_states.specs.Places.{leg_sites_of_job}
+use Rattle.run_states.specs.Runs.{placed, leg_sites_of_job}
 use Rattle.table_views.proofs.Placing.{added_more, one_more}
 use Rattle.table_views.proofs.places.push_legs_of_run.Goals as goal
 

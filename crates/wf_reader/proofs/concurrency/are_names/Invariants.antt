@@ -1,6 +1,6 @@
 use Rattle.std.proofs.Common.{◌≡◌, string_bytes}
 use Rattle.std.specs.List.{list_all}
-use Rattle.wf_reader.specs.Concurrency.{is_concurrency_name}
+use Rattle.wf_reader.specs.Job.{is_concurrency_name}
 use Rattle.wf_reader.proofs.concurrency.are_names.Given as goal
 
 -- the names so far are members of a concurrency

@@ -2,10 +2,8 @@ use Rattle.std.proofs.Common.{[], codes, unwrap_or}
 use Rattle.serde_json.specs.Find.{get}
 use Rattle.serde_json.specs.View.{view}
 use Rattle.wf_value.proofs.PassedOn.{passed_on}
-use Rattle.wf_reader.specs.Concurrency.{group_text}
+use Rattle.wf_reader.specs.Job.{group_text, flag_faults, template_faults}
 use Rattle.wf_reader.specs.Faults.{optional}
-use Rattle.wf_reader.specs.Flags.{flag_faults}
-use Rattle.wf_reader.specs.Templates.{template_faults}
 use Rattle.wf_reader.proofs.ConcurrencyParts.{of_its_kind}
 use Rattle.wf_reader.proofs.InOrder.{first_decides, skip}
 use Rattle.wf_reader.proofs.concurrency.concurrency_of.Goals as goal

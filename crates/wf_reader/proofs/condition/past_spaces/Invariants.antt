@@ -1,5 +1,5 @@
 use Rattle.std.proofs.Common.{◌≡◌, length}
-use Rattle.wf_reader.specs.Condition.{past_spaces}
+use Rattle.wf_reader.specs.Job.{past_spaces}
 use Rattle.wf_reader.proofs.condition.past_spaces.Given as goal
 
 -- the removed character is a space

@@ -1,5 +1,5 @@
 use Rattle.std.proofs.Common.{◌≡◌, length}
-use Rattle.wf_reader.specs.Condition.{up_to_spaces}
+use Rattle.wf_reader.specs.Job.{up_to_spaces}
 use Rattle.wf_reader.proofs.condition.up_to_spaces.Given as goal
 
 -- the removed character is a space

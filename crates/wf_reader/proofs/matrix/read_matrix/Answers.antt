@@ -3,8 +3,7 @@ use Rattle.serde_json.specs.Find.{get}
 use Rattle.serde_json.specs.View.{view}
 use Rattle.wf_value.proofs.PassedOn.{passed_on}
 use Rattle.wf_reader.specs.Faults.{optional}
-use Rattle.wf_reader.specs.Patterns.{patterns_faults}
-use Rattle.wf_reader.specs.MatrixOf.{variables_in, variable_faults}
+use Rattle.wf_reader.specs.Strategy.{patterns_faults, variables_in, variable_faults}
 use Rattle.std.specs.List.{flat_map}
 use Rattle.wf_reader.proofs.InOrder.{first_decides, skip, same_value}
 use Rattle.wf_reader.proofs.MatrixParts.{in_matrix, variables_here, matrix_made}

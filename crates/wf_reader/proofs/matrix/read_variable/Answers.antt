@@ -2,7 +2,7 @@ use Rattle.std.proofs.Common.{◌<◌, length, sym, ◌∙◌, arith}
 use Rattle.std.proofs.lemmas.Bool.Decides.{nat_tests}
 use Rattle.serde_json.specs.View.{view}
 use Rattle.wf_value.proofs.PassedOn.{passed_on}
-use Rattle.wf_reader.specs.MatrixOf.{variable_faults}
+use Rattle.wf_reader.specs.Strategy.{variable_faults}
 use Rattle.wf_reader.proofs.Contents.{same_refusal}
 use Rattle.wf_reader.proofs.MatrixParts.{variable_here, variable_made}
 use Rattle.wf_reader.proofs.matrix.read_variable.Goals as goal

@@ -1,7 +1,7 @@
 use Rattle.std.proofs.Common.{IsTrue, ap, refl, sym, subst}
 use Rattle.definitions.specs.Rising.{names_rise}
 use Rattle.wf_value.proofs.PassedOn.{passed_on}
-use Rattle.wf_reader.specs.MatrixOf.{is_variable_name, variable_faults, variable_of}
+use Rattle.wf_reader.specs.Strategy.{is_variable_name, variable_faults, variable_of}
 use Rattle.wf_reader.proofs.Entries.{kept, kept-sorted, kept_here, check_fails, all_done, rises-sorted}
 use Rattle.wf_reader.proofs.matrix.read_variables.Goals as goal
 

@@ -1,7 +1,7 @@
 use Rattle.std.proofs.Common.{◌≡◌, ◌++◌, map, flat_map, string_bytes}
 use Rattle.std.specs.List.{filter}
 use Rattle.serde_json.specs.View.{view}
-use Rattle.wf_reader.specs.MatrixOf.{is_variable_name, variable_faults, variable_of}
+use Rattle.wf_reader.specs.Strategy.{is_variable_name, variable_faults, variable_of}
 use Rattle.wf_reader.proofs.matrix.read_variables.Given as goal
 
 -- the variables so far have no faults and their values are read

@@ -2,7 +2,7 @@ use Rattle.std.proofs.Common.{◌∷◌, ◌+◌, drop, sym, ap, ◌∙◌}
 use Rattle.std.proofs.lemmas.List.{at_drop_more}
 use Rattle.serde_json.specs.View.{view}
 use Rattle.wf_value.proofs.PassedOn.{passed_on}
-use Rattle.wf_reader.specs.Patterns.{pattern_faults}
+use Rattle.wf_reader.specs.Strategy.{pattern_faults}
 use Rattle.wf_reader.proofs.InOrder.{first_of_rest}
 use Rattle.wf_reader.proofs.patterns.read_each.Goals as goal
 

@@ -1,6 +1,6 @@
 use Rattle.std.proofs.Common.{◌≡◌, ◌++◌, map, flat_map, drop}
 use Rattle.serde_json.specs.View.{view}
-use Rattle.wf_reader.specs.Patterns.{pattern_faults, pattern_of}
+use Rattle.wf_reader.specs.Strategy.{pattern_faults, pattern_of}
 use Rattle.wf_reader.proofs.patterns.read_each.Given as goal
 
 -- the objects so far have no faults and their pairs are read

@@ -1,7 +1,7 @@
 use Rattle.std.proofs.Common.{IsTrue, refl, sym, subst}
 use Rattle.definitions.specs.Rising.{names_rise}
 use Rattle.wf_value.proofs.PassedOn.{passed_on}
-use Rattle.wf_reader.specs.Patterns.{pair_faults, pair_of}
+use Rattle.wf_reader.specs.Strategy.{pair_faults, pair_of}
 use Rattle.wf_reader.proofs.Entries.{check_fails, check_left, check_done, all_done, rises-sorted}
 use Rattle.wf_reader.proofs.patterns.read_pairs.Goals as goal
 

@@ -1,6 +1,6 @@
 use Rattle.std.proofs.Common.{◌≡◌, ◌++◌, map, flat_map, string_bytes}
 use Rattle.serde_json.specs.View.{view}
-use Rattle.wf_reader.specs.Patterns.{pair_faults, pair_of}
+use Rattle.wf_reader.specs.Strategy.{pair_faults, pair_of}
 use Rattle.wf_reader.proofs.patterns.read_pairs.Given as goal
 
 -- the members so far have no faults and their pairs are read

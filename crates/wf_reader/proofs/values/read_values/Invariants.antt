@@ -1,6 +1,6 @@
 use Rattle.std.proofs.Common.{◌≡◌, ◌++◌, map, flat_map, drop}
 use Rattle.serde_json.specs.View.{view}
-use Rattle.wf_reader.specs.MatrixValues.{value_faults, scalar_or_null}
+use Rattle.wf_reader.specs.Strategy.{value_faults, scalar_or_null}
 use Rattle.wf_reader.proofs.values.read_values.Given as goal
 
 -- the values so far have no faults and their scalars are read

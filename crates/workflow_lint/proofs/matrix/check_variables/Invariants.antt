@@ -1,7 +1,7 @@
 use Rattle.std.proofs.Common.{◌≡◌, ◌++◌, map, string_bytes}
 use Rattle.std.specs.List.{filter}
 use Rattle.serde_json.specs.View.{view}
-use Rattle.wf_reader.specs.MatrixOf.{is_variable_name}
+use Rattle.wf_reader.specs.Strategy.{is_variable_name}
 use Rattle.workflow_lint.specs.Checks.{members_at}
 use Rattle.workflow_lint.specs.InMatrix.{variable_at}
 use Rattle.workflow_lint.proofs.matrix.check_variables.Given as goal

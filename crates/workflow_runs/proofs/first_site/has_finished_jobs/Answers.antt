@@ -2,7 +2,7 @@ use Rattle.std.specs.List.{list_all}
 use Rattle.std.proofs.Common.{ap, sym, ◌∙◌}
 use Rattle.std.proofs.lemmas.List.Folds.{list_all-map}
 use Rattle.run_states.specs.inner.Cells.{JobCells}
-use Rattle.run_states.specs.Rules.{is_finished}
+use Rattle.run_states.specs.Settling.{is_finished}
 use Rattle.workflow_runs.proofs.first_site.has_finished_jobs.Goals as goal
 
 pub returns : goal.returns

@@ -1,6 +1,6 @@
 use Rattle.std.specs.Prelude.{None, if◌then◌else◌}
 use Rattle.std.proofs.Common.{ap, sym, ◌∙◌}
-use Rattle.run_states.specs.RunState.{JobState}
+use Rattle.run_states.specs.Runs.{JobState}
 use Rattle.run_states.specs.inner.WithinRun.{served_in_job}
 use Rattle.workflow_runs.proofs.NoneReady.{none_in_job}
 use Rattle.workflow_runs.proofs.fit.fit_in_job.Goals.{else-has_ready_leg-via-then-has_ready_leg+else-has_room, else-has_ready_leg-via-else-has_ready_leg}

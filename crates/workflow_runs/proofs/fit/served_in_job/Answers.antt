@@ -1,7 +1,7 @@
 use Rattle.std.specs.List.{AllByRecursion}
 use Rattle.std.proofs.Common.{ap, subst, sym, ◌∙◌}
 use Rattle.run_states.specs.inner.PlacedLegs.{PlacedLeg}
-use Rattle.run_states.specs.RunState.{JobState}
+use Rattle.run_states.specs.Runs.{JobState}
 use Rattle.run_states.specs.inner.WithinRun.{served_in_job}
 use Rattle.settling_laws.proofs.PlacedLegs.{IsInJob, all_in_job, first_passing, first_passing_in_job}
 use Rattle.workflow_runs.proofs.Sought.{serves}

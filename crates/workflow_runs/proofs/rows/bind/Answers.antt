@@ -1,6 +1,6 @@
 use Rattle.std.proofs.Common.{◌+◌}
 use Rattle.std.specs.Fmt.{decimal}
-use Rattle.run_states.specs.GroupOf.{RunFacts}
+use Rattle.run_states.specs.Groups.{RunFacts}
 use Rattle.workflow_runs.proofs.StillBound.{SameButKeys, lists_still, says_still}
 use Rattle.workflow_runs.proofs.ToldMore.{begun_first}
 use Rattle.workflow_runs.proofs.rows.bind.Goals as goal

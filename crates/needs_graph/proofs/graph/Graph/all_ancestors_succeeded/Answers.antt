@@ -1,5 +1,5 @@
 use Rattle.std.proofs.Common.{◌∙◌, ◌<◌, not, ap, sym, map, length, arith}
-use Rattle.needs_graph.specs.Conditions.{has_succeeded, ancestor_results}
+use Rattle.needs_graph.specs.Needs.{has_succeeded, ancestor_results}
 use Rattle.needs_graph.proofs.AncestorResults.{list_all-not, holds_of_none, holds_of_one}
 use Rattle.needs_graph.proofs.graph.Graph.all_ancestors_succeeded.Goals as goal
 

@@ -1,6 +1,5 @@
 use Rattle.std.proofs.Common.{◌≡◌, ℕ, ◌<◌, ◌&&◌, not, false, None, get_or, map}
-use Rattle.needs_graph.specs.Ancestors.{is_ancestor}
-use Rattle.needs_graph.specs.Conditions.{has_succeeded}
+use Rattle.needs_graph.specs.Needs.{is_ancestor, has_succeeded}
 use Rattle.needs_graph.proofs.graph.Graph.all_ancestors_succeeded.Given as goal
 
 -- every ancestor so far has succeeded

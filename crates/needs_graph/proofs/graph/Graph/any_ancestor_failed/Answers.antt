@@ -1,5 +1,5 @@
 use Rattle.std.proofs.Common.{◌∙◌, ◌<◌, sym, map, length, arith}
-use Rattle.needs_graph.specs.Conditions.{has_failed}
+use Rattle.needs_graph.specs.Needs.{has_failed}
 use Rattle.needs_graph.proofs.AncestorResults.{holds_of_none, holds_of_one}
 use Rattle.needs_graph.proofs.graph.Graph.any_ancestor_failed.Goals as goal
 

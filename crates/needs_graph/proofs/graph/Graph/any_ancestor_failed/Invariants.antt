@@ -1,6 +1,5 @@
 use Rattle.std.proofs.Common.{◌≡◌, ℕ, ◌<◌, ◌&&◌, false, None, get_or, map}
-use Rattle.needs_graph.specs.Ancestors.{is_ancestor}
-use Rattle.needs_graph.specs.Conditions.{has_failed}
+use Rattle.needs_graph.specs.Needs.{is_ancestor, has_failed}
 use Rattle.needs_graph.proofs.graph.Graph.any_ancestor_failed.Given as goal
 
 -- no ancestor so far has failed

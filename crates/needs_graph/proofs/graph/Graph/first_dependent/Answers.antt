@@ -1,5 +1,5 @@
 use Rattle.std.proofs.Common.{ℕ, List, slice_get, length, sym, subst, ap, arith}
-use Rattle.needs_graph.specs.Ancestors.{IsGraph}
+use Rattle.needs_graph.specs.Needs.{IsGraph}
 use Rattle.needs_graph.proofs.Dependents.{no_dependents}
 use Rattle.needs_graph.proofs.graph.Graph.first_dependent.Goals as goal
 

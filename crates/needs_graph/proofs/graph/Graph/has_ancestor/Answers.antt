@@ -1,5 +1,5 @@
 use Rattle.std.proofs.Common.{◌≡◌, ◌∙◌, ℕ, List, [], get_or, sym, subst, ap}
-use Rattle.needs_graph.specs.Ancestors.{is_ancestor, IsGraph}
+use Rattle.needs_graph.specs.Needs.{is_ancestor, IsGraph}
 use Rattle.needs_graph.specs.inner.JobSets.{is_in}
 use Rattle.needs_graph.proofs.HasAncestor.{ends_a_walk, is_a_job, is_another}
 use Rattle.needs_graph.proofs.graph.Graph.has_ancestor.Goals as goal

@@ -1,7 +1,6 @@
 use Rattle.std.proofs.Common.{rules, ◌∙◌, ℕ, List, Bool, None, get_or, map, not, sym, subst, ap}
 use Rattle.std.specs.List.{list_any}
-use Rattle.needs_graph.specs.Ancestors.{IsGraph}
-use Rattle.needs_graph.specs.Conditions.{has_succeeded, ancestor_results}
+use Rattle.needs_graph.specs.Needs.{IsGraph, has_succeeded, ancestor_results}
 use Rattle.needs_graph.proofs.AncestorResults.{list_all-not, holds_of_need}
 use Rattle.needs_graph.proofs.graph.Graph.need_lacks_success.Goals as goal
 

@@ -1,7 +1,7 @@
 use Rattle.std.proofs.Common.{◌≡◌, ◌+◌, subst, List, ℕ, rules}
 use Rattle.std.specs.Prelude.{IfOk}
 use Rattle.std.specs.Fmt.{decimal}
-use Rattle.run_states.specs.GroupOf.{RunFacts}
+use Rattle.run_states.specs.Groups.{RunFacts}
 use Rattle.run_bindings.specs.Bindings.{RunSays}
 use Rattle.run_bindings.proofs.bindings.RunBindings.bind.Goals as goal
 

@@ -1,7 +1,7 @@
 use Rattle.std.specs.Prelude.{◌≡◌, ◌<◌, ◌≤◌, ◌+◌, ℕ, List, IfSome, Some, count_by, length, map, slice_get, slice_set, refl}
 use Rattle.std.proofs.Common.{ap, rules, subst, sym, ◌∙◌}
 use Rattle.std.proofs.lemmas.Option.{slice_get_read}
-use Rattle.run_states.specs.FirstOf.{changed_at}
+use Rattle.run_states.specs.Runs.{changed_at}
 use Rattle.run_states.proofs.Doors.{changed_past, changed_within}
 use Rattle.run_bindings.specs.GroupKeys.{AreLater, KeyState, arrivals_of, decided, has_no_group}
 use Rattle.run_bindings.specs.declared.group_keys.HolderKey.{HolderKey}

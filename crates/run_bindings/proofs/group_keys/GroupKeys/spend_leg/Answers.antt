@@ -1,7 +1,7 @@
 use Rattle.std.specs.Prelude.{◌≡◌, ◌<◌, ◌≤◌, List, Option, Some, length, option_and_then, slice_get, refl}
 use Rattle.std.proofs.Common.{ap, rules, subst, sym, ◌∙◌}
 use Rattle.std.proofs.lemmas.Option.{slice_get_past, slice_get_read}
-use Rattle.run_states.specs.FirstOf.{changed_at}
+use Rattle.run_states.specs.Runs.{changed_at}
 use Rattle.run_states.proofs.Doors.{changed_past, changed_within}
 use Rattle.run_bindings.specs.GroupKeys.{KeyState, spent, ticket_in}
 use Rattle.run_bindings.specs.declared.group_keys.HolderKey.{HolderKey}

@@ -1,7 +1,7 @@
 use Rattle.std.specs.Prelude.{◌≤◌, length, option_and_then}
 use Rattle.std.proofs.Common.{ap, rules, sym, ◌∙◌}
 use Rattle.std.proofs.lemmas.Option.{slice_get_past}
-use Rattle.run_states.specs.FirstOf.{changed_at}
+use Rattle.run_states.specs.Runs.{changed_at}
 use Rattle.run_states.proofs.Doors.{changed_past, changed_within}
 use Rattle.run_bindings.specs.GroupKeys.{spent, ticket_in}
 use Rattle.run_bindings.proofs.group_keys.LegKeys.spend.Goals as goal

@@ -2,7 +2,7 @@ use Rattle.std.specs.Prelude.{◌≡◌}
 use Rattle.std.proofs.Common.{ap, sym, ◌∙◌}
 use Rattle.wf_expr.specs.TemplateValue.{template_value}
 use Rattle.wf_reader.specs.declared.flag.Flag.TheVariants as flag
-use Rattle.run_states.specs.Words.{is_set}
+use Rattle.run_states.specs.LegContext.{is_set}
 use Rattle.run_bindings.proofs.Binding.{flag_by_text}
 use Rattle.run_bindings.proofs.groups.BoundFlag.bind.Goals as goal
 

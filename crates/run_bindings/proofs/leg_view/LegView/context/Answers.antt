@@ -1,6 +1,6 @@
 use Rattle.std.specs.Fmt.{decimal}
 use Rattle.std.proofs.Common.{◌≡◌, rules}
-use Rattle.run_states.specs.JobResults.{direct_needs}
+use Rattle.run_states.specs.Runs.{direct_needs}
 use Rattle.run_bindings.proofs.Digits.{told_in_digits}
 use Rattle.run_bindings.proofs.leg_view.LegView.context.Goals as goal
 

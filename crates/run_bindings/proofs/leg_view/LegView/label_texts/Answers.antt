@@ -2,8 +2,7 @@ use Rattle.std.specs.Prelude.{◌≡◌, ℕ, List, Result, Ok}
 use Rattle.std.proofs.Common.{ap, sym, ◌∙◌}
 use Rattle.wf_value.specs.declared.refusal.Refusal.{Refusal}
 use Rattle.wf_value.proofs.PassedOn.{same_Ok}
-use Rattle.run_states.specs.LegContext.{LegFacts, context_of}
-use Rattle.run_states.specs.Words.{label_texts}
+use Rattle.run_states.specs.LegContext.{LegFacts, context_of, label_texts}
 use Rattle.run_bindings.proofs.leg_view.LegView.label_texts.Goals as goal
 
 are_given : (xs ys : List (List ℕ)) → xs ≡ ys → ◌≡◌ {A = Result (List (List ℕ)) Refusal} (Ok xs) (Ok ys)

@@ -1,6 +1,5 @@
 use Rattle.std.proofs.Common.{◌≡◌, take}
-use Rattle.run_states.specs.LegContext.{context_of}
-use Rattle.run_states.specs.Words.{label_texts}
+use Rattle.run_states.specs.LegContext.{context_of, label_texts}
 use Rattle.run_bindings.proofs.leg_view.label_texts.texts_of.Given as goal
 
 -- the texts of the labels so far

@@ -1,7 +1,7 @@
 use Rattle.std.proofs.Common.{subst}
 use Rattle.wf_expr.specs.Bound.{HasResults}
 use Rattle.run_plan.specs.PlanOf.{plan_of}
-use Rattle.run_states.specs.GroupOf.{RunFacts}
+use Rattle.run_states.specs.Groups.{RunFacts}
 use Rattle.run_states.specs.LegContext.{context_of}
 use Rattle.run_bindings.specs.BoundGroups.{facts_by, need_of_job}
 use Rattle.run_bindings.proofs.Binding.{facts_now, leg_has_results}

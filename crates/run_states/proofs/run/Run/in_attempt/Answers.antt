@@ -1,10 +1,10 @@
 use Rattle.std.proofs.Common.{ap, ◌∙◌, subst, sym, Ok, List, ℕ}
 use Rattle.std.specs.Prelude.{map, false}
-use Rattle.definitions.specs.Admitted.{Admitted}
+use Rattle.definitions.specs.SmallText.{Admitted}
 use Rattle.run_plan.specs.PlanOf.{plan_graph, plan_of}
 use Rattle.run_states.specs.inner.Cells.{blocked_cells, rooms, states, legs_planned}
 use Rattle.run_states.specs.inner.NeedsLeft.{NeedsAreLeft}
-use Rattle.run_states.specs.RunState.{JobState, RunState}
+use Rattle.run_states.specs.Runs.{JobState, RunState}
 use Rattle.run_states.specs.declared.phases.RunPhase.TheVariants as run
 use Rattle.run_states.proofs.Doors.{blocked_rooms, blocked_states}
 use Rattle.run_states.proofs.run.Run.in_attempt.Goals as goal

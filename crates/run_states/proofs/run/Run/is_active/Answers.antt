@@ -5,7 +5,7 @@ use Rattle.std.proofs.lemmas.Bool.{or_from}
 use Rattle.run_states.specs.inner.ActiveRuns.{has_active_leg}
 use Rattle.run_states.specs.inner.Cells.{JobCells}
 use Rattle.run_states.specs.Groups.{run_waits}
-use Rattle.run_states.specs.StateWords.{is_live}
+use Rattle.run_states.specs.Runs.{is_live}
 use Rattle.run_states.proofs.AnyOf.{list_any-map}
 use Rattle.run_states.proofs.run.Run.is_active.Goals as goal
 

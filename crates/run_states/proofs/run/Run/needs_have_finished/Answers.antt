@@ -1,6 +1,6 @@
 use Rattle.std.proofs.Common.{◌≡◌, ◌<◌, ◌≤◌, ap, get_or, length, rules, sym, ◌∙◌}
 use Rattle.run_plan.specs.PlanOf.{plan_graph, plan_of}
-use Rattle.run_states.specs.RunState.{RunState}
+use Rattle.run_states.specs.Runs.{RunState}
 use Rattle.run_states.specs.inner.WithinRun.{needs_finished_in}
 use Rattle.run_states.proofs.NeedsLeft.{left_read, none_past, settled_by_count}
 use Rattle.run_states.proofs.run.Run.needs_have_finished.Goals as goal

@@ -2,7 +2,7 @@ use Rattle.std.proofs.Common.{◌≡◌, ap, false, rules, sym, ◌∙◌}
 use Rattle.std.specs.Prelude.{is_none, is_some}
 use Rattle.run_plan.specs.PlanOf.{plan_of}
 use Rattle.run_states.specs.inner.Cells.{JobCells}
-use Rattle.run_states.specs.JobResults.{finished_result}
+use Rattle.run_states.specs.Runs.{finished_result}
 use Rattle.run_states.proofs.NeedsLeft.{none_where, still_planned}
 use Rattle.run_states.proofs.run.Run.open_job.Goals as goal
 

@@ -1,7 +1,6 @@
 use Rattle.std.proofs.Common.{arith, ap, ◌∙◌}
-use Rattle.run_states.specs.FirstOf.{changed_at}
-use Rattle.run_states.specs.Rules.{finished_as}
-use Rattle.run_states.specs.RunState.{RunState}
+use Rattle.run_states.specs.Runs.{changed_at, RunState}
+use Rattle.run_states.specs.Settling.{finished_as}
 use Rattle.run_states.proofs.StoppedRuns.{all_settled, next_settled}
 use Rattle.run_states.proofs.run.Run.settle_all.Goals as goal
 

@@ -1,5 +1,5 @@
 use Rattle.std.proofs.Common.{◌≡◌, List, rules, subst}
-use Rattle.definitions.specs.Admitted.{Admitted}
+use Rattle.definitions.specs.SmallText.{Admitted}
 use Rattle.run_plan.specs.PlanOf.{plan_of}
 use Rattle.run_states.specs.inner.Cells.{JobCells}
 use Rattle.run_states.specs.inner.NeedsLeft.{ArePlanned}

@@ -2,9 +2,9 @@ use Rattle.std.specs.Prelude.{[], slice_set}
 use Rattle.std.proofs.Common.{◌≡◌, ◌<◌, ap, arith, below_more, get_or, length, rules, sym, ◌∙◌, ⊎_elim, ℕ}
 use Rattle.std.proofs.lemmas.Bool.{cases_lt}
 use Rattle.std.proofs.lemmas.List.{get_or_past, length-map}
-use Rattle.needs_graph.specs.Ancestors.{needs_at}
+use Rattle.needs_graph.specs.Needs.{needs_at}
 use Rattle.run_states.specs.inner.Cells.{JobCells, states}
-use Rattle.run_states.specs.JobResults.{results_so_far}
+use Rattle.run_states.specs.Runs.{results_so_far}
 use Rattle.run_states.specs.inner.NeedsLeft.{needs_left_at, unfinished}
 use Rattle.run_states.proofs.NeedsLeft.{left_elsewhere, left_there, none_past, written_same}
 use Rattle.run_states.proofs.run.needs.count_needs.Goals as goal

@@ -1,7 +1,7 @@
 use Rattle.std.proofs.Common.{◌≡◌, ◌<◌, ℕ}
-use Rattle.needs_graph.specs.Ancestors.{needs_at}
+use Rattle.needs_graph.specs.Needs.{needs_at}
 use Rattle.run_states.specs.inner.Cells.{rooms, states}
-use Rattle.run_states.specs.JobResults.{results_so_far}
+use Rattle.run_states.specs.Runs.{results_so_far}
 use Rattle.run_states.specs.inner.NeedsLeft.{needs_left_at, unfinished}
 use Rattle.run_states.proofs.run.needs.count_needs.Given as goal
 

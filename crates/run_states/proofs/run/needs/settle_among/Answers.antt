@@ -3,9 +3,9 @@ use Rattle.std.proofs.lemmas.List.{length-map}
 use Rattle.std.specs.Prelude.{count_by, is_none, is_some, nat_eq}
 use Rattle.std.specs.List.{slice_index_or}
 use Rattle.run_states.specs.inner.Cells.{JobCells, states}
-use Rattle.run_states.specs.JobResults.{finished_result}
+use Rattle.run_states.specs.Runs.{finished_result}
 use Rattle.run_states.specs.inner.NeedsLeft.{needs_left_at}
-use Rattle.run_states.specs.Rules.{finished_as}
+use Rattle.run_states.specs.Settling.{finished_as}
 use Rattle.run_states.proofs.Doors.{changed_past}
 use Rattle.run_states.proofs.NeedsLeft.{left_kept, left_settled, none_where, unsettled_read, written_changed, written_same}
 use Rattle.run_states.proofs.run.needs.settle_among.Goals as goal

@@ -1,5 +1,5 @@
 use Rattle.std.proofs.Common.{◌≡◌, ◌∙◌, List, ap, subst, sym}
-use Rattle.run_states.specs.RunState.{RunState}
+use Rattle.run_states.specs.Runs.{RunState}
 use Rattle.run_states.specs.Sound.{IsSound}
 use Rattle.run_states.specs.TableState.{TableState}
 use Rattle.run_table.specs.declared.table.Table.TheInside.{Inside}

@@ -1,8 +1,8 @@
 use Rattle.std.proofs.Common.{◌≡◌, [], ◌∷◌, ◌++◌, true, ap, refl, subst, sym, ◌∙◌}
-use Rattle.run_states.specs.Arrivals.{arrived}
+use Rattle.run_states.specs.Settling.{arrived}
 use Rattle.run_states.specs.Groups.{run_waits}
 use Rattle.run_states.specs.Resuming.{resume_at_arrival}
-use Rattle.run_states.specs.RunState.{RunState}
+use Rattle.run_states.specs.Runs.{RunState}
 use Rattle.run_states.specs.declared.holder.Holder.TheVariants.{Run}
 use Rattle.run_states.specs.TableState.{TableState}
 use Rattle.run_table.proofs.BeforeSettling.{entering_arrives, entering_settles, enters}

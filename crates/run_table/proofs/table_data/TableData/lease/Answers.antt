@@ -3,11 +3,9 @@ use Rattle.std.proofs.Common.{◌≡◌, ◌<◌, List, false, ap, length, refl,
 use Rattle.std.proofs.lemmas.Option.{slice_get_within}
 use Rattle.run_plan.specs.declared.reply.Lease.{Lease as Leased}
 use Rattle.run_plan.specs.declared.reply.Reply.TheVariants as reply
-use Rattle.run_states.specs.Places.{with_leg}
+use Rattle.run_states.specs.Runs.{with_leg, leased_leg, LegState, RunState}
 use Rattle.run_states.specs.Step.{lease_at}
 use Rattle.run_states.specs.Groups.{holds, leg_holds}
-use Rattle.run_states.specs.NewRun.{leased_leg}
-use Rattle.run_states.specs.RunState.{LegState, RunState}
 use Rattle.run_states.specs.declared.holder.Holder.TheVariants.{Leg}
 use Rattle.run_states.specs.TableState.{RunnerState, TableState}
 use Rattle.run_table.specs.inner.IndexNamed.{index_named}

@@ -1,8 +1,7 @@
 use Rattle.std.specs.Prelude.{◌≡◌, ℕ, List, Some}
 use Rattle.std.proofs.Common.{ap, sym, ◌∙◌}
-use Rattle.run_states.specs.TableState.{RunnerState, TableState}
+use Rattle.run_states.specs.TableState.{RunnerState, TableState, runner_named}
 use Rattle.run_table.specs.inner.IndexNamed.{index_named}
-use Rattle.run_states.specs.SequenceNumbers.{runner_named}
 use Rattle.run_table.proofs.BeforeSettling.{lost_may_settle}
 use Rattle.run_table.proofs.HeldAtWork.{held_at_work}
 use Rattle.run_table.proofs.RunnerPut.{has_the_name}

@@ -4,10 +4,9 @@ use Rattle.stored_tables.specs.Stored.{RunnerParts, TableParts}
 use Rattle.run_states.specs.Sound.{KeptLeasesAreOfLegs}
 use Rattle.stored_tables.specs.TableOf.{AreRunnersAs}
 use Rattle.run_states.specs.AsPlanned.{AreAsPlanned}
-use Rattle.run_states.specs.TableState.{RunnerState}
+use Rattle.run_states.specs.TableState.{RunnerState, names_rise}
 use Rattle.run_states.specs.Groups.{HasOneEach}
-use Rattle.run_states.specs.RunState.{RunState}
-use Rattle.run_states.specs.SequenceNumbers.{names_rise}
+use Rattle.run_states.specs.Runs.{RunState}
 use Rattle.run_states.proofs.OneAfterAnother.{not_so}
 use Rattle.stored_tables.proofs.PartsRead.{kept_of_legs}
 use Rattle.stored_tables.proofs.StoredOnce.{none_listed, none_planned, none_sound, stored_as}

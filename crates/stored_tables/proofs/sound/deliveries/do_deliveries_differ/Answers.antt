@@ -1,6 +1,6 @@
 use Rattle.std.proofs.Common.{◌≡◌, List, arith, ap, false, true, get_or, length, subst, rules}
 use Rattle.std.proofs.lemmas.Bool.Decides.{Decides-like}
-use Rattle.run_states.specs.RunState.{RunState}
+use Rattle.run_states.specs.Runs.{RunState}
 use Rattle.stored_tables.proofs.DeliveriesFound.{IsFoundAt, differ_found, found_differ}
 use Rattle.run_states.proofs.OneAfterAnother.{none_yet, one_passed, passed, stopped_at}
 use Rattle.stored_tables.proofs.sound.deliveries.do_deliveries_differ.Goals as goal

@@ -2,7 +2,7 @@ use Rattle.std.proofs.Common.{◌≡◌, ℕ, arith, false, true, rules}
 use Rattle.std.proofs.lemmas.Bool.Decides.{Decides-like}
 use Rattle.run_states.specs.inner.Cells.{JobCells}
 use Rattle.stored_tables.specs.inner.OneByOne.{JobIsSound}
-use Rattle.run_states.specs.RunState.{JobState}
+use Rattle.run_states.specs.Runs.{JobState}
 use Rattle.run_states.proofs.OneAfterAnother.{each_mapped, each_unmapped, none_yet, one_passed, passed, stopped_at}
 use Rattle.stored_tables.proofs.sound.jobs.are_jobs_sound.Goals as goal
 

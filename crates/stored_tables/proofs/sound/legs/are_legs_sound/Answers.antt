@@ -3,7 +3,7 @@ use Rattle.std.specs.List.{AllByRecursion}
 use Rattle.std.proofs.Common.{◌≡◌, false, subst, sym, rules}
 use Rattle.stored_tables.specs.inner.OneByOne.{LegIsSound}
 use Rattle.run_states.specs.inner.PlacedLegs.{PlacedLeg, placed_legs}
-use Rattle.run_states.specs.Places.{leg_at}
+use Rattle.run_states.specs.Runs.{leg_at}
 use Rattle.run_states.proofs.Found.{all_weaken}
 use Rattle.run_states.proofs.OneAfterAnother.{no, not_so, yes}
 use Rattle.settling_laws.proofs.PlacedLegs.{each_is_there, each_placed}

@@ -1,7 +1,7 @@
 use Rattle.std.proofs.Common.{◌≡◌, List, arith, subst, false, true, rules}
 use Rattle.std.specs.Bool.{Decides}
 use Rattle.stored_tables.specs.inner.OneByOne.{RunIsSound}
-use Rattle.run_states.specs.RunState.{RunState}
+use Rattle.run_states.specs.Runs.{RunState}
 use Rattle.run_states.proofs.OneAfterAnother.{OfEach, none_yet, one_passed, passed, stopped_at}
 use Rattle.stored_tables.proofs.sound.runs.are_runs_sound.Goals as goal
 

@@ -1,7 +1,7 @@
 use Rattle.std.proofs.Common.{◌∙◌, [], ap}
 use Rattle.std.specs.Prelude.{codes, unwrap_or}
-use Rattle.wf_value.specs.Words.{outcome_word}
-use Rattle.needs_graph.specs.Results.{conclusion_of}
+use Rattle.wf_value.specs.ScalarValue.{outcome_word}
+use Rattle.needs_graph.specs.Needs.{conclusion_of}
 use Rattle.run_states.proofs.Doors.{results_of_cells}
 use Rattle.run_states.specs.ViewText.{results_of, status_text}
 use Rattle.table_views.specs.RunRows.{conclusion_at}

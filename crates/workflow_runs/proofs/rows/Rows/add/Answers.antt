@@ -1,7 +1,7 @@
 use Rattle.std.proofs.Common.{◌≡◌, ◌<◌, ap, subst, sym, ◌∙◌, rules}
 use Rattle.std.specs.Prelude.{length}
-use Rattle.definitions.specs.Admitted.{Admitted}
-use Rattle.run_states.specs.RunNumber.{number_of_next}
+use Rattle.definitions.specs.SmallText.{Admitted}
+use Rattle.run_states.specs.LegContext.{number_of_next}
 use Rattle.workflow_runs.specs.inner.RowsKept.{RowState}
 use Rattle.workflow_runs.proofs.Counting.{few_counted, next_counted}
 use Rattle.workflow_runs.proofs.rows.Rows.add.Goals as goal

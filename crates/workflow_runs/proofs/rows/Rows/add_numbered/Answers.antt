@@ -5,13 +5,13 @@ use Rattle.wf_value.proofs.PassedOn.{passed_on}
 use Rattle.group_book.specs.Books.{BookState}
 use Rattle.group_book.specs.declared.slot.Slot.{Slot}
 use Rattle.group_name.specs.Group.{Group}
-use Rattle.definitions.specs.Admitted.{Admitted}
+use Rattle.definitions.specs.SmallText.{Admitted}
 use Rattle.label_lists.specs.Lists.{ListsState, OnlyGrows as ListsGrow}
 use Rattle.run_marks.specs.Marked.{SameMarks}
 use Rattle.run_states.specs.inner.ActiveRuns.{is_active}
-use Rattle.run_states.specs.GroupOf.{RunFacts}
-use Rattle.run_states.specs.RunNumber.{AreNumbered, number_of_next, same_workflow}
-use Rattle.run_states.specs.RunState.{RunState}
+use Rattle.run_states.specs.Groups.{RunFacts}
+use Rattle.run_states.specs.LegContext.{AreNumbered, number_of_next, same_workflow}
+use Rattle.run_states.specs.Runs.{RunState}
 use Rattle.run_states.specs.declared.holder.Holder.{Holder}
 use Rattle.run_bindings.specs.Bindings.{AreBound, RunSays}
 use Rattle.run_bindings.specs.inner.LabelNumbers.{LegsAreOffered}

@@ -2,8 +2,7 @@ use Rattle.std.specs.Prelude.{List, Option, Some, IfSome, slice_get, slice_set, 
 use Rattle.std.proofs.Common.{ap, subst, ◌≡◌, ◌≤◌, ◌∙◌, ◌<◌, length, arith, rules}
 use Rattle.std.proofs.lemmas.Option.{slice_get_read}
 use Rattle.run_states.specs.Changes.{changed, offered_by}
-use Rattle.run_states.specs.Places.{with_run}
-use Rattle.run_states.specs.RunState.{RunState}
+use Rattle.run_states.specs.Runs.{with_run, RunState}
 use Rattle.run_states.specs.declared.place.LegSite.{LegSite}
 use Rattle.run_states.proofs.Doors.{changed_past, changed_within}
 use Rattle.run_bindings.specs.inner.LabelNumbers.{IsOffered, IsReadyAt, LegsAreOffered}

@@ -2,8 +2,7 @@ use Rattle.std.specs.Prelude.{◌≡◌, ◌<◌, ◌≤◌, List, Option, Some,
 use Rattle.std.specs.Option.{option_map_or}
 use Rattle.std.proofs.Common.{ap, arith, rules, subst, sym, ◌∙◌}
 use Rattle.std.proofs.lemmas.Option.{slice_get_past, slice_get_read}
-use Rattle.run_states.specs.FirstOf.{changed_at}
-use Rattle.run_states.specs.RunState.{RunState}
+use Rattle.run_states.specs.Runs.{changed_at, RunState}
 use Rattle.run_states.proofs.Changed.{length-changed_at}
 use Rattle.run_states.proofs.Doors.{changed_within}
 use Rattle.run_bindings.specs.Bindings.{AreBound}

@@ -1,8 +1,6 @@
 use Rattle.std.proofs.Common.{◌≡◌, ap, sym, rules}
 use Rattle.std.specs.Prelude.{Some}
-use Rattle.run_states.specs.NewRun.{again}
-use Rattle.run_states.specs.Places.{run_at}
-use Rattle.run_states.specs.RunState.{RunState}
+use Rattle.run_states.specs.Runs.{again, run_at, RunState}
 use Rattle.workflow_runs.proofs.NumberOfRun.{number_of_that_run}
 use Rattle.workflow_runs.proofs.rows.Rows.next_attempt.Goals as goal
 

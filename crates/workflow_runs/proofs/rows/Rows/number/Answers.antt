@@ -1,6 +1,6 @@
 use Rattle.std.specs.Prelude.{◌≡◌, option_map, slice_get}
 use Rattle.std.proofs.Common.{ap, subst, ◌∙◌}
-use Rattle.run_states.specs.RunNumber.{events, run_number}
+use Rattle.run_states.specs.LegContext.{events, run_number}
 use Rattle.workflow_runs.specs.inner.RowsKept.{RowState}
 use Rattle.workflow_runs.proofs.RunNumbers.{number_at}
 use Rattle.workflow_runs.proofs.rows.Rows.number.Goals as goal

@@ -1,13 +1,10 @@
 use Rattle.std.proofs.Common.{arith, ◌≡◌, ◌+◌, ◌-◌, ◌≤◌, ◌<◌, ◌∙◌, List, Ok, ap, length, subst, sym}
 use Rattle.std.specs.Prelude.{ℕ, Some, option_map, refl, slice_get, slice_set}
 use Rattle.std.proofs.lemmas.Option.{slice_get_read}
-use Rattle.run_states.specs.FirstOf.{changed_at}
+use Rattle.run_states.specs.Runs.{changed_at, again, run_at, RunState}
 use Rattle.std.specs.Fmt.{decimal}
-use Rattle.run_states.specs.GroupOf.{RunFacts}
-use Rattle.run_states.specs.NewRun.{again}
-use Rattle.run_states.specs.Places.{run_at}
-use Rattle.run_states.specs.RunNumber.{events, run_number}
-use Rattle.run_states.specs.RunState.{RunState}
+use Rattle.run_states.specs.Groups.{RunFacts}
+use Rattle.run_states.specs.LegContext.{events, run_number}
 use Rattle.run_bindings.specs.Bindings.{RunSays}
 use Rattle.run_bindings.specs.declared.bindings.RunBindings.{RunBindings}
 use Rattle.run_bindings.proofs.BoundSays.{facts_of_run}

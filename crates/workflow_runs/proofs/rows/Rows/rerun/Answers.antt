@@ -1,7 +1,6 @@
 use Rattle.std.proofs.Common.{◌≡◌, Ok, ap, subst}
 use Rattle.std.specs.Prelude.{None, option_map, refl}
-use Rattle.run_states.specs.NewRun.{again}
-use Rattle.run_states.specs.Places.{run_at}
+use Rattle.run_states.specs.Runs.{again, run_at}
 use Rattle.workflow_runs.proofs.NextAttempt.{not_there}
 use Rattle.workflow_runs.proofs.ToldMore.{no_tickets, none_left}
 use Rattle.workflow_runs.proofs.rows.Rows.rerun.Goals as goal

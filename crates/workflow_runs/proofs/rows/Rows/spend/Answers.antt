@@ -1,9 +1,8 @@
 use Rattle.std.specs.Prelude.{◌≡◌, ◌<◌, ◌≤◌, ℕ, List, Option, Some, length, option_and_then, slice_get, slice_set, refl}
 use Rattle.std.proofs.lemmas.Option.{slice_get_past, slice_get_read}
 use Rattle.std.proofs.Common.{ap, rules, subst, sym, ◌∙◌}
-use Rattle.run_states.specs.FirstOf.{changed_at}
+use Rattle.run_states.specs.Runs.{changed_at, RunState}
 use Rattle.run_states.specs.Holders.{run_of}
-use Rattle.run_states.specs.RunState.{RunState}
 use Rattle.run_states.proofs.Changed.{length-changed_at}
 use Rattle.run_states.proofs.Doors.{changed_past, changed_within}
 use Rattle.run_bindings.specs.GroupKeys.{KeyState, holder_key, ticket_in, with_spent}

@@ -1,6 +1,6 @@
 use Rattle.std.proofs.Common.{◌≡◌, ◌<◌, ◌≤◌, List, arith, length, ◌∙◌, ap, rules}
 use Rattle.run_states.specs.inner.Cells.{JobCells}
-use Rattle.run_states.specs.RunState.{LegState}
+use Rattle.run_states.specs.Runs.{LegState}
 use Rattle.workflow_runs.proofs.StoredSizes.{as_many_counts, count_at, counts_of, few_room, sized_all, sized_more, sized_none}
 use Rattle.workflow_runs.proofs.rows.sizes.jobs_size.Goals as goal
 

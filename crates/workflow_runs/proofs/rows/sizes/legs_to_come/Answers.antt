@@ -4,7 +4,7 @@ use Rattle.std.proofs.lemmas.Option.{slice_get_read}
 use Rattle.std.proofs.lemmas.List.{length-map}
 use Rattle.run_plan.specs.PlanOf.{plan_of}
 use Rattle.run_states.specs.inner.Cells.{JobCells}
-use Rattle.run_states.specs.RunState.{JobState, LegState}
+use Rattle.run_states.specs.Runs.{JobState, LegState}
 use Rattle.workflow_runs.proofs.StoredSizes.{few_opened, room_is, size_of_one, size_past}
 use Rattle.workflow_runs.proofs.rows.sizes.legs_to_come.Goals as goal
 

@@ -4,9 +4,9 @@ use Rattle.std.proofs.lemmas.List.{length-map}
 use Rattle.run_plan.specs.PlanOf.{faults_of, plan_of}
 use Rattle.run_plan.specs.declared.planned.PlannedJob.{PlannedJob}
 use Rattle.run_plan.proofs.FewJobs.{few_jobs}
-use Rattle.definitions.specs.Admitted.{Admitted}
+use Rattle.definitions.specs.SmallText.{Admitted}
 use Rattle.run_states.specs.inner.Cells.{JobCells, rooms}
-use Rattle.run_states.specs.RunState.{JobState}
+use Rattle.run_states.specs.Runs.{JobState}
 use Rattle.workflow_runs.specs.StoredSizes.{job_size, leg_counts, texts_size}
 use Rattle.workflow_runs.proofs.StoredSizes.{AreFew, few_rooms}
 use Rattle.workflow_runs.proofs.rows.sizes.run_size.Goals as goal

@@ -1,9 +1,9 @@
 use Rattle.std.proofs.Common.{◌≡◌, ◌++◌, ◌∷◌, ℕ, [], List, Ok, ap, arith, length, length-append, subst, sym, ◌∙◌}
 use Rattle.group_book.specs.Books.{BookState}
-use Rattle.run_states.specs.Arrivals.{arrived}
-use Rattle.run_states.specs.GroupOf.{group_at}
-use Rattle.run_states.specs.RunState.{RunState}
-use Rattle.run_states.specs.SoundRuns.{RunsAreSound}
+use Rattle.run_states.specs.Settling.{arrived}
+use Rattle.run_states.specs.Groups.{group_at}
+use Rattle.run_states.specs.Runs.{RunState}
+use Rattle.run_states.specs.Sound.{RunsAreSound}
 use Rattle.run_states.specs.declared.holder.Holder.{Holder}
 use Rattle.run_states.specs.declared.holder.Holder.TheVariants.{Run}
 use Rattle.workflow_runs.specs.inner.GroupsKept.{GroupsAreKept}

@@ -3,13 +3,11 @@ use Rattle.std.specs.Option.{option_map_or}
 use Rattle.std.proofs.lemmas.Bool.{true≢false}
 use Rattle.std.proofs.Common.{ap, arith, subst, sym, ◌∙◌}
 use Rattle.run_marks.specs.Marked.{Covers}
-use Rattle.run_states.specs.Arrivals.{arrived}
+use Rattle.run_states.specs.Settling.{arrived, with_leg_in}
 use Rattle.run_states.specs.Groups.{waits}
-use Rattle.run_states.specs.Moves.{without_moves}
-use Rattle.run_states.specs.Rules.{with_leg_in}
-use Rattle.run_states.specs.RunState.{LegState, RunState}
-use Rattle.run_states.specs.SoundRuns.{RunsAreSound}
-use Rattle.run_states.specs.StateWords.{is_new, leg_in_phase}
+use Rattle.run_states.specs.GroupLaw.{without_moves}
+use Rattle.run_states.specs.Runs.{LegState, RunState, is_new, leg_in_phase}
+use Rattle.run_states.specs.Sound.{RunsAreSound}
 use Rattle.run_states.specs.declared.change.Change.TheVariants as change
 use Rattle.run_states.specs.declared.holder.Holder.TheVariants.{Leg}
 use Rattle.run_states.specs.declared.phases.LegPhase.TheVariants as leg

@@ -2,10 +2,9 @@ use Rattle.std.proofs.Common.{◌≡◌, ◌<◌, List, length, ℕ, true, arith
 use Rattle.std.proofs.lemmas.Bool.{true≢false}
 use Rattle.run_marks.specs.Marked.{Covers, is_marked}
 use Rattle.run_states.specs.Changes.{changed}
-use Rattle.run_states.specs.GroupOf.{group_at}
+use Rattle.run_states.specs.Groups.{group_at}
 use Rattle.run_states.specs.Holders.{run_of}
-use Rattle.run_states.specs.Places.{with_run}
-use Rattle.run_states.specs.RunState.{RunState}
+use Rattle.run_states.specs.Runs.{with_run, RunState}
 use Rattle.workflow_runs.proofs.Stays.{changed_admitted}
 use Rattle.workflow_runs.specs.inner.HolderChanges.{EndsOnly}
 use Rattle.workflow_runs.specs.inner.RowsKept.{key_at}

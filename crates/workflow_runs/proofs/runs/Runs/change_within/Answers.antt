@@ -1,8 +1,7 @@
 use Rattle.std.proofs.Common.{◌<◌, List, length, arith, refl, subst, sym}
 use Rattle.run_marks.specs.Marked.{Covers}
 use Rattle.run_states.specs.Changes.{changed}
-use Rattle.run_states.specs.Places.{with_run}
-use Rattle.run_states.specs.RunState.{RunState}
+use Rattle.run_states.specs.Runs.{with_run, RunState}
 use Rattle.workflow_runs.proofs.Stays.{changed_admitted}
 use Rattle.workflow_runs.specs.inner.HolderChanges.{ChangesNobody}
 use Rattle.workflow_runs.proofs.DueStill.{due_changed, still_where_nobody}

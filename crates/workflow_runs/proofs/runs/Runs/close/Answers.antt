@@ -1,9 +1,8 @@
 use Rattle.std.specs.Prelude.{filter_map}
 use Rattle.std.proofs.Common.{ap, sym, ◌∙◌}
-use Rattle.needs_graph.specs.Results.{gathered}
-use Rattle.run_states.specs.FirstOf.{placed}
-use Rattle.run_states.specs.Places.{with_job}
-use Rattle.run_states.specs.Rules.{leg_end, finished_as}
+use Rattle.needs_graph.specs.Needs.{gathered}
+use Rattle.run_states.specs.Runs.{placed, with_job}
+use Rattle.run_states.specs.Settling.{leg_end, finished_as}
 use Rattle.run_states.proofs.Transitions.{job_closed}
 use Rattle.workflow_runs.proofs.JobFinishes.{closes_nobody}
 use Rattle.workflow_runs.proofs.runs.Runs.close.Goals as goal

@@ -1,8 +1,8 @@
 use Rattle.std.specs.Prelude.{◌≡◌, Some, None}
 use Rattle.std.proofs.Common.{ap, sym, ◌∙◌, rules}
 use Rattle.wf_reader.specs.declared.flag.Flag.TheVariants as flag
-use Rattle.run_states.specs.GroupOf.{run_facts_at}
-use Rattle.run_states.specs.Places.{plan_at, run_at}
+use Rattle.run_states.specs.Groups.{run_facts_at}
+use Rattle.run_states.specs.Runs.{plan_at, run_at}
 use Rattle.run_bindings.specs.Bindings.{flag_for}
 use Rattle.workflow_runs.proofs.FlagsSaid.{flag_said, nothing_bound}
 use Rattle.workflow_runs.proofs.runs.Runs.continues_on_error.Goals as goal

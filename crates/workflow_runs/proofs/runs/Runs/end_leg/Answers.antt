@@ -1,9 +1,8 @@
 use Rattle.std.specs.Prelude.{IfSome, Option, true}
 use Rattle.std.proofs.Common.{◌≡◌, subst, sym, ◌∙◌}
-use Rattle.run_states.specs.Parallel.{is_at_work}
-use Rattle.run_states.specs.RunState.{LegState}
-use Rattle.run_states.specs.SoundRuns.{RunsAreSound}
-use Rattle.run_states.specs.StateWords.{leg_in_phase}
+use Rattle.run_states.specs.Fitting.{is_at_work}
+use Rattle.run_states.specs.Runs.{LegState, leg_in_phase}
+use Rattle.run_states.specs.Sound.{RunsAreSound}
 use Rattle.run_states.specs.declared.holder.Holder.TheVariants.{Leg}
 use Rattle.run_states.specs.declared.phases.LegPhase.TheVariants as leg
 use Rattle.workflow_runs.specs.inner.HolderChanges.{EndsOnly}

@@ -1,5 +1,5 @@
 use Rattle.std.specs.Prelude.{◌≡◌}
-use Rattle.run_states.specs.FirstOf.{first_some, placed}
+use Rattle.run_states.specs.Runs.{first_some, placed}
 use Rattle.run_states.specs.inner.WithinRun.{failing}
 use Rattle.workflow_runs.proofs.JobResult.{fails_at}
 use Rattle.settling_laws.proofs.PlacedLegs.{first_passing}

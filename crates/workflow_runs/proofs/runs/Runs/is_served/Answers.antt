@@ -4,11 +4,9 @@ use Rattle.std.proofs.Common.{ap, subst, sym, ◌∙◌, rules}
 use Rattle.run_plan.specs.PlanOf.{plan_of}
 use Rattle.run_plan.specs.declared.planned.PlannedJob.{PlannedJob}
 use Rattle.run_states.specs.Fitting.{has_labels}
-use Rattle.run_states.specs.GroupOf.{RunFacts, run_facts_at}
-use Rattle.run_states.specs.LegContext.{context_at}
-use Rattle.run_states.specs.Places.{run_at}
-use Rattle.run_states.specs.RunState.{RunState}
-use Rattle.run_states.specs.Words.{label_texts}
+use Rattle.run_states.specs.Groups.{RunFacts, run_facts_at}
+use Rattle.run_states.specs.LegContext.{context_at, label_texts}
+use Rattle.run_states.specs.Runs.{run_at, RunState}
 use Rattle.run_bindings.specs.Bindings.{KeepsLabelsAt, RunSays}
 use Rattle.run_bindings.specs.BoundGroups.{results_by_index}
 use Rattle.workflow_runs.proofs.KnownSays.{labels_kept}

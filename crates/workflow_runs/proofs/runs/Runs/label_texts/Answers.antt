@@ -3,8 +3,7 @@ use Rattle.std.specs.Option.{option_map_or}
 use Rattle.std.proofs.Common.{ap, subst, sym, ◌∙◌}
 use Rattle.wf_value.specs.Gives.{Gives}
 use Rattle.wf_value.specs.declared.refusal.Refusal.{Refusal}
-use Rattle.run_states.specs.LegContext.{LegFacts, context_of}
-use Rattle.run_states.specs.Words.{label_texts}
+use Rattle.run_states.specs.LegContext.{LegFacts, context_of, label_texts}
 use Rattle.workflow_runs.proofs.LabelsTold.{labels_told}
 use Rattle.workflow_runs.proofs.runs.Runs.label_texts.Goals as goal
 

@@ -1,6 +1,5 @@
 use Rattle.std.proofs.Common.{ap, subst, sym, ◌∙◌}
-use Rattle.run_states.specs.Places.{with_leg}
-use Rattle.run_states.specs.RunState.{LegState}
+use Rattle.run_states.specs.Runs.{with_leg, LegState}
 use Rattle.workflow_runs.specs.inner.HolderChanges.{ChangesNobody}
 use Rattle.workflow_runs.specs.inner.RowsKept.{RowState}
 use Rattle.workflow_runs.proofs.LegEnds.{leased_within, leg_is_leased}

@@ -1,7 +1,6 @@
 use Rattle.std.specs.Prelude.{◌≡◌, Some, option_map}
 use Rattle.std.proofs.Common.{rules}
-use Rattle.run_states.specs.Places.{leg_at}
-use Rattle.run_states.specs.RunState.{LegState}
+use Rattle.run_states.specs.Runs.{leg_at, LegState}
 use Rattle.run_states.specs.declared.phases.LegPhase.TheVariants as leg
 use Rattle.run_states.proofs.Optional.{from_map}
 use Rattle.workflow_runs.proofs.FirstRules.{leg_may_start}

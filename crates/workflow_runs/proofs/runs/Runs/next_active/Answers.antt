@@ -2,7 +2,7 @@ use Rattle.std.specs.Prelude.{List}
 use Rattle.std.proofs.Common.{arith, ap, sym, ◌∙◌, inl, inr}
 use Rattle.std.proofs.lemmas.Bool.{cases_lt}
 use Rattle.run_states.specs.inner.ActiveRuns.{is_active}
-use Rattle.run_states.specs.RunState.{RunState}
+use Rattle.run_states.specs.Runs.{RunState}
 use Rattle.settling_laws.specs.inner.RunFacts.{is_so_at}
 use Rattle.workflow_runs.specs.declared.runs.Runs.TheInside.{Inside}
 use Rattle.workflow_runs.proofs.MarkedRuns.{if_none, if_some, past_is_not_so, unmarked_is_not_so}

@@ -2,7 +2,7 @@ use Rattle.std.specs.Prelude.{List}
 use Rattle.std.proofs.Common.{arith, ap, sym, ◌∙◌, inl, inr}
 use Rattle.std.proofs.lemmas.Bool.{cases_lt}
 use Rattle.run_states.specs.Resuming.{apply_at}
-use Rattle.run_states.specs.RunState.{RunState}
+use Rattle.run_states.specs.Runs.{RunState}
 use Rattle.run_states.specs.WithinRun.{first_in_run}
 use Rattle.workflow_runs.proofs.MarkedRuns.{if_none, if_some, past_rests, unmarked_rests}
 use Rattle.workflow_runs.proofs.runs.Runs.next_due.Goals as goal

@@ -1,7 +1,7 @@
 use Rattle.std.specs.Prelude.{◌≡◌, ◌≤◌, ◌<◌, ℕ, List, IfNone, IfSome, None, length}
 use Rattle.std.proofs.Common.{ap, subst, sym, ◌∙◌}
 use Rattle.run_states.specs.Resuming.{apply_at}
-use Rattle.run_states.specs.RunState.{RunState}
+use Rattle.run_states.specs.Runs.{RunState}
 use Rattle.run_states.specs.inner.WithinRun.{fit_in_run}
 use Rattle.workflow_runs.specs.declared.runs.Runs.TheInside.{Inside}
 use Rattle.workflow_runs.proofs.NoneOffered.{next_between, next_from, next_none}

@@ -3,7 +3,7 @@ use Rattle.std.proofs.Common.{ap, subst, sym, ◌∙◌}
 use Rattle.group_book.specs.Books.{BookState}
 use Rattle.run_states.specs.AsPlanned.{AreAsPlanned}
 use Rattle.run_states.specs.Groups.{HasOneEach}
-use Rattle.run_states.specs.RunState.{RunState}
+use Rattle.run_states.specs.Runs.{RunState}
 use Rattle.run_states.specs.declared.holder.Holder.{Holder}
 use Rattle.workflow_runs.specs.inner.GroupsKept.{GroupsAreKept}
 use Rattle.workflow_runs.specs.inner.MarkedRuns.{AreMarked, is_due}

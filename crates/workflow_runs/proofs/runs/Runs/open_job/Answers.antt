@@ -1,13 +1,10 @@
 use Rattle.std.proofs.Common.{◌<◌, ◌+◌, List, length, arith, ap, refl, subst, sym, ◌∙◌}
 use Rattle.run_marks.specs.Marked.{Covers}
 use Rattle.run_states.specs.Changes.{changed}
-use Rattle.run_states.specs.Places.{with_job, with_run}
-use Rattle.run_states.specs.RunState.{RunState}
-use Rattle.run_states.specs.Rules.{may_run}
-use Rattle.run_states.specs.Settling.{first_site}
-use Rattle.run_states.specs.SoundRuns.{RunsAreSound}
-use Rattle.run_states.specs.StateWords.{opened}
-use Rattle.run_states.specs.Words.{planned_legs}
+use Rattle.run_states.specs.Runs.{with_job, with_run, RunState, opened}
+use Rattle.run_states.specs.Settling.{may_run, first_site}
+use Rattle.run_states.specs.Sound.{RunsAreSound}
+use Rattle.run_states.specs.LegContext.{planned_legs}
 use Rattle.run_states.specs.declared.change.Change.TheVariants as change
 use Rattle.workflow_runs.specs.inner.GroupsKept.{arrivals_to_come}
 use Rattle.workflow_runs.proofs.MarkedRuns.{put_adds, put_marks}

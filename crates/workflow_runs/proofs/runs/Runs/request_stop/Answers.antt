@@ -1,7 +1,6 @@
 use Rattle.std.proofs.Common.{List, ap, arith, subst, sym, ◌∙◌}
-use Rattle.run_states.specs.Places.{with_run}
-use Rattle.run_states.specs.RunState.{RunState}
-use Rattle.run_states.specs.SoundRuns.{RunsAreSound}
+use Rattle.run_states.specs.Runs.{with_run, RunState}
+use Rattle.run_states.specs.Sound.{RunsAreSound}
 use Rattle.run_states.specs.Stops.{with_job_stopped}
 use Rattle.workflow_runs.specs.inner.RowsKept.{RowState}
 use Rattle.workflow_runs.proofs.Stopping.{all_stopped, jobs_counted, one_more_stopped, request_nobody, request_sound}

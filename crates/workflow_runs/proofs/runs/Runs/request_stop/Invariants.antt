@@ -1,6 +1,6 @@
 use Rattle.std.proofs.Common.{◌≡◌}
-use Rattle.run_states.specs.Places.{with_run}
-use Rattle.run_states.specs.SoundRuns.{RunsAreSound}
+use Rattle.run_states.specs.Runs.{with_run}
+use Rattle.run_states.specs.Sound.{RunsAreSound}
 use Rattle.workflow_runs.proofs.Stopping.{stopped_upto}
 use Rattle.workflow_runs.proofs.runs.Runs.request_stop.Given as goal
 

@@ -1,7 +1,7 @@
 use Rattle.std.specs.Prelude.{◌≡◌, None}
 use Rattle.std.proofs.Common.{ap, sym, ◌∙◌, rules}
 use Rattle.run_states.specs.Holders.{run_of}
-use Rattle.run_states.specs.Places.{run_at}
+use Rattle.run_states.specs.Runs.{run_at}
 use Rattle.run_bindings.proofs.BoundSays.{SaysBoth, group_by, no_group, said_there}
 use Rattle.workflow_runs.proofs.runs.Runs.requested.Goals as goal
 use Rattle.workflow_runs.proofs.runs.Runs.requested.Goals.{In_ok-run}

@@ -1,10 +1,8 @@
 use Rattle.std.specs.Prelude.{IfSome}
 use Rattle.std.proofs.Common.{◌≡◌, ◌<◌, List, Ok, ap, length, subst, sym, ◌∙◌}
-use Rattle.run_states.specs.Arrivals.{arrived}
-use Rattle.run_states.specs.NewRun.{again}
-use Rattle.run_states.specs.Places.{run_at, with_run}
-use Rattle.run_states.specs.RunState.{RunState}
-use Rattle.run_states.specs.SoundRuns.{RunsAreSound}
+use Rattle.run_states.specs.Settling.{arrived}
+use Rattle.run_states.specs.Runs.{again, run_at, with_run, RunState}
+use Rattle.run_states.specs.Sound.{RunsAreSound}
 use Rattle.run_states.specs.declared.holder.Holder.TheVariants.{Run}
 use Rattle.run_states.specs.declared.phases.RunPhase.TheVariants as run
 use Rattle.workflow_runs.proofs.Added.{due_rerun, kept_beside_rerun, rerun_waits}

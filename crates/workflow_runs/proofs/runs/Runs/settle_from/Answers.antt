@@ -1,10 +1,10 @@
 use Rattle.std.specs.Prelude.{◌≡◌, ◌<◌, List, Option, Some, None, IfSome, is_some, option_map, if◌then◌else◌}
 use Rattle.std.proofs.Common.{ap, subst, sym, refl, ◌∙◌}
 use Rattle.run_states.specs.Resuming.{RestBefore}
-use Rattle.run_states.specs.Moves.{Transition}
-use Rattle.run_states.specs.RunState.{RunState}
+use Rattle.run_states.specs.GroupLaw.{Transition}
+use Rattle.run_states.specs.Runs.{RunState}
 use Rattle.run_states.specs.Settling.{first_rule, remaining_phases, settled}
-use Rattle.run_states.specs.SoundRuns.{RunsAreSound}
+use Rattle.run_states.specs.Sound.{RunsAreSound}
 use Rattle.run_states.specs.declared.place.JobSite.{JobSite}
 use Rattle.run_states.proofs.Optional.{from_map}
 use Rattle.settling_laws.proofs.Lowered.{first_rule_lowers}

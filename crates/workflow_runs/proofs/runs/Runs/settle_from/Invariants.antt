@@ -1,8 +1,8 @@
 use Rattle.std.proofs.Common.{◌≡◌, List}
 use Rattle.run_states.specs.Resuming.{RestBefore}
-use Rattle.run_states.specs.RunState.{RunState}
+use Rattle.run_states.specs.Runs.{RunState}
 use Rattle.run_states.specs.Settling.{settled, remaining_phases}
-use Rattle.run_states.specs.SoundRuns.{RunsAreSound}
+use Rattle.run_states.specs.Sound.{RunsAreSound}
 use Rattle.run_states.specs.declared.place.JobSite.{JobSite}
 use Rattle.workflow_runs.proofs.runs.Runs.settle_from.Given as goal
 

@@ -1,5 +1,5 @@
 use Rattle.std.proofs.Common.{subst, sym, ◌∙◌}
-use Rattle.run_states.specs.StateWords.{leg_in_phase}
+use Rattle.run_states.specs.Runs.{leg_in_phase}
 use Rattle.run_states.specs.declared.holder.Holder.TheVariants.{Leg}
 use Rattle.run_states.specs.declared.phases.LegPhase.TheVariants as leg
 use Rattle.workflow_runs.specs.inner.HolderChanges.{StartsOnly}

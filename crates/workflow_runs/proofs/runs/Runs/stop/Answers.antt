@@ -2,7 +2,7 @@ use Rattle.std.specs.Prelude.{◌≡◌, Option, Some, false, option_map, true}
 use Rattle.std.specs.Option.{option_map_or}
 use Rattle.std.proofs.Common.{ap, rules, sym, ◌∙◌}
 use Rattle.run_states.specs.Groups.{run_waits}
-use Rattle.run_states.specs.RunState.{RunState}
+use Rattle.run_states.specs.Runs.{RunState}
 use Rattle.run_states.specs.Stops.{stopped_run}
 use Rattle.workflow_runs.proofs.OneHolder.{run_is_cancelled, stop_cancels}
 use Rattle.workflow_runs.proofs.Stopping.{already_asked, has_ended, none_there, stop_leaves, stop_requests}

@@ -1,7 +1,6 @@
 use Rattle.std.proofs.Common.{◌≡◌, ◌≤◌, ℕ, List, length, Some, Option, arith, ap, ◌∙◌}
 use Rattle.std.specs.Option.{option_map_or}
-use Rattle.run_states.specs.Places.{job_at, with_leg}
-use Rattle.run_states.specs.RunState.{JobState, RunState}
+use Rattle.run_states.specs.Runs.{job_at, with_leg, JobState, RunState}
 use Rattle.run_states.specs.Stops.{stopped}
 use Rattle.workflow_runs.proofs.Stopping.{all_the_legs, none_of_the_legs, one_more_leg}
 use Rattle.workflow_runs.proofs.runs.Runs.stop_each_leg.Goals as goal

@@ -1,6 +1,6 @@
 use Rattle.std.proofs.Common.{◌≡◌}
-use Rattle.run_states.specs.Places.{with_job}
-use Rattle.run_states.specs.SoundRuns.{RunsAreSound}
+use Rattle.run_states.specs.Runs.{with_job}
+use Rattle.run_states.specs.Sound.{RunsAreSound}
 use Rattle.workflow_runs.proofs.Stopping.{legs_upto}
 use Rattle.workflow_runs.proofs.runs.Runs.stop_each_leg.Given as goal
 

@@ -1,9 +1,9 @@
 use Rattle.std.specs.Prelude.{List, option_map}
 use Rattle.std.proofs.Common.{ap, subst, sym, ◌∙◌}
-use Rattle.run_states.specs.Moves.{Transition}
-use Rattle.run_states.specs.RunState.{RunState}
+use Rattle.run_states.specs.GroupLaw.{Transition}
+use Rattle.run_states.specs.Runs.{RunState}
 use Rattle.run_states.specs.Settling.{first_site, first_rule}
-use Rattle.run_states.specs.SoundRuns.{RunsAreSound}
+use Rattle.run_states.specs.Sound.{RunsAreSound}
 use Rattle.workflow_runs.proofs.runs.Runs.take_first_rule.Goals as goal
 
 pub take_first_rule_at-requires-clause-sound : goal.take_first_rule_at-requires-clause-sound

@@ -2,11 +2,10 @@ use Rattle.std.specs.Prelude.{◌≡◌, List, Some, IfSome, Bool, option_and_th
 use Rattle.std.proofs.Common.{ap, subst, sym, ◌∙◌}
 use Rattle.run_states.specs.Resuming.{RestBefore}
 use Rattle.run_states.specs.inner.Resuming.{may_invalidate_others, resume_point}
-use Rattle.run_states.specs.Moves.{Transition}
-use Rattle.run_states.specs.Rules.{rule_at}
-use Rattle.run_states.specs.RunState.{RunState}
-use Rattle.run_states.specs.Settling.{first_site, first_rule}
-use Rattle.run_states.specs.SoundRuns.{RunsAreSound}
+use Rattle.run_states.specs.GroupLaw.{Transition}
+use Rattle.run_states.specs.Settling.{rule_at, first_site, first_rule}
+use Rattle.run_states.specs.Runs.{RunState}
+use Rattle.run_states.specs.Sound.{RunsAreSound}
 use Rattle.run_states.specs.declared.place.JobSite.{JobSite}
 use Rattle.run_states.specs.declared.place.RuleSite.{RuleSite}
 use Rattle.run_states.proofs.Optional.{from_map}

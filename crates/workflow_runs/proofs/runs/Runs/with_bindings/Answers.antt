@@ -1,5 +1,5 @@
 use Rattle.std.proofs.Common.{ap, ◌∙◌, refl}
-use Rattle.run_states.specs.GroupOf.{run_facts_at}
+use Rattle.run_states.specs.Groups.{run_facts_at}
 use Rattle.workflow_runs.specs.declared.runs.Runs.TheInside.{Inside}
 use Rattle.workflow_runs.proofs.ReadThere.{read_there}
 use Rattle.workflow_runs.proofs.runs.Runs.with_bindings.Goals as goal

@@ -1,7 +1,7 @@
 use Rattle.std.specs.Prelude.{◌≡◌, true}
 use Rattle.std.proofs.Common.{ap, sym, ◌∙◌}
 use Rattle.run_states.specs.Groups.{waits}
-use Rattle.run_states.specs.StopMoves.{stop_holder}
+use Rattle.run_states.specs.Stops.{stop_holder}
 use Rattle.run_states.specs.declared.holder.Holder.{Holder}
 use Rattle.run_states.specs.declared.holder.Holder.TheVariants.{Leg, Run}
 use Rattle.workflow_runs.proofs.Cancelled.{leg_cancelled, run_cancelled}

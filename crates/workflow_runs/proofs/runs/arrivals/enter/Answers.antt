@@ -1,9 +1,8 @@
 use Rattle.std.proofs.Common.{◌≡◌, List, None, Some, length, ap, rules, subst, sym, ◌∙◌}
 use Rattle.run_marks.specs.Marked.{Covers}
-use Rattle.run_states.specs.GroupOf.{group_at}
-use Rattle.run_states.specs.Groups.{waits}
-use Rattle.run_states.specs.RunState.{RunState}
-use Rattle.run_states.specs.SoundRuns.{RunsAreSound}
+use Rattle.run_states.specs.Groups.{group_at, waits}
+use Rattle.run_states.specs.Runs.{RunState}
+use Rattle.run_states.specs.Sound.{RunsAreSound}
 use Rattle.workflow_runs.specs.inner.Arriving.{stopped_if}
 use Rattle.workflow_runs.specs.inner.MarkedRuns.{AreMarked, is_due}
 use Rattle.workflow_runs.proofs.ArrivalEnds.{displaced_waits, its_flag, may_arrive}

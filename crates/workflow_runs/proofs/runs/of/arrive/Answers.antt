@@ -2,8 +2,8 @@ use Rattle.std.specs.Prelude.{◌≡◌, List, Some}
 use Rattle.std.proofs.Common.{◌+◌, arith, ap, subst, sym, ◌∙◌}
 use Rattle.std.proofs.lemmas.Option.{same_Some}
 use Rattle.group_name.specs.Group.{Group}
-use Rattle.run_states.specs.GroupOf.{group_at}
-use Rattle.run_states.specs.RunState.{RunState}
+use Rattle.run_states.specs.Groups.{group_at}
+use Rattle.run_states.specs.Runs.{RunState}
 use Rattle.run_bindings.specs.declared.bindings.RunBindings.{RunBindings}
 use Rattle.workflow_runs.specs.inner.RowsKept.{holder_key_at, key_at, keys_spent}
 use Rattle.workflow_runs.specs.inner.Seating.{HasSeats, SitsDown}

@@ -3,7 +3,7 @@ use Rattle.std.specs.Prelude.{MatchOption, length}
 use Rattle.std.proofs.lemmas.List.{length-take, take_all}
 use Rattle.run_plan.specs.PlanOf.{plan_of}
 use Rattle.run_states.specs.AsPlanned.{IsAsPlanned}
-use Rattle.run_states.specs.RunState.{RunState}
+use Rattle.run_states.specs.Runs.{RunState}
 use Rattle.run_states.proofs.OneAfterAnother.{all_passed, grown_same, one_passed, read_at}
 use Rattle.workflow_runs.specs.inner.Seating.{AreStored}
 use Rattle.workflow_runs.proofs.Stored.{one_more_stored}

@@ -4,8 +4,8 @@ use Rattle.std.proofs.lemmas.Bool.{and_from}
 use Rattle.std.proofs.lemmas.Option.{same_Some}
 use Rattle.group_book.specs.Books.{slot_in}
 use Rattle.group_name.specs.Group.{Group}
-use Rattle.run_states.specs.GroupOf.{group_at}
-use Rattle.run_states.specs.GroupWords.{same_holder}
+use Rattle.run_states.specs.Groups.{group_at}
+use Rattle.run_states.specs.GroupLaw.{same_holder}
 use Rattle.run_states.proofs.Optional.{some_of}
 use Rattle.settling_laws.proofs.ArrivalKeeps.{itself}
 use Rattle.workflow_runs.specs.inner.Seating.{in_slot, is_of}

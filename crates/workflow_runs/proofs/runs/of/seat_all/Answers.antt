@@ -1,7 +1,7 @@
 use Rattle.std.specs.Prelude.{◌≡◌, suc, ◌||◌, List, length, true, refl}
 use Rattle.std.proofs.Common.{arith, ◌+◌, ap, rules, subst, sym, ◌∙◌}
-use Rattle.run_states.specs.GroupWords.{same_holder}
-use Rattle.run_states.specs.RunState.{RunState}
+use Rattle.run_states.specs.GroupLaw.{same_holder}
+use Rattle.run_states.specs.Runs.{RunState}
 use Rattle.run_states.specs.declared.holder.Holder.{Holder}
 use Rattle.run_states.specs.declared.holder.Holder.TheVariants.{Run}
 use Rattle.workflow_runs.specs.inner.RowsKept.{RowState}

@@ -1,6 +1,6 @@
 use Rattle.std.specs.Prelude.{◌≡◌, suc, List, refl}
 use Rattle.std.proofs.Common.{arith, ◌+◌, subst, sym, ◌∙◌}
-use Rattle.run_states.specs.RunState.{RunState}
+use Rattle.run_states.specs.Runs.{RunState}
 use Rattle.workflow_runs.specs.inner.Seating.{HaveKeys, TakeSeats, in_job, jobs_below, legs_of_run}
 use Rattle.workflow_runs.proofs.Seating.{are_seated, one_is_taken, said_of}
 use Rattle.workflow_runs.proofs.SeatSteps.{all_jobs_seated, job_of_its_run, job_seated, job_taken, keys_still, no_job_seated}

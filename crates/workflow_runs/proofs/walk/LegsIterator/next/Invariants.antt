@@ -1,7 +1,7 @@
 use Rattle.std.proofs.Common.{◌≡◌, ◌+◌, length}
 use Rattle.std.specs.Prelude.{sum_by}
 use Rattle.run_states.specs.inner.PlacedLegs.{Fits, to_come}
-use Rattle.run_states.specs.RunState.{RunState}
+use Rattle.run_states.specs.Runs.{RunState}
 use Rattle.workflow_runs.proofs.walk.LegsIterator.next.Given as goal
 
 -- no leg was skipped

@@ -1,7 +1,7 @@
 use Rattle.std.proofs.Common.{◌≡◌, ap, ◌∙◌}
 use Rattle.std.specs.Prelude.{Bool, Option, Some, cond, false, refl, true}
 use Rattle.std.specs.Option.{option_map_or}
-use Rattle.run_states.specs.RunNumber.{same_workflow}
+use Rattle.run_states.specs.LegContext.{same_workflow}
 use Rattle.workflow_runs.specs.declared.rows.counts.Counted.{Counted}
 use Rattle.workflow_runs.proofs.rows.counts.Counts.add.Goals as goal
 
