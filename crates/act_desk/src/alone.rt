@@ -20,6 +20,9 @@ use wf_value::{Code, Refusal, TryCopy};
 const SEAT: u64 = 0;
 
 /// Answers from a store that no one else uses, and keeps the submitted commands with their answers.
+/// Promise (One history for all sessions): One session without a lock: the entry of an answer Ok is covered, and each image recovers to all
+///   entries
+/// By: `act_desk::Alone`, `act_sessions::Answer::ask` (`answered`, `survives`, `entered`)
 #[derive(Drop)]
 pub struct Alone<D: Disk> {
     alloc: Global,
@@ -67,6 +70,14 @@ impl<D: Disk> Answer for Alone<D> {
     /// entered, and the list does not change. If it is out of memory for a copy of the answer, the answer is 50 and is listed as such,
     /// although the entry exists. All other refusals are those of the store: 46, 47, 50, 52 and 57 before the command is entered, 51 after
     /// it.
+    /// Refusal (The store and the desk): `act_desk::Alone::ask`
+    /// When: 46, 47, 52, 57: only as `Store::apply`. 51: exactly if the device fails
+    /// Afterwards: the list is one longer; after 51 failed
+    /// By: `cause` (`IsUnanswered`, `IsNotDone`), `asks`, `faults`
+    /// Refusal (The store and the desk): `act_desk::Alone::ask`
+    /// When: 50: no memory for the list or a copy of the command (nothing has changed), or for the entry or a copy of the reply
+    /// Afterwards: after a late 50 the list is one longer, and the entry may be there and is then covered
+    /// By: `cause` (`IsUnanswered`, `IsNotDone`), `unlisted`, `asks`
     fn ask(&mut self, command: Command) -> Result<Reply, Refusal>
         ensures asks { Submits self.old.asked self.new.asked command result }
         ensures answered { IfOk result (λ reply. IsAnswered self.old.store self.new.store 0 command reply) }

@@ -30,6 +30,12 @@ const LONG_REST: u64 = 250;
 ///
 /// The flusher ignores the refusals 47, 48, 50 and 56 of the store and goes on with its rounds; once told to stop, it gives up at such a
 /// refusal. It has no seat, so it enters no command and releases no reply.
+/// Promise (One history for all sessions): That a flusher runs beside the sessions until they end is tested
+/// By: `act_desk::flusher`
+/// Refusal (The store and the desk): `act_desk::flusher`
+/// When: 51, 52: a call of the store was refused so; that it is given there: T. 47, 48, 50 and 56 are passed over
+/// Afterwards: failed; nothing is entered or released
+/// By: its one clause; `act_desk::flush::Flush::round`, `steps` (`Finishes`), `same`
 pub fn flusher<D: Disk, E: Named, T: Ledger, R: Wait + Clock>(
     rt: &R,
     alloc: Global,

@@ -92,6 +92,10 @@ impl<D: Disk, E: Named, T: Ledger> Desk<D, E, T> {
     }
 
     /// A fresh seat, with a number from 0 to 63. `None` after 64 seats.
+    /// Refusal (The store and the desk): `act_desk::Desk::seat`
+    /// When: `None` after 64 seats; not earlier: T
+    /// Afterwards: the desk is as it was: T
+    /// By: none; the test `a_desk_has_64_seats`
     pub fn seat(&self, rt: &impl Wait) -> Option<Seat<E, T>>
         ensures { IfSome result (λ seat. (seat.number < 64) × (seat.entered ≡ 0) × (seat.released ≡ 0)) }
     {
@@ -110,6 +114,10 @@ impl<D: Disk, E: Named, T: Ledger> Desk<D, E, T> {
     ///
     /// The entry comes after every one that the seat had seen. To let it come after those that another seat was told of, call `Seat::learn`
     /// first.
+    /// Refusal (The store and the desk): `act_desk::Desk::enter`, `act_desk::LockedStore::enter`
+    /// When: 52, 46, 57, 47, 50 as `Store::apply`
+    /// Afterwards: seat and store are as they were
+    /// By: `refused`, `kind`, `cause`, `unchanged`
     pub fn enter(
         &self,
         rt: &impl Wait,
@@ -142,6 +150,10 @@ impl<D: Disk, E: Named, T: Ledger> Desk<D, E, T> {
     ///
     /// What the seat has seen then says how many entries are covered and how many replies are released (`HistoryPrefix`). Only the value
     /// under the lock adds to that history, and what was seen of it holds of that value at any later moment (`LockedStore::recall`).
+    /// Refusal (The store and the desk): `act_desk::Desk::cover`
+    /// When: 51, 52, 60: of 51 and 52 the numbers alone, the rest under the lock. No seat causes 60: T
+    /// Afterwards: the pending command is spent and its reply withheld; after 51, 52 the entry may be in the file
+    /// By: `cause`, `unreleased`, `excess`; test `a_desk_keeps_a_history_of_20000_entries`
     pub fn cover<R: Wait + Clock>(
         &self,
         rt: &R,
@@ -285,6 +297,17 @@ impl<D: Disk, E: Named, T: Ledger> Desk<D, E, T> {
     ///
     /// A refusal with 46, 47, 50 or 57 has entered nothing. After 51, 52 or 60 it is unknown whether the entry exists, and no reply was
     /// released. A reply means that the entry is covered, and that it comes after every one that the seat had seen before.
+    /// Promise (One history for all sessions): `submit`: the reply is one that a step of this command gives; one entry and one reply more are
+    ///   counted
+    /// By: `act_desk::Desk::submit`, `reply`, `entered`, `released`
+    /// Promise (One history for all sessions): After `submit` the entry of seat, command and reply is at a covered position of the history,
+    ///   after all that the seat had seen or learned of from others
+    /// By: `act_desk::Desk::submit`, `in_history` (`IsCoveredAfter`); `act_desk::Desk::enter`, `after`; `act_desk::Desk::cover`, `covered`,
+    ///   `later`
+    /// Refusal (The store and the desk): `act_desk::Desk::submit`
+    /// When: 46, 47, 50, 57 as `enter`; 51, 52, 60 as `enter` and `cover`
+    /// Afterwards: the first: nothing is entered. The others: the reply is withheld, and the entry may be in the history and in the file or not
+    /// By: `refused`, `unreleased`, `may_enter`, `cause`, `excess`
     pub fn submit<R: Wait + Clock>(
         &self,
         rt: &R,

@@ -68,6 +68,9 @@ impl Flush {
 
     /// Calls the store at most once: continues the checkpoint in progress, or begins one if that is due. Returns whether the store did
     /// what it was asked to do. A refusal that is not a device failure is ignored. It enters no command and releases no reply.
+    /// Promise (One history for all sessions): A flusher begins a checkpoint exactly where less than half of the area is left and more is
+    ///   covered than at its last try; else it writes a slice or finishes. It enters and releases nothing
+    /// By: `act_desk::flush::Flush::round`, `steps` (`Steps`), `same`, `history`; `act_desk::LockedStore::is_pressed`
     pub(crate) fn round<D: Disk, E: Named, T: Ledger>(
         &mut self,
         alloc: Global,

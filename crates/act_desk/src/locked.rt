@@ -98,6 +98,12 @@ impl<D: Disk, E: Named, T: Ledger> LockedStore<D, E, T> {
     }
 
     /// How many entries are covered. The clauses are the invariant of the lock.
+    /// Promise (One history for all sessions): Under the lock: the history is legal, groups are lawful, and each image recovers to the covered
+    ///   entries or to all
+    /// By: `act_desk::LockedStore::covered`, `legal`, `groups`, `promise`
+    /// Promise (One history for all sessions): The shares of all seats add up to the length of the history and to the number of released
+    ///   replies, which is at most that of covered entries
+    /// By: `act_desk::LockedStore::covered`, `entered`, `answered`, `released`
     pub fn covered(&self) -> u64
         ensures value { result ≡ self.now.store.covered }
         ensures within { self.now.store.covered ≤ length self.now.store.history }
@@ -122,6 +128,14 @@ impl<D: Disk, E: Named, T: Ledger> LockedStore<D, E, T> {
     }
 
     /// Begins a checkpoint of the store, as `Store::check_begin` does. It enters no command and releases no reply.
+    /// Promise (One history for all sessions): The steps of a checkpoint under the lock are the store's, and leave history, seats and replies as
+    ///   they were
+    /// By: `act_desk::LockedStore::{check_begin, check_slice, check_finish}`, `any_moment`, `begun`, `sliced`, `finished`, `refused`, `cause`,
+    ///   `faults`, `same`, `history`
+    /// Refusal (The store and the desk): `act_desk::LockedStore::{check_begin, check_slice, check_finish}`
+    /// When: as the call of the store
+    /// Afterwards: as of that call; history, seats and replies are as they were
+    /// By: `refused`, `cause`, `faults`, `unchanged`, `dropped`, `broken`, `same`, `history`
     pub fn check_begin(&mut self, alloc: Global) -> Result<u64, Refusal>
         ensures any_moment { D.honest self.old.store.disk
             → EachSince D.moment D.images_since self.old.store.disk self.new.store.disk (RecoversToEither self.old.store) }
@@ -178,6 +192,10 @@ impl<D: Disk, E: Named, T: Ledger> LockedStore<D, E, T> {
     /// entry.
     ///
     /// It is refused as by `Store::apply`, with 52, 46, 57, 47 or 50; then nothing changes.
+    /// Promise (One history for all sessions): Entering changes the store as `Store::apply` does
+    /// By: `act_desk::LockedStore::enter`, `entered`
+    /// Promise (One history for all sessions): Only the value under the lock adds to what seats can see
+    /// By: `act_desk::LockedStore::{enter, cover}`, `whole` (`Shows`)
     #[tactic(auto, using(crate::proofs::Causes::causes))]
     pub fn enter(
         &mut self,
@@ -227,6 +245,20 @@ impl<D: Disk, E: Named, T: Ledger> LockedStore<D, E, T> {
     ///
     /// The result is 52 if the device failed earlier and the entry is not covered, 51 if it fails in this call, and 60 if as many replies
     /// are released as entries are covered, which no history of this desk reaches. A refusal counts no reply.
+    /// Promise (One history for all sessions): A released reply is the one with which the entry of this seat and command is in the history, and
+    ///   the entry is covered
+    /// By: `act_desk::LockedStore::cover`, `stands`, `covered`
+    /// Promise (One history for all sessions): If an entry was covered before its reply is released, no device is called; else the store is
+    ///   committed, or broken. At each moment the disk recovers to the entries covered before, or to all
+    /// By: `act_desk::LockedStore::cover`, `no_call`, `committed`, `broken`, `any_moment`
+    /// Refusal (The store and the desk): `act_desk::LockedStore::cover`
+    /// When: 51: only if the device failed in this call. 52: only if it had failed before
+    /// Afterwards: the entry may be in the file or not
+    /// By: `fault`, `failed`, `history`; `act_store::Store::commit`, `broken`, `failed`
+    /// Refusal (The store and the desk): `act_desk::LockedStore::cover`
+    /// When: 60: only if as many replies are released as entries are covered, which the seat has then seen
+    /// Afterwards: the entry is as far as it is covered
+    /// By: `excess`, `history`
     pub fn cover(&mut self, seat: &mut Seat<E, T>, pending: Pending<E>) -> Result<Reply, Refusal>
         ensures any_moment { D.honest self.old.store.disk
             → EachSince D.moment D.images_since self.old.store.disk self.new.store.disk (RecoversToEither self.old.store) }
@@ -260,6 +292,9 @@ impl<D: Disk, E: Named, T: Ledger> LockedStore<D, E, T> {
 
     /// Whatever was seen of the history still holds: its entries are the first ones of the store, as many as were covered are covered, and
     /// as many replies as were released are released.
+    /// Promise (One history for all sessions): At any later moment what was seen is true of that value: the entries are its first ones, and at
+    ///   least as many are covered and at least as many replies released
+    /// By: `act_desk::LockedStore::recall`, `entries`, `covered`, `released`
     pub fn recall(&mut self, seen: &HistoryPrefix<E>)
         ensures same { self.new ≡ self.old }
         ensures entries { IsPrefix (entries_in seen.now) self.old.store.history }

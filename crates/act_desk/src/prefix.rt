@@ -192,6 +192,9 @@ impl<E: Named> HistoryPrefix<E> {
     }
 
     /// The longer of two prefixes of one history. The other is a prefix of it.
+    /// Promise (One history for all sessions): What seats see of the history: its entries, how many of them are covered, and how many replies
+    ///   are released, in the order in which it happened (`Event`)
+    /// By: `act_desk::HistoryPrefix::{longer, begins}`; `act_desk::Seat::learn`
     pub fn longer(&self, other: &HistoryPrefix<E>) -> HistoryPrefix<E>
         ensures either { (result ≡ self.now) ⊎ (result ≡ other.now) }
         ensures this { IsPrefix self.now result }
@@ -207,6 +210,9 @@ impl<E: Named> HistoryPrefix<E> {
     }
 
     /// Whether the other one is as long or longer. Then this one is a prefix of it.
+    /// Promise (One history for all sessions): The prefix that a seat has seen begins the whole history, whose entries are the store's. A seat
+    ///   has a number from 0 to 63. That no two have the same is in no clause: `serve_all` compares in the end
+    /// By: `act_desk::HistoryPrefix::begins`; `act_desk::Desk::{into_parts, seat, give_back}`
     pub fn begins(&self, other: &HistoryPrefix<E>) -> bool
         ensures begins { result ≡ true → IsPrefix self.now other.now }
         ensures longer { result ≡ false → length other.now < length self.now }

@@ -30,6 +30,8 @@ pub(crate) struct Noted {
 }
 
 /// Answers at a desk from a seat, and calls the gate before and after each command.
+/// Promise (One history for all sessions): Each answer that a session gets at its seat is as `submit` says
+/// By: `act_desk::seat_answerer::SeatAnswerer`, `act_sessions::Answer::ask` (`covered`, `excess`, `seen`)
 #[derive(Drop)]
 pub(crate) struct SeatAnswerer<'a, D: Disk, E: Named, T: Ledger, G: Gate, R: Wait + Clock> {
     rt: &'a R,

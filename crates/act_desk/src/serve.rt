@@ -34,6 +34,27 @@ use std::time::Clock;
 ///
 /// It is refused with 50 only before a session is started, and then returns everything; with 60 exactly if that comparison fails; and with 61 if
 /// all sessions have ended, the comparison holds, and a session was ended by its reader or writer.
+/// Promise (One history for all sessions): Sessions in threads, if `serve_all` ends with Ok: no stream failed; each session has ended as its
+///   bytes say, or was not started
+/// By: `act_desk::serve_all`, `served` (`IsServed`)
+/// Promise (One history for all sessions): Then the entries of each seat are what its session asked, in order, each once, with the replies, and
+///   there are no others. The history begins at the table of the store that was given
+/// By: `act_desk::serve_all`, `served` (`IsServed`, `IsSettled`)
+/// Promise (One history for all sessions): A command of a session that was refused with 46, 47 or 57 is nowhere; the last one of a session may
+///   be there or not after 50, 51, 52 or 60
+/// By: `act_desk::serve_all`, `served` (`AreDefinite`)
+/// Promise (One history for all sessions): Each command that got a reply is among the covered entries, and each image of an honest disk recovers
+///   to these, or to all
+/// By: `act_desk::serve_all`, `served` (`AreCovered`), `recovers`
+/// Refusal (The store and the desk): `act_desk::serve_all`
+/// When: 50: before any session is started. 61: only if a session was ended by its reader or writer
+/// Afterwards: after 50 store and sessions are given back; after 61 store and transcripts, over the same base: the history is what was asked
+/// By: `cause` (`IsCause`, `IsReconciled`), `served`
+/// Refusal (The store and the desk): `act_desk::serve_all`
+/// When: 60: exactly if the sessions have ended and history and transcripts differ, an answer is none that is allowed, or a reply is not among
+///   the covered entries
+/// Afterwards: store and transcripts are given back, over the same base
+/// By: `cause` (`IsCause`, `IsReconciled`)
 pub fn serve_all<D: Disk + Send, W: Work + Send, G: Gate + Sync, R: Threads + Wait + Clock + Sync>(
     rt: &R,
     alloc: Global,

@@ -45,6 +45,16 @@ pub trait Disk {
         ensures { result ≡ fault_count self.now };
 
     /// Fills `buf` with the bytes from `at` on, which lie within the length. At `Err` the buffer may hold any bytes.
+    /// Promise (Disks): A read gives what is there and changes nothing
+    /// By: `act_disk::Disk::read`, `bytes`, `seen`, `images`
+    /// Promise (Disks): What a crash may have left stays counted, at each moment inside a call
+    /// By: `act_disk::Disk::{read, write_at, sync}`, `time`; the trait's laws `act_disk::Disk::{counts_now, only_now}`
+    /// Promise (Disks): Calls are counted, and the count of faults rises by one exactly where a call fails. Writes and syncs keep a disk honest
+    /// By: `act_disk::Disk::{read, write_at, sync}`, `calls`, `faults`, `honest`
+    /// Refusal (The layers below): `act_disk`: `Disk::{read, write_at, sync}`
+    /// When: a fault, which is 51 above: exactly if `faults` rises by one
+    /// Afterwards: a failed read leaves everything; a failed write any bytes in its range and past the old end; a failed sync nothing durable
+    /// By: `faults`, `failed`, `images`, `seen`
     fn read(&mut self, at: u64, buf: &mut [u8]) -> Result<(), DiskFault>
         requires within { at + length buf.old ≤ size self.old }
         requires countable { fault_count self.old < u64.MAX }
@@ -60,6 +70,9 @@ pub trait Disk {
 
     /// Overwrites bytes, and extends the disk where the range passes its end. The bytes between the old end and `at` may then be any. A
     /// failed write may have done anything in its range and past the old end.
+    /// Promise (Disks): After a write that succeeded a read gives its bytes. A write, also a failed one, touches only its range and what lies
+    ///   past the old end, in each image; a crash may leave any bytes there
+    /// By: `act_disk::Disk::write_at`, `written`, `failed`, `images`, `any`
     fn write_at(&mut self, at: u64, bytes: &[u8]) -> Result<(), DiskFault>
         requires { fault_count self.old < u64.MAX }
         ensures written { OnOk result (honest self.old → IsWritten at bytes.now (seen self.old) (seen self.new)) }
@@ -75,6 +88,9 @@ pub trait Disk {
         ensures honest { honest self.new ↔ honest self.old };
 
     /// After a successful sync, a crash leaves what a read returns. A failed sync makes nothing durable.
+    /// Promise (Disks): After a sync that succeeded a crash leaves what a read gives, and nothing else. A failed sync, and a read, make nothing
+    ///   durable
+    /// By: `act_disk::Disk::sync`, `stable`, `failed`; `act_disk::Disk::read`, `images`
     fn sync(&mut self) -> Result<(), DiskFault>
         requires { fault_count self.old < u64.MAX }
         ensures stable { OnOk result (honest self.old → Only (seen self.old) (images self.new)) }

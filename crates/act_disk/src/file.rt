@@ -31,6 +31,8 @@ impl<F: SystemFile> FileDisk<F> {
     ghost use Rattle.act_disk.specs.SystemCalls.{Measured, is_sound};
 
     /// A disk over an open file on which no call has failed. It is refused with 61 if the system does not report the length.
+    /// Promise (Disks): A disk over a file that was just opened has not failed
+    /// By: `act_disk::FileDisk::{over, open, create}`, `live`, `calls`, `faults`
     pub fn over(file: F) -> Result<Self, Refusal>
         requires { IsTrue (is_sound (F.calls file)) }
         ensures calls { IfOk result (λ disk. F.calls (file_of disk) ≡ Measured (len_of disk) ∷ F.calls file) }
@@ -75,6 +77,9 @@ fn partly_long(len: u64, at: u64, count: usize) -> u64
     len.max(at + count as u64)
 }
 
+/// Promise (Disks): A disk over a file meets all that the trait says, with short, interrupted and failed system calls, whole ranges, writes of
+///   no bytes, and offsets up to the end of `u64`
+/// By: `impl Disk for act_disk::FileDisk`, over any `act_disk::SystemFile`
 impl<F: SystemFile> Disk for FileDisk<F> {
     ghost use Rattle.std.specs.Prelude.{length};
     ghost use Rattle.act_disk.specs.FileDisk.{len_of, faults_of, made_of, failed_of, seen_of, images_of, moment_of};
@@ -118,6 +123,9 @@ impl<F: SystemFile> Disk for FileDisk<F> {
     }
 
     /// As in the trait. A failed read does not end the disk's use.
+    /// Promise (Disks): After a failed write or sync every further call of a disk over a file fails and asks the system nothing; a failed read
+    ///   ends nothing
+    /// By: `act_disk::FileDisk::{read, write_at, sync}`, `stopped`, `live`
     fn read(&mut self, at: u64, buf: &mut [u8]) -> Result<(), DiskFault>
         requires within { at + length buf.old ≤ len_of self.old }
         requires countable { faults_of self.old < u64.MAX }

@@ -14,6 +14,10 @@ use std::marker::Model;
 ///
 /// A write that the fuse fails is still made on the inner disk, since a failed write may have done anything in its range. A read or a sync
 /// that the fuse fails is not made there.
+/// Refusal (The layers below): `act_disk`: `FuseDisk`
+/// When: a fault exactly where the fuse or the inner disk fails
+/// Afterwards: a read or sync that a fuse fails is not made inside, a write is
+/// By: `FuseDisk::{read, write_at, sync}`, `fuse`, `kept`
 #[derive(Drop)]
 pub struct FuseDisk<D: Disk> {
     disk: D,
@@ -35,6 +39,8 @@ impl<D: Disk> Model for FuseDisk<D> {
 
 impl<D: Disk> FuseDisk<D> {
     /// Fails the call with this number.
+    /// Promise (Disks): A fuse fails the k-th call, or all from there on, and no other
+    /// By: `act_disk::FuseDisk::{once, from}`; `act_disk::FuseDisk::{read, write_at, sync}`, `fuse`, `refused`, `kept`
     pub fn once(disk: D, call: u64) -> Self
         ensures { result ≡ record { disk = disk; failing = Once call; refused = 0; made = 0 } }
     {

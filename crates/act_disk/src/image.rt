@@ -15,6 +15,8 @@ const GATE: u8 = 0xA5;
 impl MemoryDisk {
     /// The disk that a crash inside a recorded call leaves. Calls are counted from 0. The writes since the last sync before that call, and
     /// the call itself if it is a write, are kept as the fill says. Out of memory is refusal 50.
+    /// Promise (Disks): The image of a crash inside a call of a disk in memory is one that such a crash may leave
+    /// By: `act_disk::MemoryDisk::image`, `image`, `inside`, `since`
     pub fn image(&self, alloc: Global, call: u64, fill: Fill) -> Result<MemoryDisk, Refusal>
         requires { call < length self.now.calls }
         ensures image { Gives (λ d. d) result (Ok (image_of self.now call fill)) }

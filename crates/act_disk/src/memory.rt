@@ -16,6 +16,10 @@ use wf_value::{Refusal, Sequence};
 
 /// An in-memory disk, which records its completed writes and syncs. The record contains no reads and no failed calls. A call fails when it
 /// is out of memory for the bytes or for the record.
+/// Refusal (The layers below): `act_disk`: `MemoryDisk`, `MemoryDisk::{from_slice, image}`
+/// When: a fault if memory is refused: T; 50 of `image` and `from_slice`
+/// Afterwards: as it was
+/// By: `MemoryDisk::write_at`, `noted`; `MemoryDisk::image`, `image`
 #[derive(Drop)]
 pub struct MemoryDisk {
     alloc: Global,
@@ -152,6 +156,8 @@ fn note(calls: &mut Vec<Call>, call: Call) -> Result<(), AllocError>
     Ok(())
 }
 
+/// Promise (Disks): A disk in memory meets all that the trait says; each write and sync is done and noted in its record, or fails and is counted
+/// By: `impl Disk for act_disk::MemoryDisk`, `noted`, `same`, `ok`
 impl Disk for MemoryDisk {
     ghost use Rattle.std.specs.Prelude.{length, refl};
     ghost use Rattle.act_disk.specs.Record.{bytes_of, MayLeave, MayHaveLeft};

@@ -16,6 +16,10 @@ use wf_value::{Code, Refusal};
 
 impl<S: Start> FileDisk<HostFile<S>> {
     /// Opens an existing file for reading and writing. It is refused with 61 if it cannot be opened.
+    /// Refusal (The layers below): `act_disk`: `FileDisk::{open, create, opened, over}`, `sync_folder`
+    /// When: 61 if path, folder or length cannot be had: T
+    /// Afterwards: as it was; `create` may have made the file: T
+    /// By: `FileDisk::open`, `refused`
     pub fn open<R: Files<File = File>>(rt: &R, path: &str) -> Result<Self, Refusal>
         ensures calls { IfOk result (λ disk. calls_of (file_of disk) ≡ Measured (len_of disk) ∷ []) }
         ensures faults { IfOk result (λ disk. faults_of disk ≡ 0) }

@@ -147,6 +147,8 @@ fn take_in(
     }
 }
 
+/// Promise (Disks): A scripted file gives honest answers
+/// By: `impl SystemFile for act_disk::ScriptedFile`; `act_disk::ScriptedFile::bytes`, `honest`
 impl SystemFile for ScriptedFile {
     ghost use Rattle.std.specs.Prelude.{[], refl};
 

@@ -8,6 +8,13 @@ use crate::fault::DiskFault;
 ///
 /// A crash at any moment of the call leaves one of the disk's earlier images with a write of this range applied: any bytes in the range,
 /// the old bytes outside. After `Ok` it leaves what a read returns, which includes the bytes.
+/// Promise (Disks): A write with its sync: at each moment, and after each fault, a crash leaves what a write of the range makes of some earlier
+///   image; at Ok the bytes are durable; two calls at most
+/// By: `act_disk::write_synced`, `any_moment`, `torn`, `stable`, `written`, `calls`, `faults`
+/// Refusal (The layers below): `act_disk`: `write_synced`, `grow_to`
+/// When: a fault, which is 51 above: exactly if `faults` rises by one
+/// Afterwards: any bytes in the range and past the old end
+/// By: `faults`, `any_moment`, `torn`
 pub fn write_synced<D: Disk>(disk: &mut D, at: u64, bytes: &[u8]) -> Result<(), DiskFault>
     requires { D.fault_count disk.old < u64.MAX }
     ensures any_moment { D.honest disk.old

@@ -9,6 +9,8 @@ const MAX_ZEROS: usize = 4096;
 
 /// Extends a shorter disk to this length with zeros. They are written, so that a file has its blocks allocated, and nothing is synced. A
 /// crash at any moment, also after a fault, leaves below the old end what it might have left before.
+/// Promise (Disks): `grow_to` adds zeros, and keeps what lies below
+/// By: `act_disk::grow_to`, `size`, `zeros`, `any_moment`
 pub fn grow_to<D: Disk>(disk: &mut D, len: u64) -> Result<(), DiskFault>
     requires { D.fault_count disk.old < u64.MAX }
     ensures any_moment { D.honest disk.old → EachSince D.moment D.images_since disk.old disk.new

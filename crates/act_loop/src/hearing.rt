@@ -29,6 +29,20 @@ fn read_into<R: Read>(reader: &mut R, buffer: &mut Vec<u8>) -> Option<usize>
 impl<D: Disk, P: Protocol, Q: Protocol> Service<D, P, Q> {
     /// Hears the first `n` of these bytes from the client of a slot. At most `MAX_REQUESTS` of its requests are taken; the others are
     /// held. No device call is made.
+    /// Promise (A service in one thread): At every moment of a call of a service the disk recovers to the table after some first entries, with
+    ///   all that were covered when it began
+    /// By: `act_loop::Service::{hear, send, commit, step, turn_over, join, leave}`, `survives`
+    /// Promise (A service in one thread): A piece is heard once, by the client that sent it, unless its session is over. At most 16 commands are
+    ///   taken at a time, and no device is called
+    /// By: `act_loop::Service::{hear, go_on}`, `hears` (`ServiceHears`, `Hears`, `full`)
+    /// Promise (A service in one thread): No whole request is left without an answer unless the session says that it has more to take, which it
+    ///   says only after 16 requests or with 65,536 bytes withheld
+    /// By: `act_loop::Service::{hear, go_on}`, `hears` (`Hears`, `full`, `Follows`); `act_loop::Service::status` (`ClientStatus`)
+    /// Promise (A service in one thread): What waits when a session has no more to take is within the protocol's limit
+    /// By: `act_loop::Service::{hear, go_on}`, `hears` (`Follows`)
+    /// Promise (A service in one thread): Whatever a client sends, and if it takes nothing, fewer than 65,536 bytes are withheld from it beside
+    ///   those of one answer, or of one answer and the last text of a session that ran out of memory
+    /// By: `act_loop::Service::{hear, go_on}`, `hears` (`Follows`, `few_withheld`, `AreFew`)
     pub fn hear(&mut self, alloc: Global, index: usize, bytes: &Vec<u8>, n: usize)
         requires index { index < length self.old.slots.all }
         requires within { n ≤ vec_len bytes.now }
@@ -51,6 +65,9 @@ impl<D: Disk, P: Protocol, Q: Protocol> Service<D, P, Q> {
 
     /// Reads once from the client of a slot, and hears what came. Nothing is read unless the client awaits input, and nothing is heard if
     /// the read fails.
+    /// Promise (A service in one thread): A client is read from only once all that it has asked is answered and sent; what was read is what is
+    ///   heard. A failed read changes nothing
+    /// By: `act_loop::Service::hear_from`, `awaited`, `read`, `heard`, `none`
     pub fn hear_from<R: Read>(
         &mut self,
         alloc: Global,

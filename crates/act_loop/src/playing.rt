@@ -66,6 +66,17 @@ fn happen<D: Disk, P: Protocol, Q: Protocol>(
 /// Whatever bytes come to any clients in whatever pieces and order, and whenever the machine crashes, the disk recovers to the state after
 /// some first entries of one history, with every command of which a client was sent a byte of the answer. Each client was sent the bytes
 /// that its own bytes and that history spell, or a prefix of them. The history keeps the law of concurrency groups.
+/// Promise (A service in one thread): Any events in any order, whatever the device does: at every moment of each event the disk recovers to the
+///   table after some first entries of one history, with all that were covered when the event began
+/// By: `act_loop::play`, `plays` (`Plays`, `Happens`, `Survives`), `any_moment`, `grows`, `honest`
+/// Promise (A service in one thread): That history begins at the service's first table. A turn-over changes neither the history nor what is
+///   covered
+/// By: `act_loop::play`, `plays` (`Plays`, `Happens`), `grows`
+/// Promise (A service in one thread): The history of a service is sequential and keeps the law of concurrency groups
+/// By: `act_loop::play`, `promise`; `act_loop::Service::is_covered`, `promise` (`IsPromised`)
+/// Promise (A service in one thread): The entries under a slot's number are the commands of its clients, in order, each once, with the replies
+///   of their steps, and there are no others
+/// By: `act_loop::play`, `promise`; `act_loop::Service::is_covered`, `promise` (`AreServed`, `Enters`)
 pub fn play<D: Disk, P: Protocol, Q: Protocol>(
     alloc: Global,
     service: &mut Service<D, P, Q>,

@@ -46,6 +46,10 @@ impl<D: Disk, P: Protocol, Q: Protocol> Service<D, P, Q> {
 
     /// Notes that the first `n` bytes that are withheld from the client of a slot were sent. Returns false if they may not be sent: an
     /// entry under the slot's number is not covered, or fewer bytes are withheld.
+    /// Promise (A service in one thread): Bytes are sent to a client only while every entry under its number is covered: of these the withheld
+    ///   ones, in order, each once
+    /// By: `act_loop::Service::send`, `sent`, `same`; `act_loop::Service::send_to`, `wrote` (`ServiceSends`, `ServiceWrites`);
+    ///   `act_loop::Service::may_send`
     pub fn send(&mut self, index: usize, n: usize) -> bool
         requires { index < length self.old.slots.all }
         ensures sent { result ≡ true → ServiceSends (by_port self.old.slots.hooks P.rules Q.rules) index n self.old self.new }

@@ -56,6 +56,14 @@ impl<D: Disk, P: Protocol, Q: Protocol> Service<D, P, Q> {
     }
 
     /// Whether every entry is covered. The clause `promise` says what every service promises.
+    /// Promise (A service in one thread): A command refused with 46, 47, 50, 52 or 57 is no entry, and changed nothing
+    /// By: `act_loop::Service::is_covered`, `promise` (`Enters`)
+    /// Promise (A service in one thread): The commands of a client are those that its bytes spell by its protocol, and the bytes sent to it and
+    ///   those withheld are, together, the protocol's answers
+    /// By: `act_loop::Service::is_covered`, `promise` (`IsClient`, `Follows`, `AreAnswers`)
+    /// Promise (A service in one thread): A session that runs out of memory outside a command ends with the protocol's response or nothing; the
+    ///   last answer may then be missing
+    /// By: `act_loop::Service::is_covered`, `promise` (`IsCutShort`)
     pub fn is_covered(&self) -> bool
         ensures covered { IsTrue result ↔ (length (history_of self.now) ≤ covered_of self.now) }
         ensures promise { IsPromised (by_port self.now.slots.hooks P.rules Q.rules) D.honest D.images self.now }
@@ -86,6 +94,8 @@ impl<D: Disk, P: Protocol, Q: Protocol> Service<D, P, Q> {
     }
 
     /// Gives a slot to a new client. Returns false if it is taken.
+    /// Promise (A service in one thread): A slot is given to one client at a time, and a service begins with no client
+    /// By: `act_loop::Service::join`, `joined`, `taken`; `act_loop::Service::leave`, `leaves`; `act_loop::Service::new`; `act_loop::Slots::new`
     pub fn join(&mut self, alloc: Global, index: usize) -> bool
         requires { index < length self.old.slots.all }
         ensures joined { result ≡ true → ServiceJoins index self.old self.new }

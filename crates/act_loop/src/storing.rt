@@ -15,6 +15,10 @@ use wf_value::Refusal;
 impl<D: Disk, P: Protocol, Q: Protocol> Service<D, P, Q> {
     /// Makes all entries durable, as `Store::commit` does. At each moment of the call the disk recovers to some first entries of the
     /// history, with all that were covered at its start.
+    /// Refusal (Sessions and programs): `act_loop::Service::{commit, step, turn_over}`
+    /// When: as `Store::commit`, `act_store::take` and `Store::turn_over`
+    /// Afterwards: as theirs; the history of the service stays
+    /// By: `act_loop::Service::commit`, `failed`, `quiet`; `act_loop::Service::step`, `takes`; `act_loop::Service::turn_over`, `quiet`
     pub fn commit(&mut self) -> Result<u64, Refusal>
         ensures survives { Survives D.honest D.moment D.images_since self.old self.new }
         ensures quiet { IsQuiet self.old self.new }

@@ -5,6 +5,10 @@ use run_plan::{Command, Reply};
 use wf_value::Refusal;
 
 /// Answers the commands of a session.
+/// Refusal (Sessions and programs): a command of either, by `act_sessions::Answer`
+/// When: 46, 47, 50, 51, 52, 57, 60: as `Desk::submit` (of HTTP, 50 also out of memory elsewhere, as status 503)
+/// Afterwards: as of `Desk::submit`, and the session ends
+/// By: its clauses (`Submits`); `act_desk::serve_all`, `served`
 pub trait Answer {
     /// The commands submitted so far, each with its answer.
     ghost asked: { Self → List Exchange };

@@ -10,6 +10,8 @@ use wf_value::Refusal;
 
 /// The bytes that a session holds: those that it has received, without the requests that were taken. How far they were read is kept,
 /// and they are not looked at again before they can be a request.
+/// Promise (Sessions): Held bytes are looked at again only once there are as many as a request needs at least
+/// By: `act_sessions::HeldBytes` (its invariant, `IsHeld`)
 #[derive(Drop)]
 pub struct HeldBytes<P: Protocol> {
     bytes: Vec<u8>,
@@ -59,6 +61,9 @@ impl<P: Protocol> HeldBytes<P> {
     }
 
     /// Takes the whole request at the start of the bytes. Returns `None` if more bytes are needed.
+    /// Promise (Sessions): A session over streams and one in memory take each turn by the same calls. The next request is what the protocol
+    ///   reads at the start of the bytes
+    /// By: `act_sessions::HeldBytes::next_request` (`Finds`)
     pub fn next_request(&mut self, alloc: Global) -> Result<Option<Request<P::Fault>>, Refusal>
         ensures { Finds P.rules self.old self.new result }
     {

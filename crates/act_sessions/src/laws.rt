@@ -10,6 +10,9 @@ use crate::transcript::{Ending, Part};
 
 /// Two sessions that read the same bytes to their end, with answerers that answer alike, are equal. So the pieces in which the bytes
 /// arrive do not matter.
+/// Promise (Sessions): The pieces in which the bytes come make no difference, where a turn ended the sessions, or no bytes both wait and are a
+///   request
+/// By: `act_sessions::{one_session, one_session_to_its_end}`
 pub fn one_session<P: Protocol>()
     ensures { (f : List Exchange → Command → Response) (bytes rest other : List ℕ) (ts us : List (Turn P.Fault)) → Reads P.rules bytes ts rest
         → Reads P.rules bytes us other → AnsweredBy f [] ts → AnsweredBy f [] us → IsEnded P.rules 0 ts → IsEnded P.rules 0 us
@@ -36,6 +39,8 @@ pub fn two_parts<P: Protocol>()
 
 /// A part that begins a session satisfies what `run` says of a session: it is done if the part waits at the end of its input or is over,
 /// and cut otherwise.
+/// Promise (Sessions): Two parts in a row are one, and a session is one part from the first place
+/// By: `act_sessions::{first_part, two_parts}` (`IsJoined`)
 pub fn first_part<P: Protocol>()
     ensures waits { (i i2 output : Option (List ℕ)) (asked : List Exchange) (new : Moment) (last : Position)
         → IsPart P.rules first i i2 (start output asked) new last Part.AwaitsInput → IsDone P.rules i i2 (start output asked) new }

@@ -11,6 +11,13 @@ use std::alloc::Global;
 use wf_value::Refusal;
 
 /// How a byte stream is read as requests, and how they are answered.
+/// Promise (Sessions): Bytes that are less than a request are looked at again only once there are as many as the protocol says that one needs at
+///   least: up to then, whatever comes, they are less than a request
+/// By: `act_sessions::Protocol`, `found` (`IsNext`, `WaitUntil`), `kept` (`Keeps`), the laws `fresh` and `lasts`
+/// Refusal (Sessions and programs): `act_sessions::Protocol`, its calls; `act_sessions::Answer::ask`
+/// When: 50: memory; of `ask`, what its implementation says
+/// Afterwards: bytes read are as they were; of `ask` the list is one longer, or after 50 perhaps as it was
+/// By: the clauses of the traits (`Gives`, `Submits`)
 pub trait Protocol {
     /// Why no command is submitted for a request.
     type Fault: Drop;

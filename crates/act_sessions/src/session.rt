@@ -102,6 +102,11 @@ fn take_round<P: Protocol, R: Read, W: Write, A: Answer>(
 /// is appended to the transcript. The transcript's ending does not change.
 ///
 /// If it waits, the count and the bytes that are held are the place to continue from once there are more bytes.
+/// Promise (Sessions): A part of a session goes from one place to the next by the bytes held and read
+/// By: `act_sessions::run_part`, `part` (`IsPart`), `waits`
+/// Promise (Sessions): In a part, what was asked is what the transcript lists, in order, each once; only the last answer may leave its command
+///   open
+/// By: `act_sessions::run_part`, `exchanges` (`OnlyLastOpen`)
 pub fn run_part<P: Protocol, R: Read, W: Write, A: Answer>(
     alloc: Global,
     reader: &mut R,
@@ -139,6 +144,25 @@ pub fn run_part<P: Protocol, R: Read, W: Write, A: Answer>(
 
 /// Reads requests from a byte stream, submits their commands and writes the answers until the session ends. Memory to record a command and
 /// its copy is reserved before the command is submitted.
+/// Promise (Sessions): A session that ends with Ok asked the commands of the bytes read, in order, each once. Its transcript lists them with
+///   their answers, what was written is the definition's bytes, and it ended as the definition says
+/// By: `act_sessions::run`, `ok` (`HasFinished`, `IsDone`, `Did`)
+/// Promise (Sessions): A session takes no more requests and holds no more bytes than its protocol allows
+/// By: `act_sessions::run`, `ok` (`HasFinished`, `counted`, `held`)
+/// Promise (Sessions): A session that was cut did the same, and wrote a prefix. Nothing is asked of half a request. After a failed read every
+///   request that came whole was asked and answered
+/// By: `act_sessions::run`, `err` (`HasFailed`, `IsCut`, `IsUnheard`)
+/// Promise (Sessions): Whatever is known of the reader, there are bytes of which the transcript is a session by these rules; the ending is
+///   `Done` exactly at Ok
+/// By: `act_sessions::run`, `ok` (`HasFinished`), `err` (`HasFailed`), (`EndsOverSome`, `Ends`)
+/// Refusal (Sessions and programs): a session: `act_sessions::run`, `act_sessions::Work::work`
+/// When: 50 (`Ending::Memory`): out of memory outside a command (of HTTP, also for saying so)
+/// Afterwards: each command was asked once and is in the transcript; a prefix was written
+/// By: `err` (`HasFailed`); `act_sessions::SessionFault::refusal`, `memory`
+/// Refusal (Sessions and programs): a session: `act_sessions::run`
+/// When: 61 (`Ending::Broken`): a stream failed; that it did: T
+/// Afterwards: each command was asked once and is in the transcript; a prefix was written
+/// By: `err` (`HasFailed`); `act_sessions::SessionFault::refusal`, `broken`
 pub fn run<P: Protocol, R: Read, W: Write, A: Answer>(
     alloc: Global,
     reader: &mut R,

@@ -63,6 +63,9 @@ fn text_of_fault<P: Protocol>(
 
 /// Takes a turn after `count` others: submits the request's command, if it has one, and returns the text that answers it. Returns `None`
 /// if it runs out of memory.
+/// Promise (Sessions): In a turn a command is submitted once, a fault submits nothing, and the text is that of the answer, as the last or not.
+///   Out of memory, the command was submitted once or not at all
+/// By: `act_sessions::take_turn` (`Takes`), `act_sessions::text_of_answer` (`IsText`)
 pub fn take_turn<P: Protocol, S: Submit<A>, A>(
     alloc: Global,
     submitter: &mut S,

@@ -33,6 +33,18 @@ impl<D: Disk> Store<D> {
     /// entries; else with 57 if the active area has the first layout and the command asks for an attempt; else with 47 if the record of
     /// all entries that are not covered, including this one, does not fit the area. The only other failure is out of memory, 50. A refused
     /// command is not entered, and the store does not change.
+    /// Promise (The store): `apply` enters the command after the others with exactly the reply of the step, and returns reply and position; the
+    ///   disk is as it was
+    /// By: `act_store::Store::apply`, `entered`, `waits`
+    /// Refusal (The store and the desk): `act_store::Store::apply`
+    /// When: Exactly, in order: 52: the store has failed. 46: the history has 100,000 entries. 57: the active area has the first layout and the
+    ///   command names an attempt
+    /// Afterwards: nothing is entered, and no device is called
+    /// By: `refused`, `cause`, `unchanged`
+    /// Refusal (The store and the desk): `act_store::Store::apply`
+    /// When: Then 47, exactly: the record of all uncovered entries with this one would not fit. 50: else
+    /// Afterwards: nothing is entered, and no device is called
+    /// By: `refused`, `cause`, `unchanged`
     pub fn apply(&mut self, alloc: Global, seat: u64, command: Command) -> Result<Receipt, Refusal>
         ensures any_moment { D.honest self.old.disk
             → EachSince D.moment D.images_since self.old.disk self.new.disk (RecoversToEither self.old) }
@@ -85,6 +97,9 @@ impl<D: Disk> Store<D> {
 
 /// Carries out a command, and appends it to the history, to the pending commands, and to what a checkpoint in progress keeps. Running
 /// out of memory changes nothing.
+/// Promise (The store): The record behind the text of a checkpoint is kept as its entries come: the encodings of exactly the entries since the
+///   begin. An entry that is refused memory leaves them as they were
+/// By: `act_store::apply::enter`, `begun`, `same_begun`; the type `act_store::Store` (`IsSnapshot`)
 fn enter(
     alloc: Global,
     table: &mut Table,

@@ -21,6 +21,9 @@ const FIRST_READ: usize = 65_536;
 
 /// Reads the start of an area, as far as needed to determine what all of it reads as. Each time twice as many bytes are read, until they
 /// read as something or are all. So at least half of the bytes read are needed, or at most `FIRST_READ` are read.
+/// Promise (The store): An opening reads the first bytes of an area, which read as the whole area does. If these are more than 65,536, half of
+///   them would not be enough: they read as nothing
+/// By: `act_store::area_prefix::read_prefix`, `alike` (`ReadsAlike`), `short` (`IsShort`)
 pub(crate) fn read_prefix<D: Disk>(
     alloc: Global,
     disk: &mut D,

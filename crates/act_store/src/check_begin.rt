@@ -32,6 +32,19 @@ impl<D: Disk> Store<D> {
     /// It is refused, whether or not memory is available, with 52 if the device has failed; else with 56 if a checkpoint is in progress;
     /// else with 48 if the generation is the last one; else with 47 if the text does not fit an area. The only other failures are 50, and
     /// 51, after which the store has failed. At each moment of the call the disk recovers to the entries that were covered, or to all.
+    /// Promise (The store): A checkpoint: at each moment of its calls the disk recovers to the entries covered before, or to all. The calls make
+    ///   two, one and four calls of the disk at most
+    /// By: `act_store::Store::{check_begin, check_slice, check_finish}`, `any_moment`, `calls`
+    /// Promise (The store): The begin of a checkpoint says how many bytes are left, and makes no call of the disk beside a closed gate
+    /// By: `act_store::Store::check_begin`, `begun`, `left`, `uncalled` (`IsShutBeside`)
+    /// Refusal (The store and the desk): `act_store::Store::check_begin`
+    /// When: Exactly, in order: 52; 56: a checkpoint is begun; 48: the generation is the last one; 47: the text does not fit an area. 50
+    /// Afterwards: as it was, and no device is called
+    /// By: `refused` (`refusal_of_begin`), `unchanged`, `cause`, `uncalled`
+    /// Refusal (The store and the desk): `act_store::Store::check_begin`
+    /// When: 51: exactly if the device fails
+    /// Afterwards: failed
+    /// By: `faults`, `broken`
     pub fn check_begin(&mut self, alloc: Global) -> Result<u64, Refusal>
         ensures any_moment { D.honest self.old.disk
             → EachSince D.moment D.images_since self.old.disk self.new.disk (RecoversToEither self.old) }

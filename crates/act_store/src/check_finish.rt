@@ -29,6 +29,20 @@ impl<D: Disk> Store<D> {
     /// or some of its bytes are not written; else with 47 if the record does not fit. After 47 the checkpoint is dropped, and nothing else
     /// changes. The only other failure is 51, after which the store has failed: no memory is taken, though the clauses allow 50. At each
     /// moment of the call the disk recovers to the entries that were covered, or to all; after `Ok`, to all.
+    /// Promise (The store): After the finish of a checkpoint each image recovers to all entries, by the other area in the second layout
+    /// By: `act_store::Store::check_finish`, `recovers`, `finished` (`IsFinished`), `covered`
+    /// Refusal (The store and the desk): `act_store::Store::check_finish`
+    /// When: Exactly 52; 56: none is begun, or bytes are left. 50: its clause allows it, but the code takes no memory
+    /// Afterwards: as it was; after 50 the checkpoint would still be begun
+    /// By: `refused` (`refusal_of_finish`), `unchanged`, `cause`
+    /// Refusal (The store and the desk): `act_store::Store::check_finish`
+    /// When: 47: exactly if the record of the entries since the begin does not fit after the text
+    /// Afterwards: the checkpoint is dropped
+    /// By: `refused` (`refusal_of_finish`), `dropped`, `cause`
+    /// Refusal (The store and the desk): `act_store::Store::check_finish`
+    /// When: 51: exactly if the device fails
+    /// Afterwards: failed
+    /// By: `faults`, `broken`
     pub fn check_finish(&mut self, alloc: Global) -> Result<u64, Refusal>
         ensures any_moment { D.honest self.old.disk
             → EachSince D.moment D.images_since self.old.disk self.new.disk (RecoversToEither self.old) }

@@ -26,6 +26,12 @@ impl<D: Disk> Store<D> {
     /// It is refused with 52 if the device has failed; else with 56 if no checkpoint is in progress or nothing of it is left; else with 51
     /// if the device fails, after which the store has failed. At each moment of the call the disk recovers to the entries that were
     /// covered, or to all.
+    /// Promise (The store): A slice of a checkpoint says how many bytes are left, and needs no memory
+    /// By: `act_store::Store::check_slice`, `sliced`, `left`
+    /// Refusal (The store and the desk): `act_store::Store::check_slice`
+    /// When: Exactly 52; 56: none is begun, or nothing is left. 51: exactly if the device fails
+    /// Afterwards: as it was; after 51 failed
+    /// By: `refused` (`refusal_of_slice`), `cause`, `faults`, `broken`
     pub fn check_slice(&mut self) -> Result<u64, Refusal>
         ensures any_moment { D.honest self.old.disk
             → EachSince D.moment D.images_since self.old.disk self.new.disk (RecoversToEither self.old) }

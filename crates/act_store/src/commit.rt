@@ -15,6 +15,13 @@ impl<D: Disk> Store<D> {
     ///
     /// At each moment of the call the disk recovers to the entries that were covered, or to all; after `Ok`, to all. The result is 51
     /// exactly if the device fails, after which the store has failed. It takes no memory, and never fails for lack of space.
+    /// Promise (The store): `commit`: at each moment the disk recovers to the entries covered before, or to all; after Ok to all. If nothing is
+    ///   pending nothing changes. Four calls of the disk at most, no memory
+    /// By: `act_store::Store::commit`, `any_moment`, `recovers`, `covered`, `exact`, `some`, `none`, `calls`, `pending`
+    /// Refusal (The store and the desk): `act_store::Store::commit`
+    /// When: 52: exactly if the store has failed. 51: exactly if the device fails, which needs an uncovered entry
+    /// Afterwards: 52: as it was. 51: failed
+    /// By: `failed`, `refused`, `faults`, `pending`, `broken`, `any_moment`
     pub fn commit(&mut self) -> Result<u64, Refusal>
         ensures any_moment { D.honest self.old.disk
             → EachSince D.moment D.images_since self.old.disk self.new.disk (RecoversToEither self.old) }

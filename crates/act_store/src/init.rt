@@ -34,6 +34,12 @@ impl<D: Disk> Store<D> {
     /// Creates a store of two areas on an empty disk, each `area` bytes long. Its history is empty, and it recovers to the empty table.
     ///
     /// A disk that is not empty is refused with 55. Every refusal returns the disk.
+    /// Promise (The store): `init`: each image recovers to the empty table, and the history is empty
+    /// By: `act_store::Store::init`, `made`, `recovers`
+    /// Refusal (The store and the desk): `act_store::Store::init`
+    /// When: 55: exactly if the disk is not empty. 51: only if one call of the device failed
+    /// Afterwards: the disk is given back; after 55 as it was; after 51 of its images nothing is promised
+    /// By: `occupied`, `refused`, `faults`, `honest_err`
     pub fn init(alloc: Global, disk: D, area: u64) -> Result<Store<D>, (D, Refusal)>
         requires countable { D.fault_count disk < u64.MAX }
         requires least { min_area ≤ area }

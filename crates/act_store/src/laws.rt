@@ -15,6 +15,8 @@ ghost use Rattle.act_store.specs.Reopened.{IsAcknowledged, LeadTo, Life, request
 ghost use Rattle.act_store.specs.declared.entry.Entry.{Entry};
 
 /// An image recovers to at most one table.
+/// Promise (The store): An image recovers to one table at most
+/// By: `act_store::laws::an_image_recovers_to_one_table`
 pub fn an_image_recovers_to_one_table()
     ensures { (image : List ℕ) (one two : TableState) → RecoversTo one image → RecoversTo two image → one ≡ two }
 {}
@@ -22,6 +24,9 @@ pub fn an_image_recovers_to_one_table()
 /// An acknowledged entry answered the delivery of an event with a run. The same delivery, with any body, is answered with the same run,
 /// and the table does not change. This holds after any number of crashes and reopenings or turn-overs, and whatever commands come in
 /// between.
+/// Promise (The store): An acknowledged delivery is answered with its run again, over any number of crashes, openings and turn-overs, and the
+///   table stays
+/// By: `act_store::laws::a_delivery_makes_one_run` (`LeadTo`, `IsAcknowledged`)
 pub fn a_delivery_makes_one_run()
     ensures { (life : Life) (lives : List Life) (table : TableState) (before suffix : List Entry) (entry : Entry) (run : ℕ)
         (event again : Admitted) → LeadTo life lives table → IsAcknowledged life before entry suffix
@@ -31,6 +36,9 @@ pub fn a_delivery_makes_one_run()
 
 /// In the same way, a runner that repeats a command that an acknowledged entry carried out gets the reply of that entry, as long as no
 /// later entry carried out a later number of that runner. The table does not change.
+/// Promise (The store): An acknowledged command of a runner is answered with its reply again, over any number of crashes, openings and
+///   turn-overs, until a later number is carried out
+/// By: `act_store::laws::a_kept_reply_is_given_again` (`LeadTo`, `IsAcknowledged`)
 pub fn a_kept_reply_is_given_again()
     ensures { (life : Life) (lives : List Life) (table : TableState) (before suffix : List Entry) (entry : Entry) (number : ℕ)
         (runner : List ℕ) → (leads : LeadTo life lives table) → IsAcknowledged life before entry suffix
@@ -42,6 +50,9 @@ pub fn a_kept_reply_is_given_again()
 
 /// In the same way, a re-run that an acknowledged entry answered with its attempt is answered with that attempt again, as long as no later
 /// entry began another attempt of that run. The table does not change, so no second attempt begins.
+/// Promise (The store): An acknowledged re-run is answered with its attempt again, over any number of crashes, openings and turn-overs, until
+///   another attempt of the run is carried out
+/// By: `act_store::laws::an_attempt_begins_once` (`LeadTo`, `IsAcknowledged`, `requested_in`)
 pub fn an_attempt_begins_once()
     ensures { (life : Life) (lives : List Life) (table : TableState) (before suffix : List Entry) (entry : Entry) (requested : Attempt)
         → (leads : LeadTo life lives table) → IsAcknowledged life before entry suffix

@@ -19,6 +19,21 @@ impl<D: Disk> Store<D> {
     /// It is refused with 53 exactly if no area is open or the disk is not as long as two areas, whether or not memory is available; with
     /// 54 only if the active area encodes no table; with 51 exactly if the device fails; and otherwise only with 50. Each image that a
     /// crash during the call may leave, even at a refusal, was possible before.
+    /// Promise (The store): `open`: the base is the table to which the disk recovers, and the history is empty. Versions 1 and 2 are read in the
+    ///   same way
+    /// By: `act_store::Store::open`, `base`, `recovers`, `no_table` (`EncodesTable`)
+    /// Promise (The store): `open`: generation, layout and place are those of the active area, and no checkpoint is begun
+    /// By: `act_store::Store::open`, `place` (`RecoversFrom`), `none_begun`, `begun`
+    /// Promise (The store): `open`: each image since the start was one before, also at a refusal
+    /// By: `act_store::Store::open`, `any_moment`, `any_moment_err`
+    /// Refusal (The store and the desk): `act_store::Store::open`
+    /// When: 53: only if no area is active, and then always unless the device fails. 54: only if the active area is no table's
+    /// Afterwards: the disk is given back; each image was one before
+    /// By: `no_area`, `tells_no_area`, `no_table`, `refused` (`RefusesOpening`), `any_moment_err`
+    /// Refusal (The store and the desk): `act_store::Store::open`
+    /// When: 51: exactly if the device fails. 50: else
+    /// Afterwards: the disk is given back; each image was one before
+    /// By: `faults`, `faults_err`, `refused` (`RefusesOpening`), `any_moment_err`
     pub fn open(alloc: Global, disk: D) -> Result<Store<D>, (D, Refusal)>
         requires { D.fault_count disk < u64.MAX }
         ensures base { IfOk result (λ s. D.honest s.disk → RecoversTo s.base (D.seen disk)) }

@@ -22,6 +22,22 @@ use wf_value::{Refusal, TryCopy};
 /// these if the device has not failed. The history is sequential: each reply is the one of its step. In it every concurrency group has at
 /// most one run or leg in progress and at most one pending, and keeps its law. The only failure is out of memory, for the answers or for a
 /// copy of a command; the store has then taken some of the first steps.
+/// Promise (The store): The crash promise: for any list of applies, commits and steps of checkpoints, whatever the device does, a crash at any
+///   moment leaves an image that recovers to the table after a prefix of the history
+/// By: `act_store::play`, `any_moment`, `legal`, `grows`
+/// Promise (The store): That prefix has everything that was covered when the play began; at the end of the play it has everything covered by
+///   then. The history is legal and only grows
+/// By: `act_store::play`, `any_moment`, `recovers`, `legal`, `grows`
+/// Promise (The store): In every prefix of the history each group has at most one holder in progress and one pending, and its moves keep the
+///   law, from the base on
+/// By: `act_store::play`, `groups`; `act_store::Store::covered`, `groups` (`KeepsGroups`)
+/// Promise (The store): `take` answers 51 exactly where the device failed in it, and 52 from then on. A play that runs out of memory leaves the
+///   store after some of the first steps
+/// By: `act_store::play`, `ends` (`PlayEnds`, `Takes`, `IsRefused`)
+/// Refusal (The store and the desk): `act_store::play`
+/// When: 50 alone: an answer or a copied command found no memory
+/// Afterwards: the store is after some of the first steps
+/// By: `ends` (`PlayEnds`)
 pub fn play<D: Disk>(
     alloc: Global,
     store: &mut Store<D>,
@@ -86,6 +102,13 @@ fn take_step<D: Disk>(alloc: Global, store: &mut Store<D>, step: &Step) -> Resul
 ///
 /// This holds for all steps, whatever the device does: a crash at any moment leaves an image that recovers to the entries covered when the
 /// step began, or to all entries of that time.
+/// Promise (The store): `take` is one step; its answer and the store after it are the plain store's. A crash during it leaves what was covered
+///   when it began, or all
+/// By: `act_store::take`, `takes`, `survives` (`Takes`, `Survives`)
+/// Refusal (The store and the desk): `act_store::take`
+/// When: The number of a refused step is its answer: 46, 47, 48, 50, 51, 52, 56, 57
+/// Afterwards: as of that step
+/// By: `takes`, `survives`
 pub fn take<D: Disk>(alloc: Global, store: &mut Store<D>, step: Step) -> Played
     ensures takes { Takes store.old step result store.new }
     ensures survives { Survives D.honest D.moment D.fault_count D.images_since store.old result store.new }

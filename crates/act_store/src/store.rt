@@ -66,6 +66,10 @@ impl<D: Disk> Model for Store<D> {
 
 impl<D: Disk> Store<D> {
     /// The number of entries in the history.
+    /// Promise (The store): A store returns its counts, entries, views, layout, generation and room, and gives its disk back; its present table
+    ///   is sound
+    /// By: `act_store::Store::{entries, covered, entry, look, table, layout, generation, area, room, into_disk}`; `act_store::Store::look`,
+    ///   `sound`
     pub fn entries(&self) -> u64
         ensures { result ≡ length self.now.history }
     {
@@ -73,6 +77,11 @@ impl<D: Disk> Store<D> {
     }
 
     /// How many of the first entries are covered. The clauses say what every store guarantees.
+    /// Promise (The store): Of every store: its history is legal from its base, and each image recovers to the covered entries or to all, after
+    ///   a device fault too
+    /// By: `act_store::Store::covered`, `legal`, `within`, `promise`
+    /// Promise (The store): If a store has not failed, each image recovers to exactly the covered entries
+    /// By: `act_store::Store::covered`, `exact`; `act_store::play`, `exact` (`RecoverToCovered`)
     pub fn covered(&self) -> u64
         ensures value { result ≡ self.now.covered }
         ensures within { self.now.covered ≤ length self.now.history }

@@ -11,6 +11,12 @@ impl<D: Disk> Store<D> {
     ///
     /// It is refused with 52 exactly if the device has failed, and otherwise with 56 exactly if a checkpoint is in progress or an entry is
     /// not covered. A refusal changes nothing.
+    /// Promise (The store): `turn_over` calls no device: the base is the present table, and the history is empty
+    /// By: `act_store::Store::turn_over`, `turned`
+    /// Refusal (The store and the desk): `act_store::Store::turn_over`
+    /// When: Exactly 52; 56: a checkpoint is begun, or an entry is uncovered
+    /// Afterwards: as it was
+    /// By: `refused` (`refusal_of_turn_over`), `cause`, `unchanged`
     pub fn turn_over(&mut self) -> Result<(), Refusal>
         ensures turned { OnOk result (self.new ≡ turned_over self.old) }
         ensures refused { IfSome (refusal_of_turn_over self.old) (λ refusal. result ≡ Err refusal) }

@@ -71,6 +71,15 @@ fn execute<
 ///
 /// `B` says what a file held as it was opened. It is used in contracts alone, and nothing is assumed of it, so what is
 /// proved holds for each file.
+/// Refusal (Sessions and programs): `acts_cli::run`, and so `acts`
+/// When: status 1 with `acts: refused N`: standard output closed, FILE or its lock, a port: 61; FILE over the limit of a file's length: 51; out
+///   of memory: 50; the calls above: T
+/// Afterwards: as of the call: T
+/// By: none; `sweeps/program` (`command_lines`), `sweeps/closed_streams`
+/// Refusal (Sessions and programs): `acts_cli::run`, and so `acts`
+/// When: status 2: an error in the command line: T
+/// Afterwards: nothing was opened: T
+/// By: none; `sweeps/program` (`command_lines`)
 pub fn run<
     B: Start + Send,
     R: Input + Print + Eprint + Env + Files<File = File> + AllocGlobal,

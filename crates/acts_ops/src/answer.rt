@@ -51,6 +51,22 @@ fn counted_as(step: &Step) -> &'static str
 
 /// Carries out a line as a step of the store and returns the answer. A refused line leaves the store unchanged. The
 /// answer is 51 only if a disk call failed in its step.
+/// Refusal (Sessions and programs): a line of a script: `acts_ops::answer::answer_to`
+/// When: 75, 10 to 26, and of a command 40 to 49: exactly, with memory, as line, step and store say
+/// Afterwards: as of the call; after a line that is no command the store is as it was
+/// By: `acts_ops::run_script`, `written` (`IsAnswer`)
+/// Refusal (Sessions and programs): a line of a script: `acts_ops::answer::answer_to`
+/// When: Of a begin, slice or finish 47, 48, 56: exactly as the store
+/// Afterwards: as of the call
+/// By: `acts_ops::run_script`, `written` (`IsAnswer`, `carried_out`)
+/// Refusal (Sessions and programs): a line of a script: `acts_ops::answer::answer_to`
+/// When: 50: of a line that is no command, of a command, and of a begin or finish that is not refused for its cause
+/// Afterwards: the store is as it was
+/// By: `acts_ops::run_script`, `written` (`IsWithoutMemory`)
+/// Refusal (Sessions and programs): a line of a script: `acts_ops::answer::answer_to`
+/// When: 51: of a commit with an uncovered entry, or a step of a checkpoint, only if a call of the disk failed; then 52
+/// Afterwards: as of the call
+/// By: `acts_ops::run_script`, `written` (`IsBreak`)
 pub fn answer_to<D: Disk>(alloc: Global, store: &mut Store<D>, line: &[u8]) -> Answer
     ensures { IsAnswer (without_disk store.old) (D.fault_count store.old.disk) line.now (played_text result.word.now result.played)
         (without_disk store.new) (D.fault_count store.new.disk) }

@@ -101,6 +101,13 @@ fn write_checked<W: Write>(alloc: Global, text: &[u8], writer: &mut W) -> Result
 /// 1,048,577 bytes are read. A text over 65,536 bytes is refused with 24, and any other workflow with its first fault:
 /// 10 to 23, 25 or 26. Nothing has been written if the workflow is refused. A failed read or write is 61, and out of
 /// memory is 50.
+/// Promise (The program): `acts check`: a line for each leg of each job, in order, exactly where workflow and plan have no fault
+/// By: `acts_ops::run_check`, `written` (`ChecksTo`, `checked`)
+/// Refusal (Sessions and programs): `acts_ops::{run_check, run_lint}`
+/// When: Of a check the first fault: only, and always unless memory is refused or a stream fails. 76: only if over 1,048,576 bytes. 61, 50; that
+///   61 has its cause: T
+/// Afterwards: nothing is written; after 61 and 50 a prefix
+/// By: `written` (`ChecksTo`, `LintsTo`, `checked`), `read`
 pub fn run_check<R: Read, W: Write>(
     alloc: Global,
     reader: &mut R,

@@ -30,6 +30,13 @@ fn write_made<W: Write>(writer: &mut W) -> Result<(), Refusal>
 /// Makes a store with two areas of `area` bytes each on an empty disk, and writes `made` and a line feed. It returns
 /// the disk with the result. A disk that is not empty is refused with 55; nothing is written and the disk is unchanged.
 /// A failure of the device is 51. A failed write is 61; the store is made all the same.
+/// Promise (The program): `acts init`: over an empty disk `made` is written, and the disk has two areas of the requested length. If no call of
+///   the disk failed, each image recovers to the empty table, even if writing `made` failed
+/// By: `acts_ops::run_init`, `written` (`Makes`), `size`, `recovers`, `honest`
+/// Refusal (Sessions and programs): `acts_ops::run_init`
+/// When: 55: exactly if the disk is not empty. 51: exactly if a call of the disk failed. 61: else, a failed write: T
+/// Afterwards: after 55 as it was; after 51 of its images nothing is promised; after 61 all recover to the empty table
+/// By: `occupied`, `faults`, `written` (`Makes`), `recovers`
 pub fn run_init<D: Disk, W: Write>(
     alloc: Global,
     disk: D,

@@ -38,6 +38,10 @@ fn read_at_most<R: Read>(alloc: Global, reader: &mut R, most: usize) -> Result<V
 
 /// A whole input. An input over 1,048,576 bytes is refused with 76, and at most 1,048,577 bytes are read. A failed read
 /// is 61, and out of memory is 50.
+/// Refusal (Sessions and programs): `acts_ops::{read_input, command_of}`, `acts_ops::answer_line`
+/// When: 61, 50, 76; 75, 10 to 26, 50; 50
+/// Afterwards: a prefix was read; else as it was
+/// By: `refused`, `read`; one clause each (`Gives`)
 pub fn read_input<R: Read>(alloc: Global, reader: &mut R) -> Result<Vec<u8>, Refusal>
     ensures read { ReadsAtMost 1048577 (R.remaining reader.old) (R.remaining reader.new) }
     ensures whole { IfOk result (λ v. IfSome (R.remaining reader.old) (IsReadAs v.items)) }

@@ -39,6 +39,9 @@ fn command_by(alloc: Global, word: &[u8], fields: &[u8]) -> Result<Command, Refu
 /// `beat RUNNER LEASE`, `cancel RUN`, `lost RUNNER`, `look RUN`, `fetch RUN` or `rerun RUN ATTEMPT`, separated by
 /// single spaces. BODY is everything after the third space. Any other line is refused with 75, and a body with a fault
 /// with the number of the first one: 10 to 26. Out of memory is 50.
+/// Promise (The program): A line is the command of its word and fields, or is refused 75, or with its body's first fault. A refused line leaves
+///   the store as it is; every other line is one step of it
+/// By: `acts_ops::line::command_of`; `acts_ops::answer::answer_to` (`IsAnswer`)
 pub fn command_of(alloc: Global, line: &[u8]) -> Result<Command, Refusal>
     ensures { Gives (λ c. c) result (command_of line.now) }
 {

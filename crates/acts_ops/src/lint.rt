@@ -52,6 +52,8 @@ fn write_linted<W: Write>(alloc: Global, text: &[u8], writer: &mut W) -> Result<
 /// Lints a workflow, whose text is read without an envelope. It writes a line `NUMBER PATH: MEANING` for each fault, in
 /// the order of the checks, and returns whether there is one. A text over 1,048,576 bytes is refused with 76; nothing
 /// is written, and at most 1,048,577 bytes are read. A failed read or write is 61, and out of memory is 50.
+/// Promise (The program): `acts lint`: a line for each fault, in order, and whether there is one
+/// By: `acts_ops::run_lint`, `written` (`LintsTo`, `linted`); `workflow_lint::{lint, finding_line}`
 pub fn run_lint<R: Read, W: Write>(
     alloc: Global,
     reader: &mut R,

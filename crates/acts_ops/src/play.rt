@@ -91,6 +91,21 @@ fn play_input<D: Disk, R: Read, W: Write>(
 /// or a step of a checkpoint is 51, and each later step is answered 52. A line is answered 51 only if a disk call
 /// failed in its step. A failure while the store is made ends the call with 51 before anything is read. Out of memory
 /// elsewhere ends it with 50.
+/// Promise (The program): `acts play`: a script of at most 1,048,576 bytes is answered line by line as the definition says, by the steps of a
+///   plain store: one answer and a line feed for each line that is not empty
+/// By: `acts_ops::run_script`, `written` (`Ends`, `Plays`, `IsAnswer`)
+/// Promise (The program): If no line of a script is answered 50, 51 or 52, the output is exactly `output_of`
+/// By: `acts_ops::run_script`, `written` (`Plays`)
+/// Promise (The program): At most 1,048,577 bytes are read, however the call ends
+/// By: `acts_ops::{run_script, run_check, run_lint}`, `read`
+/// Refusal (Sessions and programs): `acts_ops::run_script`
+/// When: 76: only if the script is over 1,048,576 bytes. 51: only if one call of the disk failed; that this was as the store was made: T
+/// Afterwards: nothing is written. The disk is given back
+/// By: `written` (`Ends`, `PlaysTo`), `read`, `faults`
+/// Refusal (Sessions and programs): `acts_ops::run_script`
+/// When: 61, 50: a stream failed, or out of memory outside a line; that 61 has its cause: T
+/// Afterwards: a prefix is written. The disk is given back
+/// By: `written` (`Ends`, `PlaysTo`)
 pub fn run_script<D: Disk, R: Read, W: Write>(
     alloc: Global,
     disk: D,

@@ -130,6 +130,19 @@ fn show_store<D: Disk, W: Write>(
 /// It returns the disk with the result. A disk without an open area is refused with 53, one whose area encodes no table
 /// with 54, and one without the requested run with 40; nothing is written. A failure of the device is 51, a failed
 /// write is 61, and out of memory is 50.
+/// Promise (The program): `acts show`, `acts runners`, `acts queue`: the lines of the table to which the disk recovers, as words or JSON, exact
+///   to the byte
+/// By: `acts_ops::run_show`, `written` (`Shows`, `shown`); `table_views::{run_line, runners_text, queue_text}`
+/// Promise (The program): A crash during `acts show`, `acts runners` or `acts queue` leaves no image that it could not have left before
+/// By: `acts_ops::run_show`, `any_moment`, `honest`
+/// Refusal (Sessions and programs): `acts_ops::run_show`
+/// When: 53, 54 as `Store::open`. 40: only if the run asked for is not there. 51: exactly if a call of the disk failed
+/// Afterwards: nothing is written; no image is added
+/// By: `written` (`Shows`, `IsMissing`), `tells_no_area`, `faults`, `any_moment`
+/// Refusal (Sessions and programs): `acts_ops::run_show`
+/// When: 50, 61; that 61 has its cause: T
+/// Afterwards: a prefix is written; no image is added
+/// By: `written` (`Shows`), `any_moment`
 pub fn run_show<D: Disk, W: Write>(
     alloc: Global,
     disk: D,

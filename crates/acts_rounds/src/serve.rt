@@ -156,6 +156,23 @@ fn ended<D: Disk + Drop>(last: Round<D>, broken: bool, rounds: u64) -> Result<St
 /// The answers of each session are compared with the history: if they differ, the error is 60 and no line `settled` is
 /// written. If a stream failed or could not be accepted, the error is 61, after that line. It is 61 too if the output
 /// cannot be written. Out of memory before the first session is 50; later on it ends a session.
+/// Promise (The program): `acts serve` in rounds, if it ends well: `ready` was written, and a line `settled COUNT` for each round with the
+///   length of its history. No stream failed. Each round held as many HTTP sessions as sessions of lines
+/// By: `acts_rounds::{serve_on, serve_rounds}`, `served` (`HasServed`, `IsRound`)
+/// Promise (The program): For each session of a round that was started there are bytes of its protocol of which its transcript is a session, and
+///   the history of each round is what its sessions asked, command by command
+/// By: `acts_rounds::{serve_on, serve_rounds}`, `served` (`IsRound`, `IsHeard`)
+/// Promise (The program): The first history begins at the table of the store that was given, and each other one at the table where the one
+///   before ended
+/// By: `acts_rounds::{serve_on, serve_rounds}`, `served` (`table_after_all`); `service_startup::brought_up`, `same`
+/// Refusal (Sessions and programs): `acts_rounds::{serve_on, serve_rounds}`
+/// When: 50: no memory for the sessions, or a round without a thread for any: T. 52, 56 as `Store::turn_over`: T
+/// Afterwards: the file has everything acknowledged: T
+/// By: `served` (`HasServed`); `act_store::Store::turn_over`, `refused`
+/// Refusal (Sessions and programs): `acts_rounds::{serve_on, serve_rounds}`
+/// When: 60, 61 as `serve_all`, 61 once the last round has ended, or if a line cannot be written: T
+/// Afterwards: the file has everything acknowledged: T. After 60 no line `settled` is written
+/// By: `served` (`HasServed`); `act_desk::serve_all`, `cause`
 pub fn serve_on<D: Disk + Drop + Send, R: Threads + Wait + Clock + Sync, O: Write>(
     rt: &R,
     alloc: Global,

@@ -276,6 +276,10 @@ fn serve<D: Disk, R: Wait + Clock, O: Write>(
 /// It ends with a refusal: 50 if memory runs out before the first client, 51 or 52 if the device has failed, and 61 if
 /// the output cannot be written or a port fails. A stream that fails ends one session, and so does running out of memory
 /// later on.
+/// Refusal (Sessions and programs): `acts_serve::serve_forever`
+/// When: 50: before the first client: T. 51, 52: the device has failed: T. 61: a line cannot be written, or a port cannot go on: T
+/// Afterwards: the file has all acknowledged; after 51 and 52 clients that asked are answered 52: T
+/// By: none; `act_loop::Service::{commit, step, turn_over}`
 pub fn serve_forever<D: Disk + Drop, R: Wait + Clock + Net, O: Write>(
     rt: &R,
     alloc: Global,

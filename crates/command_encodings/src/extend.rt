@@ -14,6 +14,9 @@ use wf_value::Refusal;
 /// `start` stay. The only error is 50, out of memory, which leaves the bytes unchanged.
 ///
 /// It does not matter whether the bytes after the count are commands: it counts one more, and appends its encoding.
+/// Promise (Encodings): The encoding of a batch becomes, in place, that of the batch with one command more; the bytes before it stay, and on 50
+///   all do. A store grows its pending record so
+/// By: `command_encodings::extend_batch`, `batch`, `counts`, `before`, `unchanged`, `refused`; (`PendingBatch::add` of `act_store`)
 pub fn extend_batch(out: &mut Vec<u8>, start: usize, added: &Command) -> Result<(), Refusal>
     requires counted { start + 4 ≤ vec_len out.old }
     ensures before { take start out.new.items ≡ take start out.old.items }

@@ -12,6 +12,9 @@ pub fn no_command_begins_another()
 {}
 
 /// Each command that can be encoded has exactly one encoding.
+/// Promise (Encodings): A command or batch of a definition that can be encoded has one encoding, and none is a prefix of another
+/// By: `command_encodings::laws::{each_command_has_one_encoding, each_batch_has_one_encoding, no_command_begins_another,
+///   no_batch_begins_another}`
 pub fn each_command_has_one_encoding()
     ensures { HasOneEncoding command }
 {}
@@ -28,6 +31,9 @@ pub fn each_batch_has_one_encoding()
 
 /// The encoding of a command has one byte for its kind, four for each number, one for a result, and four plus its
 /// length for each text.
+/// Promise (Encodings): The length of an encoding is the sum over the fields (a command has at most 65,677 bytes)
+/// By: `command_encodings::laws::{a_command_has_the_bytes_of_its_fields, a_batch_has_four_bytes_and_those_of_its_commands}`;
+///   `table_text::laws::a_table_has_the_bytes_of_its_fields`
 pub fn a_command_has_the_bytes_of_its_fields()
     ensures { (c : Command) → length_of command c ≡ command_length c }
 {}

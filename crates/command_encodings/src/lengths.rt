@@ -93,6 +93,8 @@ fn fields_length(requested: &Command) -> u64
 }
 
 /// The number of bytes in the encoding of a command: at most 65,677.
+/// Promise (Encodings): The length of an encoding is known before it is written, without memory
+/// By: `command_encodings::command_length`; `table_text::table_length`
 pub fn command_length(requested: &Command) -> u64
     ensures length { result ≡ length_of command requested.now }
     ensures most { result ≤ 65677 }

@@ -12,6 +12,9 @@ use wf_value::{Code, Refusal};
 
 /// The command whose encoding is a prefix of the bytes, and the bytes after it; `None` if no prefix encodes one. The
 /// only error is 50, out of memory, which says nothing about the bytes.
+/// Promise (Encodings): What is read of commands and batches is the value whose encoding is at the front, with the bytes after it, and `None`
+///   exactly where no prefix is an encoding
+/// By: `command_encodings::{read_command, read_batch}`, `prefix`, `refused`
 pub fn read_command(alloc: Global, bytes: &[u8]) -> Result<Option<(Command, &[u8])>, Refusal>
     ensures prefix { IfOk result (λ found. ReadsPrefix command bytes.now (option_map (λ f. (f.0, f.1.now)) found)) }
     ensures refused { IfErr result (λ e. e ≡ no_memory) }

@@ -14,6 +14,9 @@ use std::alloc::AllocError;
 use wf_value::Refusal;
 
 /// Appends the encoding of a command. The only error is 50, out of memory, which leaves the bytes unchanged.
+/// Promise (Encodings): A command, a batch or a table (of at most 4,294,967,295 runners) is written as its encoding, after what was there; on 50
+///   the bytes are as they were
+/// By: `command_encodings::{write_command, write_batch}`, `table_text::write_table`, `ok`, `err`, `refused`
 pub fn write_command(out: &mut Vec<u8>, requested: &Command) -> Result<(), Refusal>
     ensures ok { OnOk result (Appends command out.old.items requested.now out.new.items) }
     ensures err { OnErr result (out.new.items ≡ out.old.items) }

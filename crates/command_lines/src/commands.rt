@@ -37,6 +37,13 @@ fn labels(alloc: Global, field: &[u8]) -> Result<Labels, Refusal>
 
 /// Parses `DELIVERY EVENT BODY`. The body is everything after the second space. A body with a fault is refused with its first
 /// fault, 10 to 26.
+/// Promise (Bodies, plans and replies): The fields of a line are read as the command of the definition, or refused 75, or with the first fault
+///   of a body
+/// By: `command_lines::{admit_of, claim_of, done_of, beat_of, cancel_of, lost_of, look_of, fetch_of, rerun_of, spelled, at_space, three_fields}`
+/// Refusal (The layers below): `command_lines`: `admit_of`, `claim_of`, `done_of`, `beat_of`, `lost_of`
+/// When: 75, then of `admit_of` 10 to 26: exactly, with memory. 50
+/// Afterwards: nothing is made
+/// By: one clause each (`Gives`)
 pub fn admit_of(alloc: Global, fields: &[u8]) -> Result<Command, Refusal>
     ensures { Gives (λ c. c) result (admit_of fields.now) }
 {
@@ -130,6 +137,10 @@ pub fn beat_of(alloc: Global, fields: &[u8]) -> Result<Command, Refusal>
 }
 
 /// Parses `RUN`.
+/// Refusal (The layers below): `command_lines`: `cancel_of`, `look_of`, `fetch_of`, `rerun_of`, `spelled`
+/// When: 75: exactly
+/// Afterwards: nothing is made
+/// By: one clause each
 pub fn cancel_of(field: &[u8]) -> Result<Command, Refusal>
     ensures { result ≡ ok_or (cancel_of field.now) not_a_line }
 {

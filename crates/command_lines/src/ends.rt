@@ -12,6 +12,8 @@ pub fn strip_carriage_return(line: &[u8]) -> &[u8]
 }
 
 /// The index of the first line feed of a text.
+/// Promise (Bodies, plans and replies): A line ends where the definition says
+/// By: `command_lines::{line_feed_index, strip_carriage_return}`
 pub fn line_feed_index(text: &[u8]) -> Option<usize>
     ensures { result ≡ position (λ b. b == 10) text.now }
 {

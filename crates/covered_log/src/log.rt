@@ -76,6 +76,9 @@ impl CoveredLog {
     }
 
     /// Takes up the next entry. Without memory for its line all lines are forgotten, and the counts go on.
+    /// Promise (Views of a service): An entry of the history that is covered is a change, and its line is the definition's, to the byte, with
+    ///   its place; so is the line of a run
+    /// By: `covered_log::CoveredLog::{enter, stand}`, `ok`, `err` (`with_change`); `table_views::{entry_line, run_change_line}`
     pub fn enter(
         &mut self,
         alloc: Global,
@@ -106,6 +109,8 @@ impl CoveredLog {
     }
 
     /// There was no memory to tell how runs stand. All lines are forgotten, and the counts go on.
+    /// Promise (Views of a service): Places count all entries since the service began, also those for whose lines there was no memory
+    /// By: `covered_log::CoveredLog::miss` (`losing_line`); `covered_log::CoveredLog::place`
     pub fn miss(&mut self)
         requires { HasRoom self.old }
         ensures { self.new ≡ losing_line self.old Missed }
@@ -128,6 +133,12 @@ impl CoveredLog {
     }
 
     /// The lines behind a cursor, which names a process and says how many lines come before it; `None` if it is not known.
+    /// Promise (Views of a service): The lines behind a cursor are those of all changes after it, in order, at most 1,000, each once, and the
+    ///   next cursor stands behind them
+    /// By: `covered_log::CoveredLog::after`, `page` (`IsPage`, `lines_of`), `known`
+    /// Promise (Views of a service): A cursor is not known exactly if it is of another process, beyond the last change, or before the first line
+    ///   that is kept
+    /// By: `covered_log::CoveredLog::after`, `unknown` (`is_known`)
     pub fn after(&self, alloc: Global, process: u64, line: u64) -> Result<Option<Page>, AllocError>
         ensures unknown { IfOk result (λ page. IfNone page (is_known self.now process line ≡ false)) }
         ensures known { IfOk result (λ page. IfSome page (λ p. is_known self.now process line ≡ true)) }

@@ -10,6 +10,9 @@ use run_plan::Command;
 use run_table::Table;
 
 /// Each command has exactly one encoding.
+/// Promise (Encodings): Each command, each batch of 1 to 4,294,967,295 commands and each table of at most 4,294,967,295 runners has exactly one
+///   encoding
+/// By: `encoding_laws::laws::{a_command_is_encoded_once, a_batch_is_encoded_once, a_table_is_encoded_once}` (`IsEncodedOnce`)
 pub fn a_command_is_encoded_once(requested: &Command)
     ensures { IsEncodedOnce command requested.now }
 {

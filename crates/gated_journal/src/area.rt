@@ -20,6 +20,9 @@ impl Area {
     ///
     /// The bytes are a length-prefixed body and a closed gate. After a crash at any moment, the area reads as before, or with the new body
     /// appended. After `Ok` it reads with the new body.
+    /// Promise (Areas and records): An append of one area alone touches only its range of each image, and reads before and after as one of a
+    ///   pair
+    /// By: `gated_journal::Area::append`, `any_moment`, `reads`, `stable`, `grown`
     pub fn append<D: Disk>(&self, disk: &mut D, at: u64, bytes: &[u8]) -> Result<(), DiskFault>
         requires countable { D.fault_count disk.old < u64.MAX }
         requires addressed { self.now.start + self.now.len < 2 ^ 64 }
@@ -44,6 +47,10 @@ impl Area {
     }
 
     /// Writes a part of the area's contents after its gate, without a sync.
+    /// Promise (Areas and records): The calls of one area alone touch only their range of each image, and read as those of a pair. A checkpoint
+    ///   makes `put` and `close_gate`
+    /// By: `gated_journal::Area::{put, open_gate, close_gate}`, `any_moment`; `gated_journal::Area::{open_gate, close_gate}`, `reads`, `opened`,
+    ///   `shut`, `same`
     pub fn put<D: Disk>(&self, disk: &mut D, at: u64, bytes: &[u8]) -> Result<(), DiskFault>
         requires countable { D.fault_count disk.old < u64.MAX }
         requires addressed { self.now.start + self.now.len < 2 ^ 64 }

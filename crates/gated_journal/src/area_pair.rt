@@ -85,6 +85,9 @@ impl AreaPair {
     /// Switches areas: writes the last part of the other area's contents, syncs, opens its gate, and syncs.
     ///
     /// After a crash at any moment, the disk reads as before, or as the other area does. After `Ok` it reads as the other area does.
+    /// Promise (Areas and records): At every moment the switch leaves one area or the other, whole; after Ok it is the latter. What was put
+    ///   stays beside appends
+    /// By: `gated_journal::AreaPair::switch`, `any_moment`, `switched`; `gated_journal::AreaPair::grow`, `beside`
     pub fn switch<D: Disk>(&self, disk: &mut D, at: u64, bytes: &[u8]) -> Result<(), DiskFault>
         requires countable { D.fault_count disk.old < u64.MAX }
         requires addressed { self.now.len + self.now.len < 2 ^ 64 }

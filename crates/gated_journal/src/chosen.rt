@@ -55,6 +55,13 @@ fn gate_of(generation: Option<u64>) -> GateState
 /// Syncs, and finds which of the two areas of a disk is active and the state of the other area's gate. Each area is `len` long.
 ///
 /// From then on a crash leaves what was found. A crash during the call leaves nothing that it might not have left before.
+/// Promise (Areas and records): After a sync the active area is found, or that there is none, with the gate of the other one; no image is added;
+///   three calls at most
+/// By: `gated_journal::choose`, `found`, `stable`, `only_read` (`OnlyRead`), `calls`
+/// Refusal (The layers below): `gated_journal`: `choose`, `Area::read`, `scan`
+/// When: a fault: exactly if `faults` rises by one. `None`: exactly if no area is active, or the area reads as nothing
+/// Afterwards: no image is added
+/// By: `faults`, `only_read`, `found`; `gated_journal::scan`, `none`
 pub fn choose<D: Disk>(disk: &mut D, len: u64) -> Result<Option<Chosen>, DiskFault>
     requires countable { D.fault_count disk.old < u64.MAX }
     requires within { len + len ≤ D.size disk.old }

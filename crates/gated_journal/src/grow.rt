@@ -13,6 +13,16 @@ use act_disk::{Disk, DiskFault};
 impl AreaPair {
     /// Appends to the active area of a disk of two areas. Its first closed gate is at `at`. The bytes are a record: a length-prefixed body
     /// and a closed gate. The length of the disk does not change.
+    /// Promise (Areas and records): At every moment: an append leaves the old bodies, or these and the new one; a close of the other gate leaves
+    ///   it open or closed; a put after that gate changes nothing
+    /// By: `gated_journal::AreaPair::{grow, close_other, put}`, `any_moment`, `grown`, `closed`
+    /// Promise (Areas and records): An append, a close of the other gate, a put and a switch make four, two, one and four calls of the disk at
+    ///   most; closing a closed gate makes none
+    /// By: `gated_journal::AreaPair::{grow, close_other, put, switch}`, `calls`, `same`
+    /// Refusal (The layers below): `gated_journal`: `AreaPair::{grow, close_other, put, switch}`, `Area::{append, put, open_gate, close_gate}`
+    /// When: a fault: exactly if `faults` rises by one
+    /// Afterwards: at every moment as before or after the call, or changed in its range alone
+    /// By: `faults`, `any_moment`, `honest`
     pub fn grow<D: Disk>(&self, disk: &mut D, at: u64, bytes: &[u8]) -> Result<(), DiskFault>
         requires countable { D.fault_count disk.old < u64.MAX }
         requires addressed { self.now.len + self.now.len < 2 ^ 64 }

@@ -11,6 +11,9 @@ ghost use Rattle.gated_journal.specs.declared.gate.GateState.TheVariants.{Open, 
 ghost use Rattle.gated_journal.specs.declared.side.Side.{Side};
 
 /// An area reads as at most one head and one list of bodies.
+/// Promise (Areas and records): An area reads as one header and one list of bodies at most, and what follows its first closed gate does not
+///   count
+/// By: `gated_journal::laws::{an_area_has_one_reading, nothing_counts_after_a_closed_gate}`
 pub fn an_area_has_one_reading()
     ensures { (area : List ℕ) (head other : Head) (bodies others : List (List ℕ))
         → Reads area head bodies → Reads area other others → (head ≡ other) × (bodies ≡ others) }
@@ -29,6 +32,9 @@ pub fn nothing_counts_after_a_closed_gate()
 {}
 
 /// An area that reads as a head and bodies is active if the gate of the other one is closed.
+/// Promise (Laws of the definitions): Which area is active: the only open one; not changed by an append, a put after a closed gate, or a close
+///   of the other gate
+/// By: `gated_journal::laws::{the_only_open_area_is_active, an_append_changes_no_choice, a_put_changes_no_choice, a_close_changes_no_choice}`
 pub fn the_only_open_area_is_active()
     ensures { (len : ℕ) (side : Side) (disk : List ℕ) (head : Head) (bodies : List (List ℕ))
         → len + len ≤ length disk → Reads (area_on len side disk) head bodies → IsClosed (area_on len (other side) disk)
@@ -59,6 +65,8 @@ pub fn a_close_changes_no_choice()
 {}
 
 /// Opening the gate of a complete other area with a greater generation: the disk reads as before, or as that area does.
+/// Promise (Laws of the definitions): Opening the gate of a whole newer area leaves one active area or the other
+/// By: `gated_journal::laws::an_opened_gate_switches`
 pub fn an_opened_gate_switches()
     ensures { (len : ℕ) (side : Side) (old new : List ℕ) (head next : Head) (bodies others : List (List ℕ))
         → Recovers len side Closed old head bodies → WouldRead (area_on len (other side) old) next others

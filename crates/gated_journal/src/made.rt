@@ -12,6 +12,13 @@ use act_disk::{Disk, DiskFault, write_synced};
 
 /// Creates two areas of length `len` on an empty disk. The bytes are the contents of the first one, with a closed gate, which is opened
 /// once they are durable. The gate of the second area is closed.
+/// Promise (Areas and records): Two areas made on an empty disk: after Ok the first is active and reads as made, the other gate is closed. A
+///   crash inside the call is not covered; six calls of the disk at most
+/// By: `gated_journal::make_areas`, `made`, `calls`
+/// Refusal (The layers below): `gated_journal`: `make_areas`
+/// When: a fault: exactly if `faults` rises by one
+/// Afterwards: nothing is promised
+/// By: `faults`, `honest`
 pub fn make_areas<D: Disk>(disk: &mut D, len: u64, prefix: &[u8]) -> Result<(), DiskFault>
     requires countable { D.fault_count disk.old < u64.MAX }
     requires addressed { len + len < 2 ^ 64 }

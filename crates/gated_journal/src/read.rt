@@ -8,6 +8,8 @@ use act_disk::{Disk, DiskFault};
 
 impl Area {
     /// Fills the buffer with the area's bytes. The images that a crash may leave do not change.
+    /// Promise (Areas and records): An area is read as it is
+    /// By: `gated_journal::Area::read`, `bytes`, `only_read`
     pub fn read<D: Disk>(&self, disk: &mut D, bytes: &mut [u8]) -> Result<(), DiskFault>
         requires countable { D.fault_count disk.old < u64.MAX }
         requires whole { length bytes.old ≡ self.now.len }

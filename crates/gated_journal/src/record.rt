@@ -24,6 +24,8 @@ impl Model for Record {
 
 impl Record {
     /// The record whose body lies between the first four bytes and the last one; these five may have any value. Takes no memory.
+    /// Promise (Areas and records): A record is a length, the body and a closed gate; making it takes no memory
+    /// By: `gated_journal::Record::{of, as_slice, into_bytes}`
     pub fn of(bytes: Vec<u8>) -> Record
         requires long { FRAME ≤ vec_len bytes }
         requires short { vec_len bytes < 2 ^ 32 + FRAME }

@@ -35,6 +35,8 @@ fn frame_at(bytes: &[u8]) -> Option<(&[u8], &[u8])>
 }
 
 /// The body of the open record at the start, and the bytes after it.
+/// Promise (Areas and records): Records are parted in one way
+/// By: `gated_journal::record_at`, `some`, `none`; `gated_journal::record_laws`
 pub fn record_at(bytes: &[u8]) -> Option<(&[u8], &[u8])>
     ensures some { IfSome result (λ found. OpensWith bytes.now found.0.now found.1.now) }
     ensures none { IsNone result → (body rest : List ℕ) → OpensWith bytes.now body rest → ⊥ }

@@ -22,6 +22,9 @@ pub struct ScannedArea<'a> {
 /// the next gate.
 ///
 /// It takes no memory and passes over the bytes once.
+/// Promise (Areas and records): A scan gives header, records and the offset of the first closed gate, and nothing exactly where the area reads
+///   as nothing, with the reason; without memory
+/// By: `gated_journal::scan`, `some`, `none`, `cut`; `gated_journal::laws::an_area_that_is_cut_off_reads_as_nothing`
 pub fn scan(area: &[u8]) -> Option<ScannedArea<'_>>
     ensures some { IfSome result (λ found. IsScanned area.now (head_of found.head) found.records.now found.gate) }
     ensures none { IsNone result → ReadsNothing area.now }

@@ -44,6 +44,9 @@ pub struct Arrival<H> {
 
 impl<H: Copy> Book<H> {
     /// A book of groups that nobody holds.
+    /// Promise (Concurrency groups): A book has exactly the holders of each group: of all that have arrived in it and have not ended, the one
+    ///   that waits and the one in progress
+    /// By: `group_book::Book::{new, arrive, start, leave}`, `book`; `group_book::Book::{running, pending}`, `holder`
     pub fn new(alloc: Global) -> Self
         ensures entries { result.entries ≡ [] }
         ensures expected { result.expected ≡ 0 }
@@ -56,6 +59,8 @@ impl<H: Copy> Book<H> {
     }
 
     /// Takes the memory for `more` further arrivals. On an `Err`, which is 50 (out of memory), nothing changes.
+    /// Promise (Concurrency groups): No arrival, start or end takes memory once the arrival is expected
+    /// By: `group_book::Book::{expect, forgo, copy}`
     pub fn expect(&mut self, more: usize) -> Result<(), Refusal>
         ensures entries { self.new.entries ≡ self.old.entries }
         ensures expected { self.new.expected ≡ (if is_ok result then self.old.expected + more else self.old.expected) }
@@ -107,6 +112,9 @@ impl<H: Copy> Book<H> {
 
     /// A newcomer arrives in a group, in the place of the holder that was pending there, and waits. `cancels` says whether it has
     /// cancel-in-progress.
+    /// Promise (Concurrency groups): An arrival ends every pending holder of the group, the newcomer waits, and with cancel-in-progress the
+    ///   holder in progress is given to be stopped
+    /// By: `group_book::Book::arrive`, `ended`, `stopped`
     pub fn arrive(&mut self, group: GroupKey, newcomer: H, cancels: bool) -> Arrival<H>
         requires { 0 < self.old.expected }
         ensures slots { Puts group (with_newcomer newcomer (slot_in self.old.entries group)) self.old.entries self.new.entries }
@@ -213,6 +221,8 @@ impl<H: Copy> Book<H> {
 
 impl<H: Copy + Same> Book<H> {
     /// A holder of a group leaves it. If it was in progress, this is the pending holder, which may begin.
+    /// Promise (Concurrency groups): An end gives the pending holder of the group that it frees
+    /// By: `group_book::Book::leave`, `next`, `none`
     pub fn leave(&mut self, group: &GroupKey, holder: &H) -> Option<H>
         ensures left { HasLeft holder.now (slot_in self.old.entries group.now) (slot_in self.new.entries group.now) }
         ensures others { (k : Group) → same_group group.now k ≡ false → slot_in self.new.entries k ≡ slot_in self.old.entries k }

@@ -73,6 +73,8 @@ fn text_by<R: NeedResults>(
 impl BoundGroup {
     /// The group that a bound name stands for in a repository, for any results. Its only `Err` is 50 (out of memory). GitHub Docs,
     /// "Control the concurrency of workflows and jobs".
+    /// Promise (Concurrency groups): A bound name means, by any results of needs, the group of its text
+    /// By: `group_name::BoundGroup::of`, `gives`, `group`
     pub fn of(alloc: Global, repository: &str, name: &BoundTemplate) -> Result<Self, Refusal>
         ensures gives { Gives (λ g. g) result (Ok (bound_group repository.now name.now)) }
         ensures group { IfOk result (λ g. (results : Results)
@@ -86,6 +88,8 @@ impl BoundGroup {
     }
 
     /// The group of the name, given the results; `None` if the name is empty. Its only `Err` is 50 (out of memory).
+    /// Promise (Concurrency groups): The group of a bound name can be had by results, also in memory that was taken before they are known
+    /// By: `group_name::BoundGroup::{key, room, key_in}`
     pub fn key<R: NeedResults>(
         &self,
         alloc: Global,
@@ -115,6 +119,9 @@ impl BoundGroup {
     }
 
     /// Whether the name stands for a group, given the results, that is, whether it is not empty. It takes no memory.
+    /// Promise (Concurrency groups): Whether a bound name means a group, whether two mean the same, and whether two are the same whatever the
+    ///   results, is answered memory or not
+    /// By: `group_name::BoundGroup::{has_group, same, is_same_name, copy}`; `group_name::same_pieces`
     pub fn has_group<R: NeedResults>(&self, results: &R) -> bool
         ensures { IsTrue result ↔ IsSome (group_at (R.result_of results.now) self.now) }
     {

@@ -34,6 +34,13 @@ impl Model for GroupKey {
 impl GroupKey {
     /// The group of a name in a repository. An empty name gives `None`, which takes no memory. Its only `Err` is 50 (out of
     /// memory). GitHub Docs, "Control the concurrency of workflows and jobs".
+    /// Promise (Concurrency groups): The group of a name is its repository with the name's default case folding; the empty name has none, memory
+    ///   or not. Two names mean one group exactly where these are the same
+    /// By: `group_name::GroupKey::of`, `gives`, `answers`; `group_name::laws::names_of_one_group`
+    /// Refusal (The layers below): `group_name`: `GroupKey::of`, `BoundGroup::{of, key, room}`; `group_book`: `Book::{expect, copy}`
+    /// When: 50, but not for the empty name
+    /// Afterwards: the book is as it was
+    /// By: `gives`, `answers`, `err`, `entries`, `expected`
     pub fn of(alloc: Global, repository: &str, name: &str) -> Result<Option<Self>, Refusal>
         ensures gives { Gives (λ k. k) result (Ok (group_of repository.now name.now)) }
         ensures answers { name.now ≡ [] → result ≡ Ok None }
@@ -86,6 +93,8 @@ pub(crate) fn folded(alloc: Global, name: &str) -> Result<Chars, Refusal>
 
 impl Same for GroupKey {
     /// Whether both are the same group.
+    /// Promise (Concurrency groups): Keys are the same, by comparison and hash, exactly where they are one group; a copy is equal
+    /// By: `group_name::GroupKey::{same, copy}`, and what it is as a key of a map (`same_group`)
     #[tactic(auto, using(crate::proofs::Folding::same_groups))]
     fn same(&self, other: &Self) -> bool {
         self.repository.same(&other.repository) && self.folded.same(&other.folded)

@@ -16,6 +16,9 @@ use wf_value::{Chars, Refusal};
 /// Lists of labels, numbered from 1, and for each the runs that may have a ready leg with these labels. Number 0 is for legs whose
 /// labels have no known list. In contracts it is the labels of each number, the runs that may have a ready leg for it, and the runs
 /// that can be marked.
+/// Promise (Runs, and how they are found): Label lists have numbers that never change. For each number, the runs that may have a ready leg are
+///   marked; a mark changes one run of one number. A run that was entered can be marked without memory
+/// By: `label_lists::LabelLists`
 #[derive(Drop)]
 pub struct LabelLists {
     known: KnownLists,
@@ -43,6 +46,10 @@ impl LabelLists {
     }
 
     /// Reserves memory for the marks of number 0, for all runs below the bound.
+    /// Refusal (The layers below): `label_lists`: `LabelLists::{reserve_up_to, enter}`
+    /// When: 50
+    /// Afterwards: no number or place is lost and no run is marked; the labels of an `enter` may have a number
+    /// By: `LabelLists::enter`, `err`, `grows` (`OnlyGrows`)
     pub fn reserve_up_to(&mut self, bound: usize) -> Result<(), Refusal>
         ensures grows { OnlyGrows self.old self.new }
         ensures places { OnOk result ((run : ℕ) → run < bound → HasPlace self.new 0 run) }
@@ -55,6 +62,9 @@ impl LabelLists {
     /// The number under which a run is marked for a leg with these labels. It is that of the list, which is entered if it has none,
     /// or 0 if the list already has a later run but not this one. A list that has a number is not copied. On `Err`, which is 50 (out
     /// of memory), the list may have been entered.
+    /// Promise (Runs, and how they are found): Number 0 stands for labels that are not known: it is answered only where a later run asks for the
+    ///   list already. That callers enter runs in an order that avoids it is only measured
+    /// By: `label_lists::LabelLists::enter`
     pub fn enter(&mut self, alloc: Global, labels: &LabelList, run: usize) -> Result<usize, Refusal>
         requires { HasPlace self.old 0 run }
         ensures grows { OnlyGrows self.old self.new }
@@ -96,6 +106,9 @@ impl LabelLists {
     }
 
     /// The first run, from `run` on, that may have a ready leg for a number.
+    /// Promise (Runs, and how they are found): The first marked run of a number is found, and the search for the next number passes over none
+    ///   with a marked run
+    /// By: `label_lists::LabelLists::{first_from, next_after}`
     pub fn first_from(&self, number: usize, run: usize) -> Option<usize>
         ensures { IsFirstFrom (may_offer self.now number) run result }
     {

@@ -84,6 +84,13 @@ impl<'a> Expansion<'a> {
 }
 
 /// All combinations of a matrix, in order. The errors are those of `Expansion::of`.
+/// Promise (Needs, matrices, templates and values): The combinations of a matrix are exactly the documentation's, in order, all at once or one
+///   by one; 21, else 22, exactly where they are due
+/// By: `matrix_expand::expand`; `matrix_expand::Expansion::{of, len, combination}`
+/// Refusal (The layers below): `matrix_expand`: `expand`, `Expansion::{of, combination}`; `needs_graph`: `Graph::build`
+/// When: 21, else 22; 13, else 14: exactly, with memory. 50
+/// Afterwards: nothing is made
+/// By: one clause each (`Gives`, `combinations_or_refusal`); `Graph::build`, `graph`
 pub fn expand(alloc: Global, matrix: &Matrix) -> Result<Vec<Combo>, Refusal>
     ensures { Gives (λ v. v.items) result (combinations_or_refusal matrix.now) }
 {

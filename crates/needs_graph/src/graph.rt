@@ -38,6 +38,9 @@ impl Model for Graph {
 impl Graph {
     /// Builds the graph of the jobs' needs. The jobs are in byte order of their ids. The `Err` is 13 if a job lists an unknown id,
     /// else 14 if a job is its own ancestor, with the ids of all such jobs, in order; 50 when out of memory.
+    /// Promise (Needs, matrices, templates and values): A graph is made exactly where every listed id is a job's (else 13) and no job is its own
+    ///   ancestor (else 14 with all that are, in order)
+    /// By: `needs_graph::Graph::build`, `graph`
     pub fn build(alloc: Global, jobs: &[JobNeeds<'_>]) -> Result<Graph, Refusal>
         requires { IsTrue (ids_rise jobs.now) }
         ensures graph { Gives (λ g. g) result (graph_of jobs.now) }
@@ -93,6 +96,8 @@ impl Graph {
     }
 
     /// The jobs that a job needs directly, in order.
+    /// Promise (Needs, matrices, templates and values): Needs and dependents are those of the lists, in order
+    /// By: `needs_graph::Graph::{needs, dependents, job_count, copy}`
     pub fn needs(&self, job: usize) -> &[usize]
         requires { job < length self.now }
         ensures { result.now ≡ needs_at self.now job }
@@ -119,6 +124,8 @@ impl Graph {
     }
 
     /// Whether `other` is an ancestor of the job, that is, the end of a walk of one or more needs from it.
+    /// Promise (Needs, matrices, templates and values): An ancestor is exactly a job at the end of a walk along needs; no job is its own
+    /// By: `needs_graph::Graph::has_ancestor`, `value`, `walks`, `within`, `acyclic`; `needs_graph::Graph::build`, `walks`
     pub fn has_ancestor(&self, job: usize, other: usize) -> bool
         ensures value { result ≡ is_ancestor self.now job other }
         ensures walks { IsTrue result ↔ HasWalk self.now job other }
@@ -130,6 +137,9 @@ impl Graph {
 
     /// Whether the condition of a job holds, given the results of the workflow's jobs so far, in order, and whether the run is
     /// stopping. It considers all ancestors of the job; one without a result has neither succeeded nor failed.
+    /// Promise (Needs, matrices, templates and values): Conditions, the result of a job and the conclusion of a run are those of the definition,
+    ///   memory or not
+    /// By: `needs_graph::Graph::decide`; `needs_graph::{decide, gather, conclude}`; of a table `workflow_runs::Runs::result`
     pub fn decide<J: HasResult>(
         &self,
         job: usize,

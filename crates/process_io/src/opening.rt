@@ -26,6 +26,17 @@ impl HeldStreams {
     /// over two seconds, standard error says so.
     ///
     /// The disk is honest if the file has as many bytes as `B` says, and it stays so as long as they are what is read.
+    /// Promise (Disks): `acts` opens a file for a server as one that held any bytes, which only contracts name: the disk is honest exactly if
+    ///   the file is as long as these, and lengths and reads that these answer keep it honest
+    /// By: `process_io::HeldStreams::open_for_server`, `honest`, `reads`
+    /// Refusal (Sessions and programs): `process_io::HeldStreams::{open_for_server, create_for_server, open_for_reading}`
+    /// When: 51: the file is or would be longer than the system lets a process write: T
+    /// Afterwards: nothing was read or written, nor made: T
+    /// By: `process_io::ResourceFault::refusal` (`code_of_fault`): the number; `sweeps/closed_streams`
+    /// Refusal (Sessions and programs): `process_io::HeldStreams::{open_for_server, create_for_server, open_for_reading}`
+    /// When: 61: the file, its lock or its folder can't be had: T
+    /// Afterwards: nothing was read or written; `create_for_server` may have made the file: T
+    /// By: none; `sweeps/closed_streams`, `sweeps/one_server`
     #[tactic(auto, using(crate::proofs::Opened::reads_are_honest))]
     pub fn open_for_server<
         'a,

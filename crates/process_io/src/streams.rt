@@ -20,6 +20,10 @@ pub struct HeldStreams(());
 impl HeldStreams {
     /// Opens `/dev/null` for standard input and standard error if they are closed. A closed standard output is a fault, since
     /// no command has anything to say there.
+    /// Refusal (Sessions and programs): `process_io::HeldStreams::hold`, `process_io::listener`
+    /// When: 61: standard output is closed; `/dev/null` or the port can't be had: T
+    /// Afterwards: nothing was read or written: T
+    /// By: none; `sweeps/closed_streams`, `sweeps/one_server`
     pub fn hold<'a, R: Files<File = File>>(rt: &R) -> Result<Self, ResourceFault<'a>> {
         for _ in 0..=libc::STDERR_FILENO {
             let file = File::open(rt, NOTHING).map_err(|error| ResourceFault::File(NOTHING, error))?;

@@ -119,6 +119,12 @@ impl RunBindings {
 
     /// Binds what the run and its legs ask, for run `r` of a table, which has this number. The lists of labels that the legs ask for are
     /// entered. On an `Err` (50, out of memory) some of them may have been. What was bound alike for `like`, another run, is kept once.
+    /// Promise (Runs, and how they are found): What an attempt binds of groups, labels and flags says, by any results of jobs, what its
+    ///   templates say in the context with these results; so a report evaluates no template
+    /// By: `run_bindings::RunBindings::{bind, requested, flag, is_served}`; `run_bindings::LegView::label_texts`
+    /// Promise (Runs, and how they are found): What is bound for a run is the same whether it refers to the copy of another run or to one of its
+    ///   own. What memory either takes is in no clause
+    /// By: `run_bindings::RunBindings::bind`; `run_bindings::Shared::{get, as_slice, copy}`
     pub fn bind(
         alloc: Global,
         run: &Run,

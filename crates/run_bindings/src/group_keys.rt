@@ -269,6 +269,9 @@ impl GroupKeys {
 
     /// Decides the groups of the legs of job `j` with these results. It takes no memory. Returns how many of them have no group, so that
     /// they will not arrive in one.
+    /// Promise (Runs, and how they are found): The group of a leg, and whether it has `cancel-in-progress`, is decided once by the results of
+    ///   its run's jobs
+    /// By: `run_bindings::GroupKeys::{decide, spend, key, cancels}`
     pub fn decide<R: NeedResults>(
         &mut self,
         j: usize,

@@ -31,6 +31,9 @@ impl Model for RunBitmap {
 
 impl RunBitmap {
     /// An empty set, without reserved memory.
+    /// Promise (Runs, and how they are found): A set of numbers: a mark adds one number and an unmark removes one, the first number from any one
+    ///   on is found, and only a reservation and a copy need memory
+    /// By: `run_marks::RunBitmap::{new, copy, reserve_up_to, mark, unmark, first_from}`
     pub fn new(alloc: Global) -> Self
         ensures { (i : ℕ) → is_marked result i ≡ false }
     {
@@ -41,6 +44,10 @@ impl RunBitmap {
     }
 
     /// The same set, with the same reserved memory.
+    /// Refusal (The layers below): `run_marks`: `RunBitmap::{copy, reserve_up_to}`
+    /// When: `std::alloc::AllocError`
+    /// Afterwards: no place is lost and no run is marked
+    /// By: `RunBitmap::reserve_up_to`, `marks` (`SameMarks`)
     pub fn copy(&self) -> Result<Self, AllocError>
         ensures { IfOk result (λ m. m ≡ self.now) }
     {

@@ -20,6 +20,10 @@ impl Model for BoxedLease {
 }
 
 impl BoxedLease {
+    /// Refusal (The layers below): `run_plan`: `BoxedLease::new`
+    /// When: `std::alloc::AllocError`
+    /// Afterwards: nothing is made
+    /// By: its one clause
     pub fn new(alloc: Global, lease: Lease) -> Result<Self, AllocError>
         ensures { IfOk result (λ boxed. boxed ≡ lease) }
     {

@@ -9,6 +9,9 @@ use wf_reader::{Job, Workflow};
 use wf_value::Refusal;
 
 /// Checks whether a workflow has a plan, without making one. It refuses the same workflows as `plan`.
+/// Promise (Bodies, plans and replies): A workflow has no plan exactly where a matrix is 21 or 22, job by job, or else its needs are 13 or 14;
+///   the first is answered
+/// By: `run_plan::check_plan`; of an event `run_plan::prepare`; `run_plan::plan`
 pub fn check_plan(alloc: Global, workflow: &Workflow) -> Result<(), Refusal>
     ensures { Gives (λ u. u) result (unless_faulty (plan_faults workflow.now) tt) }
 {

@@ -42,6 +42,8 @@ impl Labels {
     }
 
     /// Parses comma-separated labels. Bytes of any other form give `None`, which takes no memory.
+    /// Promise (Bodies, plans and replies): The labels of a runner are 1 to 16 labels, in order
+    /// By: `run_plan::Labels::of`, `gives`, `answers`; `run_plan::Labels::as_slice`, `form`
     pub fn of(alloc: Global, text: &[u8]) -> Result<Option<Self>, Refusal>
         ensures gives { Gives (λ l. l) result (Ok (label_list_of text.now)) }
         ensures answers { are_labels (split_at_commas text.now) ≡ false → result ≡ Ok None }

@@ -81,6 +81,9 @@ impl LastCommand {
     }
 
     /// Whether it is this claim.
+    /// Promise (Bodies, plans and replies): A claim, or a report, is the runner's last one again exactly where every field is the same; the kept
+    ///   reply is the definition's
+    /// By: `run_plan::LastCommand::{is_claim, is_report}`; `run_plan::LastCommand::reply`, `gives`, `answers`
     pub fn is_claim(&self, claim: &Claim) -> bool
         ensures { result ≡ is_last_claim claim.now self.now }
     {

@@ -45,6 +45,8 @@ impl Number {
     }
 
     /// Parses a decimal number without a leading zero.
+    /// Promise (Bodies, plans and replies): A number is 1 to 999,999,999 in decimal without leading zero, memory or not
+    /// By: `run_plan::Number::{of, new, get}`
     #[tactic(auto, using(crate::proofs::Numbers::number_least))]
     pub fn of(text: &[u8]) -> Option<Self>
         ensures { result ≡ number_of text.now }

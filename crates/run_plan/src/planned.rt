@@ -74,6 +74,8 @@ impl Plan {
     }
 
     /// Which jobs each job needs, directly and transitively, by the indices of the jobs in the plan.
+    /// Promise (Bodies, plans and replies): A plan keeps the graph of its needs, which has no cycle
+    /// By: `run_plan::Plan::graph`, `needs`, `whole` (the type's invariant)
     pub fn graph(&self) -> &Graph
         ensures needs { result.now ≡ plan_graph self.now }
         ensures whole { graph_of (needs_listed self.now) ≡ Ok result.now }

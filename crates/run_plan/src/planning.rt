@@ -16,6 +16,12 @@ use wf_value::{Combo, Matrix, Refusal, Sequence};
 /// of the lengths of the matrix's lists is over 4,096, else 22 if it has no leg or more than 256; then 13 if a job needs an unknown
 /// job, else 14 if a job is its own ancestor, with the ids of all such jobs. Out of memory is 50.
 /// GitHub Docs, "Running variations of jobs in a workflow" and "Workflow syntax for GitHub Actions", `jobs.<job_id>.needs`.
+/// Promise (Bodies, plans and replies): The plan has each job with its members and with a leg for each combination, in order
+/// By: `run_plan::plan`; of an event `run_plan::prepare`; leg by leg `run_plan::JobLegs::{of, len, combination}`
+/// Refusal (The layers below): `run_plan`: `plan`, `check_plan`, `JobLegs::of`
+/// When: the first of these by job: exactly, with memory. 50
+/// Afterwards: nothing is made
+/// By: one clause each (`Gives`, `plan_faults`)
 pub fn plan(alloc: Global, workflow: Workflow) -> Result<Plan, Refusal>
     ensures { Gives (λ p. p) result (unless_faulty (plan_faults workflow) (workflow_plan workflow)) }
 {

@@ -70,6 +70,9 @@ impl Prepared {
     }
 
     /// The admitted bytes, which have no faults.
+    /// Promise (Bodies, plans and replies): What is prepared is the delivery, name and bytes that were given, and its plan, repository, path and
+    ///   contexts are those of the bytes
+    /// By: `run_plan::Prepared::body`, `faultless`; `run_plan::Prepared::{plan, repo, path, contexts, workflow_name, concurrency}`
     pub fn body(&self) -> &[u8]
         ensures bytes { result.now ≡ self.now.body }
         ensures faultless { faults_of self.now.body ≡ [] }
@@ -128,6 +131,9 @@ impl Prepared {
     }
 
     /// Another share of the event. It takes no memory; the only `Err` is 50, if the event already has 2^63 - 1 shares.
+    /// Promise (Bodies, plans and replies): A share of a prepared event is equal to it, and so is the event once it refers to the workflow of
+    ///   another. What memory either takes is in no clause
+    /// By: `run_plan::Prepared::{share, share_workflow}`
     pub fn share(&self) -> Result<Self, Refusal>
         ensures { Gives (λ p. p) result (Ok self.now) }
     {
@@ -160,6 +166,8 @@ impl Same for Prepared {
 
 /// Prepares an event: reads and plans its body, and refuses the first fault, 10 to 26. Out of memory is 50. A body that is too long
 /// or not UTF-8 is refused without taking memory.
+/// Promise (Bodies, plans and replies): An event is prepared exactly where its body has no fault in event or plan
+/// By: `run_plan::prepare`, `gives`
 pub fn prepare(
     alloc: Global,
     event: EventName,

@@ -113,6 +113,9 @@ pub enum Reply {
 
 impl TryCopy for Reply {
     /// Only a text takes memory.
+    /// Promise (Bodies, plans and replies): A copy of a command or reply is equal; comparison is exact, memory or not; a reply without a text is
+    ///   copied memory or not
+    /// By: `run_plan::Reply::copy`, `answers`; `wf_value::TryCopy::copy` and `wf_value::Same::same` of each type of `run_plan`
     fn copy(&self, alloc: Global) -> Result<Self, Refusal>
         ensures gives { Gives (λ r. r) result (Ok self.now) }
         ensures answers { carries_text self.now ≡ false → result ≡ Ok self.now }
@@ -152,6 +155,8 @@ impl Same for Reply {
 
 impl Reply {
     /// The printed reply.
+    /// Promise (Bodies, plans and replies): A printed reply is the definition's text
+    /// By: `run_plan::Reply::text`
     pub fn text(&self, alloc: Global) -> Result<Chars, Refusal>
         ensures { Gives (λ t. t) result (Ok (reply_text self.now)) }
     {

@@ -54,6 +54,14 @@ impl<F: Form> SmallText<F> {
     }
 
     /// Copies the bytes as a text. Bytes of any other form give `None`, which takes no memory.
+    /// Promise (Bodies, plans and replies): Delivery ids, event names, runner names and labels are made exactly of texts of their form, and keep
+    ///   it; a text of no form is answered memory or not
+    /// By: `run_plan::SmallText::of`, `gives`, `answers`; `run_plan::SmallText::copy_of`; `run_plan::SmallText::as_str`, `form`
+    /// Refusal (The layers below): `run_plan`: `SmallText::{of, copy_of}`, `Labels::of`, `Prepared::share`, `JobLegs::combination`,
+    ///   `LastCommand::reply`, `Reply::text`, `text_of_combo`
+    /// When: 50; what is of no form is `None` without memory
+    /// Afterwards: nothing is made
+    /// By: `gives`, `answers`
     pub fn of(alloc: Global, text: &[u8]) -> Result<Option<Self>, Refusal>
         ensures gives { Gives (λ t. t) result (Ok (short_text_of F.allows text.now)) }
         ensures answers { is_short F.allows text.now ≡ false → result ≡ Ok None }

@@ -51,6 +51,13 @@ impl Model for Run {
 
 impl Run {
     /// A waiting run in its first attempt, with all its jobs blocked.
+    /// Promise (Runs, and how they are found): A run is made of an event, or of stored parts; each change of it, and its next attempt, are the
+    ///   definition's
+    /// By: `run_states::Run::{of_event, again, of_parts, change}`; the types `run_states::{Run, Job, Leg}`
+    /// Refusal (The layers below): `run_states`: `Run::{of_event, again}`; `run_bindings`: `RunBindings::bind`, `LegView::label_texts`
+    /// When: 50
+    /// Afterwards: as it was; lists of labels only grow
+    /// By: one clause each (`Gives`); `RunBindings::bind`, `err`, `grows`
     pub fn of_event(alloc: Global, prepared: &Prepared) -> Result<Self, Refusal>
         ensures { Gives (λ r. r) result (Ok (new_run prepared.now)) }
     {

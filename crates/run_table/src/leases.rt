@@ -16,6 +16,8 @@ use wf_value::Refusal;
 use workflow_runs::runs::Runs;
 
 /// The kept form of a lease that was granted in an attempt of its run.
+/// Promise (The table): What a kept lease says of its leg follows from its number, its place and the runs
+/// By: `run_table::kept_lease`; the type `run_table::Table` (`IsOfALeg`)
 pub fn kept_lease(
     alloc: Global,
     runs: &Runs,

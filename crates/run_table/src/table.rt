@@ -63,6 +63,37 @@ impl Table {
     /// Carries out a command, applies the settling rules to a fixpoint and returns the reply. The table's refusals, 40
     /// to 45, 48 and 49, are replies. The only error is 50, which leaves the table unchanged. A reply that changes
     /// nothing and holds no text is given even when out of memory.
+    /// Promise (The table): One step gives exactly the table and the reply of the definition, with the checks in their order; an error is 50
+    ///   alone, and leaves the table
+    /// By: `run_table::Table::step`, `step`, `err`
+    /// Promise (The table): What is answered from the table as it is, without a text, is answered memory or not: every refusal, a known
+    ///   delivery, a repeated command whose reply is no lease, a beat, a cancel of a stopping run, a re-run that names the present attempt
+    /// By: `run_table::Table::step`, `answers`
+    /// Promise (The table): A leg is claimed exactly by its labels in its own context, and a failure is passed over exactly where the leg's flag
+    ///   is set there. `needs.ID.result` has a value exactly where the leg's job needs ID directly and that job has a result
+    /// By: `run_table::Table::step`, `step` (`context_at`)
+    /// Promise (The table): A job opens only once all its needs are finished, and then exactly where its condition holds for the results of all
+    ///   ancestors
+    /// By: `run_table::Table::step`, `step` (`rule_at`, `decided`, `may_run`)
+    /// Promise (The table): A failure that is not passed over stops the other legs of its job exactly where the job fails fast; no other end of
+    ///   a leg does. A lost runner's leg counts the same
+    /// By: `run_table::Table::step`, `step` (`after_end`, `lost`, `outcome_of_loss`, `released`)
+    /// Promise (The table): A cancelled run: the stop flag is set and the legs of jobs whose conditions are then false are stopped; a waiting
+    ///   run ends with all its jobs cancelled
+    /// By: `run_table::Table::step`, `step` (`cancelled`, `stopped_run`)
+    /// Promise (The table): No lease is given twice, and a lease has one holder. This is said of one step, and of the table after any commands;
+    ///   no law says it over replies, as one does of deliveries
+    /// By: `run_table::Table::step`; `table_laws::laws::steps_keep_tables_sound`
+    /// Promise (The table): A fetched body is the admitted bytes, which are UTF-8
+    /// By: `run_table::Table::step`, `step` (`fetch_answer`); `run_plan::Prepared::body_text`
+    /// Refusal (Sessions and programs): a command of either, by `run_table::Table::step`
+    /// When: 40 to 45, 48, 49: exactly, with memory, as the step says
+    /// Afterwards: entered and covered; the table is as it was; the session goes on, but for 48
+    /// By: `step`; `act_desk::Desk::submit`, `in_history`
+    /// Refusal (The layers below): `run_table`: `Table::{step, step_with_copy}`
+    /// When: 40 to 45, 48, 49 are replies, exactly. 50, but not if the answer needs no memory
+    /// Afterwards: the table is as it was
+    /// By: `step`, `err`, `answers`
     pub fn step(&mut self, alloc: Global, command: &Command) -> Result<Reply, Refusal>
         ensures step { Gives (λ reply. (self.new, reply)) result (Ok (step self.old command.now)) }
         ensures err { OnErr result (self.new ≡ self.old) }
@@ -74,6 +105,8 @@ impl Table {
     /// Carries out a command as `step` does and returns the reply with a copy of it. If memory for either runs out, the
     /// table is unchanged. A reply that changes nothing and holds no text is given, with its copy, even when out of
     /// memory.
+    /// Promise (The table): A step with an equal copy of the reply is the same. That the table itself is not copied is in no clause
+    /// By: `run_table::Table::step_with_copy`, `step`, `copy`, `err`, `answers`
     pub fn step_with_copy(
         &mut self,
         alloc: Global,
@@ -107,6 +140,11 @@ impl Table {
     }
 
     /// The view of the run with this id, or `None` if there is no such run. It takes no memory.
+    /// Promise (The table): A table keeps what MODEL says under "What every table keeps", from the empty one on
+    /// By: `run_table::Table::look`, `sound`; `run_table::Table::new`; `table_laws::laws::steps_keep_tables_sound`
+    /// Promise (The table): A look needs no memory and gives the run of that id with its number, or none; the printed view is exactly
+    ///   `seen_text`
+    /// By: `run_table::Table::look`, `seen`; `run_table::RunView::text`
     pub fn look(&self, run: Number) -> Option<RunView<'_>>
         ensures seen { result ≡ seen self.now run }
         ensures sound { IsSound self.now }
@@ -115,6 +153,8 @@ impl Table {
     }
 
     /// The last lease granted, 0 if there was none. It takes no memory.
+    /// Promise (The table): A table shows its last lease, runs and runners, memory or not. A copy is equal to it; bodies and plans are shared
+    /// By: `run_table::Table::{last_lease, runs, runners}`; `run_table::Table`, `TryCopy::copy`
     pub fn last_lease(&self) -> u32
         ensures lease { result ≡ self.now.last_lease }
         ensures sound { IsSound self.now }

@@ -13,6 +13,9 @@ use wf_value::{Chars, Refusal};
 const MAX_LINES: u64 = 1024;
 
 /// The protocol of runners.
+/// Promise (Sessions): Bytes after a line change nothing, and no bytes are both unfinished and a line
+/// By: `runner_sessions::RunnerLines`, the laws `steady` and `one` of `act_sessions::Protocol`;
+///   `runner_sessions::laws::an_unfinished_line_is_none` (`IsApart`)
 pub struct RunnerLines;
 
 /// A text and a line feed.

@@ -15,6 +15,13 @@ impl Session {
     /// line feed, or an answer is refused with 46, 47, 48, 50, 51, 52, 57 or 60. A line that is not a command is answered with `refused
     /// 75`. An unfinished line at the end of the input is dropped. Running out of memory outside a command, and a failed read or write,
     /// end the session with a fault that contains the transcript so far.
+    /// Promise (Sessions): Runner lines: at most 1,024, each at most 512 bytes with its line feed; a line is the command of its word and fields,
+    ///   else 75
+    /// By: `runner_sessions::Session::run`, `ok`, `err` (`runner_rules`, `LineReads`, `command_of`)
+    /// Refusal (Sessions and programs): a runner's line, by `runner_sessions::Session::run`
+    /// When: 75: exactly, with memory, if it is no command
+    /// Afterwards: nothing is asked. The session ends if 512 bytes came without a line feed
+    /// By: `ok` (`runner_rules`: `LineReads`, `command_of`)
     pub fn run<R: Read, W: Write, A: Answer>(
         alloc: Global,
         reader: &mut R,
@@ -31,6 +38,9 @@ impl Session {
 }
 
 /// A session of runner lines still to be run, over a reader and a writer.
+/// Promise (Sessions): `Lines` and `Hook` are sessions that are still to be held. That the answers reach the writer that was given is tested
+/// By: `runner_sessions::Lines`, `webhook_sessions::Hook`, `act_sessions::Work` (`ends`); the tests `lines_are_answered_to_their_writer` and
+///   `requests_are_answered_to_their_writer`
 #[derive(Drop)]
 pub struct Lines<R, W> {
     pub reader: R,

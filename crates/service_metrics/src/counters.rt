@@ -34,6 +34,9 @@ impl Model for Counters {
 
 impl Counters {
     /// The counts of a service that begins now.
+    /// Promise (Views of a service): What the service has done is counted exactly: each entry once, each refusal at its number, and each commit
+    ///   in each bucket whose bound it does not exceed
+    /// By: `service_metrics::Counters::{new, entered, committed}` (`counters_of`)
     pub fn new() -> Counters
         ensures { result ≡ counters_of nothing_done }
     {

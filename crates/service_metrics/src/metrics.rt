@@ -26,6 +26,9 @@ fn push_service(
 }
 
 /// The metrics of a service with this table.
+/// Promise (Views of a service): The metrics are the definition's text, to the byte, of what the service has done, of how it stands and of its
+///   table
+/// By: `service_metrics::metrics_text` (`metrics_text`)
 pub fn metrics_text(
     alloc: Global,
     gauges: &Gauges<'_>,

@@ -29,6 +29,14 @@ fn make_checkpoint<D: Disk>(alloc: Global, store: &mut Store<D>) -> Result<(), R
 /// Upgrades a store in the first layout to the second, by one checkpoint. The store stays in the first layout exactly if
 /// a checkpoint has no room in an area (47) or no generation is left for one (48). There it accepts every command except
 /// the one that asks for an attempt. Any other refusal of the checkpoint is returned.
+/// Promise (One history for all sessions): A service brings a store of the first layout into the second before its first client, with the same
+///   base and history. It stays in the first exactly if a checkpoint of it has no room in an area, or no generation is left for one
+/// By: `service_startup::brought_up`, `same`, `layout`, `passed`
+/// Refusal (Sessions and programs): before `ready`: `service_startup::brought_up`, of `acts_rounds::{serve_on, serve_rounds}` and
+///   `acts_serve::serve_forever`
+/// When: 50, 51 of the checkpoint of a file of the first layout: T. Its 47 and 48 are passed over
+/// Afterwards: no client was served; the file recovers as before: T
+/// By: `passed`, `layout`
 pub fn brought_up<D: Disk + Drop>(alloc: Global, store: Store<D>) -> Result<Store<D>, Refusal>
     ensures same { IfOk result (λ up. (up.history ≡ store.history) × (up.base ≡ store.base)) }
     ensures layout { IfOk result (λ up. up.layout ≡ (if is_some (refusal_of_head store) then store.layout else layouts.Second)) }

@@ -255,6 +255,9 @@ impl Changes {
     }
 
     /// Takes up the entries of a store that were made durable since the last time, and the runs that they have changed.
+    /// Promise (Views of a service): Each time the service takes up what was made durable, the changes gain exactly the entries that the history
+    ///   has between the last covered one then and now, in order, each once. This is so for the first 2^64 - 1 changes
+    /// By: `service_views::changes::Changes::take_up`, `entered` (`TakesUp`), `taken`
     pub(crate) fn take_up<D: Disk>(&mut self, alloc: Global, store: &Store<D>)
         ensures entered { TakesUp (drop self.old.taken (take store.now.covered store.now.history)) self.old.log self.new.log }
         ensures taken { self.new.taken ≡ store.now.covered }
@@ -264,6 +267,8 @@ impl Changes {
     }
 
     /// A new history has begun. Places and cursors go on.
+    /// Promise (Views of a service): A turn-over of the history changes no place of a change
+    /// By: `service_views::changes::Changes::turn_over`, `log`
     pub(crate) fn turn_over(&mut self)
         ensures log { self.new.log ≡ self.old.log }
         ensures taken { self.new.taken ≡ 0 }

@@ -43,6 +43,8 @@ pub struct Kept {
 
 impl Kept {
     /// What is kept of a service that begins now.
+    /// Promise (Views of a service): What a service keeps of itself begins with nothing, and a turn-over of the history changes none of it
+    /// By: `service_views::Kept::new` (`Begins`); `service_views::Kept::turn_over`, `log`, `rest`
     pub fn new(alloc: Global, process: u64, now: Instant, table: &Table) -> Result<Kept, AllocError>
         ensures { IfOk result (Begins process now) }
     {
@@ -92,6 +94,9 @@ impl Kept {
     }
 
     /// Takes up what was made durable since the last time. Returns whether there was something.
+    /// Promise (Views of a service): Of what was made durable each entry is counted once, and the runner from which it comes was heard then.
+    ///   Without memory a runner whose name is new stays unknown
+    /// By: `service_views::Kept::take_up`, `goes_on` (`GoesOn`, `Counts`, `Hears`); `service_views::Kept::committed`, `counted`
     pub fn take_up<D: Disk>(&mut self, alloc: Global, store: &Store<D>, now: Instant) -> bool
         ensures goes_on { GoesOn store.now now self.old self.new }
         ensures some { result ≡ not (store.now.covered == self.old.changes.taken) }

@@ -300,6 +300,12 @@ impl Kept {
     }
 
     /// What becomes of a request. Without memory the answer is that there is none.
+    /// Promise (Views of a service): Each path of the view port is answered as its definition says, and a request with a fault by exactly this
+    ///   fault. The only other answer is that there is no memory
+    /// By: `service_views::Kept::made` (`IsMade`, `Shows`)
+    /// Promise (Views of a service): Behind a known cursor come the lines after it, and the cursor to go on from. Where there are none yet, a
+    ///   request that may wait waits, and any other gets the cursor alone
+    /// By: `service_views::Kept::{made, made_later}` (`ShowsChanges`, `lines_behind`, `cursor_line`)
     pub fn made(&self, alloc: Global, seen: Seen<'_>, request: &ViewRequest) -> Made
         ensures { IsMade self.now seen.entry request.now result }
     {

@@ -7,6 +7,9 @@ ghost use Rattle.run_states.specs.Settling.{IsNoArrival, rule_at, run_of_site, f
 ghost use Rattle.run_states.specs.declared.place.RuleSite.{RuleSite};
 
 /// Settling terminates: each rule lowers the number of phases that the runs still have to pass.
+/// Promise (Laws of the definitions): Settling ends, at a fixpoint, which does not depend on a rule that is applied first. A rule changes no run
+///   but its own, unless a leg arrives
+/// By: `settling_laws::laws::{each_rule_lowers, settled_runs_rest, rules_lead_to_one_end, rules_touch_one_run}`
 pub fn each_rule_lowers()
     ensures { (runs : List RunState) (next : Transition) → first_rule runs ≡ Some next → remaining_phases next.runs < remaining_phases runs }
 {}

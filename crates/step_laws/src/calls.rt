@@ -16,6 +16,8 @@ use wf_value::Refusal;
 ///
 /// The moves of each concurrency group on the way keep the law of groups, and they say exactly who holds the group in the table that the
 /// calls leave.
+/// Promise (Concurrency groups): The moves of commands that are carried out by calls of `Table::step` keep the law too
+/// By: `step_laws::carry_out`, `after`, `law`, `some`
 pub fn carry_out(alloc: Global, table: &mut Table, commands: &[Command]) -> Result<(), Refusal>
     ensures after { OnOk result (table.new ≡ after table.old commands.now) }
     ensures law { OnOk result ((names : Names) (g : Group)

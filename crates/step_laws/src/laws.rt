@@ -19,6 +19,9 @@ ghost use Rattle.step_laws.specs.Texts.{CarriesText, IsAnsweredAnyway};
 
 /// Every refusal is given memory or not, whatever the command is: those with a number alone (40 to 42, 44, 45, 48, 49), and 43 with the
 /// last number or attempt.
+/// Promise (The table): No refusal needs memory, nor does a beat, a known delivery, or what is repeated
+/// By: `step_laws::laws::{refusals_need_no_memory, beats_need_no_memory, known_deliveries_need_no_memory, repeated_requests_need_no_memory,
+///   repeated_commands_need_no_memory}` (`IsAnsweredAnyway`)
 pub fn refusals_need_no_memory()
     ensures numbered { (t : TableState) (c : Command) (code : Code) → (stepped t c).reply ≡ refused code → IsAnsweredAnyway t c }
     ensures turn { (t : TableState) (c : Command) (last : ℕ) → (stepped t c).reply ≡ reply.Refused (Turn last) → IsAnsweredAnyway t c }
@@ -53,6 +56,8 @@ pub fn repeated_commands_need_no_memory()
 {}
 
 /// What is answered memory or not carries no text: no lease, no view and no body.
+/// Promise (The table): Only a lease, a view and a body are texts, for which a reply needs memory
+/// By: `step_laws::laws::texts_need_memory` (`CarriesText`)
 pub fn texts_need_memory()
     ensures { (t : TableState) (c : Command) → IsAnsweredAnyway t c → CarriesText (stepped t c).reply → ⊥ }
 {}

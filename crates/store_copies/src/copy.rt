@@ -56,6 +56,11 @@ fn front(alloc: Global, table: &Table) -> Result<Vec<u8>, Refusal>
 
 /// A store file of two areas of this length, of which the first has the table, in the second layout, and no record. `None` if the text of
 /// the table does not fit, or no store has areas of this length.
+/// Promise (Views of a service): A copy of a store is two areas long, has the table in the second layout and no record, and recovers to the
+///   table that it was made of
+/// By: `store_copies::copy_of`, `bytes`, `recovers`, `size` (`copy_bytes`, `file_of`)
+/// Promise (Views of a service): There is a copy exactly if the text of the table fits an area, and a store has areas of this length
+/// By: `store_copies::copy_of`, `none` (`fits`)
 pub fn copy_of(alloc: Global, area: u64, table: &Table) -> Result<Option<FileBytes>, Refusal>
     ensures err { ErrsOnlyByMemory result }
     ensures recovers { IfOk result (λ found. IfSome found (λ copy. RecoversTo table.now (file_of copy))) }

@@ -16,6 +16,8 @@ use workflow_runs::runs::Runs;
 impl TableParts {
     /// The table that is stored as these parts, or `None` if they are the parts of no table. It takes as much memory as
     /// the parts; the only error is 50.
+    /// Promise (The table): The table that is stored as some parts is returned, and `None` exactly where no sound table has these parts
+    /// By: `stored_tables::TableParts::table`, `of`, `err`
     pub fn table(&self, alloc: Global) -> Result<Option<Table>, Refusal>
         ensures err { ErrsOnlyByMemory result }
         ensures of { IfOk result (λ found. MatchOption found (IsNoTable self.now) (λ table. IsStoredAs self.now table)) }

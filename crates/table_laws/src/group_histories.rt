@@ -17,6 +17,8 @@ ghost use Rattle.table_laws.specs.Names.{Names, attempt_of};
 ghost use Rattle.run_states.specs.declared.holder.Holder.{Holder};
 
 /// Among all runs and legs of the table, at most one is pending and at most one is running in each concurrency group.
+/// Promise (Concurrency groups): At most one holder of a group is in progress and one pending
+/// By: `table_laws::group_histories::groups_have_one_holder_of_each_kind`
 pub fn groups_have_one_holder_of_each_kind()
     ensures pending { (t : TableState) (cs : List Command) (g : Group) → IsSound t → length (pending_in (after t cs).runs g) ≤ 1 }
     ensures in_progress { (t : TableState) (cs : List Command) (g : Group) → IsSound t → length (in_progress_in (after t cs).runs g) ≤ 1 }
@@ -24,6 +26,9 @@ pub fn groups_have_one_holder_of_each_kind()
 
 /// The law of concurrency groups: from any sound table and over any commands, the moves of each group satisfy it, after the base moves of
 /// the holders that the group already has. Each holder is named with the attempt of its run.
+/// Promise (Concurrency groups): The moves of each group keep the law over any commands, from any sound table, whichever names are used for
+///   holders and their attempts
+/// By: `table_laws::group_histories::every_group_keeps_its_law`; `table_laws::group_laws::attempts_have_names` (`Names`)
 pub fn every_group_keeps_its_law()
     ensures { (names : Names) (t : TableState) (cs : List Command) (g : Group) → IsSound t
         → KeepsLaw (requests_cancellation names g t cs) (all_moves names g t cs) }
@@ -31,12 +36,18 @@ pub fn every_group_keeps_its_law()
 
 /// The moves of each group determine its holders: from any sound table and after any commands, the holders that the moves show as running,
 /// pending and asked to stop are those that filters over all runs and legs of the table give.
+/// Promise (Concurrency groups): The moves say exactly which holders of each group are in progress, pending and stopping in the table, also in
+///   the one that calls of `Table::step` leave
+/// By: `table_laws::group_histories::the_moves_say_who_holds_each_group`; `step_laws::carry_out`, `holders` (`SayWhoHolds`)
 pub fn the_moves_say_who_holds_each_group()
     ensures { (names : Names) (t : TableState) (cs : List Command) (g : Group) → IsSound t
         → SayWhoHolds names (after t cs).runs g (all_moves names g t cs) }
 {}
 
 /// Between the start of a holder and its end no other holder of its group starts.
+/// Promise (Concurrency groups): Between the start of a holder and its end no other holder starts. A displaced holder never begins in that
+///   attempt. Only a later arrival displaces
+/// By: `table_laws::group_histories::{nobody_starts_before_the_holder_has_ended, displaced_holders_never_begin, only_later_arrivals_displace}`
 pub fn nobody_starts_before_the_holder_has_ended()
     ensures { (names : Names) (t : TableState) (cs : List Command) (g : Group) (before between after_it : List Move) (h k : Holder)
         → IsSound t → all_moves names g t cs ≡ before ++ Move.start h ∷ (between ++ Move.start k ∷ after_it) → has_ended h between ≡ true }

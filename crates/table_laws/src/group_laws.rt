@@ -16,12 +16,18 @@ ghost use Rattle.table_laws.specs.Names.{Names};
 // ---- what follows
 
 /// Between two starts the first holder has ended.
+/// Promise (Laws of the definitions): By the law one starts after the other has ended; only a later arrival displaces, and for good
+/// By: `table_laws::group_laws::{a_group_is_free_before_the_next_start, a_displaced_holder_never_starts, an_end_is_final,
+///   only_a_later_arrival_displaces}`
 pub fn a_group_is_free_before_the_next_start()
     ensures { (cancels : Holder → Bool) (moves before between after : List Move) (h k : Holder) → KeepsLaw cancels moves
         → moves ≡ before ++ Move.start h ∷ (between ++ Move.start k ∷ after) → has_ended h between ≡ true }
 {}
 
 /// At no moment do two holders run.
+/// Promise (Laws of the definitions): By the law at most one holder is in progress, and one pending but between an arrival and the end of the
+///   one that it displaces
+/// By: `table_laws::group_laws::{at_most_one_holder_runs, at_most_one_holder_is_pending, a_pending_holder_is_the_latest_arrival}`
 pub fn at_most_one_holder_runs()
     ensures { (cancels : Holder → Bool) (moves before after : List Move) (h k : Holder) → KeepsLaw cancels moves
         → moves ≡ before ++ after → is_in_progress h before ≡ true → is_in_progress k before ≡ true → h ≡ k }
@@ -64,6 +70,8 @@ pub fn only_a_later_arrival_displaces()
 // ---- single changes
 
 /// The base moves, which stand for the holders that a group already has, satisfy the law and determine the state of the group.
+/// Promise (Laws of the definitions): Every list of possible changes of one group keeps the law, and the test of the law is exact
+/// By: `table_laws::group_laws::{a_base_keeps_the_law, each_change_keeps_the_law, any_changes_keep_the_law, the_test_of_the_law_is_exact}`
 pub fn a_base_keeps_the_law()
     ensures law { (cancels : Holder → Bool) (g : GroupState)
         → ((h : Holder) → g.in_progress ≡ Some h → is_the g.pending h ≡ false) → KeepsLaw (beyond_base cancels g) (base_moves g) }

@@ -24,6 +24,8 @@ pub fn steps_keep_tables_sound()
 {}
 
 /// A job has legs only if all jobs that it needs have finished.
+/// Promise (The table): In any table: a job with legs has all its needs finished, and no more than `max-parallel` legs of it run or stop
+/// By: `table_laws::laws::{legs_come_after_needs, max_parallel_bounds_each_job}`; `run_table::Table::look`, `sound`
 pub fn legs_come_after_needs()
     ensures sound { (t : TableState) → IsSound t → NeedsComeFirst t.runs }
     ensures reached { (commands : List Command) → NeedsComeFirst (after empty commands).runs }
@@ -31,6 +33,9 @@ pub fn legs_come_after_needs()
 
 /// In every table that commands reach from the empty one, all needs of a skipped job have finished, and its condition is false for the
 /// results of its ancestors in a run that is not stopping.
+/// Promise (The table): In every table that commands lead to from the empty one: a skipped job has all its needs finished and a false condition;
+///   a leg with a lease was the answer to a claim for it
+/// By: `table_laws::laws::{skips_are_due, leases_are_answers_to_claims}`
 pub fn skips_are_due()
     ensures { (commands : List Command) → SkipsAreDue (after empty commands).runs }
 {}
@@ -50,6 +55,9 @@ pub fn leases_are_answers_to_claims()
 
 /// A delivery makes one run: an event whose delivery was answered with a run is answered with the same run in every later table, whatever
 /// its body is then, and the table does not change.
+/// Promise (The table): A delivery makes one run: an event whose delivery was answered with a run is answered with it in every later table,
+///   whatever its body, and the table stays
+/// By: `table_laws::laws::{a_delivery_makes_one_run, a_delivery_stays_known}` (`KnowsDelivery`)
 pub fn a_delivery_makes_one_run()
     ensures { (t : TableState) (event again : Admitted) (run : ℕ) (later : List Command)
         → (stepped t (command.Admit event)).reply ≡ reply.Created run → again.delivery ≡ event.delivery
@@ -59,6 +67,9 @@ pub fn a_delivery_makes_one_run()
 
 /// A runner that repeats a command that was carried out gets the same reply, as long as it has sent no command with a later number. The
 /// table does not change.
+/// Promise (The table): A numbered command that was not refused gets its reply again, and the table stays, until a later number of that runner
+///   is carried out, not only asked
+/// By: `table_laws::laws::{a_kept_reply_is_given_again, a_last_command_stays_known}` (`HasNumber`, `LastCommandIs`, `IsNoLaterNumber`)
 pub fn a_kept_reply_is_given_again()
     ensures { (t : TableState) (c : Command) (runner : List ℕ) (number : ℕ) (later : List Command)
         → HasNumber c runner number → (IsRefused (stepped t c).reply → ⊥) → HaveNoLaterNumber runner number later
@@ -81,6 +92,9 @@ pub fn a_delivery_stays_known()
 /// What a table knows about an attempt: a re-run that is answered with it establishes it, and each step preserves it until a re-run of that
 /// run with another attempt is carried out. While it is known, a re-run that asks for it is answered with it again and the table does not
 /// change: no other attempt begins.
+/// Promise (The table): A re-run that was answered with its attempt is answered with it again and begins nothing, until a re-run of that run
+///   with another attempt is carried out
+/// By: `table_laws::laws::an_attempt_stays_known` (`KnowsAttempt`, `IsNoOtherAttempt`)
 pub fn an_attempt_stays_known()
     ensures established { (t : TableState) (requested : Attempt) → (stepped t (command.Rerun requested)).reply ≡ reply.Again requested
         → KnowsAttempt (stepped t (command.Rerun requested)).table requested.run requested.attempt }

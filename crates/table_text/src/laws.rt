@@ -14,6 +14,9 @@ pub fn no_table_begins_another()
 {}
 
 /// Each table that can be encoded has exactly one encoding.
+/// Promise (Encodings): A table of a definition that can be encoded has one encoding, and none is a prefix of another
+/// By: `table_text::laws::{each_table_has_one_encoding, each_whole_table_has_one_encoding, no_table_begins_another,
+///   no_whole_table_begins_another}`
 pub fn each_table_has_one_encoding()
     ensures { HasOneEncoding table }
 {}
@@ -34,6 +37,8 @@ pub fn each_whole_table_has_one_encoding()
 {}
 
 /// No encoding of a whole table in the first layout is a proper prefix of another.
+/// Promise (Encodings): In the first layout no table and no batch begins another
+/// By: `table_text::laws::{no_whole_first_table_begins_another, no_first_batch_begins_another}`
 pub fn no_whole_first_table_begins_another()
     ensures { NoneBeginsAnother whole_first_table }
 {}

@@ -13,6 +13,13 @@ use wf_value::{Code, Refusal};
 
 /// The parts of the table whose encoding is a prefix of the bytes, and the bytes after it; `None` if no prefix encodes
 /// a table. The only error is 50, out of memory, which says nothing about the bytes.
+/// Promise (Encodings): What is read of tables, in both layouts, is the value whose encoding is at the front, with the bytes after it, and
+///   `None` exactly where no prefix is an encoding
+/// By: `table_text::{read_parts, read_table, read_first_batch, read_first_table}`, `prefix`, `refused`; `table_text::is_in_first_layout`
+/// Refusal (The layers below): `table_text`: `read_command`, `read_batch`, `read_parts`, `read_table`, `read_first_batch`, `read_first_table`
+/// When: `None`: exactly, with memory, if no prefix of the bytes is an encoding. 50
+/// Afterwards: nothing is made
+/// By: `prefix`, `refused`
 pub fn read_parts(alloc: Global, bytes: &[u8]) -> Result<Option<(TableParts, &[u8])>, Refusal>
     ensures prefix { IfOk result (λ found. ReadsPrefix table bytes.now (option_map (λ f. (f.0, f.1.now)) found)) }
     ensures refused { IfErr result (λ e. e ≡ no_memory) }

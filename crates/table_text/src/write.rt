@@ -12,6 +12,10 @@ use run_table::Table;
 use wf_value::Refusal;
 
 /// Appends the encoding of a table. The only error is 50, out of memory, which leaves the bytes unchanged.
+/// Refusal (The layers below): `table_text`: `write_command`, `write_batch`, `write_table`
+/// When: 50
+/// Afterwards: the bytes are as they were
+/// By: `err`, `refused`
 pub fn write_table(out: &mut Vec<u8>, stored: &Table) -> Result<(), Refusal>
     requires { length stored.now.runners ≤ 4294967295 }
     ensures ok { OnOk result (Appends table out.old.items (stored_table stored.now) out.new.items) }

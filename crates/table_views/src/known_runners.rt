@@ -205,6 +205,9 @@ fn rows_of(
 }
 
 /// A page of the runner with this name alone, or of none. `heard` is the seconds since it was last heard, if that is known.
+/// Promise (Views of a service): With a name `/runners` shows the runner of this name alone, or none; the page after a name begins with the
+///   first runner whose name comes after it
+/// By: `table_views::one_runner` (`one_runner`); `table_views::index_after`, `after` (`index_after`)
 pub fn one_runner(
     alloc: Global,
     table: &Table,

@@ -93,6 +93,17 @@ fn next_below(top: usize, count: usize) -> Option<u64>
 }
 
 /// A page of the runs that the filter lets through, with ids below `before`, newest first.
+/// Promise (Views of a service): A page of runs, of ready legs, of holders of groups or of runners looks at the indices from where it begins, at
+///   most at 10,000 and at none once its rows are as many as wanted
+/// By: `table_views::{runs_page, ready_page, holder_page, runner_page}`, `page` (`IsPage`)
+/// Promise (Views of a service): A page has the rows of these indices, and says where to go on exactly if indices are left. The whole text is
+///   the definition's, to the byte
+/// By: `table_views::{runs_page, ready_page, holder_page, runner_page}`, `page` (`IsRunsPage`, `IsReadyPage`, `IsHolderPage`, `IsRunnerPage`,
+///   `IsPage`)
+/// Refusal (The layers below): `table_views`: `runs_page`, `ready_page`, `holder_page`, `runner_page`, `run_view`; `store_copies`: `copy_of`
+/// When: 50. `None` of `copy_of`: the table does not fit, or no store has areas of this length: T
+/// Afterwards: nothing is made
+/// By: `err` (`ErrsOnlyByMemory`)
 pub fn runs_page(
     alloc: Global,
     table: &Table,

@@ -278,6 +278,9 @@ fn view_text(
 }
 
 /// The run with an id, with its jobs from an index on. `None` if there is no such run.
+/// Promise (Views of a service): A run is shown with its jobs from an index on, and each leg with what it asks for and waits for, to the byte;
+///   none is shown exactly if there is none with this id
+/// By: `table_views::run_view`, `view` (`IsRunView`)
 pub fn run_view(
     alloc: Global,
     table: &Table,

@@ -45,6 +45,11 @@ fn push_runners(alloc: Global, text: &mut String, runners: &[Runner]) -> Result<
 }
 
 /// Appends the metrics of a table.
+/// Promise (Views of a service): Each run is counted at its status and conclusion, each leg at its state
+/// By: `table_views::push_table_metrics` (`table_metrics`, `run_counts`, `leg_counts`)
+/// Promise (Views of a service): Each ready leg is counted at the list of labels that it asks for, of which the first 50 that come have a line
+///   each and all others one together
+/// By: `table_views::push_table_metrics` (`named`, `times`, `others`)
 pub fn push_table_metrics(alloc: Global, text: &mut String, table: &Table) -> Result<(), Refusal>
     ensures { OnOk result (string_bytes text.new ≡ string_bytes text.old ++ table_metrics table.now) }
 {

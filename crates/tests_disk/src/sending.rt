@@ -22,6 +22,8 @@ fn is_shared<D: Disk + Send + Drop, E: Drop>(opened: Result<D, E>) -> bool {
     }
 }
 
+/// Promise (Disks): Each disk may be handed to another thread
+/// By: the bound `std::marker::Send` of the types, in the test `tests_disk::disks_can_move_between_threads`
 #[test]
 fn disks_can_move_between_threads(rt: HostRuntime) {
     let alloc = rt.alloc();

@@ -43,6 +43,8 @@ impl Cursor {
     }
 
     /// The text of the cursor.
+    /// Promise (Views of a service): The text of a cursor is the definition's, to the byte
+    /// By: `view_sessions::Cursor::to_text` (`cursor_text`)
     pub fn to_text(&self, alloc: Global) -> Result<String, AllocError>
         ensures { IfOk result (λ text. string_bytes text ≡ cursor_text self.now) }
     {

@@ -151,6 +151,11 @@ fn found_request(
 }
 
 /// The whole request at the start of the bytes. Returns `None` if there is less than one.
+/// Promise (Views of a service): The bytes of a client are read as heads of HTTP, as those of a webhook session are; each asks for the view that
+///   the definition gives its method and its target, or has its fault, the first in order
+/// By: `view_sessions::next_view` (`IsNextView`, `ViewReads`, `asked`)
+/// Promise (Views of a service): Bytes that are less than a head, and may become one, wait
+/// By: `view_sessions::next_view` (`IsNextView`)
 pub fn next_view(alloc: Global, bytes: &[u8]) -> Result<Option<FoundView>, Refusal>
     ensures { IsNextView bytes.now result }
 {

@@ -108,6 +108,9 @@ impl ViewSession {
     }
 
     /// Takes the next request, if a whole one was received and the answer before it was sent. Without memory the session ends.
+    /// Promise (Views of a service): A view session takes the next request only once the answer before it was sent. Without memory for a request
+    ///   it ends
+    /// By: `view_sessions::ViewSession::next` (`TakesNext`); `view_sessions::ViewSession::{new, receive, owes, is_over, end}`
     pub fn next(&mut self, alloc: Global) -> Option<ViewRequest>
         ensures { TakesNext self.old self.new result }
     {
@@ -141,6 +144,9 @@ impl ViewSession {
     }
 
     /// Answers the request that was taken.
+    /// Promise (Views of a service): An answer is the last of a view session if its request or its fault ends it, or if it answers the 64th
+    ///   request. Without memory for an answer nothing of the session changes
+    /// By: `view_sessions::ViewSession::answer`, `answered`, `err` (`is_last`)
     pub fn answer(
         &mut self,
         alloc: Global,
@@ -187,6 +193,8 @@ impl ViewSession {
 
     /// Writes what is still to be sent, as much as the writer takes in `most` writes. Returns whether it took something, and whether it
     /// takes more.
+    /// Promise (Views of a service): What a view session sends are the bytes of its answers, in order, each once
+    /// By: `view_sessions::ViewSession::send` (`Sends`)
     pub fn send<W: Write>(&mut self, writer: &mut W, most: usize) -> (bool, Writable)
         ensures { (n : ℕ) × Sends n (W.contents writer.old) (W.contents writer.new) self.old self.new × (result.0 ≡ nat_lt 0 n) }
     {

@@ -13,6 +13,8 @@ use wf_value::Refusal;
 const MAX_REQUESTS: u64 = 64;
 
 /// How a sender's bytes are read and answered: HTTP/1.1.
+/// Promise (Sessions): Bytes after a request change nothing
+/// By: `webhook_sessions::protocol::Hooks`, the laws `steady` and `one` of `act_sessions::Protocol`
 pub struct Hooks;
 
 impl Protocol for Hooks {

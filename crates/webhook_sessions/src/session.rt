@@ -15,6 +15,17 @@ impl Session {
     /// request is answered, or the input ends before or inside a request. If it runs out of memory outside a command, it answers 503 with
     /// `refused 50` and ends. A failed read or write is a fault with the ending `Broken` (61); its transcript lists each command that was
     /// submitted. RFC 9112; GitHub Docs, "Webhook events and payloads".
+    /// Promise (Sessions): HTTP: requests, paths, order of checks, statuses and bytes of answers are the definition's; at most 64 commands, and
+    ///   at most 73,728 bytes held
+    /// By: `webhook_sessions::Session::run`, `ok`, `err` (`hooks`, `HookReads`, `answer_text`, `fault_text`)
+    /// Refusal (Sessions and programs): an HTTP request, by `webhook_sessions::Session::run`
+    /// When: Exactly, with memory, in the order of FORMATS: 70, 71, 24, 74 before its body is read
+    /// Afterwards: nothing is asked, and the session ends
+    /// By: `ok` (`hooks`: `HookReads`, `fault_text`)
+    /// Refusal (Sessions and programs): an HTTP request, by `webhook_sessions::Session::run`
+    /// When: Exactly, with memory: 72, 73: no such path, another method; 10 to 23, 25, 26: the first fault of an event
+    /// Afterwards: nothing is asked
+    /// By: `ok` (`hooks`: `HookReads`, `fault_text`); `run_plan::prepare`, `gives`
     pub fn run<R: Read, W: Write, A: Answer>(
         alloc: Global,
         reader: &mut R,

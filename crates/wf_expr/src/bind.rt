@@ -115,6 +115,9 @@ fn bound_pieces<'a, C: Context, N: Needs>(
 impl Template {
     /// Looks up everything except the results of needs; the context is not asked for those. For any results, the bound template has
     /// the same text as the value of this template. Its only `Err` is 50 (out of memory).
+    /// Promise (Needs, matrices, templates and values): A bound template has, by any results of needs, the text of the template's value in the
+    ///   context with them. Comparing it needs no memory
+    /// By: `wf_expr::Template::bind`, `gives`, `text`; `wf_expr::BoundTemplate::{has_text, is_same_text, sets_flag}`
     pub fn bind<C: Context, N: Needs>(
         &self,
         alloc: Global,

@@ -41,6 +41,8 @@ impl Properties {
     }
 
     /// Sets the value of a path and replaces any earlier one. On `Err` every path keeps its value.
+    /// Promise (Needs, matrices, templates and values): Setting a path in a tree of names changes that path alone
+    /// By: `wf_expr::Properties::{insert, nest}`, `others`, `err`, `memory`; `wf_expr::Properties::{get, new}`; `wf_expr::Context::value_of`
     pub fn insert(&mut self, alloc: Global, path: &[Chars], value: Scalar) -> Result<(), Refusal>
         ensures value { OnOk result (value_at self.new path.now ≡ Some value) }
         ensures others { OnOk result (DifferAt path.now self.new self.old) }

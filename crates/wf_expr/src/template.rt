@@ -41,6 +41,13 @@ impl Model for Template {
 impl Template {
     /// Parses a text. The `Err` is 17 if the text is not a template, else 18 if the place does not allow the context of a
     /// reference, and 50 when out of memory.
+    /// Promise (Needs, matrices, templates and values): Parsing answers the grammar's outcome, in both directions: the template, 17 or 18; a
+    ///   text has one outcome
+    /// By: `wf_expr::Template::parse`, `ok`, `grammar`, `exact`; `wf_expr::template_of_is_the_grammars`; `wf_expr::spells_one_template`
+    /// Refusal (The layers below): `wf_expr`: `Template::parse`
+    /// When: 17, then 18: exactly, with memory. 50: else
+    /// Afterwards: nothing is made
+    /// By: `grammar`, `expression`, `place`, `errors`
     pub fn parse(alloc: Global, text: &str, place: ContextSite) -> Result<Template, Refusal>
         ensures exact { Gives (λ p. p) result (template_of text.now place) }
         ensures grammar { (outcome : Result (List Piece) Refusal) → IsOutcome text.now place outcome → Gives (λ p. p) result outcome }
@@ -52,6 +59,9 @@ impl Template {
         parsed(alloc, text, place)
     }
 
+    /// Promise (Needs, matrices, templates and values): Templates are seen as the list of their pieces; copies are the same list
+    /// By: `wf_expr::Template::pieces`; `wf_expr::BoundTemplate::{new, pieces}`; `wf_value::TryCopy::copy` of `wf_expr::{Template, BoundPiece,
+    ///   BoundTemplate}`
     pub fn pieces(&self) -> &[Piece]
         ensures { result.now ≡ self.now }
     {
@@ -59,6 +69,13 @@ impl Template {
     }
 
     /// The value of the template in the context. Its only `Err` is 50 (out of memory).
+    /// Promise (Needs, matrices, templates and values): The value of a template is the definition's; whether its text is a given one up to ASCII
+    ///   case, and whether it sets a flag, is answered memory or not
+    /// By: `wf_expr::Template::{eval, is_text_ignoring_ascii_case, sets_flag}`; `wf_expr::flag_is_set_by_the_text_true`
+    /// Refusal (The layers below): `wf_expr`: `Template::{eval, bind}`, `ScalarView::copy`; `Properties::{insert, nest}`
+    /// When: 50
+    /// Afterwards: each path has the value that it had
+    /// By: one clause each (`Gives`); `Properties::insert`, `err`, `memory`
     pub fn eval<C: Context>(&self, alloc: Global, context: &C) -> Result<Scalar, Refusal>
         ensures { Gives (λ s. s) result (Ok (template_value (C.values context.now) self.now)) }
     {

@@ -18,6 +18,13 @@ pub const MAX_BODY: usize = 65_536;
 
 /// Parses a body as JSON: 24 if it is longer than 65,536 bytes, 10 if it is not UTF-8 or not JSON. The length and the encoding are
 /// checked before any memory is taken.
+/// Promise (Bodies, plans and replies): JSON, an event or a workflow is read exactly where nothing is wrong with it, and otherwise refused with
+///   the first of all faults
+/// By: `wf_reader::{read_body, read_event, read_workflow}`, `gives`
+/// Refusal (The layers below): `wf_reader`: `read_body`, `read_event`, `read_workflow`; `run_plan`: `prepare`
+/// When: 24, 10 (no UTF-8): exactly. 10 (of `read_body`), 10 to 26 (of `prepare` with 13, 14, 21, 22): the first fault, exactly, with memory. 50
+/// Afterwards: nothing is made
+/// By: `too_long`, `no_text`, `gives`
 pub fn read_body(alloc: Global, bytes: &[u8]) -> Result<Value, Refusal>
     ensures gives { Gives view result
         (unless_faulty (body_faults (λ _. []) bytes.now) (body_value bytes.now)) }

@@ -104,6 +104,9 @@ pub fn read_condition(job: &Value) -> Result<Condition, Refusal>
 
 /// The text of an `if` is a condition if and only if it is one of the words, bare or in braces, with optional spaces around the
 /// word and around the braces. The condition is that of the word.
+/// Promise (Bodies, plans and replies): An `if` is a condition exactly where its text is one of the seven words, bare or in braces, with spaces
+///   (U+0020) around word and braces
+/// By: `wf_reader::conditions_are_their_encodings`
 pub fn conditions_are_their_encodings()
     ensures { (text : List ℕ) (condition : Condition) →
         EncodesCondition text condition ↔ (condition_in (string text) ≡ Some condition) }

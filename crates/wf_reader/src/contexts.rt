@@ -13,6 +13,8 @@ use wf_value::Chars;
 
 /// The contexts `github`, `inputs` and `vars` that the sender of an event supplies, as the JSON objects of its body. In contracts
 /// it is the record of these. GitHub Docs, "Contexts reference".
+/// Promise (Bodies, plans and replies): The sender's context gives a path the value to which its names lead in the body
+/// By: `wf_reader::Contexts` as a `wf_expr::Context` (`sent_value`)
 #[derive(Drop)]
 pub struct Contexts {
     github: Option<Value>,

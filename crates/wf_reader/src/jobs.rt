@@ -5,6 +5,8 @@ use crate::job::Job;
 use std::marker::Model;
 
 /// The jobs of a workflow, strictly increasing in byte order of their ids. In contracts it is the list of them.
+/// Promise (Bodies, plans and replies): The ids of a workflow's jobs rise
+/// By: `wf_reader::Jobs` (its invariant); `wf_reader::Jobs::as_slice`, `rising`; `wf_reader::Jobs::into_vec`, `rising`
 #[derive(Drop)]
 pub struct Jobs {
     jobs: Vec<Job>,

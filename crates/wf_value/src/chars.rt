@@ -9,6 +9,8 @@ use std::alloc::Global;
 use std::marker::Model;
 
 /// A text. In contracts it is the list of its UTF-8 bytes.
+/// Promise (Needs, matrices, templates and values): Texts, lists, combinations and matrices give back what they were made of
+/// By: `wf_value::{Chars, Sequence, Combo, Variable, Matrix}`
 #[derive(Drop)]
 pub struct Chars {
     text: String,

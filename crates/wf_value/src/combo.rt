@@ -67,6 +67,9 @@ impl Combo {
     }
 
     /// The pairs, in byte order of their names.
+    /// Promise (Needs, matrices, templates and values): The names in combinations and matrices rise, and the tests for that are exact
+    /// By: `wf_value::Combo::as_slice`, `in_order`; `wf_value::Matrix::variables`, `in_order`; `wf_value::Combo::names_rise`;
+    ///   `wf_value::Matrix::names_rise`; `needs_graph::ids_rise`; `stored_tables::do_names_rise`
     pub fn as_slice(&self) -> &[(Chars, Scalar)]
         ensures pairs { result.now ≡ self.now }
         ensures in_order { IsTrue (names_rise self.now) }

@@ -30,6 +30,10 @@ impl Scalar {
     ghost use Rattle.wf_value.specs.ScalarValue.{is_truthy, scalar_text};
 
     /// Whether the value is truthy: `false`, `0`, the empty text and null are not.
+    /// Promise (Needs, matrices, templates and values): Truth and text of scalars, words of results, numbers and texts of refusals are the
+    ///   definition's
+    /// By: `wf_value::Scalar::truthy`; `wf_value::Scalar::text`, `gives`, `answers`; `wf_value::Outcome::word`; `wf_value::JobResult::word`;
+    ///   `wf_value::Refusal::{number, text}`; `wf_value::Code::number`
     pub fn truthy(&self) -> bool
         ensures { result ≡ is_truthy self.now }
     {

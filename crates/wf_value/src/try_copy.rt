@@ -7,6 +7,14 @@ use std::alloc::Global;
 /// Copying that may run out of memory.
 pub trait TryCopy {
     /// A copy. In contracts it is equal to the value itself.
+    /// Promise (Needs, matrices, templates and values): A copy is equal to the original, and a comparison is exact. What needs no memory is
+    ///   copied memory or not
+    /// By: `wf_value::TryCopy::copy`; `wf_value::copy_items`, `answers`; `wf_value::Same::same`; `wf_value::same_items`
+    /// Refusal (The layers below): `wf_value`: `TryCopy::copy` of any type, `copy_items`, `Chars::from_str`, `Scalar::text`, `Refusal::text`,
+    ///   `Combo::push_copy`
+    /// When: 50, never if no memory is needed
+    /// Afterwards: as it was
+    /// By: one clause each (`Gives`); `answers`; `Combo::push_copy`, `err`
     fn copy(&self, alloc: Global) -> Result<Self, Refusal>
         ensures { Gives (λ c. c) result (Ok self.now) };
 }

@@ -129,6 +129,10 @@ fn found_in_text(alloc: Global, bytes: &[u8]) -> Result<Vec<Finding>, AllocError
 /// `read_workflow` and `check_plan` accept the workflow; otherwise its first finding is their refusal. The only `Err` is 50 (out of
 /// memory).
 /// GitHub Docs, "Workflow syntax for GitHub Actions"; RFC 8259.
+/// Refusal (The layers below): `workflow_lint`: `lint`, `finding_line`; `table_views`: `run_line`, `runners_text`, `queue_text`
+/// When: 50; of `finding_line` `std::alloc::AllocError`
+/// Afterwards: nothing is made
+/// By: one clause each (`Gives`, but of `finding_line`)
 pub fn lint(alloc: Global, bytes: &[u8]) -> Result<Vec<Finding>, Refusal>
     ensures { Gives (λ found. found.items) result (Ok (found_in bytes.now)) }
 {
@@ -142,6 +146,9 @@ pub fn lint(alloc: Global, bytes: &[u8]) -> Result<Vec<Finding>, Refusal>
 
 /// The faults found in a text are those of `wf_reader`, in the same order. The first of all findings is the refusal of the reader
 /// or of the plan.
+/// Promise (The program): The faults of `acts lint` are those of its reader, in the same order. The first is the one that `acts check` refuses
+///   with, so there is none exactly where nothing is refused
+/// By: `workflow_lint::lint_finds_the_faults`, `text`, `first`
 pub fn lint_finds_the_faults()
     ensures text { (bytes : List ℕ) → refusals (found_in_text bytes) ≡ workflow_faults bytes }
     ensures first { (bytes : List ℕ) → first_of (refusals (found_in bytes))

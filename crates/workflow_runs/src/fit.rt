@@ -88,6 +88,8 @@ fn fit_in_run(labels: &[Label], runs: &Runs, r: usize, run: &Run) -> Option<LegS
 
 /// The first ready leg such that `labels` has all labels that it asks for and one more leg of its job may run. Takes no memory. `tries` counts
 /// the runs that are looked at.
+/// Promise (Runs, and how they are found): The leg that a claim gets is the first that fits
+/// By: `workflow_runs::fit::{first_fit, site_of_lease, is_stopping, outcome_of_loss}`
 pub(crate) fn first_fit(labels: &[Label], runs: &Runs, tries: &mut u64) -> Option<LegSite>
     ensures found { result ≡ first_fit labels.now runs.now }
     ensures run { IfSome result (λ p. p.run < max_runs) }

@@ -16,6 +16,10 @@ use wf_value::Refusal;
 
 impl Run {
     /// The run of these parts, if it has the jobs of its plan and each of them has none of its legs or all. Otherwise `None`.
+    /// Refusal (The layers below): `run_states`: `Run::of_parts`; `workflow_runs`: `Runs::of_parts`; `stored_tables`: `TableParts::table`
+    /// When: `None`: exactly, with memory, if nothing has these parts. 50
+    /// Afterwards: nothing is made
+    /// By: `of`, `err`
     pub fn of_parts(alloc: Global, parts: &RunParts) -> Result<Option<Self>, Refusal>
         ensures err { ErrsOnlyByMemory result }
         ensures of { IfOk result (λ found. MatchOption found (IsAsPlanned (plan_of parts.now.admitted.body) parts.now.jobs → ⊥)

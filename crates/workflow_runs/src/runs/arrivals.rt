@@ -33,6 +33,13 @@ use wf_value::{Outcome, Refusal};
 impl Runs {
     /// Adds a run at the end, which waits and arrives in its group. Returns where settling begins to search. On an `Err` nothing has
     /// changed.
+    /// Promise (Runs, and how they are found): The runs of a table, their numbers and deliveries, and what an end, a stop, an arrival and a
+    ///   re-run change, are the definition's
+    /// By: `workflow_runs::Runs::{admit, position, number, result, stop, end, lease, rerun, running, pending, of_parts}`
+    /// Refusal (The layers below): `workflow_runs`: `Runs::{admit, rerun, job_id, combo, group}`; `run_table`: `kept_lease`; all copies
+    /// When: 50
+    /// Afterwards: as it was; lists of labels only grow
+    /// By: one clause each (`Gives`); `Runs::{admit, rerun}`, `err`
     pub fn admit(&mut self, alloc: Global, run: Run) -> Result<JobSite, Refusal>
         requires few { length self.old < max_runs }
         requires waits { run_waits run.phase ≡ true }

@@ -30,6 +30,8 @@ impl Runs {
     }
 
     /// Settles. The search for rules begins at `start`, and no rule applies before it.
+    /// Promise (Runs, and how they are found): Settling goes to a fixpoint, without memory
+    /// By: `workflow_runs::Runs::{settle_from, settle}`
     pub fn settle_from(&mut self, start: JobSite)
         requires sound { RunsAreSound self.old }
         requires rest { RestBefore self.old start }
