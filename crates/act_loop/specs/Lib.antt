@@ -7,4 +7,5 @@ pub mod Looking
 pub mod Service
 pub mod Slots
 pub mod inner
+
 -- A service of many clients over one store, in one thread.

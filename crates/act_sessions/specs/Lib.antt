@@ -5,4 +5,5 @@ pub mod Rules
 pub mod Session
 pub mod Taking
 pub mod inner
+
 -- What a session submits, and how bytes encode requests.

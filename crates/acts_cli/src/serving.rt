@@ -8,7 +8,7 @@ use acts_rounds::serve_rounds;
 use acts_serve::{Board, Limits, Ports, ViewPort, serve_forever};
 use command_words::{Serving, Span, VERSION};
 use local_commands::{Failure, ended, output};
-use process_io::{ResourceFault, HeldStreams, RealDisk, file_in, listener};
+use process_io::{HeldStreams, RealDisk, ResourceFault, file_in, listener};
 use std::alloc::Global;
 use std::fs::{File, Files};
 use std::io::{ErrorKind, Write};

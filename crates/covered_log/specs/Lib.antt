@@ -2,4 +2,5 @@ pub mod KeptState
 pub mod Lines
 pub mod LogState
 pub mod inner
+
 -- The changes of a service, and their lines.

@@ -1,7 +1,7 @@
 //! The standard streams of the commands.
 
 use crate::failure::Failure;
-use process_io::{ResourceFault, Noted};
+use process_io::{Noted, ResourceFault};
 use std::io;
 use std::io::{BufWriter, Printer};
 

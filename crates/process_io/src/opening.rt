@@ -86,7 +86,10 @@ impl HeldStreams {
         ensures reads { (calls : List FileCall) → IsReadFrom B.Start.held calls → IsHonest B.Start.held calls }
     {
         let opened = OpenOptions::new().read(true).open(rt, path);
-        disk_over(opened.map_err(|error| ResourceFault::File(path, error))?, path)
+        disk_over(
+            opened.map_err(|error| ResourceFault::File(path, error))?,
+            path,
+        )
     }
 }
 

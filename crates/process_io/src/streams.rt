@@ -26,7 +26,9 @@ impl HeldStreams {
     /// By: none; `sweeps/closed_streams`, `sweeps/one_server`
     pub fn hold<'a, R: Files<File = File>>(rt: &R) -> Result<Self, ResourceFault<'a>> {
         for _ in 0..=libc::STDERR_FILENO {
-            let file = File::open(rt, NOTHING).map_err(|error| ResourceFault::File(NOTHING, error))?;
+            let file = File::open(rt, NOTHING).map_err(|error| ResourceFault::File(
+                NOTHING, error,
+            ))?;
             let number = file.as_raw_fd();
             if number > libc::STDERR_FILENO {
                 return Ok(HeldStreams(()));

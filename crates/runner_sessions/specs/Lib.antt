@@ -1,3 +1,4 @@
 pub mod Line
 pub mod inner
+
 -- Sessions of runner lines.

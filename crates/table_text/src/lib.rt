@@ -16,7 +16,9 @@ mod table_at;
 mod table_lengths;
 mod write;
 
-pub use command_encodings::{command_length, extend_batch, read_batch, read_command, write_batch, write_command};
+pub use command_encodings::{
+    command_length, extend_batch, read_batch, read_command, write_batch, write_command,
+};
 pub use first::{is_in_first_layout, read_first_batch, read_first_table};
 pub use read::{read_parts, read_table};
 pub use table_lengths::table_length;

@@ -94,12 +94,7 @@ fn ready_line(alloc: Global, form: Form, runs: &Runs, place: LegSite) -> Result<
 }
 
 /// A line for each ready leg. `places` has the places of all legs.
-fn ready_text(
-    alloc: Global,
-    form: Form,
-    runs: &Runs,
-    places: &[LegSite],
-) -> Result<String, Refusal>
+fn ready_text(alloc: Global, form: Form, runs: &Runs, places: &[LegSite]) -> Result<String, Refusal>
     requires all { places.now ≡ leg_sites runs.now }
     requires within { All IsWithin places.now }
     ensures { Gives string_bytes result (Ok (ready_lines form runs.now)) }

@@ -148,11 +148,7 @@ const COMPARED: &[(&str, &str, bool)] = &[
     ("${{ inputs.no }}", "FALSE", true),
     ("v${{ inputs.least }}", "V-9223372036854775808", true),
     ("${{ inputs.a-b_C9 }}.", "7.", true),
-    (
-        "${{ github.workflow }}-${{ 'A' }}",
-        "CI.json-a",
-        true,
-    ),
+    ("${{ github.workflow }}-${{ 'A' }}", "CI.json-a", true),
     ("é", "É", false),
 ];
 

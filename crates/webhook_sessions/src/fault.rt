@@ -1,4 +1,3 @@
-
 use http::{Method, StatusCode};
 use std::alloc::Global;
 use wf_value::{Code, Refusal};
