@@ -74,7 +74,7 @@ fn take_round<P: Protocol, D: Disk>(
         → Goes P.rules number n bytes begin (record { store = store.old; exchanges = exchanges.old; out = out.old.items }) count held.old
         → EndsRound P.rules number n most bytes begin (record { store = store.new; exchanges = exchanges.new; out = out.new.items }) count held.new result }
 {
-    match held.next_request(alloc) {
+    match held.next_request(alloc, store.table().last_event()) {
         Err(_) => Some(Pause::Memory),
         Ok(None) => Some(Pause::Waits),
         Ok(Some(request)) => {

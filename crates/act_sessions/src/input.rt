@@ -48,7 +48,7 @@ pub fn await_request<P: Protocol, R: Read>(
     ensures { Awaits P.rules (R.remaining reader.old) (R.remaining reader.new) held.old held.new result }
 {
     'pieces: loop {
-        if let Some(request) = held.next_request(alloc)? {
+        if let Some(request) = held.next_request(alloc, None)? {
             return Ok(Some(request));
         }
         if !read_more(reader, held, P::limit())? {

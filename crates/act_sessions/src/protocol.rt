@@ -6,7 +6,7 @@ ghost use Rattle.act_sessions.specs.inner.Progress.{nothing_read};
 ghost use Rattle.act_sessions.specs.Rules.{IsNext, IsOne, IsSteady, Rules};
 
 use crate::request::{Next, Progress};
-use run_plan::Reply;
+use run_plan::{Prepared, Reply};
 use std::alloc::Global;
 use wf_value::Refusal;
 
@@ -35,8 +35,14 @@ pub trait Protocol {
     fn limit() -> usize
         ensures { result ≡ rules.limit };
 
-    /// What the bytes begin with, if they were read so far before. If they wait, it says how far they were read now.
-    fn next(alloc: Global, bytes: &[u8], progress: Progress) -> Result<Next<Self::Fault>, Refusal>
+    /// What the bytes begin with, if they were read so far before. If they wait, it says how far they were read now. An event with the
+    /// bytes of the one that is known need not be read again; what it is doesn't depend on that.
+    fn next(
+        alloc: Global,
+        known: Option<&Prepared>,
+        bytes: &[u8],
+        progress: Progress,
+    ) -> Result<Next<Self::Fault>, Refusal>
         requires { known bytes.now progress }
         ensures found { IsNext rules bytes.now result }
         ensures kept { Keeps (known bytes.now) result };

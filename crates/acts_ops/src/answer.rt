@@ -7,6 +7,7 @@ ghost use Rattle.acts_ops.specs.Play.{IsAnswer, IsOfCommand};
 use crate::line::command_of;
 use act_disk::Disk;
 use act_store::{Played, Step, Store, take};
+use run_plan::Prepared;
 use std::alloc::Global;
 use wf_value::Refusal;
 
@@ -19,7 +20,7 @@ pub struct Answer {
 
 /// The step of a line: `commit`, `begin`, `slice`, `finish`, or else the apply of its command. Only in the last case can
 /// it be refused or take memory.
-fn step_of(alloc: Global, line: &[u8]) -> Result<Step, Refusal>
+fn step_of(alloc: Global, known: Option<&Prepared>, line: &[u8]) -> Result<Step, Refusal>
     ensures step { Gives (λ s. s) result (step_of line.now) }
     ensures refused { IfErr result (λ e. IsOfCommand (step_of line.now)) }
 {
@@ -32,7 +33,7 @@ fn step_of(alloc: Global, line: &[u8]) -> Result<Step, Refusal>
     } else if line == b"finish".as_slice() {
         Ok(Step::Finish)
     } else {
-        Ok(Step::Apply(command_of(alloc, line)?))
+        Ok(Step::Apply(command_of(alloc, known, line)?))
     }
 }
 
@@ -71,7 +72,7 @@ pub fn answer_to<D: Disk>(alloc: Global, store: &mut Store<D>, line: &[u8]) -> A
     ensures { IsAnswer (without_disk store.old) (D.fault_count store.old.disk) line.now (played_text result.word.now result.played)
         (without_disk store.new) (D.fault_count store.new.disk) }
 {
-    match step_of(alloc, line) {
+    match step_of(alloc, store.table().last_event(), line) {
         Ok(step) => Answer {
             word: counted_as(&step),
             played: take(alloc, store, step),

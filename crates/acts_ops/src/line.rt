@@ -5,15 +5,20 @@ use command_lines::{
     admit_of, at_space, beat_of, cancel_of, claim_of, done_of, fetch_of, look_of, lost_of,
     rerun_of, spelled,
 };
-use run_plan::Command;
+use run_plan::{Command, Prepared};
 use std::alloc::Global;
 use wf_value::Refusal;
 
-fn command_by(alloc: Global, word: &[u8], fields: &[u8]) -> Result<Command, Refusal>
+fn command_by(
+    alloc: Global,
+    known: Option<&Prepared>,
+    word: &[u8],
+    fields: &[u8],
+) -> Result<Command, Refusal>
     ensures { Gives (λ c. c) result (command_by word.now fields.now) }
 {
     if word == b"admit".as_slice() {
-        admit_of(alloc, fields)
+        admit_of(alloc, known, fields)
     } else if word == b"claim".as_slice() {
         claim_of(alloc, fields)
     } else if word == b"done".as_slice() {
@@ -42,9 +47,13 @@ fn command_by(alloc: Global, word: &[u8], fields: &[u8]) -> Result<Command, Refu
 /// Promise (The program): A line is the command of its word and fields, or is refused 75, or with its body's first fault. A refused line leaves
 ///   the store as it is; every other line is one step of it
 /// By: `acts_ops::line::command_of`; `acts_ops::answer::answer_to` (`IsAnswer`)
-pub fn command_of(alloc: Global, line: &[u8]) -> Result<Command, Refusal>
+pub fn command_of(
+    alloc: Global,
+    known: Option<&Prepared>,
+    line: &[u8],
+) -> Result<Command, Refusal>
     ensures { Gives (λ c. c) result (command_of line.now) }
 {
     let (word, fields) = spelled(at_space(line))?;
-    command_by(alloc, word, fields)
+    command_by(alloc, known, word, fields)
 }

@@ -35,7 +35,7 @@ pub use last_command::{ClaimReply, KeptLease, LastCommand};
 pub use number::{LAST_NUMBER, Number};
 pub use planned::{Plan, PlannedJob, PlannedLeg};
 pub use planning::plan;
-pub use prepared::{Prepared, prepare};
+pub use prepared::{Prepared, prepare, prepare_beside};
 pub use reply::{Lease, Reply};
 pub use shared_body::SharedBody;
 pub use small_text::{DeliveryId, EventName, Label, MAX_TEXT_BYTES, RunnerName, SmallText};

@@ -18,21 +18,27 @@ use std::sync::Arc;
 use wf_reader::{Concurrency, Contexts};
 use wf_value::{Chars, Refusal, Same};
 
-/// What an event has alone: its bytes, and the contexts in them.
+/// What an event has alone.
 #[derive(Drop)]
 struct Admission {
     delivery: DeliveryId,
     event: EventName,
-    body: Vec<u8>,
+}
+
+/// The bytes of an event, and the contexts in them.
+#[derive(Drop)]
+struct AdmittedBody {
+    bytes: Vec<u8>,
     contexts: Contexts,
 }
 
 /// An event that is ready for admission. Its value does not change, and all shares refer to one copy in memory; events of the same
-/// workflow may refer to one copy of it too. In contracts it is the delivery, the event's name and the bytes, since everything else
-/// follows from them.
+/// bytes may refer to one copy of these, and events of the same workflow to one copy of it. In contracts it is the delivery, the
+/// event's name and the bytes, since everything else follows from them.
 #[derive(Drop)]
 pub struct Prepared {
     admission: Arc<Admission>,
+    body: Arc<AdmittedBody>,
     workflow: Arc<PlannedWorkflow>,
 }
 
@@ -49,11 +55,11 @@ impl Model for Prepared {
     ghost coded = { coded_admitted };
 
     ghost view = { λ p. let a = arc_value p.admission in
-        record { delivery = a.delivery; event = a.event; body = a.body.items } };
+        record { delivery = a.delivery; event = a.event; body = (arc_value p.body).bytes.items } };
 
-    ghost invariant = { λ p. let a = arc_value p.admission in
-        (faults_of a.body.items ≡ []) × (a.contexts ≡ (event_of a.body.items).contexts)
-        × IsPlanned (arc_value p.workflow) (event_of a.body.items) };
+    ghost invariant = { λ p. let b = arc_value p.body in
+        (faults_of b.bytes.items ≡ []) × (b.contexts ≡ (event_of b.bytes.items).contexts)
+        × IsPlanned (arc_value p.workflow) (event_of b.bytes.items) };
 }
 
 impl Prepared {
@@ -77,7 +83,7 @@ impl Prepared {
         ensures bytes { result.now ≡ self.now.body }
         ensures faultless { faults_of self.now.body ≡ [] }
     {
-        self.admission.body.as_slice()
+        self.body.bytes.as_slice()
     }
 
     /// The admitted bytes as text.
@@ -106,7 +112,7 @@ impl Prepared {
     pub fn contexts(&self) -> &Contexts
         ensures { result.now ≡ (event_of self.now.body).contexts }
     {
-        &self.admission.contexts
+        &self.body.contexts
     }
 
     /// The `name` of the workflow, or the empty text if it is missing.
@@ -139,6 +145,24 @@ impl Prepared {
     {
         Ok(Prepared {
             admission: Arc::try_clone(&self.admission)?,
+            body: Arc::try_clone(&self.body)?,
+            workflow: Arc::try_clone(&self.workflow)?,
+        })
+    }
+
+    /// Another event with the same bytes, which refers to the copies that this one refers to.
+    fn delivered_as(
+        &self,
+        alloc: Global,
+        event: EventName,
+        delivery: DeliveryId,
+    ) -> Result<Self, Refusal>
+        ensures { Gives (λ p. p) result (Ok (record { delivery = delivery; event = event; body = self.now.body })) }
+    {
+        let admission = Arc::new(alloc, Admission { delivery, event })?;
+        Ok(Prepared {
+            admission,
+            body: Arc::try_clone(&self.body)?,
             workflow: Arc::try_clone(&self.workflow)?,
         })
     }
@@ -147,7 +171,7 @@ impl Prepared {
     pub fn share_workflow(&mut self, other: &Prepared)
         ensures { self.new ≡ self.old }
     {
-        if !self.workflow.same(&other.workflow) {
+        if self.body() != other.body() && !self.workflow.same(&other.workflow) {
             return;
         }
         if let Ok(workflow) = Arc::try_clone(&other.workflow) {
@@ -184,15 +208,32 @@ pub fn prepare(
 {
     let (contexts, planned) = contexts_and_workflow(alloc, body.as_slice())?;
     let workflow = Arc::new(alloc, planned)?;
-    let alone = Admission {
-        delivery,
-        event,
-        body,
+    let read = AdmittedBody {
+        bytes: body,
         contexts,
     };
-    let admission = Arc::new(alloc, alone)?;
+    let body = Arc::new(alloc, read)?;
+    let admission = Arc::new(alloc, Admission { delivery, event })?;
     Ok(Prepared {
         admission,
+        body,
         workflow,
     })
+}
+
+/// As `prepare`. If the bytes are those of an event that is known, they are neither read again nor copied.
+pub fn prepare_beside(
+    alloc: Global,
+    known: Option<&Prepared>,
+    event: EventName,
+    delivery: DeliveryId,
+    body: &[u8],
+) -> Result<Prepared, Refusal>
+    ensures { Gives (λ p. p) result
+        (unless_faulty (faults_of body.now) (record { delivery = delivery; event = event; body = body.now })) }
+{
+    match known {
+        Some(known) if known.body() == body => known.delivered_as(alloc, event, delivery),
+        _ => prepare(alloc, event, delivery, body.to_vec(alloc)?),
+    }
 }

@@ -11,7 +11,7 @@ use crate::runner::Runner;
 use crate::runners::Runners;
 use crate::table_data::TableData;
 use crate::view::RunView;
-use run_plan::{Command, Number, Reply};
+use run_plan::{Command, Number, Prepared, Reply};
 use run_states::Run;
 use std::alloc::Global;
 use std::marker::Model;
@@ -126,6 +126,13 @@ impl Table {
         ensures { self.new ≡ self.old }
     {
         self.table_data.runs.take_tries()
+    }
+
+    /// The event of the last run, if there is a run. It takes no memory.
+    pub fn last_event(&self) -> Option<&Prepared>
+        ensures { option_copied result ≡ option_map (λ run. run.prepared) (last self.now.runs) }
+    {
+        self.table_data.last_event()
     }
 
     /// The command. If it admits an event of the last run's workflow, the event then refers to that run's copy of the workflow. Only

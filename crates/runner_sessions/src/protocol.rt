@@ -5,7 +5,7 @@ ghost use Rattle.runner_sessions.specs.Line.{response_text};
 
 use crate::line::{MAX_LINE, next_line};
 use act_sessions::{Next, Progress, Protocol};
-use run_plan::Reply;
+use run_plan::{Prepared, Reply};
 use std::alloc::Global;
 use wf_value::{Chars, Refusal};
 
@@ -55,7 +55,12 @@ impl Protocol for RunnerLines {
         MAX_LINE
     }
 
-    fn next(alloc: Global, bytes: &[u8], progress: Progress) -> Result<Next<Refusal>, Refusal> {
+    fn next(
+        alloc: Global,
+        _known: Option<&Prepared>,
+        bytes: &[u8],
+        progress: Progress,
+    ) -> Result<Next<Refusal>, Refusal> {
         next_line(alloc, bytes, progress)
     }
 

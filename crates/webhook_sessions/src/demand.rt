@@ -9,7 +9,7 @@ use crate::fields::Fields;
 use crate::head::Head;
 use crate::path::Path;
 use act_sessions::Demand;
-use run_plan::{Command, DeliveryId, EventName, SmallText, prepare};
+use run_plan::{Command, DeliveryId, EventName, Prepared, SmallText, prepare_beside};
 use std::alloc::Global;
 use wf_value::{Code, Refusal};
 
@@ -22,13 +22,14 @@ fn is_want_of_memory(refusal: &Refusal) -> bool
 /// The admission of an event, or the first fault of its body.
 fn prepared(
     alloc: Global,
+    known: Option<&Prepared>,
     delivery: DeliveryId,
     event: EventName,
-    body: Vec<u8>,
+    body: &[u8],
 ) -> Result<Demand<Fault>, Refusal>
-    ensures { Gives (λ d. d) result (Ok (prepared (record { delivery = delivery; event = event; body = body.items }))) }
+    ensures { Gives (λ d. d) result (Ok (prepared (record { delivery = delivery; event = event; body = body.now }))) }
 {
-    match prepare(alloc, event, delivery, body) {
+    match prepare_beside(alloc, known, event, delivery, body) {
         Ok(admitted) => Ok(Demand::Command(Command::Admit(admitted))),
         Err(refusal) if is_want_of_memory(&refusal) => Err(refusal),
         Err(refusal) => Ok(Demand::Fault(Fault::Unprocessable(refusal))),
@@ -36,14 +37,19 @@ fn prepared(
 }
 
 /// What a posted event demands.
-fn admission(alloc: Global, fields: &Fields<'_>, body: &[u8]) -> Result<Demand<Fault>, Refusal>
+fn admission(
+    alloc: Global,
+    known: Option<&Prepared>,
+    fields: &Fields<'_>,
+    body: &[u8],
+) -> Result<Demand<Fault>, Refusal>
     ensures { Gives (λ d. d) result (Ok (admission (event_headers fields.now) body.now)) }
 {
     match event_headers(fields) {
         Ok(headers) => {
             let delivery = SmallText::copy_of(alloc, headers.delivery)?;
             let event = SmallText::copy_of(alloc, headers.event)?;
-            prepared(alloc, delivery, event, body.to_vec(alloc)?)
+            prepared(alloc, known, delivery, event, body)
         }
         Err(fault) => Ok(Demand::Fault(fault)),
     }
@@ -52,6 +58,7 @@ fn admission(alloc: Global, fields: &Fields<'_>, body: &[u8]) -> Result<Demand<F
 /// What a path demands by its method.
 fn command_at(
     alloc: Global,
+    known: Option<&Prepared>,
     path: Path,
     fields: &Fields<'_>,
     body: &[u8],
@@ -59,7 +66,7 @@ fn command_at(
     ensures { Gives (λ d. d) result (Ok (command_at path fields.now body.now)) }
 {
     match path {
-        Path::Events => admission(alloc, fields, body),
+        Path::Events => admission(alloc, known, fields, body),
         Path::Run(run) => Ok(Demand::Command(Command::Look(run))),
         Path::Body(run) => Ok(Demand::Command(Command::Fetch(run))),
         Path::Cancel(run) => Ok(Demand::Command(Command::Cancel(run))),
@@ -68,8 +75,13 @@ fn command_at(
     }
 }
 
-/// What a request demands, by its head and its body.
-pub fn demand_of(alloc: Global, head: &Head<'_>, body: &[u8]) -> Result<Demand<Fault>, Refusal>
+/// What a request demands, by its head and its body. An event with the bytes of the one that is known is not read again.
+pub fn demand_of(
+    alloc: Global,
+    known: Option<&Prepared>,
+    head: &Head<'_>,
+    body: &[u8],
+) -> Result<Demand<Fault>, Refusal>
     ensures { Gives (λ d. d) result (Ok (demand_of head.now body.now)) }
 {
     let Some(path) = Path::of(alloc, head.target())? else {
@@ -79,5 +91,5 @@ pub fn demand_of(alloc: Global, head: &Head<'_>, body: &[u8]) -> Result<Demand<F
     if head.method() != method.as_str().as_bytes() {
         return Ok(Demand::Fault(Fault::WrongMethod(method)));
     }
-    command_at(alloc, path, head.fields(), body)
+    command_at(alloc, known, path, head.fields(), body)
 }

@@ -4,7 +4,7 @@ use crate::answers::{answer_text, fault_text, out_of_memory_text};
 use crate::fault::Fault;
 use crate::request::{MAX_HEAD, next_request};
 use act_sessions::{Next, Progress, Protocol};
-use run_plan::Reply;
+use run_plan::{Prepared, Reply};
 use std::alloc::Global;
 use wf_reader::MAX_BODY;
 use wf_value::Refusal;
@@ -36,8 +36,13 @@ impl Protocol for Hooks {
         MAX_HEAD + MAX_BODY
     }
 
-    fn next(alloc: Global, bytes: &[u8], progress: Progress) -> Result<Next<Fault>, Refusal> {
-        next_request(alloc, bytes, progress)
+    fn next(
+        alloc: Global,
+        known: Option<&Prepared>,
+        bytes: &[u8],
+        progress: Progress,
+    ) -> Result<Next<Fault>, Refusal> {
+        next_request(alloc, known, bytes, progress)
     }
 
     fn answer_text(

@@ -13,6 +13,7 @@ use crate::head_lines::{MAX_FIELDS, is_unfinished, read_first, read_on};
 use act_sessions::{Demand, FoundRequest, Next, Progress, Request};
 use httparse::Status;
 use httparse::spans::{EMPTY_HEADER_SPAN, parse_request};
+use run_plan::Prepared;
 use std::alloc::Global;
 use wf_value::Refusal;
 
@@ -35,6 +36,7 @@ fn unread(fault: Fault, length: usize) -> FoundRequest<Fault>
 /// The request of a head and the bytes after it. While its body is incomplete, it waits for all of it.
 fn request_after(
     alloc: Global,
+    known: Option<&Prepared>,
     head: &Head<'_>,
     head_length: usize,
     after: &[u8],
@@ -45,7 +47,7 @@ fn request_after(
     match head.body_length() {
         Err(fault) => Ok(Next::Whole(unread(fault, head_length))),
         Ok(size) if size <= after.len() => {
-            let demand = demand_of(alloc, head, &after[..size])?;
+            let demand = demand_of(alloc, known, head, &after[..size])?;
             Ok(Next::Whole(FoundRequest {
                 request: Request {
                     demand,
@@ -72,7 +74,11 @@ fn waits_for_a_byte(bytes: &[u8], progress: Progress) -> Next<Fault>
 }
 
 /// What the bytes begin with, from their start.
-fn read_request(alloc: Global, bytes: &[u8]) -> Result<Next<Fault>, Refusal>
+fn read_request(
+    alloc: Global,
+    known: Option<&Prepared>,
+    bytes: &[u8],
+) -> Result<Next<Fault>, Refusal>
     ensures found { IsNext hooks bytes.now result }
     ensures kept { Keeps (HeadKnown bytes.now) result }
 {
@@ -81,7 +87,7 @@ fn read_request(alloc: Global, bytes: &[u8]) -> Result<Next<Fault>, Refusal>
     match parse_request(prefix, &mut spans) {
         Ok(Status::Complete(found)) => {
             let head = Head::new(prefix, &found, &spans[..found.headers]);
-            request_after(alloc, &head, found.len, &bytes[found.len..])
+            request_after(alloc, known, &head, found.len, &bytes[found.len..])
         }
         Ok(Status::Partial) if bytes.len() < MAX_HEAD => {
             Ok(waits_for_a_byte(bytes, read_first(bytes)))
@@ -93,7 +99,12 @@ fn read_request(alloc: Global, bytes: &[u8]) -> Result<Next<Fault>, Refusal>
 
 /// What the bytes begin with. An incomplete head is looked at with each byte that comes, but only at its last line; an incomplete body is
 /// looked at once it is whole.
-pub fn next_request(alloc: Global, bytes: &[u8], progress: Progress) -> Result<Next<Fault>, Refusal>
+pub fn next_request(
+    alloc: Global,
+    known: Option<&Prepared>,
+    bytes: &[u8],
+    progress: Progress,
+) -> Result<Next<Fault>, Refusal>
     requires { HeadKnown bytes.now progress }
     ensures found { IsNext hooks bytes.now result }
     ensures kept { Keeps (HeadKnown bytes.now) result }
@@ -101,5 +112,5 @@ pub fn next_request(alloc: Global, bytes: &[u8], progress: Progress) -> Result<N
     if bytes.len() < MAX_HEAD && is_unfinished(bytes, progress) {
         return Ok(waits_for_a_byte(bytes, read_on(bytes, progress)));
     }
-    read_request(alloc, bytes)
+    read_request(alloc, known, bytes)
 }

@@ -28,13 +28,23 @@ impl TableData {
         self.enter(alloc, prepared)
     }
 
+    /// The event of the last run, if there is a run.
+    pub(crate) fn last_event(&self) -> Option<&Prepared>
+        ensures { option_copied result ≡ option_map (λ run. run.prepared) (last self.now.runs) }
+    {
+        match self.runs.as_slice().last() {
+            Some(run) => Some(run.prepared()),
+            None => None,
+        }
+    }
+
     /// The event, which refers to the last run's copy of its workflow if they have the same workflow.
     pub(crate) fn sharing(&self, prepared: Prepared) -> Prepared
         ensures { result ≡ prepared }
     {
         let mut prepared = prepared;
-        if let Some(run) = self.runs.as_slice().last() {
-            prepared.share_workflow(run.prepared());
+        if let Some(last) = self.last_event() {
+            prepared.share_workflow(last);
         }
         prepared
     }
