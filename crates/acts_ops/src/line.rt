@@ -47,11 +47,7 @@ fn command_by(
 /// Promise (The program): A line is the command of its word and fields, or is refused 75, or with its body's first fault. A refused line leaves
 ///   the store as it is; every other line is one step of it
 /// By: `acts_ops::line::command_of`; `acts_ops::answer::answer_to` (`IsAnswer`)
-pub fn command_of(
-    alloc: Global,
-    known: Option<&Prepared>,
-    line: &[u8],
-) -> Result<Command, Refusal>
+pub fn command_of(alloc: Global, known: Option<&Prepared>, line: &[u8]) -> Result<Command, Refusal>
     ensures { Gives (λ c. c) result (command_of line.now) }
 {
     let (word, fields) = spelled(at_space(line))?;

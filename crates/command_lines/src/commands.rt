@@ -44,11 +44,7 @@ fn labels(alloc: Global, field: &[u8]) -> Result<Labels, Refusal>
 /// When: 75, then of `admit_of` 10 to 26: exactly, with memory. 50
 /// Afterwards: nothing is made
 /// By: one clause each (`Gives`)
-pub fn admit_of(
-    alloc: Global,
-    known: Option<&Prepared>,
-    fields: &[u8],
-) -> Result<Command, Refusal>
+pub fn admit_of(alloc: Global, known: Option<&Prepared>, fields: &[u8]) -> Result<Command, Refusal>
     ensures { Gives (λ c. c) result (admit_of fields.now) }
 {
     let (delivery, event, body) = spelled(three_fields(fields))?;
@@ -81,9 +77,7 @@ fn prepared(
 ) -> Result<Command, Refusal>
     ensures { Gives (λ c. c) result (prepared (record { delivery = delivery; event = event; body = body.now })) }
 {
-    Ok(Command::Admit(prepare_beside(
-        alloc, known, event, delivery, body,
-    )?))
+    Ok(Command::Admit(prepare_beside(alloc, known, event, delivery, body)?))
 }
 
 /// Parses `RUNNER NUMBER LABELS`.

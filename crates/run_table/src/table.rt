@@ -1,4 +1,4 @@
-ghost use Rattle.std.specs.Prelude.{◌≡◌, ◌≤◌, ◌*◌, length, sum_by, true, IfOk, Ok, OnErr, IsOk};
+ghost use Rattle.std.specs.Prelude.{◌≡◌, ◌≤◌, ◌-◌, ◌*◌, length, slice_get, option_copied, option_map, sum_by, true, IfOk, Ok, OnErr, IsOk};
 ghost use Rattle.definitions.specs.Limits.{last_number};
 ghost use Rattle.wf_value.specs.Gives.{Gives};
 ghost use Rattle.run_table.specs.inner.RunnerSizes.{max_runner_size, runner_size};
@@ -130,7 +130,7 @@ impl Table {
 
     /// The event of the last run, if there is a run. It takes no memory.
     pub fn last_event(&self) -> Option<&Prepared>
-        ensures { option_copied result ≡ option_map (λ run. run.prepared) (last self.now.runs) }
+        ensures { option_copied result ≡ option_map (λ run. run.admitted) (slice_get self.now.runs (length self.now.runs - 1)) }
     {
         self.table_data.last_event()
     }

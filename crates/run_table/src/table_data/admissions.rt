@@ -1,6 +1,6 @@
 //! Admits an event: creates its run, unless its delivery has one already.
 
-ghost use Rattle.std.specs.Prelude.{◌≡◌, ◌<◌, true, length, Ok, OnErr, IsOk};
+ghost use Rattle.std.specs.Prelude.{◌≡◌, ◌<◌, ◌-◌, true, length, slice_get, option_copied, option_map, Ok, OnErr, IsOk};
 ghost use Rattle.definitions.specs.Limits.{max_runs};
 ghost use Rattle.wf_value.specs.Gives.{Gives};
 ghost use Rattle.run_states.specs.Sound.{IsSound};
@@ -30,12 +30,10 @@ impl TableData {
 
     /// The event of the last run, if there is a run.
     pub(crate) fn last_event(&self) -> Option<&Prepared>
-        ensures { option_copied result ≡ option_map (λ run. run.prepared) (last self.now.runs) }
+        ensures { option_copied result ≡ option_map (λ run. run.admitted) (slice_get self.now.runs (length self.now.runs - 1)) }
     {
-        match self.runs.as_slice().last() {
-            Some(run) => Some(run.prepared()),
-            None => None,
-        }
+        let last = self.runs.as_slice().last()?;
+        Some(last.prepared())
     }
 
     /// The event, which refers to the last run's copy of its workflow if they have the same workflow.
