@@ -244,10 +244,10 @@ def held_memory(pid):
         return next((int(line.split()[1]) for line in status if line.startswith('VmHWM:')), 0)
 
 
-def most_memory(acts, names):
-    """The most memory, in KiB, of a script with a run of a workflow of many jobs for each of these names of workflows."""
+def most_memory(acts, events):
+    """The most memory, in KiB, of a script with a run of a workflow of many jobs for each of these events: the workflow's name and the commit's message."""
     jobs = {f'job{it}': {'runs-on': 'linux'} for it in range(JOBS)}
-    bodies = [{'repo': 'o/r', 'path': 'ci.json', 'workflow': {'name': name, 'jobs': jobs}} for name in names]
+    bodies = [{'repo': 'o/r', 'path': 'ci.json', 'github': {'message': said}, 'workflow': {'name': name, 'jobs': jobs}} for name, said in events]
     lines = [f'admit d{it} push {json.dumps(body, separators=(",", ":"))}' for it, body in enumerate(bodies)]
     with tempfile.TemporaryFile() as script:
         script.write('\n'.join(lines).encode())
@@ -262,11 +262,19 @@ def most_memory(acts, names):
 
 
 def one_workflow(acts, folder):
-    """Runs of one workflow keep its plan once, and so does their history."""
+    """Runs of one workflow keep its plan once, whatever else is in their events, and so does their history."""
     none = most_memory(acts, [])
-    one, each = (most_memory(acts, names) - none for names in (['w'] * RUNS_OF_JOBS, [f'w{it}' for it in range(RUNS_OF_JOBS)]))
+    one, each = (most_memory(acts, [(name(it), str(it)) for it in range(RUNS_OF_JOBS)]) - none for name in (lambda it: 'w', lambda it: f'w{it}'))
     expect(one < 0.75 * each, RUNS_OF_JOBS, 'runs of one workflow take', one, 'KiB, of a workflow each', each)
     return f'{RUNS_OF_JOBS} runs of one workflow of {JOBS} jobs take {one} KiB, of a workflow each {each}'
 
 
-CHECKS = many_runs, last_run, long_body, many_legs, long_history, full_round, one_after_another, many_attempts, one_workflow
+def one_event(acts, folder):
+    """Runs of one event's bytes keep these once, with all that was read of them."""
+    none = most_memory(acts, [])
+    one, each = (most_memory(acts, [('w', said(it)) for it in range(RUNS_OF_JOBS)]) - none for said in (lambda it: 'm' * 8000, lambda it: f'{it:08000}'))
+    expect(one < 0.75 * each, RUNS_OF_JOBS, 'runs of the same bytes take', one, 'KiB, of other bytes each', each)
+    return f'{RUNS_OF_JOBS} runs of the same event take {one} KiB, of an event with another message each {each}'
+
+
+CHECKS = many_runs, last_run, long_body, many_legs, long_history, full_round, one_after_another, many_attempts, one_workflow, one_event
