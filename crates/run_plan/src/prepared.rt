@@ -222,6 +222,9 @@ pub fn prepare(
 }
 
 /// As `prepare`. If the bytes are those of an event that is known, they are neither read again nor copied.
+/// Promise (Bodies, plans and replies): What is prepared does not depend on an event that is known; that its bytes are not read again is in no
+///   clause
+/// By: `run_plan::prepare_beside`
 pub fn prepare_beside(
     alloc: Global,
     known: Option<&Prepared>,
