@@ -18,12 +18,11 @@ invariant_of-result c =
     let given = rw c.as_slice.ensures.value at c.in_ok-contexts.ensures.gives in
     let contexts = rw c.as_slice.ensures.value at c.in_ok-contexts.ensures.contexts in
     let planned = rw c.as_slice.ensures.value at c.in_ok-contexts.ensures.planned in
-    rw (c.in_ok-admission.ensures.ok, c.in_ok-workflow.ensures.ok) (no_fault (faults_of body) (plan_of body) _ given, contexts, planned)
+    rw (c.in_ok-body.ensures.ok, c.in_ok-workflow.ensures.ok) (no_fault (faults_of body) (plan_of body) _ given, contexts, planned)
 
 pub returns-clause-gives : goal.returns-clause-gives
 returns-clause-gives c =
     let body = c.args.body.items in
     let given = rw c.as_slice.ensures.value at c.in_ok-contexts.ensures.gives in
     let none = no_fault (faults_of body) (plan_of body) _ given in
-    let kept = c.in_ok-admission.ensures.ok in
-    rw (none, kept) refl
+    rw (none, c.in_ok-admission.ensures.ok, c.in_ok-body.ensures.ok) refl
