@@ -20,11 +20,11 @@ module _ (runs : List RunState) where
         | inr late ↦ between k late lt
       ]
 
-  -- the search of a run finds a place
-  pub place_found : (r : ℕ) (o : Option RuleSite) → NoneBefore (first_in_run runs) runs r → o ≡ apply_at (first_in_run runs) runs r
+  -- the search of a run finds a site
+  pub site_found : (r : ℕ) (o : Option RuleSite) → NoneBefore (first_in_run runs) runs r → o ≡ apply_at (first_in_run runs) runs r
       → is_some o ≡ true → o ≡ first_site runs
-  place_found r None before is some = absurd (true≢false (sym some))
-  place_found r (Some p) before is some = sym (first_place_by_run runs ∙ found_at (first_in_run runs) runs r p before (sym is))
+  site_found r None before is some = absurd (true≢false (sym some))
+  site_found r (Some p) before is some = sym (first_place_by_run runs ∙ found_at (first_in_run runs) runs r p before (sym is))
 
   pub none_left : (from : ℕ) → NoneBefore (first_in_run runs) runs from → ((i : ℕ) → from ≤ i → apply_at (first_in_run runs) runs i ≡ None)
       → None ≡ first_site runs

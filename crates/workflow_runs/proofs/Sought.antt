@@ -14,9 +14,9 @@ use Rattle.settling_laws.proofs.Walks.{job_found}
 
 -- ---- the leg with a lease
 
-pub place_of_lease_by_run : (runs : List RunState) (lease : ℕ)
+pub site_of_lease_by_run : (runs : List RunState) (lease : ℕ)
     → site_of_lease runs lease ≡ first_some (λ r. lease_in_run lease r.0 r.1) (placed runs)
-place_of_lease_by_run runs lease =
+site_of_lease_by_run runs lease =
     let test : LegSite → Bool = λ p. option_map_or (has_lease lease) (leg_at runs p) false in
     let sought : PlacedLeg → Option LegSite = λ x. if test x.place then Some x.place else None in
     let leased : PlacedLeg → Option LegSite = λ x. if has_lease lease x.leg then Some x.place else None in

@@ -1,4 +1,4 @@
-//! Where settling finds the first rule that applies in a run. `tries` counts how often a rule is tried at a place; no other contract mentions it.
+//! Where settling finds the first rule that applies in a run. `tries` counts how often a rule is tried at a site; no other contract mentions it.
 
 ghost use Rattle.std.specs.Prelude.{◌≡◌, ◌+◌, ◌<◌, ◌^◌, Some, option_map};
 ghost use Rattle.std.specs.List.{list_all};
@@ -19,13 +19,13 @@ pub(crate) fn count(tries: &mut u64)
 }
 
 /// Whether a rule applies to the leg there.
-fn goes_on(runs: &Runs, place: LegSite, leg: &Leg) -> bool
-    requires { leg_at runs.now place ≡ Some leg.now }
-    ensures { result ≡ goes_on runs.now place leg.now }
+fn goes_on(runs: &Runs, site: LegSite, leg: &Leg) -> bool
+    requires { leg_at runs.now site ≡ Some leg.now }
+    ensures { result ≡ goes_on runs.now site leg.now }
 {
     match leg.phase {
         LegPhase::New => true,
-        LegPhase::Waiting => runs.may_start(&Holder::Leg(place)),
+        LegPhase::Waiting => runs.may_start(&Holder::Leg(site)),
         LegPhase::Ready | LegPhase::Running | LegPhase::Stopping | LegPhase::Ended(_) => false,
     }
 }
@@ -34,10 +34,10 @@ fn first_of_legs(runs: &Runs, r: usize, j: usize, legs: &[Leg], tries: &mut u64)
     requires { option_map (λ job. job.legs) (job_at runs.now r j) ≡ Some legs.now }
     ensures { result ≡ first_of_legs runs.now r j legs.now }
 {
-    for (place, leg) in Legs::of_job(r, j, legs) {
+    for (site, leg) in Legs::of_job(r, j, legs) {
         count(tries);
-        if goes_on(runs, place, leg) {
-            return Some(RuleSite::AtLeg(place));
+        if goes_on(runs, site, leg) {
+            return Some(RuleSite::AtLeg(site));
         }
     }
     None
@@ -60,9 +60,9 @@ fn first_of_open(runs: &Runs, r: usize, j: usize, job: &Job, tries: &mut u64) ->
     requires { job_at runs.now r j ≡ Some job.now.state }
     ensures { result ≡ first_of_open runs.now r j job.now.state }
 {
-    let place = first_leg(runs, r, j, job, tries);
-    if place.is_some() {
-        return place;
+    let site = first_leg(runs, r, j, job, tries);
+    if site.is_some() {
+        return site;
     }
     count(tries);
     if job.is_done() {
@@ -72,7 +72,7 @@ fn first_of_open(runs: &Runs, r: usize, j: usize, job: &Job, tries: &mut u64) ->
     }
 }
 
-/// The first place in a job where a rule applies: where it opens, if it is blocked and all its needs have finished, or else one of its
+/// The first site in a job where a rule applies: where it opens, if it is blocked and all its needs have finished, or else one of its
 /// legs, or where it finishes.
 fn first_in_job(
     runs: &Runs,
@@ -92,7 +92,7 @@ fn first_in_job(
     first_of_open(runs, r, j, job, tries)
 }
 
-/// The first place in the jobs of a run where a rule applies. None applies before the job at index `from`.
+/// The first site in the jobs of a run where a rule applies. None applies before the job at index `from`.
 fn first_in_jobs(
     runs: &Runs,
     r: usize,
@@ -108,9 +108,9 @@ fn first_in_jobs(
 {
     for j in from..jobs.len() {
         let job = &jobs[j];
-        let place = first_in_job(runs, r, run, j, job, tries);
-        if place.is_some() {
-            return place;
+        let site = first_in_job(runs, r, run, j, job, tries);
+        if site.is_some() {
+            return site;
         }
     }
     None
@@ -128,7 +128,7 @@ pub fn has_finished_jobs(run: &Run) -> bool
     are_finished(run.jobs())
 }
 
-/// The run itself as a place, if a rule applies to it: it waits and may start, or it is live and all its jobs have finished.
+/// The run itself as a site, if a rule applies to it: it waits and may start, or it is live and all its jobs have finished.
 fn first_of_whole(runs: &Runs, r: usize, run: &Run, tries: &mut u64) -> Option<RuleSite>
     requires { run_at runs.now r ≡ Some run.now }
     ensures { result ≡ first_of_whole runs.now r run.now }
@@ -141,22 +141,22 @@ fn first_of_whole(runs: &Runs, r: usize, run: &Run, tries: &mut u64) -> Option<R
     }
 }
 
-/// The first place in a run where a rule applies. None applies before the job at index `from`.
+/// The first site in a run where a rule applies. None applies before the job at index `from`.
 fn first_in_run(runs: &Runs, r: usize, run: &Run, from: usize, tries: &mut u64) -> Option<RuleSite>
     requires there { run_at runs.now r ≡ Some run.now }
     requires rest { JobsRestBefore runs.now r run.now from }
     ensures { result ≡ first_in_run runs.now r run.now }
 {
     if run.phase().is_live() {
-        let place = first_in_jobs(runs, r, run, run.jobs(), from, tries);
-        if place.is_some() {
-            return place;
+        let site = first_in_jobs(runs, r, run, run.jobs(), from, tries);
+        if site.is_some() {
+            return site;
         }
     }
     first_of_whole(runs, r, run, tries)
 }
 
-/// The first place in run `r` where a rule applies, if there is such a run. None applies before the job at index `from`.
+/// The first site in run `r` where a rule applies, if there is such a run. None applies before the job at index `from`.
 pub(crate) fn first_in_run_at(
     runs: &Runs,
     r: usize,

@@ -18,11 +18,11 @@ use run_states::{Job, Leg, LegSite, Run};
 use wf_value::Outcome;
 
 /// Whether the leg is ready and `labels` has all labels that it asks for.
-fn fits(labels: &[Label], runs: &Runs, place: LegSite, leg: &Leg) -> bool
-    requires { place.leg < planned_legs runs.now place.run place.job }
-    ensures { result ≡ (is_ready leg.now.phase && is_served labels.now runs.now place) }
+fn fits(labels: &[Label], runs: &Runs, site: LegSite, leg: &Leg) -> bool
+    requires { site.leg < planned_legs runs.now site.run site.job }
+    ensures { result ≡ (is_ready leg.now.phase && is_served labels.now runs.now site) }
 {
-    leg.is_ready() && runs.is_served(labels, place)
+    leg.is_ready() && runs.is_served(labels, site)
 }
 
 /// The first ready leg of the job such that `labels` has all labels that it asks for.
@@ -31,9 +31,9 @@ fn served_in_job(labels: &[Label], runs: &Runs, r: usize, j: usize, job: &Job) -
     ensures found { result ≡ served_in_job labels.now runs.now r j job.now.state }
     ensures run { IfSome result (λ p. p.run ≡ r) }
 {
-    for (place, leg) in Legs::of_job(r, j, job.planned_legs()) {
-        if fits(labels, runs, place, leg) {
-            return Some(place);
+    for (site, leg) in Legs::of_job(r, j, job.planned_legs()) {
+        if fits(labels, runs, site, leg) {
+            return Some(site);
         }
     }
     None
@@ -70,9 +70,9 @@ fn fit_in_jobs(labels: &[Label], runs: &Runs, r: usize, jobs: &[Job]) -> Option<
 {
     for j in 0..jobs.len() {
         let job = &jobs[j];
-        let place = fit_in_job(labels, runs, r, j, job);
-        if place.is_some() {
-            return place;
+        let site = fit_in_job(labels, runs, r, j, job);
+        if site.is_some() {
+            return site;
         }
     }
     None
@@ -99,9 +99,9 @@ pub(crate) fn first_fit(labels: &[Label], runs: &Runs, tries: &mut u64) -> Optio
     while let Some(r) = runs.next_offering(labels, from) {
         count(tries);
         let run = &all[r];
-        let place = fit_in_run(labels, runs, r, run);
-        if place.is_some() {
-            return place;
+        let site = fit_in_run(labels, runs, r, run);
+        if site.is_some() {
+            return site;
         }
         from = r + 1;
     }
@@ -113,9 +113,9 @@ fn lease_in_run(lease: Number, r: usize, run: &Run) -> Option<LegSite>
     ensures found { result ≡ lease_in_run lease r run.now }
     ensures leg { IfSome result (λ p. p.leg < 2 ^ 63) }
 {
-    for (place, leg) in Legs::of_run(r, run) {
+    for (site, leg) in Legs::of_run(r, run) {
         if leg.has_lease(lease) {
-            return Some(place);
+            return Some(site);
         }
     }
     None
@@ -131,9 +131,9 @@ pub fn site_of_lease(lease: Number, runs: &Runs) -> Option<LegSite>
     let mut from = 0;
     while let Some(r) = runs.next_active(from) {
         let run = &all[r];
-        let place = lease_in_run(lease, r, run);
-        if place.is_some() {
-            return place;
+        let site = lease_in_run(lease, r, run);
+        if site.is_some() {
+            return site;
         }
         from = r + 1;
     }
@@ -145,7 +145,7 @@ pub fn is_stopping(leg: Option<LegSite>, runs: &Runs) -> bool
     ensures { result ≡ option_map_or (λ p. option_map_or (λ l. is_stopping_leg l.phase) (leg_at runs.now p) false) leg false }
 {
     match leg {
-        Some(place) => is_stopping_at(runs, place),
+        Some(site) => is_stopping_at(runs, site),
         None => false,
     }
 }
@@ -162,10 +162,10 @@ pub fn outcome_of_loss(leg: Option<LegSite>, runs: &Runs) -> Outcome
     }
 }
 
-fn is_stopping_at(runs: &Runs, place: LegSite) -> bool
-    ensures { result ≡ option_map_or (λ l. is_stopping_leg l.phase) (leg_at runs.now place) false }
+fn is_stopping_at(runs: &Runs, site: LegSite) -> bool
+    ensures { result ≡ option_map_or (λ l. is_stopping_leg l.phase) (leg_at runs.now site) false }
 {
-    match runs.leg(place) {
+    match runs.leg(site) {
         Some(leg) => leg.is_stopping(),
         None => false,
     }

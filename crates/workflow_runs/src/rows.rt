@@ -124,7 +124,7 @@ impl Rows {
         ensures found { result ≡ position (is_delivered_as delivery.now) self.now.runs }
         ensures most { IfSome result (λ i. i < max_runs) }
     {
-        self.index.places.place(delivery)
+        self.index.places.index_of(delivery)
     }
 
     /// Adds a run at the end, with its number and its bindings, and takes the memory for the arrivals of the run and of its legs. On an
@@ -219,11 +219,11 @@ impl Rows {
         }
     }
 
-    /// The leg at a place.
-    pub(crate) fn leg(&self, place: LegSite) -> Option<&Leg>
-        ensures { option_copied result ≡ leg_at self.now.runs place }
+    /// The leg at a site.
+    pub(crate) fn leg(&self, site: LegSite) -> Option<&Leg>
+        ensures { option_copied result ≡ leg_at self.now.runs site }
     {
-        self.job(place.run, place.job)?.legs().get(place.leg)
+        self.job(site.run, site.job)?.legs().get(site.leg)
     }
 
     /// Whether the run or the leg waits.
@@ -235,7 +235,7 @@ impl Rows {
                 Some(run) => run.phase().waits(),
                 None => false,
             },
-            Holder::Leg(place) => match self.leg(*place) {
+            Holder::Leg(site) => match self.leg(*site) {
                 Some(leg) => leg.phase.waits(),
                 None => false,
             },
@@ -251,7 +251,7 @@ impl Rows {
                 Some(run) => run.phase().is_live(),
                 None => false,
             },
-            Holder::Leg(place) => match self.leg(*place) {
+            Holder::Leg(site) => match self.leg(*site) {
                 Some(leg) => leg.phase.holds(),
                 None => false,
             },

@@ -38,7 +38,7 @@ pub struct Runs {
     book: Book<Holder>,
     /// The runs in which a settling rule applies.
     due: RunBitmap,
-    /// How often settling has tried a rule at a place, since the count was last set to 0.
+    /// How often settling has tried a rule at a site, since the count was last set to 0.
     tries: u64,
 }
 
@@ -114,11 +114,11 @@ impl Runs {
         }
     }
 
-    pub fn combo(&self, alloc: Global, place: LegSite) -> Result<Combo, Refusal>
-        ensures { Gives (λ combo. combo) result (Ok (combo_at self.now place)) }
+    pub fn combo(&self, alloc: Global, site: LegSite) -> Result<Combo, Refusal>
+        ensures { Gives (λ combo. combo) result (Ok (combo_at self.now site)) }
     {
-        match self.planned(place.run, place.job) {
-            Some(planned) => combo_of(alloc, planned, place.leg),
+        match self.planned(site.run, site.job) {
+            Some(planned) => combo_of(alloc, planned, site.leg),
             None => Ok(Combo::new(alloc)),
         }
     }
@@ -137,22 +137,22 @@ impl Runs {
         self.rows.number(r)
     }
 
-    /// The planned leg at a place.
+    /// The planned leg at a site.
     #[tactic(auto, unfolding(run_states::specs::LegContext::facts_at))]
-    pub(super) fn leg_view(&self, place: LegSite) -> Option<LegView<'_>>
-        requires leg { place.leg < 2 ^ 63 }
-        ensures { result ≡ facts_at self.now place }
+    pub(super) fn leg_view(&self, site: LegSite) -> Option<LegView<'_>>
+        requires leg { site.leg < 2 ^ 63 }
+        ensures { result ≡ facts_at self.now site }
     {
-        let run = self.rows.runs.get(place.run)?;
-        let run_number = self.number(place.run)?;
-        let job = run.prepared().plan().as_slice().get(place.job)?;
+        let run = self.rows.runs.get(site.run)?;
+        let run_number = self.number(site.run)?;
+        let job = run.prepared().plan().as_slice().get(site.job)?;
         Some(LegView {
             run,
-            run_id: place.run + 1,
+            run_id: site.run + 1,
             run_number,
             job,
-            place: place.job,
-            leg: place.leg,
+            place: site.job,
+            leg: site.leg,
         })
     }
 
@@ -172,12 +172,12 @@ impl Runs {
         run.job(j)
     }
 
-    /// The leg at a place.
-    pub fn leg(&self, place: LegSite) -> Option<&Leg>
-        ensures { option_copied result ≡ leg_at self.now place }
+    /// The leg at a site.
+    pub fn leg(&self, site: LegSite) -> Option<&Leg>
+        ensures { option_copied result ≡ leg_at self.now site }
     {
-        let job = self.job(place.run, place.job)?;
-        job.legs().get(place.leg)
+        let job = self.job(site.run, site.job)?;
+        job.legs().get(site.leg)
     }
 }
 

@@ -1,4 +1,4 @@
-//! The legs of a table or of a run, one after the other in the order of run, job and leg, each with its place.
+//! The legs of a table or of a run, one after the other in the order of run, job and leg, each with its site.
 
 ghost use Rattle.std.specs.Prelude.{◌≡◌, ◌<◌, ◌^◌, IfSome, map};
 ghost use Rattle.std.specs.Iterator.{YieldsFirstBy, item_count};
@@ -9,10 +9,10 @@ use crate::runs::Runs;
 use run_states::{Job, Leg, LegSite, Run};
 use std::marker::Model;
 
-/// The remaining legs. A contract sees them as a list, each with its place.
+/// The remaining legs. A contract sees them as a list, each with its site.
 #[derive(Drop)]
 pub struct Legs<'a> {
-    /// The remaining legs of one job, and the place of the first of them.
+    /// The remaining legs of one job, and the site of the first of them.
     legs: &'a [Leg],
     at: LegSite,
     /// The later jobs of its run, and the index of the first of them.
@@ -63,7 +63,7 @@ impl<'a> Legs<'a> {
         }
     }
 
-    /// These legs of the job at a place.
+    /// These legs of job `j` of run `r`.
     pub fn of_job(r: usize, j: usize, legs: &'a [Leg]) -> Self
         ensures { result ≡ map (placed_leg r j) (placed legs.now) }
     {
@@ -103,9 +103,9 @@ impl<'a> Iterator for Legs<'a> {
             }
         }
         let (leg, legs) = self.legs.split_first()?;
-        let place = self.at;
+        let site = self.at;
         self.legs = legs;
         self.at.leg += 1;
-        Some((place, leg))
+        Some((site, leg))
     }
 }

@@ -1,4 +1,4 @@
--- The book of groups of a table that was stored: first the holders in progress take their places in it, and then those that are pending.
+-- The book of groups of a table that was stored: first the holders in progress take their slots in it, and then those that are pending.
 use Rattle.std.specs.Prelude.{◌≡◌, ◌↔◌, ◌≤◌, ◌&&◌, ◌||◌, ℕ, List, nat_eq, nat_lt, Bool, true, false, Option, None, Some, option_and_then}
 use Rattle.group_book.specs.Books.{BookState, slot_in}
 use Rattle.group_book.specs.declared.slot.Slot.{Slot}
@@ -18,7 +18,7 @@ use Rattle.workflow_runs.specs.declared.runs.of.GroupSlot.TheVariants.{InProgres
 
 -- ---- which holders
 
--- one that has this place of its group
+-- one that has this slot of its group
 abbrev pub is_of : GroupSlot → List RunState → Holder → Bool
 is_of InProgress runs h = holds runs h
 is_of Pending runs h = waits runs h
@@ -45,7 +45,7 @@ legs_of_run r (Leg p) = nat_eq p.run r
 abbrev pub runs_below : ℕ → Holder → Bool
 runs_below n h = nat_lt (run_of h) n
 
--- ---- the places
+-- ---- the slots
 
 abbrev pub in_slot : GroupSlot → Slot Holder → Option Holder
 in_slot InProgress slot = slot.in_progress
@@ -55,53 +55,53 @@ abbrev pub beside_slot : GroupSlot → Slot Holder → Option Holder
 beside_slot InProgress slot = slot.pending
 beside_slot Pending slot = slot.in_progress
 
--- those among these have their places
+-- those among these have their slots
 abbrev pub AreSeated : GroupSlot → (Holder → Bool) → List RunState → List (Group × Slot Holder) → Type 0
-AreSeated place who runs entries =
-    (g : Group) (h : Holder) → (in_slot place (slot_in entries g) ≡ Some h) ↔ ((is_in runs g h && (is_of place runs h && who h)) ≡ true)
+AreSeated slot who runs entries =
+    (g : Group) (h : Holder) → (in_slot slot (slot_in entries g) ≡ Some h) ↔ ((is_in runs g h && (is_of slot runs h && who h)) ≡ true)
 
--- while those in progress take their places, nobody is pending
+-- while those in progress take their slots, nobody is pending
 abbrev pub NobodyIsBeside : GroupSlot → List (Group × Slot Holder) → Type 0
 NobodyIsBeside InProgress entries = (g : Group) → (slot_in entries g).pending ≡ None
 NobodyIsBeside Pending entries = Unit {0}
 
 -- ---- what is kept on the way
 
-pub record HasSeats (place : GroupSlot) (runs : List RunState) (bindings : List RunBindings) (book : BookState Holder) : Type 0 where
-  pub beside : NobodyIsBeside place book.entries
+pub record HasSeats (slot : GroupSlot) (runs : List RunState) (bindings : List RunBindings) (book : BookState Holder) : Type 0 where
+  pub beside : NobodyIsBeside slot book.entries
   pub told : AreTold runs bindings
   pub expected : arrivals_to_come bindings ≤ book.expected
 
--- those among these that are to have the place have their keys
+-- those among these that are to have the slot have their keys
 abbrev pub HaveKeys : GroupSlot → (Holder → Bool) → List RunState → List RunBindings → Type 0
-HaveKeys place among runs bindings =
-    (h : Holder) → (is_of place runs h && among h) ≡ true → option_and_then ticket_in (holder_key_at bindings h) ≡ group_at runs h
+HaveKeys slot among runs bindings =
+    (h : Holder) → (is_of slot runs h && among h) ≡ true → option_and_then ticket_in (holder_key_at bindings h) ≡ group_at runs h
 
--- others than those among these that are to have the place
+-- others than those among these that are to have the slot
 abbrev pub AreApart : GroupSlot → List RunState → (Holder → Bool) → (Holder → Bool) → Type 0
-AreApart place runs who among = (h : Holder) → (is_of place runs h && among h) ≡ true → who h ≡ false
+AreApart slot runs who among = (h : Holder) → (is_of slot runs h && among h) ≡ true → who h ≡ false
 
--- those among these have taken their places
-pub record TakeSeats (place : GroupSlot) (among : Holder → Bool) (runs : List RunState) (was now : List RunBindings)
+-- those among these have taken their slots
+pub record TakeSeats (slot : GroupSlot) (among : Holder → Bool) (runs : List RunState) (was now : List RunBindings)
     (old new : List (Group × Slot Holder)) : Type 0 where
-  pub keys : (h : Holder) → (is_of place runs h && among h) ≡ false → holder_key_at now h ≡ holder_key_at was h
-  pub places : (g : Group) → beside_slot place (slot_in new g) ≡ beside_slot place (slot_in old g)
-  pub seated : (who : Holder → Bool) → AreApart place runs who among → AreSeated place who runs old
-      → AreSeated place (λ h. who h || among h) runs new
+  pub keys : (h : Holder) → (is_of slot runs h && among h) ≡ false → holder_key_at now h ≡ holder_key_at was h
+  pub places : (g : Group) → beside_slot slot (slot_in new g) ≡ beside_slot slot (slot_in old g)
+  pub seated : (who : Holder → Bool) → AreApart slot runs who among → AreSeated slot who runs old
+      → AreSeated slot (λ h. who h || among h) runs new
 
--- one of them found its place taken, so two have it
+-- one of them found its slot taken, so two have it
 abbrev pub OneIsTaken : GroupSlot → (Holder → Bool) → List RunState → List (Group × Slot Holder) → Type 0
-OneIsTaken place among runs old = (who : Holder → Bool) → AreApart place runs who among → AreSeated place who runs old → HasOneEach runs → ⊥
+OneIsTaken slot among runs old = (who : Holder → Bool) → AreApart slot runs who among → AreSeated slot who runs old → HasOneEach runs → ⊥
 
 abbrev pub AreSeatedOrTaken : Bool → GroupSlot → (Holder → Bool) → List RunState → List RunBindings → List RunBindings
     → List (Group × Slot Holder) → List (Group × Slot Holder) → Type 0
-AreSeatedOrTaken true place among runs was now old new = TakeSeats place among runs was now old new
-AreSeatedOrTaken false place among runs was now old new = OneIsTaken place among runs old
+AreSeatedOrTaken true slot among runs was now old new = TakeSeats slot among runs was now old new
+AreSeatedOrTaken false slot among runs was now old new = OneIsTaken slot among runs old
 
--- a holder has taken its place in its group
-pub record SitsDown (place : GroupSlot) (one : Holder) (g : Group) (old new : List (Group × Slot Holder)) : Type 0 where
-  pub taken : in_slot place (slot_in new g) ≡ Some one
-  pub beside : (k : Group) → beside_slot place (slot_in new k) ≡ beside_slot place (slot_in old k)
+-- a holder has taken its slot in its group
+pub record SitsDown (slot : GroupSlot) (one : Holder) (g : Group) (old new : List (Group × Slot Holder)) : Type 0 where
+  pub taken : in_slot slot (slot_in new g) ≡ Some one
+  pub beside : (k : Group) → beside_slot slot (slot_in new k) ≡ beside_slot slot (slot_in old k)
   pub elsewhere : (k : Group) → same_group g k ≡ false → slot_in new k ≡ slot_in old k
 
 -- one that is in progress begins
@@ -109,7 +109,7 @@ abbrev pub BeginsIf : GroupSlot → Option Group → List (Group × Slot Holder)
 BeginsIf InProgress key old new = Begins key old new
 BeginsIf Pending key old new = new ≡ old
 
--- ---- before anybody has taken a place
+-- ---- before anybody has taken a slot
 
 pub record AreStored (parts : List RunState) (rows : RowState) (book : BookState Holder) : Type 0 where
   pub runs : rows.runs ≡ parts

@@ -9,14 +9,14 @@ use run_states::LegSite;
 
 impl Rows {
     /// Unmarks the run of a leg for the leg's list, if no ready leg of the run asks for that list. Claims for the list then skip the run.
-    pub(crate) fn refresh_list(&mut self, place: LegSite)
+    pub(crate) fn refresh_list(&mut self, site: LegSite)
         ensures { self.new ≡ self.old }
     {
-        let r = place.run;
+        let r = site.run;
         if r < self.runs.len() {
             let run = &self.runs[r];
             let numbers = self.bindings[r].lists.as_slice();
-            let number = list_number(numbers, place.job, place.leg);
+            let number = list_number(numbers, site.job, site.leg);
             if !offers_list(run, numbers, number) {
                 self.index.lists.unmark(number, r);
             }

@@ -25,9 +25,9 @@ pub(crate) fn offer(lists: &mut LabelLists, leg: Option<LegSite>, bindings: &Run
     ensures itself { IfSome leg (λ p. IsOffered lists.new bindings.now p) }
     ensures others { OnlyMarks lists.old lists.new }
 {
-    if let Some(place) = leg {
-        let number = list_number(bindings.lists.as_slice(), place.job, place.leg);
-        lists.mark(number, place.run);
+    if let Some(site) = leg {
+        let number = list_number(bindings.lists.as_slice(), site.job, site.leg);
+        lists.mark(number, site.run);
     }
 }
 

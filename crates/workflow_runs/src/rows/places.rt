@@ -26,11 +26,11 @@ impl DeliveryIndexes {
     }
 
     /// The index that is kept for a delivery.
-    pub(crate) fn place(&self, delivery: &DeliveryId) -> Option<usize>
+    pub(crate) fn index_of(&self, delivery: &DeliveryId) -> Option<usize>
         ensures { result ≡ get_by_text self.now.places delivery.now }
     {
         match self.places.get(delivery.as_str()) {
-            Some(place) => Some(*place),
+            Some(index) => Some(*index),
             None => None,
         }
     }
@@ -46,15 +46,15 @@ impl DeliveryIndexes {
     }
 
     /// Keeps the index for a delivery, unless one is kept for it already.
-    pub(crate) fn keep(&mut self, delivery: String, place: usize)
+    pub(crate) fn keep(&mut self, delivery: String, index: usize)
         requires { 0 < spare self.old.places }
         ensures { (other : List ℕ) → get_by_text self.new.places other
-            ≡ (if bytes_eq (string_bytes delivery) other then Some (unwrap_or (get_by_text self.old.places other) place)
+            ≡ (if bytes_eq (string_bytes delivery) other then Some (unwrap_or (get_by_text self.old.places other) index)
             else get_by_text self.old.places other) }
     {
         match self.places.entry(delivery) {
             Ok(entry) => {
-                entry.or_insert(place);
+                entry.or_insert(index);
             }
             Err(_) => unreachable!(),
         }

@@ -109,29 +109,29 @@ impl Runs {
     }
 
     /// The leg arrives in its group and waits. If its group is its own run's, it is cancelled instead.
-    pub(super) fn begin_leg(&mut self, place: LegSite)
-        requires new { is_new_at self.old place ≡ true }
+    pub(super) fn begin_leg(&mut self, site: LegSite)
+        requires new { is_new_at self.old site ≡ true }
         requires sound { RunsAreSound self.old }
-        ensures { self.new ≡ (newcomer_rule self.old place).runs }
+        ensures { self.new ≡ (newcomer_rule self.old site).runs }
     {
-        let Some(leg) = self.leg(place) else {
+        let Some(leg) = self.leg(site) else {
             return;
         };
         let leg = *leg;
-        if self.is_in_group_of_run(place) {
+        if self.is_in_group_of_run(site) {
             let ended = leg.in_phase(LegPhase::Ended(Outcome::Cancelled));
-            self.change_within(place.run, Change::PutLeg(place.job, place.leg, ended));
+            self.change_within(site.run, Change::PutLeg(site.job, site.leg, ended));
             return;
         }
         let waiting = leg.in_phase(LegPhase::Waiting);
         self.rows
-            .change(place.run, Change::PutLeg(place.job, place.leg, waiting));
-        self.due.mark(place.run);
+            .change(site.run, Change::PutLeg(site.job, site.leg, waiting));
+        self.due.mark(site.run);
         let to_stop = enter(
             &mut self.rows,
             &mut self.book,
             &mut self.due,
-            &Holder::Leg(place),
+            &Holder::Leg(site),
         );
         self.stop_running(to_stop);
     }
@@ -191,9 +191,9 @@ fn cancel(rows: &mut Rows, holder: &Holder)
 {
     match holder {
         Holder::Run(r) => rows.change(*r, Change::Cancel),
-        Holder::Leg(place) => {
+        Holder::Leg(site) => {
             let ended = Leg::new().in_phase(LegPhase::Ended(Outcome::Cancelled));
-            rows.change(place.run, Change::PutLeg(place.job, place.leg, ended));
+            rows.change(site.run, Change::PutLeg(site.job, site.leg, ended));
         }
     }
 }

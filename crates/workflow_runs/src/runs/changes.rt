@@ -101,15 +101,15 @@ impl Runs {
     }
 
     /// The waiting leg becomes ready.
-    pub(crate) fn start_leg(&mut self, place: LegSite)
+    pub(crate) fn start_leg(&mut self, site: LegSite)
         requires sound { RunsAreSound self.old }
-        requires waits { waits self.old (held.Leg place) ≡ true }
-        requires may { may_start self.old (held.Leg place) ≡ true }
-        ensures { self.new ≡ with_leg_in leg.Ready place self.old }
+        requires waits { waits self.old (held.Leg site) ≡ true }
+        requires may { may_start self.old (held.Leg site) ≡ true }
+        ensures { self.new ≡ with_leg_in leg.Ready site self.old }
     {
-        if let Some(leg) = self.leg(place) {
-            let change = Change::PutLeg(place.job, place.leg, leg.in_phase(LegPhase::Ready));
-            self.change_starting(&Holder::Leg(place), change);
+        if let Some(leg) = self.leg(site) {
+            let change = Change::PutLeg(site.job, site.leg, leg.in_phase(LegPhase::Ready));
+            self.change_starting(&Holder::Leg(site), change);
         }
     }
 }

@@ -24,8 +24,8 @@ impl Runs {
         requires work { IfSome leg (λ p. IfSome (leg_at self.old p) (λ leg. is_at_work leg.phase ≡ true)) }
         ensures { self.new ≡ option_map_or (λ p. after_end p outcome self.old) leg self.old }
     {
-        if let Some(place) = leg {
-            self.end_at(place, outcome);
+        if let Some(site) = leg {
+            self.end_at(site, outcome);
         }
     }
 
@@ -40,49 +40,49 @@ impl Runs {
     }
 
     /// Whether the end of the leg stops the other legs of its job. Takes no memory.
-    fn stops_others(&self, place: LegSite, outcome: Outcome) -> bool
-        ensures { result ≡ stops_others self.now place outcome }
+    fn stops_others(&self, site: LegSite, outcome: Outcome) -> bool
+        ensures { result ≡ stops_others self.now site outcome }
     {
         outcome == Outcome::Failure
-            && self.fails_fast(place.run, place.job)
-            && !self.continues_on_error(place)
+            && self.fails_fast(site.run, site.job)
+            && !self.continues_on_error(site)
     }
 
-    /// Ends the leg at the place, and stops the other legs of its job if its end stops them.
-    fn end_at(&mut self, place: LegSite, outcome: Outcome)
-        requires leg { place.leg < 2 ^ 63 }
+    /// Ends the leg at the site, and stops the other legs of its job if its end stops them.
+    fn end_at(&mut self, site: LegSite, outcome: Outcome)
+        requires leg { site.leg < 2 ^ 63 }
         requires sound { RunsAreSound self.old }
-        requires work { IfSome (leg_at self.old place) (λ leg. is_at_work leg.phase ≡ true) }
-        ensures { self.new ≡ after_end place outcome self.old }
+        requires work { IfSome (leg_at self.old site) (λ leg. is_at_work leg.phase ≡ true) }
+        ensures { self.new ≡ after_end site outcome self.old }
     {
-        let stops_others = self.stops_others(place, outcome);
-        self.end_leg(place, outcome);
+        let stops_others = self.stops_others(site, outcome);
+        self.end_leg(site, outcome);
         if stops_others {
-            self.stop_legs(place.run, place.job);
+            self.stop_legs(site.run, site.job);
         }
     }
 
-    fn end_leg(&mut self, place: LegSite, outcome: Outcome)
+    fn end_leg(&mut self, site: LegSite, outcome: Outcome)
         requires sound { RunsAreSound self.old }
-        requires work { IfSome (leg_at self.old place) (λ leg. is_at_work leg.phase ≡ true) }
-        ensures ended { self.new ≡ with_leg_in (Ended outcome) place self.old }
+        requires work { IfSome (leg_at self.old site) (λ leg. is_at_work leg.phase ≡ true) }
+        ensures ended { self.new ≡ with_leg_in (Ended outcome) site self.old }
         ensures sound { RunsAreSound self.new }
     {
-        if let Some(leg) = self.leg(place) {
+        if let Some(leg) = self.leg(site) {
             let ended = leg.in_phase(LegPhase::Ended(outcome));
-            let change = Change::PutLeg(place.job, place.leg, ended);
-            self.change_ending(&Holder::Leg(place), change);
+            let change = Change::PutLeg(site.job, site.leg, ended);
+            self.change_ending(&Holder::Leg(site), change);
         }
     }
 
     /// Gives a ready leg to a runner.
-    pub fn lease(&mut self, place: LegSite, lease: Number)
+    pub fn lease(&mut self, site: LegSite, lease: Number)
         requires sound { RunsAreSound self.old }
-        requires holds { holds self.old (held.Leg place) ≡ true }
-        ensures { self.new ≡ with_leg place (λ _. leased_leg lease) self.old }
+        requires holds { holds self.old (held.Leg site) ≡ true }
+        ensures { self.new ≡ with_leg site (λ _. leased_leg lease) self.old }
     {
-        let change = Change::PutLeg(place.job, place.leg, Leg::leased(lease));
-        self.change_within(place.run, change);
-        self.rows.refresh_list(place);
+        let change = Change::PutLeg(site.job, site.leg, Leg::leased(lease));
+        self.change_within(site.run, change);
+        self.rows.refresh_list(site);
     }
 }

@@ -11,19 +11,19 @@ use wf_reader::Flag;
 impl Runs {
     /// Whether a failure of the leg is ignored. A leg that its plan does not have ignores no failure; for every other leg a template was
     /// bound. Takes no memory.
-    pub(super) fn continues_on_error(&self, place: LegSite) -> bool
-        ensures { result ≡ continues_on_error self.now place }
+    pub(super) fn continues_on_error(&self, site: LegSite) -> bool
+        ensures { result ≡ continues_on_error self.now site }
     {
-        let Some(planned) = self.planned(place.run, place.job) else {
+        let Some(planned) = self.planned(site.run, site.job) else {
             return false;
         };
         match &planned.continue_on_error {
-            Flag::Fixed(set) => *set && planned.legs.as_slice().get(place.leg).is_some(),
+            Flag::Fixed(set) => *set && planned.legs.as_slice().get(site.leg).is_some(),
             Flag::Template(_) => {
-                let Some((run, bindings)) = self.with_bindings(place.run) else {
+                let Some((run, bindings)) = self.with_bindings(site.run) else {
                     return false;
                 };
-                match bindings.flag(place.job, place.leg) {
+                match bindings.flag(site.job, site.leg) {
                     Some(flag) => flag.is_set(run),
                     None => false,
                 }

@@ -11,11 +11,11 @@ use wf_value::{Chars, Refusal, Sequence};
 
 impl Runs {
     /// The texts; empty if the leg is not planned.
-    pub fn label_texts(&self, alloc: Global, place: LegSite) -> Result<Sequence<Chars>, Refusal>
-        requires leg { place.leg < 2 ^ 63 }
-        ensures { Gives (λ texts. texts) result (Ok (unwrap_or (labels_at self.now place) [])) }
+    pub fn label_texts(&self, alloc: Global, site: LegSite) -> Result<Sequence<Chars>, Refusal>
+        requires leg { site.leg < 2 ^ 63 }
+        ensures { Gives (λ texts. texts) result (Ok (unwrap_or (labels_at self.now site) [])) }
     {
-        match self.leg_view(place) {
+        match self.leg_view(site) {
             Some(leg) => leg.label_texts(alloc),
             None => Ok(Sequence::new(Vec::new(alloc))),
         }

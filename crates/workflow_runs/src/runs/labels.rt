@@ -11,12 +11,12 @@ use run_states::LegSite;
 
 impl Runs {
     /// Whether `labels` has all labels that the leg asks for. Takes no memory.
-    pub(crate) fn is_served(&self, labels: &[Label], place: LegSite) -> bool
-        requires { place.leg < planned_legs self.now place.run place.job }
-        ensures { result ≡ is_served labels.now self.now place }
+    pub(crate) fn is_served(&self, labels: &[Label], site: LegSite) -> bool
+        requires { site.leg < planned_legs self.now site.run site.job }
+        ensures { result ≡ is_served labels.now self.now site }
     {
-        match self.with_bindings(place.run) {
-            Some((run, bindings)) => bindings.is_served(labels, place.job, place.leg, run),
+        match self.with_bindings(site.run) {
+            Some((run, bindings)) => bindings.is_served(labels, site.job, site.leg, run),
             None => false,
         }
     }

@@ -25,7 +25,7 @@ use run_states::{Holder, LegSite, MAX_RUNS, Run, RunParts};
 use std::alloc::Global;
 use wf_value::Refusal;
 
-/// One of the two places of a group.
+/// One of the two slots of a group.
 #[derive(Clone, Copy)]
 enum GroupSlot {
     InProgress,
@@ -98,124 +98,124 @@ fn all_marked(alloc: Global, count: usize) -> Result<RunBitmap, Refusal>
     Ok(marks)
 }
 
-// ---- the places of groups. Each function returns whether no place was taken already.
+// ---- the slots of groups. Each function returns whether no slot was taken already.
 
-fn seat_all(rows: &mut Rows, book: &mut Book<Holder>, place: GroupSlot) -> bool
-    requires seats { HasSeats place rows.old.runs rows.old.bindings book.old }
-    requires keys { HaveKeys place (λ h. true) rows.old.runs rows.old.bindings }
+fn seat_all(rows: &mut Rows, book: &mut Book<Holder>, slot: GroupSlot) -> bool
+    requires seats { HasSeats slot rows.old.runs rows.old.bindings book.old }
+    requires keys { HaveKeys slot (λ h. true) rows.old.runs rows.old.bindings }
     ensures runs { rows.new.runs ≡ rows.old.runs }
-    ensures seats { HasSeats place rows.new.runs rows.new.bindings book.new }
-    ensures taken { AreSeatedOrTaken result place (λ h. true) rows.old.runs rows.old.bindings rows.new.bindings book.old.entries book.new.entries }
+    ensures seats { HasSeats slot rows.new.runs rows.new.bindings book.new }
+    ensures taken { AreSeatedOrTaken result slot (λ h. true) rows.old.runs rows.old.bindings rows.new.bindings book.old.entries book.new.entries }
 {
     for r in 0..rows.runs.len() {
-        if !seat(rows, book, place, &Holder::Run(r)) {
+        if !seat(rows, book, slot, &Holder::Run(r)) {
             return false;
         }
-        if !seat_jobs(rows, book, place, r) {
+        if !seat_jobs(rows, book, slot, r) {
             return false;
         }
     }
     true
 }
 
-fn seat_jobs(rows: &mut Rows, book: &mut Book<Holder>, place: GroupSlot, r: usize) -> bool
-    requires seats { HasSeats place rows.old.runs rows.old.bindings book.old }
-    requires keys { HaveKeys place (legs_of_run r) rows.old.runs rows.old.bindings }
+fn seat_jobs(rows: &mut Rows, book: &mut Book<Holder>, slot: GroupSlot, r: usize) -> bool
+    requires seats { HasSeats slot rows.old.runs rows.old.bindings book.old }
+    requires keys { HaveKeys slot (legs_of_run r) rows.old.runs rows.old.bindings }
     ensures runs { rows.new.runs ≡ rows.old.runs }
-    ensures seats { HasSeats place rows.new.runs rows.new.bindings book.new }
-    ensures taken { AreSeatedOrTaken result place (legs_of_run r) rows.old.runs rows.old.bindings rows.new.bindings book.old.entries book.new.entries }
+    ensures seats { HasSeats slot rows.new.runs rows.new.bindings book.new }
+    ensures taken { AreSeatedOrTaken result slot (legs_of_run r) rows.old.runs rows.old.bindings rows.new.bindings book.old.entries book.new.entries }
 {
     for j in 0..rows.job_count(r) {
-        if !seat_legs(rows, book, place, r, j) {
+        if !seat_legs(rows, book, slot, r, j) {
             return false;
         }
     }
     true
 }
 
-fn seat_legs(rows: &mut Rows, book: &mut Book<Holder>, place: GroupSlot, r: usize, j: usize) -> bool
-    requires seats { HasSeats place rows.old.runs rows.old.bindings book.old }
-    requires keys { HaveKeys place (in_job r j) rows.old.runs rows.old.bindings }
+fn seat_legs(rows: &mut Rows, book: &mut Book<Holder>, slot: GroupSlot, r: usize, j: usize) -> bool
+    requires seats { HasSeats slot rows.old.runs rows.old.bindings book.old }
+    requires keys { HaveKeys slot (in_job r j) rows.old.runs rows.old.bindings }
     ensures runs { rows.new.runs ≡ rows.old.runs }
-    ensures seats { HasSeats place rows.new.runs rows.new.bindings book.new }
-    ensures taken { AreSeatedOrTaken result place (in_job r j) rows.old.runs rows.old.bindings rows.new.bindings book.old.entries book.new.entries }
+    ensures seats { HasSeats slot rows.new.runs rows.new.bindings book.new }
+    ensures taken { AreSeatedOrTaken result slot (in_job r j) rows.old.runs rows.old.bindings rows.new.bindings book.old.entries book.new.entries }
 {
     for l in 0..rows.leg_count(r, j) {
-        if !seat(rows, book, place, &Holder::Leg(LegSite::new(r, j, l))) {
+        if !seat(rows, book, slot, &Holder::Leg(LegSite::new(r, j, l))) {
             return false;
         }
     }
     true
 }
 
-/// Enters a holder in the book if it has the place.
-fn seat(rows: &mut Rows, book: &mut Book<Holder>, place: GroupSlot, holder: &Holder) -> bool
-    requires seats { HasSeats place rows.old.runs rows.old.bindings book.old }
-    requires keys { HaveKeys place (λ h. same_holder h holder.now) rows.old.runs rows.old.bindings }
+/// Enters a holder in the book if it has the slot.
+fn seat(rows: &mut Rows, book: &mut Book<Holder>, slot: GroupSlot, holder: &Holder) -> bool
+    requires seats { HasSeats slot rows.old.runs rows.old.bindings book.old }
+    requires keys { HaveKeys slot (λ h. same_holder h holder.now) rows.old.runs rows.old.bindings }
     ensures runs { rows.new.runs ≡ rows.old.runs }
-    ensures seats { HasSeats place rows.new.runs rows.new.bindings book.new }
-    ensures taken { AreSeatedOrTaken result place (λ h. same_holder h holder.now) rows.old.runs rows.old.bindings rows.new.bindings book.old.entries book.new.entries }
+    ensures seats { HasSeats slot rows.new.runs rows.new.bindings book.new }
+    ensures taken { AreSeatedOrTaken result slot (λ h. same_holder h holder.now) rows.old.runs rows.old.bindings rows.new.bindings book.old.entries book.new.entries }
 {
-    if !is_of(rows, place, holder) {
+    if !is_of(rows, slot, holder) {
         return true;
     }
     let Some(group) = rows.key(holder) else {
         return true;
     };
-    if in_slot(book, place, group).is_some() {
+    if in_slot(book, slot, group).is_some() {
         return false;
     }
-    arrive(rows, book, place, holder);
+    arrive(rows, book, slot, holder);
     true
 }
 
-/// Whether the holder has this place of its group, by the table.
-fn is_of(rows: &Rows, place: GroupSlot, holder: &Holder) -> bool
-    ensures { result ≡ is_of place rows.now.runs holder.now }
+/// Whether the holder has this slot of its group, by the table.
+fn is_of(rows: &Rows, slot: GroupSlot, holder: &Holder) -> bool
+    ensures { result ≡ is_of slot rows.now.runs holder.now }
 {
-    match place {
+    match slot {
         GroupSlot::InProgress => rows.holds(holder),
         GroupSlot::Pending => rows.waits(holder),
     }
 }
 
-/// The holder that has this place of a group, by the book.
-fn in_slot(book: &Book<Holder>, place: GroupSlot, group: &GroupKey) -> Option<Holder>
-    ensures { result ≡ in_slot place (slot_in book.now.entries group.now) }
+/// The holder that has this slot of a group, by the book.
+fn in_slot(book: &Book<Holder>, slot: GroupSlot, group: &GroupKey) -> Option<Holder>
+    ensures { result ≡ in_slot slot (slot_in book.now.entries group.now) }
 {
-    match place {
+    match slot {
         GroupSlot::InProgress => book.running(group),
         GroupSlot::Pending => book.pending(group),
     }
 }
 
-/// A holder takes its place, which is free.
-fn arrive(rows: &mut Rows, book: &mut Book<Holder>, place: GroupSlot, holder: &Holder)
-    requires seats { HasSeats place rows.old.runs rows.old.bindings book.old }
-    requires has { is_of place rows.old.runs holder.now ≡ true }
+/// A holder takes its slot, which is free.
+fn arrive(rows: &mut Rows, book: &mut Book<Holder>, slot: GroupSlot, holder: &Holder)
+    requires seats { HasSeats slot rows.old.runs rows.old.bindings book.old }
+    requires has { is_of slot rows.old.runs holder.now ≡ true }
     requires key { option_and_then ticket_in (holder_key_at rows.old.bindings holder.now) ≡ group_at rows.old.runs holder.now }
-    requires free { (g : GroupInWords) → group_at rows.old.runs holder.now ≡ Some g → in_slot place (slot_in book.old.entries g) ≡ None }
+    requires free { (g : GroupInWords) → group_at rows.old.runs holder.now ≡ Some g → in_slot slot (slot_in book.old.entries g) ≡ None }
     ensures runs { rows.new.runs ≡ rows.old.runs }
-    ensures seats { HasSeats place rows.new.runs rows.new.bindings book.new }
+    ensures seats { HasSeats slot rows.new.runs rows.new.bindings book.new }
     ensures keys { (h : HolderInWords) → (h ≡ holder.now → ⊥) → holder_key_at rows.new.bindings h ≡ holder_key_at rows.old.bindings h }
     ensures sits { (g : GroupInWords) → group_at rows.old.runs holder.now ≡ Some g
-        → SitsDown place holder.now g book.old.entries book.new.entries }
+        → SitsDown slot holder.now g book.old.entries book.new.entries }
 {
     let Some(group) = rows.spend(holder) else {
         return;
     };
     book.arrive(group, *holder, false);
-    begin_at_once(rows, book, place, holder);
+    begin_at_once(rows, book, slot, holder);
 }
 
 /// A holder that is in progress begins as soon as it has arrived.
-fn begin_at_once(rows: &Rows, book: &mut Book<Holder>, place: GroupSlot, holder: &Holder)
-    requires { (g : GroupInWords) → place ≡ InProgress → key_at rows.now.bindings holder.now ≡ Some g
+fn begin_at_once(rows: &Rows, book: &mut Book<Holder>, slot: GroupSlot, holder: &Holder)
+    requires { (g : GroupInWords) → slot ≡ InProgress → key_at rows.now.bindings holder.now ≡ Some g
         → (slot_in book.old.entries g).in_progress ≡ None }
-    ensures begins { BeginsIf place (key_at rows.now.bindings holder.now) book.old.entries book.new.entries }
+    ensures begins { BeginsIf slot (key_at rows.now.bindings holder.now) book.old.entries book.new.entries }
     ensures expected { book.new.expected ≡ book.old.expected }
 {
-    match place {
+    match slot {
         GroupSlot::InProgress => begin_in_group(rows, book, holder),
         GroupSlot::Pending => {}
     }

@@ -67,19 +67,19 @@ impl Runs {
         self.rows.refresh_marks(r);
     }
 
-    /// The first place in run `r` where a rule applies. None applies before the job at index `from`.
+    /// The first site in run `r` where a rule applies. None applies before the job at index `from`.
     fn first_site_in_run(&mut self, r: usize, from: usize) -> Option<RuleSite>
         requires { (run : RunState) → run_at self.old r ≡ Some run → JobsRestBefore self.old r run from }
         ensures found { result ≡ apply_at (first_in_run self.old) self.old r }
         ensures kept { self.new ≡ self.old }
     {
         let mut tries = self.tries;
-        let place = first_in_run_at(self, r, from, &mut tries);
+        let site = first_in_run_at(self, r, from, &mut tries);
         self.tries = tries;
-        place
+        site
     }
 
-    /// The first place where a rule applies. None applies before `from`.
+    /// The first site where a rule applies. None applies before `from`.
     pub(crate) fn first_site(&mut self, from: JobSite) -> Option<RuleSite>
         requires { RestBefore self.old from }
         ensures found { result ≡ first_site self.old }
@@ -88,9 +88,9 @@ impl Runs {
         let mut run = from.run;
         while let Some(r) = self.next_due(run) {
             let job = if r == from.run { from.job } else { 0 };
-            let place = self.first_site_in_run(r, job);
-            if place.is_some() {
-                return place;
+            let site = self.first_site_in_run(r, job);
+            if site.is_some() {
+                return site;
             }
             self.rest(r);
             run = r + 1;
@@ -113,12 +113,12 @@ impl Runs {
         ensures kept { self.new ≡ self.old }
     {
         let mut tries = self.tries;
-        let place = first_fit(labels, self, &mut tries);
+        let site = first_fit(labels, self, &mut tries);
         self.tries = tries;
-        place
+        site
     }
 
-    /// How often a settling rule was tried at a place, and how many runs claims looked at, since the last call. The runs stay as they are.
+    /// How often a settling rule was tried at a site, and how many runs claims looked at, since the last call. The runs stay as they are.
     pub fn take_tries(&mut self) -> u64
         ensures { self.new ≡ self.old }
     {

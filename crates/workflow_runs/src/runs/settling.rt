@@ -43,7 +43,7 @@ impl Runs {
         }
     }
 
-    /// Applies the rule at the first place where one applies, and returns where to search for the next.
+    /// Applies the rule at the first site where one applies, and returns where to search for the next.
     fn take_first_rule(&mut self, from: JobSite) -> Option<JobSite>
         requires sound { RunsAreSound self.old }
         requires rest { RestBefore self.old from }
@@ -52,31 +52,31 @@ impl Runs {
         ensures rest { IfSome result (λ next. RestBefore self.new next) }
     {
         match self.first_site(from) {
-            Some(place) => Some(self.take_first_rule_at(place)),
+            Some(site) => Some(self.take_first_rule_at(site)),
             None => None,
         }
     }
 
-    /// Applies the rule at `place`, which is the first place where one applies, and returns where to search for the next.
-    fn take_first_rule_at(&mut self, place: RuleSite) -> JobSite
+    /// Applies the rule at `site`, which is the first site where one applies, and returns where to search for the next.
+    fn take_first_rule_at(&mut self, site: RuleSite) -> JobSite
         requires sound { RunsAreSound self.old }
-        requires first { first_site self.old ≡ Some place }
+        requires first { first_site self.old ≡ Some site }
         ensures took { option_map (λ next. next.runs) (first_rule self.old) ≡ Some self.new }
         ensures rest { RestBefore self.new result }
     {
-        let may_invalidate_others = self.may_invalidate_others(&place);
-        self.take_rule(place);
-        self.resume_point(&place, may_invalidate_others)
+        let may_invalidate_others = self.may_invalidate_others(&site);
+        self.take_rule(site);
+        self.resume_point(&site, may_invalidate_others)
     }
 
-    /// Where to search for the next rule after the one at the place: no rule applies before.
-    fn resume_point(&self, place: &RuleSite, freed: bool) -> JobSite
-        ensures { result ≡ resume_point freed self.now place.now }
+    /// Where to search for the next rule after the one at the site: no rule applies before.
+    fn resume_point(&self, site: &RuleSite, freed: bool) -> JobSite
+        ensures { result ≡ resume_point freed self.now site.now }
     {
         if freed {
             return JobSite { run: 0, job: 0 };
         }
-        match place {
+        match site {
             RuleSite::Opening(r, j) => self.at_job_again(*r, *j),
             RuleSite::AtLeg(leg) => self.at_job_again(leg.run, leg.job),
             RuleSite::Closing(r, j) => self.at_job_again(*r, *j),
@@ -86,10 +86,10 @@ impl Runs {
 
     /// Whether the rule there may let a holder of another run go on: a leg arrives there and another holder ends or is stopped, or a live
     /// run with a group ends.
-    fn may_invalidate_others(&self, place: &RuleSite) -> bool
-        ensures { result ≡ may_invalidate_others self.now place.now }
+    fn may_invalidate_others(&self, site: &RuleSite) -> bool
+        ensures { result ≡ may_invalidate_others self.now site.now }
     {
-        match place {
+        match site {
             RuleSite::AtLeg(leg) => self.is_new(*leg) && self.makes_room(&Holder::Leg(*leg)),
             RuleSite::Whole(r) => self.holds(&Holder::Run(*r)) && self.has_group(&Holder::Run(*r)),
             RuleSite::Opening(_, _) | RuleSite::Closing(_, _) => false,
@@ -117,13 +117,13 @@ impl Runs {
         }
     }
 
-    /// Applies the rule at a place, if one applies.
-    fn take_rule(&mut self, place: RuleSite)
+    /// Applies the rule at a site, if one applies.
+    fn take_rule(&mut self, site: RuleSite)
         requires sound { RunsAreSound self.old }
-        requires first { first_site self.old ≡ Some place }
-        ensures { IfSome (rule_at self.old place) (λ next. self.new ≡ next.runs) }
+        requires first { first_site self.old ≡ Some site }
+        ensures { IfSome (rule_at self.old site) (λ next. self.new ≡ next.runs) }
     {
-        match place {
+        match site {
             RuleSite::Opening(r, j) => self.decide(r, j),
             RuleSite::AtLeg(leg) => self.move_leg(leg),
             RuleSite::Closing(r, j) => self.close(r, j),
@@ -167,22 +167,22 @@ impl Runs {
     }
 
     /// A new leg arrives, and a waiting leg becomes ready.
-    fn move_leg(&mut self, place: LegSite)
+    fn move_leg(&mut self, site: LegSite)
         requires sound { RunsAreSound self.old }
-        requires first { first_site self.old ≡ Some (AtLeg place) }
-        ensures { IfSome (option_and_then (leg_rule self.old place) (leg_at self.old place)) (λ next. self.new ≡ next.runs) }
+        requires first { first_site self.old ≡ Some (AtLeg site) }
+        ensures { IfSome (option_and_then (leg_rule self.old site) (leg_at self.old site)) (λ next. self.new ≡ next.runs) }
     {
-        match self.leg_phase(place) {
-            Some(LegPhase::New) => self.begin_leg(place),
-            Some(LegPhase::Waiting) => self.start_leg(place),
+        match self.leg_phase(site) {
+            Some(LegPhase::New) => self.begin_leg(site),
+            Some(LegPhase::Waiting) => self.start_leg(site),
             _ => {}
         }
     }
 
-    fn leg_phase(&self, place: LegSite) -> Option<LegPhase>
-        ensures { result ≡ option_map (λ leg. leg.phase) (leg_at self.now place) }
+    fn leg_phase(&self, site: LegSite) -> Option<LegPhase>
+        ensures { result ≡ option_map (λ leg. leg.phase) (leg_at self.now site) }
     {
-        Some(self.leg(place)?.phase)
+        Some(self.leg(site)?.phase)
     }
 
     /// Finishes job `j` with the result of its legs.
@@ -212,19 +212,19 @@ impl Runs {
     }
 
     /// Whether the leg fails its job.
-    fn fails_job(&self, place: LegSite, leg: &Leg) -> bool
-        ensures { result ≡ option_map_or fails_job (leg_end self.now place.run place.job (place.leg, leg.now)) false }
+    fn fails_job(&self, site: LegSite, leg: &Leg) -> bool
+        ensures { result ≡ option_map_or fails_job (leg_end self.now site.run site.job (site.leg, leg.now)) false }
     {
-        leg.has_failed() && !self.continues_on_error(place)
+        leg.has_failed() && !self.continues_on_error(site)
     }
 
     /// The index of the first leg that fails its job.
     fn failing_leg(&self, r: usize, j: usize, legs: &[Leg]) -> Option<usize>
         ensures { result ≡ first_some (failing self.now r j) (placed legs.now) }
     {
-        for (place, leg) in Legs::of_job(r, j, legs) {
-            if self.fails_job(place, leg) {
-                return Some(place.leg);
+        for (site, leg) in Legs::of_job(r, j, legs) {
+            if self.fails_job(site, leg) {
+                return Some(site.leg);
             }
         }
         None

@@ -87,28 +87,28 @@ impl Runs {
         }
     }
 
-    fn stop_leg(&mut self, place: LegSite)
+    fn stop_leg(&mut self, site: LegSite)
         requires { RunsAreSound self.old }
-        ensures { self.new ≡ with_leg place stopped self.old }
+        ensures { self.new ≡ with_leg site stopped self.old }
     {
-        self.stop_one(place);
-        self.rows.refresh_list(place);
+        self.stop_one(site);
+        self.rows.refresh_list(site);
     }
 
-    /// Stops the leg, if there is one at the place: it ends as cancelled, or is asked to stop if a runner has it.
-    fn stop_one(&mut self, place: LegSite)
+    /// Stops the leg, if there is one at the site: it ends as cancelled, or is asked to stop if a runner has it.
+    fn stop_one(&mut self, site: LegSite)
         requires { RunsAreSound self.old }
-        ensures stopped { self.new ≡ with_leg place stopped self.old }
+        ensures stopped { self.new ≡ with_leg site stopped self.old }
         ensures sound { RunsAreSound self.new }
     {
-        let Some(leg) = self.leg(place) else {
+        let Some(leg) = self.leg(site) else {
             return;
         };
-        let change = Change::PutLeg(place.job, place.leg, leg.stopped());
+        let change = Change::PutLeg(site.job, site.leg, leg.stopped());
         if leg.is_at_work() {
-            self.change_within(place.run, change);
+            self.change_within(site.run, change);
         } else {
-            self.change_ending(&Holder::Leg(place), change);
+            self.change_ending(&Holder::Leg(site), change);
         }
     }
 
@@ -119,7 +119,7 @@ impl Runs {
     {
         match holder {
             Holder::Run(r) => self.stop(*r),
-            Holder::Leg(place) => self.stop_leg(*place),
+            Holder::Leg(site) => self.stop_leg(*site),
         }
     }
 }

@@ -11,12 +11,12 @@ loop-j-init c = none_before-map (first_in_job c.args.runs.now c.args.r c.args.ru
 pub returns-then-is_some : goal.returns-then-is_some
 returns-then-is_some c =
     job_answers (first_in_job c.args.runs.now c.args.r c.args.run.now) c.args.jobs.now c.loop-j.j c.index-jobs-j.result
-    c.first_in_job-place.result c.loop-j.invariant (omega arith) c.index-jobs-j.is c.first_in_job-place.ensures (search rules)
+    c.first_in_job-site.result c.loop-j.invariant (omega arith) c.index-jobs-j.is c.first_in_job-site.ensures (search rules)
 
 pub loop-j-preserved : goal.loop-j-preserved
 loop-j-preserved c =
     job_passed (first_in_job c.args.runs.now c.args.r c.args.run.now) c.args.jobs.now c.loop-j.j c.index-jobs-j.result
-    c.first_in_job-place.result c.loop-j.invariant (omega arith) c.index-jobs-j.is c.first_in_job-place.ensures (search rules)
+    c.first_in_job-site.result c.loop-j.invariant (omega arith) c.index-jobs-j.is c.first_in_job-site.ensures (search rules)
 
 pub returns : goal.returns
 returns c =

@@ -7,9 +7,9 @@ use Rattle.settling_laws.proofs.PlacedLegs.{first_passing, first_passing_in_job}
 use Rattle.workflow_runs.proofs.LegsThere.{IsThere, legs_there}
 use Rattle.workflow_runs.proofs.first_site.first_of_legs.Goals as goal
 
-pub loop-place-init : goal.loop-place-init
-loop-place-init c =
-    let items = c.into_iter-place-iterator.ensures.into_iter_gives ∙ c.of_job-place-items.ensures in
+pub loop-site-init : goal.loop-site-init
+loop-site-init c =
+    let items = c.into_iter-site-iterator.ensures.into_iter_gives ∙ c.of_job-site-items.ensures in
     record {
       to_come = ap (first_passing (goes_on c.args.runs.now) AtLeg) items
           ∙ first_passing_in_job (goes_on c.args.runs.now) AtLeg c.args.r c.args.j c.args.legs.now;
@@ -19,4 +19,4 @@ loop-place-init c =
 
 pub goes_on-requires : goal.goes_on-requires
 goes_on-requires c =
-    (subst (λ (xs : List PlacedLeg). AllByRecursion (IsThere c.args.runs.now) xs) c.in-Some.ensures.steps.0 c.loop-place.invariant.there).0
+    (subst (λ (xs : List PlacedLeg). AllByRecursion (IsThere c.args.runs.now) xs) c.in-Some.ensures.steps.0 c.loop-site.invariant.there).0

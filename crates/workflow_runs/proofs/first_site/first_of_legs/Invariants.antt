@@ -7,8 +7,8 @@ use Rattle.workflow_runs.proofs.LegsThere.{IsThere}
 use Rattle.workflow_runs.proofs.first_site.first_of_legs.Given as goal
 
 -- the first that goes on is still to come
-abbrev pub invariant-loop-place : goal.invariant-loop-place
-invariant-loop-place l = record {
-  to_come : first_passing (goes_on l.runs) AtLeg l.place-iterator ≡ first_of_legs l.runs l.r l.j l.legs;
-  there : AllByRecursion (IsThere l.runs) l.place-iterator;
+abbrev pub invariant-loop-site : goal.invariant-loop-site
+invariant-loop-site l = record {
+  to_come : first_passing (goes_on l.runs) AtLeg l.site-iterator ≡ first_of_legs l.runs l.r l.j l.legs;
+  there : AllByRecursion (IsThere l.runs) l.site-iterator;
 }

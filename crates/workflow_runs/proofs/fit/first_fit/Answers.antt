@@ -11,20 +11,20 @@ pub returns-then-is_some-clause-found : goal.returns-then-is_some-clause-found
 returns-then-is_some-clause-found c =
     let labels = c.args.labels.now in
     let runs = c.args.runs.now in
-    let some : is_some c.fit_in_run-place.result ≡ true = search rules in
+    let some : is_some c.fit_in_run-site.result ≡ true = search rules in
     sym (first_fit_by_run labels runs
-    ∙ answer_found (fit_in_run labels runs) runs c.in-Some.r c.index-all-r.result c.fit_in_run-place.result
+    ∙ answer_found (fit_in_run labels runs) runs c.in-Some.r c.index-all-r.result c.fit_in_run-site.result
     (none_before labels runs c.loop-r.from c.in-Some.r c.loop-r.invariant c.in-Some.ensures.between) (search rules) (search rules)
-    c.fit_in_run-place.ensures.found some)
+    c.fit_in_run-site.ensures.found some)
 
 pub loop-r-preserved : goal.loop-r-preserved
 loop-r-preserved c =
     let labels = c.args.labels.now in
     let runs = c.args.runs.now in
-    let none : is_some c.fit_in_run-place.result ≡ false = search rules in
+    let none : is_some c.fit_in_run-site.result ≡ false = search rules in
     below_more _ _ (none_before labels runs c.loop-r.from c.in-Some.r c.loop-r.invariant c.in-Some.ensures.between)
-    (answer_passed (fit_in_run labels runs) runs c.in-Some.r c.index-all-r.result c.fit_in_run-place.result (search rules) (search rules)
-    c.fit_in_run-place.ensures.found none)
+    (answer_passed (fit_in_run labels runs) runs c.in-Some.r c.index-all-r.result c.fit_in_run-site.result (search rules) (search rules)
+    c.fit_in_run-site.ensures.found none)
 
 pub returns-clause-found : goal.returns-clause-found
 returns-clause-found c =
@@ -34,7 +34,7 @@ returns-clause-found c =
     ∙ none_found (fit_in_run labels runs) runs (length runs)
     (none_before labels runs c.loop-r.from (length runs) c.loop-r.invariant (λ i from to. c.in_default.ensures.none i from)) (omega arith))
 
-pub fit_in_run-place-requires : goal.fit_in_run-place-requires
-fit_in_run-place-requires c =
+pub fit_in_run-site-requires : goal.fit_in_run-site-requires
+fit_in_run-site-requires c =
     read_there c.args.runs.now c.as_slice-all.result.now c.in-Some.r c.in-Some.r c.index-all-r.result refl c.as_slice-all.ensures.runs
     (search rules) c.index-all-r.is

@@ -7,13 +7,13 @@ use Rattle.settling_laws.proofs.PlacedLegs.{IsInJob, all_in_job, first_passing, 
 use Rattle.workflow_runs.proofs.Sought.{serves}
 use Rattle.workflow_runs.proofs.fit.served_in_job.Goals as goal
 
-pub loop-place-init : goal.loop-place-init
-loop-place-init c =
+pub loop-site-init : goal.loop-site-init
+loop-site-init c =
     let labels = c.args.labels.now in
     let runs = c.args.runs.now in
     let job : JobState = c.args.job.now.state in
     let legs = c.planned_legs.result.now in
-    let to_come = c.into_iter-place-iterator.ensures.into_iter_gives ∙ c.of_job-place-items.ensures in (
+    let to_come = c.into_iter-site-iterator.ensures.into_iter_gives ∙ c.of_job-site-items.ensures in (
       ap (first_passing (serves labels runs) (λ p. p)) to_come
           ∙ first_passing_in_job (serves labels runs) (λ p. p) c.args.r c.args.j legs
           ∙ ap (λ ls. served_in_job labels runs c.args.r c.args.j (record job { legs = ls })) c.planned_legs.ensures.legs,

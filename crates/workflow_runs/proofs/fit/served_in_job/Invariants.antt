@@ -7,7 +7,7 @@ use Rattle.workflow_runs.proofs.Sought.{serves}
 use Rattle.workflow_runs.proofs.fit.served_in_job.Given as goal
 
 -- the first that is served is still to come, and all that are to come are legs of the job
-abbrev pub invariant-loop-place : goal.invariant-loop-place
-invariant-loop-place l =
-    (first_passing (serves l.labels l.runs) (λ p. p) l.place-iterator ≡ served_in_job l.labels l.runs l.r l.j l.job.state)
-    × AllByRecursion (λ (x : PlacedLeg). IsInJob l.r l.j l.job.room x.place) l.place-iterator
+abbrev pub invariant-loop-site : goal.invariant-loop-site
+invariant-loop-site l =
+    (first_passing (serves l.labels l.runs) (λ p. p) l.site-iterator ≡ served_in_job l.labels l.runs l.r l.j l.job.state)
+    × AllByRecursion (λ (x : PlacedLeg). IsInJob l.r l.j l.job.room x.place) l.site-iterator

@@ -9,8 +9,8 @@ pub returns : goal.returns
 returns c =
     let items = c.self.inside.runs.items in
     let runs_are = ap (λ (rows : RowState). rows.runs) c.self.view_is in
-    let found = found_run items c.args.self.now.runs c.self.inside.index.places.places c.args.delivery.now c.place.result runs_are
-    c.self.invariant.0.found c.place.ensures in
+    let found = found_run items c.args.self.now.runs c.self.inside.index.places.places c.args.delivery.now c.index_of.result runs_are
+    c.self.invariant.0.found c.index_of.ensures in
     let few = c.self.invariant.0.numbered.few in
     let all = ap (λ (runs : List RunState). length runs) runs_are in
-    record { found = found; most = found_within c.args.self.now.runs c.args.delivery.now _ c.place.result found (omega (arith, few, all)) }
+    record { found = found; most = found_within c.args.self.now.runs c.args.delivery.now _ c.index_of.result found (omega (arith, few, all)) }

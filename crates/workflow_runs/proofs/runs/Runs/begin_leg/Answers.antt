@@ -26,30 +26,30 @@ use Rattle.workflow_runs.proofs.OneChange.{leg_written}
 use Rattle.workflow_runs.proofs.runs.Runs.begin_leg.Goals as goal
 
 pub is_in_group_of_run-requires : goal.is_in_group_of_run-requires
-is_in_group_of_run-requires c = there_if_new c.args.self.now c.args.place c.requires.new
+is_in_group_of_run-requires c = there_if_new c.args.self.now c.args.site c.requires.new
 
 pub change_within-requires-clause-within : goal.change_within-requires-clause-within
-change_within-requires-clause-within c = new_leg_within c.args.self.now c.args.place c.requires.new
+change_within-requires-clause-within c = new_leg_within c.args.self.now c.args.site c.requires.new
 
 pub change_within-requires-clause-nobody : goal.change_within-requires-clause-nobody
 change_within-requires-clause-nobody c =
     let runs = c.args.self.now in
-    let p = c.args.place in
+    let p = c.args.site in
     let written = leg_written runs p c.in-Some.leg.now c.in_phase-ended.result (leg_in_phase (leg.Ended outcome.Cancelled)) (sym c.in-Some.ensures)
     c.in_phase-ended.ensures in
     subst (ChangesNobody runs) (sym written) (cancelled_nobody runs p c.requires.new c.requires.sound)
 
 pub mark-requires : goal.mark-requires
 mark-requires c =
-    let within : c.args.place.run < length c.self.inside.rows.runs =
-    subst (λ (rs : List RunState). c.args.place.run < length rs) (sym c.self.view_is) (new_leg_within c.args.self.now c.args.place c.requires.new) in
+    let within : c.args.site.run < length c.self.inside.rows.runs =
+    subst (λ (rs : List RunState). c.args.site.run < length rs) (sym c.self.view_is) (new_leg_within c.args.self.now c.args.site c.requires.new) in
     let covers : Covers c.self.inside.due (length c.self.inside.rows.runs) = c.self.invariant.1.covers in
     omega (arith, within, covers)
 
 pub enter-to_stop-requires-clause-sound : goal.enter-to_stop-requires-clause-sound
 enter-to_stop-requires-clause-sound c =
     let runs = c.args.self.now in
-    let p = c.args.place in
+    let p = c.args.site in
     let rows = c.self.inside.rows in
     let now = c.change.new.self in
     let is_now : now.runs ≡ with_leg_in leg.Waiting p runs =
@@ -60,7 +60,7 @@ enter-to_stop-requires-clause-sound c =
 pub enter-to_stop-requires-clause-waits : goal.enter-to_stop-requires-clause-waits
 enter-to_stop-requires-clause-waits c =
     let runs = c.args.self.now in
-    let p = c.args.place in
+    let p = c.args.site in
     let rows = c.self.inside.rows in
     let now = c.change.new.self in
     let is_now : now.runs ≡ with_leg_in leg.Waiting p runs =
@@ -71,7 +71,7 @@ enter-to_stop-requires-clause-waits c =
 pub enter-to_stop-requires-clause-beside : goal.enter-to_stop-requires-clause-beside
 enter-to_stop-requires-clause-beside c =
     let runs = c.args.self.now in
-    let p = c.args.place in
+    let p = c.args.site in
     let rows = c.self.inside.rows in
     let now = c.change.new.self in
     let is_now : now.runs ≡ with_leg_in leg.Waiting p runs =
@@ -87,7 +87,7 @@ enter-to_stop-requires-clause-beside c =
 pub enter-to_stop-requires-clause-due : goal.enter-to_stop-requires-clause-due
 enter-to_stop-requires-clause-due c =
     let runs = c.args.self.now in
-    let p = c.args.place in
+    let p = c.args.site in
     let rows = c.self.inside.rows in
     let now = c.change.new.self in
     let is_now : now.runs ≡ with_leg_in leg.Waiting p runs =
@@ -108,7 +108,7 @@ returns-in_default c =
 pub returns-then-is_in_group_of_run : goal.returns-then-is_in_group_of_run
 returns-then-is_in_group_of_run c =
     let runs = c.args.self.now in
-    let p = c.args.place in
+    let p = c.args.site in
     let written = leg_written runs p c.in-Some.leg.now c.in_phase-ended.result (leg_in_phase (leg.Ended outcome.Cancelled)) (sym c.in-Some.ensures)
     c.in_phase-ended.ensures in
     c.change_within.ensures ∙ written
@@ -118,7 +118,7 @@ returns-then-is_in_group_of_run c =
 pub returns : goal.returns
 returns c =
     let runs = c.args.self.now in
-    let p = c.args.place in
+    let p = c.args.site in
     let rows = c.self.inside.rows in
     let now = c.change.new.self in
     let is_now : now.runs ≡ with_leg_in leg.Waiting p runs =

@@ -6,5 +6,5 @@ use Rattle.settling_laws.proofs.PlacedLegs.{first_passing}
 use Rattle.workflow_runs.proofs.runs.Runs.failing_leg.Given as goal
 
 -- the first that fails the job is still to come
-abbrev pub invariant-loop-place : goal.invariant-loop-place
-invariant-loop-place l = first_passing (fails_at l.self) (λ p. p.leg) l.place-iterator ≡ first_some (failing l.self l.r l.j) (placed l.legs)
+abbrev pub invariant-loop-site : goal.invariant-loop-site
+invariant-loop-site l = first_passing (fails_at l.self) (λ p. p.leg) l.site-iterator ≡ first_some (failing l.self l.r l.j) (placed l.legs)

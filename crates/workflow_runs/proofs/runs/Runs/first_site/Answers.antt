@@ -1,15 +1,15 @@
 use Rattle.std.proofs.Common.{ap, ◌∙◌, ◌≡◌, true, rules}
 use Rattle.std.specs.Prelude.{is_some}
 use Rattle.run_states.specs.Settling.{first_site}
-use Rattle.workflow_runs.proofs.DueRuns.{none_left, place_found, rest_until}
+use Rattle.workflow_runs.proofs.DueRuns.{none_left, rest_until, site_found}
 use Rattle.workflow_runs.proofs.runs.Runs.first_site.Goals as goal
 
 pub returns-then-is_some-clause-found : goal.returns-then-is_some-clause-found
 returns-then-is_some-clause-found c =
     let runs = c.loop-r.self in
-    let some : is_some c.first_site_in_run-place.result ≡ true = search rules in
-    place_found runs c.in-Some.r c.first_site_in_run-place.result
-    (rest_until runs c.loop-r.run c.in-Some.r c.loop-r.invariant.1 c.in-Some.ensures.between) c.first_site_in_run-place.ensures.found some
+    let some : is_some c.first_site_in_run-site.result ≡ true = search rules in
+    site_found runs c.in-Some.r c.first_site_in_run-site.result
+    (rest_until runs c.loop-r.run c.in-Some.r c.loop-r.invariant.1 c.in-Some.ensures.between) c.first_site_in_run-site.ensures.found some
     ∙ ap first_site c.loop-r.invariant.0
 
 pub returns-clause-found : goal.returns-clause-found

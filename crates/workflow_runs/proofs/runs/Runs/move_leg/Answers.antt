@@ -8,6 +8,6 @@ use Rattle.workflow_runs.proofs.runs.Runs.move_leg.Goals as goal
 
 pub start_leg-requires-clause-may : goal.start_leg-requires-clause-may
 start_leg-requires-clause-may c =
-    let is : option_map (λ (z : LegState). z.phase) (leg_at c.args.self.now c.args.place) ≡ Some leg.Waiting = search rules in
-    let at = from_map (λ (z : LegState). z.phase) (leg_at c.args.self.now c.args.place) leg.Waiting is in
-    leg_may_start c.args.self.now c.args.place at.value c.requires.first at.is at.gives
+    let is : option_map (λ (z : LegState). z.phase) (leg_at c.args.self.now c.args.site) ≡ Some leg.Waiting = search rules in
+    let at = from_map (λ (z : LegState). z.phase) (leg_at c.args.self.now c.args.site) leg.Waiting is in
+    leg_may_start c.args.self.now c.args.site at.value c.requires.first at.is at.gives

@@ -17,7 +17,7 @@ returns-in-Run-clause-runs c =
 pub returns-in-Leg-clause-runs : goal.returns-in-Leg-clause-runs
 returns-in-Leg-clause-runs c =
     let runs = c.args.rows.now.runs in
-    let p = c.in-Leg.place in
+    let p = c.in-Leg.site in
     let waiting : waits runs (Leg p) ≡ true = sym (ap (λ (h : Holder). waits runs h) c.in-Leg.is) ∙ c.requires.waits in
     c.change-in-Leg.ensures.runs
     ∙ leg_cancelled runs p c.new.result c.in_phase-ended.result c.requires.sound waiting c.new.ensures c.in_phase-ended.ensures

@@ -17,7 +17,7 @@ its_group c = sym c.requires.key ∙ sym c.in-Some.ensures.ticket
 
 pub arrive-requires : goal.arrive-requires
 arrive-requires c =
-    room_for_it c.args.place c.args.rows.now.runs c.args.rows.now.bindings c.args.book.now c.args.holder.now c.in-Some.group
+    room_for_it c.args.slot c.args.rows.now.runs c.args.rows.now.bindings c.args.book.now c.args.holder.now c.in-Some.group
     (its_group (goal.at.arrive-requires c).In-Some) c.requires.key c.requires.seats
 
 pub begin_at_once-requires : goal.begin_at_once-requires
@@ -25,28 +25,28 @@ begin_at_once-requires c = λ g is key.
     let runs = c.args.rows.now.runs in
     let its = its_group (goal.at.begin_at_once-requires c).In-Some in
     let knows = ap (λ bs. key_at bs c.args.holder.now) c.in-Some.ensures.spent
-    ∙ key_after c.args.place runs c.args.rows.now.bindings c.args.book.now c.args.holder.now c.requires.has c.requires.seats in
-    free_still c.args.place c.args.holder.now c.in-Some.group g c.args.book.now.entries c.arrive.new.self.entries is
+    ∙ key_after c.args.slot runs c.args.rows.now.bindings c.args.book.now c.args.holder.now c.requires.has c.requires.seats in
+    free_still c.args.slot c.args.holder.now c.in-Some.group g c.args.book.now.entries c.arrive.new.self.entries is
     (same_Some c.in-Some.group g (sym its ∙ sym knows ∙ key)) (c.requires.free c.in-Some.group its) c.arrive.ensures.slots
 
 pub returns-in_default-clause-seats : goal.returns-in_default-clause-seats
 returns-in_default-clause-seats c =
-    subst (λ (bs : List RunBindings). HasSeats c.args.place c.spend.new.self.runs bs c.args.book.now) (sym c.in_default.ensures.spent)
-    (subst (λ (rs : List RunState). HasSeats c.args.place rs (keys_spent c.args.holder.now c.args.rows.now.bindings) c.args.book.now)
+    subst (λ (bs : List RunBindings). HasSeats c.args.slot c.spend.new.self.runs bs c.args.book.now) (sym c.in_default.ensures.spent)
+    (subst (λ (rs : List RunState). HasSeats c.args.slot rs (keys_spent c.args.holder.now c.args.rows.now.bindings) c.args.book.now)
     (sym c.in_default.ensures.runs)
-    (seats_without c.args.place c.args.rows.now.runs c.args.rows.now.bindings c.args.book.now c.args.holder.now c.requires.has c.requires.seats))
+    (seats_without c.args.slot c.args.rows.now.runs c.args.rows.now.bindings c.args.book.now c.args.holder.now c.requires.has c.requires.seats))
 
 pub returns-in_default-clause-keys : goal.returns-in_default-clause-keys
 returns-in_default-clause-keys c = λ h other.
     ap (λ bs. holder_key_at bs h) c.in_default.ensures.spent ∙ another_key c.args.holder.now h c.args.rows.now.bindings other
 
 -- it has sat down
-sat : (c : After-begin_at_once) → SitsDown c.args.place c.args.holder.now c.in-Some.group c.args.book.now.entries c.begin_at_once.new.book.entries
+sat : (c : After-begin_at_once) → SitsDown c.args.slot c.args.holder.now c.in-Some.group c.args.book.now.entries c.begin_at_once.new.book.entries
 sat c =
     let its = sym c.requires.key ∙ sym c.in-Some.ensures.ticket in
     let knows = ap (λ bs. key_at bs c.args.holder.now) c.in-Some.ensures.spent
-    ∙ key_after c.args.place c.args.rows.now.runs c.args.rows.now.bindings c.args.book.now c.args.holder.now c.requires.has c.requires.seats in
-    sits_down c.args.place c.args.holder.now c.in-Some.group (key_at c.spend.new.self.bindings c.args.holder.now) c.args.book.now.entries
+    ∙ key_after c.args.slot c.args.rows.now.runs c.args.rows.now.bindings c.args.book.now c.args.holder.now c.requires.has c.requires.seats in
+    sits_down c.args.slot c.args.holder.now c.in-Some.group (key_at c.spend.new.self.bindings c.args.holder.now) c.args.book.now.entries
     c.arrive.new.self.entries c.begin_at_once.new.book.entries c.requires.seats.beside (knows ∙ its) c.arrive.ensures.slots
     c.begin_at_once.ensures.begins
 
@@ -54,10 +54,10 @@ pub returns-clause-seats : goal.returns-clause-seats
 returns-clause-seats c =
     let fewer : c.begin_at_once.new.book.expected + 1 ≡ c.args.book.now.expected =
     omega (arith, c.begin_at_once.ensures.expected, c.arrive.ensures.expected) in
-    subst (λ (bs : List RunBindings). HasSeats c.args.place c.spend.new.self.runs bs c.begin_at_once.new.book) (sym c.in-Some.ensures.spent)
-    (subst (λ (rs : List RunState). HasSeats c.args.place rs (keys_spent c.args.holder.now c.args.rows.now.bindings) c.begin_at_once.new.book)
+    subst (λ (bs : List RunBindings). HasSeats c.args.slot c.spend.new.self.runs bs c.begin_at_once.new.book) (sym c.in-Some.ensures.spent)
+    (subst (λ (rs : List RunState). HasSeats c.args.slot rs (keys_spent c.args.holder.now c.args.rows.now.bindings) c.begin_at_once.new.book)
     (sym c.in-Some.ensures.runs)
-    (seats_still c.args.place c.args.rows.now.runs c.args.rows.now.bindings c.args.book.now c.begin_at_once.new.book c.args.holder.now
+    (seats_still c.args.slot c.args.rows.now.runs c.args.rows.now.bindings c.args.book.now c.begin_at_once.new.book c.args.holder.now
     c.in-Some.group c.requires.has (its_group (goal.at.returns-clause-seats c).In-Some) c.requires.key
     (sat (goal.at.returns-clause-seats c).After-begin_at_once) fewer c.requires.seats))
 
@@ -67,6 +67,6 @@ returns-clause-keys c = λ h other.
 
 pub returns-clause-sits : goal.returns-clause-sits
 returns-clause-sits c = λ g its.
-    subst (λ (k : Group). SitsDown c.args.place c.args.holder.now k c.args.book.now.entries c.begin_at_once.new.book.entries)
+    subst (λ (k : Group). SitsDown c.args.slot c.args.holder.now k c.args.book.now.entries c.begin_at_once.new.book.entries)
     (same_Some c.in-Some.group g (sym (its_group (goal.at.returns-clause-sits c).In-Some) ∙ its))
     (sat (goal.at.returns-clause-sits c).After-begin_at_once)
