@@ -61,22 +61,22 @@ impl<P: Protocol> HeldBytes<P> {
         self.bytes.extend_from_slice(bytes)
     }
 
-    /// Takes the whole request at the start of the bytes. Returns `None` if more bytes are needed. An event with the bytes of the one that
-    /// is known need not be read again.
+    /// Takes the whole request at the start of the bytes. Returns `None` if more bytes are needed. An event with the bytes of the latest
+    /// one need not be read again.
     /// Promise (Sessions): A session over streams and one in memory take each turn by the same calls. The next request is what the protocol
     ///   reads at the start of the bytes
     /// By: `act_sessions::HeldBytes::next_request` (`Finds`)
     pub fn next_request(
         &mut self,
         alloc: Global,
-        known: Option<&Prepared>,
+        latest: Option<&Prepared>,
     ) -> Result<Option<Request<P::Fault>>, Refusal>
         ensures { Finds P.rules self.old self.new result }
     {
         if self.bytes.len() < self.until {
             return Ok(None);
         }
-        match P::next(alloc, known, &self.bytes, self.progress)? {
+        match P::next(alloc, latest, &self.bytes, self.progress)? {
             Next::Whole(found) => {
                 take_first_off(&mut self.bytes, found.length);
                 self.progress = Progress::none();

@@ -36,10 +36,10 @@ pub trait Protocol {
         ensures { result ≡ rules.limit };
 
     /// What the bytes begin with, if they were read so far before. If they wait, it says how far they were read now. An event with the
-    /// bytes of the one that is known need not be read again; what it is doesn't depend on that.
+    /// bytes of the latest one need not be read again; what it is does not depend on that.
     fn next(
         alloc: Global,
-        known: Option<&Prepared>,
+        latest: Option<&Prepared>,
         bytes: &[u8],
         progress: Progress,
     ) -> Result<Next<Self::Fault>, Refusal>

@@ -57,7 +57,7 @@ impl Protocol for RunnerLines {
 
     fn next(
         alloc: Global,
-        _known: Option<&Prepared>,
+        _latest: Option<&Prepared>,
         bytes: &[u8],
         progress: Progress,
     ) -> Result<Next<Refusal>, Refusal> {

@@ -22,14 +22,14 @@ fn is_want_of_memory(refusal: &Refusal) -> bool
 /// The admission of an event, or the first fault of its body.
 fn prepared(
     alloc: Global,
-    known: Option<&Prepared>,
+    latest: Option<&Prepared>,
     delivery: DeliveryId,
     event: EventName,
     body: &[u8],
 ) -> Result<Demand<Fault>, Refusal>
     ensures { Gives (λ d. d) result (Ok (prepared (record { delivery = delivery; event = event; body = body.now }))) }
 {
-    match prepare_beside(alloc, known, event, delivery, body) {
+    match prepare_beside(alloc, latest, event, delivery, body) {
         Ok(admitted) => Ok(Demand::Command(Command::Admit(admitted))),
         Err(refusal) if is_want_of_memory(&refusal) => Err(refusal),
         Err(refusal) => Ok(Demand::Fault(Fault::Unprocessable(refusal))),
@@ -39,7 +39,7 @@ fn prepared(
 /// What a posted event demands.
 fn admission(
     alloc: Global,
-    known: Option<&Prepared>,
+    latest: Option<&Prepared>,
     fields: &Fields<'_>,
     body: &[u8],
 ) -> Result<Demand<Fault>, Refusal>
@@ -49,7 +49,7 @@ fn admission(
         Ok(headers) => {
             let delivery = SmallText::copy_of(alloc, headers.delivery)?;
             let event = SmallText::copy_of(alloc, headers.event)?;
-            prepared(alloc, known, delivery, event, body)
+            prepared(alloc, latest, delivery, event, body)
         }
         Err(fault) => Ok(Demand::Fault(fault)),
     }
@@ -58,7 +58,7 @@ fn admission(
 /// What a path demands by its method.
 fn command_at(
     alloc: Global,
-    known: Option<&Prepared>,
+    latest: Option<&Prepared>,
     path: Path,
     fields: &Fields<'_>,
     body: &[u8],
@@ -66,7 +66,7 @@ fn command_at(
     ensures { Gives (λ d. d) result (Ok (command_at path fields.now body.now)) }
 {
     match path {
-        Path::Events => admission(alloc, known, fields, body),
+        Path::Events => admission(alloc, latest, fields, body),
         Path::Run(run) => Ok(Demand::Command(Command::Look(run))),
         Path::Body(run) => Ok(Demand::Command(Command::Fetch(run))),
         Path::Cancel(run) => Ok(Demand::Command(Command::Cancel(run))),
@@ -75,10 +75,10 @@ fn command_at(
     }
 }
 
-/// What a request demands, by its head and its body. An event with the bytes of the one that is known is not read again.
+/// What a request demands, by its head and its body. An event with the bytes of the latest one is not read again.
 pub fn demand_of(
     alloc: Global,
-    known: Option<&Prepared>,
+    latest: Option<&Prepared>,
     head: &Head<'_>,
     body: &[u8],
 ) -> Result<Demand<Fault>, Refusal>
@@ -91,5 +91,5 @@ pub fn demand_of(
     if head.method() != method.as_str().as_bytes() {
         return Ok(Demand::Fault(Fault::WrongMethod(method)));
     }
-    command_at(alloc, known, path, head.fields(), body)
+    command_at(alloc, latest, path, head.fields(), body)
 }

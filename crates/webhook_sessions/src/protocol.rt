@@ -38,11 +38,11 @@ impl Protocol for Hooks {
 
     fn next(
         alloc: Global,
-        known: Option<&Prepared>,
+        latest: Option<&Prepared>,
         bytes: &[u8],
         progress: Progress,
     ) -> Result<Next<Fault>, Refusal> {
-        next_request(alloc, known, bytes, progress)
+        next_request(alloc, latest, bytes, progress)
     }
 
     fn answer_text(

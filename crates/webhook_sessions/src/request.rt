@@ -36,7 +36,7 @@ fn unread(fault: Fault, length: usize) -> FoundRequest<Fault>
 /// The request of a head and the bytes after it. While its body is incomplete, it waits for all of it.
 fn request_after(
     alloc: Global,
-    known: Option<&Prepared>,
+    latest: Option<&Prepared>,
     head: &Head<'_>,
     head_length: usize,
     after: &[u8],
@@ -47,7 +47,7 @@ fn request_after(
     match head.body_length() {
         Err(fault) => Ok(Next::Whole(unread(fault, head_length))),
         Ok(size) if size <= after.len() => {
-            let demand = demand_of(alloc, known, head, &after[..size])?;
+            let demand = demand_of(alloc, latest, head, &after[..size])?;
             Ok(Next::Whole(FoundRequest {
                 request: Request {
                     demand,
@@ -76,7 +76,7 @@ fn waits_for_a_byte(bytes: &[u8], progress: Progress) -> Next<Fault>
 /// What the bytes begin with, from their start.
 fn read_request(
     alloc: Global,
-    known: Option<&Prepared>,
+    latest: Option<&Prepared>,
     bytes: &[u8],
 ) -> Result<Next<Fault>, Refusal>
     ensures found { IsNext hooks bytes.now result }
@@ -87,7 +87,7 @@ fn read_request(
     match parse_request(prefix, &mut spans) {
         Ok(Status::Complete(found)) => {
             let head = Head::new(prefix, &found, &spans[..found.headers]);
-            request_after(alloc, known, &head, found.len, &bytes[found.len..])
+            request_after(alloc, latest, &head, found.len, &bytes[found.len..])
         }
         Ok(Status::Partial) if bytes.len() < MAX_HEAD => {
             Ok(waits_for_a_byte(bytes, read_first(bytes)))
@@ -101,7 +101,7 @@ fn read_request(
 /// looked at once it is whole.
 pub fn next_request(
     alloc: Global,
-    known: Option<&Prepared>,
+    latest: Option<&Prepared>,
     bytes: &[u8],
     progress: Progress,
 ) -> Result<Next<Fault>, Refusal>
@@ -112,5 +112,5 @@ pub fn next_request(
     if bytes.len() < MAX_HEAD && is_unfinished(bytes, progress) {
         return Ok(waits_for_a_byte(bytes, read_on(bytes, progress)));
     }
-    read_request(alloc, known, bytes)
+    read_request(alloc, latest, bytes)
 }
