@@ -22,38 +22,38 @@ pub fn kept_lease(
     alloc: Global,
     runs: &Runs,
     attempt: Number,
-    place: LegSite,
+    site: LegSite,
     lease: Number,
 ) -> Result<KeptLease, Refusal>
-    requires { place.run < max_runs }
-    ensures { Gives (λ k. k) result (Ok (kept_lease runs.now attempt place lease)) }
+    requires { site.run < max_runs }
+    ensures { Gives (λ k. k) result (Ok (kept_lease runs.now attempt site lease)) }
 {
     Ok(KeptLease {
-        lease_reply: lease_at(alloc, runs, place, lease)?,
+        lease_reply: lease_at(alloc, runs, site, lease)?,
         attempt,
-        job: place.job,
+        job: site.job,
     })
 }
 
 /// The lease as it is sent to the runner that gets the leg.
-fn lease_at(alloc: Global, runs: &Runs, place: LegSite, lease: Number) -> Result<Lease, Refusal>
-    requires { place.run < max_runs }
-    ensures { Gives (λ l. l) result (Ok (lease_at runs.now place lease)) }
+fn lease_at(alloc: Global, runs: &Runs, site: LegSite, lease: Number) -> Result<Lease, Refusal>
+    requires { site.run < max_runs }
+    ensures { Gives (λ l. l) result (Ok (lease_at runs.now site lease)) }
 {
     Ok(Lease {
         lease,
-        run: id_of(place.run),
-        job: runs.job_id(alloc, place.run, place.job)?,
-        leg: place.leg,
-        combo: runs.combo(alloc, place)?,
+        run: id_of(site.run),
+        job: runs.job_id(alloc, site.run, site.job)?,
+        leg: site.leg,
+        combo: runs.combo(alloc, site)?,
     })
 }
 
-/// Whether the leg at a place has the lease.
-pub fn leg_has_lease(runs: &Runs, place: LegSite, lease: Number) -> bool
-    ensures { result ≡ option_map_or (has_lease lease) (leg_at runs.now place) false }
+/// Whether the leg at a site has the lease.
+pub fn leg_has_lease(runs: &Runs, site: LegSite, lease: Number) -> bool
+    ensures { result ≡ option_map_or (has_lease lease) (leg_at runs.now site) false }
 {
-    match runs.leg(place) {
+    match runs.leg(site) {
         Some(leg) => leg.has_lease(lease),
         None => false,
     }

@@ -10,7 +10,7 @@ use run_plan::{ClaimReply, LastCommand};
 /// The byte of a kept reply.
 const BYTE: u64 = 1;
 
-/// The bytes of a kept lease, and of the run, the attempt, the job and the leg of its place.
+/// The bytes of a kept lease, and of the run, the attempt, the job and the leg of its site.
 const LEASE: u64 = 20;
 
 impl Runner {

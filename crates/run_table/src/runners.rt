@@ -75,33 +75,33 @@ impl Runners {
     }
 
     /// The runner with this name, given its index.
-    pub(crate) fn at(&self, place: usize, name: &RunnerName) -> Option<&Runner>
-        requires { place ≡ index_named self.now name.now }
+    pub(crate) fn at(&self, index: usize, name: &RunnerName) -> Option<&Runner>
+        requires { index ≡ index_named self.now name.now }
         ensures { option_map (λ r. r.now) result ≡ runner_named self.now name.now }
     {
-        named_at(self.as_slice(), place, name)
+        named_at(self.as_slice(), index, name)
     }
 
     /// Inserts the runner at the index of its name, or replaces the runner of that name. On error the runners are
     /// unchanged.
-    pub(crate) fn put(&mut self, place: usize, runner: Runner) -> Result<(), Refusal>
-        requires { place ≡ index_named self.old runner.name }
+    pub(crate) fn put(&mut self, index: usize, runner: Runner) -> Result<(), Refusal>
+        requires { index ≡ index_named self.old runner.name }
         ensures put { Gives (λ _. self.new) result (Ok (with_runner self.old runner)) }
         ensures err { OnErr result (self.new ≡ self.old) }
     {
-        let before = u128::from(self.size_at(place, &runner.name));
+        let before = u128::from(self.size_at(index, &runner.name));
         let after = u128::from(runner.text_size());
-        put_in(&mut self.runners, place, runner)?;
+        put_in(&mut self.runners, index, runner)?;
         self.text = self.text - before + after;
         Ok(())
     }
 
     /// The size of the runner with this name, given its index; 0 if there is none.
-    fn size_at(&self, place: usize, name: &RunnerName) -> u64
-        requires { place ≡ index_named self.now name.now }
+    fn size_at(&self, index: usize, name: &RunnerName) -> u64
+        requires { index ≡ index_named self.now name.now }
         ensures { result ≡ option_map_or runner_size (runner_named self.now name.now) 0 }
     {
-        match self.at(place, name) {
+        match self.at(index, name) {
             Some(runner) => runner.text_size(),
             None => 0,
         }
@@ -138,10 +138,10 @@ fn count_below(runners: &[Runner], name: &RunnerName) -> usize
 }
 
 /// The runner at an index, if it has the name.
-fn named_at<'a>(runners: &'a [Runner], place: usize, name: &RunnerName) -> Option<&'a Runner>
-    ensures { option_map (λ r. r.now) result ≡ option_and_then (kept_named name.now) (slice_get runners.now place) }
+fn named_at<'a>(runners: &'a [Runner], index: usize, name: &RunnerName) -> Option<&'a Runner>
+    ensures { option_map (λ r. r.now) result ≡ option_and_then (kept_named name.now) (slice_get runners.now index) }
 {
-    let runner = runners.get(place)?;
+    let runner = runners.get(index)?;
     if is_named(runner, name) {
         Some(runner)
     } else {
@@ -149,23 +149,23 @@ fn named_at<'a>(runners: &'a [Runner], place: usize, name: &RunnerName) -> Optio
     }
 }
 
-fn replace(runners: &mut Vec<Runner>, place: usize, runner: Runner)
-    requires { place < length runners.old.items }
-    ensures { runners.new.items ≡ slice_set runners.old.items place runner }
+fn replace(runners: &mut Vec<Runner>, index: usize, runner: Runner)
+    requires { index < length runners.old.items }
+    ensures { runners.new.items ≡ slice_set runners.old.items index runner }
 {
-    runners[place] = runner;
+    runners[index] = runner;
 }
 
-fn put_in(runners: &mut Vec<Runner>, place: usize, runner: Runner) -> Result<(), Refusal>
+fn put_in(runners: &mut Vec<Runner>, index: usize, runner: Runner) -> Result<(), Refusal>
     requires rise { names_rise runners.old.items ≡ true }
-    requires place { place ≡ index_named runners.old.items runner.name }
+    requires place { index ≡ index_named runners.old.items runner.name }
     ensures put { Gives (λ _. runners.new.items) result (Ok (with_runner runners.old.items runner)) }
     ensures err { OnErr result (runners.new.items ≡ runners.old.items) }
 {
-    if named_at(runners, place, &runner.name).is_some() {
-        replace(runners, place, runner);
+    if named_at(runners, index, &runner.name).is_some() {
+        replace(runners, index, runner);
         return Ok(());
     }
-    runners.insert(place, runner)?;
+    runners.insert(index, runner)?;
     Ok(())
 }

@@ -164,15 +164,15 @@ fn with_copy(alloc: Global, reply: Reply) -> Result<(Reply, Reply), Refusal>
 }
 
 /// The id of the run at an index.
-pub(crate) fn id_of(place: usize) -> Number
-    requires { place < max_runs }
-    ensures { result ≡ place + 1 }
+pub(crate) fn id_of(index: usize) -> Number
+    requires { index < max_runs }
+    ensures { result ≡ index + 1 }
 {
-    Number::new(place as u32 + 1)
+    Number::new(index as u32 + 1)
 }
 
 /// The index of the run with an id.
-fn place_of(id: Number) -> usize
+fn index_of(id: Number) -> usize
     ensures { result ≡ id - 1 }
 {
     id.get() as usize - 1

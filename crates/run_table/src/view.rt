@@ -84,8 +84,8 @@ fn number_text(alloc: Global, number: usize, attempt: u32) -> Result<String, All
 pub fn look(runs: &Runs, id: Number) -> Option<RunView<'_>>
     ensures { result ≡ seen_of runs.now id }
 {
-    let place = id.get() as usize - 1;
-    let run = runs.as_slice().get(place)?;
-    let number = runs.number(place)?;
+    let index = id.get() as usize - 1;
+    let run = runs.as_slice().get(index)?;
+    let number = runs.number(index)?;
     Some(RunView { id, number, run })
 }

@@ -8,7 +8,7 @@ use Rattle.run_plan.specs.declared.last_command.LastCommand.TheVariants as last
 use Rattle.command_encodings.specs.Lengths.{command_length, text_length}
 use Rattle.run_states.specs.TableState.{RunnerState}
 
--- a command, a byte for its reply, and for a lease its number and the four numbers of its place
+-- a command, a byte for its reply, and for a lease its number and the four numbers of its site
 abbrev pub last_size : LastCommand → ℕ
 last_size (last.Claim claim given.Nothing) = command_length (requested.Claim claim) + 1
 last_size (last.Claim claim (given.Lease kept)) = command_length (requested.Claim claim) + 1 + 20

@@ -19,8 +19,8 @@ impl TableData {
         ensures err { OnErr result (self.new ≡ self.old) }
         ensures answers { is_allocation_free (admission_answer self.old prepared.now) ≡ true → IsOk result }
     {
-        if let Some(place) = self.runs.position(prepared.delivery()) {
-            return Ok(Reply::Created(id_of(place)));
+        if let Some(index) = self.runs.position(prepared.delivery()) {
+            return Ok(Reply::Created(id_of(index)));
         }
         if self.runs.len() >= MAX_RUNS as usize {
             return Ok(refused(Code::LastCounter));
@@ -54,10 +54,10 @@ impl TableData {
         ensures step { Gives (λ reply. (self.new, reply)) result (Ok (outcome (admitting self.old prepared.now))) }
         ensures err { OnErr result (self.new ≡ self.old) }
     {
-        let place = self.runs.len();
+        let index = self.runs.len();
         let run = Run::of_event(alloc, prepared)?;
         let start = self.runs.admit(alloc, run)?;
         self.runs.settle_from(start);
-        Ok(Reply::Created(id_of(place)))
+        Ok(Reply::Created(id_of(index)))
     }
 }

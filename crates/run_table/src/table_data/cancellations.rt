@@ -4,7 +4,7 @@ ghost use Rattle.std.specs.Prelude.{◌≡◌};
 ghost use Rattle.run_states.specs.Sound.{IsSound};
 ghost use Rattle.run_states.specs.Step.{answer_of_run, cancel_answer, cancelled, outcome};
 
-use crate::table_data::{TableData, place_of, refused};
+use crate::table_data::{TableData, index_of, refused};
 use run_plan::{Number, Reply};
 use run_states::RunPhase;
 use wf_value::Code;
@@ -18,7 +18,7 @@ impl TableData {
         if let Some(reply) = self.answer_to_cancel(id) {
             return reply;
         }
-        self.runs.stop(place_of(id));
+        self.runs.stop(index_of(id));
         self.runs.settle();
         Reply::Ok
     }
@@ -26,7 +26,7 @@ impl TableData {
     fn answer_to_cancel(&self, id: Number) -> Option<Reply>
         ensures { result ≡ cancel_answer self.now id }
     {
-        match self.runs.as_slice().get(place_of(id)) {
+        match self.runs.as_slice().get(index_of(id)) {
             Some(run) => answer_of_run(run.phase(), run.is_stopping()),
             None => Some(refused(Code::NoRun)),
         }

@@ -30,27 +30,27 @@ impl TableData {
         ensures err { OnErr result (self.new ≡ self.old) }
         ensures answers { is_allocation_free (claim_answer self.old claim.now) ≡ true → IsOk result }
     {
-        let place = self.runners.index_named(&claim.runner);
-        let runner = self.runners.at(place, &claim.runner);
+        let index = self.runners.index_named(&claim.runner);
+        let runner = self.runners.at(index, &claim.runner);
         if let Some(reply) = answer_to_claim(alloc, runner, claim)? {
             return with_copy(alloc, reply);
         }
         if holds_lease(runner) {
             return Ok((refused(Code::HasLease), refused(Code::HasLease)));
         }
-        self.claim_in_sequence(alloc, claim, place)
+        self.claim_in_sequence(alloc, claim, index)
     }
 
-    /// Handles a claim of a runner that holds no lease and whose number is next in its sequence. `place` is the
-    /// runner's index.
+    /// Handles a claim of a runner that holds no lease and whose number is next in its sequence. `index` is that
+    /// of the runner.
     fn claim_in_sequence(
         &mut self,
         alloc: Global,
         claim: &Claim,
-        place: usize,
+        index: usize,
     ) -> Result<(Reply, Reply), Refusal>
         requires sound { IsSound self.old }
-        requires place { place ≡ index_named self.old.runners claim.now.runner }
+        requires place { index ≡ index_named self.old.runners claim.now.runner }
         ensures step { Gives (λ replies. (self.new, replies.0)) result
             (Ok (outcome (option_map_or (unchanged self.old) (lease_answer self.old claim.now) (claiming self.old claim.now)))) }
         ensures copy { IfOk result (λ replies. replies.1 ≡ replies.0) }
@@ -58,11 +58,11 @@ impl TableData {
         ensures answers { is_some (lease_answer self.old claim.now) ≡ true → IsOk result }
     {
         match self.runs.first_fit(claim.labels.as_slice()) {
-            None => self.serve_nothing(alloc, claim, place),
+            None => self.serve_nothing(alloc, claim, index),
             Some(_) if self.last_lease >= LAST_NUMBER => {
                 Ok((refused(Code::LastCounter), refused(Code::LastCounter)))
             }
-            Some(leg) => self.lease(alloc, claim, place, leg),
+            Some(leg) => self.lease(alloc, claim, index, leg),
         }
     }
 
@@ -72,16 +72,16 @@ impl TableData {
         &mut self,
         alloc: Global,
         claim: &Claim,
-        place: usize,
+        index: usize,
     ) -> Result<(Reply, Reply), Refusal>
         requires sound { IsSound self.old }
-        requires place { place ≡ index_named self.old.runners claim.now.runner }
+        requires place { index ≡ index_named self.old.runners claim.now.runner }
         ensures step { Gives (λ replies. (self.new, replies.0)) result (Ok (outcome (serving_nothing self.old claim.now))) }
         ensures copy { IfOk result (λ replies. replies.1 ≡ replies.0) }
         ensures err { OnErr result (self.new ≡ self.old) }
     {
         let runner = Runner::claiming(alloc, claim, None, ClaimReply::Nothing)?;
-        self.runners.put(place, runner)?;
+        self.runners.put(index, runner)?;
         Ok((Reply::Nothing, Reply::Nothing))
     }
 
@@ -90,11 +90,11 @@ impl TableData {
         &mut self,
         alloc: Global,
         claim: &Claim,
-        place: usize,
+        index: usize,
         leg: LegSite,
     ) -> Result<(Reply, Reply), Refusal>
         requires sound { IsSound self.old }
-        requires place { place ≡ index_named self.old.runners claim.now.runner }
+        requires place { index ≡ index_named self.old.runners claim.now.runner }
         requires run { leg.run < max_runs }
         requires fits { first_fit claim.now.labels self.old.runs ≡ Some leg }
         requires left { self.old.last_lease < last_number }
@@ -104,7 +104,7 @@ impl TableData {
     {
         let lease = Number::new(self.last_lease + 1);
         let (runner, lease_reply, copy) = runner_and_replies(alloc, claim, &self.runs, leg, lease)?;
-        self.runners.put(place, runner)?;
+        self.runners.put(index, runner)?;
         self.last_lease = lease.get();
         self.runs.lease(leg, lease);
         self.runs.settle();
@@ -117,19 +117,19 @@ fn runner_and_replies(
     alloc: Global,
     claim: &Claim,
     runs: &Runs,
-    place: LegSite,
+    site: LegSite,
     lease: Number,
 ) -> Result<(Runner, BoxedLease, BoxedLease), Refusal>
-    requires run { place.run < max_runs }
-    requires there { place.run < length runs.now }
-    ensures runner { let at = kept_lease_at runs.now place lease in
+    requires run { site.run < max_runs }
+    requires there { site.run < length runs.now }
+    ensures runner { let at = kept_lease_at runs.now site lease in
         IfOk result (λ kept. kept.0 ≡ claiming_runner claim.now (Some lease) (given.Lease at)) }
-    ensures lease_reply { IfOk result (λ kept. kept.1 ≡ lease_at runs.now place lease) }
-    ensures copy { IfOk result (λ kept. kept.2 ≡ lease_at runs.now place lease) }
+    ensures lease_reply { IfOk result (λ kept. kept.1 ≡ lease_at runs.now site lease) }
+    ensures copy { IfOk result (λ kept. kept.2 ≡ lease_at runs.now site lease) }
     ensures refused { IfErr result (λ e. e ≡ no_memory) }
 {
-    let attempt = attempt_at(runs, place.run);
-    let kept = kept_lease(alloc, runs, attempt, place, lease)?;
+    let attempt = attempt_at(runs, site.run);
+    let kept = kept_lease(alloc, runs, attempt, site, lease)?;
     let lease_reply = BoxedLease::new(alloc, kept.lease_reply.copy(alloc)?)?;
     let copy = lease_reply.copy(alloc)?;
     let runner = Runner::claiming(alloc, claim, Some(lease), ClaimReply::Lease(kept))?;

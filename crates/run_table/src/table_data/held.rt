@@ -14,22 +14,22 @@ use workflow_runs::fit::site_of_lease;
 
 impl TableData {
     /// The leg of a lease on which a runner is at work. It first tries the leg that is kept with the last claim of the
-    /// runner at index `place`. In a table read from parts, that leg may belong to another lease, so it counts only if
+    /// runner at this index. In a table read from parts, that leg may belong to another lease, so it counts only if
     /// it has this one; otherwise the active runs are searched. It takes no memory.
-    pub(super) fn leg_held(&self, place: usize, lease: Number) -> Option<LegSite>
+    pub(super) fn leg_held(&self, index: usize, lease: Number) -> Option<LegSite>
         requires sound { IsSound self.now }
         requires work { OnlyAtWork self.now.runs lease }
         ensures found { result ≡ site_of_lease self.now.runs lease }
         ensures leg { IfSome result (λ p. p.leg < 2 ^ 63) }
     {
-        match kept_site(self.runners().get(place)) {
+        match kept_site(self.runners().get(index)) {
             Some(leg) if leg_has_lease(&self.runs, leg, lease) => Some(leg),
             _ => site_of_lease(lease, &self.runs),
         }
     }
 }
 
-/// The place of the leg that the runner's last claim was given, or `None` if there is no runner or the claim was given
+/// The site of the leg that the runner's last claim was given, or `None` if there is no runner or the claim was given
 /// no leg.
 fn kept_site(runner: Option<&Runner>) -> Option<LegSite>
     ensures { result ≡ option_and_then (λ r. kept_site r.now.last) runner.entry }

@@ -22,12 +22,12 @@ impl TableData {
         ensures err { OnErr result (self.new ≡ self.old) }
         ensures answers { is_allocation_free (loss_answer self.old name.now) ≡ true → IsOk result }
     {
-        let place = self.runners.index_named(name);
-        match self.runners.at(place, name) {
+        let index = self.runners.index_named(name);
+        match self.runners.at(index, name) {
             Some(runner) => match runner.holds {
                 Some(lease) => {
                     let runner = runner.released(alloc)?;
-                    self.end_lost(place, runner, lease)
+                    self.end_lost(index, runner, lease)
                 }
                 None => Ok(refused(Code::LeaseNotHeld)),
             },
@@ -36,17 +36,17 @@ impl TableData {
     }
 
     /// Ends the leg of a lost runner's lease. `runner` is that runner, released.
-    fn end_lost(&mut self, place: usize, runner: Runner, lease: Number) -> Result<Reply, Refusal>
+    fn end_lost(&mut self, index: usize, runner: Runner, lease: Number) -> Result<Reply, Refusal>
         requires sound { IsSound self.old }
-        requires place { place ≡ index_named self.old.runners runner.name }
+        requires place { index ≡ index_named self.old.runners runner.name }
         requires work { OnlyAtWork self.old.runs lease }
         requires ends { RunsAreSound (with_ended lease (outcome_of_loss self.old.runs lease) self.old.runs) }
         ensures step { Gives (λ reply. (self.new, reply)) result (Ok (outcome (losing self.old runner lease))) }
         ensures err { OnErr result (self.new ≡ self.old) }
     {
-        let leg = self.leg_held(place, lease);
+        let leg = self.leg_held(index, lease);
         let outcome = outcome_of_loss(leg, &self.runs);
-        self.runners.put(place, runner)?;
+        self.runners.put(index, runner)?;
         self.runs.end(leg, outcome);
         self.runs.settle();
         Ok(Reply::Ok)

@@ -6,7 +6,7 @@ ghost use Rattle.run_states.specs.Sound.{IsSound};
 ghost use Rattle.run_states.specs.Step.{beat_answer, fetch_answer, is_allocation_free, look_answer, seen};
 
 use crate::runner::holds_this;
-use crate::table_data::{TableData, place_of, refused};
+use crate::table_data::{TableData, index_of, refused};
 use crate::view::{RunView, look};
 use run_plan::{Beat, Number, Reply, SharedBody};
 use std::alloc::Global;
@@ -19,13 +19,13 @@ impl TableData {
         requires { IsSound self.now }
         ensures { result ≡ beat_answer self.now beat.now }
     {
-        let place = self.runners.index_named(&beat.runner);
-        let runner = self.runners.at(place, &beat.runner);
+        let index = self.runners.index_named(&beat.runner);
+        let runner = self.runners.at(index, &beat.runner);
         if runner.is_none() {
             refused(Code::NoRunner)
         } else if !holds_this(runner, beat.lease) {
             refused(Code::LeaseNotHeld)
-        } else if is_stopping(self.leg_held(place, beat.lease), &self.runs) {
+        } else if is_stopping(self.leg_held(index, beat.lease), &self.runs) {
             Reply::Stop
         } else {
             Reply::GoOn
@@ -36,7 +36,7 @@ impl TableData {
         ensures gives { Gives (λ reply. reply) result (Ok (fetch_answer self.now id)) }
         ensures answers { is_allocation_free (Some (fetch_answer self.now id)) ≡ true → IsOk result }
     {
-        let Some(run) = self.runs.as_slice().get(place_of(id)) else {
+        let Some(run) = self.runs.as_slice().get(index_of(id)) else {
             return Ok(refused(Code::NoRun));
         };
         Ok(Reply::Body(SharedBody::of(run.prepared())?))

@@ -20,28 +20,28 @@ impl TableData {
         ensures err { OnErr result (self.new ≡ self.old) }
         ensures answers { is_allocation_free (report_answer self.old report.now) ≡ true → IsOk result }
     {
-        let place = self.runners.index_named(&report.runner);
-        let runner = self.runners.at(place, &report.runner);
+        let index = self.runners.index_named(&report.runner);
+        let runner = self.runners.at(index, &report.runner);
         if let Some(reply) = answer_to_report(alloc, runner, report)? {
             return Ok(reply);
         }
         if !holds_this(runner, report.lease) {
             return Ok(refused(Code::LeaseNotHeld));
         }
-        self.end(alloc, report, place)
+        self.end(alloc, report, index)
     }
 
     /// Ends the leg of the lease.
-    fn end(&mut self, alloc: Global, report: &Done, place: usize) -> Result<Reply, Refusal>
+    fn end(&mut self, alloc: Global, report: &Done, index: usize) -> Result<Reply, Refusal>
         requires sound { IsSound self.old }
-        requires place { place ≡ index_named self.old.runners report.now.runner }
+        requires place { index ≡ index_named self.old.runners report.now.runner }
         requires due { report_answer self.old report.now ≡ None }
         ensures step { Gives (λ reply. (self.new, reply)) result (Ok (outcome (reporting self.old report.now))) }
         ensures err { OnErr result (self.new ≡ self.old) }
     {
-        let leg = self.leg_held(place, report.lease);
+        let leg = self.leg_held(index, report.lease);
         let runner = Runner::reporting(alloc, report)?;
-        self.runners.put(place, runner)?;
+        self.runners.put(index, runner)?;
         self.runs.end(leg, report.result);
         self.runs.settle();
         Ok(Reply::Ok)

@@ -19,11 +19,11 @@ pub replace-requires : goal.replace-requires
 replace-requires c =
     let items = c.args.runners.now.items in
     let name = c.runner.inside.name in
-    let place = c.args.place in
+    let index = c.args.index in
     let at = c.requires.place ∙ ap (λ (r : RunnerState). index_named c.args.runners.now.items r.name) (sym c.runner.view_is) in
-    let there = c.named_at.ensures ∙ ap (λ (xs : List RunnerState). option_and_then (kept_named name) (slice_get xs place)) c.deref.ensures.value
-    ∙ found_there items name c.requires.rise place at in
-    place_within items name c.requires.rise place at
+    let there = c.named_at.ensures ∙ ap (λ (xs : List RunnerState). option_and_then (kept_named name) (slice_get xs index)) c.deref.ensures.value
+    ∙ found_there items name c.requires.rise index at in
+    place_within items name c.requires.rise index at
     (known_by (λ r. r.now) c.named_at.result (runner_named items name) c.is_some.result there c.is_some.ensures ∙ c.if-is_some.true)
 
 pub insert-requires : goal.insert-requires
@@ -32,7 +32,7 @@ insert-requires c =
     let at = c.requires.place ∙ ap (λ (r : RunnerState). index_named c.args.runners.now.items r.name) (sym c.runner.view_is) in
     omega (
       arith,
-      place_in_range c.args.runners.now.items name c.requires.rise c.args.place at,
+      place_in_range c.args.runners.now.items name c.requires.rise c.args.index at,
       c.deref.ensures.len,
       ap length c.deref.ensures.value,
     )
@@ -41,22 +41,22 @@ pub returns-then-is_some-clause-put : goal.returns-then-is_some-clause-put
 returns-then-is_some-clause-put c =
     let items = c.args.runners.now.items in
     let name = c.runner.inside.name in
-    let place = c.args.place in
+    let index = c.args.index in
     let at = c.requires.place ∙ ap (λ (r : RunnerState). index_named c.args.runners.now.items r.name) (sym c.runner.view_is) in
-    let there = c.named_at.ensures ∙ ap (λ (xs : List RunnerState). option_and_then (kept_named name) (slice_get xs place)) c.deref.ensures.value
-    ∙ found_there items name c.requires.rise place at in
+    let there = c.named_at.ensures ∙ ap (λ (xs : List RunnerState). option_and_then (kept_named name) (slice_get xs index)) c.deref.ensures.value
+    ∙ found_there items name c.requires.rise index at in
     let known = known_by (λ r. r.now) c.named_at.result (runner_named items name) c.is_some.result there c.is_some.ensures ∙ c.if-is_some.true in
     ap Ok (sym (c.replace.ensures
-    ∙ put_over items name c.requires.rise place at c.args.runner known (sym (ap (λ (r : RunnerState). r.name) c.runner.view_is))))
+    ∙ put_over items name c.requires.rise index at c.args.runner known (sym (ap (λ (r : RunnerState). r.name) c.runner.view_is))))
 
 pub returns-clause-put : goal.returns-clause-put
 returns-clause-put c =
     let items = c.args.runners.now.items in
     let name = c.runner.inside.name in
-    let place = c.args.place in
+    let index = c.args.index in
     let at = c.requires.place ∙ ap (λ (r : RunnerState). index_named c.args.runners.now.items r.name) (sym c.runner.view_is) in
-    let there = c.named_at.ensures ∙ ap (λ (xs : List RunnerState). option_and_then (kept_named name) (slice_get xs place)) c.deref.ensures.value
-    ∙ found_there items name c.requires.rise place at in
+    let there = c.named_at.ensures ∙ ap (λ (xs : List RunnerState). option_and_then (kept_named name) (slice_get xs index)) c.deref.ensures.value
+    ∙ found_there items name c.requires.rise index at in
     let unknown = known_by (λ r. r.now) c.named_at.result (runner_named items name) c.is_some.result there c.is_some.ensures ∙ c.if-is_some.false in
     ap Ok (sym (c.in_ok-insert.ensures.items
-    ∙ put_between items name c.requires.rise place at c.args.runner unknown (sym (ap (λ (r : RunnerState). r.name) c.runner.view_is))))
+    ∙ put_between items name c.requires.rise index at c.args.runner unknown (sym (ap (λ (r : RunnerState). r.name) c.runner.view_is))))

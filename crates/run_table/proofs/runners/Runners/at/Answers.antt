@@ -8,5 +8,5 @@ pub returns : goal.returns
 returns c =
     let name = c.args.name.now in
     c.named_at.ensures
-    ∙ ap (λ (xs : List RunnerState). option_and_then (kept_named name) (slice_get xs c.args.place)) c.as_slice.ensures.runners
-    ∙ found_there c.args.self.now name c.as_slice.ensures.rise c.args.place c.requires
+    ∙ ap (λ (xs : List RunnerState). option_and_then (kept_named name) (slice_get xs c.args.index)) c.as_slice.ensures.runners
+    ∙ found_there c.args.self.now name c.as_slice.ensures.rise c.args.index c.requires

@@ -15,7 +15,7 @@ settle-requires c =
     let t = c.args.self.now in
     let may =
     so_settles (with_run (c.args.id - 1) stopped_run t.runs) c.stop.new.self
-    (c.stop.ensures ∙ ap (λ n. with_run n stopped_run c.self.inside.runs) c.place_of.ensures
+    (c.stop.ensures ∙ ap (λ n. with_run n stopped_run c.self.inside.runs) c.index_of.ensures
     ∙ ap (λ (s : TableState). with_run (c.args.id - 1) stopped_run s.runs) c.self.view_is)
     (stopped_may_settle t (c.args.id - 1) c.requires) in
     may.sound

@@ -14,8 +14,8 @@ use Rattle.wf_value.proofs.PassedOn.{same_Ok}
 pub admit-requires-clause-sound : goal.admit-requires-clause-sound
 admit-requires-clause-sound c =
     let so = enters c.args.self.now c.args.prepared.now c.self.inside.runs (c.self.inside.runs ++ c.in_ok-run.run' ∷ []) c.in_ok-run.run'
-    c.len-place.result c.requires.sound (ap (λ (t : TableState). t.runs) c.self.view_is) refl (sym (same_Ok _ _ c.in_ok-run.ensures))
-    c.len-place.ensures.len in
+    c.len-index.result c.requires.sound (ap (λ (t : TableState). t.runs) c.self.view_is) refl (sym (same_Ok _ _ c.in_ok-run.ensures))
+    c.len-index.ensures.len in
     (entering_arrives so).sound
 
 -- it is new, so it waits
@@ -25,11 +25,11 @@ admit-requires-clause-waits c = subst (λ (x : RunState). run_waits x.phase ≡ 
 pub settle_from-requires : goal.settle_from-requires
 settle_from-requires c =
     let added = c.self.inside.runs ++ c.in_ok-run.run' ∷ [] in
-    let so = enters c.args.self.now c.args.prepared.now c.self.inside.runs added c.in_ok-run.run' c.len-place.result c.requires.sound
-    (ap (λ (t : TableState). t.runs) c.self.view_is) refl (sym (same_Ok _ _ c.in_ok-run.ensures)) c.len-place.ensures.len in
-    let has_arrived = sym (same_Ok _ _ c.in_ok-start.ensures.admitted) ∙ ap (λ n. (arrived (Run n) added).runs) (sym c.len-place.ensures.len) in
+    let so = enters c.args.self.now c.args.prepared.now c.self.inside.runs added c.in_ok-run.run' c.len-index.result c.requires.sound
+    (ap (λ (t : TableState). t.runs) c.self.view_is) refl (sym (same_Ok _ _ c.in_ok-run.ensures)) c.len-index.ensures.len in
+    let has_arrived = sym (same_Ok _ _ c.in_ok-start.ensures.admitted) ∙ ap (λ n. (arrived (Run n) added).runs) (sym c.len-index.ensures.len) in
     record {
       sound = (entering_settles so c.admit.new.self has_arrived).sound;
       rest = entering_rests so c.admit.new.self c.in_ok-start.start has_arrived
-          (c.in_ok-start.ensures.start ∙ ap (resume_at_arrival added) (sym c.len-place.ensures.len));
+          (c.in_ok-start.ensures.start ∙ ap (resume_at_arrival added) (sym c.len-index.ensures.len));
     }
