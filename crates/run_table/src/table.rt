@@ -120,8 +120,8 @@ impl Table {
         self.table_data.step_with_copy(alloc, command)
     }
 
-    /// How many times steps tried a settling rule at a place, and how many runs claims looked at, since the last call. The table stays as it
-    /// is.
+    /// How many times steps tried a settling rule at a site, and how many runs claims looked at, since the last call.
+    /// The table stays as it is.
     pub fn take_tries(&mut self) -> u64
         ensures { self.new ≡ self.old }
     {
