@@ -1,4 +1,4 @@
--- What is stored of a table. Of a lease that is kept as a reply, it is the number and the place with the attempt. The
+-- What is stored of a table. Of a lease that is kept as a reply, it is the number and the site with the attempt. The
 -- rest, the job's id and the combination, follows from the runs.
 use Rattle.std.specs.Prelude.{ℕ, ◌-◌, List, map, Option, Some, None}
 use Rattle.run_plan.specs.declared.last_command.ClaimReply.TheVariants as given
@@ -31,7 +31,7 @@ pub record TableParts : Type 0 where
 abbrev pub stored_site : KeptLease → StoredSite
 stored_site kept = record { run = kept.lease_reply.run; attempt = kept.attempt; job = kept.job; leg = kept.lease_reply.leg }
 
--- the leg's place in the runs
+-- the leg's site in the runs
 abbrev pub site_in_runs : StoredSite → LegSite
 site_in_runs stored = leg_site (stored.run - 1) stored.job stored.leg
 

@@ -17,10 +17,10 @@ use Rattle.stored_tables.specs.declared.parts.StoredSite.{StoredSite}
 
 -- ---- kept leases
 
--- the lease has the stored place; if none is stored, the lease is of its run's current attempt, so a leg has it
+-- the lease has the stored site; if none is stored, the lease is of its run's current attempt, so a leg has it
 abbrev pub IsPlacedAs : List RunState → Option StoredSite → KeptLease → Type 0
 IsPlacedAs runs None kept = kept.attempt ≡ option_map_or (λ x. x.attempt) (run_at runs (kept.lease_reply.run - 1)) 0
-IsPlacedAs runs (Some place) kept = stored_site kept ≡ place
+IsPlacedAs runs (Some site) kept = stored_site kept ≡ site
 
 pub record IsLeaseAs (most : ℕ) (runs : List RunState) (parts : StoredLease) (kept : KeptLease) : Type 0 where
   pub lease : kept.lease_reply.lease ≡ parts.lease

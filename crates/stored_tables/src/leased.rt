@@ -26,7 +26,7 @@ use std::collections::BTreeMap;
 use wf_value::Refusal;
 use workflow_runs::runs::Runs;
 
-/// What a stored lease is checked against: the last lease, the runs, and the places of their legs by lease.
+/// What a stored lease is checked against: the last lease, the runs, and the sites of their legs by lease.
 #[derive(Drop)]
 pub(crate) struct Leased<'a> {
     pub alloc: Global,
@@ -50,7 +50,7 @@ impl<'a> Leased<'a> {
             return Ok(None);
         }
         match parts.place.as_ref() {
-            Some(place) => self.given_at(lease, place),
+            Some(site) => self.given_at(lease, site),
             None => self.present(lease),
         }
     }
@@ -65,17 +65,17 @@ impl<'a> Leased<'a> {
             ((kept : Kept) → IsLeaseAs self.now.last self.now.runs.now (record { lease = lease; place = None }) kept → ⊥)
             (λ kept. IsLeaseAs self.now.last self.now.runs.now (record { lease = lease; place = None }) kept)) }
     {
-        let Some(place) = self.legs.get(&lease.get()) else {
+        let Some(site) = self.legs.get(&lease.get()) else {
             return Ok(None);
         };
-        let Some(attempt) = attempt_of(self.runs, *place) else {
+        let Some(attempt) = attempt_of(self.runs, *site) else {
             return Ok(None);
         };
-        let kept = kept_lease(self.alloc, self.runs, attempt, *place, lease)?;
+        let kept = kept_lease(self.alloc, self.runs, attempt, *site, lease)?;
         Ok(Some(kept))
     }
 
-    /// The lease, at the place where it was granted, or `None` if there is no such leg.
+    /// The lease, at the site where it was granted, or `None` if there is no such leg.
     fn given_at(&self, lease: Number, stored: &StoredSite) -> Result<Option<KeptLease>, Refusal>
         requires last { lease ≤ self.now.last }
         requires few { length self.now.runs.now ≤ max_runs }
@@ -84,30 +84,30 @@ impl<'a> Leased<'a> {
             ((kept : Kept) → IsLeaseAs self.now.last self.now.runs.now (record { lease = lease; place = Some stored.now }) kept → ⊥)
             (λ kept. IsLeaseAs self.now.last self.now.runs.now (record { lease = lease; place = Some stored.now }) kept)) }
     {
-        let place = site_in_runs(stored);
+        let site = site_in_runs(stored);
         let attempt = stored.attempt;
-        if !self.is_of_a_leg(lease, attempt, place) {
+        if !self.is_of_a_leg(lease, attempt, site) {
             return Ok(None);
         }
-        let kept = kept_lease(self.alloc, self.runs, attempt, place, lease)?;
+        let kept = kept_lease(self.alloc, self.runs, attempt, site, lease)?;
         Ok(Some(kept))
     }
 
-    /// Whether the plan has the leg at the place, and the leg may have been granted the lease in this attempt.
-    fn is_of_a_leg(&self, lease: Number, attempt: Number, place: LegSite) -> bool
+    /// Whether the plan has the leg at the site, and the leg may have been granted the lease in this attempt.
+    fn is_of_a_leg(&self, lease: Number, attempt: Number, site: LegSite) -> bool
         requires { lease ≤ self.now.last }
-        ensures { Decides result (IsOfALeg self.now.last self.now.runs.now (kept_lease self.now.runs.now attempt place lease)) }
+        ensures { Decides result (IsOfALeg self.now.last self.now.runs.now (kept_lease self.now.runs.now attempt site lease)) }
     {
-        let Some(present) = attempt_of(self.runs, place) else {
+        let Some(present) = attempt_of(self.runs, site) else {
             return false;
         };
-        if !is_planned(self.runs, place) {
+        if !is_planned(self.runs, site) {
             return false;
         }
         if attempt.get() != present.get() {
             return attempt.get() < present.get();
         }
-        leg_has_lease(self.runs, place, lease)
+        leg_has_lease(self.runs, site, lease)
     }
 }
 
@@ -118,16 +118,16 @@ fn site_in_runs(stored: &StoredSite) -> LegSite
     LegSite::new(stored.run.get() as usize - 1, stored.job, stored.leg)
 }
 
-fn is_planned(runs: &Runs, place: LegSite) -> bool
-    ensures { result ≡ nat_lt place.leg (planned_legs runs.now place.run place.job) }
+fn is_planned(runs: &Runs, site: LegSite) -> bool
+    ensures { result ≡ nat_lt site.leg (planned_legs runs.now site.run site.job) }
 {
-    place.leg < planned_legs(runs, place.run, place.job)
+    site.leg < planned_legs(runs, site.run, site.job)
 }
 
 /// The current attempt of a leg's run.
-fn attempt_of(runs: &Runs, place: LegSite) -> Option<Number>
-    ensures { result ≡ option_map (λ x. x.attempt) (run_at runs.now place.run) }
+fn attempt_of(runs: &Runs, site: LegSite) -> Option<Number>
+    ensures { result ≡ option_map (λ x. x.attempt) (run_at runs.now site.run) }
 {
-    let run = runs.as_slice().get(place.run)?;
+    let run = runs.as_slice().get(site.run)?;
     Some(run.attempt())
 }

@@ -11,7 +11,7 @@ use run_states::RunParts;
 use std::marker::Model;
 use wf_value::Sequence;
 
-/// The place of a leg in an attempt of its run.
+/// The site of a leg in an attempt of its run.
 #[derive(Clone, Copy)]
 pub struct StoredSite {
     /// The run's id.
@@ -27,7 +27,7 @@ pub struct StoredSite {
 #[derive(Clone, Copy)]
 pub struct StoredLease {
     pub lease: Number,
-    /// The place of its leg. If it is absent, the leg is the one that has the lease.
+    /// The site of its leg. If it is absent, the leg is the one that has the lease.
     pub place: Option<StoredSite>,
 }
 

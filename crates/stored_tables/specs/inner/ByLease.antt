@@ -1,4 +1,4 @@
--- The leases of legs, by place, and the leases that runners hold.
+-- The leases of legs, by site, and the leases that runners hold.
 use Rattle.std.specs.Prelude.{ℕ, ◌≤◌, List, Option, length, option_and_then, slice_get}
 use Rattle.definitions.specs.Limits.{max_runs}
 use Rattle.stored_tables.specs.inner.ByNumber.{Finds}

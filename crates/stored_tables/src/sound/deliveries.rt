@@ -14,7 +14,7 @@ fn is_found(runs: &Runs, r: usize, run: &Run) -> bool
     ensures { Decides result (position (is_delivered_as run.now.admitted.delivery) runs.now ≡ Some r) }
 {
     match runs.position(run.prepared().delivery()) {
-        Some(place) => place == r,
+        Some(index) => index == r,
         None => false,
     }
 }

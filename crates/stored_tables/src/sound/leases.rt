@@ -21,35 +21,35 @@ use workflow_runs::walk::Legs;
 pub(crate) struct Leases {
     /// The last lease granted.
     pub last: u32,
-    /// For each lease that a leg has, the place of such a leg.
+    /// For each lease that a leg has, the site of such a leg.
     pub legs: BTreeMap<u32, LegSite>,
     /// For each lease that a runner holds, the index of such a runner.
     pub held: BTreeMap<u32, usize>,
 }
 
-/// For each lease that a leg has, the place of such a leg.
+/// For each lease that a leg has, the site of such a leg.
 pub(crate) fn legs_by_lease(alloc: Global, runs: &Runs) -> Result<BTreeMap<u32, LegSite>, Refusal>
     ensures err { ErrsOnlyByMemory result }
     ensures found { IfOk result (λ legs. (n : ℕ) → Finds (lease_of_leg runs.now) n (get nat_cmp legs n)) }
 {
     let mut legs = BTreeMap::new(alloc);
-    for (place, leg) in Legs::of_runs(runs) {
-        put_leg(&mut legs, leg.lease, place)?;
+    for (site, leg) in Legs::of_runs(runs) {
+        put_leg(&mut legs, leg.lease, site)?;
     }
     Ok(legs)
 }
 
-/// Adds the place of a leg under its lease, if it has one.
+/// Adds the site of a leg under its lease, if it has one.
 fn put_leg(
     legs: &mut BTreeMap<u32, LegSite>,
     lease: Option<Number>,
-    place: LegSite,
+    site: LegSite,
 ) -> Result<(), Refusal>
     ensures err { ErrsOnlyByMemory result }
-    ensures put { OnOk result (Adds (get nat_cmp legs.old) (get nat_cmp legs.new) (λ p n. (p ≡ place) × (lease ≡ Some n))) }
+    ensures put { OnOk result (Adds (get nat_cmp legs.old) (get nat_cmp legs.new) (λ p n. (p ≡ site) × (lease ≡ Some n))) }
 {
     if let Some(lease) = lease {
-        legs.insert(lease.get(), place)?;
+        legs.insert(lease.get(), site)?;
     }
     Ok(())
 }
@@ -58,13 +58,13 @@ fn put_leg(
 fn put_runner(
     held: &mut BTreeMap<u32, usize>,
     lease: Option<Number>,
-    place: usize,
+    index: usize,
 ) -> Result<(), Refusal>
     ensures err { ErrsOnlyByMemory result }
-    ensures put { OnOk result (Adds (get nat_cmp held.old) (get nat_cmp held.new) (λ k n. (k ≡ place) × (lease ≡ Some n))) }
+    ensures put { OnOk result (Adds (get nat_cmp held.old) (get nat_cmp held.new) (λ k n. (k ≡ index) × (lease ≡ Some n))) }
 {
     if let Some(lease) = lease {
-        held.insert(lease.get(), place)?;
+        held.insert(lease.get(), index)?;
     }
     Ok(())
 }

@@ -35,12 +35,12 @@ fn is_given(last: u32, lease: Option<Number>) -> bool
     }
 }
 
-/// Whether a look-up by the lease finds the leg at this place.
-fn leads_to(leases: &Leases, lease: Number, place: LegSite) -> bool
-    ensures { Decides result (leg_of leases.now lease ≡ Some place) }
+/// Whether a look-up by the lease finds the leg at this site.
+fn leads_to(leases: &Leases, lease: Number, site: LegSite) -> bool
+    ensures { Decides result (leg_of leases.now lease ≡ Some site) }
 {
     match leases.legs.get(&lease.get()) {
-        Some(found) => found.run == place.run && found.job == place.job && found.leg == place.leg,
+        Some(found) => found.run == site.run && found.job == site.job && found.leg == site.leg,
         None => false,
     }
 }
@@ -52,30 +52,30 @@ fn is_held(leases: &Leases, lease: Number) -> bool
 }
 
 /// Whether a look-up by the leg's lease finds the leg, and a runner holds the lease while the leg is at work.
-fn is_found(leases: &Leases, place: LegSite, leg: &Leg) -> bool
-    ensures { Decides result (IsFound leases.now place leg.now) }
+fn is_found(leases: &Leases, site: LegSite, leg: &Leg) -> bool
+    ensures { Decides result (IsFound leases.now site leg.now) }
 {
     match leg.lease {
         Some(lease) => {
-            leads_to(leases, lease, place) && (!leg.is_at_work() || is_held(leases, lease))
+            leads_to(leases, lease, site) && (!leg.is_at_work() || is_held(leases, lease))
         }
         None => true,
     }
 }
 
-fn is_leg_sound(leases: &Leases, place: LegSite, leg: &Leg) -> bool
-    ensures { Decides result (LegIsSound leases.now place leg.now) }
+fn is_leg_sound(leases: &Leases, site: LegSite, leg: &Leg) -> bool
+    ensures { Decides result (LegIsSound leases.now site leg.now) }
 {
     lease_fits(leg.phase, leg.lease)
         && is_given(leases.last, leg.lease)
-        && is_found(leases, place, leg)
+        && is_found(leases, site, leg)
 }
 
 pub(crate) fn are_legs_sound(leases: &Leases, runs: &Runs) -> bool
     ensures { Decides result (EachLegIsSound leases.now runs.now) }
 {
-    for (place, leg) in Legs::of_runs(runs) {
-        if !is_leg_sound(leases, place, leg) {
+    for (site, leg) in Legs::of_runs(runs) {
+        if !is_leg_sound(leases, site, leg) {
             return false;
         }
     }

@@ -26,11 +26,11 @@ fn is_last_of(name: &RunnerName, number: Number, last: &LastCommand) -> bool
 }
 
 /// Whether a look-up by the lease finds the runner at this index.
-fn is_held_by(leases: &Leases, lease: Number, place: usize) -> bool
-    ensures { Decides result (runner_of leases.now lease ≡ Some place) }
+fn is_held_by(leases: &Leases, lease: Number, index: usize) -> bool
+    ensures { Decides result (runner_of leases.now lease ≡ Some index) }
 {
     match leases.held.get(&lease.get()) {
-        Some(found) => *found == place,
+        Some(found) => *found == index,
         None => false,
     }
 }
@@ -39,28 +39,28 @@ fn is_held_by(leases: &Leases, lease: Number, place: usize) -> bool
 fn is_worked_on(leases: &Leases, runs: &Runs, lease: Number) -> bool
     ensures { result ≡ is_worked_on runs.now leases.now lease }
 {
-    let Some(place) = leases.legs.get(&lease.get()) else {
+    let Some(site) = leases.legs.get(&lease.get()) else {
         return false;
     };
-    match runs.leg(*place) {
+    match runs.leg(*site) {
         Some(leg) => leg.is_at_work(),
         None => false,
     }
 }
 
-fn holds_work(leases: &Leases, runs: &Runs, place: usize, runner: &Runner) -> bool
-    ensures { Decides result (HoldsWork leases.now runs.now place runner.now) }
+fn holds_work(leases: &Leases, runs: &Runs, index: usize, runner: &Runner) -> bool
+    ensures { Decides result (HoldsWork leases.now runs.now index runner.now) }
 {
     match runner.holds {
-        Some(lease) => is_held_by(leases, lease, place) && is_worked_on(leases, runs, lease),
+        Some(lease) => is_held_by(leases, lease, index) && is_worked_on(leases, runs, lease),
         None => true,
     }
 }
 
-fn is_runner_sound(leases: &Leases, runs: &Runs, place: usize, runner: &Runner) -> bool
-    ensures { Decides result (RunnerIsSound leases.now runs.now place runner.now) }
+fn is_runner_sound(leases: &Leases, runs: &Runs, index: usize, runner: &Runner) -> bool
+    ensures { Decides result (RunnerIsSound leases.now runs.now index runner.now) }
 {
-    holds_work(leases, runs, place, runner) && is_last_of(&runner.name, runner.number, &runner.last)
+    holds_work(leases, runs, index, runner) && is_last_of(&runner.name, runner.number, &runner.last)
 }
 
 pub(crate) fn are_runners_sound(leases: &Leases, runs: &Runs, runners: &[Runner]) -> bool

@@ -9,12 +9,12 @@ use Rattle.stored_tables.proofs.leased.Leased.present.Goals.{In-Some}
 use Rattle.wf_value.proofs.PassedOn.{same_Ok}
 
 -- the leg that is found has the lease
-has_lease : (c : In-Some) → lease_of_leg c.args.self.now.runs.now c.in-Some.place.now ≡ Some c.args.lease
+has_lease : (c : In-Some) → lease_of_leg c.args.self.now.runs.now c.in-Some.site.now ≡ Some c.args.lease
 has_lease c =
     let find = get nat_cmp c.args.self.now.legs.now in
-    let found : find c.args.lease ≡ Some c.in-Some.place.now =
+    let found : find c.args.lease ≡ Some c.in-Some.site.now =
     ap find (sym c.get.ensures.value) ∙ sym c.in-Some.ensures.value in
-    found_has (lease_of_leg c.args.self.now.runs.now) c.args.lease (find c.args.lease) c.in-Some.place.now
+    found_has (lease_of_leg c.args.self.now.runs.now) c.args.lease (find c.args.lease) c.in-Some.site.now
     (c.requires.legs.legs c.args.lease) found
 
 pub returns-in_default-clause-of : goal.returns-in_default-clause-of
@@ -25,16 +25,16 @@ returns-in_default-clause-of c =
 
 pub kept_lease-requires : goal.kept_lease-requires
 kept_lease-requires c =
-    run_in_range c.args.self.now.runs.now c.in-Some.place.now c.args.lease c.requires.legs.few
+    run_in_range c.args.self.now.runs.now c.in-Some.site.now c.args.lease c.requires.legs.few
     (has_lease (goal.at.kept_lease-requires c).In-Some)
 
 pub returns-clause-of : goal.returns-clause-of
 returns-clause-of c =
-    present_lease c.args.self.now.last c.args.lease c.in-Some-attempt_of.attempt c.args.self.now.runs.now c.in-Some.place.now c.in_ok-kept.kept
+    present_lease c.args.self.now.last c.args.lease c.in-Some-attempt_of.attempt c.args.self.now.runs.now c.in-Some.site.now c.in_ok-kept.kept
     c.requires.planned (search rules) c.requires.last (search rules) (has_lease (goal.at.returns-clause-of c).In-Some) c.in-Some-attempt_of.ensures
     (same_Ok _ _ c.in_ok-kept.ensures)
 
 pub returns-in_default-attempt_of-clause-of : goal.returns-in_default-attempt_of-clause-of
 returns-in_default-attempt_of-clause-of c =
-    λ kept is. run_is_there c.args.self.now.runs.now c.in-Some.place.now c.args.lease
+    λ kept is. run_is_there c.args.self.now.runs.now c.in-Some.site.now c.args.lease
     (has_lease (goal.at.returns-in_default-attempt_of-clause-of c).In-Some) (sym c.in_default-attempt_of.is ∙ c.attempt_of.ensures)

@@ -6,8 +6,8 @@ use Rattle.stored_tables.proofs.sound.deliveries.is_found.Goals as goal
 
 pub returns-in-Some : goal.returns-in-Some
 returns-in-Some c =
-    let is : Some c.in-Some.place ≡ position (is_delivered_as c.args.run.now.admitted.delivery) c.args.runs.now = search rules in
-    is_place (position (is_delivered_as c.args.run.now.admitted.delivery) c.args.runs.now) c.in-Some.place c.args.r is
+    let is : Some c.in-Some.index ≡ position (is_delivered_as c.args.run.now.admitted.delivery) c.args.runs.now = search rules in
+    is_place (position (is_delivered_as c.args.run.now.admitted.delivery) c.args.runs.now) c.in-Some.index c.args.r is
 
 pub returns-in-None : goal.returns-in-None
 returns-in-None c =

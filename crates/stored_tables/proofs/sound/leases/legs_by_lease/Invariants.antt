@@ -9,7 +9,7 @@ use Rattle.run_states.specs.declared.place.LegSite.{LegSite}
 use Rattle.stored_tables.proofs.sound.leases.legs_by_lease.Given as goal
 
 -- once the remaining legs are inserted, all legs are
-abbrev pub invariant-loop-place : goal.invariant-loop-place
-invariant-loop-place l =
-    (after : ℕ → Option LegSite) → Adds (get nat_cmp l.legs) after (HasLease l.place-iterator)
+abbrev pub invariant-loop-site : goal.invariant-loop-site
+invariant-loop-site l =
+    (after : ℕ → Option LegSite) → Adds (get nat_cmp l.legs) after (HasLease l.site-iterator)
     → Adds (get nat_cmp l.initial.legs) after (HasLease (placed_legs l.runs))
