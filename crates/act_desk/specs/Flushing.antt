@@ -37,12 +37,11 @@ Slices f g s t (Ok true) = (t ≡ sliced s t.disk) × (g ≡ record f { left = S
 Slices f g s t (Ok false) = (t ≡ s) × (e : Refusal) × (refusal_of_slice s ≡ Some e) × (g ≡ record f { left = None })
 Slices f g s t (Err e) = IsOfDevice e
 
--- It finishes the checkpoint and counts it. If it is out of memory, the checkpoint stays in progress. Any other refusal ends the
--- checkpoint, which is not counted.
+-- It finishes the checkpoint and counts it. A refusal ends the checkpoint, which is not counted.
 abbrev pub Finishes : {D : Type 0} → Flushing → Flushing → StoreState D → StoreState D → Result Bool Refusal → Type 0
 Finishes f g s t (Ok true) = IsFinished s t × (g ≡ record f { left = None; finished = min (f.finished + 1) (2 ^ 64 - 1) })
 Finishes f g s t (Ok false) =
-    ((t ≡ s) × (g ≡ f)) ⊎ ((e : Refusal) × (refusal_of_finish s ≡ Some e) × (t ≡ left_by s asked.Finish e) × (g ≡ record f { left = None }))
+    (e : Refusal) × (refusal_of_finish s ≡ Some e) × (t ≡ left_by s asked.Finish e) × (g ≡ record f { left = None })
 Finishes f g s t (Err e) = IsOfDevice e
 
 -- One step, by the bytes left of the checkpoint in progress: a slice, or the finish if nothing is left. Without a checkpoint in progress

@@ -1,7 +1,7 @@
 ghost use Rattle.std.specs.Prelude.{◌≡◌, ◌⊎◌, ◌<◌, Ok, Some, None, false, true, IfErr, IfOk, OnOk};
 ghost use Rattle.wf_value.specs.Gives.{no_memory};
 ghost use Rattle.act_disk.specs.Failed.{device_failed};
-ghost use Rattle.act_store.specs.Plain.{area_full, failed_earlier};
+ghost use Rattle.act_store.specs.Plain.{failed_earlier};
 
 use crate::locked::LockedStore;
 use crate::named::Named;
@@ -83,7 +83,7 @@ impl Flush {
     {
         match self.left {
             None => self.begin(alloc, locked),
-            Some(0) => self.finish(alloc, locked),
+            Some(0) => self.finish(locked),
             Some(_) => self.slice(locked),
         }
     }
@@ -178,10 +178,9 @@ impl Flush {
         }
     }
 
-    /// Finishes the checkpoint. If it is out of memory, the checkpoint stays in progress. Any other refusal ends it.
+    /// Finishes the checkpoint. A refusal ends it.
     fn finish<D: Disk, E: Named, T: Ledger>(
         &mut self,
-        alloc: Global,
         locked: &mut LockedStore<D, E, T>,
     ) -> Result<bool, Refusal>
         ensures finishes { Finishes self.old self.new locked.old.store locked.new.store result }
@@ -189,16 +188,14 @@ impl Flush {
         ensures history { (locked.new.store.history ≡ locked.old.store.history) × (locked.new.store.base ≡ locked.old.store.base) }
         ensures cause { IfErr result IsOfDevice }
     {
-        match locked.check_finish(alloc) {
+        match locked.check_finish() {
             Ok(_) => {
                 self.left = None;
                 self.finished = self.finished.saturating_add(1);
                 Ok(true)
             }
             Err(refusal) => {
-                if lacks_memory(refusal)? {
-                    return Ok(false);
-                }
+                lacks_memory(refusal)?;
                 self.left = None;
                 Ok(false)
             }
@@ -209,7 +206,7 @@ impl Flush {
 /// Whether an ignored refusal was out of memory. A device failure, in this call or earlier, is not ignored.
 fn lacks_memory(refusal: Refusal) -> Result<bool, Refusal>
     ensures passed { OnOk result ((refusal ≡ device_failed → ⊥) × (refusal ≡ failed_earlier → ⊥)) }
-    ensures memory { IfOk result (λ lacks. lacks ≡ true → refusal ≡ area_full → ⊥) }
+    ensures memory { IfOk result (λ lacks. lacks ≡ true → refusal ≡ no_memory) }
     ensures other { IfOk result (λ lacks. lacks ≡ false → refusal ≡ no_memory → ⊥) }
     ensures cause { IfErr result (λ e. (e ≡ device_failed) ⊎ (e ≡ failed_earlier)) }
 {

@@ -114,7 +114,7 @@ module _ {D : Type 0} where
         both_of (Some x) due = (due.0, λ _. due.1)
 
     pub finish_refused : IfSome (refusal_of old requested.Finish) (λ x. r ≡ Err x)
-        → (e ≡ no_memory) ⊎ (e ≡ device_failed) ⊎ (refusal_of old requested.Finish ≡ Some e)
+        → (e ≡ device_failed) ⊎ (refusal_of old requested.Finish ≡ Some e)
         → (r ≡ Err device_failed → new ≡ broken old new.disk) → (r ≡ Err area_full → new ≡ dropped old)
         → ((e ≡ device_failed → ⊥) → (e ≡ area_full → ⊥) → new ≡ old) → IsRefused old requested.Finish e new
     finish_refused due cause device drops same =
@@ -123,15 +123,7 @@ module _ {D : Type 0} where
         (λ no_room. drops (cc (is, no_room.0)) ∙ sym (ap (λ (b : Bool). if b then dropped old else old) no_room.1))
         (λ other. same (finish_no_fault old e some) other.0 ∙ sym (ap (λ (b : Bool). if b then dropped old else old) other.1))
         (room_or_not old e some))
-        (λ none. ⊎_elim
-        (λ memory. inr (inl (
-          none,
-          tt,
-          memory,
-          same (λ fault. let clash : no_memory ≡ device_failed = cc (memory, fault) in cc)
-              (λ room. let clash : no_memory ≡ area_full = cc (memory, room) in cc),
-        )))
-        (λ rest. ⊎_elim (λ fault. inr (inr (none, tt, fault, device (cc (is, fault))))) (λ some. absurd (cc (none, some))) rest) cause)
+        (λ none. ⊎_elim (λ fault. inr (inr (none, tt, fault, device (cc (is, fault))))) (λ some. absurd (cc (none, some))) cause)
 
     -- a commit has no cause but an earlier fault
     pub commit_refused : (old.failed ≡ true → (r ≡ Err failed_earlier) × (new ≡ old)) → (old.failed ≡ false → e ≡ device_failed)

@@ -47,7 +47,7 @@ MayTakeMemory (requested.Apply command) = ⊤
 MayTakeMemory requested.Commit = ⊥
 MayTakeMemory requested.Begin = ⊤
 MayTakeMemory requested.Slice = ⊥
-MayTakeMemory requested.Finish = ⊤
+MayTakeMemory requested.Finish = ⊥
 
 abbrev pub MayCallDevice : {D : Type 0} → StoreState D → Step → Type 0
 MayCallDevice s (requested.Apply command) = ⊥

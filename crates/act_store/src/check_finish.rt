@@ -1,5 +1,4 @@
 ghost use Rattle.std.specs.Prelude.{◌≡◌, ◌⊎◌, ◌↔◌, ◌+◌, ◌≤◌, ℕ, List, drop, flat_map, length, not, Err, IfErr, IfOk, IfSome, OnOk, Some};
-ghost use Rattle.wf_value.specs.Gives.{no_memory};
 ghost use Rattle.act_disk.specs.Failed.{device_failed};
 ghost use Rattle.definitions.specs.Disk.{EachSince};
 ghost use Rattle.command_encodings.specs.Commands.{command_bytes};
@@ -18,22 +17,21 @@ use crate::store::Store;
 use act_disk::Disk;
 use gated_journal::lengths::{GATE, HEAD, LENGTH};
 use gated_journal::{AreaPair, GateState};
-use std::alloc::Global;
 use wf_value::{Code, Refusal};
 
 impl<D: Disk> Store<D> {
     /// Finishes a checkpoint: writes one record of the entries since it was begun after its text, syncs, opens the gate of its area, and
     /// syncs. The area that is then active has the second layout. It returns how many entries are covered, which is all of them.
     ///
-    /// It is refused, whether or not memory is available, with 52 if the device has failed; else with 56 if no checkpoint is in progress
-    /// or some of its bytes are not written; else with 47 if the record does not fit. After 47 the checkpoint is dropped, and nothing else
-    /// changes. The only other failure is 51, after which the store has failed: no memory is taken, though the clauses allow 50. At each
-    /// moment of the call the disk recovers to the entries that were covered, or to all; after `Ok`, to all.
+    /// It takes no memory. It is refused with 52 if the device has failed; else with 56 if no checkpoint is in progress or some of its
+    /// bytes are not written; else with 47 if the record does not fit. After 47 the checkpoint is dropped, and nothing else changes. The
+    /// only other failure is 51, after which the store has failed. At each moment of the call the disk recovers to the entries that were
+    /// covered, or to all; after `Ok`, to all.
     /// Promise (The store): After the finish of a checkpoint each image recovers to all entries, by the other area in the second layout
     /// By: `act_store::Store::check_finish`, `recovers`, `finished` (`IsFinished`), `covered`
     /// Refusal (The store and the desk): `act_store::Store::check_finish`
-    /// When: Exactly 52; 56: none is begun, or bytes are left. 50: its clause allows it, but the code takes no memory
-    /// Afterwards: as it was; after 50 the checkpoint would still be begun
+    /// When: Exactly 52; 56: none is begun, or bytes are left
+    /// Afterwards: as it was
     /// By: `refused` (`refusal_of_finish`), `unchanged`, `cause`
     /// Refusal (The store and the desk): `act_store::Store::check_finish`
     /// When: 47: exactly if the record of the entries since the begin does not fit after the text
@@ -43,7 +41,7 @@ impl<D: Disk> Store<D> {
     /// When: 51: exactly if the device fails
     /// Afterwards: failed
     /// By: `faults`, `broken`
-    pub fn check_finish(&mut self, alloc: Global) -> Result<u64, Refusal>
+    pub fn check_finish(&mut self) -> Result<u64, Refusal>
         ensures any_moment { D.honest self.old.disk
             → EachSince D.moment D.images_since self.old.disk self.new.disk (RecoversToEither self.old) }
         ensures recovers { OnOk result (D.honest self.new.disk → (c : List ℕ) → D.images self.new.disk c → RecoversTo (table_of self.old) c) }
@@ -54,7 +52,7 @@ impl<D: Disk> Store<D> {
         ensures dropped { result ≡ Err area_full → self.new ≡ dropped self.old }
         ensures broken { result ≡ Err device_failed → self.new ≡ broken self.old self.new.disk }
         ensures unchanged { IfErr result (λ e. (e ≡ device_failed → ⊥) → (e ≡ area_full → ⊥) → self.new ≡ self.old) }
-        ensures cause { IfErr result (λ e. (e ≡ no_memory) ⊎ (e ≡ device_failed) ⊎ (refusal_of_finish self.old ≡ Some e)) }
+        ensures cause { IfErr result (λ e. (e ≡ device_failed) ⊎ (refusal_of_finish self.old ≡ Some e)) }
         ensures faults { TellsFault result (D.fault_count self.old.disk) (D.fault_count self.new.disk) }
         ensures calls { D.calls self.new.disk ≤ D.calls self.old.disk + 4 }
         ensures honest { D.honest self.new.disk ↔ D.honest self.old.disk }
@@ -101,7 +99,7 @@ impl<D: Disk> Store<D> {
         }
     }
 
-    /// Why no checkpoint is finished, whether or not memory is available.
+    /// Why no checkpoint is finished.
     fn refusal_of_finish(&self) -> Option<Refusal>
         ensures { result ≡ refusal_of_finish self.now }
     {

@@ -95,7 +95,7 @@ module _ {D : Type 0} (old new : StoreState D) (faults more : ℕ) where
   wants_memory requested.Commit none may = absurd may
   wants_memory requested.Begin none may = none
   wants_memory requested.Slice none may = absurd may
-  wants_memory requested.Finish none may = none
+  wants_memory requested.Finish none may = absurd may
 
   calls_device : (step : Step) → MayCallDevice old step → MayCallDevice plain step
   calls_device (requested.Apply command) may = absurd may

@@ -33,14 +33,14 @@ IsOfCommand (Ok requested.Begin) = ⊥
 IsOfCommand (Ok requested.Slice) = ⊥
 IsOfCommand (Ok requested.Finish) = ⊥
 
--- A line may run out of memory: for the command that is read from it, or for a checkpoint that is not refused.
+-- A line may run out of memory: for the command that is read from it, or for the begin of a checkpoint that is not refused.
 abbrev pub WantsMemory : PlainStore → Result Step Refusal → Type 0
 WantsMemory s (Err e) = ⊤
 WantsMemory s (Ok (requested.Apply command)) = ⊤
 WantsMemory s (Ok requested.Commit) = ⊥
 WantsMemory s (Ok requested.Begin) = refusal_of s requested.Begin ≡ None
 WantsMemory s (Ok requested.Slice) = ⊥
-WantsMemory s (Ok requested.Finish) = refusal_of s requested.Finish ≡ None
+WantsMemory s (Ok requested.Finish) = ⊥
 
 -- The disk may fail in a step that is not refused, if the step may call it.
 abbrev pub CallsDisk : PlainStore → Result Step Refusal → Type 0

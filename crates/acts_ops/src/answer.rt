@@ -61,7 +61,7 @@ fn counted_as(step: &Step) -> &'static str
 /// Afterwards: as of the call
 /// By: `acts_ops::run_script`, `written` (`IsAnswer`, `carried_out`)
 /// Refusal (Sessions and programs): a line of a script: `acts_ops::answer::answer_to`
-/// When: 50: of a line that is no command, of a command, and of a begin or finish that is not refused for its cause
+/// When: 50: of a line that is no command, of a command, and of a begin that is not refused for its cause
 /// Afterwards: the store is as it was
 /// By: `acts_ops::run_script`, `written` (`IsWithoutMemory`)
 /// Refusal (Sessions and programs): a line of a script: `acts_ops::answer::answer_to`

@@ -86,11 +86,11 @@ fn play_input<D: Disk, R: Read, W: Write>(
 /// is not empty. It returns the disk with the result.
 ///
 /// A script over 1,048,576 bytes is refused with 76; nothing is written, and at most 1,048,577 bytes are read. A failed
-/// read or write is 61. If memory for a line's command or for a checkpoint runs out, the answer is `refused 50` and the
-/// store is unchanged. If the disk fails, as a disk in memory does when it runs out of memory, the answer to a commit
-/// or a step of a checkpoint is 51, and each later step is answered 52. A line is answered 51 only if a disk call
-/// failed in its step. A failure while the store is made ends the call with 51 before anything is read. Out of memory
-/// elsewhere ends it with 50.
+/// read or write is 61. If memory for a line's command or for the begin of a checkpoint runs out, the answer is
+/// `refused 50` and the store is unchanged. If the disk fails, as a disk in memory does when it runs out of memory, the
+/// answer to a commit or a step of a checkpoint is 51, and each later step is answered 52. A line is answered 51 only
+/// if a disk call failed in its step. A failure while the store is made ends the call with 51 before anything is read.
+/// Out of memory elsewhere ends it with 50.
 /// Promise (The program): `acts play`: a script of at most 1,048,576 bytes is answered line by line as the definition says, by the steps of a
 ///   plain store: one answer and a line feed for each line that is not empty
 /// By: `acts_ops::run_script`, `written` (`Ends`, `Plays`, `IsAnswer`)

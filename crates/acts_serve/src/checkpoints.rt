@@ -15,8 +15,6 @@ pub(crate) struct Checkpoints {
     left: Option<u64>,
     /// How many entries of the history were covered when it last tried to begin one.
     tried: Option<u64>,
-    /// Whether the last step ran out of memory.
-    lacks_memory: bool,
     /// How many were finished.
     finished: u64,
 }
@@ -26,7 +24,6 @@ impl Checkpoints {
         Checkpoints {
             left: None,
             tried: None,
-            lacks_memory: false,
             finished: 0,
         }
     }
@@ -41,30 +38,24 @@ impl Checkpoints {
         self.left.is_some()
     }
 
-    /// Whether a step may be taken at once.
-    pub(crate) fn goes_on(&self) -> bool {
-        self.is_under_way() && !self.lacks_memory
-    }
-
     /// A new history has begun, so the number of its entries says nothing of the last attempt.
     pub(crate) fn turn_over(&mut self) {
         self.tried = None;
     }
 
     /// Takes up to `slices` steps of the checkpoint in progress, or begins one if that is due. The only errors are those
-    /// of the device: any other refusal ends the checkpoint, and one for lack of memory delays it.
+    /// of the device: any other refusal ends the checkpoint, and a begin that found no memory is tried again.
     pub(crate) fn advance<D: Disk>(
         &mut self,
         alloc: Global,
         service: &mut Service<D, Hooks, RunnerLines>,
         slices: u64,
     ) -> Result<(), Refusal> {
-        self.lacks_memory = false;
         if self.left.is_none() {
             return self.begin(alloc, service);
         }
         for _ in 0..slices {
-            if !self.goes_on() {
+            if !self.is_under_way() {
                 break;
             }
             self.step(alloc, service)?;
@@ -108,7 +99,7 @@ impl Checkpoints {
         service: &mut Service<D, Hooks, RunnerLines>,
     ) -> Result<(), Refusal> {
         match service.step(alloc, Step::Finish) {
-            Played::Refused(refusal) => self.refused(refusal, Some(0)),
+            Played::Refused(refusal) => self.refused(refusal),
             _ => {
                 self.left = None;
                 self.finished = self.finished.saturating_add(1);
@@ -124,22 +115,19 @@ impl Checkpoints {
                 self.left = Some(left);
                 Ok(())
             }
-            Played::Refused(refusal) => self.refused(refusal, None),
+            Played::Refused(refusal) => self.refused(refusal),
             Played::Replied(_) => Ok(()),
         }
     }
 
-    /// Handles the refusal of a step. For lack of memory there are `left` bytes to write as before.
-    fn refused(&mut self, refusal: Refusal, left: Option<u64>) -> Result<(), Refusal> {
+    /// Handles the refusal of a step.
+    fn refused(&mut self, refusal: Refusal) -> Result<(), Refusal> {
         match refusal {
             Refusal::Numbered(Code::DeviceFailed) => Err(Refusal::Numbered(Code::DeviceFailed)),
             Refusal::Numbered(Code::FailedEarlier) => Err(Refusal::Numbered(Code::FailedEarlier)),
             Refusal::Numbered(Code::NoMemory) => {
-                self.lacks_memory = true;
-                self.left = left;
-                if left.is_none() {
-                    self.tried = None;
-                }
+                self.left = None;
+                self.tried = None;
                 Ok(())
             }
             _ => {

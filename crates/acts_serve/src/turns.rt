@@ -117,7 +117,7 @@ impl<'a, D: Disk> Turns<'a, D> {
     /// How long the service may wait for an event.
     pub(crate) fn patience(&self) -> Duration {
         let is_busy = self.clients.are_coming() || !self.clients.is_quiet();
-        if is_busy || self.are_looked_at() || self.checkpoints.goes_on() {
+        if is_busy || self.are_looked_at() || self.checkpoints.is_under_way() {
             return Duration::ZERO;
         }
         let since = self.now.saturating_duration_since(self.swept);
