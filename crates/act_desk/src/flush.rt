@@ -83,7 +83,7 @@ impl Flush {
     {
         match self.left {
             None => self.begin(alloc, locked),
-            Some(0) => self.finish(locked),
+            Some(0) => self.finish(alloc, locked),
             Some(_) => self.slice(locked),
         }
     }
@@ -181,6 +181,7 @@ impl Flush {
     /// Finishes the checkpoint. A refusal ends it.
     fn finish<D: Disk, E: Named, T: Ledger>(
         &mut self,
+        alloc: Global,
         locked: &mut LockedStore<D, E, T>,
     ) -> Result<bool, Refusal>
         ensures finishes { Finishes self.old self.new locked.old.store locked.new.store result }
@@ -188,7 +189,7 @@ impl Flush {
         ensures history { (locked.new.store.history ≡ locked.old.store.history) × (locked.new.store.base ≡ locked.old.store.base) }
         ensures cause { IfErr result IsOfDevice }
     {
-        match locked.check_finish() {
+        match locked.check_finish(alloc) {
             Ok(_) => {
                 self.left = None;
                 self.finished = self.finished.saturating_add(1);

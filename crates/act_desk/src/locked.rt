@@ -169,7 +169,7 @@ impl<D: Disk, E: Named, T: Ledger> LockedStore<D, E, T> {
     }
 
     /// Finishes the checkpoint in progress, as `Store::check_finish` does. The replies of the entries that it covers are still withheld.
-    pub fn check_finish(&mut self) -> Result<u64, Refusal>
+    pub fn check_finish(&mut self, alloc: Global) -> Result<u64, Refusal>
         ensures any_moment { D.honest self.old.store.disk
             → EachSince D.moment D.images_since self.old.store.disk self.new.store.disk (RecoversToEither self.old.store) }
         ensures stands { OnOk result (D.honest self.new.store.disk → (c : List ℕ) → D.images self.new.store.disk c → RecoversTo (table_of self.old.store) c) }
@@ -185,7 +185,7 @@ impl<D: Disk, E: Named, T: Ledger> LockedStore<D, E, T> {
         ensures same { self.new ≡ record self.old { store = self.new.store } }
         ensures history { (self.new.store.history ≡ self.old.store.history) × (self.new.store.base ≡ self.old.store.base) }
     {
-        self.store.check_finish()
+        self.store.check_finish(alloc)
     }
 
     /// Enters a command for a seat and withholds its reply. It makes no device call. The seat sees the whole history, which ends with the

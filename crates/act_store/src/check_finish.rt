@@ -17,16 +17,17 @@ use crate::store::Store;
 use act_disk::Disk;
 use gated_journal::lengths::{GATE, HEAD, LENGTH};
 use gated_journal::{AreaPair, GateState};
+use std::alloc::Global;
 use wf_value::{Code, Refusal};
 
 impl<D: Disk> Store<D> {
     /// Finishes a checkpoint: writes one record of the entries since it was begun after its text, syncs, opens the gate of its area, and
     /// syncs. The area that is then active has the second layout. It returns how many entries are covered, which is all of them.
     ///
-    /// It takes no memory. It is refused with 52 if the device has failed; else with 56 if no checkpoint is in progress or some of its
-    /// bytes are not written; else with 47 if the record does not fit. After 47 the checkpoint is dropped, and nothing else changes. The
-    /// only other failure is 51, after which the store has failed. At each moment of the call the disk recovers to the entries that were
-    /// covered, or to all; after `Ok`, to all.
+    /// It takes no memory, so `_alloc` is not used. It is refused with 52 if the device has failed; else with 56 if no checkpoint is in
+    /// progress or some of its bytes are not written; else with 47 if the record does not fit. After 47 the checkpoint is dropped, and
+    /// nothing else changes. The only other failure is 51, after which the store has failed. At each moment of the call the disk recovers
+    /// to the entries that were covered, or to all; after `Ok`, to all.
     /// Promise (The store): After the finish of a checkpoint each image recovers to all entries, by the other area in the second layout
     /// By: `act_store::Store::check_finish`, `recovers`, `finished` (`IsFinished`), `covered`
     /// Refusal (The store and the desk): `act_store::Store::check_finish`
@@ -41,7 +42,7 @@ impl<D: Disk> Store<D> {
     /// When: 51: exactly if the device fails
     /// Afterwards: failed
     /// By: `faults`, `broken`
-    pub fn check_finish(&mut self) -> Result<u64, Refusal>
+    pub fn check_finish(&mut self, _alloc: Global) -> Result<u64, Refusal>
         ensures any_moment { D.honest self.old.disk
             → EachSince D.moment D.images_since self.old.disk self.new.disk (RecoversToEither self.old) }
         ensures recovers { OnOk result (D.honest self.new.disk → (c : List ℕ) → D.images self.new.disk c → RecoversTo (table_of self.old) c) }

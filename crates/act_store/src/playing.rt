@@ -118,7 +118,7 @@ pub fn take<D: Disk>(alloc: Global, store: &mut Store<D>, step: Step) -> Played
         Step::Commit => take_commit(store),
         Step::Begin => take_begin(alloc, store),
         Step::Slice => take_slice(store),
-        Step::Finish => take_finish(store),
+        Step::Finish => take_finish(alloc, store),
     }
 }
 
@@ -163,11 +163,11 @@ fn take_slice<D: Disk>(store: &mut Store<D>) -> Played
     }
 }
 
-fn take_finish<D: Disk>(store: &mut Store<D>) -> Played
+fn take_finish<D: Disk>(alloc: Global, store: &mut Store<D>) -> Played
     ensures takes { Takes store.old requested.Finish result store.new }
     ensures survives { Survives D.honest D.moment D.fault_count D.images_since store.old result store.new }
 {
-    match store.check_finish() {
+    match store.check_finish(alloc) {
         Ok(count) => Played::Count(count),
         Err(refusal) => Played::Refused(refusal),
     }

@@ -32,7 +32,7 @@ fn checked(alloc: Global, store: Store<MemoryDisk>) -> Result<MemoryDisk, Refusa
             left = store.check_slice()?;
         }
     }
-    store.check_finish()?;
+    store.check_finish(alloc)?;
     Ok(store.into_disk())
 }
 

@@ -22,7 +22,7 @@ fn make_checkpoint<D: Disk>(alloc: Global, store: &mut Store<D>) -> Result<(), R
     while left > 0 {
         left = store.check_slice()?;
     }
-    store.check_finish()?;
+    store.check_finish(alloc)?;
     Ok(())
 }
 
