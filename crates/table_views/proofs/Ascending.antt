@@ -10,7 +10,7 @@ use Rattle.run_states.specs.declared.holder.Holder.{Holder}
 use Rattle.run_states.specs.declared.holder.Holder.TheVariants.{Run, Leg}
 use Rattle.run_states.specs.declared.place.LegSite.{LegSite}
 use Rattle.run_states.proofs.Found.{all_append, all_map, all_weaken}
-use Rattle.table_views.specs.inner.HolderOrder.{is_before, is_place_before}
+use Rattle.table_views.specs.inner.HolderOrder.{is_before, is_site_before}
 
 module _ {X : Type 0} (before : X → X → Bool) where
   abbrev pub Ascends : List X → Type 0
@@ -67,7 +67,7 @@ below a b lt = (Decides-ltb a b).1 lt
 same : (a b : ℕ) → a ≡ b → nat_eq a b ≡ true
 same a b e = eq-eqb a b e
 
-earlier_run : (p q : LegSite) → p.run < q.run → is_place_before p q ≡ true
+earlier_run : (p q : LegSite) → p.run < q.run → is_site_before p q ≡ true
 earlier_run p q lt =
     ap (λ b. b || (nat_eq p.run q.run && (nat_lt p.job q.job || (nat_eq p.job q.job && nat_lt p.leg q.leg)))) (below p.run q.run lt)
 
@@ -83,13 +83,13 @@ or_left : (a b : Bool) → a ≡ true → (a || b) ≡ true
 or_left true b e = refl
 or_left false b e = absurd (true≢false (sym e))
 
-earlier_job : (p q : LegSite) → p.run ≡ q.run → p.job < q.job → is_place_before p q ≡ true
+earlier_job : (p q : LegSite) → p.run ≡ q.run → p.job < q.job → is_site_before p q ≡ true
 earlier_job p q run lt =
     or_true (nat_lt p.run q.run) (nat_eq p.run q.run && (nat_lt p.job q.job || (nat_eq p.job q.job && nat_lt p.leg q.leg)))
     (and_true (nat_eq p.run q.run) (nat_lt p.job q.job || (nat_eq p.job q.job && nat_lt p.leg q.leg)) (same p.run q.run run)
     (or_left (nat_lt p.job q.job) (nat_eq p.job q.job && nat_lt p.leg q.leg) (below p.job q.job lt)))
 
-earlier_leg : (p q : LegSite) → p.run ≡ q.run → p.job ≡ q.job → p.leg < q.leg → is_place_before p q ≡ true
+earlier_leg : (p q : LegSite) → p.run ≡ q.run → p.job ≡ q.job → p.leg < q.leg → is_site_before p q ≡ true
 earlier_leg p q run job lt =
     or_true (nat_lt p.run q.run) (nat_eq p.run q.run && (nat_lt p.job q.job || (nat_eq p.job q.job && nat_lt p.leg q.leg)))
     (and_true (nat_eq p.run q.run) (nat_lt p.job q.job || (nat_eq p.job q.job && nat_lt p.leg q.leg)) (same p.run q.run run)
@@ -105,16 +105,16 @@ OfRun r p = p.run ≡ r
 abbrev leg_of : ℕ → ℕ → ℕ × LegState → LegSite
 leg_of r j l = record { run = r; job = j; leg = l.0 }
 
-job_ascends : (r j : ℕ) (y : JobState) → Ascends is_place_before (leg_sites_of_job r (j, y))
+job_ascends : (r j : ℕ) (y : JobState) → Ascends is_site_before (leg_sites_of_job r (j, y))
 job_ascends r j y =
-    each_ascends is_place_before (leg_of r j) (λ i k a b lt. earlier_leg (leg_of r j (i, a)) (leg_of r j (k, b)) refl refl lt) 0 y.legs
+    each_ascends is_site_before (leg_of r j) (λ i k a b lt. earlier_leg (leg_of r j (i, a)) (leg_of r j (k, b)) refl refl lt) 0 y.legs
 
 legs_of_job : (r j : ℕ) (y : JobState) → AllByRecursion (OfJob r j) (leg_sites_of_job r (j, y))
 legs_of_job r j y = all_map (OfJob r j) (leg_of r j) (λ l. (refl, refl)) (placed y.legs)
 
-run_ascends : (r : ℕ) (x : RunState) → Ascends is_place_before (leg_sites_of_run (r, x))
+run_ascends : (r : ℕ) (x : RunState) → Ascends is_site_before (leg_sites_of_run (r, x))
 run_ascends r x =
-    blocks_ascend is_place_before (leg_sites_of_job r) (OfJob r)
+    blocks_ascend is_site_before (leg_sites_of_job r) (OfJob r)
     (λ i j p q lt at_i at_j. earlier_job p q (at_i.0 ∙ sym at_j.0) (omega (arith, at_i.1, at_j.1, lt))) (job_ascends r) (legs_of_job r) 0 x.jobs
 
 legs_of_jobs : (r a : ℕ) (ys : List JobState) → AllByRecursion (OfRun r) (flat_map (leg_sites_of_job r) (enumerate_from a ys))
@@ -123,9 +123,9 @@ legs_of_jobs r a (y ∷ ys) =
     all_append (OfRun r) (leg_sites_of_job r (a, y)) (flat_map (leg_sites_of_job r) (enumerate_from (a + 1) ys))
     (all_weaken (OfJob r a) (OfRun r) (λ p of. of.0) (leg_sites_of_job r (a, y)) (legs_of_job r a y)) (legs_of_jobs r (a + 1) ys)
 
-places_ascend : (runs : List RunState) → Ascends is_place_before (leg_sites runs)
+places_ascend : (runs : List RunState) → Ascends is_site_before (leg_sites runs)
 places_ascend runs =
-    blocks_ascend is_place_before leg_sites_of_run OfRun (λ i j p q lt at_i at_j. earlier_run p q (omega (arith, at_i, at_j, lt))) run_ascends
+    blocks_ascend is_site_before leg_sites_of_run OfRun (λ i j p q lt at_i at_j. earlier_run p q (omega (arith, at_i, at_j, lt))) run_ascends
     (λ r x. legs_of_jobs r 0 x.jobs) 0 runs
 
 -- ---- all runs and legs
@@ -136,12 +136,12 @@ run_of_site r = Run r.0
 abbrev leg_of_place : LegSite → Holder
 leg_of_place p = Leg p
 
-legs_later : (p : LegSite) (qs : List LegSite) → AllByRecursion (λ q. is_place_before p q ≡ true) qs
+legs_later : (p : LegSite) (qs : List LegSite) → AllByRecursion (λ q. is_site_before p q ≡ true) qs
     → AllByRecursion (λ k. is_before (Leg p) k ≡ true) (map leg_of_place qs)
 legs_later p [] all = tt
 legs_later p (q ∷ qs) all = (all.0, legs_later p qs all.1)
 
-legs_ascend : (ps : List LegSite) → Ascends is_place_before ps → Ascends is_before (map leg_of_place ps)
+legs_ascend : (ps : List LegSite) → Ascends is_site_before ps → Ascends is_before (map leg_of_place ps)
 legs_ascend [] ascends = tt
 legs_ascend (p ∷ ps) ascends = (legs_later p ps ascends.0, legs_ascend ps ascends.1)
 

@@ -16,7 +16,7 @@ use Rattle.run_states.specs.declared.place.LegSite.{LegSite}
 use Rattle.run_states.proofs.Found.{each_of_append}
 use Rattle.table_views.specs.inner.Claims.{claim_of, claims_of, said}
 use Rattle.table_views.specs.GroupLines.{group_in_use}
-use Rattle.table_views.specs.inner.HolderOrder.{is_before, is_earlier, is_place_before}
+use Rattle.table_views.specs.inner.HolderOrder.{is_before, is_earlier, is_site_before}
 use Rattle.table_views.specs.declared.claim.GroupClaim.{GroupClaim}
 use Rattle.table_views.proofs.Ascending.{Ascends, holders_ascend}
 
@@ -55,7 +55,7 @@ first_falls a b rest back falls = by (nat_lt a b) refl
     by true lt e = ap (λ c. c || (nat_eq b a && back)) (nat_lt_falls a b lt) ∙ ap (λ c. c && back) (apart a b lt)
     by false lt e = let parts = and_parts (nat_eq a b) rest e in equal (eqb-true a b parts.0) parts.1
 
-place_falls : (p q : LegSite) → is_place_before p q ≡ true → is_place_before q p ≡ false
+place_falls : (p q : LegSite) → is_site_before p q ≡ true → is_site_before q p ≡ false
 place_falls p q e =
     first_falls p.run q.run (by_first p.job q.job (nat_lt p.leg q.leg)) (by_first q.job p.job (nat_lt q.leg p.leg))
     (first_falls p.job q.job (nat_lt p.leg q.leg) (nat_lt q.leg p.leg) (nat_lt_falls p.leg q.leg)) e

@@ -41,7 +41,7 @@ fn holder_members(alloc: Global, runs: &Runs, holder: &Holder) -> Result<String,
             let run = *r + 1;
             Ok(format!(in alloc; "\"run\":{run},\"job\":null,\"leg\":null")?)
         }
-        Holder::Leg(place) => leg_members(alloc, runs, *place),
+        Holder::Leg(site) => leg_members(alloc, runs, *site),
     }
 }
 
@@ -108,8 +108,8 @@ fn push_legs(
     ensures err { ErrsOnlyByMemory result }
     ensures rows { OnOk result (rows.new.items ≡ rows.old.items ++ filter_map (row_of_holder filter.now runs.now) (map held.Leg places.now)) }
 {
-    for place in places {
-        push_holder(alloc, runs, filter, &Holder::Leg(*place), rows)?;
+    for site in places {
+        push_holder(alloc, runs, filter, &Holder::Leg(*site), rows)?;
     }
     Ok(())
 }

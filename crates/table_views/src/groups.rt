@@ -10,7 +10,7 @@ ghost use Rattle.run_states.specs.Holders.{run_of};
 ghost use Rattle.run_states.specs.Runs.{leg_sites};
 ghost use Rattle.table_views.specs.inner.Claims.{claim_of, claims_of, line_once, said};
 ghost use Rattle.table_views.specs.GroupLines.{group_in_use, group_line, group_lines, holder_text};
-ghost use Rattle.table_views.specs.inner.HolderOrder.{is_before, is_earlier, is_place_before};
+ghost use Rattle.table_views.specs.inner.HolderOrder.{is_before, is_earlier, is_site_before};
 ghost use Rattle.table_views.specs.inner.Placed.{IsWithin};
 ghost use Rattle.table_views.specs.Texts.{line};
 ghost use Rattle.run_states.specs.declared.holder.Holder.TheVariants as held;
@@ -69,35 +69,35 @@ fn claims_of(alloc: Global, runs: &Runs, places: &[LegSite]) -> Result<Vec<Group
     for r in 0..runs.len() {
         push_claim(alloc, runs, &mut claims, Holder::Run(r))?;
     }
-    for place in places {
-        push_claim(alloc, runs, &mut claims, Holder::Leg(*place))?;
+    for site in places {
+        push_claim(alloc, runs, &mut claims, Holder::Leg(*site))?;
     }
     Ok(claims)
 }
 
 // ---- lines
 
-fn text_of_leg(alloc: Global, form: Form, runs: &Runs, place: LegSite) -> Result<String, Refusal>
-    requires { place.run < max_runs }
-    ensures { Gives string_bytes result (Ok (holder_text form runs.now (Some (held.Leg place)))) }
+fn text_of_leg(alloc: Global, form: Form, runs: &Runs, site: LegSite) -> Result<String, Refusal>
+    requires { site.run < max_runs }
+    ensures { Gives string_bytes result (Ok (holder_text form runs.now (Some (held.Leg site)))) }
 {
     match form {
         Form::Lines => {
-            let leg = leg_words(alloc, runs, place)?;
+            let leg = leg_words(alloc, runs, site)?;
             Ok(format!(in alloc; "leg {leg}")?)
         }
         Form::Json => {
-            let leg = leg_members(alloc, runs, place)?;
+            let leg = leg_members(alloc, runs, site)?;
             Ok(format!(in alloc; "{{{leg}}}")?)
         }
     }
 }
 
-fn text_of_run(alloc: Global, form: Form, place: usize) -> Result<String, Refusal>
-    requires { place < max_runs }
-    ensures { Gives string_bytes result (Ok (holder_text form [] (Some (held.Run place)))) }
+fn text_of_run(alloc: Global, form: Form, index: usize) -> Result<String, Refusal>
+    requires { index < max_runs }
+    ensures { Gives string_bytes result (Ok (holder_text form [] (Some (held.Run index)))) }
 {
-    let run = place + 1;
+    let run = index + 1;
     match form {
         Form::Lines => Ok(format!(in alloc; "run {run}")?),
         Form::Json => Ok(format!(in alloc; "{{\"run\":{run}}}")?),
@@ -125,7 +125,7 @@ fn text_of_holder(
 {
     match holder {
         Holder::Run(r) => text_of_run(alloc, form, *r),
-        Holder::Leg(place) => text_of_leg(alloc, form, runs, *place),
+        Holder::Leg(site) => text_of_leg(alloc, form, runs, *site),
     }
 }
 
@@ -189,8 +189,8 @@ fn group_line(alloc: Global, form: Form, runs: &Runs, group: &GroupKey) -> Resul
 }
 
 /// Whether a leg comes before another in the table.
-fn is_place_before(p: LegSite, q: LegSite) -> bool
-    ensures { result ≡ is_place_before p q }
+fn is_site_before(p: LegSite, q: LegSite) -> bool
+    ensures { result ≡ is_site_before p q }
 {
     p.run < q.run || (p.run == q.run && (p.job < q.job || (p.job == q.job && p.leg < q.leg)))
 }
@@ -203,7 +203,7 @@ fn is_before(holder: &Holder, other: &Holder) -> bool
         (Holder::Run(r), Holder::Run(s)) => *r < *s,
         (Holder::Run(_), Holder::Leg(_)) => true,
         (Holder::Leg(_), Holder::Run(_)) => false,
-        (Holder::Leg(p), Holder::Leg(q)) => is_place_before(*p, *q),
+        (Holder::Leg(p), Holder::Leg(q)) => is_site_before(*p, *q),
     }
 }
 

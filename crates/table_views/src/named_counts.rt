@@ -37,8 +37,8 @@ impl NamedCounts {
         }
     }
 
-    fn place_of(&self, name: &str) -> Option<usize>
-        ensures within { IfSome result (λ place. place < length self.now.named.items) }
+    fn index_of(&self, name: &str) -> Option<usize>
+        ensures within { IfSome result (λ index. index < length self.now.named.items) }
         ensures first { result ≡ position (λ n. bytes_eq name.now n.name) self.now.named.items }
     {
         self.named
@@ -50,8 +50,8 @@ impl NamedCounts {
     pub(crate) fn add(&mut self, name: String) -> Result<(), AllocError>
         ensures { (names : List (List ℕ)) → AreCounts names self.old → OnOk result (AreCounts (names ++ string_bytes name ∷ []) self.new) }
     {
-        if let Some(place) = self.place_of(name.as_str()) {
-            one_more(&mut self.named[place].count);
+        if let Some(index) = self.index_of(name.as_str()) {
+            one_more(&mut self.named[index].count);
         } else if self.named.len() < NAMED {
             self.named.push(NamedCount {
                 name: Chars::new(name),

@@ -65,18 +65,18 @@ fn push_wishes(
     alloc: Global,
     text: &mut String,
     table: &Table,
-    place: LegSite,
+    site: LegSite,
     leg: &Leg,
 ) -> Result<(), Refusal>
-    requires { place.leg < 2 ^ 63 }
-    ensures { Gives (λ _. string_bytes text.new) result (Ok (string_bytes text.old ++ wish_members table.now.runs place leg.now)) }
+    requires { site.leg < 2 ^ 63 }
+    ensures { Gives (λ _. string_bytes text.new) result (Ok (string_bytes text.old ++ wish_members table.now.runs site leg.now)) }
 {
     let runs = table.kept_runs();
-    let labels = labels_json(alloc, runs, place)?;
+    let labels = labels_json(alloc, runs, site)?;
     push_member(text, "labels", labels.as_str())?;
-    let group = leg_group(alloc, runs, place)?;
+    let group = leg_group(alloc, runs, site)?;
     push_text_or_null(alloc, text, "group", as_text(&group))?;
-    let waits_for = leg_waits_for(alloc, runs, place, leg.phase)?;
+    let waits_for = leg_waits_for(alloc, runs, site, leg.phase)?;
     push_member(text, "waits_for", waits_for.as_str())?;
     Ok(())
 }
@@ -86,12 +86,12 @@ fn push_standing(
     alloc: Global,
     text: &mut String,
     table: &Table,
-    place: LegSite,
+    site: LegSite,
     leg: &Leg,
 ) -> Result<(), Refusal>
-    ensures { Gives (λ _. string_bytes text.new) result (Ok (string_bytes text.old ++ standing_members table.now place leg.now)) }
+    ensures { Gives (λ _. string_bytes text.new) result (Ok (string_bytes text.old ++ standing_members table.now site leg.now)) }
 {
-    let combo = table.kept_runs().combo(alloc, place)?;
+    let combo = table.kept_runs().combo(alloc, site)?;
     let combo = text_of_combo(alloc, &combo)?;
     push_member(text, "combination", combo.as_str())?;
     push_text(alloc, text, "state", leg_word(leg.phase))?;
@@ -101,14 +101,14 @@ fn push_standing(
     Ok(())
 }
 
-fn leg_row(alloc: Global, table: &Table, place: LegSite, leg: &Leg) -> Result<String, Refusal>
-    requires { place.leg < 2 ^ 63 }
-    ensures { Gives string_bytes result (Ok (leg_row table.now place leg.now)) }
+fn leg_row(alloc: Global, table: &Table, site: LegSite, leg: &Leg) -> Result<String, Refusal>
+    requires { site.leg < 2 ^ 63 }
+    ensures { Gives string_bytes result (Ok (leg_row table.now site leg.now)) }
 {
-    let number = place.leg;
+    let number = site.leg;
     let mut text = format!(in alloc; "{{\"leg\":{number}")?;
-    push_standing(alloc, &mut text, table, place, leg)?;
-    push_wishes(alloc, &mut text, table, place, leg)?;
+    push_standing(alloc, &mut text, table, site, leg)?;
+    push_wishes(alloc, &mut text, table, site, leg)?;
     text.push_str("}")?;
     Ok(text)
 }

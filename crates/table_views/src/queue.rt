@@ -30,10 +30,10 @@ fn is_ready(phase: LegPhase) -> bool
     }
 }
 
-pub(crate) fn is_ready_at(runs: &Runs, place: LegSite) -> bool
-    ensures { result ≡ is_ready_at runs.now place }
+pub(crate) fn is_ready_at(runs: &Runs, site: LegSite) -> bool
+    ensures { result ≡ is_ready_at runs.now site }
 {
-    match runs.leg(place) {
+    match runs.leg(site) {
         Some(leg) => is_ready(leg.phase),
         None => false,
     }
@@ -51,42 +51,42 @@ pub(crate) fn quoted_each(alloc: Global, texts: &[Chars]) -> Result<Vec<Chars>, 
 }
 
 /// The labels that a leg requires.
-pub(crate) fn labels_json(alloc: Global, runs: &Runs, place: LegSite) -> Result<String, Refusal>
-    requires { place.leg < 2 ^ 63 }
-    ensures { Gives string_bytes result (Ok (labels_json runs.now place)) }
+pub(crate) fn labels_json(alloc: Global, runs: &Runs, site: LegSite) -> Result<String, Refusal>
+    requires { site.leg < 2 ^ 63 }
+    ensures { Gives string_bytes result (Ok (labels_json runs.now site)) }
 {
-    let labels = runs.label_texts(alloc, place)?;
+    let labels = runs.label_texts(alloc, site)?;
     let texts = quoted_each(alloc, labels.as_slice())?;
     listed(alloc, texts.as_slice())
 }
 
 /// A ready leg as JSON.
-pub(crate) fn ready_row(alloc: Global, runs: &Runs, place: LegSite) -> Result<String, Refusal>
-    requires { IsWithin place }
-    ensures { Gives string_bytes result (Ok (ready_row runs.now place)) }
+pub(crate) fn ready_row(alloc: Global, runs: &Runs, site: LegSite) -> Result<String, Refusal>
+    requires { IsWithin site }
+    ensures { Gives string_bytes result (Ok (ready_row runs.now site)) }
 {
-    let labels = labels_json(alloc, runs, place)?;
-    let leg = leg_members(alloc, runs, place)?;
+    let labels = labels_json(alloc, runs, site)?;
+    let leg = leg_members(alloc, runs, site)?;
     Ok(format!(in alloc; "{{{leg},\"labels\":{labels}}}")?)
 }
 
-fn ready_words(alloc: Global, runs: &Runs, place: LegSite) -> Result<String, Refusal>
-    requires { IsWithin place }
-    ensures { Gives string_bytes result (Ok (ready_line form.Lines runs.now place)) }
+fn ready_words(alloc: Global, runs: &Runs, site: LegSite) -> Result<String, Refusal>
+    requires { IsWithin site }
+    ensures { Gives string_bytes result (Ok (ready_line form.Lines runs.now site)) }
 {
-    let labels = labels_json(alloc, runs, place)?;
-    let leg = leg_words(alloc, runs, place)?;
+    let labels = labels_json(alloc, runs, site)?;
+    let leg = leg_words(alloc, runs, site)?;
     Ok(format!(in alloc; "ready {leg} {labels}\n")?)
 }
 
-fn ready_line(alloc: Global, form: Form, runs: &Runs, place: LegSite) -> Result<String, Refusal>
-    requires { IsWithin place }
-    ensures { Gives string_bytes result (Ok (ready_line form runs.now place)) }
+fn ready_line(alloc: Global, form: Form, runs: &Runs, site: LegSite) -> Result<String, Refusal>
+    requires { IsWithin site }
+    ensures { Gives string_bytes result (Ok (ready_line form runs.now site)) }
 {
     match form {
-        Form::Lines => ready_words(alloc, runs, place),
+        Form::Lines => ready_words(alloc, runs, site),
         Form::Json => {
-            let mut text = ready_row(alloc, runs, place)?;
+            let mut text = ready_row(alloc, runs, site)?;
             text.push_str("\n")?;
             Ok(text)
         }
@@ -100,9 +100,9 @@ fn ready_text(alloc: Global, form: Form, runs: &Runs, places: &[LegSite]) -> Res
     ensures { Gives string_bytes result (Ok (ready_lines form runs.now)) }
 {
     let mut text = String::new(alloc);
-    for place in places {
-        if is_ready_at(runs, *place) {
-            let line = ready_line(alloc, form, runs, *place)?;
+    for site in places {
+        if is_ready_at(runs, *site) {
+            let line = ready_line(alloc, form, runs, *site)?;
             text.push_str(line.as_str())?;
         }
     }

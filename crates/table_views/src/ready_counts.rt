@@ -23,16 +23,16 @@ use workflow_runs::runs::Runs;
 fn count_leg(
     alloc: Global,
     runs: &Runs,
-    place: LegSite,
+    site: LegSite,
     counts: &mut NamedCounts,
 ) -> Result<(), Refusal>
-    requires { IsWithin place }
-    ensures { (lists : List (List ℕ)) → AreCounts lists counts.old → OnOk result (AreCounts (lists ++ asked_at runs.now (place ∷ [])) counts.new) }
+    requires { IsWithin site }
+    ensures { (lists : List (List ℕ)) → AreCounts lists counts.old → OnOk result (AreCounts (lists ++ asked_at runs.now (site ∷ [])) counts.new) }
 {
-    if !is_ready_at(runs, place) {
+    if !is_ready_at(runs, site) {
         return Ok(());
     }
-    let labels = labels_json(alloc, runs, place)?;
+    let labels = labels_json(alloc, runs, site)?;
     counts.add(labels)?;
     Ok(())
 }
@@ -47,8 +47,8 @@ fn count_legs(
     requires { All IsWithin places.now }
     ensures { (lists : List (List ℕ)) → AreCounts lists counts.old → OnOk result (AreCounts (lists ++ asked_at runs.now places.now) counts.new) }
 {
-    for place in places {
-        count_leg(alloc, runs, *place, counts)?;
+    for site in places {
+        count_leg(alloc, runs, *site, counts)?;
     }
     Ok(())
 }

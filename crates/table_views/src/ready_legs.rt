@@ -35,9 +35,9 @@ fn push_ready(
     ensures err { ErrsOnlyByMemory result }
     ensures rows { OnOk result (rows.new.items ≡ rows.old.items ++ map (ready_row runs.now) (filter (is_ready_at runs.now) places.now)) }
 {
-    for place in places {
-        if is_ready_at(runs, *place) {
-            let row = ready_row(alloc, runs, *place)?;
+    for site in places {
+        if is_ready_at(runs, *site) {
+            let row = ready_row(alloc, runs, *site)?;
             rows.push(Chars::new(row))?;
         }
     }

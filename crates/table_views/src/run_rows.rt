@@ -44,8 +44,8 @@ pub(crate) fn conclusion_at(phase: RunPhase, jobs: &[Job]) -> Option<&'static st
 pub(crate) fn own_group(alloc: Global, runs: &Runs, id: Number) -> Result<Option<Chars>, Refusal>
     ensures { Gives (λ name. name) result (Ok (own_group runs.now id)) }
 {
-    let place = id.get() as usize - 1;
-    match runs.group(alloc, &Holder::Run(place))? {
+    let index = id.get() as usize - 1;
+    match runs.group(alloc, &Holder::Run(index))? {
         Some(group) => Ok(Some(Chars::from_str(alloc, group.name())?)),
         None => Ok(None),
     }

@@ -30,10 +30,10 @@ fn has_lease(leg: &Leg, lease: Number) -> bool
     }
 }
 
-fn has_lease_at(runs: &Runs, place: LegSite, lease: Number) -> bool
-    ensures { result ≡ option_map_or (has_lease lease) (leg_at runs.now place) false }
+fn has_lease_at(runs: &Runs, site: LegSite, lease: Number) -> bool
+    ensures { result ≡ option_map_or (has_lease lease) (leg_at runs.now site) false }
 {
-    match runs.leg(place) {
+    match runs.leg(site) {
         Some(leg) => has_lease(leg, lease),
         None => false,
     }
@@ -45,9 +45,7 @@ fn first_with_lease<'p>(runs: &Runs, places: &'p [LegSite], lease: Number) -> Op
     ensures found { option_copied result ≡ find (λ p. option_map_or (has_lease lease) (leg_at runs.now p) false) places.now }
     ensures run { IfSome result (λ p. p.now.run < max_runs) }
 {
-    places
-        .iter()
-        .find(|place| has_lease_at(runs, **place, lease))
+    places.iter().find(|site| has_lease_at(runs, **site, lease))
 }
 
 /// The leg that has a lease. `places` has the places of all legs.
@@ -58,7 +56,7 @@ fn site_of_lease(runs: &Runs, places: &[LegSite], lease: Number) -> Option<LegSi
     ensures run { IfSome result (λ p. p.run < max_runs) }
 {
     match first_with_lease(runs, places, lease) {
-        Some(place) => Some(*place),
+        Some(site) => Some(*site),
         None => None,
     }
 }
@@ -69,19 +67,19 @@ fn held_text(
     form: Form,
     runs: &Runs,
     lease: Number,
-    place: LegSite,
+    site: LegSite,
 ) -> Result<String, Refusal>
-    requires { place.run < max_runs }
-    ensures { Gives string_bytes result (Ok (lease_text form runs.now (Some (lease, place)))) }
+    requires { site.run < max_runs }
+    ensures { Gives string_bytes result (Ok (lease_text form runs.now (Some (lease, site)))) }
 {
     let lease = lease.get();
     match form {
         Form::Lines => {
-            let leg = leg_words(alloc, runs, place)?;
+            let leg = leg_words(alloc, runs, site)?;
             Ok(format!(in alloc; "lease {lease} {leg}")?)
         }
         Form::Json => {
-            let leg = leg_members(alloc, runs, place)?;
+            let leg = leg_members(alloc, runs, site)?;
             Ok(format!(in alloc; "{{\"lease\":{lease},{leg}}}")?)
         }
     }
@@ -113,7 +111,7 @@ fn lease_text(
         return no_lease_text(alloc, form);
     };
     match site_of_lease(runs, places, lease) {
-        Some(place) => held_text(alloc, form, runs, lease, place),
+        Some(site) => held_text(alloc, form, runs, lease, site),
         None => no_lease_text(alloc, form),
     }
 }

@@ -53,25 +53,25 @@ fn push_joined(items: &[Chars], text: &mut String) -> Result<(), AllocError>
 }
 
 /// A leg as words: its run, its job and its number.
-pub(crate) fn leg_words(alloc: Global, runs: &Runs, place: LegSite) -> Result<String, Refusal>
-    requires { place.run < max_runs }
-    ensures { Gives string_bytes result (Ok (leg_words runs.now place)) }
+pub(crate) fn leg_words(alloc: Global, runs: &Runs, site: LegSite) -> Result<String, Refusal>
+    requires { site.run < max_runs }
+    ensures { Gives string_bytes result (Ok (leg_words runs.now site)) }
 {
-    let run = place.run + 1;
-    let id = runs.job_id(alloc, place.run, place.job)?;
+    let run = site.run + 1;
+    let id = runs.job_id(alloc, site.run, site.job)?;
     let job = id.as_str();
-    let leg = place.leg;
+    let leg = site.leg;
     Ok(format!(in alloc; "{run} {job} {leg}")?)
 }
 
 /// A leg as members of a JSON object.
-pub(crate) fn leg_members(alloc: Global, runs: &Runs, place: LegSite) -> Result<String, Refusal>
-    requires { place.run < max_runs }
-    ensures { Gives string_bytes result (Ok (leg_members runs.now place)) }
+pub(crate) fn leg_members(alloc: Global, runs: &Runs, site: LegSite) -> Result<String, Refusal>
+    requires { site.run < max_runs }
+    ensures { Gives string_bytes result (Ok (leg_members runs.now site)) }
 {
-    let run = place.run + 1;
-    let job = runs.job_id(alloc, place.run, place.job)?;
+    let run = site.run + 1;
+    let job = runs.job_id(alloc, site.run, site.job)?;
     let job = quoted(alloc, job.as_str())?;
-    let leg = place.leg;
+    let leg = site.leg;
     Ok(format!(in alloc; "\"run\":{run},\"job\":{job},\"leg\":{leg}")?)
 }

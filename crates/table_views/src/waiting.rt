@@ -42,30 +42,26 @@ pub(crate) fn run_waits_for(
 }
 
 /// The case-folded name of the group that a leg asks for.
-pub(crate) fn leg_group(
-    alloc: Global,
-    runs: &Runs,
-    place: LegSite,
-) -> Result<Option<Chars>, Refusal>
-    ensures { Gives (λ name. name) result (Ok (leg_group runs.now place)) }
+pub(crate) fn leg_group(alloc: Global, runs: &Runs, site: LegSite) -> Result<Option<Chars>, Refusal>
+    ensures { Gives (λ name. name) result (Ok (leg_group runs.now site)) }
 {
-    match runs.group(alloc, &Holder::Leg(place))? {
+    match runs.group(alloc, &Holder::Leg(site))? {
         Some(group) => Ok(Some(Chars::from_str(alloc, group.name())?)),
         None => Ok(None),
     }
 }
 
 /// Whether one more leg of the job of a leg may run.
-fn may_run_too(runs: &Runs, place: LegSite) -> bool
-    ensures { result ≡ may_run_too runs.now place }
+fn may_run_too(runs: &Runs, site: LegSite) -> bool
+    ensures { result ≡ may_run_too runs.now site }
 {
-    let Some(run) = runs.as_slice().get(place.run) else {
+    let Some(run) = runs.as_slice().get(site.run) else {
         return false;
     };
-    let Some(job) = run.job(place.job) else {
+    let Some(job) = run.job(site.job) else {
         return false;
     };
-    match runs.most_at_work(place.run, place.job) {
+    match runs.most_at_work(site.run, site.job) {
         Some(most) => job.legs_at_work() < most as usize,
         None => true,
     }
@@ -88,20 +84,20 @@ fn ready_waits_for(alloc: Global, has_room: bool, most: Option<u16>) -> Result<S
 pub(crate) fn leg_waits_for(
     alloc: Global,
     runs: &Runs,
-    place: LegSite,
+    site: LegSite,
     phase: LegPhase,
 ) -> Result<String, Refusal>
-    ensures { Gives string_bytes result (Ok (leg_waits_for runs.now place phase)) }
+    ensures { Gives string_bytes result (Ok (leg_waits_for runs.now site phase)) }
 {
     match phase {
         LegPhase::Waiting => {
-            let group = leg_group(alloc, runs, place)?;
+            let group = leg_group(alloc, runs, site)?;
             for_group(alloc, as_text(&group))
         }
         LegPhase::Ready => ready_waits_for(
             alloc,
-            may_run_too(runs, place),
-            runs.most_at_work(place.run, place.job),
+            may_run_too(runs, site),
+            runs.most_at_work(site.run, site.job),
         ),
         LegPhase::New | LegPhase::Running | LegPhase::Stopping | LegPhase::Ended(_) => {
             nothing(alloc)

@@ -5,15 +5,15 @@ use Rattle.run_states.specs.declared.holder.Holder.{Holder}
 use Rattle.run_states.specs.declared.holder.Holder.TheVariants.{Run, Leg}
 use Rattle.run_states.specs.declared.place.LegSite.{LegSite}
 
-abbrev pub is_place_before : LegSite → LegSite → Bool
-is_place_before p q =
+abbrev pub is_site_before : LegSite → LegSite → Bool
+is_site_before p q =
     nat_lt p.run q.run || (nat_eq p.run q.run && (nat_lt p.job q.job || (nat_eq p.job q.job && nat_lt p.leg q.leg)))
 
 abbrev pub is_before : Holder → Holder → Bool
 is_before (Run r) (Run s) = nat_lt r s
 is_before (Run r) (Leg q) = true
 is_before (Leg p) (Run s) = false
-is_before (Leg p) (Leg q) = is_place_before p q
+is_before (Leg p) (Leg q) = is_site_before p q
 
 -- whether another one comes before
 abbrev pub is_earlier : Holder → Option Holder → Bool

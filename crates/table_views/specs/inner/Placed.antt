@@ -1,8 +1,8 @@
--- Bounds on the places of legs.
+-- Bounds on the sites of legs.
 use Rattle.std.specs.Prelude.{◌<◌, ◌^◌}
 use Rattle.definitions.specs.Limits.{max_runs}
 use Rattle.run_states.specs.declared.place.LegSite.{LegSite}
 
--- a place is within what a table may have
+-- a leg's site is within what a table may have
 abbrev pub IsWithin : LegSite → Type 0
 IsWithin p = (p.run < max_runs) × (p.leg < 2 ^ 63)

@@ -4,10 +4,10 @@ use Rattle.table_views.specs.HolderPages.{row_of_holder}
 use Rattle.table_views.proofs.Claimed.{leg_row_more, place_read}
 use Rattle.table_views.proofs.group_holders.push_legs.Goals as goal
 
-pub loop-place-preserved : goal.loop-place-preserved
-loop-place-preserved c =
+pub loop-site-preserved : goal.loop-site-preserved
+loop-site-preserved c =
     let places = c.args.places.now in
-    let i = c.loop-place.place-index in
-    let lt : i < length places = omega (arith, c.loop-place-test.true) in
+    let i = c.loop-site.site-index in
+    let lt : i < length places = omega (arith, c.loop-site-test.true) in
     leg_row_more (row_of_holder c.args.filter.now c.args.runs.now) places i _ c.args.rows.now.items _ _ lt
-    (place_read places i (leg_site 0 0 0) _ lt refl) c.loop-place.invariant c.in_ok-push_holder.ensures.rows
+    (place_read places i (leg_site 0 0 0) _ lt refl) c.loop-site.invariant c.in_ok-push_holder.ensures.rows

@@ -10,10 +10,10 @@ loop-r-preserved c =
     run_claimed c.args.runs.now c.loop-r.r _ _ (omega (arith, c.loop-r-test.true, c.len-r-end.ensures.len)) c.loop-r.invariant
     c.in_ok-push_claim.ensures.added
 
-pub loop-place-preserved : goal.loop-place-preserved
-loop-place-preserved c =
+pub loop-site-preserved : goal.loop-site-preserved
+loop-site-preserved c =
     let places = c.args.places.now in
-    let i = c.loop-place.place-index in
-    let lt : i < length places = omega (arith, c.loop-place-test.true) in
+    let i = c.loop-site.site-index in
+    let lt : i < length places = omega (arith, c.loop-site-test.true) in
     leg_claimed c.args.runs.now (map (λ (x : ℕ × RunState). Run x.0) (placed c.args.runs.now)) places i _ _ _ lt
-    (place_read places i (leg_site 0 0 0) _ lt refl) c.loop-place.invariant c.in_ok-push_claim-2.ensures.added
+    (place_read places i (leg_site 0 0 0) _ lt refl) c.loop-site.invariant c.in_ok-push_claim-2.ensures.added

@@ -11,8 +11,8 @@ invariant-loop-r l =
     map said l.claims.items ≡ filter_map (claim_of l.runs) (map (λ (x : ℕ × RunState). Run x.0) (placed (take l.r l.runs)))
 
 -- the claims of all runs and of the legs so far
-abbrev pub invariant-loop-place : goal.invariant-loop-place
-invariant-loop-place l =
+abbrev pub invariant-loop-site : goal.invariant-loop-site
+invariant-loop-site l =
     map said l.claims.items
     ≡ filter_map (claim_of l.runs) (map (λ (x : ℕ × RunState). Run x.0) (placed l.runs)
-    ++ map (λ p. Leg p) (take l.place-index l.places))
+    ++ map (λ p. Leg p) (take l.site-index l.places))

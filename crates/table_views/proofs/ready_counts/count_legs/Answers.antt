@@ -8,20 +8,20 @@ use Rattle.table_views.proofs.AskedLists.{asked_more}
 use Rattle.table_views.proofs.Claimed.{place_read}
 use Rattle.table_views.proofs.ready_counts.count_legs.Goals as goal
 
-pub loop-place-preserved : goal.loop-place-preserved
-loop-place-preserved c = λ lists are.
+pub loop-site-preserved : goal.loop-site-preserved
+loop-site-preserved c = λ lists are.
     let runs = c.args.runs.now in
     let places = c.args.places.now in
-    let i = c.loop-place.place-index in
-    let lt : i < length places = omega (arith, c.loop-place-test.true) in
+    let i = c.loop-site.site-index in
+    let lt : i < length places = omega (arith, c.loop-site-test.true) in
     let p = get_or places i (leg_site 0 0 0) in
     subst (λ (all : List (List ℕ)). AreCounts all c.count_leg.new.counts)
     (asked_more runs lists places i p lt (sym (place_read places i (leg_site 0 0 0) p lt refl)))
-    (c.in_ok-count_leg.ensures (lists ++ asked_at runs (take i places)) (c.loop-place.invariant lists are))
+    (c.in_ok-count_leg.ensures (lists ++ asked_at runs (take i places)) (c.loop-site.invariant lists are))
 
 pub returns : goal.returns
 returns c = λ lists are.
     let places = c.args.places.now in
-    let past : length places ≤ c.loop-place.place-index = omega (arith, c.loop-place-test.false) in
-    subst (λ (ps : List LegSite). AreCounts (lists ++ asked_at c.args.runs.now ps) c.loop-place.counts)
-    (take_all c.loop-place.place-index places past) (c.loop-place.invariant lists are)
+    let past : length places ≤ c.loop-site.site-index = omega (arith, c.loop-site-test.false) in
+    subst (λ (ps : List LegSite). AreCounts (lists ++ asked_at c.args.runs.now ps) c.loop-site.counts)
+    (take_all c.loop-site.site-index places past) (c.loop-site.invariant lists are)
