@@ -178,8 +178,8 @@ impl Changes {
         ensures gains { Gains (drop self.old.taken (take store.now.covered store.now.history)) self.old.log self.new.log }
         ensures taken { self.new.taken ≡ store.now.covered }
     {
-        for place in self.taken..store.covered() {
-            if let Some(entry) = store.entry(place + 1) {
+        for index in self.taken..store.covered() {
+            if let Some(entry) = store.entry(index + 1) {
                 self.enter(alloc, entry);
             }
         }
@@ -228,8 +228,8 @@ impl Changes {
             };
             let r = *r;
             if self.look_at(alloc, table, &mut standings, r) {
-                if let Some(place) = standings.active.get_mut(kept) {
-                    *place = r;
+                if let Some(slot) = standings.active.get_mut(kept) {
+                    *slot = r;
                 }
                 kept = kept.saturating_add(1);
             }

@@ -86,8 +86,8 @@ impl Kept {
     fn note_new<D: Disk>(&mut self, alloc: Global, store: &Store<D>, now: Instant)
         ensures { Notes (covered_after self.old.changes.taken store.now) now self.old self.new }
     {
-        for place in self.changes.taken()..store.covered() {
-            if let Some(entry) = store.entry(place + 1) {
+        for index in self.changes.taken()..store.covered() {
+            if let Some(entry) = store.entry(index + 1) {
                 self.note(alloc, entry, now);
             }
         }

@@ -5,24 +5,24 @@ use Rattle.service_views.proofs.FollowingLemmas.{found_at, gains_next, none_is_p
 use Rattle.service_views.proofs.changes.Changes.enter_new.Goals.{in-Some, in_default}
 use Rattle.service_views.proofs.changes.Changes.enter_new.Goals as goal
 
-pub loop-place-preserved : goal.loop-place-preserved
-loop-place-preserved g c =
+pub loop-index-preserved : goal.loop-index-preserved
+loop-index-preserved g c =
     elim c.match-entry.branch [
       | in-Some w ↦
-          let found : slice_get c.args.store.now.history c.loop-place.place ≡ Some w.in-Some.entry.now =
-          sym (found_at c.args.store.now.history c.loop-place.place (option_copied c.entry.result) c.entry.ensures)
+          let found : slice_get c.args.store.now.history c.loop-index.index ≡ Some w.in-Some.entry.now =
+          sym (found_at c.args.store.now.history c.loop-index.index (option_copied c.entry.result) c.entry.ensures)
           ∙ ap option_copied w.in-Some.is in
           rw w.self-is
           (record {
-            gains = gains_next c.args.store.now.history c.args.self.now.taken c.loop-place.place w.in-Some.entry.now c.args.self.now.log
-                c.loop-place.self.log w.enter.new.self.log c.loop-place.auto.place found c.loop-place.invariant.gains w.enter.ensures.gains;
-            taken = w.enter.ensures.taken ∙ c.loop-place.invariant.taken;
-            stays = λ less. omega (arith, less, c.loop-place.auto.place, c.loop-place-test.true, c.covered-place-end.ensures.value);
+            gains = gains_next c.args.store.now.history c.args.self.now.taken c.loop-index.index w.in-Some.entry.now c.args.self.now.log
+                c.loop-index.self.log w.enter.new.self.log c.loop-index.auto.index found c.loop-index.invariant.gains w.enter.ensures.gains;
+            taken = w.enter.ensures.taken ∙ c.loop-index.invariant.taken;
+            stays = λ less. omega (arith, less, c.loop-index.auto.index, c.loop-index-test.true, c.covered-index-end.ensures.value);
           })
       | in_default w ↦
-          let none : slice_get c.args.store.now.history c.loop-place.place ≡ None =
-          sym (found_at c.args.store.now.history c.loop-place.place (option_copied c.entry.result) c.entry.ensures)
+          let none : slice_get c.args.store.now.history c.loop-index.index ≡ None =
+          sym (found_at c.args.store.now.history c.loop-index.index (option_copied c.entry.result) c.entry.ensures)
           ∙ ap option_copied w.in_default.is in
-          let past : length c.args.store.now.history ≤ c.loop-place.place = none_is_past c.args.store.now.history c.loop-place.place none in
-          absurd (omega (arith, past, c.loop-place-test.true, c.covered-place-end.ensures.value, c.covered-place-end.ensures.within))
+          let past : length c.args.store.now.history ≤ c.loop-index.index = none_is_past c.args.store.now.history c.loop-index.index none in
+          absurd (omega (arith, past, c.loop-index-test.true, c.covered-index-end.ensures.value, c.covered-index-end.ensures.within))
     ]
