@@ -18,6 +18,7 @@ use Rattle.wf_reader.specs.contracts.contexts.Contexts.{the_row as contexts}
 use Rattle.wf_reader.specs.contracts.contexts.Contexts.TheInside.{the_row as contexts_inside}
 use denote.Param.SendFields.{declared_send, declared_sync, variants_send}
 use Rattle.run_plan.specs.contracts.prepared.Admission.{the_row as admission, the_type as admission_type}
+use Rattle.run_plan.specs.contracts.prepared.AdmittedBody.{the_row as admitted, the_type as admitted_type}
 use Rattle.run_plan.specs.contracts.planned_workflow.PlannedWorkflow.{the_row as workflow, the_type as workflow_type}
 use Rattle.run_plan.specs.contracts.prepared.Prepared.{the_row}
 use Rattle.run_plan.specs.contracts.prepared.Prepared.TheInside.{the_row as inside, the_type as inside_type}
@@ -125,23 +126,26 @@ workflow_sync =
 
 admission_send : IsSend admission
 admission_send =
-    declared_send admission_type (
-      search (parts, small.the_send) depth 8,
-      (search (parts, small.the_send) depth 8, (search parts depth 8, (search (parts, contexts_send) depth 6, tt))),
-    )
+    declared_send admission_type (search (parts, small.the_send) depth 8, (search (parts, small.the_send) depth 8, tt))
 
 admission_sync : IsSync admission
 admission_sync =
-    declared_sync admission_type (
-      search (parts, small.the_sync) depth 8,
-      (search (parts, small.the_sync) depth 8, (search parts depth 8, (search (parts, contexts_sync) depth 6, tt))),
-    )
+    declared_sync admission_type (search (parts, small.the_sync) depth 8, (search (parts, small.the_sync) depth 8, tt))
+
+admitted_send : IsSend admitted
+admitted_send = declared_send admitted_type (search parts depth 8, (search (parts, contexts_send) depth 6, tt))
+
+admitted_sync : IsSync admitted
+admitted_sync = declared_sync admitted_type (search parts depth 8, (search (parts, contexts_sync) depth 6, tt))
 
 inside_send : IsSend inside
 inside_send =
     declared_send inside_type (
       search (parts, arc.the_send, admission_send, admission_sync) depth 12,
-      (search (parts, arc.the_send, workflow_send, workflow_sync) depth 12, tt),
+      (
+        search (parts, arc.the_send, admitted_send, admitted_sync) depth 12,
+        (search (parts, arc.the_send, workflow_send, workflow_sync) depth 12, tt),
+      ),
     )
 
 pub prepared_send : IsSend the_row
