@@ -244,9 +244,9 @@ def held_memory(pid):
         return next((int(line.split()[1]) for line in status if line.startswith('VmHWM:')), 0)
 
 
-def most_memory(acts, events):
-    """The most memory, in KiB, of a script with a run of a workflow of many jobs for each of these events: the workflow's name and the commit's message."""
-    jobs = {f'job{it}': {'runs-on': 'linux'} for it in range(JOBS)}
+def most_memory(acts, events, jobs=JOBS):
+    """The most memory, in KiB, of a script with a run of a workflow of so many jobs for each of these events: the workflow's name and the commit's message."""
+    jobs = {f'job{it}': {'runs-on': 'linux'} for it in range(jobs)}
     bodies = [{'repo': 'o/r', 'path': 'ci.json', 'github': {'message': said}, 'workflow': {'name': name, 'jobs': jobs}} for name, said in events]
     lines = [f'admit d{it} push {json.dumps(body, separators=(",", ":"))}' for it, body in enumerate(bodies)]
     with tempfile.TemporaryFile() as script:
@@ -272,7 +272,7 @@ def one_workflow(acts, folder):
 def one_event(acts, folder):
     """Runs of one event's bytes keep these once, with all that was read of them."""
     none = most_memory(acts, [])
-    one, each = (most_memory(acts, [('w', said(it)) for it in range(RUNS_OF_JOBS)]) - none for said in (lambda it: 'm' * 8000, lambda it: f'{it:08000}'))
+    one, each = (most_memory(acts, [('w', f'{said(it):01800}') for it in range(RUNS_OF_JOBS)], 1) - none for said in (lambda it: 7, lambda it: it))
     expect(one < 0.75 * each, RUNS_OF_JOBS, 'runs of the same bytes take', one, 'KiB, of other bytes each', each)
     return f'{RUNS_OF_JOBS} runs of the same event take {one} KiB, of an event with another message each {each}'
 
