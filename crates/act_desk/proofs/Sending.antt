@@ -41,7 +41,7 @@ use Rattle.std.proofs.hash.BuildHasherDefault.TheSendSync as hashers
 use Rattle.std.proofs.hash.FoldHasher.TheSendSync as hasher
 use Rattle.indexmap.proofs.map.IndexMap.TheSendSync as indexed
 use Rattle.label_lists.proofs.lists.LabelLists.TheSendSync as lists
-use Rattle.workflow_runs.proofs.rows.places.DeliveryIndexes.TheSendSync as places
+use Rattle.workflow_runs.proofs.rows.deliveries.DeliveryIndexes.TheSendSync as deliveries
 use Rattle.workflow_runs.proofs.rows.counts.Counted.TheSendSync as counted
 use Rattle.workflow_runs.specs.contracts.rows.workflow.Workflow.{the_row as key}
 use Rattle.workflow_runs.specs.contracts.rows.workflow.Workflow.TheInside.{the_row as key_inside}
@@ -196,7 +196,7 @@ counts_send = declared_send counts_type (search (parts, indexed.the_send, key_se
 index_send : IsSend index
 index_send =
     declared_send index_type (
-      search (parts, places.the_send) depth 6,
+      search (parts, deliveries.the_send) depth 6,
       (search (parts, counts_send) depth 6, (search (parts, lists.the_send) depth 6, tt)),
     )
 
@@ -213,7 +213,7 @@ runs_send =
     view_send runs_inside _ _ _ _
     (declared_send runs_type (
       search (parts, rows_send) depth 6,
-      (search (parts, book.the_send, holder.the_send) depth 10, (search (parts, bitmap.the_send) depth 6, (search parts depth 6, tt))),
+      (search (parts, book.the_send, holder.the_send) depth 10, (search (parts, bitmap.the_send) depth 6, tt)),
     ))
 
 table_data_send : IsSend table_data

@@ -5,7 +5,7 @@ ghost use mathlib.Core.List.{IsPrefix};
 ghost use Rattle.logbook.specs.Pages.{may_write};
 ghost use Rattle.act_desk.specs.inner.Lines.{IsUnused, head_of};
 
-use crate::book_rules::{Append, BookRule, Look, Next, NoResource, Reserve};
+use crate::book_rules::{BookRule, Look, NoResource, Reserve};
 use crate::event::Note;
 use logbook::{Offer, Pen, Seen, Word};
 

@@ -30,7 +30,7 @@ use Rattle.acts_ops.proofs.Writing.{flushed, written_faults}
 
 -- the lines of the runs from an index on
 abbrev pub lines_after : Form → TableState → ℕ → List ℕ
-lines_after form t place = lines_from form t (place + 1) (length t.runs - place)
+lines_after form t index = lines_from form t (index + 1) (length t.runs - index)
 
 -- the view of a run with an id
 abbrev shown_of : TableState → ℕ → RunState → Seen
@@ -47,33 +47,33 @@ before_all form t = all_after form t
 
 -- ---- a run that exists
 
-there : (t : TableState) (place : ℕ) (run : Seen) → seen t (place + 1) ≡ Some run → place < length t.runs
-there t place run is =
-    let same : place + 1 - 1 ≡ place = omega arith in
-    let cases = slice_get_cases t.runs (place + 1 - 1) in
+there : (t : TableState) (index : ℕ) (run : Seen) → seen t (index + 1) ≡ Some run → index < length t.runs
+there t index run is =
+    let same : index + 1 - 1 ≡ index = omega arith in
+    let cases = slice_get_cases t.runs (index + 1 - 1) in
     elim cases.1 [
       | inl found ↦ omega (arith, found.1)
-      | inr past ↦ absurd (let clash : None ≡ Some run = sym (ap (seen_by t (place + 1)) past.1) ∙ is in cc)
+      | inr past ↦ absurd (let clash : None ≡ Some run = sym (ap (seen_by t (index + 1)) past.1) ∙ is in cc)
     ]
 
 -- its line comes before those of the later ones
-pub after_run : (form : Form) (t : TableState) (out : List ℕ) (place id : ℕ) (run : Seen) → Some run ≡ seen t id → id ≡ place + 1
-    → out ++ lines_after form t place ≡ run_lines form t
-    → out ++ (run_line form run ++ lines_after form t (place + 1)) ≡ run_lines form t
-after_run form t out place id run looked id_is h =
-    let is : seen t (place + 1) ≡ Some run = sym (looked ∙ ap (seen t) id_is) in
-    let below : place < length t.runs = there t place run is in
-    let left : length t.runs - place ≡ suc (length t.runs - (place + 1)) = omega arith in
-    ap (λ x. out ++ x) (sym (ap (λ n. lines_from form t (place + 1) n) left
-    ∙ ap (λ o. option_map_or (run_line form) o [] ++ lines_from form t (place + 1 + 1) (length t.runs - (place + 1))) is)) ∙ h
+pub after_run : (form : Form) (t : TableState) (out : List ℕ) (index id : ℕ) (run : Seen) → Some run ≡ seen t id → id ≡ index + 1
+    → out ++ lines_after form t index ≡ run_lines form t
+    → out ++ (run_line form run ++ lines_after form t (index + 1)) ≡ run_lines form t
+after_run form t out index id run looked id_is h =
+    let is : seen t (index + 1) ≡ Some run = sym (looked ∙ ap (seen t) id_is) in
+    let below : index < length t.runs = there t index run is in
+    let left : length t.runs - index ≡ suc (length t.runs - (index + 1)) = omega arith in
+    ap (λ x. out ++ x) (sym (ap (λ n. lines_from form t (index + 1) n) left
+    ∙ ap (λ o. option_map_or (run_line form) o [] ++ lines_from form t (index + 1 + 1) (length t.runs - (index + 1))) is)) ∙ h
 
 -- ---- the end
 
-pub past_last : (form : Form) (t : TableState) (out all : List ℕ) (place : ℕ) → length t.runs ≤ place
-    → out ++ lines_after form t place ≡ all → out ≡ all
-past_last form t out all place past h =
-    let none : length t.runs - place ≡ 0 = omega arith in
-    sym (append-nil out) ∙ ap (λ n. out ++ lines_from form t (place + 1) n) (sym none) ∙ h
+pub past_last : (form : Form) (t : TableState) (out all : List ℕ) (index : ℕ) → length t.runs ≤ index
+    → out ++ lines_after form t index ≡ all → out ≡ all
+past_last form t out all index past h =
+    let none : length t.runs - index ≡ 0 = omega arith in
+    sym (append-nil out) ∙ ap (λ n. out ++ lines_from form t (index + 1) n) (sym none) ∙ h
 
 -- the table of a store that was just opened is its base
 pub opened_table : {D : Type 0} (s : StoreState D) → s.history ≡ [] → s.base ≡ table_of s

@@ -20,7 +20,7 @@ pub struct Answer {
 
 /// The step of a line: `commit`, `begin`, `slice`, `finish`, or else the apply of its command. Only in the last case can
 /// it be refused or take memory.
-fn step_of(alloc: Global, known: Option<&Prepared>, line: &[u8]) -> Result<Step, Refusal>
+fn step_of(alloc: Global, latest: Option<&Prepared>, line: &[u8]) -> Result<Step, Refusal>
     ensures step { Gives (λ s. s) result (step_of line.now) }
     ensures refused { IfErr result (λ e. IsOfCommand (step_of line.now)) }
 {
@@ -33,7 +33,7 @@ fn step_of(alloc: Global, known: Option<&Prepared>, line: &[u8]) -> Result<Step,
     } else if line == b"finish".as_slice() {
         Ok(Step::Finish)
     } else {
-        Ok(Step::Apply(command_of(alloc, known, line)?))
+        Ok(Step::Apply(command_of(alloc, latest, line)?))
     }
 }
 

@@ -11,14 +11,14 @@ use wf_value::Refusal;
 
 fn command_by(
     alloc: Global,
-    known: Option<&Prepared>,
+    latest: Option<&Prepared>,
     word: &[u8],
     fields: &[u8],
 ) -> Result<Command, Refusal>
     ensures { Gives (λ c. c) result (command_by word.now fields.now) }
 {
     if word == b"admit".as_slice() {
-        admit_of(alloc, known, fields)
+        admit_of(alloc, latest, fields)
     } else if word == b"claim".as_slice() {
         claim_of(alloc, fields)
     } else if word == b"done".as_slice() {
@@ -47,9 +47,9 @@ fn command_by(
 /// Promise (The program): A line is the command of its word and fields, or is refused 75, or with its body's first fault. A refused line leaves
 ///   the store as it is; every other line is one step of it
 /// By: `acts_ops::line::command_of`; `acts_ops::answer::answer_to` (`IsAnswer`)
-pub fn command_of(alloc: Global, known: Option<&Prepared>, line: &[u8]) -> Result<Command, Refusal>
+pub fn command_of(alloc: Global, latest: Option<&Prepared>, line: &[u8]) -> Result<Command, Refusal>
     ensures { Gives (λ c. c) result (command_of line.now) }
 {
     let (word, fields) = spelled(at_space(line))?;
-    command_by(alloc, known, word, fields)
+    command_by(alloc, latest, word, fields)
 }

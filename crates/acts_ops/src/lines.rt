@@ -14,7 +14,7 @@ pub fn first_line(text: &[u8]) -> Option<(&[u8], &[u8])>
         return None;
     }
     match line_feed_index(text) {
-        Some(place) => Some((strip_carriage_return(&text[..place]), &text[place + 1..])),
+        Some(offset) => Some((strip_carriage_return(&text[..offset]), &text[offset + 1..])),
         None => Some((text, &[])),
     }
 }

@@ -46,8 +46,8 @@ fn write_views<D: Disk, W: Write>(
 ) -> Result<(), Refusal>
     ensures { Writes (W.contents writer.old) (W.contents writer.new) (run_lines form (table_of store.now)) result }
 {
-    for place in 0..MAX_RUNS {
-        let Some(view) = store.look(Number::new(place + 1)) else {
+    for index in 0..MAX_RUNS {
+        let Some(view) = store.look(Number::new(index + 1)) else {
             return Ok(());
         };
         write_view(alloc, form, &view, writer)?;

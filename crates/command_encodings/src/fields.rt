@@ -8,7 +8,7 @@ ghost use Rattle.command_encodings.specs.inner.ReadingCommands.{labels_at, numbe
 use crate::decode_error::DecodeError;
 use crate::list_reader::{ReadAt, list_at};
 use crate::prefix::{text_at, word_at};
-use run_plan::{Form, LAST_NUMBER, Labels, MAX_LABELS, Number, SmallText};
+use run_plan::{Form, LAST_NUMBER, Labels, MAX_LABELS, SmallText};
 use std::alloc::Global;
 use wf_value::Outcome;
 

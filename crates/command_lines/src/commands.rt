@@ -36,7 +36,7 @@ fn labels(alloc: Global, field: &[u8]) -> Result<Labels, Refusal>
 }
 
 /// Parses `DELIVERY EVENT BODY`. The body is everything after the second space. A body with a fault is refused with its first
-/// fault, 10 to 26; the body of an event that is known is not read again.
+/// fault, 10 to 26; the body of the latest event is not read again.
 /// Promise (Bodies, plans and replies): The fields of a line are read as the command of the definition, or refused 75, or with the first fault
 ///   of a body
 /// By: `command_lines::{admit_of, claim_of, done_of, beat_of, cancel_of, lost_of, look_of, fetch_of, rerun_of, spelled, at_space, three_fields}`
@@ -44,17 +44,17 @@ fn labels(alloc: Global, field: &[u8]) -> Result<Labels, Refusal>
 /// When: 75, then of `admit_of` 10 to 26: exactly, with memory. 50
 /// Afterwards: nothing is made
 /// By: one clause each (`Gives`)
-pub fn admit_of(alloc: Global, known: Option<&Prepared>, fields: &[u8]) -> Result<Command, Refusal>
+pub fn admit_of(alloc: Global, latest: Option<&Prepared>, fields: &[u8]) -> Result<Command, Refusal>
     ensures { Gives (λ c. c) result (admit_of fields.now) }
 {
     let (delivery, event, body) = spelled(three_fields(fields))?;
-    admit_event(alloc, known, delivery, event, body)
+    admit_event(alloc, latest, delivery, event, body)
 }
 
 /// Parses a delivery and the name of an event, and prepares the body.
 fn admit_event(
     alloc: Global,
-    known: Option<&Prepared>,
+    latest: Option<&Prepared>,
     delivery: &[u8],
     event: &[u8],
     body: &[u8],
@@ -64,20 +64,20 @@ fn admit_event(
 {
     let delivery = small_text(alloc, delivery)?;
     let event = small_text(alloc, event)?;
-    prepared(alloc, known, delivery, event, body)
+    prepared(alloc, latest, delivery, event, body)
 }
 
 /// The admission of an event, or the first fault of its body.
 fn prepared(
     alloc: Global,
-    known: Option<&Prepared>,
+    latest: Option<&Prepared>,
     delivery: DeliveryId,
     event: EventName,
     body: &[u8],
 ) -> Result<Command, Refusal>
     ensures { Gives (λ c. c) result (prepared (record { delivery = delivery; event = event; body = body.now })) }
 {
-    Ok(Command::Admit(prepare_beside(alloc, known, event, delivery, body)?))
+    Ok(Command::Admit(prepare_beside(alloc, latest, event, delivery, body)?))
 }
 
 /// Parses `RUNNER NUMBER LABELS`.

@@ -13,7 +13,7 @@ pub fn at_space(text: &[u8]) -> Option<(&[u8], &[u8])>
     ensures { option_map (λ p. (p.0.now, p.1.now)) result ≡ at_space text.now }
 {
     match space_index(text) {
-        Some(place) => Some((&text[..place], &text[place + 1..])),
+        Some(offset) => Some((&text[..offset], &text[offset + 1..])),
         None => None,
     }
 }

@@ -22,7 +22,7 @@ impl Side {
 
     /// Where the side begins on a disk whose areas are `len` bytes long.
     pub fn start(self, len: u64) -> u64
-        ensures place { result ≡ start_of len self }
+        ensures offset { result ≡ start_of len self }
         ensures within { result ≤ len }
     {
         match self {

@@ -6,7 +6,7 @@ use Rattle.std.proofs.lemmas.Cmp.{lists_equiv, nat_list_eq_equiv}
 use Rattle.std.proofs.lemmas.Map.Keys.{IsDistinct-head, IsDistinct-tail}
 use Rattle.indexmap.specs.IndexSet.{insert_key}
 use Rattle.run_marks.specs.Marked.{is_marked}
-use Rattle.label_lists.specs.Requesting.{RequestingState, requests_in, may_offer_in, place_of}
+use Rattle.label_lists.specs.Requesting.{RequestingState, requests_in, may_offer_in, index_of}
 use Rattle.label_lists.specs.inner.Known.{KnownState, OnlyEnters}
 use Rattle.label_lists.specs.Known.{requests_at, offers_at}
 use Rattle.label_lists.specs.inner.Labels.{labels_eq}
@@ -47,10 +47,10 @@ one_more_copied old labels rest whole distinct is =
 -- ---- a new list without runs
 
 pub offers_appended : (requesting : List RequestingState) (new : RequestingState) → new.runs ≡ [] → (n r : ℕ) → offers_at (requesting ++ new ∷ []) n r ≡ offers_at requesting n r
-offers_appended requesting new none n r = appended (λ a. may_offer_in a r) new requesting n (ap (λ runs. option_map_or (is_marked new.marks) (place_of runs r) false) none)
+offers_appended requesting new none n r = appended (λ a. may_offer_in a r) new requesting n (ap (λ runs. option_map_or (is_marked new.marks) (index_of runs r) false) none)
 
 pub requested_appended : (requesting : List RequestingState) (new : RequestingState) → new.runs ≡ [] → (n r : ℕ) → requests_at (requesting ++ new ∷ []) n r ≡ requests_at requesting n r
-requested_appended requesting new none n r = appended (λ a. requests_in a r) new requesting n (ap (λ runs. is_some (place_of runs r)) none)
+requested_appended requesting new none n r = appended (λ a. requests_in a r) new requesting n (ap (λ runs. is_some (index_of runs r)) none)
 
 -- ---- two entries in sequence
 

@@ -4,7 +4,7 @@ use Rattle.std.specs.List.Sorted.{IsBinarySearchResult}
 use Rattle.std.specs.Option.{option_map_or}
 use Rattle.std.specs.Ordering.{nat_cmp}
 use Rattle.std.proofs.lemmas.List.Sorted.{searched}
-use Rattle.label_lists.specs.Requesting.{RequestingState, requests_in, place_of}
+use Rattle.label_lists.specs.Requesting.{RequestingState, requests_in, index_of}
 use Rattle.label_lists.specs.inner.Requesting.{Begins, IsPassed}
 use Rattle.label_lists.specs.inner.Known.{IsPassedFor, KnownState, SameRequested}
 use Rattle.label_lists.specs.Known.{requests_at}
@@ -15,10 +15,10 @@ use Rattle.label_lists.proofs.Writes.{within_if}
 -- ---- among the runs of one list
 
 abbrev pub has_place : List ℕ → ℕ → Bool
-has_place runs run = is_some (place_of runs run)
+has_place runs run = is_some (index_of runs run)
 
 -- one that has a place is not passed
-pub requests_itself : (runs : List ℕ) (run i : ℕ) → place_of runs run ≡ Some i → ((true ≡ false) ↔ IsPassed (has_place runs) run)
+pub requests_itself : (runs : List ℕ) (run i : ℕ) → index_of runs run ≡ Some i → ((true ≡ false) ↔ IsPassed (has_place runs) run)
 requests_itself runs run i at = (
   λ bad. absurd (true≢false bad),
   λ passed. absurd (true≢false (sym (ap is_some at) ∙ passed.not_yet)),
@@ -26,9 +26,9 @@ requests_itself runs run i at = (
 
 -- nor is one that comes after all
 pub comes_last : (runs : List ℕ) (run : ℕ) → Begins runs run (length runs) → ((true ≡ false) ↔ IsPassed (has_place runs) run)
-comes_last runs run begins = (λ bad. absurd (true≢false bad), λ passed. absurd (nobody passed (place_of runs passed.later) refl))
+comes_last runs run begins = (λ bad. absurd (true≢false bad), λ passed. absurd (nobody passed (index_of runs passed.later) refl))
   where
-    nobody : (passed : IsPassed (has_place runs) run) (o : Option ℕ) → place_of runs passed.later ≡ o → ⊥
+    nobody : (passed : IsPassed (has_place runs) run) (o : Option ℕ) → index_of runs passed.later ≡ o → ⊥
     nobody passed None at = true≢false (sym passed.already ∙ ap is_some at)
     nobody passed (Some i) at =
         let here = place_there runs passed.later i at in
@@ -38,16 +38,16 @@ comes_last runs run begins = (λ bad. absurd (true≢false bad), λ passed. absu
         omega (arith, less, same, suffix)
 
 -- and one is that would come before another
-pub comes_before : (runs : List ℕ) (run place : ℕ) → Rises runs → IsBinarySearchResult (λ y. nat_cmp y run) runs (Err place) → place < length runs
+pub comes_before : (runs : List ℕ) (run index : ℕ) → Rises runs → IsBinarySearchResult (λ y. nat_cmp y run) runs (Err index) → index < length runs
     → ((false ≡ false) ↔ IsPassed (has_place runs) run)
-comes_before runs run place rises is within =
-    let s = searched runs run (Err place) is (no_less runs rises) in
-    let great = s.2 place (omega arith) within in (
+comes_before runs run index rises is within =
+    let s = searched runs run (Err index) is (no_less runs rises) in
+    let great = s.2 index (omega arith) within in (
       λ _. record {
-        not_yet = ap is_some (missing runs rises run place is);
-        later = get_or runs place 0;
+        not_yet = ap is_some (missing runs rises run index is);
+        later = get_or runs index 0;
         suffix = omega (arith, great);
-        already = ap is_some (place_found runs place (get_or runs place 0) rises within refl);
+        already = ap is_some (place_found runs index (get_or runs index 0) rises within refl);
       },
       λ _. refl,
     )

@@ -10,13 +10,13 @@ pub record RequestingState : Type 0 where
   pub marks : List ℕ
 
 -- the index of a run
-abbrev pub place_of : List ℕ → ℕ → Option ℕ
-place_of runs run = position (nat_eq run) runs
+abbrev pub index_of : List ℕ → ℕ → Option ℕ
+index_of runs run = position (nat_eq run) runs
 
 -- whether the run is in the list
 abbrev pub requests_in : RequestingState → ℕ → Bool
-requests_in requesting run = is_some (place_of requesting.runs run)
+requests_in requesting run = is_some (index_of requesting.runs run)
 
 -- whether the run may have a ready leg with these labels
 abbrev pub may_offer_in : RequestingState → ℕ → Bool
-may_offer_in requesting run = option_map_or (is_marked requesting.marks) (place_of requesting.runs run) false
+may_offer_in requesting run = option_map_or (is_marked requesting.marks) (index_of requesting.runs run) false

@@ -4,7 +4,7 @@ ghost use Rattle.std.specs.Prelude.{◌≡◌, ◌↔◌, ◌||◌, ◌&&◌, �
 ghost use Rattle.wf_value.specs.Gives.{Gives, no_memory};
 ghost use Rattle.run_marks.specs.First.{IsFirstFrom};
 ghost use Rattle.label_lists.specs.inner.Requesting.{Begins, IsPassed, PutsRun, SameRequesting, SameOffers};
-ghost use Rattle.label_lists.specs.Requesting.{requests_in, may_offer_in, place_of};
+ghost use Rattle.label_lists.specs.Requesting.{requests_in, may_offer_in, index_of};
 
 use run_marks::RunBitmap;
 use std::alloc::Global;
@@ -41,22 +41,22 @@ impl RequestingRuns {
     }
 
     /// The index of a run, if it is in the list.
-    fn place(&self, run: usize) -> Option<usize>
-        ensures { result ≡ place_of self.now.runs run }
+    fn index_of(&self, run: usize) -> Option<usize>
+        ensures { result ≡ index_of self.now.runs run }
     {
         match self.runs.binary_search(&run) {
-            Ok(place) => Some(place),
+            Ok(index) => Some(index),
             Err(_) => None,
         }
     }
 
     /// The index of the first run that is not less than this one.
-    fn first_place(&self, run: usize) -> usize
+    fn first_index(&self, run: usize) -> usize
         ensures { Begins self.now.runs run result }
     {
         match self.runs.binary_search(&run) {
-            Ok(place) => place,
-            Err(place) => place,
+            Ok(index) => index,
+            Err(index) => index,
         }
     }
 
@@ -70,8 +70,8 @@ impl RequestingRuns {
     {
         match self.runs.binary_search(&run) {
             Ok(_) => Ok(true),
-            Err(place) if place == self.runs.len() => {
-                self.marks.reserve_up_to(place + 1)?;
+            Err(index) if index == self.runs.len() => {
+                self.marks.reserve_up_to(index + 1)?;
                 self.runs.push(run)?;
                 Ok(true)
             }
@@ -85,8 +85,8 @@ impl RequestingRuns {
         ensures puts { PutsRun true run self.old self.new }
         ensures requests { SameRequesting self.old self.new }
     {
-        if let Some(place) = self.place(run) {
-            self.marks.mark(place);
+        if let Some(index) = self.index_of(run) {
+            self.marks.mark(index);
         }
     }
 
@@ -95,8 +95,8 @@ impl RequestingRuns {
         ensures puts { PutsRun false run self.old self.new }
         ensures requests { SameRequesting self.old self.new }
     {
-        if let Some(place) = self.place(run) {
-            self.marks.unmark(place);
+        if let Some(index) = self.index_of(run) {
+            self.marks.unmark(index);
         }
     }
 
@@ -104,9 +104,9 @@ impl RequestingRuns {
     pub fn first_from(&self, run: usize) -> Option<usize>
         ensures { IsFirstFrom (may_offer_in self.now) run result }
     {
-        let from = self.first_place(run);
-        let place = self.marks.first_from(from)?;
-        Some(self.runs[place])
+        let from = self.first_index(run);
+        let index = self.marks.first_from(from)?;
+        Some(self.runs[index])
     }
 
     pub fn copy(&self) -> Result<Self, Refusal>

@@ -152,9 +152,9 @@ names_rise-map f (p ∷ []) = refl
 names_rise-map f (p ∷ q ∷ ps) = ap (λ b. is_lt (name_cmp p.0 q.0) && b) (names_rise-map f (q ∷ ps))
 
 -- the entries of the include objects and of an original ascend
-pub names_ascend-final : (axes : List AxisValue) (number place : ℕ) (entries : List EntryValue) → names_ascend (pairs_of entries) ≡ true
-    → names_rise axes ≡ true → names_ascend (pairs_of (merged entries (object_entries place (original_at axes number)))) ≡ true
-names_ascend-final axes number place entries h g =
-    names_ascend-merged entries (object_entries place (original_at axes number)) h
-    (ap names_ascend (pairs_of-object place (original_at axes number))
+pub names_ascend-final : (axes : List AxisValue) (number index : ℕ) (entries : List EntryValue) → names_ascend (pairs_of entries) ≡ true
+    → names_rise axes ≡ true → names_ascend (pairs_of (merged entries (object_entries index (original_at axes number)))) ≡ true
+names_ascend-final axes number index entries h g =
+    names_ascend-merged entries (object_entries index (original_at axes number)) h
+    (ap names_ascend (pairs_of-object index (original_at axes number))
     ∙ names_ascend-rise (original_at axes number) (names_rise-map (λ c. chosen c number) axes ∙ g))

@@ -203,9 +203,9 @@ module _ (flags : List Bool) (name : List ℕ) where
   value_at-merged [] right g = sym (or_none (value_at (flagged flags right) name))
   value_at-merged (e ∷ es) right g = value_at-placed e es (λ fs k. value_at-merged es fs k) right g
 
-pub pairs_of-object : (place : ℕ) (c : Combination) → pairs_of (object_entries place c) ≡ c
-pairs_of-object place [] = refl
-pairs_of-object place (p ∷ ps) = ap (λ qs. p ∷ qs) (pairs_of-object place ps)
+pub pairs_of-object : (index : ℕ) (c : Combination) → pairs_of (object_entries index c) ≡ c
+pairs_of-object index [] = refl
+pairs_of-object index (p ∷ ps) = ap (λ qs. p ∷ qs) (pairs_of-object index ps)
 
 least_from_below : (name : List ℕ) (c : Combination) → below_all name_cmp name c ≡ true → is_least name c ≡ true
 least_from_below name [] h = refl
@@ -218,25 +218,25 @@ pub names_ascend-rise : (c : Combination) → names_rise c ≡ true → names_as
 names_ascend-rise [] h = refl
 names_ascend-rise (p ∷ ps) h = and_from _ _ (least_from_below p.0 ps (below_all_first p ps h)) (names_ascend-rise ps (rise_rest p ps h))
 
-flagged-object : (flags : List Bool) (place : ℕ) (c : Combination)
-    → flagged flags (object_entries place c) ≡ cond (get_or flags place false) c []
-flagged-object flags place [] = elim (get_or flags place false) as (λ b. ◌≡◌ {A = Combination} [] (cond b [] []))
+flagged-object : (flags : List Bool) (index : ℕ) (c : Combination)
+    → flagged flags (object_entries index c) ≡ cond (get_or flags index false) c []
+flagged-object flags index [] = elim (get_or flags index false) as (λ b. ◌≡◌ {A = Combination} [] (cond b [] []))
     [ true ↦ refl | false ↦ refl ]
-flagged-object flags place (p ∷ ps) =
-    let rest = flagged-object flags place ps in
-    elim (get_or flags place false) as
-    (λ b. pairs_of (filter (λ e. get_or flags e.0 false) (object_entries place ps)) ≡ cond b ps [] → pairs_of
-    (cond b ((place, p) ∷ filter (λ e. get_or flags e.0 false) (object_entries place ps))
-    (filter (λ e. get_or flags e.0 false) (object_entries place ps))) ≡ cond b (p ∷ ps) []) [
+flagged-object flags index (p ∷ ps) =
+    let rest = flagged-object flags index ps in
+    elim (get_or flags index false) as
+    (λ b. pairs_of (filter (λ e. get_or flags e.0 false) (object_entries index ps)) ≡ cond b ps [] → pairs_of
+    (cond b ((index, p) ∷ filter (λ e. get_or flags e.0 false) (object_entries index ps))
+    (filter (λ e. get_or flags e.0 false) (object_entries index ps))) ≡ cond b (p ∷ ps) []) [
       | true ↦ λ r. ap (λ qs. p ∷ qs) r
       | false ↦ λ r. r
     ] rest
 
-pub value_at-object : (flags : List Bool) (place : ℕ) (c : Combination) (name : List ℕ)
-    → value_at (flagged flags (object_entries place c)) name ≡ cond (get_or flags place false) (value_at c name) None
-value_at-object flags place c name =
-    ap (λ ps. value_at ps name) (flagged-object flags place c)
-    ∙ elim (get_or flags place false) as (λ b. value_at (cond b c []) name ≡ cond b (value_at c name) None) [ true ↦ refl | false ↦ refl ]
+pub value_at-object : (flags : List Bool) (index : ℕ) (c : Combination) (name : List ℕ)
+    → value_at (flagged flags (object_entries index c)) name ≡ cond (get_or flags index false) (value_at c name) None
+value_at-object flags index c name =
+    ap (λ ps. value_at ps name) (flagged-object flags index c)
+    ∙ elim (get_or flags index false) as (λ b. value_at (cond b c []) name ≡ cond b (value_at c name) None) [ true ↦ refl | false ↦ refl ]
 
 -- one object
 pub SortsEntries-one : (first : ℕ) (c : Combination) → names_rise c ≡ true → SortsEntries first (c ∷ []) (object_entries first c)
@@ -245,17 +245,17 @@ SortsEntries-one first c h = record {
   values = λ flags name. value_at-object flags first c name;
 }
 
-added_value-append : (flags : List Bool) (name : List ℕ) (place : ℕ) (cs ds : List Combination)
-    → added_value flags place (cs ++ ds) name ≡ option_or (added_value flags (place + length cs) ds name) (added_value flags place cs name)
-added_value-append flags name place [] ds =
-    let e : place ≡ place + 0 = omega arith in
+added_value-append : (flags : List Bool) (name : List ℕ) (index : ℕ) (cs ds : List Combination)
+    → added_value flags index (cs ++ ds) name ≡ option_or (added_value flags (index + length cs) ds name) (added_value flags index cs name)
+added_value-append flags name index [] ds =
+    let e : index ≡ index + 0 = omega arith in
     ap (λ n. added_value flags n ds name) e ∙ sym (or_none _)
-added_value-append flags name place (c ∷ cs) ds =
-    let e : place + 1 + length cs ≡ place + suc (length cs) = omega arith in
-    ap (λ o. option_or o (cond (get_or flags place false) (value_at c name) None)) (added_value-append flags name (place + 1) cs ds
-    ∙ ap (λ n. option_or (added_value flags n ds name) (added_value flags (place + 1) cs name)) e)
-    ∙ sym (option_or_assoc (added_value flags (place + suc (length cs)) ds name) (added_value flags (place + 1) cs name)
-    (cond (get_or flags place false) (value_at c name) None))
+added_value-append flags name index (c ∷ cs) ds =
+    let e : index + 1 + length cs ≡ index + suc (length cs) = omega arith in
+    ap (λ o. option_or o (cond (get_or flags index false) (value_at c name) None)) (added_value-append flags name (index + 1) cs ds
+    ∙ ap (λ n. option_or (added_value flags n ds name) (added_value flags (index + 1) cs name)) e)
+    ∙ sym (option_or_assoc (added_value flags (index + suc (length cs)) ds name) (added_value flags (index + 1) cs name)
+    (cond (get_or flags index false) (value_at c name) None))
 
 -- the objects of two halves
 pub SortsEntries-merged : (first n : ℕ) (objects : List Combination) (left right : List EntryValue) → n ≤ length objects

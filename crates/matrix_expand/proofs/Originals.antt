@@ -51,10 +51,10 @@ periodic (v ∷ vs) k r h =
     let c = choice_count vs in
     let some : 0 < c = positive_right l c h in
     let number : k * (l * c) + r ≡ (k * l) * c + r = regroup k l c r in
-    let place : ((k * l) * c + r) / c % l ≡ r / c % l = ap (λ n. n % l) (mul-add-div_right some (k * l) r)
+    let index : ((k * l) * c + r) / c % l ≡ r / c % l = ap (λ n. n % l) (mul-add-div_right some (k * l) r)
     ∙ mul-add-mod_self_right k l (r / c) in
     ap (original_at (axes_of (v ∷ vs))) number
-    ∙ ap (λ i. (v.0, get_or v.1 i Null) ∷ original_at (axes_of vs) ((k * l) * c + r)) place
+    ∙ ap (λ i. (v.0, get_or v.1 i Null) ∷ original_at (axes_of vs) ((k * l) * c + r)) index
     ∙ ap (λ o. (v.0, chosen (v.1, c) r) ∷ o) (periodic vs (k * l) r some)
 
 -- the originals that begin with the value at an index
@@ -69,10 +69,10 @@ with_value v vs j l some all =
     (choice_count vs) (λ r below.
     let c = choice_count vs in
     let start : 0 + r ≡ r = omega arith in
-    let place : (j * c + r) / c % length v.1 ≡ j = ap (λ n. n % length v.1) (div-mul-add j c r below) ∙ mod-eq_of_lt l in
+    let index : (j * c + r) / c % length v.1 ≡ j = ap (λ n. n % length v.1) (div-mul-add j c r below) ∙ mod-eq_of_lt l in
     ap (λ n. (v.0, get_or v.1 j Null) ∷ original_at (axes_of vs) n) start
     ∙ ap (λ o. (v.0, get_or v.1 j Null) ∷ o) (sym (periodic vs j r some))
-    ∙ ap (λ i. (v.0, get_or v.1 i Null) ∷ original_at (axes_of vs) (j * c + r)) (sym place))
+    ∙ ap (λ i. (v.0, get_or v.1 i Null) ∷ original_at (axes_of vs) (j * c + r)) (sym index))
 
 -- the element after a prefix
 get_or-suffix : (front rest : List Scalar) (x : Scalar) → get_or (front ++ x ∷ rest) (length front) Null ≡ x

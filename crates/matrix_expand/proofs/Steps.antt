@@ -63,10 +63,10 @@ module _ (axes : List AxisValue) (items : Combination) (i : ℕ) (item : List �
   others_at = at_drop_more (has_other axes) items i item l ∙ ap (λ p. has_other axes (p ∷ drop (i + 1) items)) (sym is)
 
   -- the name is a variable
-  module _ (place : ℕ) (axis : AxisValue) (m : place < length axes) (at : axis ≡ get_or axes place axis)
-      (found : option_map (λ a. a.1) (slice_get axes place) ≡ choice_of axes item.0) where
+  module _ (index : ℕ) (axis : AxisValue) (m : index < length axes) (at : axis ≡ get_or axes index axis)
+      (found : option_map (λ a. a.1) (slice_get axes index) ≡ choice_of axes item.0) where
     its_choice : choice_of axes item.0 ≡ Some axis.1
-    its_choice = sym found ∙ ap (option_map (λ a. a.1)) (slice_get_read axes (length axes) place axis refl m at)
+    its_choice = sym found ∙ ap (option_map (λ a. a.1)) (slice_get_read axes (length axes) index axis refl m at)
 
     pub wanted_more : wanted_of axes (drop i items) ≡ (axis.1, item.1) ∷ wanted_of axes (drop (i + 1) items)
     wanted_more = wanted_at ∙ rw its_choice refl

@@ -117,7 +117,7 @@ pub fn axes<'a>(
 }
 
 /// The index of the variable with this name.
-pub fn place_of(axes: &[Axis], name: &Chars) -> Option<usize>
+pub fn index_of(axes: &[Axis], name: &Chars) -> Option<usize>
     requires { IsTrue (names_rise axes.now) }
     ensures found { IfSome result (λ i. i < length axes.now) }
     ensures value { option_and_then (λ i. option_map (λ axis. axis.1) (slice_get axes.now i)) result ≡ choice_of axes.now name.now }

@@ -29,23 +29,23 @@ fn original_entries<'a>(
     alloc: Global,
     axes: &[Axis<'a>],
     number: usize,
-    place: usize,
+    index: usize,
 ) -> Result<Vec<Entry<'a>>, Refusal>
-    ensures { Gives (λ v. v.items) result (Ok (object_entries place (original_at axes.now number))) }
+    ensures { Gives (λ v. v.items) result (Ok (object_entries index (original_at axes.now number))) }
 {
     let mut entries = Vec::with_capacity(alloc, axes.len())?;
     for axis in axes {
-        entries.push(Entry::new(place, axis.name(), axis.choice().value(number)))?;
+        entries.push(Entry::new(index, axis.name(), axis.choice().value(number)))?;
     }
     Ok(entries)
 }
 
 /// Whether the flag at an index is set; false past the end.
-fn has_flag(flags: &[bool], place: usize) -> bool
-    ensures { result ≡ slice_index_or flags.now place false }
+fn has_flag(flags: &[bool], index: usize) -> bool
+    ensures { result ≡ slice_index_or flags.now index false }
 {
-    if place < flags.len() {
-        flags[place]
+    if index < flags.len() {
+        flags[index]
     } else {
         false
     }

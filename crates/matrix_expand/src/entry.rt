@@ -73,14 +73,14 @@ impl<'a> Entry<'a> {
 }
 
 /// The pairs of one object.
-fn entries_of<'a>(alloc: Global, place: usize, object: &'a Combo) -> Result<Vec<Entry<'a>>, Refusal>
-    ensures entries { Gives (λ v. v.items) result (Ok (object_entries place object.entry.now)) }
+fn entries_of<'a>(alloc: Global, index: usize, object: &'a Combo) -> Result<Vec<Entry<'a>>, Refusal>
+    ensures entries { Gives (λ v. v.items) result (Ok (object_entries index object.entry.now)) }
     ensures in_order { IsTrue (names_rise object.entry.now) }
 {
     let pairs = object.as_slice();
     let mut entries = Vec::with_capacity(alloc, pairs.len())?;
     for (name, value) in pairs {
-        entries.push(Entry::new(place, name, value))?;
+        entries.push(Entry::new(index, name, value))?;
     }
     Ok(entries)
 }

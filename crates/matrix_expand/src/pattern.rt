@@ -4,7 +4,7 @@ ghost use Rattle.wf_value.specs.Gives.{Gives};
 ghost use Rattle.definitions.specs.Rising.{names_rise};
 ghost use Rattle.matrix_expand.specs.inner.Numbered.{wanted_holds, pattern_agrees, pattern_removes, pattern_of};
 
-use crate::axis::{Axis, Choice, place_of};
+use crate::axis::{Axis, Choice, index_of};
 use std::alloc::Global;
 use std::marker::Model;
 use wf_value::{Combo, Refusal, Same, Scalar};
@@ -73,8 +73,8 @@ impl<'a> Pattern<'a> {
         let mut wanted = Vec::new(alloc);
         let mut has_other = false;
         for (name, value) in object.as_slice() {
-            match place_of(axes, name) {
-                Some(place) => wanted.push(WantedChoice::new(axes[place].choice().again(), value))?,
+            match index_of(axes, name) {
+                Some(index) => wanted.push(WantedChoice::new(axes[index].choice().again(), value))?,
                 None => has_other = true,
             }
         }

@@ -9,7 +9,7 @@ use Rattle.wf_value.specs.declared.outcome.JobResult.{JobResult}
 use Rattle.needs_graph.specs.Needs.{IsClosed, is_ancestor, ancestors_of, needs_at, ancestor_results}
 use Rattle.needs_graph.proofs.Members.{Has, Contains-from_Has}
 use Rattle.needs_graph.proofs.Walks.{is_ancestor-from_walk}
-use Rattle.needs_graph.proofs.PlaceLists.{Has-filter_range_from}
+use Rattle.needs_graph.proofs.IndexLists.{Has-filter_range_from}
 
 -- all pass if and only if none fails
 pub list_all-not : {X : Type 0} (p : X → Bool) (xs : List X) → list_all p xs ≡ not (list_any (λ x. not (p x)) xs)

@@ -9,7 +9,7 @@ use Rattle.std.proofs.lemmas.List.FromFn.{get_or-map-range_with_len}
 use Rattle.wf_value.specs.declared.refusal.Refusal.{Refusal}
 use Rattle.wf_value.specs.declared.refusal.Refusal.TheVariants.{Cycle}
 use Rattle.wf_value.proofs.PassedOn.{same_Ok}
-use Rattle.needs_graph.specs.Needs.{HasWalk, is_ancestor, IsClosed, IsGraph, places}
+use Rattle.needs_graph.specs.Needs.{HasWalk, is_ancestor, IsClosed, IsGraph, indexes}
 use Rattle.needs_graph.specs.inner.JobBitmap.{is_marked, marked, closed}
 use Rattle.needs_graph.specs.Needs.{is_listed, is_job, needs_of, own_ancestors, unless_cycle, unknown_need, graph_of}
 use Rattle.needs_graph.specs.inner.Rows.{needs_row, needs_rows, needs_rows_of, own_ids, dependents_by, IsSets}
@@ -21,25 +21,25 @@ use Rattle.needs_graph.proofs.Walks.{walk_from_is_ancestor, is_ancestor-from_wal
 
 -- ---- the rows represent the needs
 
-places_from-map : {X : Type 0} (test : X → Bool) (xs : List X) (a : ℕ)
+indexes_from-map : {X : Type 0} (test : X → Bool) (xs : List X) (a : ℕ)
     → map (λ e. e.0) (filter (λ e. test e.1) (enumerate_from a xs)) ≡ map (λ e. e.0) (filter (λ e. e.1) (enumerate_from a (map test xs)))
-places_from-map test [] a = refl
-places_from-map test (x ∷ xs) a =
+indexes_from-map test [] a = refl
+indexes_from-map test (x ∷ xs) a =
     elim (test x) as
     (λ v. map (λ e. e.0)
     (cond v ((a, x) ∷ filter (λ e. test e.1) (enumerate_from (a + 1) xs)) (filter (λ e. test e.1) (enumerate_from (a + 1) xs))) ≡
     map (λ e. e.0)
     (cond v ((a, v) ∷ filter (λ e. e.1) (enumerate_from (a + 1) (map test xs)))
     (filter (λ e. e.1) (enumerate_from (a + 1) (map test xs)))))
-    [ true ↦ ap (λ l. a ∷ l) (places_from-map test xs (a + 1)) | false ↦ places_from-map test xs (a + 1) ]
+    [ true ↦ ap (λ l. a ∷ l) (indexes_from-map test xs (a + 1)) | false ↦ indexes_from-map test xs (a + 1) ]
 
 rows_say : (jobs others : List JobNeeds)
-    → map (λ job. places (λ other. is_listed job.needs other.id) jobs) others ≡ map marked (map (λ job. needs_row jobs job.needs) others)
+    → map (λ job. indexes (λ other. is_listed job.needs other.id) jobs) others ≡ map marked (map (λ job. needs_row jobs job.needs) others)
 rows_say jobs [] = refl
 rows_say jobs (job ∷ others) =
-    let first : places (λ (other : JobNeeds). is_listed job.needs other.id) jobs ≡ marked (needs_row jobs job.needs) = places_from-map
+    let first : indexes (λ (other : JobNeeds). is_listed job.needs other.id) jobs ≡ marked (needs_row jobs job.needs) = indexes_from-map
     (λ (other : JobNeeds). is_listed job.needs other.id) jobs 0 in
-    ap (λ l. l ∷ map (λ j. places (λ other. is_listed j.needs other.id) jobs) others) first
+    ap (λ l. l ∷ map (λ j. indexes (λ other. is_listed j.needs other.id) jobs) others) first
     ∙ ap (λ l. marked (needs_row jobs job.needs) ∷ l) (rows_say jobs others)
 
 pub needs_of-by : (jobs : List JobNeeds) → needs_of jobs ≡ needs_by (needs_rows jobs)
@@ -114,8 +114,8 @@ none_own jobs none k below =
     let at = get_or-enumerate_from 0 jobs k blank_pair below in
     let here = none_picked (λ (e : ℕ × JobNeeds). is_ancestor (needs_of jobs) e.0 e.0) (enumerate_from 0 jobs) k blank_pair each
     (omega (arith, length-enumerate_from 0 jobs)) in
-    let place : (get_or (enumerate_from 0 jobs) k blank_pair).0 ≡ k = ap (λ (e : ℕ × JobNeeds). e.0) at ∙ zero-add k in
-    ap (λ n. is_ancestor (needs_of jobs) n n) (sym place) ∙ here
+    let index : (get_or (enumerate_from 0 jobs) k blank_pair).0 ≡ k = ap (λ (e : ℕ × JobNeeds). e.0) at ∙ zero-add k in
+    ap (λ n. is_ancestor (needs_of jobs) n n) (sym index) ∙ here
 
 -- ---- the outcomes of building a graph
 
@@ -180,10 +180,10 @@ graph_is_graph jobs rows sets dependents h none are listed =
           (cases_lt job (length rows));
       reached = sets_reach sets rows square are;
       as_many = ap length (sym listed)
-          ∙ (length-map-range_with_len (λ job. places (λ row. is_marked row job) rows) 0 (length rows) ∙ sym (length-map rows marked));
+          ∙ (length-map-range_with_len (λ job. indexes (λ row. is_marked row job) rows) 0 (length rows) ∙ sym (length-map rows marked));
       needed = λ job below.
           ap (λ l. get_or l job []) (sym listed)
-          ∙ (get_or-map-range_with_len (λ job. places (λ row. is_marked row job) rows) 0 (length rows) job job []
+          ∙ (get_or-map-range_with_len (λ job. indexes (λ row. is_marked row job) rows) 0 (length rows) job job []
           (omega (arith, length-map rows marked)) (zero-add job)
           ∙ dependents-by rows job);
     }
@@ -203,9 +203,9 @@ pub ids_are : (jobs : List JobNeeds) (direct lent reached : List (List Bool)) (i
     → own_ids jobs (closed (length direct) direct) ≡ ids
 ids_are jobs direct lent reached ids is same told = ap (own_ids jobs) (sym (same ∙ is)) ∙ same_Ok _ _ told
 
-pub places_are : (lent rows : List (List Bool)) (told_places : List (List ℕ)) → lent ≡ rows → gave (map marked lent) ≡ gave told_places
-    → map marked rows ≡ told_places
-places_are lent rows told_places same told = ap (map marked) (sym same) ∙ same_Ok _ _ told
+pub indexes_are : (lent rows : List (List Bool)) (told_indexes : List (List ℕ)) → lent ≡ rows → gave (map marked lent) ≡ gave told_indexes
+    → map marked rows ≡ told_indexes
+indexes_are lent rows told_indexes same told = ap (map marked) (sym same) ∙ same_Ok _ _ told
 
 pub dependents_are : (lent rows : List (List Bool)) (told : List (List ℕ)) → lent ≡ rows → gave (dependents_by lent) ≡ gave told
     → dependents_by rows ≡ told

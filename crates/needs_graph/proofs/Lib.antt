@@ -10,7 +10,7 @@ pub mod MarkSteps
 pub mod Members
 pub mod NoNeeds
 pub mod OwnIds
-pub mod PlaceLists
+pub mod IndexLists
 pub mod Reach
 pub mod ResultRows
 pub mod RowSteps

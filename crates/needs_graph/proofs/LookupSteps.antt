@@ -9,25 +9,25 @@ use Rattle.needs_graph.specs.inner.Lookup.{Finds}
 use Rattle.definitions.specs.Rising.{JobNeeds}
 
 -- the job at an index of a prefix
-at_place : (jobs : List JobNeeds) (n place : ℕ) (d e : JobNeeds) → place < n → place < length jobs
-    → get_or (take n jobs) place d ≡ get_or jobs place e
-at_place jobs n place d e before within = get_or-take n jobs place d before ∙ get_or_default jobs place d e within
+at_index : (jobs : List JobNeeds) (n index : ℕ) (d e : JobNeeds) → index < n → index < length jobs
+    → get_or (take n jobs) index d ≡ get_or jobs index e
+at_index jobs n index d e before within = get_or-take n jobs index d before ∙ get_or_default jobs index d e within
 
 found_here : (jobs : List JobNeeds) (i : ℕ) (job : JobNeeds) (id : List ℕ) → i < length jobs → job ≡ get_or jobs i job → job.id ≡ id
     → Finds (take (i + 1) jobs) id (Some i)
 found_here jobs i job id below is_job same =
     let wide : length (take (i + 1) jobs) ≡ i + 1 = length-take-le (i + 1) jobs (omega arith) in
-    (omega arith, λ d. ap (λ j. j.id) (at_place jobs (i + 1) i d job (omega arith) below ∙ sym is_job) ∙ same)
+    (omega arith, λ d. ap (λ j. j.id) (at_index jobs (i + 1) i d job (omega arith) below ∙ sym is_job) ∙ same)
 
-found_before : (jobs : List JobNeeds) (i : ℕ) (id : List ℕ) (place : ℕ) → i < length jobs → Finds (take i jobs) id (Some place)
-    → Finds (take (i + 1) jobs) id (Some place)
-found_before jobs i id place below held =
+found_before : (jobs : List JobNeeds) (i : ℕ) (id : List ℕ) (index : ℕ) → i < length jobs → Finds (take i jobs) id (Some index)
+    → Finds (take (i + 1) jobs) id (Some index)
+found_before jobs i id index below held =
     let before : length (take i jobs) ≡ i = length-take-le i jobs (omega arith) in
     let wide : length (take (i + 1) jobs) ≡ i + 1 = length-take-le (i + 1) jobs (omega arith) in
     let first = held.0 in (
       omega arith,
       λ d. ap (λ j. j.id)
-          (at_place jobs (i + 1) place d d (omega arith) (omega arith) ∙ sym (at_place jobs i place d d (omega arith) (omega arith)))
+          (at_index jobs (i + 1) index d d (omega arith) (omega arith) ∙ sym (at_index jobs i index d d (omega arith) (omega arith)))
           ∙ held.1 d,
     )
 
@@ -39,11 +39,11 @@ found_nowhere jobs i job id below is_job other none =
     λ k d within same.
     ⊎_elim
     (λ last.
-    let at : get_or (take (i + 1) jobs) k d ≡ job = at_place jobs (i + 1) k d job (omega arith) (omega arith)
+    let at : get_or (take (i + 1) jobs) k d ≡ job = at_index jobs (i + 1) k d job (omega arith) (omega arith)
     ∙ (ap (λ n. get_or jobs n job) last ∙ sym is_job) in
     other (ap (λ j. j.id) (sym at) ∙ same))
     (λ apart.
-    let at = at_place jobs i k d d (omega arith) (omega arith) ∙ sym (at_place jobs (i + 1) k d d (omega arith) (omega arith)) in
+    let at = at_index jobs i k d d (omega arith) (omega arith) ∙ sym (at_index jobs (i + 1) k d d (omega arith) (omega arith)) in
     none k d (omega arith) (ap (λ j. j.id) at ∙ same))
     (cases_eq k i)
 
@@ -60,7 +60,7 @@ finds_more jobs i job id before below is_job held =
           elim before
           as (λ o. Finds (take i jobs) id o → Finds (take (i + 1) jobs) id o) [
             | None ↦ λ none. found_nowhere jobs i job id below is_job other none
-            | Some place ↦ λ at. found_before jobs i id place below at
+            | Some index ↦ λ at. found_before jobs i id index below at
           ]
           held
     ]

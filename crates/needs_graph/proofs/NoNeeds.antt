@@ -6,7 +6,7 @@ use Rattle.std.proofs.lemmas.Bool.{and_parts, false≢true}
 use Rattle.std.proofs.lemmas.Bool.Decides.{nat_tests}
 use Rattle.std.proofs.lemmas.Grind.{common_steps}
 use Rattle.std.proofs.lemmas.List.{nil_from_length}
-use Rattle.needs_graph.specs.Needs.{IsGraph, dependents_of, is_ancestor, needs_at, walk_ends, places}
+use Rattle.needs_graph.specs.Needs.{IsGraph, dependents_of, is_ancestor, needs_at, walk_ends, indexes}
 use Rattle.definitions.specs.Rising.{JobNeeds}
 use Rattle.needs_graph.specs.inner.JobSets.{is_in}
 use Rattle.needs_graph.specs.Needs.{graph_of, is_job, is_listed, list_nothing, needs_of, own_ancestors}
@@ -51,20 +51,20 @@ no_dependents count job =
 is_nil : (needs : List (List ℕ)) → (length needs == 0) ≡ true → needs ≡ []
 is_nil needs none = nil_from_length needs (grind (arith, nat_tests, none))
 
-places_of : (jobs : List JobNeeds) (needs : List (List ℕ)) → (length needs == 0) ≡ true → places (λ other. is_listed needs other.id) jobs ≡ []
-places_of jobs needs none =
-    subst (λ (ids : List (List ℕ)). places (λ other. is_listed ids other.id) jobs ≡ []) (sym (is_nil needs none))
+indexes_of : (jobs : List JobNeeds) (needs : List (List ℕ)) → (length needs == 0) ≡ true → indexes (λ other. is_listed needs other.id) jobs ≡ []
+indexes_of jobs needs none =
+    subst (λ (ids : List (List ℕ)). indexes (λ other. is_listed ids other.id) jobs ≡ []) (sym (is_nil needs none))
     (ap (map (λ e. e.0)) (filter_keeps_none (λ e. false) (λ e. refl) (enumerate_from 0 jobs)))
 
 known_if_none : (jobs : List JobNeeds) (needs : List (List ℕ)) → (length needs == 0) ≡ true → list_all (is_job jobs) needs ≡ true
 known_if_none jobs needs none = subst (λ (ids : List (List ℕ)). list_all (is_job jobs) ids ≡ true) (sym (is_nil needs none)) refl
 
 all_indexes : (all jobs : List JobNeeds) → list_nothing jobs ≡ true
-    → map (λ job. places (λ other. is_listed job.needs other.id) all) jobs ≡ nothing (length jobs)
+    → map (λ job. indexes (λ other. is_listed job.needs other.id) all) jobs ≡ nothing (length jobs)
 all_indexes all [] none = refl
 all_indexes all (job ∷ jobs) none =
     let parts = and_parts (length job.needs == 0) (list_nothing jobs) none in
-    rw (places_of all job.needs parts.0, all_indexes all jobs parts.1) refl
+    rw (indexes_of all job.needs parts.0, all_indexes all jobs parts.1) refl
 
 all_known : (all jobs : List JobNeeds) → list_nothing jobs ≡ true → list_all (λ job. list_all (is_job all) job.needs) jobs ≡ true
 all_known all [] none = refl

@@ -22,15 +22,15 @@ more : (jobs : List JobNeeds) (rows : List (List Bool)) (i : ℕ) (job : JobNeed
     → own_ids_first jobs rows (i + 1) ≡ own_ids_first jobs rows i ++ map (λ (e : ℕ × JobNeeds). e.1.id)
     (cond (is_marked (get_or rows i []) i) ((i, job) ∷ []) [])
 more jobs rows i job below is_job =
-    let places = enumerate_from 0 jobs in
+    let indexes = enumerate_from 0 jobs in
     let pair : ℕ × JobNeeds = (i, job) in
     let f : ℕ × JobNeeds → List ℕ = λ e. e.1.id in
-    let at : get_or places i pair ≡ pair = get_or-enumerate_from 0 jobs i pair below
+    let at : get_or indexes i pair ≡ pair = get_or-enumerate_from 0 jobs i pair below
     ∙ (ap (λ n. (n, get_or jobs i job)) (zero-add i) ∙ ap (λ j. (i, j)) (sym is_job)) in
-    let step = filter_more (reaches_itself rows) places i pair (omega (arith, length-enumerate_from 0 jobs)) in
-    let here : cond (reaches_itself rows (get_or places i pair)) (get_or places i pair ∷ []) [] ≡ cond (reaches_itself rows pair)
+    let step = filter_more (reaches_itself rows) indexes i pair (omega (arith, length-enumerate_from 0 jobs)) in
+    let here : cond (reaches_itself rows (get_or indexes i pair)) (get_or indexes i pair ∷ []) [] ≡ cond (reaches_itself rows pair)
     (pair ∷ []) [] = ap (λ e. cond (reaches_itself rows e) (e ∷ []) []) at in
-    ap (map f) (step ∙ ap (λ l. filter (reaches_itself rows) (take i places) ++ l) here) ∙ map-append f _ _
+    ap (map f) (step ∙ ap (λ l. filter (reaches_itself rows) (take i indexes) ++ l) here) ∙ map-append f _ _
 
 pub more_own : (jobs : List JobNeeds) (rows : List (List Bool)) (i : ℕ) (job : JobNeeds) (row : List Bool) → i < length jobs
     → i < length rows → job ≡ get_or jobs i job → row ≡ get_or rows i row → is_marked row i ≡ true

@@ -5,12 +5,12 @@ use Rattle.std.specs.List.{Contains, range_with_len, filter, list_any}
 use Rattle.std.proofs.lemmas.Bool.{cases_lt, false≢true, false_from_ne_true}
 use Rattle.std.proofs.lemmas.Bool.Decides.{same_from_decides}
 use Rattle.std.proofs.lemmas.List.{get_or-map, get_or_default, get_or_past, length-map}
-use Rattle.needs_graph.specs.Needs.{needs_at, IsWalk, HasWalk, is_ancestor, dependents_of, IsClosed, places}
+use Rattle.needs_graph.specs.Needs.{needs_at, IsWalk, HasWalk, is_ancestor, dependents_of, IsClosed, indexes}
 use Rattle.needs_graph.specs.inner.JobSets.{is_in}
 use Rattle.needs_graph.specs.inner.JobBitmap.{is_marked, marked, closed}
 use Rattle.needs_graph.specs.inner.Rows.{IsSets}
 use Rattle.needs_graph.proofs.Members.{Has, Contains-from_Has, Has-from_Contains}
-use Rattle.needs_graph.proofs.PlaceLists.{marked_by, places_by, Has-filter_range, Has-filter_range_from}
+use Rattle.needs_graph.proofs.IndexLists.{marked_by, indexes_by, Has-filter_range, Has-filter_range_from}
 use Rattle.needs_graph.proofs.Walks.{joined, no_walk_past, walk_from_is_ancestor, is_ancestor-from_walk}
 use Rattle.needs_graph.proofs.Closure.{row_at, bit, IsWide, length-closed, sound, complete_step, complete_start}
 
@@ -139,9 +139,9 @@ is_marked-is_in_list marks i =
     same_from_decides {P = is_marked marks i ≡ true} (is_marked marks i) (list_any (eqb i) (marked marks)) (λ h. h, λ h. h)
     (λ h. (Has-marked marks i h).1, λ h. Has-marked_from marks i (mark_below marks i h) h)
 
-pub dependents-by : (rows : List (List Bool)) (job : ℕ) → places (λ row. is_marked row job) rows ≡ dependents_of (needs_by rows) job
+pub dependents-by : (rows : List (List Bool)) (job : ℕ) → indexes (λ row. is_marked row job) rows ≡ dependents_of (needs_by rows) job
 dependents-by rows job =
-    places_by (λ row. is_marked row job) rows (λ other. list_any (eqb job) (needs_at (needs_by rows) other))
+    indexes_by (λ row. is_marked row job) rows (λ other. list_any (eqb job) (needs_at (needs_by rows) other))
     (λ k d below.
     ap (λ row. is_marked row job) (get_or_default rows k d [] below)
     ∙ (is_marked-is_in_list (row_at rows k) job ∙ ap (λ l. list_any (eqb job) l) (sym (needs_at-by rows k below))))

@@ -29,14 +29,14 @@ bytes_apart : (a b : List ℕ) → a ≢ b → bytes_eq a b ≡ false
 bytes_apart a b ne = false_from_ne_true _ (λ e. ne ((bytes_eq-Decides a b).0 e))
 
 -- a known id marks its job and no other
-pub row_more : (jobs : List JobNeeds) → IsTrue (ids_rise jobs) → (ids : List (List ℕ)) (i place : ℕ) (id : List ℕ) → i < length ids
-    → id ≡ get_or ids i id → place < length jobs → HoldsAt (λ job. job.id ≡ id) jobs place
-    → set (needs_row jobs (take i ids)) place true ≡ needs_row jobs (take (i + 1) ids)
-row_more jobs rise ids i place id in_ids is_id in_jobs held =
+pub row_more : (jobs : List JobNeeds) → IsTrue (ids_rise jobs) → (ids : List (List ℕ)) (i index : ℕ) (id : List ℕ) → i < length ids
+    → id ≡ get_or ids i id → index < length jobs → HoldsAt (λ job. job.id ≡ id) jobs index
+    → set (needs_row jobs (take i ids)) index true ≡ needs_row jobs (take (i + 1) ids)
+row_more jobs rise ids i index id in_ids is_id in_jobs held =
     let before = needs_row jobs (take i ids) in
     let width : length before ≡ length jobs = length-map jobs (λ job. is_listed (take i ids) job.id) in
-    let wide : length (set before place true) ≡ length jobs = length-set before place true ∙ width in
-    same_lists (set before place true) (needs_row jobs (take (i + 1) ids))
+    let wide : length (set before index true) ≡ length jobs = length-set before index true ∙ width in
+    same_lists (set before index true) (needs_row jobs (take (i + 1) ids))
     (wide ∙ sym (length-map jobs (λ job. is_listed (take (i + 1) ids) job.id)))
     (λ k d below.
     let in_k : k < length jobs = omega arith in
@@ -45,24 +45,24 @@ row_more jobs rise ids i place id in_ids is_id in_jobs held =
     ∙ list_any_more (bytes_eq here) ids i id in_ids in
     ⊎_elim
     (λ same.
-    let P : ℕ → Type 0 = λ n. get_or (set before place true) n d ≡ true in
-    let marked_here : get_or (set before place true) k d ≡ true = subst P (sym same) (get_or-set_same before place true d (omega arith)) in
+    let P : ℕ → Type 0 = λ n. get_or (set before index true) n d ≡ true in
+    let marked_here : get_or (set before index true) k d ≡ true = subst P (sym same) (get_or-set_same before index true d (omega arith)) in
     let at_k : here ≡ id = ap (λ n. (get_or jobs n blank).id) same ∙ held blank in
     marked_here ∙ sym (after ∙ or_right _ _ (bytes_same here (get_or ids i id) (at_k ∙ is_id))))
     (λ other.
-    let stays = get_or-set_other before place k true d other ∙ get_or-map (λ job. is_listed (take i ids) job.id) jobs k blank d in_k in
+    let stays = get_or-set_other before index k true d other ∙ get_or-map (λ job. is_listed (take i ids) job.id) jobs k blank d in_k in
     let not_here : bytes_eq here (get_or ids i id) ≡ false = bytes_apart _ _
-    (λ e. other (names_apart (λ (job : JobNeeds). job.id) jobs k place blank rise in_k in_jobs (e ∙ (sym is_id ∙ sym (held blank))))) in
+    (λ e. other (names_apart (λ (job : JobNeeds). job.id) jobs k index blank rise in_k in_jobs (e ∙ (sym is_id ∙ sym (held blank))))) in
     stays ∙ (or_false (is_listed (take i ids) here) ∙ (ap (λ b. is_listed (take i ids) here || b) (sym not_here) ∙ sym after)))
-    (cases_eq k place))
+    (cases_eq k index))
 
-pub known_more : (jobs : List JobNeeds) (ids : List (List ℕ)) (i place : ℕ) (id : List ℕ) → i < length ids → id ≡ get_or ids i id
-    → place < length jobs → HoldsAt (λ job. job.id ≡ id) jobs place → list_all (is_job jobs) (take i ids) ≡ true
+pub known_more : (jobs : List JobNeeds) (ids : List (List ℕ)) (i index : ℕ) (id : List ℕ) → i < length ids → id ≡ get_or ids i id
+    → index < length jobs → HoldsAt (λ job. job.id ≡ id) jobs index → list_all (is_job jobs) (take i ids) ≡ true
     → list_all (is_job jobs) (take (i + 1) ids) ≡ true
-known_more jobs ids i place id in_ids is_id in_jobs held so_far =
+known_more jobs ids i index id in_ids is_id in_jobs held so_far =
     list_all_more (is_job jobs) ids i id in_ids
     ∙ and_from _ _ so_far
-    (list_any_at (λ job. bytes_eq (get_or ids i id) job.id) jobs place blank in_jobs (bytes_same _ _ (sym (held blank ∙ is_id))))
+    (list_any_at (λ job. bytes_eq (get_or ids i id) job.id) jobs index blank in_jobs (bytes_same _ _ (sym (held blank ∙ is_id))))
 
 is_job_not : (jobs : List JobNeeds) (id : List ℕ) → All (λ job. job.id ≢ id) jobs → is_job jobs id ≡ false
 is_job_not jobs id none = list_any_none (λ job. bytes_eq id job.id) jobs (λ k d below. bytes_apart _ _ (λ e. none k d below (sym e)))

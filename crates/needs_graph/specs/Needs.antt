@@ -66,8 +66,8 @@ pub record IsGraph (needs ancestors dependents : List (List ℕ)) : Type 0 where
 -- `jobs.<job_id>.needs`.
 
 -- the indices, from 0, of the elements that pass the test
-abbrev pub places : {X : Type 0} → (X → Bool) → List X → List ℕ
-places test xs = map (λ e. e.0) (filter (λ e. test e.1) (enumerate_from 0 xs))
+abbrev pub indexes : {X : Type 0} → (X → Bool) → List X → List ℕ
+indexes test xs = map (λ e. e.0) (filter (λ e. test e.1) (enumerate_from 0 xs))
 
 -- whether the ids strictly increase in byte order
 abbrev pub ids_rise : List JobNeeds → Bool
@@ -82,7 +82,7 @@ is_job jobs id = list_any (λ job. bytes_eq id job.id) jobs
 
 -- for each job, the indices of the jobs whose ids it lists
 abbrev pub needs_of : List JobNeeds → List (List ℕ)
-needs_of jobs = map (λ job. places (λ other. is_listed job.needs other.id) jobs) jobs
+needs_of jobs = map (λ job. indexes (λ other. is_listed job.needs other.id) jobs) jobs
 
 -- the ids of the jobs that are their own ancestors, in order
 abbrev pub own_ancestors : List JobNeeds → List (List ℕ)
@@ -174,7 +174,7 @@ ancestor_test_value AnyFailed results = list_any has_failed results
 
 -- the results of the jobs at these indices
 abbrev pub results_at : List (Option JobResult) → List ℕ → List (Option JobResult)
-results_at results places = map (λ place. slice_index_or results place None) places
+results_at results indexes = map (λ index. slice_index_or results index None) indexes
 
 -- the results of a job's ancestors
 abbrev pub ancestor_results : List (List ℕ) → List (Option JobResult) → ℕ → List (Option JobResult)

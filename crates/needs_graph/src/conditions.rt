@@ -66,8 +66,8 @@ pub(crate) fn has_failed(job: Option<JobResult>) -> bool
 }
 
 /// The result of the job at an index, if there is such a job and it has one.
-pub(crate) fn result_at<J: HasResult>(jobs: &[J], place: usize) -> Option<JobResult>
-    ensures { result ≡ slice_index_or (map J.job_result jobs.now) place None }
+pub(crate) fn result_at<J: HasResult>(jobs: &[J], index: usize) -> Option<JobResult>
+    ensures { result ≡ slice_index_or (map J.job_result jobs.now) index None }
 {
-    jobs.get(place).and_then(|job| job.job_result())
+    jobs.get(index).and_then(|job| job.job_result())
 }

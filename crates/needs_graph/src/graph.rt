@@ -10,7 +10,7 @@ use crate::ended::HasResult;
 use crate::job_needs::JobNeeds;
 use crate::job_set::{JobSet, set_has};
 use crate::marks::JobBitmap;
-use crate::rows::{all_dependents, all_indexes, all_sets, closed_rows, needs_rows, no_places};
+use crate::rows::{all_dependents, all_indexes, all_sets, closed_rows, needs_rows, no_indexes};
 use std::alloc::Global;
 use std::marker::Model;
 use wf_value::{Chars, Condition, Refusal, Sequence, TryCopy};
@@ -60,8 +60,8 @@ impl Graph {
         requires { list_nothing jobs.now ≡ true }
         ensures { Gives (λ g. g) result (graph_of jobs.now) }
     {
-        let needs = no_places(alloc, jobs.len())?;
-        let dependents = no_places(alloc, jobs.len())?;
+        let needs = no_indexes(alloc, jobs.len())?;
+        let dependents = no_indexes(alloc, jobs.len())?;
         Ok(Graph {
             needs,
             ancestors: no_sets(alloc),
@@ -239,12 +239,12 @@ fn no_sets(alloc: Global) -> Sequence<JobSet>
 }
 
 /// Whether one of the jobs at these indices has not succeeded.
-fn any_lacks_success<J: HasResult>(places: &[usize], jobs: &[J]) -> bool
-    ensures { result ≡ list_any (λ place. not (has_succeeded (slice_index_or (map J.job_result jobs.now) place None))) places.now }
+fn any_lacks_success<J: HasResult>(indexes: &[usize], jobs: &[J]) -> bool
+    ensures { result ≡ list_any (λ index. not (has_succeeded (slice_index_or (map J.job_result jobs.now) index None))) indexes.now }
 {
-    places
+    indexes
         .iter()
-        .any(|place| !has_succeeded(result_at(jobs, *place)))
+        .any(|index| !has_succeeded(result_at(jobs, *index)))
 }
 
 /// The ids of the jobs that reach themselves, in order.
@@ -257,8 +257,8 @@ fn own_ids(
     ensures { Gives (λ v. v.items) result (Ok (own_ids jobs.now reached.now)) }
 {
     let mut ids = Vec::new(alloc);
-    for (place, job) in jobs.iter().enumerate() {
-        if reached[place].contains(place) {
+    for (index, job) in jobs.iter().enumerate() {
+        if reached[index].contains(index) {
             ids.push(job.id().copy(alloc)?)?;
         }
     }

@@ -48,10 +48,10 @@ impl TryCopy for JobSet {
 }
 
 /// Whether the set at an index contains the job; false if there is no such set.
-pub(crate) fn set_has(sets: &[JobSet], place: usize, job: usize) -> bool
-    ensures { result ≡ is_in (slice_index_or sets.now place []) job }
+pub(crate) fn set_has(sets: &[JobSet], index: usize, job: usize) -> bool
+    ensures { result ≡ is_in (slice_index_or sets.now index []) job }
 {
-    match sets.get(place) {
+    match sets.get(index) {
         Some(set) => set.contains(job),
         None => false,
     }

@@ -14,7 +14,7 @@ use wf_value::{Chars, Refusal, Same};
 #[derive(Drop)]
 pub(crate) struct Lookup<'a> {
     jobs: &'a [JobNeeds<'a>],
-    places: HashMap<&'a str, usize>,
+    indexes: HashMap<&'a str, usize>,
 }
 
 impl<'a> Model for Lookup<'a> {
@@ -28,7 +28,7 @@ impl<'a> Model for Lookup<'a> {
 
     ghost view = { λ l. l.jobs.now };
 
-    ghost invariant = { λ l. (id : List ℕ) → Finds l.jobs.now id (get_by (λ k. bytes_eq id k.now) l.places) };
+    ghost invariant = { λ l. (id : List ℕ) → Finds l.jobs.now id (get_by (λ k. bytes_eq id k.now) l.indexes) };
 }
 
 impl<'a> Lookup<'a> {
@@ -37,7 +37,7 @@ impl<'a> Lookup<'a> {
     {
         Ok(Lookup {
             jobs,
-            places: indexes_by_id(alloc, jobs)?,
+            indexes: indexes_by_id(alloc, jobs)?,
         })
     }
 
@@ -54,7 +54,7 @@ impl<'a> Lookup<'a> {
         if likely < self.jobs.len() && self.jobs[likely].id().same(id) {
             return Some(likely);
         }
-        self.places.get(id.as_str()).copied()
+        self.indexes.get(id.as_str()).copied()
     }
 }
 
@@ -62,11 +62,11 @@ fn indexes_by_id<'a>(
     alloc: Global,
     jobs: &'a [JobNeeds<'a>],
 ) -> Result<HashMap<&'a str, usize>, AllocError>
-    ensures { IfOk result (λ places. (id : List ℕ) → Finds jobs.now id (get_by (λ k. bytes_eq id k.now) places)) }
+    ensures { IfOk result (λ indexes. (id : List ℕ) → Finds jobs.now id (get_by (λ k. bytes_eq id k.now) indexes)) }
 {
-    let mut places = HashMap::new(alloc);
-    for (place, job) in jobs.iter().enumerate() {
-        places.insert(job.id().as_str(), place)?;
+    let mut indexes = HashMap::new(alloc);
+    for (index, job) in jobs.iter().enumerate() {
+        indexes.insert(job.id().as_str(), index)?;
     }
-    Ok(places)
+    Ok(indexes)
 }

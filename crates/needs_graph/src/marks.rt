@@ -80,7 +80,7 @@ impl JobBitmap {
     }
 
     /// The jobs of the set, in order.
-    pub(crate) fn places(&self, alloc: Global) -> Result<Sequence<usize>, Refusal>
+    pub(crate) fn indexes(&self, alloc: Global) -> Result<Sequence<usize>, Refusal>
         ensures { Gives (λ p. p) result (Ok (marked self.now)) }
     {
         Ok(Sequence::new(marked_indexes(alloc, self.marks.as_slice())?))
@@ -108,14 +108,14 @@ fn add_marks(marks: &mut [bool], others: &[bool])
 }
 
 fn marked_indexes(alloc: Global, marks: &[bool]) -> Result<Vec<usize>, AllocError>
-    ensures { IfOk result (λ places. places.items ≡ marked marks.now) }
+    ensures { IfOk result (λ indexes. indexes.items ≡ marked marks.now) }
 {
     let first = &marks[..end_of(marks)];
-    let mut places = Vec::with_capacity(alloc, first.iter().filter(|mark| **mark).count())?;
+    let mut indexes = Vec::with_capacity(alloc, first.iter().filter(|mark| **mark).count())?;
     for (job, mark) in first.iter().enumerate() {
         if *mark {
-            places.push(job)?;
+            indexes.push(job)?;
         }
     }
-    Ok(places)
+    Ok(indexes)
 }

@@ -1,7 +1,7 @@
 ghost use Rattle.std.specs.Prelude.{◌≡◌, [], IfOk, IsTrue, Ok, map, length, replicate};
 ghost use Rattle.wf_value.specs.Gives.{Gives};
 ghost use Rattle.needs_graph.specs.inner.JobBitmap.{is_marked, marked, through, closed};
-ghost use Rattle.needs_graph.specs.Needs.{places, ids_rise};
+ghost use Rattle.needs_graph.specs.Needs.{indexes, ids_rise};
 ghost use Rattle.needs_graph.specs.inner.Rows.{needs_row_of, needs_rows_of, dependents_by, IsSets};
 
 use crate::job_needs::JobNeeds;
@@ -20,9 +20,9 @@ fn needs_row(alloc: Global, jobs: &Lookup<'_>, ids: &[Chars]) -> Result<JobBitma
     let mut next = 0;
     for id in ids {
         match jobs.index_from(id, next) {
-            Some(place) => {
-                row.insert(place);
-                next = place + 1;
+            Some(index) => {
+                row.insert(index);
+                next = index + 1;
             }
             None => return Err(Refusal::Numbered(Code::UnknownNeed)),
         }
@@ -64,14 +64,14 @@ pub(crate) fn closed_rows(alloc: Global, rows: Vec<JobBitmap>) -> Result<Vec<Job
 }
 
 /// So many empty lists of jobs.
-pub(crate) fn no_places(alloc: Global, count: usize) -> Result<Sequence<Sequence<usize>>, Refusal>
+pub(crate) fn no_indexes(alloc: Global, count: usize) -> Result<Sequence<Sequence<usize>>, Refusal>
     ensures { Gives (λ p. p) result (Ok (replicate count [])) }
 {
-    let mut places = Vec::with_capacity(alloc, count)?;
+    let mut indexes = Vec::with_capacity(alloc, count)?;
     for _ in 0..count {
-        places.push(Sequence::new(Vec::new(alloc)))?;
+        indexes.push(Sequence::new(Vec::new(alloc)))?;
     }
-    Ok(Sequence::new(places))
+    Ok(Sequence::new(indexes))
 }
 
 /// The jobs of each row, in order.
@@ -81,21 +81,21 @@ pub(crate) fn all_indexes(
 ) -> Result<Sequence<Sequence<usize>>, Refusal>
     ensures { Gives (λ p. p) result (Ok (map marked rows.now)) }
 {
-    let mut places = Vec::with_capacity(alloc, rows.len())?;
+    let mut indexes = Vec::with_capacity(alloc, rows.len())?;
     for row in rows {
-        places.push(row.places(alloc)?)?;
+        indexes.push(row.indexes(alloc)?)?;
     }
-    Ok(Sequence::new(places))
+    Ok(Sequence::new(indexes))
 }
 
 /// The jobs that need the job directly, in order.
 fn dependents_on(alloc: Global, rows: &[JobBitmap], job: usize) -> Result<Vec<usize>, AllocError>
-    ensures { IfOk result (λ v. v.items ≡ places (λ row. is_marked row job) rows.now) }
+    ensures { IfOk result (λ v. v.items ≡ indexes (λ row. is_marked row job) rows.now) }
 {
     rows.iter()
         .enumerate()
         .filter(|(_, row)| row.contains(job))
-        .map(|(place, _)| place)
+        .map(|(index, _)| index)
         .collect(alloc)
 }
 

@@ -64,16 +64,16 @@ one_of_them id results k (Some planned) more found rest =
       | false ↦ rest
     ]
 
-result_of_id : (id : List ℕ) (plan : List PlannedJob) (results : Results) (places : List ℕ)
+result_of_id : (id : List ℕ) (plan : List PlannedJob) (results : Results) (indexes : List ℕ)
     → option_and_then (λ r. r)
-    (under id (filter_map (λ k. option_map (λ (planned : PlannedJob). (planned.id, results k)) (slice_get plan k)) places))
-    ≡ option_and_then results (find (has_id plan id) places)
+    (under id (filter_map (λ k. option_map (λ (planned : PlannedJob). (planned.id, results k)) (slice_get plan k)) indexes))
+    ≡ option_and_then results (find (has_id plan id) indexes)
 unfolding has_id
 result_of_id id plan results [] = refl
-result_of_id id plan results (k ∷ places) =
+result_of_id id plan results (k ∷ indexes) =
     one_of_them id results k (slice_get plan k)
-    (filter_map (λ i. option_map (λ (planned : PlannedJob). (planned.id, results i)) (slice_get plan i)) places)
-    (find (has_id plan id) places) (result_of_id id plan results places)
+    (filter_map (λ i. option_map (λ (planned : PlannedJob). (planned.id, results i)) (slice_get plan i)) indexes)
+    (find (has_id plan id) indexes) (result_of_id id plan results indexes)
 
 -- ---- the sender gives no results of needs
 
@@ -127,13 +127,13 @@ has_results_later run job j l needs results others (context ∷ []) = refl
 has_results_later run job j l needs results others (context ∷ name ∷ []) = refl
 has_results_later run job j l needs results others (context ∷ inner ∷ name ∷ []) =
     let plan = plan_of run.event.body in
-    let places = needs_at (plan_graph plan) j in
-    inner_by results (bytes_eq context (codes "needs") && bytes_eq name (codes "result")) (find (has_id plan inner) places)
+    let indexes = needs_at (plan_graph plan) j in
+    inner_by results (bytes_eq context (codes "needs") && bytes_eq name (codes "result")) (find (has_id plan inner) indexes)
     (option_and_then (λ r. r) (under inner (filter_map
-    (λ k. option_map (λ (planned : PlannedJob). (planned.id, results k)) (slice_get plan k)) places)))
+    (λ k. option_map (λ (planned : PlannedJob). (planned.id, results k)) (slice_get plan k)) indexes)))
     (option_and_then (λ r. r) (under inner needs))
     (sent_value (event_of run.event.body).contexts (context ∷ inner ∷ name ∷ []))
-    (result_of_id inner plan results places) (others inner)
+    (result_of_id inner plan results indexes) (others inner)
     (λ both. nothing_sent (event_of run.event.body).contexts context (inner ∷ name ∷ [])
     (and_parts (bytes_eq context (codes "needs")) (bytes_eq name (codes "result")) both).0)
 has_results_later run job j l needs results others (context ∷ inner ∷ name ∷ more ∷ names) = refl
@@ -164,18 +164,18 @@ pub leg_has_results_at_last : (run : RunFacts) (job : PlannedJob) (j l : ℕ) (r
     (context_of (facts_by run j job l results))
 leg_has_results_at_last run job j l results =
     let plan = plan_of run.event.body in
-    let places = needs_at (plan_graph plan) j in
+    let indexes = needs_at (plan_graph plan) j in
     has_results_later run job j l (facts_by run j job l no_results).needs results
-    (λ id none. result_of_id id plan no_results places ∙ ap (option_and_then no_results) none)
+    (λ id none. result_of_id id plan no_results indexes ∙ ap (option_and_then no_results) none)
 
 -- what holds for the needs in the plan of an event holds for those in the plan of its run
 pub by_needs : (values : Values) (needs : RunState × ℕ) (event : Admitted) (j : ℕ) (later : Results → Values)
     → needs.0.admitted ≡ event → needs.1 ≡ j
     → ((results : Results) → HasResults values (need_of_job (plan_of event.body) j) results (later results))
     → (results : Results) → HasResults values (need_of_job (plan_of needs.0.admitted.body) needs.1) results (later results)
-by_needs values needs event j later is place has results =
+by_needs values needs event j later is at has results =
     subst (λ (a : Admitted). HasResults values (need_of_job (plan_of a.body) needs.1) results (later results)) (sym is)
-    (subst (λ (i : ℕ). HasResults values (need_of_job (plan_of event.body) i) results (later results)) (sym place) (has results))
+    (subst (λ (i : ℕ). HasResults values (need_of_job (plan_of event.body) i) results (later results)) (sym at) (has results))
 
 -- ---- one more element is bound
 

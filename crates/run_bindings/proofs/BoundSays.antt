@@ -17,7 +17,7 @@ use Rattle.run_states.specs.Groups.{run_cancels, run_context, run_facts_at, run_
 use Rattle.run_states.specs.Holders.{run_of}
 use Rattle.run_states.specs.Runs.{direct_needs, run_at, RunState}
 use Rattle.run_states.specs.LegContext.{LegFacts, context_of, facts_at, events, run_number, is_set}
-use Rattle.run_states.specs.declared.place.LegSite.{LegSite}
+use Rattle.run_states.specs.declared.sites.LegSite.{LegSite}
 use Rattle.run_bindings.specs.Bindings.{AreBound, RunSays, group_request_of}
 use Rattle.run_bindings.specs.BoundGroups.{SaysSo, facts_by, is_set_by, results_by_index}
 use Rattle.run_bindings.specs.declared.bindings.JobBindings.{JobBindings}

@@ -246,7 +246,7 @@ impl GroupKeys {
     {
         match holder {
             Holder::Run(_) => Some(&self.own),
-            Holder::Leg(place) => self.jobs.get(place.job)?.get(place.leg),
+            Holder::Leg(site) => self.jobs.get(site.job)?.get(site.leg),
         }
     }
 
@@ -299,7 +299,7 @@ impl GroupKeys {
     {
         match holder {
             Holder::Run(_) => self.own.spend(),
-            Holder::Leg(place) => self.spend_leg(place.job, place.leg),
+            Holder::Leg(site) => self.spend_leg(site.job, site.leg),
         }
     }
 

@@ -26,7 +26,7 @@ pub(crate) struct LegContext<'a> {
     pub run_attempt: &'a str,
     pub job: &'a PlannedJob,
     /// The job's index in its run.
-    pub place: usize,
+    pub index: usize,
     /// The leg's index in its job, from 0.
     pub leg: usize,
 }
@@ -45,7 +45,7 @@ impl<'a> Model for LegContext<'a> {
       run_attempt = c.run_attempt.now;
       job = c.job.now;
       leg = c.leg;
-      needs = direct_needs c.run.now c.place;
+      needs = direct_needs c.run.now c.index;
     } };
 
     ghost invariant = { λ c. c.leg < 2 ^ 63 };
@@ -108,7 +108,7 @@ impl<'a> LegContext<'a> {
     fn result_of_need(&self, id: &str) -> Option<ScalarView<'_>>
         ensures { option_map shown result ≡ option_map (λ r. Text (result_word r)) (result_of_need self.now id.now) }
     {
-        match result_of_need(self.run, self.place, id) {
+        match result_of_need(self.run, self.index, id) {
             Some(result) => Some(ScalarView::Text(result.word())),
             None => None,
         }

@@ -25,7 +25,7 @@ impl Needs for NoNeeds {
 pub(crate) struct LegNeeds<'a> {
     pub run: &'a Run,
     /// The job's index in its run.
-    pub place: usize,
+    pub index: usize,
 }
 
 impl<'a> Model for LegNeeds<'a> {
@@ -34,7 +34,7 @@ impl<'a> Model for LegNeeds<'a> {
 
     ghost Value = { RunState × ℕ };
 
-    ghost view = { λ n. (n.run.now, n.place) };
+    ghost view = { λ n. (n.run.now, n.index) };
 }
 
 impl<'a> Needs for LegNeeds<'a> {
@@ -46,7 +46,7 @@ impl<'a> Needs for LegNeeds<'a> {
     fn need_of(&self, path: &[Chars]) -> Option<usize> {
         match path {
             [context, id, name] if context.as_str() == "needs" && name.as_str() == "result" => {
-                index_of_need(self.run, self.place, id.as_str())
+                index_of_need(self.run, self.index, id.as_str())
             }
             _ => None,
         }

@@ -17,7 +17,7 @@ pub struct LegView<'a> {
     pub run_number: usize,
     pub job: &'a PlannedJob,
     /// The job's index in its run.
-    pub place: usize,
+    pub index: usize,
     /// The leg's index in its job, from 0.
     pub leg: usize,
 }
@@ -37,7 +37,7 @@ impl<'a> Model for LegView<'a> {
       run_attempt = decimal v.run.now.attempt;
       job = v.job.now;
       leg = v.leg;
-      needs = direct_needs v.run.now v.place;
+      needs = direct_needs v.run.now v.index;
     } };
 
     ghost invariant = { λ v. v.leg < 2 ^ 63 };
@@ -59,7 +59,7 @@ impl<'a> LegView<'a> {
             run_number: number_digits.format(self.run_number),
             run_attempt: attempt_digits.format(self.run.attempt().get() as usize),
             job: self.job,
-            place: self.place,
+            index: self.index,
             leg: self.leg,
         }
     }

@@ -54,16 +54,16 @@ impl<'a> RunIdentity<'a> {
         }
     }
 
-    /// The context of a leg of the job at index `place`. It lacks only the results of the job's needs.
+    /// The context of a leg of the job at this index. It lacks only the results of the job's needs.
     pub(crate) fn leg_context<'b>(
         &'b self,
-        place: usize,
+        index: usize,
         job: &'b PlannedJob,
         leg: usize,
     ) -> LegContext<'b>
         requires leg { leg < 2 ^ 63 }
-        ensures { (results : Results) → HasResults (context_of result) (need_of_job (plan_of self.now.event.body) place) results
-            (context_of (facts_by self.now place job.now leg results)) }
+        ensures { (results : Results) → HasResults (context_of result) (need_of_job (plan_of self.now.event.body) index) results
+            (context_of (facts_by self.now index job.now leg results)) }
     {
         LegContext {
             run: self.run,
@@ -71,19 +71,19 @@ impl<'a> RunIdentity<'a> {
             run_number: self.run_number,
             run_attempt: self.run_attempt,
             job,
-            place,
+            index,
             leg,
         }
     }
 
-    /// The needs of the job at index `place`.
-    pub(crate) fn leg_needs(&self, place: usize) -> LegNeeds<'_>
+    /// The needs of the job at this index.
+    pub(crate) fn leg_needs(&self, index: usize) -> LegNeeds<'_>
         ensures event { result.0.admitted ≡ self.now.event }
-        ensures place { result.1 ≡ place }
+        ensures index { result.1 ≡ index }
     {
         LegNeeds {
             run: self.run,
-            place,
+            index,
         }
     }
 }

@@ -12,7 +12,7 @@ use Rattle.wf_value.specs.declared.code.Code.TheVariants.{NotJson, TooLong, TooM
 use Rattle.wf_value.specs.declared.refusal.Refusal.{Refusal}
 use Rattle.wf_reader.specs.Workflow.{json_of, inside_workflow, jobs_faults, workflow_faults_in}
 use Rattle.wf_reader.specs.Event.{contexts_faults, event_faults, event_faults_in, event_of, filled_text_faults, inside_envelope}
-use Rattle.wf_expr.specs.declared.place.ContextSite.TheVariants as place
+use Rattle.wf_expr.specs.declared.context_site.ContextSite.TheVariants as context_site
 use Rattle.wf_reader.specs.Job.{concurrency_faults, job_of}
 use Rattle.wf_reader.specs.Faults.{fault, faults_in_order, optional, required, text_faults}
 use Rattle.wf_reader.specs.Json.{member_at, members_of}
@@ -57,7 +57,7 @@ few_in_workflow : (d : Data) → workflow_faults_in d ≡ [] → length (members
 few_in_workflow d h =
     let inside : inside_workflow d ≡ [] = is_object (is_some (as_object d)) (inside_workflow d) h in
     few_members (members_of (member_at (codes "jobs") d))
-    (third (optional text_faults (get (codes "name") d)) (optional (concurrency_faults place.Workflow) (get (codes "concurrency") d))
+    (third (optional text_faults (get (codes "name") d)) (optional (concurrency_faults context_site.Workflow) (get (codes "concurrency") d))
     (jobs_faults (members_of (member_at (codes "jobs") d))) inside)
 
 few_in_event : (d : Data) → event_faults_in d ≡ [] → length (members_of (member_at (codes "jobs") (member_at (codes "workflow") d))) ≤ max_jobs

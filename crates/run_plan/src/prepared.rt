@@ -221,13 +221,12 @@ pub fn prepare(
     })
 }
 
-/// As `prepare`. If the bytes are those of an event that is known, they are neither read again nor copied.
-/// Promise (Bodies, plans and replies): What is prepared does not depend on an event that is known; that its bytes are not read again is in no
-///   clause
+/// As `prepare`. If the bytes are those of the latest event, they are neither read again nor copied.
+/// Promise (Bodies, plans and replies): What is prepared does not depend on the latest event; that its bytes are not read again is in no clause
 /// By: `run_plan::prepare_beside`
 pub fn prepare_beside(
     alloc: Global,
-    known: Option<&Prepared>,
+    latest: Option<&Prepared>,
     event: EventName,
     delivery: DeliveryId,
     body: &[u8],
@@ -235,8 +234,8 @@ pub fn prepare_beside(
     ensures { Gives (λ p. p) result
         (unless_faulty (faults_of body.now) (record { delivery = delivery; event = event; body = body.now })) }
 {
-    match known {
-        Some(known) if known.body() == body => known.delivered_as(alloc, event, delivery),
+    match latest {
+        Some(latest) if latest.body() == body => latest.delivered_as(alloc, event, delivery),
         _ => prepare(alloc, event, delivery, body.to_vec(alloc)?),
     }
 }

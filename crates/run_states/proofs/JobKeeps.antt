@@ -4,7 +4,7 @@ use Rattle.std.proofs.Common.{ap, sym, ◌∙◌, subst, inl, inr}
 use Rattle.std.proofs.lemmas.Bool.{cases_eq}
 use Rattle.wf_value.specs.declared.outcome.JobResult.{JobResult}
 use Rattle.run_states.specs.Runs.{changed_at, run_at, job_at, leg_at, with_leg, LegState, JobState, RunState}
-use Rattle.run_states.specs.declared.place.LegSite.{LegSite}
+use Rattle.run_states.specs.declared.sites.LegSite.{LegSite}
 use Rattle.run_states.specs.Settling.{leg_has_ended, is_finished, result_at}
 use Rattle.run_states.specs.Sound.{PhaseFits, LegsFit, LeaseFits}
 use Rattle.run_states.specs.LegContext.{needs_have_finished, planned_legs, finished_result}

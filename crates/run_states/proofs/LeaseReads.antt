@@ -5,7 +5,7 @@ use Rattle.std.proofs.Common.{arith, ap, sym, ◌∙◌, inl, inr}
 use Rattle.std.proofs.lemmas.Bool.{cases_eq, true≢false}
 use Rattle.std.proofs.lemmas.Option.{none-some}
 use Rattle.std.proofs.lemmas.Slice.Eq.{bytes_eq-Decides}
-use Rattle.run_states.specs.declared.place.LegSite.{LegSite}
+use Rattle.run_states.specs.declared.sites.LegSite.{LegSite}
 
 pub same_place : (p q : LegSite) → p.run ≡ q.run → p.job ≡ q.job → p.leg ≡ q.leg → p ≡ q
 same_place p q a b c = λ i. record { run = a i; job = b i; leg = c i }

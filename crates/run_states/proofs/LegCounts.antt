@@ -16,8 +16,8 @@ use Rattle.run_states.specs.WithinRun.{first_of_legs, goes_on, goes_on_in}
 use Rattle.run_states.specs.declared.leg_counts.LegCounts.{LegCounts}
 use Rattle.run_states.specs.declared.phases.LegPhase.{LegPhase}
 use Rattle.run_states.specs.declared.phases.LegPhase.TheVariants as leg
-use Rattle.run_states.specs.declared.place.RuleSite.{RuleSite}
-use Rattle.run_states.specs.declared.place.RuleSite.TheVariants.{AtLeg}
+use Rattle.run_states.specs.declared.sites.RuleSite.{RuleSite}
+use Rattle.run_states.specs.declared.sites.RuleSite.TheVariants.{AtLeg}
 
 -- ---- whether there is a leg, by the count
 

@@ -15,7 +15,7 @@ use Rattle.run_plan.specs.PlanOf.{plan_graph, plan_of}
 use Rattle.run_plan.specs.declared.planned.PlannedJob.{PlannedJob}
 use Rattle.run_states.specs.Runs.{placed, direct_needs, needs_in, results_so_far, with_result, plan_at, run_at}
 use Rattle.run_states.specs.LegContext.{LegFacts, context_of, context_at, facts_at, nothing, events, same_workflow}
-use Rattle.run_states.specs.declared.place.LegSite.{LegSite}
+use Rattle.run_states.specs.declared.sites.LegSite.{LegSite}
 use Rattle.run_states.specs.Settling.{leg_end, outcome_of, result_at}
 use Rattle.run_states.specs.Runs.{LegState, JobState, RunState}
 use Rattle.run_states.specs.LegContext.{all_have_results, is_set_for, needs_have_finished, continues_on_error}
@@ -98,15 +98,15 @@ pub result_kept : (o u : Option JobResult) → is_some o ≡ true → ((r : JobR
 result_kept None u some kept = cc
 result_kept (Some r) u some kept = kept r refl
 
-each_kept : (plan : List PlannedJob) (before after : List (Option JobResult)) (places : List ℕ) → all_have_results before places ≡ true
-    → KeepResults before after → filter_map (with_result plan after) places ≡ filter_map (with_result plan before) places
+each_kept : (plan : List PlannedJob) (before after : List (Option JobResult)) (indexes : List ℕ) → all_have_results before indexes ≡ true
+    → KeepResults before after → filter_map (with_result plan after) indexes ≡ filter_map (with_result plan before) indexes
 each_kept plan before after [] settled kept = refl
-each_kept plan before after (k ∷ places) settled kept =
-    let parts = and_parts (is_some (slice_index_or before k None)) (all_have_results before places) settled in
+each_kept plan before after (k ∷ indexes) settled kept =
+    let parts = and_parts (is_some (slice_index_or before k None)) (all_have_results before indexes) settled in
     let same = result_kept (slice_index_or before k None) (slice_index_or after k None) parts.0 (λ r e. kept k r e) in
     ap (λ o. cons_option (option_map (λ (planned : PlannedJob). (planned.id, o)) (slice_get plan k))
-    (filter_map (with_result plan after) places)) same
-    ∙ ap (cons_option (with_result plan before k)) (each_kept plan before after places parts.1 kept)
+    (filter_map (with_result plan after) indexes)) same
+    ∙ ap (cons_option (with_result plan before k)) (each_kept plan before after indexes parts.1 kept)
 
 needs_kept : (x y : RunState) (j : ℕ) → y.admitted ≡ x.admitted → all_have_results (results_so_far x.jobs) (needs_at (needs_in x) j) ≡ true
     → KeepResults (results_so_far x.jobs) (results_so_far y.jobs) → direct_needs y j ≡ direct_needs x j

@@ -3,7 +3,7 @@ use Rattle.std.specs.Prelude.{◌≡◌, ℕ, List, Bool, true, false, Option, S
 use Rattle.std.proofs.Common.{ap, sym, ◌∙◌}
 use Rattle.run_states.specs.Fitting.{is_at_work}
 use Rattle.run_states.specs.Runs.{run_at, job_at, leg_at, LegState, JobState, RunState}
-use Rattle.run_states.specs.declared.place.LegSite.{LegSite}
+use Rattle.run_states.specs.declared.sites.LegSite.{LegSite}
 use Rattle.run_states.proofs.Optional.{From, from_and_then}
 
 -- the lease of a leg with a runner at work

@@ -7,7 +7,7 @@ use Rattle.std.proofs.Common.{arith, ap, sym, ◌∙◌, ⊎_elim}
 use Rattle.std.proofs.lemmas.Bool.{cases_lt, eqb-true, eq-eqb, false_from_ne_true}
 use Rattle.std.proofs.lemmas.List.{get_or_past}
 use Rattle.std.proofs.lemmas.List.Sums.{sum_by-cons}
-use Rattle.needs_graph.specs.Needs.{dependents_of, needs_at, places, is_listed, needs_of}
+use Rattle.needs_graph.specs.Needs.{dependents_of, needs_at, indexes, is_listed, needs_of}
 use Rattle.definitions.specs.Rising.{JobNeeds}
 use Rattle.run_states.specs.inner.NeedsLeft.{NamedOnce}
 
@@ -87,7 +87,7 @@ each_once f other each (x ∷ xs) (suc j) = each_once f other each xs j
 
 pub named_once : (jobs : List JobNeeds) → NamedOnce (needs_of jobs)
 named_once jobs j other =
-    each_once (λ (job : JobNeeds). places (λ (o : JobNeeds). is_listed job.needs o.id) jobs) other
+    each_once (λ (job : JobNeeds). indexes (λ (o : JobNeeds). is_listed job.needs o.id) jobs) other
     (λ job. once_each (λ (o : JobNeeds). is_listed job.needs o.id) jobs 0 other) jobs j
 
 -- ---- the dependents of a job

@@ -6,7 +6,7 @@ use Rattle.std.proofs.Common.{arith, ap, sym, ◌∙◌, get_or}
 use Rattle.std.proofs.lemmas.Bool.{eqb-true, eq-eqb, true≢false}
 use Rattle.std.proofs.lemmas.List.{get_or_past, length-map}
 use Rattle.wf_value.specs.declared.outcome.JobResult.{JobResult}
-use Rattle.needs_graph.specs.Needs.{dependents_of, needs_at, places}
+use Rattle.needs_graph.specs.Needs.{dependents_of, needs_at}
 use Rattle.run_plan.specs.PlanOf.{plan_graph}
 use Rattle.run_plan.specs.declared.planned.PlannedJob.{PlannedJob}
 use Rattle.run_states.specs.inner.Cells.{JobCells, states}
@@ -31,12 +31,12 @@ first_has None n b rest = sym (one_more n)
 first_has (Some r) n b rest = let same : n ≡ 0 + n = omega arith in rest ∙ ap (λ m. nat_eq m 0) same
 
 -- the count is 0 exactly if all needs have finished
-pub none_left : (results : List (Option JobResult)) (places : List ℕ)
-    → all_have_results results places ≡ nat_eq (unfinished results places) 0
+pub none_left : (results : List (Option JobResult)) (indexes : List ℕ)
+    → all_have_results results indexes ≡ nat_eq (unfinished results indexes) 0
 none_left results [] = refl
 none_left results (p ∷ ps) =
     first_has (slice_index_or results p None) (unfinished results ps) (all_have_results results ps) (none_left results ps)
-    ∙ ap (λ n. nat_eq n 0) (sym (count_cons (λ place. is_none (slice_index_or results place None)) p ps))
+    ∙ ap (λ n. nat_eq n 0) (sym (count_cons (λ index. is_none (slice_index_or results index None)) p ps))
 
 pub settled_by_count : (needs : List (List ℕ)) (jobs : List JobCells) (j n : ℕ) → NeedsAreLeft needs jobs → needs_left_at jobs j ≡ n
     → nat_eq n 0 ≡ all_have_results (results_so_far (states jobs)) (needs_at needs j)
@@ -51,24 +51,24 @@ none_past jobs j past =
 -- ---- which jobs have finished
 
 module _ (old new : List (Option JobResult)) where
-  pub unsettled_same : ((k : ℕ) → is_none (slice_index_or new k None) ≡ is_none (slice_index_or old k None)) → (places : List ℕ)
-      → unfinished new places ≡ unfinished old places
+  pub unsettled_same : ((k : ℕ) → is_none (slice_index_or new k None) ≡ is_none (slice_index_or old k None)) → (indexes : List ℕ)
+      → unfinished new indexes ≡ unfinished old indexes
   unsettled_same same [] = refl
   unsettled_same same (p ∷ ps) =
-      count_cons (λ place. is_none (slice_index_or new place None)) p ps
+      count_cons (λ index. is_none (slice_index_or new index None)) p ps
       ∙ ap (λ n. cond (is_none (slice_index_or new p None)) 1 0 + n) (unsettled_same same ps)
       ∙ ap (λ b. cond b 1 0 + unfinished old ps) (same p)
-      ∙ sym (count_cons (λ place. is_none (slice_index_or old place None)) p ps)
+      ∙ sym (count_cons (λ index. is_none (slice_index_or old index None)) p ps)
 
   -- once one more job has finished, the count falls by the number of times that the job is listed
   pub unsettled_less : (j : ℕ) → is_none (slice_index_or old j None) ≡ true → is_none (slice_index_or new j None) ≡ false
-      → ((k : ℕ) → (k ≡ j → ⊥) → slice_index_or new k None ≡ slice_index_or old k None) → (places : List ℕ)
-      → unfinished old places ≡ unfinished new places + count_by (nat_eq j) places
+      → ((k : ℕ) → (k ≡ j → ⊥) → slice_index_or new k None ≡ slice_index_or old k None) → (indexes : List ℕ)
+      → unfinished old indexes ≡ unfinished new indexes + count_by (nat_eq j) indexes
   unsettled_less j was is others [] = refl
   unsettled_less j was is others (p ∷ ps) =
       let rest = unsettled_less j was is others ps in
-      let cons_old = count_cons (λ place. is_none (slice_index_or old place None)) p ps in
-      let cons_new = count_cons (λ place. is_none (slice_index_or new place None)) p ps in
+      let cons_old = count_cons (λ index. is_none (slice_index_or old index None)) p ps in
+      let cons_new = count_cons (λ index. is_none (slice_index_or new index None)) p ps in
       elim (nat_eq j p)
       as (λ b. nat_eq j p ≡ b → unfinished old (p ∷ ps) ≡ unfinished new (p ∷ ps) + count_by (nat_eq j) (p ∷ ps)) [
         | true ↦

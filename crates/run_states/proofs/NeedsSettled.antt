@@ -87,8 +87,8 @@ still_some None next keeps h = cc
 still_some (Some a) next keeps h = ap is_some (keeps a refl)
 
 all_still : (results next : List (Option JobResult))
-    → ((j : ℕ) (a : JobResult) → slice_index_or results j None ≡ Some a → slice_index_or next j None ≡ Some a) → (places : List ℕ)
-    → all_have_results results places ≡ true → all_have_results next places ≡ true
+    → ((j : ℕ) (a : JobResult) → slice_index_or results j None ≡ Some a → slice_index_or next j None ≡ Some a) → (indexes : List ℕ)
+    → all_have_results results indexes ≡ true → all_have_results next indexes ≡ true
 all_still results next keeps [] h = refl
 all_still results next keeps (p ∷ ps) h =
     let both = and_parts (is_some (slice_index_or results p None)) (all_have_results results ps) h in

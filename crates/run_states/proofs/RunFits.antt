@@ -7,7 +7,7 @@ use Rattle.definitions.specs.SmallText.{Admitted}
 use Rattle.run_plan.specs.PlanOf.{plan_of}
 use Rattle.run_plan.specs.declared.planned.PlannedJob.{PlannedJob}
 use Rattle.run_states.specs.Runs.{run_at, job_at, leg_at, plan_at, LegState, JobState, RunState}
-use Rattle.run_states.specs.declared.place.LegSite.{LegSite}
+use Rattle.run_states.specs.declared.sites.LegSite.{LegSite}
 use Rattle.run_states.specs.Settling.{result_at}
 use Rattle.run_states.specs.Sound.{JobsAreThePlans, RunPhasesFit, PhaseFits, JobsFit, LegsFit, NeedsComeFirst, LeasesFit, LeaseFits}
 use Rattle.run_states.specs.LegContext.{needs_have_finished, planned_legs}
@@ -26,7 +26,7 @@ pub record RunFits (runs : List RunState) (r : ℕ) (x : RunState) : Type 0 wher
 abbrev pub RunsFit : List RunState → Type 0
 RunsFit runs = (r : ℕ) (x : RunState) → run_at runs r ≡ Some x → RunFits runs r x
 
--- ---- between the rules over all places and each run
+-- ---- between the rules over all sites and each run
 
 pub job_in_run : (runs : List RunState) (r j : ℕ) (x : RunState) → run_at runs r ≡ Some x → job_at runs r j ≡ slice_get x.jobs j
 job_in_run runs r j x e = ap (option_and_then (λ (run : RunState). slice_get run.jobs j)) e

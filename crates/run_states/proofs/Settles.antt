@@ -4,7 +4,7 @@ use Rattle.std.proofs.Common.{arith, ap, sym, ◌∙◌, subst}
 use Rattle.std.proofs.lemmas.Option.{slice_get-map}
 use Rattle.wf_value.specs.declared.outcome.JobResult.{JobResult}
 use Rattle.run_states.specs.Runs.{changed_at, run_at, RunState}
-use Rattle.run_states.specs.declared.place.LegSite.{LegSite}
+use Rattle.run_states.specs.declared.sites.LegSite.{LegSite}
 use Rattle.run_states.specs.Settling.{result_at}
 use Rattle.run_states.specs.LegContext.{events, planned_legs}
 use Rattle.run_states.proofs.Changed.{reads_same, reads_stay, holds_of_each, length-changed_at}

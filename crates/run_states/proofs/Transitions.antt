@@ -5,9 +5,9 @@ use Rattle.std.proofs.Common.{ap, subst, sym, ◌∙◌}
 use Rattle.std.proofs.lemmas.Option.{same_Some}
 use Rattle.run_states.specs.Runs.{changed_at, job_at, leg_at, with_job, with_leg, LegState, JobState, RunState}
 use Rattle.run_states.specs.GroupLaw.{Transition, without_moves}
-use Rattle.run_states.specs.declared.place.LegSite.{LegSite}
-use Rattle.run_states.specs.Settling.{is_done, finished_as, result_at, closing_rule, places, rule_at, applies, first_site, first_rule}
-use Rattle.run_states.specs.declared.place.RuleSite.{RuleSite}
+use Rattle.run_states.specs.declared.sites.LegSite.{LegSite}
+use Rattle.run_states.specs.Settling.{is_done, finished_as, result_at, closing_rule, rule_sites, rule_at, applies, first_site, first_rule}
+use Rattle.run_states.specs.declared.sites.RuleSite.{RuleSite}
 use Rattle.run_states.proofs.Found.{find_passes}
 
 -- two changes that agree on the element at the index
@@ -78,15 +78,15 @@ job_closed runs new r j x at so =
     subst (λ o. IfSome (option_and_then (closing_rule runs r j) o) (λ next. new ≡ next.runs)) (sym at)
     (closes runs new r j x (is_done x) so)
 
--- ---- the rule at the first place
+-- ---- the rule at the first site
 
 rule_taken : (new : List RunState) (o : Option Transition) → is_some o ≡ true → IfSome o (λ next. new ≡ next.runs)
     → option_map (λ (m : Transition). m.runs) o ≡ Some new
 rule_taken new None some so = cc
 rule_taken new (Some next) some so = ap Some (sym so)
 
-pub first_rule_taken : (runs new : List RunState) (place : RuleSite) → first_site runs ≡ Some place
-    → IfSome (rule_at runs place) (λ next. new ≡ next.runs) → option_map (λ (m : Transition). m.runs) (first_rule runs) ≡ Some new
-first_rule_taken runs new place is so =
+pub first_rule_taken : (runs new : List RunState) (site : RuleSite) → first_site runs ≡ Some site
+    → IfSome (rule_at runs site) (λ next. new ≡ next.runs) → option_map (λ (m : Transition). m.runs) (first_rule runs) ≡ Some new
+first_rule_taken runs new site is so =
     ap (λ o. option_map (λ (m : Transition). m.runs) (option_and_then (rule_at runs) o)) is
-    ∙ rule_taken new (rule_at runs place) (find_passes (applies runs) (places runs) place is) so
+    ∙ rule_taken new (rule_at runs site) (find_passes (applies runs) (rule_sites runs) site is) so

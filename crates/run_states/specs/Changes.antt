@@ -3,7 +3,7 @@ use Rattle.std.specs.Prelude.{ℕ, true, Option, Some, None, if◌then◌else◌
 use Rattle.run_plan.specs.PlanOf.{plan_of}
 use Rattle.run_states.specs.Runs.{changed_at, leg_site, RunState, opened, run_in_phase, finished_as}
 use Rattle.run_states.specs.Fitting.{is_ready}
-use Rattle.run_states.specs.declared.place.LegSite.{LegSite}
+use Rattle.run_states.specs.declared.sites.LegSite.{LegSite}
 use Rattle.run_states.specs.Settling.{legs_in_plan}
 use Rattle.run_states.specs.Stops.{cancelled}
 use Rattle.run_states.specs.declared.change.Change.{Change}

@@ -6,7 +6,7 @@ use Rattle.run_states.specs.declared.phases.LegPhase.{LegPhase}
 use Rattle.run_states.specs.declared.phases.LegPhase.TheVariants as leg
 use Rattle.std.specs.List.{list_all, list_any}
 use Rattle.std.specs.Str.{str_eq_ignore_ascii_case}
-use Rattle.run_states.specs.declared.place.LegSite.{LegSite}
+use Rattle.run_states.specs.declared.sites.LegSite.{LegSite}
 use Rattle.run_states.specs.LegContext.{labels_at}
 
 -- ---- how many legs of a job run at once. GitHub Docs, "Workflow syntax for GitHub Actions", jobs.<job_id>.strategy.max-parallel. This project
@@ -46,7 +46,7 @@ abbrev pub is_ready : LegPhase → Bool
 is_ready leg.Ready = true
 is_ready _ = false
 
--- whether the leg at a place asks only for labels that the runner has
+-- whether the leg at a site asks only for labels that the runner has
 abbrev pub is_served : List (List ℕ) → List RunState → LegSite → Bool
 is_served labels runs p = option_map_or (has_labels labels) (labels_at runs p) false
 
@@ -64,7 +64,7 @@ first_fit labels runs = find (fits labels runs) (leg_sites runs)
 abbrev pub has_lease : ℕ → LegState → Bool
 has_lease lease l = option_map_or (λ held. nat_eq held lease) l.lease false
 
--- the place of the leg with this lease
+-- the site of the leg with this lease
 abbrev pub site_of_lease : List RunState → ℕ → Option LegSite
 site_of_lease runs lease = find (λ p. option_map_or (has_lease lease) (leg_at runs p) false) (leg_sites runs)
 

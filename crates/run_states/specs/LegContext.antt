@@ -16,7 +16,7 @@ use Rattle.wf_expr.specs.TemplateValue.{Values, over, sets_flag, template_value}
 use Rattle.wf_reader.specs.Contexts.{sent_value}
 use Rattle.run_plan.specs.PlanOf.{plan_of}
 use Rattle.run_plan.specs.declared.planned.PlannedJob.{PlannedJob}
-use Rattle.run_states.specs.declared.place.LegSite.{LegSite}
+use Rattle.run_states.specs.declared.sites.LegSite.{LegSite}
 use Rattle.std.specs.List.{list_all, slice_index_or}
 use Rattle.wf_value.specs.declared.condition.Condition.{Condition}
 use Rattle.wf_value.specs.declared.condition.Condition.TheVariants as condition
@@ -140,7 +140,7 @@ service_value leg (context ∷ id ∷ name ∷ inner ∷ names) = None
 abbrev pub context_of : LegFacts → Values
 context_of leg = over (service_value leg) (sent_value (event_of leg.event.body).contexts)
 
--- the facts of the leg at a place, if the plan of its run has its job
+-- the facts of the leg at a site, if the plan of its run has its job
 unfoldable pub facts_at : List RunState → LegSite → Option LegFacts
 facts_at runs p =
     option_and_then (λ run. option_map (λ job. record {
@@ -157,7 +157,7 @@ facts_at runs p =
 abbrev pub nothing : Values
 nothing path = None
 
--- the context of the leg at a place of a table
+-- the context of the leg at a site of a table
 unfoldable pub context_at : List RunState → LegSite → Values
 context_at runs p = option_map_or context_of (facts_at runs p) nothing
 
@@ -182,7 +182,7 @@ ancestor_results runs r j = results_of_ancestors (needs_graph_at runs r) (job_re
 
 -- whether the jobs at these indices all have a result
 abbrev pub all_have_results : List (Option JobResult) → List ℕ → Bool
-all_have_results results places = list_all (λ place. is_some (slice_index_or results place None)) places
+all_have_results results indexes = list_all (λ index. is_some (slice_index_or results index None)) indexes
 
 -- whether all jobs that the job needs directly have finished
 abbrev pub needs_have_finished : List RunState → ℕ → ℕ → Bool

@@ -1,10 +1,10 @@
--- Where settling resumes after it has applied a rule: no rule applies before that place.
+-- Where settling resumes after it has applied a rule: no rule applies before that site.
 use Rattle.std.specs.Prelude.{◌≡◌, ℕ, ◌<◌, List, true, is_some, Option, Some, None, option_and_then, slice_get}
 use Rattle.std.specs.Prelude.{if◌then◌else◌}
 use Rattle.run_states.specs.Groups.{group_at}
 use Rattle.run_states.specs.Runs.{run_at, RunState, is_live}
 use Rattle.run_states.specs.WithinRun.{first_in_job, first_in_run}
-use Rattle.run_states.specs.declared.place.JobSite.{JobSite}
+use Rattle.run_states.specs.declared.sites.JobSite.{JobSite}
 use Rattle.run_states.specs.declared.holder.Holder.TheVariants.{Run}
 
 -- the value of `f` at an index of a list, if it has one
@@ -19,7 +19,7 @@ NoneBefore f xs i = (k : ℕ) → k < i → apply_at f xs k ≡ None
 abbrev pub JobsRestBefore : List RunState → ℕ → RunState → ℕ → Type 0
 JobsRestBefore runs r run j = is_live run.phase ≡ true → NoneBefore (first_in_job runs r run) run.jobs j
 
--- no rule applies in a run before the place, or at a job before it in its own run
+-- no rule applies in a run before the site, or at a job before it in its own run
 abbrev pub RestBefore : List RunState → JobSite → Type 0
 RestBefore runs p =
     NoneBefore (first_in_run runs) runs p.run × ((run : RunState) → run_at runs p.run ≡ Some run → JobsRestBefore runs p.run run p.job)

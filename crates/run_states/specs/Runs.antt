@@ -1,4 +1,4 @@
--- Runs with their jobs and legs: what they are made of, how one is read and changed at a place, the phases, and a run as it begins.
+-- Runs with their jobs and legs: what they are made of, how one is read and changed at a site, the phases, and a run as it begins.
 use Rattle.std.specs.Prelude.{ℕ, List, Bool, Option, zero, suc, [], ◌∷◌, None, map, flat_map, option_and_then, slice_get, filter_map, false}
 use Rattle.std.specs.Prelude.{Some, option_map, ◌&&◌, replicate, true, is_some, ◌+◌}
 use Rattle.definitions.specs.SmallText.{Admitted}
@@ -9,7 +9,7 @@ use Rattle.std.specs.List.{enumerate_from, slice_index_or, list_all}
 use Rattle.std.specs.Option.{option_or, option_map_or}
 use Rattle.run_plan.specs.PlanOf.{plan_of, plan_graph}
 use Rattle.run_plan.specs.declared.planned.PlannedJob.{PlannedJob}
-use Rattle.run_states.specs.declared.place.LegSite.{LegSite}
+use Rattle.run_states.specs.declared.sites.LegSite.{LegSite}
 use Rattle.std.specs.Str.{bytes_eq}
 use Rattle.wf_value.specs.declared.outcome.JobResult.{JobResult}
 use Rattle.needs_graph.specs.Needs.{needs_at}
@@ -57,7 +57,7 @@ changed_at i f [] = []
 changed_at zero f (x ∷ xs) = f x ∷ xs
 changed_at (suc i) f (x ∷ xs) = x ∷ changed_at i f xs
 
--- ---- reading and changing the runs of a table at a place: the index of a run in the list, of a job in its run, and of a leg in its job, all
+-- ---- reading and changing the runs of a table at a site: the index of a run in the list, of a job in its run, and of a leg in its job, all
 -- from 0.
 
 abbrev pub leg_site : ℕ → ℕ → ℕ → LegSite
@@ -97,7 +97,7 @@ leg_sites_of_job r j = map (λ l. record { run = r; job = j.0; leg = l.0 }) (pla
 abbrev pub leg_sites_of_run : ℕ × RunState → List LegSite
 leg_sites_of_run r = flat_map (leg_sites_of_job r.0) (placed r.1.jobs)
 
--- the places of all legs, in the order of run, job and leg
+-- the sites of all legs, in the order of run, job and leg
 abbrev pub leg_sites : List RunState → List LegSite
 leg_sites runs = flat_map leg_sites_of_run (placed runs)
 
@@ -133,11 +133,11 @@ needs_graph_at runs r = option_map_or needs_in (run_at runs r) []
 
 -- whether the job at an index of a plan has the id
 unfoldable pub has_id : List PlannedJob → List ℕ → ℕ → Bool
-has_id plan id place = option_map_or (λ planned. bytes_eq planned.id id) (slice_get plan place) false
+has_id plan id index = option_map_or (λ planned. bytes_eq planned.id id) (slice_get plan index) false
 
 -- the id of the job at an index, with its result so far
 abbrev pub with_result : List PlannedJob → List (Option JobResult) → ℕ → Option (List ℕ × Option JobResult)
-with_result plan results place = option_map (λ planned. (planned.id, slice_index_or results place None)) (slice_get plan place)
+with_result plan results index = option_map (λ planned. (planned.id, slice_index_or results index None)) (slice_get plan index)
 
 -- the jobs that job `j` of a run needs directly, each by its id with its result so far
 unfoldable pub direct_needs : RunState → ℕ → List (List ℕ × Option JobResult)

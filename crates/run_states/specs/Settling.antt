@@ -5,7 +5,7 @@ use Rattle.std.specs.Option.{option_map_or}
 use Rattle.group_name.specs.Group.{Group}
 use Rattle.run_states.specs.Groups.{cancels_in_progress, group_at, all_holders, is_in, is_pending_in, in_progress_in, may_start}
 use Rattle.run_states.specs.GroupLaw.{same_holder, Move, Transition, and_then, at_each, without_moves}
-use Rattle.run_states.specs.declared.place.LegSite.{LegSite}
+use Rattle.run_states.specs.declared.sites.LegSite.{LegSite}
 use Rattle.run_states.specs.Runs.{RunState, LegState, JobState, placed, results_of, run_at, job_at, leg_at, with_run, with_job, with_leg}
 use Rattle.run_states.specs.Stops.{displace, stop_holder}
 use Rattle.run_states.specs.declared.holder.Holder.{Holder}
@@ -23,8 +23,8 @@ use Rattle.run_states.specs.declared.phases.LegPhase.{LegPhase}
 use Rattle.run_states.specs.declared.phases.LegPhase.TheVariants as leg
 use Rattle.run_states.specs.declared.phases.RunPhase.{RunPhase}
 use Rattle.run_states.specs.declared.phases.RunPhase.TheVariants as run
-use Rattle.run_states.specs.declared.place.RuleSite.{RuleSite}
-use Rattle.run_states.specs.declared.place.RuleSite.TheVariants.{Opening, AtLeg, Closing, Whole}
+use Rattle.run_states.specs.declared.sites.RuleSite.{RuleSite}
+use Rattle.run_states.specs.declared.sites.RuleSite.TheVariants.{Opening, AtLeg, Closing, Whole}
 use Rattle.run_plan.specs.PlanOf.{plan_of}
 use Rattle.run_plan.specs.declared.planned.PlannedJob.{PlannedJob}
 use Rattle.run_states.specs.declared.phases.JobPhase.{JobPhase}
@@ -79,9 +79,9 @@ started h runs = record { runs = runs; moves = Move.start h ∷ [] }
 
 -- ---- the settling rules: where each rule applies, the runs after it, and the moves of groups that it makes. GitHub Docs, "Workflow syntax for
 -- GitHub Actions": jobs.<job_id>.needs and jobs.<job_id>.if; "Control the concurrency of workflows and jobs". This project defines that a
--- run or leg without a group starts at once, and the order of the places.
+-- run or leg without a group starts at once, and the order of the sites.
 
--- ---- the places in the order in which settling visits them: where a job opens, its legs, where it finishes with its result, and the run
+-- ---- the sites in the order in which settling visits them: where a job opens, its legs, where it finishes with its result, and the run
 -- itself
 
 -- where the job opens, its legs by index, and where it finishes
@@ -92,9 +92,9 @@ job_sites r j = Opening r j.0 ∷ map (λ l. AtLeg (record { run = r; job = j.0;
 abbrev pub run_sites : ℕ × RunState → List RuleSite
 run_sites r = (if is_live r.1.phase then flat_map (job_sites r.0) (placed r.1.jobs) else []) ++ Whole r.0 ∷ []
 
--- all places, with the runs in the order of their ids
-abbrev pub places : List RunState → List RuleSite
-places runs = flat_map run_sites (placed runs)
+-- all sites, with the runs in the order of their ids
+abbrev pub rule_sites : List RunState → List RuleSite
+rule_sites runs = flat_map run_sites (placed runs)
 
 -- ---- a job opens
 
@@ -185,16 +185,16 @@ whole_rule_in run.Ended runs r x = None
 abbrev pub whole_rule : List RunState → ℕ → RunState → Option Transition
 whole_rule runs r x = whole_rule_in x.phase runs r x
 
--- ---- the rule at each place
+-- ---- the rule at each site
 
--- the transition of the rule at a place, if one applies
+-- the transition of the rule at a site, if one applies
 abbrev pub rule_at : List RunState → RuleSite → Option Transition
 rule_at runs (Opening r j) = option_and_then (opening_rule runs r j) (job_at runs r j)
 rule_at runs (AtLeg p) = option_and_then (leg_rule runs p) (leg_at runs p)
 rule_at runs (Closing r j) = option_and_then (closing_rule runs r j) (job_at runs r j)
 rule_at runs (Whole r) = option_and_then (whole_rule runs r) (run_at runs r)
 
--- No leg arrives at the place. An arrival may end and stop holders of its group in other runs.
+-- No leg arrives at the site. An arrival may end and stop holders of its group in other runs.
 abbrev pub IsNoArrival : List RunState → RuleSite → Type 0
 IsNoArrival runs (Opening r j) = Unit {0}
 IsNoArrival runs (AtLeg p) = (l : LegState) → leg_at runs p ≡ Some l → l.phase ≡ leg.New → ⊥
@@ -207,14 +207,14 @@ run_of_site (AtLeg p) = p.run
 run_of_site (Closing r j) = r
 run_of_site (Whole r) = r
 
--- ---- settling: apply the rule at the first place where one applies, and repeat until none applies.
+-- ---- settling: apply the rule at the first site where one applies, and repeat until none applies.
 
 abbrev pub applies : List RunState → RuleSite → Bool
-applies runs place = is_some (rule_at runs place)
+applies runs site = is_some (rule_at runs site)
 
--- the first place where a rule applies
+-- the first site where a rule applies
 abbrev pub first_site : List RunState → Option RuleSite
-first_site runs = find (applies runs) (places runs)
+first_site runs = find (applies runs) (rule_sites runs)
 
 -- the transition of the rule there
 abbrev pub first_rule : List RunState → Option Transition

@@ -6,7 +6,7 @@ use Rattle.wf_value.specs.declared.outcome.JobResult.TheVariants as result
 use Rattle.wf_value.specs.declared.outcome.Outcome.TheVariants as outcome
 use Rattle.run_plan.specs.PlanOf.{plan_of}
 use Rattle.run_states.specs.Runs.{run_at, job_at, leg_at, LegState, JobState, RunState}
-use Rattle.run_states.specs.declared.place.LegSite.{LegSite}
+use Rattle.run_states.specs.declared.sites.LegSite.{LegSite}
 use Rattle.run_states.specs.Settling.{leg_has_ended, is_finished, result_at, first_site}
 use Rattle.run_states.specs.LegContext.{needs_have_finished, planned_legs}
 use Rattle.run_states.specs.declared.phases.JobPhase.{JobPhase}

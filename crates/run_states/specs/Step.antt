@@ -25,7 +25,7 @@ use Rattle.run_states.specs.Fitting.{first_fit, is_lease_stopping}
 use Rattle.run_states.specs.GroupLaw.{Move, Transition}
 use Rattle.run_states.specs.TableState.{Step, RunnerState, TableState, runner_named, answer_by_number, with_runner, holds_lease, holds_this}
 use Rattle.run_states.specs.Runs.{run_at, with_leg, with_run, RunState, again, is_delivered_as, new_run, leased_leg}
-use Rattle.run_states.specs.declared.place.LegSite.{LegSite}
+use Rattle.run_states.specs.declared.sites.LegSite.{LegSite}
 use Rattle.run_states.specs.Stops.{stop_holder, with_ended, lease_end_moves, outcome_of_loss}
 use Rattle.run_states.specs.ViewText.{Seen, seen_of, seen_text}
 use Rattle.run_states.specs.LegContext.{job_id, combo_at}

@@ -7,7 +7,7 @@ use Rattle.wf_value.specs.declared.outcome.Outcome.TheVariants as outcome
 use Rattle.needs_graph.specs.Needs.{is_failure}
 use Rattle.run_states.specs.Runs.{changed_at, placed, plan_at, with_job, with_leg, job_at, leg_at, leg_site, run_at, with_run}
 use Rattle.run_states.specs.Fitting.{is_lease_stopping, site_of_lease}
-use Rattle.run_states.specs.declared.place.LegSite.{LegSite}
+use Rattle.run_states.specs.declared.sites.LegSite.{LegSite}
 use Rattle.run_states.specs.LegContext.{may_run_in, continues_on_error}
 use Rattle.run_states.specs.Runs.{LegState, JobState, RunState, is_open, leg_in_phase, finished_as}
 use Rattle.run_states.specs.declared.phases.LegPhase.{LegPhase}

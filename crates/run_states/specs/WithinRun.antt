@@ -1,4 +1,4 @@
--- The first place where a rule applies, and the first leg that a search finds, run by run and job by job. Whether a rule applies depends on
+-- The first site where a rule applies, and the first leg that a search finds, run by run and job by job. Whether a rule applies depends on
 -- other runs only for a waiting run and for a waiting leg, which need a group without a holder in progress. A leg's labels depend on the
 -- events of other runs, and on nothing else of theirs.
 use Rattle.std.specs.Prelude.{ℕ, ◌&&◌, List, Bool, true, false, Option, Some, None, if◌then◌else◌}
@@ -7,14 +7,14 @@ use Rattle.std.specs.Option.{option_or}
 use Rattle.run_states.specs.Runs.{placed, first_some, LegState, JobState, RunState, is_live, is_blocked, is_done, is_finished}
 use Rattle.run_states.specs.Groups.{may_start}
 pub use Rattle.run_states.specs.Runs.{leg_site}
-use Rattle.run_states.specs.declared.place.LegSite.{LegSite}
+use Rattle.run_states.specs.declared.sites.LegSite.{LegSite}
 pub use Rattle.run_states.specs.LegContext.{condition_in, may_run_in, needs_finished_in}
 use Rattle.run_states.specs.declared.phases.LegPhase.{LegPhase}
 use Rattle.run_states.specs.declared.phases.LegPhase.TheVariants as leg
 use Rattle.run_states.specs.declared.phases.RunPhase.{RunPhase}
 use Rattle.run_states.specs.declared.phases.RunPhase.TheVariants as run
-use Rattle.run_states.specs.declared.place.RuleSite.{RuleSite}
-use Rattle.run_states.specs.declared.place.RuleSite.TheVariants.{Opening, AtLeg, Closing, Whole}
+use Rattle.run_states.specs.declared.sites.RuleSite.{RuleSite}
+use Rattle.run_states.specs.declared.sites.RuleSite.TheVariants.{Opening, AtLeg, Closing, Whole}
 use Rattle.run_states.specs.declared.holder.Holder.TheVariants.{Run, Leg}
 
 -- whether a rule applies to the leg there

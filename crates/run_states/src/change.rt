@@ -5,7 +5,7 @@ ghost use Rattle.run_states.specs.Changes.{offered_by};
 
 use crate::leg::Leg;
 use crate::phases::RunPhase;
-use crate::place::LegSite;
+use crate::sites::LegSite;
 use wf_value::JobResult;
 
 /// One change of a run. Within an attempt, a table changes its runs only by these. Each changes at most one holder of a group.

@@ -29,27 +29,27 @@ fn needs(run: &Run, j: usize) -> &[usize]
 
 /// Whether the job at this index of the plan has the id.
 #[tactic(auto, unfolding(crate::specs::Runs::has_id))]
-fn has_id(plan: &[PlannedJob], place: usize, id: &str) -> bool
-    ensures { result ≡ has_id plan.now id.now place }
+fn has_id(plan: &[PlannedJob], index: usize, id: &str) -> bool
+    ensures { result ≡ has_id plan.now id.now index }
 {
-    match plan.get(place) {
+    match plan.get(index) {
         Some(planned) => planned.id.as_str() == id,
         None => false,
     }
 }
 
 /// The first of these indices whose job has the id.
-fn index_of_id<'p>(plan: &[PlannedJob], places: &'p [usize], id: &str) -> Option<&'p usize>
-    ensures { option_copied result ≡ find (has_id plan.now id.now) places.now }
+fn index_of_id<'p>(plan: &[PlannedJob], indexes: &'p [usize], id: &str) -> Option<&'p usize>
+    ensures { option_copied result ≡ find (has_id plan.now id.now) indexes.now }
 {
-    places.iter().find(|place| has_id(plan, **place, id))
+    indexes.iter().find(|index| has_id(plan, **index, id))
 }
 
 /// The result of the job at this index, once it has one.
-fn result_at(jobs: &[Job], place: usize) -> Option<JobResult>
-    ensures { result ≡ slice_index_or (results_so_far (states jobs.now)) place None }
+fn result_at(jobs: &[Job], index: usize) -> Option<JobResult>
+    ensures { result ≡ slice_index_or (results_so_far (states jobs.now)) index None }
 {
-    match jobs.get(place) {
+    match jobs.get(index) {
         Some(job) => job.phase().result(),
         None => None,
     }
@@ -68,7 +68,7 @@ pub fn result_of_need(run: &Run, j: usize, id: &str) -> Option<JobResult>
 {
     let plan = run.prepared().plan().as_slice();
     match index_of_id(plan, needs(run, j), id) {
-        Some(place) => result_at(run.jobs(), *place),
+        Some(index) => result_at(run.jobs(), *index),
         None => None,
     }
 }

@@ -2,7 +2,7 @@
 
 ghost use Rattle.std.specs.Prelude.{◌≡◌};
 
-use crate::place::LegSite;
+use crate::sites::LegSite;
 use wf_value::Same;
 
 /// A run, by its index in the table, or a leg.

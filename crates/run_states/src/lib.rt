@@ -9,9 +9,9 @@ mod leg;
 pub mod leg_counts;
 mod limits;
 mod phases;
-mod place;
 mod run;
 mod run_parts;
+mod sites;
 
 pub use change::Change;
 pub use holder::{Holder, HolderFilter};
@@ -19,6 +19,6 @@ pub use job::Job;
 pub use leg::Leg;
 pub use limits::{LAST_ATTEMPT, MAX_RUNS};
 pub use phases::{JobPhase, LegPhase, RunPhase};
-pub use place::{JobSite, LegSite, RuleSite};
 pub use run::Run;
 pub use run_parts::{JobParts, RunParts};
+pub use sites::{JobSite, LegSite, RuleSite};

@@ -344,10 +344,10 @@ fn have_active_leg(jobs: &[Job]) -> bool
 }
 
 /// Whether the job at this index has finished.
-fn is_finished_at(jobs: &[Job], place: usize) -> bool
-    ensures { result ≡ is_some (slice_index_or (results_so_far (states jobs.now)) place None) }
+fn is_finished_at(jobs: &[Job], index: usize) -> bool
+    ensures { result ≡ is_some (slice_index_or (results_so_far (states jobs.now)) index None) }
 {
-    match jobs.get(place) {
+    match jobs.get(index) {
         Some(job) => job.is_finished(),
         None => false,
     }

@@ -16,7 +16,7 @@ use Rattle.run_plan.specs.declared.planned.PlannedJob.{PlannedJob}
 use Rattle.run_plan.specs.declared.reply.Reply.TheVariants as reply
 use Rattle.run_states.specs.Fitting.{legs_at_work}
 use Rattle.run_states.specs.Runs.{run_at, is_delivered_as, blocked_job, new_run, run_in_attempt, LegState, JobState, RunState}
-use Rattle.run_states.specs.declared.place.LegSite.{LegSite}
+use Rattle.run_states.specs.declared.sites.LegSite.{LegSite}
 use Rattle.run_states.specs.Settling.{result_at}
 use Rattle.run_states.specs.Sound.{AttemptsAreGiven, DeliveriesDiffer, ParallelIsBounded}
 use Rattle.run_states.specs.Step.{admission_answer, refused}

@@ -10,7 +10,7 @@ use Rattle.run_states.specs.Settling.{arrived}
 use Rattle.run_states.specs.Fitting.{first_fit}
 use Rattle.run_states.specs.Groups.{HasOneBeside, HasOneEach, waits}
 use Rattle.run_states.specs.Runs.{run_at, with_leg, with_run, leg_has_ended, again, leased_leg, new_run, RunState}
-use Rattle.run_states.specs.declared.place.LegSite.{LegSite}
+use Rattle.run_states.specs.declared.sites.LegSite.{LegSite}
 use Rattle.run_states.specs.Sound.{IsSound, RunsAreSound}
 use Rattle.run_states.specs.Step.{entered, entered_again, report_answer, rerun_answer}
 use Rattle.run_states.specs.Stops.{with_ended, outcome_of_loss, stopped_run}
@@ -67,29 +67,29 @@ entered_may_settle t event s = record {
 }
 
 -- runs with the event's run added, at its index
-pub record Enters (t : TableState) (event : Admitted) (added : List RunState) (place : ℕ) : Type 0 where
+pub record Enters (t : TableState) (event : Admitted) (added : List RunState) (index : ℕ) : Type 0 where
   pub sound : IsSound t
   pub added_is : added ≡ t.runs ++ new_run event ∷ []
-  pub at_end : place ≡ length t.runs
+  pub at_end : index ≡ length t.runs
 
 -- the same for the values that the code has
-pub enters : (t : TableState) (event : Admitted) (runs added : List RunState) (run : RunState) (place : ℕ) → IsSound t
-    → runs ≡ t.runs → added ≡ runs ++ run ∷ [] → run ≡ new_run event → place ≡ length runs → Enters t event added place
-enters t event runs added run place s runs_are added_is run_is place_is = record {
+pub enters : (t : TableState) (event : Admitted) (runs added : List RunState) (run : RunState) (index : ℕ) → IsSound t
+    → runs ≡ t.runs → added ≡ runs ++ run ∷ [] → run ≡ new_run event → index ≡ length runs → Enters t event added index
+enters t event runs added run index s runs_are added_is run_is place_is = record {
   sound = s;
   added_is = added_is ∙ ap (λ v. runs ++ v ∷ []) run_is ∙ ap (λ xs. xs ++ new_run event ∷ []) runs_are;
   at_end = place_is ∙ ap (λ (xs : List RunState). length xs) runs_are;
 }
 
-pub entering_arrives : {t : TableState} {event : Admitted} {added : List RunState} {place : ℕ} → Enters t event added place
-    → MayArrive added (Run place)
-entering_arrives {t} {event} {added} {place} e =
-    subst (λ (xs : List RunState). MayArrive xs (Run place)) (sym e.added_is)
+pub entering_arrives : {t : TableState} {event : Admitted} {added : List RunState} {index : ℕ} → Enters t event added index
+    → MayArrive added (Run index)
+entering_arrives {t} {event} {added} {index} e =
+    subst (λ (xs : List RunState). MayArrive xs (Run index)) (sym e.added_is)
     (subst (λ (n : ℕ). MayArrive (t.runs ++ new_run event ∷ []) (Run n)) (sym e.at_end) (new_run_arrives t event e.sound))
 
-pub entering_settles : {t : TableState} {event : Admitted} {added : List RunState} {place : ℕ} → Enters t event added place
-    → (new : List RunState) → new ≡ (arrived (Run place) added).runs → MaySettle new
-entering_settles {t} {event} {added} {place} e new new_is =
+pub entering_settles : {t : TableState} {event : Admitted} {added : List RunState} {index : ℕ} → Enters t event added index
+    → (new : List RunState) → new ≡ (arrived (Run index) added).runs → MaySettle new
+entering_settles {t} {event} {added} {index} e new new_is =
     let is : new ≡ (entered t event).runs =
     new_is ∙ ap (λ n. (arrived (Run n) added).runs) e.at_end
     ∙ ap (λ xs. (arrived (Run (length t.runs)) xs).runs) e.added_is in
@@ -112,57 +112,57 @@ again_may_settle t r attempt s begins = record {
 }
 
 -- the run with an id, at its index
-pub may_begin : (t : TableState) (requested : Attempt) (runs : List RunState) (place : ℕ) → rerun_answer t requested ≡ None → runs ≡ t.runs
-    → place ≡ requested.run - 1 → IfSome (run_at runs place) (λ x. x.attempt < 1000)
-may_begin t requested runs place due runs_are place_is =
+pub may_begin : (t : TableState) (requested : Attempt) (runs : List RunState) (index : ℕ) → rerun_answer t requested ≡ None → runs ≡ t.runs
+    → index ≡ requested.run - 1 → IfSome (run_at runs index) (λ x. x.attempt < 1000)
+may_begin t requested runs index due runs_are place_is =
     let begins = begins_again t requested due in
     subst (λ (o : Option RunState). IfSome o (λ x. x.attempt < 1000))
     (sym (ap (run_at runs) place_is ∙ ap (λ (rs : List RunState). run_at rs (requested.run - 1)) runs_are ∙ begins.there)) begins.below
 
 -- it has ended, and all runs are sound
-pub may_begin_again : (t : TableState) (requested : Attempt) (runs : List RunState) (place : ℕ) → rerun_answer t requested ≡ None → runs ≡ t.runs
-    → place ≡ requested.run - 1 → IfSome (run_at runs place) (λ x. x.phase ≡ run.Ended)
-may_begin_again t requested runs place due runs_are place_is =
+pub may_begin_again : (t : TableState) (requested : Attempt) (runs : List RunState) (index : ℕ) → rerun_answer t requested ≡ None → runs ≡ t.runs
+    → index ≡ requested.run - 1 → IfSome (run_at runs index) (λ x. x.phase ≡ run.Ended)
+may_begin_again t requested runs index due runs_are place_is =
     let begins = begins_again t requested due in
     subst (λ (o : Option RunState). IfSome o (λ x. x.phase ≡ run.Ended))
     (sym (ap (run_at runs) place_is ∙ ap (λ (rs : List RunState). run_at rs (requested.run - 1)) runs_are ∙ begins.there)) begins.ended
 
-pub begins_within : (t : TableState) (requested : Attempt) (runs : List RunState) (place : ℕ) → rerun_answer t requested ≡ None → runs ≡ t.runs
-    → place ≡ requested.run - 1 → place < length runs
-begins_within t requested runs place due runs_are place_is =
+pub begins_within : (t : TableState) (requested : Attempt) (runs : List RunState) (index : ℕ) → rerun_answer t requested ≡ None → runs ≡ t.runs
+    → index ≡ requested.run - 1 → index < length runs
+begins_within t requested runs index due runs_are place_is =
     let begins = begins_again t requested due in
-    slice_get_within runs place begins.was
+    slice_get_within runs index begins.was
     (ap (run_at runs) place_is ∙ ap (λ (rs : List RunState). run_at rs (requested.run - 1)) runs_are ∙ begins.there)
 
 pub sound_as_they_are : (t : TableState) (runs : List RunState) → IsSound t → runs ≡ t.runs → RunsAreSound runs
 sound_as_they_are t runs s runs_are = subst RunsAreSound (sym runs_are) (sound_runs t.runs (table_fits t s))
 
 -- runs among which it has begun again
-pub record Begun (t : TableState) (requested : Attempt) (begun : List RunState) (place : ℕ) : Type 0 where
+pub record Begun (t : TableState) (requested : Attempt) (begun : List RunState) (index : ℕ) : Type 0 where
   pub sound : IsSound t
   pub due : rerun_answer t requested ≡ None
   pub begun_is : begun ≡ with_run (requested.run - 1) again t.runs
-  pub at_place : place ≡ requested.run - 1
+  pub at_place : index ≡ requested.run - 1
 
-pub has_begun : (t : TableState) (requested : Attempt) (runs begun : List RunState) (place : ℕ) → IsSound t → rerun_answer t requested ≡ None
-    → runs ≡ t.runs → begun ≡ with_run place again runs → place ≡ requested.run - 1 → Begun t requested begun place
-has_begun t requested runs begun place s due runs_are begun_is place_is = record {
+pub has_begun : (t : TableState) (requested : Attempt) (runs begun : List RunState) (index : ℕ) → IsSound t → rerun_answer t requested ≡ None
+    → runs ≡ t.runs → begun ≡ with_run index again runs → index ≡ requested.run - 1 → Begun t requested begun index
+has_begun t requested runs begun index s due runs_are begun_is place_is = record {
   sound = s;
   due = due;
   begun_is = begun_is ∙ ap (λ n. with_run n again runs) place_is ∙ ap (with_run (requested.run - 1) again) runs_are;
   at_place = place_is;
 }
 
-pub begun_arrives : {t : TableState} {requested : Attempt} {begun : List RunState} {place : ℕ} → Begun t requested begun place
-    → MayArrive begun (Run place)
-begun_arrives {t} {requested} {begun} {place} b =
-    subst (λ (xs : List RunState). MayArrive xs (Run place)) (sym b.begun_is)
+pub begun_arrives : {t : TableState} {requested : Attempt} {begun : List RunState} {index : ℕ} → Begun t requested begun index
+    → MayArrive begun (Run index)
+begun_arrives {t} {requested} {begun} {index} b =
+    subst (λ (xs : List RunState). MayArrive xs (Run index)) (sym b.begun_is)
     (subst (λ (n : ℕ). MayArrive (with_run (requested.run - 1) again t.runs) (Run n)) (sym b.at_place)
     (again_arrives t (requested.run - 1) requested.attempt b.sound (begins_again t requested b.due)))
 
-pub begun_settles : {t : TableState} {requested : Attempt} {begun : List RunState} {place : ℕ} → Begun t requested begun place
-    → (new : List RunState) → new ≡ (arrived (Run place) begun).runs → MaySettle new
-begun_settles {t} {requested} {begun} {place} b new new_is =
+pub begun_settles : {t : TableState} {requested : Attempt} {begun : List RunState} {index : ℕ} → Begun t requested begun index
+    → (new : List RunState) → new ≡ (arrived (Run index) begun).runs → MaySettle new
+begun_settles {t} {requested} {begun} {index} b new new_is =
     let is : new ≡ (entered_again t (requested.run - 1)).runs =
     new_is ∙ ap (λ n. (arrived (Run n) begun).runs) b.at_place
     ∙ ap (λ xs. (arrived (Run (requested.run - 1)) xs).runs) b.begun_is in

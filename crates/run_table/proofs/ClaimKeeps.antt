@@ -13,7 +13,7 @@ use Rattle.run_plan.specs.declared.command.Claim.{Claim as Claimed}
 use Rattle.run_plan.specs.declared.reply.Reply.{Reply}
 use Rattle.run_states.specs.Runs.{changed_at, job_at, leg_at, leg_sites, run_at, with_leg, leased_leg, LegState, JobState, RunState}
 use Rattle.run_states.specs.Fitting.{is_ready, is_served, may_run_too, fits, first_fit, has_room, legs_at_work, most_at_work}
-use Rattle.run_states.specs.declared.place.LegSite.{LegSite}
+use Rattle.run_states.specs.declared.sites.LegSite.{LegSite}
 use Rattle.run_states.specs.Settling.{leg_has_ended, result_at}
 use Rattle.run_plan.specs.LastCommand.{is_last_claim}
 use Rattle.run_states.specs.Sound.{IsLastOf, ParallelIsBounded, LeaseFits, LegsFit}

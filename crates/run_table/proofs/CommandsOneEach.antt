@@ -7,7 +7,7 @@ use Rattle.wf_value.specs.declared.outcome.Outcome.{Outcome}
 use Rattle.run_states.specs.Fitting.{first_fit, site_of_lease}
 use Rattle.run_states.specs.Groups.{HasOneEach, holds, leg_holds}
 use Rattle.run_states.specs.Runs.{leased_leg, with_job, with_leg, with_run, RunState, leg_has_ended, leg_in_phase}
-use Rattle.run_states.specs.declared.place.LegSite.{LegSite}
+use Rattle.run_states.specs.declared.sites.LegSite.{LegSite}
 use Rattle.run_states.specs.Stops.{with_ended, after_end, stopped_run, stops_others, with_stopped_legs}
 use Rattle.run_states.specs.declared.phases.LegPhase.{LegPhase}
 use Rattle.run_states.specs.declared.phases.LegPhase.TheVariants as leg

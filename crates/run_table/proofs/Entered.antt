@@ -10,7 +10,7 @@ use Rattle.run_plan.specs.declared.planned.PlannedJob.{PlannedJob}
 use Rattle.run_states.specs.Settling.{arrived}
 use Rattle.run_states.specs.Groups.{HasOneBeside, HasOneEach, holds, leg_holds, leg_waits, run_waits, waits}
 use Rattle.run_states.specs.Runs.{leg_at, is_live, blocked_job, new_run, RunState}
-use Rattle.run_states.specs.declared.place.LegSite.{LegSite}
+use Rattle.run_states.specs.declared.sites.LegSite.{LegSite}
 use Rattle.run_states.specs.LegContext.{events}
 use Rattle.run_states.specs.Step.{admission_answer, entered}
 use Rattle.run_states.specs.TableState.{TableState}

@@ -13,7 +13,7 @@ use Rattle.run_states.specs.Groups.{group_at, waits}
 use Rattle.run_states.specs.Groups.{HasOneBeside, HasOneEach, holds, is_in, is_pending_in, is_in_progress_in, leg_holds, leg_waits, run_waits}
 use Rattle.run_states.specs.Holders.{run_of}
 use Rattle.run_states.specs.Runs.{again, leg_at, run_at, with_run, LegState, JobState, RunState, is_live}
-use Rattle.run_states.specs.declared.place.LegSite.{LegSite}
+use Rattle.run_states.specs.declared.sites.LegSite.{LegSite}
 use Rattle.run_states.specs.LegContext.{events}
 use Rattle.run_states.specs.declared.phases.LegPhase.{LegPhase}
 use Rattle.run_states.specs.Sound.{AttemptsAreGiven}

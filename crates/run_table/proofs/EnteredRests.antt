@@ -13,7 +13,7 @@ use Rattle.run_states.specs.Sound.{IsSound}
 use Rattle.run_states.specs.Runs.{new_run, is_live, RunState}
 use Rattle.run_states.specs.TableState.{TableState}
 use Rattle.run_states.specs.WithinRun.{first_in_run}
-use Rattle.run_states.specs.declared.place.JobSite.{JobSite}
+use Rattle.run_states.specs.declared.sites.JobSite.{JobSite}
 use Rattle.run_table.proofs.BeforeSettling.{Enters}
 use Rattle.run_table.proofs.Entered.{groups_before}
 use Rattle.run_states.proofs.Found.{before_the_end}
@@ -60,19 +60,19 @@ new_run_rests t event s =
     )
 
 -- the same for the values that the code has
-pub entering_rests : {t : TableState} {event : Admitted} {added : List RunState} {place : ℕ} → Enters t event added place
-    → (new : List RunState) (from : JobSite) → new ≡ (arrived (Run place) added).runs → from ≡ resume_at_arrival added place
+pub entering_rests : {t : TableState} {event : Admitted} {added : List RunState} {index : ℕ} → Enters t event added index
+    → (new : List RunState) (from : JobSite) → new ≡ (arrived (Run index) added).runs → from ≡ resume_at_arrival added index
     → RestBefore new from
-entering_rests {t} {event} {added} {place} e new from new_is from_is =
-    let h = Run place in
+entering_rests {t} {event} {added} {index} e new from new_is from_is =
+    let h = Run index in
     elim (group_at added h) as (λ o. group_at added h ≡ o → RestBefore new from) [
       | Some g ↦ λ is.
           let start : from ≡ record { run = 0; job = 0 } =
-          from_is ∙ ap (λ (o : Option Group). record { run = if is_some o then 0 else place; job = 0 }) is in
+          from_is ∙ ap (λ (o : Option Group). record { run = if is_some o then 0 else index; job = 0 }) is in
           subst (RestBefore new) (sym start) (rest_before_all new)
       | None ↦ λ is.
           let start : from ≡ record { run = length t.runs; job = 0 } =
-          from_is ∙ ap (λ (o : Option Group). record { run = if is_some o then 0 else place; job = 0 }) is
+          from_is ∙ ap (λ (o : Option Group). record { run = if is_some o then 0 else index; job = 0 }) is
           ∙ ap (λ (n : ℕ). record { run = n; job = 0 }) e.at_end in
           let stay : new ≡ t.runs ++ new_run event ∷ [] = new_is
           ∙ ap (λ (o : Option Group). (option_map_or (room_made (cancels_in_progress added h) h added) o (without_moves added)).runs) is

@@ -8,7 +8,7 @@ use Rattle.definitions.specs.Limits.{last_attempt, last_number}
 use Rattle.run_states.specs.Groups.{HasOneEach}
 use Rattle.run_plan.specs.declared.planned.PlannedJob.{PlannedJob}
 use Rattle.run_states.specs.Runs.{run_at, leg_at, plan_at, LegState, RunState}
-use Rattle.run_states.specs.declared.place.LegSite.{LegSite}
+use Rattle.run_states.specs.declared.sites.LegSite.{LegSite}
 use Rattle.run_states.specs.Settling.{first_site, settled}
 use Rattle.run_states.specs.Sound.{DeliveriesDiffer, LeasesAreGiven, LeasesDiffer, IsHeld, IsAtWork, WorkIsHeld}
 use Rattle.run_states.specs.Fitting.{is_at_work}

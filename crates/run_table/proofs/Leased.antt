@@ -7,7 +7,7 @@ use Rattle.run_plan.specs.declared.reply.Lease.{Lease as Leased}
 use Rattle.run_plan.specs.declared.reply.Reply.{Reply}
 use Rattle.run_plan.specs.declared.reply.Reply.TheVariants as reply
 use Rattle.run_states.specs.Runs.{with_leg, leased_leg, RunState}
-use Rattle.run_states.specs.declared.place.LegSite.{LegSite}
+use Rattle.run_states.specs.declared.sites.LegSite.{LegSite}
 use Rattle.run_states.specs.Settling.{settled}
 use Rattle.run_states.specs.Step.{claiming_runner, kept_lease_at, lease_at, leasing, outcome}
 use Rattle.run_states.specs.TableState.{RunnerState, TableState, with_runner}

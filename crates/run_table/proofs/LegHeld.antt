@@ -7,7 +7,7 @@ use Rattle.std.proofs.lemmas.Option.{same_Some, slice_get_within}
 use Rattle.wf_value.specs.declared.outcome.Outcome.{Outcome}
 use Rattle.run_states.specs.Fitting.{OnlyAtWork, has_lease, site_of_lease, is_at_work}
 use Rattle.run_states.specs.Runs.{leg_at, leg_sites, LegState, RunState}
-use Rattle.run_states.specs.declared.place.LegSite.{LegSite}
+use Rattle.run_states.specs.declared.sites.LegSite.{LegSite}
 use Rattle.run_states.specs.Stops.{with_ended, after_end}
 use Rattle.run_states.proofs.Found.{find_passes, none_found}
 use Rattle.run_states.proofs.JobKeeps.{leg_in}

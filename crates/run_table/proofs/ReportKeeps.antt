@@ -14,7 +14,7 @@ use Rattle.run_plan.specs.declared.command.Done.{Done as Reported}
 use Rattle.run_plan.specs.declared.reply.Reply.{Reply}
 use Rattle.run_states.specs.Fitting.{has_lease, site_of_lease, is_at_work}
 use Rattle.run_states.specs.Runs.{leg_at, leg_sites, with_job, with_leg, LegState}
-use Rattle.run_states.specs.declared.place.LegSite.{LegSite}
+use Rattle.run_states.specs.declared.sites.LegSite.{LegSite}
 use Rattle.run_states.specs.Settling.{leg_in_phase, outcome_of}
 use Rattle.run_plan.specs.LastCommand.{is_last_report}
 use Rattle.run_states.specs.Sound.{IsLastOf, LeaseFits}

@@ -253,9 +253,9 @@ inserted_at_the_seam : {X : Type 0} (prefix back : List X) (y : X) → insert (p
 inserted_at_the_seam [] back y = refl
 inserted_at_the_seam (z ∷ prefix) back y = ap (λ ys. z ∷ ys) (inserted_at_the_seam prefix back y)
 
-module _ (runners : List RunnerState) (name : List ℕ) (h : names_rise runners ≡ true) (place : ℕ)
-    (at : place ≡ length (filter (is_below name) runners)) where
-  stands : slice_get runners place ≡ slice_get (around runners name h).back 0
+module _ (runners : List RunnerState) (name : List ℕ) (h : names_rise runners ≡ true) (index : ℕ)
+    (at : index ≡ length (filter (is_below name) runners)) where
+  stands : slice_get runners index ≡ slice_get (around runners name h).back 0
   stands =
       let a = around runners name h in
       ap (slice_get runners) at ∙ ap (λ xs. slice_get xs (length (filter (is_below name) runners))) a.whole
@@ -274,7 +274,7 @@ module _ (runners : List RunnerState) (name : List ℕ) (h : names_rise runners 
   nothing_kept (Some x) h = ap (λ b. if b then Some x else None) (h x refl)
 
   -- the runner of the name is at the index, or no runner has the name
-  pub found_there : option_and_then (kept_named name) (slice_get runners place) ≡ runner_named runners name
+  pub found_there : option_and_then (kept_named name) (slice_get runners index) ≡ runner_named runners name
   found_there =
       let a = around runners name h in
       ap (option_and_then (kept_named name)) stands ∙ elim a.ends [
@@ -291,7 +291,7 @@ module _ (runners : List RunnerState) (name : List ℕ) (h : names_rise runners 
   there_is_known o x found unknown = true≢false (sym (ap is_some found) ∙ unknown)
 
   -- the index is within the list if a runner has the name
-  pub place_within : is_some (runner_named runners name) ≡ true → place < length runners
+  pub place_within : is_some (runner_named runners name) ≡ true → index < length runners
   place_within known =
       let a = around runners name h in
       elim a.ends [
@@ -302,14 +302,14 @@ module _ (runners : List RunnerState) (name : List ℕ) (h : names_rise runners 
         | inr absent ↦ absurd (absent_is_unknown (runner_named runners name) absent.found known)
       ]
 
-  pub place_in_range : place ≤ length runners
+  pub place_in_range : index ≤ length runners
   place_in_range =
       let a = around runners name h in
       let long = ap length a.whole ∙ length-append (filter (is_below name) runners) a.back in
       omega (arith, at, long)
 
   pub put_over : (new : RunnerState) → is_some (runner_named runners name) ≡ true → new.name ≡ name
-      → slice_set runners place new ≡ with_runner runners new
+      → slice_set runners index new ≡ with_runner runners new
   put_over new known same =
       let a = around runners name h in
       let prefix = filter (is_below name) runners in
@@ -323,7 +323,7 @@ module _ (runners : List RunnerState) (name : List ℕ) (h : names_rise runners 
       ]
 
   pub put_between : (new : RunnerState) → is_some (runner_named runners name) ≡ false → new.name ≡ name
-      → insert runners place new ≡ with_runner runners new
+      → insert runners index new ≡ with_runner runners new
   put_between new unknown same =
       let a = around runners name h in
       let prefix = filter (is_below name) runners in

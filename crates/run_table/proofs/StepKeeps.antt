@@ -14,7 +14,7 @@ use Rattle.run_plan.specs.declared.reply.Reply.{Reply}
 use Rattle.run_states.specs.Fitting.{first_fit}
 use Rattle.run_states.specs.TableState.{Step, TableState, runner_named, with_runner}
 use Rattle.run_states.specs.Runs.{run_at, with_leg, with_run, leased_leg, RunState}
-use Rattle.run_states.specs.declared.place.LegSite.{LegSite}
+use Rattle.run_states.specs.declared.sites.LegSite.{LegSite}
 use Rattle.run_states.specs.Sound.{IsSound}
 use Rattle.run_states.specs.Step.{empty, entered, unchanged, admission_answer, admitting, admitted, claim_answer, claiming_runner}
 use Rattle.run_states.specs.Step.{kept_lease_at, leasing, serving_nothing, claiming, claimed, report_answer, reporting_runner}

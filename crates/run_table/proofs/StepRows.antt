@@ -30,7 +30,7 @@ use Rattle.run_states.specs.declared.phases.JobPhase.TheVariants as job
 use Rattle.run_states.specs.declared.phases.LegPhase.TheVariants as leg
 use Rattle.run_states.specs.declared.phases.RunPhase.{RunPhase}
 use Rattle.run_states.specs.declared.phases.RunPhase.TheVariants as run
-use Rattle.run_states.specs.declared.place.RuleSite.TheVariants.{Opening, Whole}
+use Rattle.run_states.specs.declared.sites.RuleSite.TheVariants.{Opening, Whole}
 use Rattle.run_table.proofs.OnTables.{on_tables}
 use Rattle.run_states.specs.declared.holder.Holder.TheVariants.{Leg}
 

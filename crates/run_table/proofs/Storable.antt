@@ -10,8 +10,8 @@ use Rattle.run_plan.specs.PlanOf.{plan_of}
 use Rattle.run_plan.specs.declared.planned.PlannedJob.{PlannedJob}
 use Rattle.run_plan.proofs.FewLegs.{few_planned}
 use Rattle.run_states.specs.Runs.{placed, finished_result, job_at, leg_at, run_at, is_new, LegState, JobState, RunState}
-use Rattle.run_states.specs.declared.place.LegSite.{LegSite}
-use Rattle.run_states.specs.Settling.{leg_has_ended, is_live, is_finished, job_sites, leg_rule, leg_rule_in, outcome_of, places, result_at}
+use Rattle.run_states.specs.declared.sites.LegSite.{LegSite}
+use Rattle.run_states.specs.Settling.{leg_has_ended, is_live, is_finished, job_sites, leg_rule, leg_rule_in, outcome_of, result_at, rule_sites}
 use Rattle.run_states.specs.Settling.{run_sites, applies, first_site}
 use Rattle.run_states.specs.Sound.{IsSound, LegsFit, PhaseFits}
 use Rattle.run_table.specs.Storable.{IsStorable, LegsAreFew}
@@ -23,8 +23,8 @@ use Rattle.run_states.specs.declared.phases.LegPhase.{LegPhase}
 use Rattle.run_states.specs.declared.phases.LegPhase.TheVariants as leg
 use Rattle.run_states.specs.declared.phases.RunPhase.{RunPhase}
 use Rattle.run_states.specs.declared.phases.RunPhase.TheVariants as run
-use Rattle.run_states.specs.declared.place.RuleSite.{RuleSite}
-use Rattle.run_states.specs.declared.place.RuleSite.TheVariants.{AtLeg, Closing, Whole}
+use Rattle.run_states.specs.declared.sites.RuleSite.{RuleSite}
+use Rattle.run_states.specs.declared.sites.RuleSite.TheVariants.{AtLeg, Closing, Whole}
 use Rattle.run_states.proofs.Found.{each_of_append, each_of_flat_map, each_of_map, each_of_placed, none_found}
 use Rattle.run_states.proofs.Optional.{each_passes}
 
@@ -82,8 +82,8 @@ rests_at : (runs : List RunState) (p : LegSite) (z : RunState) (y : JobState) (x
     → run_at runs p.run ≡ Some z
     → slice_get z.jobs p.job ≡ Some y → slice_get y.legs p.leg ≡ Some x → is_live z.phase ≡ true → applies runs (AtLeg p) ≡ false
 rests_at runs p z y x none run_is job_is leg_is live =
-    let Rests = λ (place : RuleSite). applies runs place ≡ false in
-    let by_run = each_of_flat_map Rests run_sites (placed runs) (none_found (applies runs) (places runs) none) in
+    let Rests = λ (site : RuleSite). applies runs site ≡ false in
+    let by_run = each_of_flat_map Rests run_sites (placed runs) (none_found (applies runs) (rule_sites runs) none) in
     let of_run = each_of_placed (λ e. AllByRecursion Rests (run_sites e)) runs p.run z by_run run_is in
     let jobs = (each_of_append Rests (if is_live z.phase then flat_map (job_sites p.run) (placed z.jobs) else [])
     (Whole p.run ∷ []) of_run).0 in

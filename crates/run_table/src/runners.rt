@@ -158,7 +158,7 @@ fn replace(runners: &mut Vec<Runner>, index: usize, runner: Runner)
 
 fn put_in(runners: &mut Vec<Runner>, index: usize, runner: Runner) -> Result<(), Refusal>
     requires rise { names_rise runners.old.items ≡ true }
-    requires place { index ≡ index_named runners.old.items runner.name }
+    requires index { index ≡ index_named runners.old.items runner.name }
     ensures put { Gives (λ _. runners.new.items) result (Ok (with_runner runners.old.items runner)) }
     ensures err { OnErr result (runners.new.items ≡ runners.old.items) }
 {

@@ -120,14 +120,6 @@ impl Table {
         self.table_data.step_with_copy(alloc, command)
     }
 
-    /// How many times steps tried a settling rule at a site, and how many runs claims looked at, since the last call.
-    /// The table stays as it is.
-    pub fn take_tries(&mut self) -> u64
-        ensures { self.new ≡ self.old }
-    {
-        self.table_data.runs.take_tries()
-    }
-
     /// The event of the last run, if there is a run. It takes no memory.
     pub fn last_event(&self) -> Option<&Prepared>
         ensures { option_copied result ≡ option_map (λ run. run.admitted) (slice_get self.now.runs (length self.now.runs - 1)) }

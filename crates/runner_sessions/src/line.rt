@@ -61,7 +61,7 @@ fn feed_index(bytes: &[u8], read: usize) -> Option<usize>
     ensures { result ≡ position (λ b. b == 10) bytes.now }
 {
     match line_feed_index(&bytes[read..]) {
-        Some(place) => Some(read + place),
+        Some(offset) => Some(read + offset),
         None => None,
     }
 }
@@ -75,9 +75,9 @@ pub fn next_line(alloc: Global, bytes: &[u8], progress: Progress) -> Result<Next
 {
     let prefix = &bytes[..bytes.len().min(MAX_LINE)];
     match feed_index(prefix, progress.read) {
-        Some(place) => Ok(Next::Whole(FoundRequest {
-            request: request_in(alloc, &bytes[..place])?,
-            length: place + 1,
+        Some(offset) => Ok(Next::Whole(FoundRequest {
+            request: request_in(alloc, &bytes[..offset])?,
+            length: offset + 1,
         })),
         None if prefix.len() < MAX_LINE => Ok(Next::Waits {
             until: prefix.len() + 1,

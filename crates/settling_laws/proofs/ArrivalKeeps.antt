@@ -11,7 +11,7 @@ use Rattle.run_states.specs.Settling.{arrived, displaced, others_pending, room_m
 use Rattle.run_states.specs.Groups.{cancels_in_progress, group_at}
 use Rattle.run_states.specs.GroupLaw.{same_holder, same_place as is_same_place, at_each, without_moves}
 use Rattle.run_states.specs.Groups.{HasOneBeside, HasOneEach, all_holders, is_in, is_pending_in, in_progress_in, waits}
-use Rattle.run_states.specs.declared.place.LegSite.{LegSite}
+use Rattle.run_states.specs.declared.sites.LegSite.{LegSite}
 use Rattle.run_states.specs.Runs.{RunState}
 use Rattle.run_states.specs.Stops.{displace, stop_holder}
 use Rattle.run_states.proofs.LeaseReads.{same_place}

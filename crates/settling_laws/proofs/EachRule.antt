@@ -1,4 +1,4 @@
--- Each rule makes one of seven transitions. A property of all seven holds of the transition at each place.
+-- Each rule makes one of seven transitions. A property of all seven holds of the transition at each site.
 use Rattle.std.specs.Prelude.{◌≡◌, ℕ, ◌&&◌, List, [], ◌∷◌, Bool, true, false, Some, if◌then◌else◌, refl}
 use Rattle.std.specs.List.{list_all}
 use Rattle.std.proofs.Common.{subst}
@@ -9,7 +9,7 @@ use Rattle.run_states.specs.Settling.{arrived, is_in_group_of_run, started, whol
 use Rattle.run_states.specs.Groups.{may_start}
 use Rattle.run_states.specs.Runs.{results_of, job_at, leg_at, run_at, with_job, with_run, JobState, LegState, RunState}
 use Rattle.run_states.specs.GroupLaw.{Move, Transition, without_moves}
-use Rattle.run_states.specs.declared.place.LegSite.{LegSite}
+use Rattle.run_states.specs.declared.sites.LegSite.{LegSite}
 use Rattle.run_states.specs.Settling.{closing_rule, decided, leg_rule, leg_rule_in, newcomer_rule, opening_rule, result_at, rule_at}
 use Rattle.run_states.specs.Runs.{is_blocked, is_done, is_finished, run_in_phase, finished_as}
 use Rattle.run_states.specs.LegContext.{needs_have_finished}
@@ -17,8 +17,8 @@ use Rattle.run_states.specs.declared.phases.LegPhase.{LegPhase}
 use Rattle.run_states.specs.declared.phases.LegPhase.TheVariants as leg
 use Rattle.run_states.specs.declared.phases.RunPhase.{RunPhase}
 use Rattle.run_states.specs.declared.phases.RunPhase.TheVariants as run
-use Rattle.run_states.specs.declared.place.RuleSite.{RuleSite}
-use Rattle.run_states.specs.declared.place.RuleSite.TheVariants.{Opening, AtLeg, Closing, Whole}
+use Rattle.run_states.specs.declared.sites.RuleSite.{RuleSite}
+use Rattle.run_states.specs.declared.sites.RuleSite.TheVariants.{Opening, AtLeg, Closing, Whole}
 use Rattle.run_states.proofs.Optional.{from_and_then, if_some}
 use Rattle.run_states.specs.declared.holder.Holder.TheVariants.{Run, Leg}
 
@@ -78,7 +78,7 @@ module _ (runs : List RunState) (P : RuleSite → Transition → Type 0) (each :
       subst (P (Whole r)) taken.1 (each.run_ends r x was is taken.0)
   at_run m r x run.Ended was is h = absurd (cc h)
 
-  pub by_rule : (m : Transition) (place : RuleSite) → rule_at runs place ≡ Some m → P place m
+  pub by_rule : (m : Transition) (site : RuleSite) → rule_at runs site ≡ Some m → P site m
   by_rule m (Opening r j) h =
       let made = from_and_then (opening_rule runs r j) (job_at runs r j) m h in
       let y = made.value in

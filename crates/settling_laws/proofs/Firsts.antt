@@ -1,4 +1,4 @@
--- The first value of a partial function in a list, found index by index, and the first place that passes a test.
+-- The first value of a partial function in a list, found index by index, and the first site that passes a test.
 use Rattle.std.specs.Prelude.{◌≡◌, ℕ, zero, suc, ◌+◌, ◌<◌, ◌≤◌, List, [], ◌∷◌, map, flat_map, find, length, Bool, true, false}
 use Rattle.std.specs.Prelude.{is_some, Option, Some, None, option_and_then, slice_get, if◌then◌else◌, refl}
 use Rattle.std.specs.List.{enumerate_from, AllByRecursion}
@@ -36,23 +36,23 @@ pub first_placed-map : {X Y Z : Type 0} (f : ℕ → Y → Option Z) (h : X → 
     → first_some (λ e. f e.0 e.1) (placed (map h xs)) ≡ first_some (λ e. f e.0 (h e.1)) (placed xs)
 first_placed-map f h xs = placed_from-map f h xs 0
 
--- ---- the first place that passes a test, in a concatenation of lists
+-- ---- the first site that passes a test, in a concatenation of lists
 
-pub find-flat_map : {X P : Type 0} (test : P → Bool) (places : X → List P) (xs : List X)
-    → find test (flat_map places xs) ≡ first_some (λ x. find test (places x)) xs
-find-flat_map test places [] = refl
-find-flat_map test places (x ∷ xs) =
-    find-append test (places x) (flat_map places xs) ∙ ap (option_or (find test (places x))) (find-flat_map test places xs)
+pub find-flat_map : {X P : Type 0} (test : P → Bool) (sites_of : X → List P) (xs : List X)
+    → find test (flat_map sites_of xs) ≡ first_some (λ x. find test (sites_of x)) xs
+find-flat_map test sites_of [] = refl
+find-flat_map test sites_of (x ∷ xs) =
+    find-append test (sites_of x) (flat_map sites_of xs) ∙ ap (option_or (find test (sites_of x))) (find-flat_map test sites_of xs)
 
-pub find-map : {X P : Type 0} (test : P → Bool) (place : X → P) (xs : List X)
-    → find test (map place xs) ≡ first_some (λ x. if test (place x) then Some (place x) else None) xs
-find-map test place [] = refl
-find-map test place (x ∷ xs) =
-    elim (test (place x)) as
-    (λ b. (if b then Some (place x) else find test (map place xs))
-    ≡ option_or (if b then Some (place x) else None) (first_some (λ y. if test (place y) then Some (place y) else None) xs)) [
+pub find-map : {X P : Type 0} (test : P → Bool) (site_of : X → P) (xs : List X)
+    → find test (map site_of xs) ≡ first_some (λ x. if test (site_of x) then Some (site_of x) else None) xs
+find-map test site_of [] = refl
+find-map test site_of (x ∷ xs) =
+    elim (test (site_of x)) as
+    (λ b. (if b then Some (site_of x) else find test (map site_of xs))
+    ≡ option_or (if b then Some (site_of x) else None) (first_some (λ y. if test (site_of y) then Some (site_of y) else None) xs)) [
       | true ↦ refl
-      | false ↦ find-map test place xs
+      | false ↦ find-map test site_of xs
     ]
 
 -- ---- index by index

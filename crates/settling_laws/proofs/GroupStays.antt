@@ -10,7 +10,7 @@ use Rattle.run_states.specs.Groups.{RunFacts, cancels_in_progress, group_at, leg
 use Rattle.run_states.specs.Holders.{run_of}
 use Rattle.run_states.specs.LegContext.{facts_at, events, same_workflow, needs_have_finished}
 use Rattle.run_states.specs.Runs.{leg_at, run_at, LegState, RunState}
-use Rattle.run_states.specs.declared.place.LegSite.{LegSite}
+use Rattle.run_states.specs.declared.sites.LegSite.{LegSite}
 use Rattle.run_states.proofs.JobKeeps.{leg_in, no_leg}
 use Rattle.run_states.proofs.LegFacts.{SameUpTo, attempt_at, facts_are, facts_stay, taken_same, leg_facts_in}
 use Rattle.run_states.proofs.RunFits.{RunsFit}

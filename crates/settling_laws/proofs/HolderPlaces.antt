@@ -1,8 +1,8 @@
--- A property of the places of all legs holds of each of them.
+-- A property of the sites of all legs holds of each of them.
 use Rattle.std.specs.Prelude.{◌≡◌, ℕ, List, Some}
 use Rattle.std.specs.List.{AllByRecursion}
 use Rattle.run_states.specs.Runs.{placed, leg_at, leg_sites, leg_sites_of_job, leg_sites_of_run, LegState, JobState, RunState}
-use Rattle.run_states.specs.declared.place.LegSite.{LegSite}
+use Rattle.run_states.specs.declared.sites.LegSite.{LegSite}
 use Rattle.run_states.proofs.Found.{each_of_flat_map, each_of_map, each_of_placed}
 use Rattle.run_states.proofs.JobKeeps.{leg_in}
 

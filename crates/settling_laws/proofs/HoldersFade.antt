@@ -9,7 +9,7 @@ use Rattle.wf_value.specs.declared.outcome.JobResult.TheVariants as result
 use Rattle.run_states.specs.Runs.{changed_at, placed, job_at, leg_at, run_at, with_job, with_leg, with_run, LegState, JobState, RunState}
 use Rattle.run_states.specs.Groups.{holds, leg_holds, leg_waits, run_waits, waits}
 use Rattle.run_states.specs.GroupLaw.{Transition, at_each}
-use Rattle.run_states.specs.declared.place.LegSite.{LegSite}
+use Rattle.run_states.specs.declared.sites.LegSite.{LegSite}
 use Rattle.run_states.specs.LegContext.{may_run_in}
 use Rattle.run_states.specs.Runs.{is_live, is_open, finished_as}
 use Rattle.run_states.specs.Stops.{stop_holder, with_stopped_legs}

@@ -7,7 +7,7 @@ use Rattle.run_states.specs.Settling.{arrived, displaced, others_pending, room_m
 use Rattle.run_states.specs.Groups.{cancels_in_progress, group_at, in_progress_in}
 use Rattle.run_states.specs.GroupLaw.{Transition, at_each, without_moves}
 use Rattle.run_states.specs.Runs.{leg_at, run_at, with_leg, with_run, LegState, RunState, leg_has_ended, outcome_of}
-use Rattle.run_states.specs.declared.place.LegSite.{LegSite}
+use Rattle.run_states.specs.declared.sites.LegSite.{LegSite}
 use Rattle.run_states.specs.Stops.{displace, stop_holder, stopped, stopped_phase, stopped_run}
 use Rattle.run_states.specs.declared.phases.LegPhase.{LegPhase}
 use Rattle.run_states.specs.declared.phases.LegPhase.TheVariants as leg

@@ -9,7 +9,7 @@ use Rattle.group_name.specs.Group.{Group, same_group}
 use Rattle.run_states.specs.Runs.{changed_at, job_at, leg_at, run_at, with_job, with_leg, with_run, LegState, JobState, RunState, is_live}
 use Rattle.run_states.specs.Groups.{group_at, all_holders, holds, is_in, is_in_progress_in, is_taken, leg_holds, may_start, waits}
 use Rattle.run_states.specs.Holders.{run_of}
-use Rattle.run_states.specs.declared.place.LegSite.{LegSite}
+use Rattle.run_states.specs.declared.sites.LegSite.{LegSite}
 use Rattle.run_states.proofs.JobKeeps.{with_job_of, with_leg_of}
 use Rattle.run_states.proofs.RunFits.{job_in_run, leg_in_job}
 use Rattle.settling_laws.specs.inner.Releases.{ReleasesNone}

@@ -2,11 +2,11 @@
 use Rattle.std.specs.Prelude.{◌≡◌, ℕ, List, [], ◌∷◌, map, flat_map, Bool, true, false, if◌then◌else◌, Some, slice_get, refl}
 use Rattle.std.specs.List.{AllByRecursion}
 use Rattle.run_states.specs.Runs.{placed, run_at, LegState, JobState, RunState}
-use Rattle.run_states.specs.Settling.{is_live, job_sites, run_sites, places, applies, first_site}
+use Rattle.run_states.specs.Settling.{is_live, job_sites, run_sites, rule_sites, applies, first_site}
 use Rattle.run_states.specs.declared.phases.RunPhase.{RunPhase}
 use Rattle.run_states.specs.declared.phases.RunPhase.TheVariants as run
-use Rattle.run_states.specs.declared.place.RuleSite.{RuleSite}
-use Rattle.run_states.specs.declared.place.RuleSite.TheVariants.{Opening, AtLeg, Closing, Whole}
+use Rattle.run_states.specs.declared.sites.RuleSite.{RuleSite}
+use Rattle.run_states.specs.declared.sites.RuleSite.TheVariants.{Opening, AtLeg, Closing, Whole}
 use Rattle.run_states.proofs.Found.{found, all_weaken, all_of, all_append, all_map, all_flat_map, placed_get}
 
 abbrev pub LivePlace : List RunState → RuleSite → Type 0
@@ -41,14 +41,14 @@ of_a_run runs e was =
     all_append (LivePlace runs) (if is_live e.1.phase then flat_map (job_sites e.0) (placed e.1.jobs) else []) (Whole e.0 ∷ [])
     (of_the_jobs runs e.0 e.1 was (is_live e.1.phase) refl) (tt, tt)
 
-all_live : (runs : List RunState) → AllByRecursion (LivePlace runs) (places runs)
+all_live : (runs : List RunState) → AllByRecursion (LivePlace runs) (rule_sites runs)
 all_live runs =
     all_flat_map (LivePlace runs) run_sites (placed runs)
     (all_weaken (λ (e : ℕ × RunState). slice_get runs e.0 ≡ Some e.1) (λ e. AllByRecursion (LivePlace runs) (run_sites e)) (of_a_run runs)
     (placed runs) (placed_get runs))
 
-pub first_place_is_live : (runs : List RunState) (place : RuleSite) → first_site runs ≡ Some place → LivePlace runs place
-first_place_is_live runs place e = (found (LivePlace runs) (applies runs) (places runs) place (all_live runs) e).is_element
+pub first_place_is_live : (runs : List RunState) (site : RuleSite) → first_site runs ≡ Some site → LivePlace runs site
+first_place_is_live runs site e = (found (LivePlace runs) (applies runs) (rule_sites runs) site (all_live runs) e).is_element
 
-pub first_place_applies : (runs : List RunState) (place : RuleSite) → first_site runs ≡ Some place → applies runs place ≡ true
-first_place_applies runs place e = (found (LivePlace runs) (applies runs) (places runs) place (all_live runs) e).passes
+pub first_place_applies : (runs : List RunState) (site : RuleSite) → first_site runs ≡ Some site → applies runs site ≡ true
+first_place_applies runs site e = (found (LivePlace runs) (applies runs) (rule_sites runs) site (all_live runs) e).passes

@@ -13,7 +13,7 @@ use Rattle.run_plan.specs.PlanOf.{plan_of}
 use Rattle.run_plan.specs.declared.planned.PlannedJob.{PlannedJob}
 use Rattle.run_states.specs.Runs.{changed_at, run_at, job_at, leg_at, with_run, with_job, LegState, JobState, RunState, finished_as}
 use Rattle.run_states.specs.GroupLaw.{Transition}
-use Rattle.run_states.specs.declared.place.LegSite.{LegSite}
+use Rattle.run_states.specs.declared.sites.LegSite.{LegSite}
 use Rattle.run_states.specs.Settling.{decided, may_run, result_at, rule_at, with_leg_in, run_phases_left, run_left, remaining_phases}
 use Rattle.run_states.specs.Settling.{first_site, first_rule, leg_phases_left, leg_left, job_phases_left, job_left, legs_in_plan}
 use Rattle.run_states.specs.Runs.{leg_has_ended, is_blocked, is_done, is_open, leg_in_phase, new_leg, opened, run_in_phase}
@@ -23,7 +23,7 @@ use Rattle.run_states.specs.declared.phases.LegPhase.{LegPhase}
 use Rattle.run_states.specs.declared.phases.LegPhase.TheVariants as leg
 use Rattle.run_states.specs.declared.phases.RunPhase.{RunPhase}
 use Rattle.run_states.specs.declared.phases.RunPhase.TheVariants as run
-use Rattle.run_states.specs.declared.place.RuleSite.{RuleSite}
+use Rattle.run_states.specs.declared.sites.RuleSite.{RuleSite}
 use Rattle.run_states.proofs.JobKeeps.{JobIn, job_in, leg_in, with_job_of, with_leg_of}
 use Rattle.run_states.proofs.JobPhases.{is_blocked_blocked, is_open_open}
 use Rattle.run_states.proofs.Optional.{from_and_then}
@@ -156,7 +156,7 @@ run_goes_lower runs r x to was lower =
 run_left_by : (phase is : RunPhase) (to : ℕ) → phase ≡ is → to < run_phases_left is → to < run_phases_left phase
 run_left_by phase is to e less = subst (λ (v : RunPhase). to < run_phases_left v) (sym e) less
 
-each_lowers : (runs : List RunState) → EachRule runs (λ place m. remaining_phases m.runs < remaining_phases runs)
+each_lowers : (runs : List RunState) → EachRule runs (λ site m. remaining_phases m.runs < remaining_phases runs)
 each_lowers runs = record {
   job_opens = (λ r j y was blocked settled. opening_lowers runs r j y was blocked);
   leg_is_cancelled = (λ p z was is. leg_goes_lower runs p z (leg.Ended outcome.Cancelled) was (left_by z.phase leg.New 0 is (lit< tt)));
@@ -170,8 +170,8 @@ each_lowers runs = record {
   run_ends = (λ r x was is all. run_goes_lower runs r x run.Ended was (run_left_by x.phase run.Live 0 is (lit< tt)));
 }
 
-rule_lowers : (runs : List RunState) (m : Transition) (place : RuleSite) → rule_at runs place ≡ Some m → remaining_phases m.runs < remaining_phases runs
-rule_lowers runs m place h = by_rule runs (λ at made. remaining_phases made.runs < remaining_phases runs) (each_lowers runs) m place h
+rule_lowers : (runs : List RunState) (m : Transition) (site : RuleSite) → rule_at runs site ≡ Some m → remaining_phases m.runs < remaining_phases runs
+rule_lowers runs m site h = by_rule runs (λ at made. remaining_phases made.runs < remaining_phases runs) (each_lowers runs) m site h
 
 pub first_rule_lowers : (runs : List RunState) (m : Transition) → first_rule runs ≡ Some m → remaining_phases m.runs < remaining_phases runs
 first_rule_lowers runs m h =

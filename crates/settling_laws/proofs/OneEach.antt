@@ -9,7 +9,7 @@ use Rattle.group_name.proofs.SameGroups.{same_is_one}
 use Rattle.run_states.specs.Runs.{placed, leg_at, leg_sites, run_at, LegState, RunState}
 use Rattle.run_states.specs.Groups.{group_at, may_start, waits}
 use Rattle.run_states.specs.Groups.{HasOneBeside, HasOneEach, all_holders, holds, is_in, is_pending_in, is_in_progress_in, is_taken}
-use Rattle.run_states.specs.declared.place.LegSite.{LegSite}
+use Rattle.run_states.specs.declared.sites.LegSite.{LegSite}
 use Rattle.run_states.proofs.Found.{each_of_append, each_of_map, each_of_placed}
 use Rattle.run_states.proofs.RunFits.{RunsFit}
 use Rattle.run_states.proofs.Settles.{StayFit}

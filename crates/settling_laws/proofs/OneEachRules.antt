@@ -9,13 +9,13 @@ use Rattle.run_states.specs.Settling.{arrived, decided, may_run, result_at, rule
 use Rattle.run_states.specs.Groups.{HasOneEach, holds, leg_holds, leg_waits, may_start, run_waits, waits}
 use Rattle.run_states.specs.GroupLaw.{Transition}
 use Rattle.run_states.specs.Runs.{leg_at, run_at, with_job, with_leg, with_run, LegState, RunState, finished_as}
-use Rattle.run_states.specs.declared.place.LegSite.{LegSite}
+use Rattle.run_states.specs.declared.sites.LegSite.{LegSite}
 use Rattle.run_states.specs.Runs.{is_live, leg_in_phase, new_leg, opened, run_in_phase}
 use Rattle.run_states.specs.LegContext.{is_stopping, planned_legs}
 use Rattle.run_states.specs.declared.phases.LegPhase.{LegPhase}
 use Rattle.run_states.specs.declared.phases.LegPhase.TheVariants as leg
 use Rattle.run_states.specs.declared.phases.RunPhase.TheVariants as run
-use Rattle.run_states.specs.declared.place.RuleSite.{RuleSite}
+use Rattle.run_states.specs.declared.sites.RuleSite.{RuleSite}
 use Rattle.run_states.proofs.Changed.{at_another}
 use Rattle.run_states.proofs.JobKeeps.{leg_elsewhere, leg_in, leg_now}
 use Rattle.run_states.proofs.LeaseReads.{place_or_another}
@@ -157,10 +157,10 @@ run_starts_one_each runs r x fit was may each =
     start_keeps runs next (Run r) (groups_stay runs next fit (phase_settles runs r x run.Live fit was tt).stay)
     (record { waited = live_waits runs r; held = live_holds runs r }) may (x, was) each
 
--- ---- at each place
+-- ---- at each site
 
 each_one_each : (runs : List RunState) → RunsFit runs
-    → EachRule runs (λ place m. LivePlace runs place → HasOneEach runs → HasOneEach m.runs)
+    → EachRule runs (λ site m. LivePlace runs site → HasOneEach runs → HasOneEach m.runs)
 each_one_each runs fit =
     let settles = each_settles runs fit in record {
       job_opens = (λ r j y was blocked settled live each.
@@ -179,10 +179,10 @@ each_one_each runs fit =
           (ended_fades r runs) each);
     }
 
-pub rule_one_each : (runs : List RunState) (m : Transition) (place : RuleSite) → RunsFit runs → LivePlace runs place → rule_at runs place ≡ Some m
+pub rule_one_each : (runs : List RunState) (m : Transition) (site : RuleSite) → RunsFit runs → LivePlace runs site → rule_at runs site ≡ Some m
     → HasOneEach runs → HasOneEach m.runs
-rule_one_each runs m place fit live h each =
-    by_rule runs (λ at made. LivePlace runs at → HasOneEach runs → HasOneEach made.runs) (each_one_each runs fit) m place h live each
+rule_one_each runs m site fit live h each =
+    by_rule runs (λ at made. LivePlace runs at → HasOneEach runs → HasOneEach made.runs) (each_one_each runs fit) m site h live each
 
 -- ---- settling
 

@@ -1,18 +1,18 @@
--- A rule changes only the run of its place, unless a leg arrives.
+-- A rule changes only the run of its site, unless a leg arrives.
 use Rattle.std.specs.Prelude.{◌≡◌, ℕ, List, Some}
 use Rattle.run_states.specs.GroupLaw.{Transition}
 use Rattle.run_states.specs.Runs.{run_at, RunState, leg_in_phase, run_in_phase, finished_as}
 use Rattle.run_states.specs.Settling.{rule_at, run_of_site, IsNoArrival, decided, result_at}
 use Rattle.run_states.specs.declared.phases.LegPhase.TheVariants as leg
 use Rattle.run_states.specs.declared.phases.RunPhase.TheVariants as run
-use Rattle.run_states.specs.declared.place.RuleSite.{RuleSite}
+use Rattle.run_states.specs.declared.sites.RuleSite.{RuleSite}
 use Rattle.run_states.proofs.Changed.{at_another}
 use Rattle.run_states.proofs.JobKeeps.{with_job_of, with_leg_of}
 use Rattle.settling_laws.proofs.EachRule.{by_rule}
 
-pub own_run_alone : (runs : List RunState) (m : Transition) (place : RuleSite) (r : ℕ) → rule_at runs place ≡ Some m → IsNoArrival runs place
-    → (r ≡ run_of_site place → ⊥) → run_at m.runs r ≡ run_at runs r
-own_run_alone runs m place r =
+pub own_run_alone : (runs : List RunState) (m : Transition) (site : RuleSite) (r : ℕ) → rule_at runs site ≡ Some m → IsNoArrival runs site
+    → (r ≡ run_of_site site → ⊥) → run_at m.runs r ≡ run_at runs r
+own_run_alone runs m site r =
     by_rule runs (λ at made. IsNoArrival runs at → (r ≡ run_of_site at → ⊥) → run_at made.runs r ≡ run_at runs r)
     (record {
       job_opens = (λ i j y was blocked needs plain. at_another i (with_job_of j (decided runs i j)) runs r);
@@ -22,4 +22,4 @@ own_run_alone runs m place r =
       job_settles = (λ i j y was done plain. at_another i (with_job_of j (finished_as (result_at runs i j y))) runs r);
       run_starts = (λ i x was is may plain. at_another i (run_in_phase run.Live) runs r);
       run_ends = (λ i x was is settled plain. at_another i (run_in_phase run.Ended) runs r);
-    }) m place
+    }) m site

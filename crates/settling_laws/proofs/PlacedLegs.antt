@@ -1,4 +1,4 @@
--- The legs of a table with their places: each is the leg that stands at its place, and each leg of the table is among them.
+-- The legs of a table with their sites: each is the leg that stands at its site, and each leg of the table is among them.
 use Rattle.std.specs.Prelude.{◌≡◌, ℕ, ◌+◌, ◌<◌, ◌≤◌, List, [], ◌∷◌, ◌++◌, length, map, flat_map, Bool, Option, None, Some, option_and_then, slice_get, if◌then◌else◌, refl}
 use Rattle.std.specs.List.{AllByRecursion, enumerate_from}
 use Rattle.std.specs.Option.{option_or}
@@ -6,7 +6,7 @@ use Rattle.std.proofs.Common.{arith, ap, ap₂, ◌∙◌}
 use Rattle.std.proofs.lemmas.List.{map-append}
 use Rattle.run_states.specs.Runs.{first_some, placed, leg_at, leg_site, leg_sites_of_job, leg_sites_of_run, LegState, JobState, RunState}
 use Rattle.run_states.specs.inner.PlacedLegs.{PlacedLeg, placed_leg, placed_legs, placed_legs_of_job, placed_legs_of_run}
-use Rattle.run_states.specs.declared.place.LegSite.{LegSite}
+use Rattle.run_states.specs.declared.sites.LegSite.{LegSite}
 use Rattle.run_states.proofs.Found.{all_flat_map, all_weaken, each_of_flat_map, each_of_map, each_of_placed, placed_get}
 use Rattle.run_states.proofs.JobKeeps.{leg_in}
 
@@ -14,7 +14,7 @@ use Rattle.run_states.proofs.JobKeeps.{leg_in}
 
 -- what is given for the first of these legs that passes it
 abbrev pub first_passing : {Y : Type 0} → (LegSite → LegState → Bool) → (LegSite → Y) → List PlacedLeg → Option Y
-first_passing test give legs = first_some (λ x. if test x.place x.leg then Some (give x.place) else None) legs
+first_passing test give legs = first_some (λ x. if test x.site x.leg then Some (give x.site) else None) legs
 
 first_some-map : {X Y Z : Type 0} (f : Y → Option Z) (g : X → Y) (xs : List X) → first_some f (map g xs) ≡ first_some (λ x. f (g x)) xs
 first_some-map f g [] = refl
@@ -23,25 +23,25 @@ first_some-map f g (x ∷ xs) = ap (option_or (f (g x))) (first_some-map f g xs)
 pub first_passing_in_job : {Y : Type 0} (test : LegSite → LegState → Bool) (give : LegSite → Y) (r j : ℕ) (legs : List LegState)
     → first_passing test give (map (placed_leg r j) (placed legs))
     ≡ first_some (λ l. if test (leg_site r j l.0) l.1 then Some (give (leg_site r j l.0)) else None) (placed legs)
-first_passing_in_job test give r j legs = first_some-map (λ x. if test x.place x.leg then Some (give x.place) else None) (placed_leg r j) (placed legs)
+first_passing_in_job test give r j legs = first_some-map (λ x. if test x.site x.leg then Some (give x.site) else None) (placed_leg r j) (placed legs)
 
--- a place of one of the first legs of a job
+-- a site of one of the first legs of a job
 pub record IsInJob (r j most : ℕ) (p : LegSite) : Type 0 where
   pub run : p.run ≡ r
   pub job : p.job ≡ j
   pub leg : p.leg < most
 
 from_in_job : (r j most n : ℕ) (legs : List LegState) → n + length legs ≤ most
-    → AllByRecursion (λ (x : PlacedLeg). IsInJob r j most x.place) (map (placed_leg r j) (enumerate_from n legs))
+    → AllByRecursion (λ (x : PlacedLeg). IsInJob r j most x.site) (map (placed_leg r j) (enumerate_from n legs))
 from_in_job r j most n [] le = tt
 from_in_job r j most n (leg ∷ legs) le =
     (record { run = refl; job = refl; leg = omega (arith, le) }, from_in_job r j most (n + 1) legs (omega (arith, le)))
 
 pub all_in_job : (r j most : ℕ) (legs : List LegState) → length legs ≤ most
-    → AllByRecursion (λ (x : PlacedLeg). IsInJob r j most x.place) (map (placed_leg r j) (placed legs))
+    → AllByRecursion (λ (x : PlacedLeg). IsInJob r j most x.site) (map (placed_leg r j) (placed legs))
 all_in_job r j most legs le = from_in_job r j most 0 legs (omega (arith, le))
 
--- ---- their places are the places of all legs
+-- ---- their sites are the sites of all legs
 
 map_map : {X Y Z : Type 0} (g : Y → Z) (f : X → Y) (xs : List X) → map g (map f xs) ≡ map (λ x. g (f x)) xs
 map_map g f [] = refl
@@ -52,12 +52,12 @@ map_flat_map : {X Y Z : Type 0} (g : Y → Z) (f : X → List Y) (h : X → List
 map_flat_map g f h same [] = refl
 map_flat_map g f h same (x ∷ xs) = map-append g (f x) (flat_map f xs) ∙ ap₂ (λ ys zs. ys ++ zs) (same x) (map_flat_map g f h same xs)
 
-pub places_of_run : (r : ℕ × RunState) → map (λ (x : PlacedLeg). x.place) (placed_legs_of_run r) ≡ leg_sites_of_run r
-places_of_run r =
-    map_flat_map (λ (x : PlacedLeg). x.place) (placed_legs_of_job r.0) (leg_sites_of_job r.0)
-    (λ j. map_map (λ (x : PlacedLeg). x.place) (placed_leg r.0 j.0) (placed j.1.legs)) (placed r.1.jobs)
+pub sites_of_run : (r : ℕ × RunState) → map (λ (x : PlacedLeg). x.site) (placed_legs_of_run r) ≡ leg_sites_of_run r
+sites_of_run r =
+    map_flat_map (λ (x : PlacedLeg). x.site) (placed_legs_of_job r.0) (leg_sites_of_job r.0)
+    (λ j. map_map (λ (x : PlacedLeg). x.site) (placed_leg r.0 j.0) (placed j.1.legs)) (placed r.1.jobs)
 
--- ---- each is at its place
+-- ---- each is at its site
 
 all_mapped : {X Y : Type 0} (P : Y → Type 0) (f : X → Y) (xs : List X) → AllByRecursion (λ x. P (f x)) xs → AllByRecursion P (map f xs)
 all_mapped P f [] h = tt
@@ -88,9 +88,9 @@ leg_there runs r j run job at_run at_job l leg at =
 
 module _ (runs : List RunState) where
   abbrev IsThere : PlacedLeg → Type 0
-  IsThere x = leg_at runs x.place ≡ Some x.leg
+  IsThere x = leg_at runs x.site ≡ Some x.leg
 
-  pub each_is_there : AllByRecursion (λ (x : PlacedLeg). leg_at runs x.place ≡ Some x.leg) (placed_legs runs)
+  pub each_is_there : AllByRecursion (λ (x : PlacedLeg). leg_at runs x.site ≡ Some x.leg) (placed_legs runs)
   each_is_there =
       all_flat_map IsThere placed_legs_of_run (placed runs)
       (all_weaken (λ (r : ℕ × RunState). slice_get runs r.0 ≡ Some r.1) (λ r. AllByRecursion IsThere (placed_legs_of_run r))
@@ -100,7 +100,7 @@ module _ (runs : List RunState) where
 -- ---- a property of all of them holds of each leg of the table
 
 pub each_placed : (P : PlacedLeg → Type 0) (runs : List RunState) (p : LegSite) (z : LegState) → AllByRecursion P (placed_legs runs)
-    → leg_at runs p ≡ Some z → P (record { place = p; leg = z })
+    → leg_at runs p ≡ Some z → P (record { site = p; leg = z })
 each_placed P runs p z all e =
     let at = leg_in runs p z e in
     let of_runs = each_of_flat_map P placed_legs_of_run (placed runs) all in

@@ -10,14 +10,14 @@ use Rattle.run_states.specs.Groups.{group_at, holds, leg_holds}
 use Rattle.run_states.specs.inner.Resuming.{is_new_at, makes_room, may_invalidate_others}
 use Rattle.run_states.specs.GroupLaw.{Transition}
 use Rattle.run_states.specs.Runs.{job_at, leg_at, with_job, with_run, LegState, JobState, RunState}
-use Rattle.run_states.specs.declared.place.LegSite.{LegSite}
+use Rattle.run_states.specs.declared.sites.LegSite.{LegSite}
 use Rattle.run_states.specs.Runs.{is_blocked, is_live, is_new, leg_in_phase, run_in_phase, finished_as}
 use Rattle.run_states.specs.LegContext.{planned_legs}
 use Rattle.run_states.specs.declared.phases.LegPhase.{LegPhase}
 use Rattle.run_states.specs.declared.phases.LegPhase.TheVariants as leg
 use Rattle.run_states.specs.declared.phases.RunPhase.TheVariants as run
-use Rattle.run_states.specs.declared.place.RuleSite.{RuleSite}
-use Rattle.run_states.specs.declared.place.RuleSite.TheVariants.{Opening, AtLeg, Closing, Whole}
+use Rattle.run_states.specs.declared.sites.RuleSite.{RuleSite}
+use Rattle.run_states.specs.declared.sites.RuleSite.TheVariants.{Opening, AtLeg, Closing, Whole}
 use Rattle.run_states.proofs.Changed.{at_another}
 use Rattle.run_states.proofs.JobKeeps.{job_in, with_leg_of}
 use Rattle.run_states.proofs.JobPhases.{is_blocked_blocked, no_legs}
@@ -34,7 +34,7 @@ use Rattle.settling_laws.proofs.RuleKeeps.{newcomer_waits, rule_settles}
 use Rattle.run_states.specs.declared.holder.Holder.{Holder}
 use Rattle.run_states.specs.declared.holder.Holder.TheVariants.{Run, Leg}
 
--- the place is in job `j` of run `r`
+-- the site is in job `j` of run `r`
 abbrev pub IsAt : ℕ → ℕ → RuleSite → Type 0
 IsAt r j (Opening s k) = (s ≡ r) × (k ≡ j)
 IsAt r j (AtLeg p) = (p.run ≡ r) × (p.job ≡ j)
@@ -74,7 +74,7 @@ ChangesThere runs next (AtLeg p) = ChangesJob runs next p.run p.job
 ChangesThere runs next (Closing r j) = ChangesJob runs next r j
 ChangesThere runs next (Whole r) = ChangesRun runs next r
 
-each_changes : (runs : List RunState) → RunsFit runs → EachRule runs (λ place m. may_invalidate_others runs place ≡ false → ChangesThere runs m.runs place)
+each_changes : (runs : List RunState) → RunsFit runs → EachRule runs (λ site m. may_invalidate_others runs site ≡ false → ChangesThere runs m.runs site)
 each_changes runs fit = record {
   job_opens = (λ r j y was blocked settled quiet. record { change = decided runs r j; is = refl });
   leg_is_cancelled = (λ p z was is quiet.
@@ -155,7 +155,7 @@ leg_goes_still : (runs : List RunState) (p : LegSite) (z : LegState) (to : LegPh
     → StillHold runs (with_leg_in to p runs)
 leg_goes_still runs p z to was held_not h g of e = leg_still_holds runs p z (leg_in_phase to) was held_not h e
 
-each_still_holds : (runs : List RunState) → RunsFit runs → EachRule runs (λ place m. may_invalidate_others runs place ≡ false → StillHold runs m.runs)
+each_still_holds : (runs : List RunState) → RunsFit runs → EachRule runs (λ site m. may_invalidate_others runs site ≡ false → StillHold runs m.runs)
 each_still_holds runs fit = record {
   job_opens = (λ r j y was blocked settled quiet h g of e. opening_holds runs r j y (decided runs r j) fit was blocked h e);
   leg_is_cancelled = (λ p z was is quiet. leg_goes_still runs p z (leg.Ended outcome.Cancelled) was (ap leg_holds is));

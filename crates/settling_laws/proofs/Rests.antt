@@ -70,7 +70,7 @@ rests_within (suc n) runs h =
 pub settled_rests : (runs : List RunState) → first_rule (settled runs) ≡ None
 settled_rests runs = rests_within (remaining_phases runs) runs (omega arith)
 
--- ---- at no place
+-- ---- at no site
 
 some_rule : (b : Bool) → b ≡ true → (X : Type 0) (o : Option X) → is_some o ≡ b → o ≡ None → ⊥
 some_rule b e X None is none = cc
@@ -80,8 +80,8 @@ pub no_place : (runs : List RunState) → first_rule runs ≡ None → first_sit
 no_place runs h =
     elim (first_site runs) as (λ o. first_site runs ≡ o → o ≡ None) [
       | None ↦ λ is. refl
-      | Some place ↦ λ is.
-          absurd (some_rule (applies runs place) (first_place_applies runs place is) Transition (rule_at runs place) refl
+      | Some site ↦ λ is.
+          absurd (some_rule (applies runs site) (first_place_applies runs site is) Transition (rule_at runs site) refl
           (sym (ap (option_and_then (rule_at runs)) is) ∙ h))
     ] refl
 

@@ -1,4 +1,4 @@
--- After the rule at the first place where one applies, no rule applies before the place where settling resumes.
+-- After the rule at the first site where one applies, no rule applies before the site where settling resumes.
 use Rattle.std.specs.Prelude.{◌≡◌, ◌⊎◌, ℕ, zero, suc, ◌+◌, ◌<◌, ◌≤◌, ◌&&◌, min, List, [], ◌∷◌, Bool, true, false, length, nat_eq}
 use Rattle.std.specs.Prelude.{is_some}
 use Rattle.std.specs.Prelude.{Option, Some, None, IfSome, option_map, option_and_then, slice_get, filter, if◌then◌else◌, refl}
@@ -25,8 +25,8 @@ use Rattle.run_states.specs.declared.phases.LegPhase.{LegPhase}
 use Rattle.run_states.specs.declared.phases.LegPhase.TheVariants as leg
 use Rattle.run_states.specs.declared.phases.RunPhase.{RunPhase}
 use Rattle.run_states.specs.declared.phases.RunPhase.TheVariants as run
-use Rattle.run_states.specs.declared.place.RuleSite.{RuleSite}
-use Rattle.run_states.specs.declared.place.RuleSite.TheVariants.{Opening, AtLeg, Closing, Whole}
+use Rattle.run_states.specs.declared.sites.RuleSite.{RuleSite}
+use Rattle.run_states.specs.declared.sites.RuleSite.TheVariants.{Opening, AtLeg, Closing, Whole}
 use Rattle.run_states.proofs.Changed.{at_another, at_changed}
 use Rattle.run_states.proofs.Found.{all_weaken, placed_get}
 use Rattle.run_states.proofs.NeedsSettled.{result_among}
@@ -39,7 +39,7 @@ use Rattle.settling_laws.proofs.QuietRules.{IsAt, quiet_at_job, quiet_in_run, qu
 use Rattle.settling_laws.proofs.Walks.{first_place_by_run}
 use Rattle.run_states.specs.declared.holder.Holder.TheVariants.{Run, Leg}
 
--- ---- the run and the job of the first place
+-- ---- the run and the job of the first site
 
 at_end : (r j : ℕ) (done : Bool) (p : RuleSite) → (if done then Some (Closing r j) else None) ≡ Some p → IsAt r j p
 at_end r j true p e = let is : Closing r j ≡ p = cc in subst (IsAt r j) is (refl, refl)
@@ -71,7 +71,7 @@ first_is_at : (runs : List RunState) (r : ℕ) (x : RunState) (j : ℕ) (y : Job
 first_is_at runs r x j y p e =
     at_the_job r j (is_blocked y.phase && needs_finished_in x j) (first_of_open runs r j y) p (open_is_at runs r j y p) e
 
--- the first place, if it is in a job or is the run itself
+-- the first site, if it is in a job or is the run itself
 record FoundInJob (runs : List RunState) (r : ℕ) (x : RunState) (p : RuleSite) : Type 0 where
   job : ℕ
   is_at : IsAt r job p
@@ -126,8 +126,8 @@ abbrev SameBut : ℕ → List (Option JobResult) → List (Option JobResult) →
 SameBut j news olds = (i : ℕ) → (i ≡ j → ⊥) → slice_index_or news i None ≡ slice_index_or olds i None
 
 -- a job that does not need it
-had_all : (j : ℕ) (news olds : List (Option JobResult)) → SameBut j news olds → (places : List ℕ) → list_any (nat_eq j) places ≡ false
-    → all_have_results news places ≡ true → all_have_results olds places ≡ true
+had_all : (j : ℕ) (news olds : List (Option JobResult)) → SameBut j news olds → (indexes : List ℕ) → list_any (nat_eq j) indexes ≡ false
+    → all_have_results news indexes ≡ true → all_have_results olds indexes ≡ true
 had_all j news olds same [] apart have = refl
 had_all j news olds same (p ∷ ps) apart have =
     let not_it = or_parts (nat_eq j p) (list_any (nat_eq j) ps) apart in
@@ -141,7 +141,7 @@ no_result news j p e none some = let is : true ≡ false = sym some ∙ ap (λ i
 
 -- or it has no result
 had_without : (j : ℕ) (news olds : List (Option JobResult)) → SameBut j news olds → is_some (slice_index_or news j None) ≡ false
-    → (places : List ℕ) → all_have_results news places ≡ true → all_have_results olds places ≡ true
+    → (indexes : List ℕ) → all_have_results news indexes ≡ true → all_have_results olds indexes ≡ true
 had_without j news olds same none [] have = refl
 had_without j news olds same none (p ∷ ps) have =
     let had = and_parts (is_some (slice_index_or news p None)) (all_have_results news ps) have in
@@ -183,7 +183,7 @@ before_first : (j k : ℕ) (first : Option ℕ) → k < option_map_or (min j) fi
 before_first j k None lt = (lt, tt)
 before_first j k (Some d) lt = (omega (arith, lt), omega (arith, lt))
 
--- ---- in the run of the place
+-- ---- in the run of the site
 
 module _ (x : RunState) (j : ℕ) (change : JobState → JobState) where
   same_results : SameBut j (results_so_far (changed_at j change x.jobs)) (results_so_far x.jobs)
@@ -298,7 +298,7 @@ module _ (runs next : List RunState) (keeps : KeepsBack runs next) where
   keeps_in : (r : ℕ) → KeepsBackIn runs next r
   keeps_in r h of_run waiting e = keeps h (one_that_waits runs h waiting) e
 
-  -- the runs before the place's own run are unchanged
+  -- the runs before the site's own run are unchanged
   pub runs_rest : (r : ℕ) → ((k : ℕ) → k < r → run_at next k ≡ run_at runs k) → NoneBefore (first_in_run runs) runs r
       → NoneBefore (first_in_run next) next r
   runs_rest r same before k lt =
@@ -385,7 +385,7 @@ module _ (runs : List RunState) (m : Transition) (p : RuleSite) (fit : RunsFit r
         | inr whole ↦ after_whole at.run whole at.before
       ]
 
--- nothing is before the first place of a table
+-- nothing is before the first site of a table
 pub rest_before_all : (runs : List RunState) → RestBefore runs (record { run = 0; job = 0 })
 rest_before_all runs = (λ k lt. absurd (omega (arith, lt)), λ run at live k lt. absurd (omega (arith, lt)))
 

@@ -1,4 +1,4 @@
--- The rule at each place keeps what each run satisfies on its own, and the leases.
+-- The rule at each site keeps what each run satisfies on its own, and the leases.
 use Rattle.std.specs.Prelude.{◌≡◌, ℕ, zero, suc, List, [], replicate, Bool, true, false, Option, Some, None, option_and_then}
 use Rattle.std.specs.Prelude.{slice_get, is_some, if◌then◌else◌, refl}
 use Rattle.std.specs.List.{list_all}
@@ -12,7 +12,7 @@ use Rattle.run_states.specs.Settling.{arrived, decided, may_run, result_at, rule
 use Rattle.run_states.specs.Runs.{changed_at, run_at, job_at, leg_at, with_run, with_job, LegState, JobState, RunState, run_in_phase}
 use Rattle.run_states.specs.GroupLaw.{Transition}
 use Rattle.run_states.specs.Fitting.{is_at_work}
-use Rattle.run_states.specs.declared.place.LegSite.{LegSite}
+use Rattle.run_states.specs.declared.sites.LegSite.{LegSite}
 use Rattle.run_states.specs.Sound.{PhaseFits, MayLackLegs, LeaseFits}
 use Rattle.run_states.specs.Runs.{leg_has_ended, is_done, is_open, is_finished, leg_in_phase, new_leg, opened, outcome_of, finished_as}
 use Rattle.run_states.specs.LegContext.{needs_have_finished, is_stopping, planned_legs, finished_result}
@@ -22,8 +22,8 @@ use Rattle.run_states.specs.declared.phases.LegPhase.{LegPhase}
 use Rattle.run_states.specs.declared.phases.LegPhase.TheVariants as leg
 use Rattle.run_states.specs.declared.phases.RunPhase.{RunPhase}
 use Rattle.run_states.specs.declared.phases.RunPhase.TheVariants as run
-use Rattle.run_states.specs.declared.place.RuleSite.{RuleSite}
-use Rattle.run_states.specs.declared.place.RuleSite.TheVariants.{Opening}
+use Rattle.run_states.specs.declared.sites.RuleSite.{RuleSite}
+use Rattle.run_states.specs.declared.sites.RuleSite.TheVariants.{Opening}
 use Rattle.run_states.proofs.JobKeeps.{job_in, leg_in, live_fits, open_is_live, job_keeps, leg_settles}
 use Rattle.run_states.proofs.JobPhases.{all_legs, is_blocked_blocked, is_open_open, no_legs}
 use Rattle.run_states.proofs.LegReads.{work_of}
@@ -186,9 +186,9 @@ phase_settles runs r x to fit was phase_fits =
       same_works = (λ j l. refl);
     })
 
--- ---- at each place
+-- ---- at each site
 
-pub each_settles : (runs : List RunState) → RunsFit runs → EachRule runs (λ place m. LivePlace runs place → Settles runs m.runs)
+pub each_settles : (runs : List RunState) → RunsFit runs → EachRule runs (λ site m. LivePlace runs site → Settles runs m.runs)
 each_settles runs fit = record {
   job_opens = (λ r j y was blocked settled live. opening_settles runs r j y fit live was (is_blocked_blocked y.phase blocked) settled);
   leg_is_cancelled = (λ p z was is live. leg_goes runs p z (leg.Ended outcome.Cancelled) fit was (new_ends z.phase z.lease is));
@@ -203,7 +203,7 @@ each_settles runs fit = record {
   run_ends = (λ r x was is all live. phase_settles runs r x run.Ended fit was (λ j y at. each_passes is_finished x.jobs j y all at));
 }
 
-pub rule_settles : (runs : List RunState) (m : Transition) (place : RuleSite) → RunsFit runs → LivePlace runs place → rule_at runs place ≡ Some m
+pub rule_settles : (runs : List RunState) (m : Transition) (site : RuleSite) → RunsFit runs → LivePlace runs site → rule_at runs site ≡ Some m
     → Settles runs m.runs
-rule_settles runs m place fit live h =
-    by_rule runs (λ at made. LivePlace runs at → Settles runs made.runs) (each_settles runs fit) m place h live
+rule_settles runs m site fit live h =
+    by_rule runs (λ at made. LivePlace runs at → Settles runs made.runs) (each_settles runs fit) m site h live

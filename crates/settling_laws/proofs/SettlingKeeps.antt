@@ -4,7 +4,7 @@ use Rattle.std.specs.Option.{option_map_or}
 use Rattle.run_states.specs.GroupLaw.{Transition, and_then, without_moves}
 use Rattle.run_states.specs.Settling.{rule_at, first_site, first_rule, remaining_phases, settled_within, settled}
 use Rattle.run_states.specs.Runs.{RunState}
-use Rattle.run_states.specs.declared.place.RuleSite.{RuleSite}
+use Rattle.run_states.specs.declared.sites.RuleSite.{RuleSite}
 use Rattle.run_states.proofs.Optional.{from_and_then}
 use Rattle.run_states.proofs.RunFits.{RunsFit}
 use Rattle.run_states.proofs.Settles.{Settles, settles_nothing, settles_on}
@@ -34,7 +34,7 @@ settling_settles runs fit = settles_within (remaining_phases runs) runs fit
 
 -- A rule that applies at a live place preserves the property.
 abbrev pub RulesKeep : (List RunState → Type 0) → Type 0
-RulesKeep Keeps = (runs : List RunState) (m : Transition) (place : RuleSite) → RunsFit runs → LivePlace runs place → rule_at runs place ≡ Some m
+RulesKeep Keeps = (runs : List RunState) (m : Transition) (site : RuleSite) → RunsFit runs → LivePlace runs site → rule_at runs site ≡ Some m
     → Keeps runs → Keeps m.runs
 
 pub first_rule_keeps : (Keeps : List RunState → Type 0) → RulesKeep Keeps → (runs : List RunState) (m : Transition) → RunsFit runs

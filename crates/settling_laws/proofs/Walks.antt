@@ -1,4 +1,4 @@
--- The first place of a table where a rule applies, found run by run and job by job.
+-- The first site of a table where a rule applies, found run by run and job by job.
 use Rattle.std.specs.Prelude.{◌≡◌, ℕ, ◌&&◌, List, [], ◌∷◌, ◌++◌, map, flat_map, find, Bool, true, false, is_some, Some, None}
 use Rattle.std.specs.Prelude.{option_and_then, slice_get, if◌then◌else◌, refl}
 use Rattle.std.specs.List.{list_all}
@@ -7,7 +7,7 @@ use Rattle.std.proofs.Common.{ap, ◌∙◌}
 use Rattle.std.proofs.lemmas.List.Folds.{find-append}
 use Rattle.run_states.specs.Runs.{first_some, placed, job_at, leg_at, LegState, JobState, RunState}
 use Rattle.run_states.specs.Groups.{may_start}
-use Rattle.run_states.specs.declared.place.LegSite.{LegSite}
+use Rattle.run_states.specs.declared.sites.LegSite.{LegSite}
 use Rattle.run_states.specs.Settling.{job_sites, run_sites, opening_rule, leg_rule, leg_rule_in, closing_rule, whole_rule, whole_rule_in}
 use Rattle.run_states.specs.Settling.{applies, first_site}
 use Rattle.run_states.specs.Runs.{is_live, is_blocked, is_done, is_finished}
@@ -20,12 +20,12 @@ use Rattle.run_states.specs.declared.phases.LegPhase.{LegPhase}
 use Rattle.run_states.specs.declared.phases.LegPhase.TheVariants as leg
 use Rattle.run_states.specs.declared.phases.RunPhase.{RunPhase}
 use Rattle.run_states.specs.declared.phases.RunPhase.TheVariants as run
-use Rattle.run_states.specs.declared.place.RuleSite.TheVariants.{Opening, AtLeg, Closing, Whole}
+use Rattle.run_states.specs.declared.sites.RuleSite.TheVariants.{Opening, AtLeg, Closing, Whole}
 use Rattle.run_states.proofs.NeedsSettled.{needs_by_run}
 use Rattle.settling_laws.proofs.Firsts.{find-flat_map, find-map, first_same_placed}
 use Rattle.run_states.specs.declared.holder.Holder.TheVariants.{Run, Leg}
 
--- ---- whether the rule at a place applies, from the element there
+-- ---- whether the rule at a site applies, from the element there
 
 some_if : {X : Type 0} (b : Bool) (x : X) → is_some (if b then Some x else None) ≡ b
 some_if true x = refl
@@ -115,7 +115,7 @@ in_run runs r run at =
 
 -- ---- in the whole table
 
--- the first place where a rule applies is that of the first run that has one
+-- the first site where a rule applies is that of the first run that has one
 pub first_place_by_run : (runs : List RunState) → first_site runs ≡ first_some (λ r. first_in_run runs r.0 r.1) (placed runs)
 first_place_by_run runs =
     find-flat_map (applies runs) run_sites (placed runs)

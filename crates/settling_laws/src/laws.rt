@@ -4,7 +4,7 @@ ghost use Rattle.std.specs.Prelude.{◌≡◌, ◌<◌, ℕ, List, Some, None};
 ghost use Rattle.run_states.specs.GroupLaw.{Transition, and_then};
 ghost use Rattle.run_states.specs.Runs.{run_at, RunState};
 ghost use Rattle.run_states.specs.Settling.{IsNoArrival, rule_at, run_of_site, first_site, first_rule, remaining_phases, settled, settling};
-ghost use Rattle.run_states.specs.declared.place.RuleSite.{RuleSite};
+ghost use Rattle.run_states.specs.declared.sites.RuleSite.{RuleSite};
 
 /// Settling terminates: each rule lowers the number of phases that the runs still have to pass.
 /// Promise (Laws of the definitions): Settling ends, at a fixpoint, which does not depend on a rule that is applied first. A rule changes no run
@@ -24,9 +24,9 @@ pub fn rules_lead_to_one_end()
     ensures { (runs : List RunState) (next : Transition) → first_rule runs ≡ Some next → settling runs ≡ and_then next settling }
 {}
 
-/// The rule at a place changes only the run of the place, unless a leg arrives there. An arrival may end and stop holders of its group in
+/// The rule at a site changes only the run of the site, unless a leg arrives there. An arrival may end and stop holders of its group in
 /// other runs.
 pub fn rules_touch_one_run()
-    ensures { (runs : List RunState) (next : Transition) (place : RuleSite) (r : ℕ) → rule_at runs place ≡ Some next
-        → IsNoArrival runs place → (r ≡ run_of_site place → ⊥) → run_at next.runs r ≡ run_at runs r }
+    ensures { (runs : List RunState) (next : Transition) (site : RuleSite) (r : ℕ) → rule_at runs site ≡ Some next
+        → IsNoArrival runs site → (r ≡ run_of_site site → ⊥) → run_at next.runs r ≡ run_at runs r }
 {}

@@ -7,7 +7,7 @@ use Rattle.stored_tables.specs.inner.ByLease.{lease_in_job, lease_of_leg, lease_
 use Rattle.stored_tables.specs.inner.ByNumber.{Adds}
 use Rattle.run_states.specs.inner.PlacedLegs.{PlacedLeg, placed_legs}
 use Rattle.run_states.specs.Runs.{job_at, leg_at, run_at, LegState, JobState, RunState}
-use Rattle.run_states.specs.declared.place.LegSite.{LegSite}
+use Rattle.run_states.specs.declared.sites.LegSite.{LegSite}
 use Rattle.run_states.specs.TableState.{RunnerState}
 use Rattle.stored_tables.proofs.ByNumberRead.{adds_next, adds_on, adds_same, all_added, nothing_added}
 use Rattle.run_states.proofs.Found.{all_weaken}
@@ -17,7 +17,7 @@ use Rattle.settling_laws.proofs.PlacedLegs.{each_is_there, each_placed}
 -- one of these legs is at the place and has the lease
 abbrev pub HasLease : List PlacedLeg → LegSite → ℕ → Type 0
 HasLease [] p n = ⊥
-HasLease (x ∷ xs) p n = ((p ≡ x.place) × (x.leg.lease ≡ Some n)) ⊎ HasLease xs p n
+HasLease (x ∷ xs) p n = ((p ≡ x.site) × (x.leg.lease ≡ Some n)) ⊎ HasLease xs p n
 
 -- what was inserted so far
 abbrev pub SoFarOfRunners : List RunnerState → ℕ → ℕ → ℕ → Type 0
@@ -25,12 +25,12 @@ SoFarOfRunners runners i k n = (lease_of_runner runners k ≡ Some n) × (k < i)
 
 -- ---- one leg after another
 
-pub leg_put : (place : LegSite) (x : LegState) (rest left : List PlacedLeg) (a b c : ℕ → Option LegSite)
-    → left ≡ record { place = place; leg = x } ∷ rest → Adds a b (λ p n. (p ≡ place) × (x.lease ≡ Some n)) → Adds b c (HasLease rest)
+pub leg_put : (site : LegSite) (x : LegState) (rest left : List PlacedLeg) (a b c : ℕ → Option LegSite)
+    → left ≡ record { site = site; leg = x } ∷ rest → Adds a b (λ p n. (p ≡ site) × (x.lease ≡ Some n)) → Adds b c (HasLease rest)
     → Adds a c (HasLease left)
-leg_put place x rest left a b c is one more =
+leg_put site x rest left a b c is one more =
     subst (λ xs. Adds a c (HasLease xs)) (sym is)
-    (adds_on a b c (λ p n. (p ≡ place) × (x.lease ≡ Some n)) (HasLease rest) (HasLease (record { place = place; leg = x } ∷ rest)) one more
+    (adds_on a b c (λ p n. (p ≡ site) × (x.lease ≡ Some n)) (HasLease rest) (HasLease (record { site = site; leg = x } ∷ rest)) one more
     (λ p n h. inl h) (λ p n h. inr h) (λ p n h. h))
 
 pub none_left : (left : List PlacedLeg) (a : ℕ → Option LegSite) → left ≡ [] → Adds a a (HasLease left)
@@ -49,18 +49,18 @@ lease_is runs p =
     ∙ then_then (λ (job : JobState). lease_in_job job.legs p.leg) (λ (run : RunState). slice_get run.jobs p.job) (run_at runs p.run)
 
 has_lease : (runs : List RunState) (xs : List PlacedLeg) (p : LegSite) (n : ℕ)
-    → AllByRecursion (λ (x : PlacedLeg). leg_at runs x.place ≡ Some x.leg) xs → HasLease xs p n → lease_of_leg runs p ≡ Some n
+    → AllByRecursion (λ (x : PlacedLeg). leg_at runs x.site ≡ Some x.leg) xs → HasLease xs p n → lease_of_leg runs p ≡ Some n
 has_lease runs [] p n all h = absurd h
 has_lease runs (x ∷ xs) p n all (inl h) =
     sym (lease_is runs p) ∙ ap (option_and_then (λ (y : LegState). y.lease)) (ap (leg_at runs) h.0 ∙ all.0) ∙ h.1
 has_lease runs (x ∷ xs) p n all (inr h) = has_lease runs xs p n all.1 h
 
-among : (xs : List PlacedLeg) → AllByRecursion (λ (x : PlacedLeg). (n : ℕ) → x.leg.lease ≡ Some n → HasLease xs x.place n) xs
+among : (xs : List PlacedLeg) → AllByRecursion (λ (x : PlacedLeg). (n : ℕ) → x.leg.lease ≡ Some n → HasLease xs x.site n) xs
 among [] = tt
 among (x ∷ xs) = (
   (λ n e. inl (refl, e)),
-  all_weaken (λ (y : PlacedLeg). (n : ℕ) → y.leg.lease ≡ Some n → HasLease xs y.place n)
-      (λ y. (n : ℕ) → y.leg.lease ≡ Some n → HasLease (x ∷ xs) y.place n) (λ y h n e. inr (h n e)) xs (among xs),
+  all_weaken (λ (y : PlacedLeg). (n : ℕ) → y.leg.lease ≡ Some n → HasLease xs y.site n)
+      (λ y. (n : ℕ) → y.leg.lease ≡ Some n → HasLease (x ∷ xs) y.site n) (λ y h n e. inr (h n e)) xs (among xs),
 )
 
 pub all_put : (runs : List RunState) (left : List PlacedLeg) (a b : ℕ → Option LegSite) → left ≡ []
@@ -71,7 +71,7 @@ all_put runs left a b is adds =
     (λ p n h. has_lease runs (placed_legs runs) p n (each_is_there runs) h)
     (λ p n e.
     let leg = from_and_then (λ (x : LegState). x.lease) (leg_at runs p) n (lease_is runs p ∙ e) in
-    each_placed (λ (x : PlacedLeg). (m : ℕ) → x.leg.lease ≡ Some m → HasLease (placed_legs runs) x.place m) runs p leg.value
+    each_placed (λ (x : PlacedLeg). (m : ℕ) → x.leg.lease ≡ Some m → HasLease (placed_legs runs) x.site m) runs p leg.value
     (among (placed_legs runs)) leg.is n leg.gives)
 
 -- ---- one runner

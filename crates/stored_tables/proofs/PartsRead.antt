@@ -18,7 +18,7 @@ use Rattle.stored_tables.specs.inner.ByNumber.{Finds}
 use Rattle.run_states.specs.AsPlanned.{AreAsPlanned, HasRoom}
 use Rattle.run_states.specs.Fitting.{has_lease}
 use Rattle.run_states.specs.Runs.{leg_at, plan_at, run_at, LegState, RunState}
-use Rattle.run_states.specs.declared.place.LegSite.{LegSite}
+use Rattle.run_states.specs.declared.sites.LegSite.{LegSite}
 use Rattle.run_states.specs.Sound.{IsOfALeg, KeptIsOfALeg, KeptLeasesAreOfLegs}
 use Rattle.run_states.specs.Step.{kept_lease, lease_at}
 use Rattle.stored_tables.specs.Stored.{RunnerParts, site_in_runs, stored_site}

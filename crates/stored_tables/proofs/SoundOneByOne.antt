@@ -9,7 +9,7 @@ use Rattle.run_states.specs.Groups.{HasOneEach}
 use Rattle.stored_tables.specs.inner.OneByOne.{EachLegIsSound, EachRunIsSound, EachRunnerIsSound, HoldsWork, IsFound, is_worked_on, leg_of, runner_of}
 use Rattle.run_states.specs.Fitting.{is_at_work}
 use Rattle.run_states.specs.Runs.{leg_at, LegState, RunState}
-use Rattle.run_states.specs.declared.place.LegSite.{LegSite}
+use Rattle.run_states.specs.declared.sites.LegSite.{LegSite}
 use Rattle.run_states.specs.Settling.{first_site}
 use Rattle.run_states.specs.Sound.{DeliveriesDiffer, IsAtWork, IsHeld, IsSound, KeptLeasesAreOfLegs}
 use Rattle.run_states.specs.AsPlanned.{AreAsPlanned}

@@ -16,7 +16,7 @@ use Rattle.run_plan.specs.declared.last_command.LastCommand.TheVariants as last
 use Rattle.run_plan.specs.declared.planned.PlannedJob.{PlannedJob}
 use Rattle.run_plan.specs.declared.reply.Lease.{Lease}
 use Rattle.run_states.specs.Runs.{leg_at, plan_at, run_at, LegState, RunState}
-use Rattle.run_states.specs.declared.place.LegSite.{LegSite}
+use Rattle.run_states.specs.declared.sites.LegSite.{LegSite}
 use Rattle.run_states.specs.Sound.{IsOfALeg, IsSound, LeasesDiffer, LegsFit}
 use Rattle.run_states.specs.Step.{lease_at}
 use Rattle.stored_tables.specs.Stored.{RunnerParts, TableParts, stored_site}

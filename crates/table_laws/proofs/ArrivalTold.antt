@@ -6,7 +6,7 @@ use Rattle.std.proofs.Common.{ap, inl, inr, sym, ◌∙◌, subst}
 use Rattle.wf_value.specs.declared.outcome.Outcome.TheVariants.{Cancelled}
 use Rattle.run_states.specs.Runs.{changed_at, leg_at, run_at, with_leg, LegState, RunState}
 use Rattle.run_states.specs.GroupLaw.{Move, Transition, and_then, at_each, without_moves, BeginsWith}
-use Rattle.run_states.specs.declared.place.LegSite.{LegSite}
+use Rattle.run_states.specs.declared.sites.LegSite.{LegSite}
 use Rattle.run_states.specs.Stops.{displace, jobs_stop_moves, leg_stop_moves, run_stop_moves_in, stop_holder, stop_request_moves}
 use Rattle.run_states.specs.Stops.{stopped, stopped_in, stopped_run}
 use Rattle.run_states.specs.declared.phases.LegPhase.{LegPhase}

@@ -7,7 +7,7 @@ use Rattle.std.proofs.Common.{ap, inl, inr, sym, ◌∙◌, subst}
 use Rattle.std.proofs.lemmas.Bool.{cases_eq}
 use Rattle.run_states.specs.GroupLaw.{holder_of, same_holder, Move}
 use Rattle.run_states.specs.Runs.{job_at, leg_at, leg_site, run_at, with_job, with_leg, with_run, LegState, JobState, RunState, new_leg}
-use Rattle.run_states.specs.declared.place.LegSite.{LegSite}
+use Rattle.run_states.specs.declared.sites.LegSite.{LegSite}
 use Rattle.run_states.specs.Stops.{leg_stop_moves, legs_stop_moves, stop_holder, stopped, with_stopped_legs}
 use Rattle.run_states.proofs.Changed.{at_another, at_changed}
 use Rattle.run_states.proofs.JobKeeps.{with_job_of, with_leg_of}

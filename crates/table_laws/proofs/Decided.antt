@@ -12,7 +12,7 @@ use Rattle.wf_value.specs.declared.outcome.JobResult.TheVariants as result
 use Rattle.needs_graph.specs.Needs.{ancestors_of, condition_value, results_at}
 use Rattle.run_plan.specs.declared.planned.PlannedJob.{PlannedJob}
 use Rattle.run_states.specs.Runs.{changed_at, run_at, job_at, with_job, with_leg, LegState, JobState, RunState}
-use Rattle.run_states.specs.declared.place.LegSite.{LegSite}
+use Rattle.run_states.specs.declared.sites.LegSite.{LegSite}
 use Rattle.run_states.specs.LegContext.{ancestor_results, condition_of, job_results, needs_graph_at, needs_have_finished, finished_result}
 use Rattle.run_states.specs.declared.phases.JobPhase.{JobPhase}
 use Rattle.run_states.specs.declared.phases.JobPhase.TheVariants as job

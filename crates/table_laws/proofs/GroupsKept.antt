@@ -11,7 +11,7 @@ use Rattle.run_states.specs.Groups.{cancels_in_progress, group_at, leg_cancels, 
 use Rattle.run_states.specs.Holders.{run_of}
 use Rattle.run_states.specs.LegContext.{facts_at, events}
 use Rattle.run_states.specs.Runs.{new_run, leg_at, run_at, LegState, RunState}
-use Rattle.run_states.specs.declared.place.LegSite.{LegSite}
+use Rattle.run_states.specs.declared.sites.LegSite.{LegSite}
 use Rattle.run_states.proofs.Found.{at_the_end, before_the_end}
 use Rattle.run_states.proofs.JobKeeps.{leg_in}
 use Rattle.run_states.proofs.LegFacts.{SameUpTo, attempt_at, facts_stay}

@@ -10,7 +10,7 @@ use Rattle.run_states.specs.Fitting.{is_stopping_leg}
 use Rattle.run_states.specs.GroupLaw.{has_arrived, has_ended, has_started, is_pending, is_in_progress, was_stopped, Move}
 use Rattle.run_states.specs.Groups.{holds, is_stop_requested, leg_holds, leg_waits, run_waits, waits}
 use Rattle.run_states.specs.Runs.{job_at, leg_at, run_at, LegState, JobState, RunState, is_live}
-use Rattle.run_states.specs.declared.place.LegSite.{LegSite}
+use Rattle.run_states.specs.declared.sites.LegSite.{LegSite}
 use Rattle.run_states.specs.declared.phases.LegPhase.{LegPhase}
 use Rattle.run_states.specs.declared.phases.LegPhase.TheVariants as leg
 use Rattle.run_states.specs.declared.phases.RunPhase.{RunPhase}

@@ -14,7 +14,7 @@ use Rattle.run_states.specs.Fitting.{first_fit}
 use Rattle.run_states.specs.Step.{after, admission_answer, admitting, cancel_answer, cancelling, claim_answer, claimed, claiming, entered}
 use Rattle.run_states.specs.TableState.{Step, TableState, runner_named}
 use Rattle.run_states.specs.Runs.{with_leg, with_run, again, leased_leg, LegState, RunState}
-use Rattle.run_states.specs.declared.place.LegSite.{LegSite}
+use Rattle.run_states.specs.declared.sites.LegSite.{LegSite}
 use Rattle.run_states.specs.Settling.{settled}
 use Rattle.run_states.specs.Sound.{IsSound}
 use Rattle.run_states.specs.Step.{leasing, losing, lost, refused, released, report_answer, reporting, serving_nothing}

@@ -9,7 +9,7 @@ use Rattle.group_name.specs.Group.{Group}
 use Rattle.run_plan.specs.declared.command.Command.{Command}
 use Rattle.run_states.specs.GroupLaw.{has_arrived, has_started, next_displaced, Move}
 use Rattle.run_states.specs.Runs.{leg_at, run_at, LegState, RunState}
-use Rattle.run_states.specs.declared.place.LegSite.{LegSite}
+use Rattle.run_states.specs.declared.sites.LegSite.{LegSite}
 use Rattle.run_states.proofs.JobKeeps.{leg_in, no_leg}
 use Rattle.run_states.proofs.LegReads.{had_at, had_from_leg, leg_from_had}
 use Rattle.run_states.specs.Step.{after, stepped}

@@ -8,7 +8,7 @@ use Rattle.std.proofs.lemmas.Bool.{or_right}
 use Rattle.wf_value.specs.declared.outcome.Outcome.TheVariants.{Cancelled}
 use Rattle.run_states.specs.Runs.{placed, job_at, leg_at, leg_site, run_at, LegState, JobState, RunState, is_open}
 use Rattle.run_states.specs.GroupLaw.{arrival_of, was_stopped, Move}
-use Rattle.run_states.specs.declared.place.LegSite.{LegSite}
+use Rattle.run_states.specs.declared.sites.LegSite.{LegSite}
 use Rattle.run_states.specs.LegContext.{may_run_in}
 use Rattle.run_states.specs.Stops.{jobs_stop_moves, leg_stop_moves, legs_stop_moves, run_stop_moves_in, stop_holder, stop_request_moves}
 use Rattle.run_states.specs.Stops.{where_stop_moves}

@@ -9,7 +9,7 @@ use Rattle.run_states.specs.Groups.{holds, leg_holds, leg_waits, run_waits, wait
 use Rattle.run_states.specs.Holders.{run_of}
 use Rattle.run_states.specs.GroupLaw.{Move}
 use Rattle.run_states.specs.Runs.{again, leg_at, run_at, with_run, LegState, JobState, RunState, is_live, outcome_of}
-use Rattle.run_states.specs.declared.place.LegSite.{LegSite}
+use Rattle.run_states.specs.declared.sites.LegSite.{LegSite}
 use Rattle.run_states.specs.declared.phases.LegPhase.{LegPhase}
 use Rattle.run_states.specs.declared.phases.LegPhase.TheVariants as leg
 use Rattle.run_states.specs.declared.phases.RunPhase.TheVariants as run

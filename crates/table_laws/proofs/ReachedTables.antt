@@ -21,7 +21,7 @@ use Rattle.run_states.specs.Fitting.{first_fit, site_of_lease}
 use Rattle.run_states.specs.Step.{after, replies, empty, at_rest_after, entered, unchanged, admission_answer, admitting, admitted}
 use Rattle.run_states.specs.GroupLaw.{Move}
 use Rattle.run_states.specs.TableState.{Step, TableState, runner_named, with_runner}
-use Rattle.run_states.specs.declared.place.LegSite.{LegSite}
+use Rattle.run_states.specs.declared.sites.LegSite.{LegSite}
 use Rattle.run_states.specs.Settling.{leg_in_phase}
 use Rattle.run_states.specs.Sound.{IsSound}
 use Rattle.run_states.specs.Stops.{lease_end_moves, with_ended, stop_holder}

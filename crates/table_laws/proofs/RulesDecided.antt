@@ -21,7 +21,7 @@ use Rattle.run_states.specs.declared.phases.JobPhase.TheVariants as job
 use Rattle.run_states.specs.declared.phases.LegPhase.TheVariants as leg
 use Rattle.run_states.specs.declared.phases.RunPhase.{RunPhase}
 use Rattle.run_states.specs.declared.phases.RunPhase.TheVariants as run
-use Rattle.run_states.specs.declared.place.RuleSite.{RuleSite}
+use Rattle.run_states.specs.declared.sites.RuleSite.{RuleSite}
 use Rattle.run_states.proofs.Changed.{holds_of_each}
 use Rattle.run_states.proofs.JobKeeps.{job_in}
 use Rattle.run_states.proofs.JobPhases.{is_open_open}
@@ -125,9 +125,9 @@ arrival_decided newcomer runs fit all =
 decided_after : (runs next : List RunState) → Decided runs → NowDecided runs next → Settles runs next → Decided next
 decided_after runs next all now settles = all_decided runs next all settles.stay.same_admitted settles.stay.keeps_results now
 
-pub rule_decided : (runs : List RunState) (m : Transition) (place : RuleSite) → RunsFit runs → LivePlace runs place → rule_at runs place ≡ Some m
+pub rule_decided : (runs : List RunState) (m : Transition) (site : RuleSite) → RunsFit runs → LivePlace runs site → rule_at runs site ≡ Some m
     → Decided runs → Decided m.runs
-rule_decided runs m place fit live h all =
+rule_decided runs m site fit live h all =
     let phase_decided = λ (r : ℕ) (x : RunState) (to : RunPhase) (was : run_at runs r ≡ Some x).
     decided_after runs (with_run r (run_in_phase to) runs) all (phase_now runs r x to was all) in
     by_rule runs (λ at made. Settles runs made.runs → Decided made.runs)
@@ -143,7 +143,7 @@ rule_decided runs m place fit live h all =
           decided_after runs (with_job r j (finished_as (result_at runs r j y)) runs) all (closing_now runs r j y was done all));
       run_starts = (λ r x was is may. phase_decided r x run.Live was);
       run_ends = (λ r x was is settled. phase_decided r x run.Ended was);
-    }) m place h (rule_settles runs m place fit live h)
+    }) m site h (rule_settles runs m site fit live h)
 
 -- ---- settling
 

@@ -15,7 +15,7 @@ use Rattle.run_states.specs.Groups.{cancels_in_progress, group_at}
 use Rattle.run_states.specs.GroupLaw.{holder_of, same_holder, Move, Transition, and_then, without_moves}
 use Rattle.run_states.specs.Groups.{HasOneBeside, HasOneEach, holds, is_in, leg_waits, may_start, run_waits, waits}
 use Rattle.run_states.specs.Runs.{results_of, job_at, leg_at, run_at, with_job, with_run, LegState, JobState, RunState}
-use Rattle.run_states.specs.declared.place.LegSite.{LegSite}
+use Rattle.run_states.specs.declared.sites.LegSite.{LegSite}
 use Rattle.run_states.specs.Settling.{first_site, first_rule, settled_within}
 use Rattle.run_states.specs.Sound.{PhaseFits}
 use Rattle.run_states.specs.Runs.{leg_has_ended, is_blocked, is_done, is_live, is_open, leg_in_phase, opened, run_in_phase, finished_as}
@@ -24,8 +24,8 @@ use Rattle.run_states.specs.declared.phases.LegPhase.{LegPhase}
 use Rattle.run_states.specs.declared.phases.LegPhase.TheVariants as leg
 use Rattle.run_states.specs.declared.phases.RunPhase.{RunPhase}
 use Rattle.run_states.specs.declared.phases.RunPhase.TheVariants as run
-use Rattle.run_states.specs.declared.place.RuleSite.{RuleSite}
-use Rattle.run_states.specs.declared.place.RuleSite.TheVariants.{Opening}
+use Rattle.run_states.specs.declared.sites.RuleSite.{RuleSite}
+use Rattle.run_states.specs.declared.sites.RuleSite.TheVariants.{Opening}
 use Rattle.run_states.proofs.JobKeeps.{open_is_live}
 use Rattle.run_states.proofs.JobPhases.{is_blocked_blocked, is_open_open, no_legs}
 use Rattle.run_states.proofs.Optional.{from_and_then}
@@ -288,10 +288,10 @@ module _ (reached : List RunState) (g : Group) (cancels : Holder → Bool)
 
   -- ---- at each place
 
-  rule_keeps : (runs : List RunState) (m : Transition) (place : RuleSite) → RunsFit runs → LivePlace runs place → rule_at runs place ≡ Some m
+  rule_keeps : (runs : List RunState) (m : Transition) (site : RuleSite) → RunsFit runs → LivePlace runs site → rule_at runs site ≡ Some m
       → HasOneEach runs
       → Grows runs reached → Grows m.runs reached → Keeps runs m
-  rule_keeps runs m place fit live h each from =
+  rule_keeps runs m site fit live h each from =
       by_rule runs (λ at made. LivePlace runs at → Grows made.runs reached → Keeps runs made)
       (record {
         job_opens = (λ r j y was blocked needs live grows. opening_keeps runs r j y fit live was blocked);
@@ -301,7 +301,7 @@ module _ (reached : List RunState) (g : Group) (cancels : Holder → Bool)
         job_settles = (λ r j y was done live grows. closing_keeps runs r j y fit was done);
         run_starts = (λ r x was is may live grows. run_start_keeps runs r x fit from was is may);
         run_ends = (λ r x was is settled live grows. run_end_keeps runs r x was is);
-      }) m place h live
+      }) m site h live
 
   -- ---- settling
 

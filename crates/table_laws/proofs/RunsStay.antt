@@ -10,7 +10,7 @@ use Rattle.run_states.specs.Runs.{changed_at, with_job, with_leg, with_run, JobS
 use Rattle.run_states.specs.Fitting.{site_of_lease}
 use Rattle.run_states.specs.Groups.{cancels_in_progress, group_at, in_progress_in}
 use Rattle.run_states.specs.GroupLaw.{Transition, and_then, at_each, without_moves}
-use Rattle.run_states.specs.declared.place.LegSite.{LegSite}
+use Rattle.run_states.specs.declared.sites.LegSite.{LegSite}
 use Rattle.run_states.specs.Settling.{result_at, rule_at, run_in_phase, finished_as, with_leg_in}
 use Rattle.run_states.specs.Settling.{first_site, first_rule, remaining_phases, settled, settled_within}
 use Rattle.run_states.specs.Stops.{with_ended, displace, stop_holder}
@@ -18,7 +18,7 @@ use Rattle.run_states.specs.Stops.{after_end, stopped, stopped_in, stopped_run, 
 use Rattle.run_states.specs.declared.phases.LegPhase.TheVariants as leg
 use Rattle.run_states.specs.declared.phases.RunPhase.{RunPhase}
 use Rattle.run_states.specs.declared.phases.RunPhase.TheVariants as run
-use Rattle.run_states.specs.declared.place.RuleSite.{RuleSite}
+use Rattle.run_states.specs.declared.sites.RuleSite.{RuleSite}
 use Rattle.run_states.proofs.Optional.{from_and_then}
 use Rattle.settling_laws.proofs.EachRule.{by_rule}
 use Rattle.run_states.specs.declared.holder.Holder.{Holder}

@@ -19,7 +19,7 @@ use Rattle.run_states.specs.Fitting.{first_fit, site_of_lease}
 use Rattle.run_states.specs.Step.{after, empty, entered, unchanged, admission_answer, admitting, admitted, claim_answer, leasing}
 use Rattle.run_states.specs.TableState.{Step, TableState, runner_named}
 use Rattle.run_states.specs.Runs.{run_at, with_job, with_leg, with_run, again, new_run, leased_leg, JobState, RunState}
-use Rattle.run_states.specs.declared.place.LegSite.{LegSite}
+use Rattle.run_states.specs.declared.sites.LegSite.{LegSite}
 use Rattle.run_states.specs.Settling.{leg_in_phase}
 use Rattle.run_states.specs.Sound.{IsSound}
 use Rattle.run_states.specs.Step.{entered_again, rerun, rerun_answer, rerunning}

@@ -25,7 +25,7 @@ use Rattle.run_states.specs.Groups.{cancels_in_progress, HasOneEach, holds, is_i
 use Rattle.run_states.specs.GroupLaw.{Move, Transition, without_moves}
 use Rattle.run_states.specs.TableState.{Step, RunnerState, TableState, runner_named, with_runner}
 use Rattle.run_states.specs.Runs.{job_at, leg_at, leg_sites, run_at, with_job, with_leg, leg_has_ended, leg_in_phase, RunState}
-use Rattle.run_states.specs.declared.place.LegSite.{LegSite}
+use Rattle.run_states.specs.declared.sites.LegSite.{LegSite}
 use Rattle.run_states.specs.Settling.{remaining_phases, settled, settling}
 use Rattle.run_states.specs.Sound.{IsSound}
 use Rattle.run_states.specs.Step.{admission_answer, admitted, admitting, at_rest_after, cancel_answer, cancelled, serving_nothing, stepped}

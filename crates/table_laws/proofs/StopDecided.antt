@@ -8,7 +8,7 @@ use Rattle.std.proofs.lemmas.Option.{slice_get-map}
 use Rattle.std.proofs.lemmas.Bool.{and_from}
 use Rattle.wf_value.specs.declared.outcome.JobResult.{JobResult}
 use Rattle.wf_value.specs.declared.outcome.JobResult.TheVariants as result
-use Rattle.needs_graph.specs.Needs.{needs_at, places, is_listed, needs_of}
+use Rattle.needs_graph.specs.Needs.{needs_at, indexes, is_listed, needs_of}
 use Rattle.definitions.specs.Rising.{JobNeeds}
 use Rattle.run_plan.specs.PlanOf.{needs_listed, needs_of_planned, plan_of}
 use Rattle.run_states.specs.Runs.{run_at, job_at, with_run, JobState, RunState}
@@ -55,7 +55,7 @@ each_have f results each (x ∷ xs) (suc j) = each_have f results each xs j
 needs_have : (jobs : List JobNeeds) (results : List (Option JobResult)) → ((k : ℕ) → k < length jobs → has_result results k ≡ true)
     → (j : ℕ) → all_have_results results (needs_at (needs_of jobs) j) ≡ true
 needs_have jobs results each j =
-    each_have (λ job. places (λ other. is_listed job.needs other.id) jobs) results
+    each_have (λ job. indexes (λ other. is_listed job.needs other.id) jobs) results
     (λ job. places_have (λ (other : JobNeeds). is_listed job.needs other.id) results jobs 0
     (λ k below. let at : 0 + k ≡ k = omega arith in ap (has_result results) at ∙ each k below)) jobs j
 

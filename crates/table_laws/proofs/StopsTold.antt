@@ -9,7 +9,7 @@ use Rattle.wf_value.specs.declared.outcome.JobResult.TheVariants as result
 use Rattle.wf_value.specs.declared.outcome.Outcome.TheVariants.{Cancelled}
 use Rattle.run_states.specs.Runs.{changed_at, placed, leg_site, run_at, with_run, LegState, JobState, RunState, is_open, finished_as}
 use Rattle.run_states.specs.GroupLaw.{holder_of, same_holder, Move, Transition}
-use Rattle.run_states.specs.declared.place.LegSite.{LegSite}
+use Rattle.run_states.specs.declared.sites.LegSite.{LegSite}
 use Rattle.run_states.specs.LegContext.{may_run_in}
 use Rattle.run_states.specs.Stops.{jobs_stop_moves, leg_stop_moves, legs_stop_moves, run_stop_moves, run_stop_moves_in, stop_holder}
 use Rattle.run_states.specs.Stops.{stop_request_moves, where_stop_moves, with_stopped_legs}

@@ -14,7 +14,7 @@ use Rattle.definitions.specs.SmallText.{Admitted}
 use Rattle.run_states.specs.Runs.{changed_at, new_run, job_at, leg_at, run_at, with_job, with_leg, with_run, LegState, JobState, RunState}
 use Rattle.run_states.specs.Groups.{holds, leg_holds, leg_waits, run_waits, waits}
 use Rattle.run_states.specs.GroupLaw.{Transition, at_each}
-use Rattle.run_states.specs.declared.place.LegSite.{LegSite}
+use Rattle.run_states.specs.declared.sites.LegSite.{LegSite}
 use Rattle.run_states.specs.Settling.{result_at}
 use Rattle.run_states.specs.LegContext.{may_run_in, planned_legs}
 use Rattle.run_states.specs.Sound.{LeaseFits, PhaseFits}

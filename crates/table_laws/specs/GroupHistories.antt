@@ -10,7 +10,7 @@ use Rattle.run_plan.specs.declared.command.Command.{Command}
 use Rattle.run_states.specs.Groups.{cancels_in_progress, group_state, is_in}
 use Rattle.run_states.specs.GroupLaw.{arrival_of, has_arrived, holder_of, same_holder, Move}
 use Rattle.run_states.specs.Runs.{leg_at, run_at, LegState, JobState, RunState}
-use Rattle.run_states.specs.declared.place.LegSite.{LegSite}
+use Rattle.run_states.specs.declared.sites.LegSite.{LegSite}
 use Rattle.run_states.specs.Step.{stepped}
 use Rattle.run_states.specs.TableState.{Step, TableState}
 use Rattle.run_states.specs.declared.phases.JobPhase.TheVariants as job

@@ -7,7 +7,7 @@ ghost use Rattle.run_states.specs.GroupLaw.{has_arrived, has_ended, has_started,
 ghost use Rattle.run_states.specs.Groups.{pending_in, in_progress_in};
 ghost use Rattle.run_states.specs.Step.{after};
 ghost use Rattle.run_states.specs.Runs.{leg_at, LegState};
-ghost use Rattle.run_states.specs.declared.place.LegSite.{LegSite};
+ghost use Rattle.run_states.specs.declared.sites.LegSite.{LegSite};
 ghost use Rattle.run_states.specs.Sound.{IsSound};
 ghost use Rattle.run_states.specs.TableState.{TableState};
 ghost use Rattle.wf_value.specs.declared.outcome.Outcome.{Outcome};

@@ -9,7 +9,7 @@ ghost use Rattle.run_plan.specs.declared.reply.Reply.{Reply};
 ghost use Rattle.run_plan.specs.declared.reply.Reply.TheVariants as reply;
 ghost use Rattle.run_states.specs.Step.{after, replies, empty, lease_at, step, stepped};
 ghost use Rattle.run_states.specs.Runs.{leg_at, LegState};
-ghost use Rattle.run_states.specs.declared.place.LegSite.{LegSite};
+ghost use Rattle.run_states.specs.declared.sites.LegSite.{LegSite};
 ghost use Rattle.run_states.specs.Sound.{IsSound, ParallelIsBounded, NeedsComeFirst};
 ghost use Rattle.run_states.specs.TableState.{TableState};
 ghost use Rattle.table_laws.specs.ExactlyOnce.{HasNumber, HaveNoLaterNumber, IsRefused};

@@ -8,7 +8,7 @@ use Rattle.run_states.specs.Runs.{placed, leg_sites, leg_sites_of_job, leg_sites
 use Rattle.run_states.specs.Groups.{all_holders}
 use Rattle.run_states.specs.declared.holder.Holder.{Holder}
 use Rattle.run_states.specs.declared.holder.Holder.TheVariants.{Run, Leg}
-use Rattle.run_states.specs.declared.place.LegSite.{LegSite}
+use Rattle.run_states.specs.declared.sites.LegSite.{LegSite}
 use Rattle.run_states.proofs.Found.{all_append, all_map, all_weaken}
 use Rattle.table_views.specs.inner.HolderOrder.{is_before, is_site_before}
 
@@ -59,7 +59,7 @@ module _ {X : Type 0} (before : X → X → Bool) where
         (λ z behind. ordered a behind.index x z (omega (arith, behind.least)) at behind.is) later (all_from (a + 1) (a + 1) (omega arith) ys))
         (f (a, y)) (are_at a y))
 
--- ---- the places of legs
+-- ---- the sites of legs
 
 below : (a b : ℕ) → a < b → nat_lt a b ≡ true
 below a b lt = (Decides-ltb a b).1 lt

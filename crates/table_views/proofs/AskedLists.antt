@@ -8,7 +8,7 @@ use Rattle.std.specs.List.{filter, flat_map}
 use Rattle.std.specs.Option.{option_map_or}
 use Rattle.run_states.specs.inner.ActiveRuns.{offers_legs}
 use Rattle.run_states.specs.Runs.{placed, leg_sites_of_run, RunState}
-use Rattle.run_states.specs.declared.place.LegSite.{LegSite}
+use Rattle.run_states.specs.declared.sites.LegSite.{LegSite}
 use Rattle.table_views.specs.NamedCounts.{AreCounts, counted, times}
 use Rattle.table_views.specs.QueueLines.{is_ready_at, labels_json}
 use Rattle.table_views.specs.ReadyPages.{legs_at}

@@ -12,7 +12,7 @@ use Rattle.run_states.specs.Groups.{group_at, all_holders, holds, is_in_progress
 use Rattle.run_states.specs.Runs.{RunState}
 use Rattle.run_states.specs.declared.holder.Holder.{Holder}
 use Rattle.run_states.specs.declared.holder.Holder.TheVariants.{Run, Leg}
-use Rattle.run_states.specs.declared.place.LegSite.{LegSite}
+use Rattle.run_states.specs.declared.sites.LegSite.{LegSite}
 use Rattle.run_states.proofs.Found.{each_of_append}
 use Rattle.table_views.specs.inner.Claims.{claim_of, claims_of, said}
 use Rattle.table_views.specs.GroupLines.{group_in_use}

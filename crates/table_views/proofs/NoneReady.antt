@@ -8,7 +8,7 @@ use Rattle.std.specs.Option.{option_map_or}
 use Rattle.run_states.specs.inner.ActiveRuns.{has_ready_leg, offers_legs}
 use Rattle.run_states.specs.Runs.{placed, leg_site, leg_sites_of_job, leg_sites_of_run, JobState, LegState, RunState}
 use Rattle.run_states.specs.Fitting.{is_ready}
-use Rattle.run_states.specs.declared.place.LegSite.{LegSite}
+use Rattle.run_states.specs.declared.sites.LegSite.{LegSite}
 use Rattle.table_views.specs.QueueLines.{is_ready_at}
 
 -- ---- lists all of whose elements have a property
@@ -39,7 +39,7 @@ none_of p xs i x none at = by (p x) refl
         absurd (let clash : true ≡ false = sym (list_any_at p xs i x (slice_get_within xs i x at) (ap p (get_or_from_slice_get xs i x x at) ∙ is)) ∙ none in cc)
     by false is = is
 
--- ---- the places of a run's legs
+-- ---- the sites of a run's legs
 
 of_this_run : (r : ℕ) (run : RunState) → AllByRecursion (λ (p : LegSite). p.run ≡ r) (leg_sites_of_run (r, run))
 of_this_run r run =

@@ -5,7 +5,7 @@ use Rattle.std.specs.List.{filter}
 use Rattle.std.specs.Option.{option_map_or}
 use Rattle.run_states.specs.Fitting.{is_ready}
 use Rattle.run_states.specs.Runs.{leg_at, leg_sites, RunState}
-use Rattle.run_states.specs.declared.place.LegSite.{LegSite}
+use Rattle.run_states.specs.declared.sites.LegSite.{LegSite}
 use Rattle.run_states.specs.LegContext.{labels_at}
 use Rattle.run_states.specs.TableState.{TableState}
 use Rattle.table_views.specs.GroupLines.{group_lines}

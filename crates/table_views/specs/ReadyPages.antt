@@ -3,14 +3,14 @@ use Rattle.std.specs.Prelude.{◌≡◌, ℕ, ◌+◌, ◌-◌, List, [], codes,
 use Rattle.std.specs.List.{filter}
 use Rattle.std.specs.Option.{option_map_or}
 use Rattle.run_states.specs.Runs.{leg_sites_of_run, RunState}
-use Rattle.run_states.specs.declared.place.LegSite.{LegSite}
+use Rattle.run_states.specs.declared.sites.LegSite.{LegSite}
 use Rattle.run_states.specs.TableState.{TableState}
 use Rattle.table_views.specs.Members.{number_or_null}
 use Rattle.table_views.specs.Pages.{IsPage, page_text, rows_from}
 use Rattle.table_views.specs.QueueLines.{is_ready_at, ready_row}
 use Rattle.definitions.specs.Limits.{most_looked}
 
--- the places of the legs of the run at an index
+-- the sites of the legs of the run at an index
 abbrev pub legs_at : List RunState → ℕ → List LegSite
 legs_at runs r = option_map_or (λ run. leg_sites_of_run (r, run)) (slice_get runs r) []
 

@@ -2,7 +2,7 @@
 -- it. The format is defined by this project.
 use Rattle.std.specs.Prelude.{ℕ, List, ◌++◌, codes, decimal, flat_map, Option, Some, None, option_map, option_and_then}
 use Rattle.run_states.specs.Fitting.{site_of_lease}
-use Rattle.run_states.specs.declared.place.LegSite.{LegSite}
+use Rattle.run_states.specs.declared.sites.LegSite.{LegSite}
 use Rattle.run_states.specs.Runs.{RunState}
 use Rattle.run_states.specs.TableState.{RunnerState, TableState}
 use Rattle.table_views.specs.Texts.{leg_members, leg_words, line, quoted}

@@ -2,7 +2,7 @@
 use Rattle.std.specs.Prelude.{ℕ, List, ◌++◌, codes, flat_map, is_some, length, map}
 use Rattle.std.specs.List.{count_by, filter}
 use Rattle.run_states.specs.Runs.{leg_sites, RunState}
-use Rattle.run_states.specs.declared.place.LegSite.{LegSite}
+use Rattle.run_states.specs.declared.sites.LegSite.{LegSite}
 use Rattle.run_states.specs.TableState.{RunnerState, TableState}
 use Rattle.table_views.specs.LegCounting.{leg_lines}
 use Rattle.table_views.specs.MetricLines.{capped, head, metric, value_line}
@@ -15,7 +15,7 @@ use Rattle.table_views.specs.Texts.{quoted}
 
 -- the list of labels that each ready leg among these asks for
 abbrev pub asked_at : List RunState → List LegSite → List (List ℕ)
-asked_at runs places = map (labels_json runs) (filter (is_ready_at runs) places)
+asked_at runs sites = map (labels_json runs) (filter (is_ready_at runs) sites)
 
 abbrev pub asked : List RunState → List (List ℕ)
 asked runs = asked_at runs (leg_sites runs)

@@ -101,14 +101,14 @@ fn push_legs(
     alloc: Global,
     runs: &Runs,
     filter: &GroupFilter,
-    places: &[LegSite],
+    sites: &[LegSite],
     rows: &mut Vec<Chars>,
 ) -> Result<(), Refusal>
-    requires { All IsWithin places.now }
+    requires { All IsWithin sites.now }
     ensures err { ErrsOnlyByMemory result }
-    ensures rows { OnOk result (rows.new.items ≡ rows.old.items ++ filter_map (row_of_holder filter.now runs.now) (map held.Leg places.now)) }
+    ensures rows { OnOk result (rows.new.items ≡ rows.old.items ++ filter_map (row_of_holder filter.now runs.now) (map held.Leg sites.now)) }
 {
-    for site in places {
+    for site in sites {
         push_holder(alloc, runs, filter, &Holder::Leg(*site), rows)?;
     }
     Ok(())
@@ -137,8 +137,8 @@ impl Source for Holders<'_> {
         let before = out.len();
         let _count = self.runs.len();
         push_holder(alloc, self.runs, self.filter, &Holder::Run(index), out)?;
-        let places = legs_at(alloc, self.runs, index)?;
-        push_legs(alloc, self.runs, self.filter, places.as_slice(), out)?;
+        let sites = legs_at(alloc, self.runs, index)?;
+        push_legs(alloc, self.runs, self.filter, sites.as_slice(), out)?;
         Ok(out.len() - before)
     }
 }

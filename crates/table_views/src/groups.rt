@@ -58,10 +58,10 @@ fn push_claim(
     Ok(())
 }
 
-/// All claims: those of the runs, then those of the legs. `places` has the places of all legs.
-fn claims_of(alloc: Global, runs: &Runs, places: &[LegSite]) -> Result<Vec<GroupClaim>, Refusal>
-    requires all { places.now ≡ leg_sites runs.now }
-    requires within { All IsWithin places.now }
+/// All claims: those of the runs, then those of the legs. `sites` has the sites of all legs.
+fn claims_of(alloc: Global, runs: &Runs, sites: &[LegSite]) -> Result<Vec<GroupClaim>, Refusal>
+    requires all { sites.now ≡ leg_sites runs.now }
+    requires within { All IsWithin sites.now }
     ensures err { ErrsOnlyByMemory result }
     ensures claims { IfOk result (λ claims. map said claims.items ≡ claims_of runs.now) }
 {
@@ -69,7 +69,7 @@ fn claims_of(alloc: Global, runs: &Runs, places: &[LegSite]) -> Result<Vec<Group
     for r in 0..runs.len() {
         push_claim(alloc, runs, &mut claims, Holder::Run(r))?;
     }
-    for site in places {
+    for site in sites {
         push_claim(alloc, runs, &mut claims, Holder::Leg(*site))?;
     }
     Ok(claims)
@@ -262,17 +262,17 @@ fn lines_of(
     Ok(text)
 }
 
-/// A line for each group that a run or a leg holds or waits for. `places` has the places of all legs.
+/// A line for each group that a run or a leg holds or waits for. `sites` has the sites of all legs.
 pub(crate) fn groups_text(
     alloc: Global,
     form: Form,
     runs: &Runs,
-    places: &[LegSite],
+    sites: &[LegSite],
 ) -> Result<String, Refusal>
-    requires all { places.now ≡ leg_sites runs.now }
-    requires within { All IsWithin places.now }
+    requires all { sites.now ≡ leg_sites runs.now }
+    requires within { All IsWithin sites.now }
     ensures { Gives string_bytes result (Ok (group_lines form runs.now)) }
 {
-    let claims = claims_of(alloc, runs, places)?;
+    let claims = claims_of(alloc, runs, sites)?;
     lines_of(alloc, form, runs, claims.as_slice())
 }

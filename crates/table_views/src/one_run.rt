@@ -6,7 +6,7 @@ ghost use Rattle.run_plan.specs.PlanOf.{plan_of};
 ghost use Rattle.run_states.specs.ViewText.{Seen, seen_of};
 ghost use Rattle.table_views.specs.RunViews.{IsRunView, holds_lease, job_row, job_rows, leg_row, leg_rows, legs_of_job, next_job, plan_members, run_view_text, runner_of, standing_members, truth, wish_members};
 
-use crate::members::{number_or_null, push_member, push_number, push_text, push_text_or_null};
+use crate::members::{number_or_null, push_member, push_text, push_text_or_null};
 use crate::pages::{Source, page_of};
 use crate::queue::{labels_json, quoted_each};
 use crate::run_rows::{as_text, own_group, run_members};

@@ -7,7 +7,7 @@ ghost use Rattle.table_views.specs.Pages.{IsPage, page_text, rows_from};
 
 use crate::members::push_member;
 use crate::texts::listed;
-use std::alloc::{AllocError, Global};
+use std::alloc::Global;
 use wf_value::{Chars, Refusal};
 
 /// The most indices at which a page looks.

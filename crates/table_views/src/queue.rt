@@ -12,7 +12,7 @@ ghost use Rattle.table_views.specs.Texts.{quoted};
 
 use crate::form::Form;
 use crate::groups::groups_text;
-use crate::places::leg_sites;
+use crate::sites::leg_sites;
 use crate::texts::{leg_members, leg_words, listed, quoted};
 use run_states::{LegPhase, LegSite};
 use run_table::Table;
@@ -93,14 +93,14 @@ fn ready_line(alloc: Global, form: Form, runs: &Runs, site: LegSite) -> Result<S
     }
 }
 
-/// A line for each ready leg. `places` has the places of all legs.
-fn ready_text(alloc: Global, form: Form, runs: &Runs, places: &[LegSite]) -> Result<String, Refusal>
-    requires all { places.now ≡ leg_sites runs.now }
-    requires within { All IsWithin places.now }
+/// A line for each ready leg. `sites` has the sites of all legs.
+fn ready_text(alloc: Global, form: Form, runs: &Runs, sites: &[LegSite]) -> Result<String, Refusal>
+    requires all { sites.now ≡ leg_sites runs.now }
+    requires within { All IsWithin sites.now }
     ensures { Gives string_bytes result (Ok (ready_lines form runs.now)) }
 {
     let mut text = String::new(alloc);
-    for site in places {
+    for site in sites {
         if is_ready_at(runs, *site) {
             let line = ready_line(alloc, form, runs, *site)?;
             text.push_str(line.as_str())?;
@@ -114,9 +114,9 @@ pub fn queue_text(alloc: Global, form: Form, table: &Table) -> Result<Chars, Ref
     ensures { Gives (λ text. text) result (Ok (queue_lines form table.now)) }
 {
     let runs = table.kept_runs();
-    let places = leg_sites(alloc, runs)?;
-    let mut text = ready_text(alloc, form, runs, places.as_slice())?;
-    let groups = groups_text(alloc, form, runs, places.as_slice())?;
+    let sites = leg_sites(alloc, runs)?;
+    let mut text = ready_text(alloc, form, runs, sites.as_slice())?;
+    let groups = groups_text(alloc, form, runs, sites.as_slice())?;
     text.push_str(groups.as_str())?;
     Ok(Chars::new(text))
 }

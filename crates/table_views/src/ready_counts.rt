@@ -37,17 +37,17 @@ fn count_leg(
     Ok(())
 }
 
-/// Counts what those legs at these places ask for that are ready.
+/// Counts what those legs at these sites ask for that are ready.
 fn count_legs(
     alloc: Global,
     runs: &Runs,
-    places: &[LegSite],
+    sites: &[LegSite],
     counts: &mut NamedCounts,
 ) -> Result<(), Refusal>
-    requires { All IsWithin places.now }
-    ensures { (lists : List (List ℕ)) → AreCounts lists counts.old → OnOk result (AreCounts (lists ++ asked_at runs.now places.now) counts.new) }
+    requires { All IsWithin sites.now }
+    ensures { (lists : List (List ℕ)) → AreCounts lists counts.old → OnOk result (AreCounts (lists ++ asked_at runs.now sites.now) counts.new) }
 {
-    for site in places {
+    for site in sites {
         count_leg(alloc, runs, *site, counts)?;
     }
     Ok(())
@@ -62,8 +62,8 @@ fn count_run(alloc: Global, runs: &Runs, r: usize, counts: &mut NamedCounts) -> 
     if !all[r].offers_legs() {
         return Ok(());
     }
-    let places = legs_at(alloc, runs, r)?;
-    count_legs(alloc, runs, places.as_slice(), counts)
+    let sites = legs_at(alloc, runs, r)?;
+    count_legs(alloc, runs, sites.as_slice(), counts)
 }
 
 fn ready_counts(alloc: Global, runs: &Runs) -> Result<NamedCounts, Refusal>

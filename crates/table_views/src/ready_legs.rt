@@ -24,18 +24,18 @@ struct Ready<'a> {
     runs: &'a Runs,
 }
 
-/// Adds the rows of those legs at these places that are ready.
+/// Adds the rows of those legs at these sites that are ready.
 fn push_ready(
     alloc: Global,
     runs: &Runs,
-    places: &[LegSite],
+    sites: &[LegSite],
     rows: &mut Vec<Chars>,
 ) -> Result<(), Refusal>
-    requires { All IsWithin places.now }
+    requires { All IsWithin sites.now }
     ensures err { ErrsOnlyByMemory result }
-    ensures rows { OnOk result (rows.new.items ≡ rows.old.items ++ map (ready_row runs.now) (filter (is_ready_at runs.now) places.now)) }
+    ensures rows { OnOk result (rows.new.items ≡ rows.old.items ++ map (ready_row runs.now) (filter (is_ready_at runs.now) sites.now)) }
 {
-    for site in places {
+    for site in sites {
         if is_ready_at(runs, *site) {
             let row = ready_row(alloc, runs, *site)?;
             rows.push(Chars::new(row))?;
@@ -58,8 +58,8 @@ impl Source for Ready<'_> {
         out: &mut Vec<Chars>,
     ) -> Result<usize, Refusal> {
         let before = out.len();
-        let places = legs_at(alloc, self.runs, index)?;
-        push_ready(alloc, self.runs, places.as_slice(), out)?;
+        let sites = legs_at(alloc, self.runs, index)?;
+        push_ready(alloc, self.runs, sites.as_slice(), out)?;
         Ok(out.len() - before)
     }
 }

@@ -5,22 +5,22 @@ ghost use Rattle.std.specs.List.{All};
 ghost use Rattle.table_views.specs.inner.Placed.{IsWithin};
 ghost use Rattle.table_views.specs.ReadyPages.{legs_at, next_run, start_at};
 
-use crate::places::push_legs_of_run;
+use crate::sites::push_legs_of_run;
 use run_plan::Number;
 use run_states::LegSite;
 use std::alloc::{AllocError, Global};
 use workflow_runs::runs::Runs;
 
-/// The places of the legs of the run at an index.
+/// The sites of the legs of the run at an index.
 pub(crate) fn legs_at(alloc: Global, runs: &Runs, r: usize) -> Result<Vec<LegSite>, AllocError>
     requires { r < length runs.now }
-    ensures places { IfOk result (λ places. places.items ≡ legs_at runs.now r) }
-    ensures within { IfOk result (λ places. All IsWithin places.items) }
+    ensures sites { IfOk result (λ sites. sites.items ≡ legs_at runs.now r) }
+    ensures within { IfOk result (λ sites. All IsWithin sites.items) }
 {
-    let mut places = Vec::new(alloc);
+    let mut sites = Vec::new(alloc);
     let run = &runs.as_slice()[r];
-    push_legs_of_run(&mut places, r, run)?;
-    Ok(places)
+    push_legs_of_run(&mut sites, r, run)?;
+    Ok(sites)
 }
 
 /// The index of the run with an id, or the end of the runs.

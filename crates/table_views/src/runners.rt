@@ -12,7 +12,7 @@ ghost use Rattle.table_views.specs.RunnerLines.{held_leg, lease_text, runner_lin
 ghost use Rattle.table_views.specs.Texts.{line};
 
 use crate::form::Form;
-use crate::places::leg_sites;
+use crate::sites::leg_sites;
 use crate::texts::{leg_members, leg_words, quoted};
 use run_plan::Number;
 use run_states::{Leg, LegSite};
@@ -39,23 +39,23 @@ fn has_lease_at(runs: &Runs, site: LegSite, lease: Number) -> bool
     }
 }
 
-/// The first of these places whose leg has the lease.
-fn first_with_lease<'p>(runs: &Runs, places: &'p [LegSite], lease: Number) -> Option<&'p LegSite>
-    requires { All IsWithin places.now }
-    ensures found { option_copied result ≡ find (λ p. option_map_or (has_lease lease) (leg_at runs.now p) false) places.now }
+/// The first of these sites whose leg has the lease.
+fn first_with_lease<'p>(runs: &Runs, sites: &'p [LegSite], lease: Number) -> Option<&'p LegSite>
+    requires { All IsWithin sites.now }
+    ensures found { option_copied result ≡ find (λ p. option_map_or (has_lease lease) (leg_at runs.now p) false) sites.now }
     ensures run { IfSome result (λ p. p.now.run < max_runs) }
 {
-    places.iter().find(|site| has_lease_at(runs, **site, lease))
+    sites.iter().find(|site| has_lease_at(runs, **site, lease))
 }
 
-/// The leg that has a lease. `places` has the places of all legs.
-fn site_of_lease(runs: &Runs, places: &[LegSite], lease: Number) -> Option<LegSite>
-    requires all { places.now ≡ leg_sites runs.now }
-    requires within { All IsWithin places.now }
+/// The leg that has a lease. `sites` has the sites of all legs.
+fn site_of_lease(runs: &Runs, sites: &[LegSite], lease: Number) -> Option<LegSite>
+    requires all { sites.now ≡ leg_sites runs.now }
+    requires within { All IsWithin sites.now }
     ensures found { result ≡ site_of_lease runs.now lease }
     ensures run { IfSome result (λ p. p.run < max_runs) }
 {
-    match first_with_lease(runs, places, lease) {
+    match first_with_lease(runs, sites, lease) {
         Some(site) => Some(*site),
         None => None,
     }
@@ -100,17 +100,17 @@ fn lease_text(
     alloc: Global,
     form: Form,
     runs: &Runs,
-    places: &[LegSite],
+    sites: &[LegSite],
     runner: &Runner,
 ) -> Result<String, Refusal>
-    requires all { places.now ≡ leg_sites runs.now }
-    requires within { All IsWithin places.now }
+    requires all { sites.now ≡ leg_sites runs.now }
+    requires within { All IsWithin sites.now }
     ensures { Gives string_bytes result (Ok (lease_text form runs.now (held_leg runs.now runner.now))) }
 {
     let Some(lease) = runner.holds else {
         return no_lease_text(alloc, form);
     };
-    match site_of_lease(runs, places, lease) {
+    match site_of_lease(runs, sites, lease) {
         Some(site) => held_text(alloc, form, runs, lease, site),
         None => no_lease_text(alloc, form),
     }
@@ -127,16 +127,16 @@ fn runner_line(
     alloc: Global,
     form: Form,
     runs: &Runs,
-    places: &[LegSite],
+    sites: &[LegSite],
     runner: &Runner,
 ) -> Result<String, Refusal>
-    requires all { places.now ≡ leg_sites runs.now }
-    requires within { All IsWithin places.now }
+    requires all { sites.now ≡ leg_sites runs.now }
+    requires within { All IsWithin sites.now }
     ensures { Gives string_bytes result (Ok (runner_line form runs.now runner.now)) }
 {
     let name = runner.name.as_str();
     let number = runner.number.get();
-    let lease = lease_text(alloc, form, runs, places, runner)?;
+    let lease = lease_text(alloc, form, runs, sites, runner)?;
     match form {
         Form::Lines => Ok(runner_words(alloc, name, number, lease.as_str())?),
         Form::Json => {
@@ -151,10 +151,10 @@ pub fn runners_text(alloc: Global, form: Form, table: &Table) -> Result<Chars, R
     ensures { Gives (λ text. text) result (Ok (runner_lines form table.now)) }
 {
     let runs = table.kept_runs();
-    let places = leg_sites(alloc, runs)?;
+    let sites = leg_sites(alloc, runs)?;
     let mut text = String::new(alloc);
     for runner in table.runners() {
-        let line = runner_line(alloc, form, runs, places.as_slice(), runner)?;
+        let line = runner_line(alloc, form, runs, sites.as_slice(), runner)?;
         text.push_str(line.as_str())?;
     }
     Ok(Chars::new(text))

@@ -13,7 +13,7 @@ use std::sync::Wait;
 use std::sync::ledger::Ledger;
 use std::time::Clock;
 use tests_common::commands::Words;
-use wf_value::{JobResult, Outcome};
+use wf_value::Outcome;
 
 /// The commands that two seats submit alternately, and the answers.
 const ALTERNATING: &[(Words<'static>, &str)] = &[

@@ -3,7 +3,6 @@ ghost use Rattle.std.specs.Prelude.{◌≡◌, true};
 
 use std::fmt::Display;
 use std::process::Abort;
-use wf_value::{Code, Refusal};
 
 /// Ends the test if a condition does not hold at a place, such as a row of a table, and prints both.
 pub fn expect_so_at<R: Abort, D: Display + Drop>(rt: &R, is_so: bool, condition: &str, place: D)

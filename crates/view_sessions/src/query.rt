@@ -77,7 +77,7 @@ pub(crate) fn before_byte(bytes: &[u8], byte: u8) -> &[u8]
     ensures { result.now ≡ before_byte byte bytes.now }
 {
     match place_of(bytes, byte) {
-        Some(place) => &bytes[..place],
+        Some(offset) => &bytes[..offset],
         None => bytes,
     }
 }
@@ -87,7 +87,7 @@ pub(crate) fn after_byte(bytes: &[u8], byte: u8) -> Option<&[u8]>
     ensures { option_map (λ rest. rest.now) result ≡ after_byte byte bytes.now }
 {
     match place_of(bytes, byte) {
-        Some(place) => Some(&bytes[place + 1..]),
+        Some(offset) => Some(&bytes[offset + 1..]),
         None => None,
     }
 }

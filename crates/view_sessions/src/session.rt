@@ -5,7 +5,6 @@ ghost use Rattle.std.specs.Io.KnownBytes.{Keeps};
 ghost use Rattle.view_sessions.specs.Sessions.{Sends, TakesNext, answered, is_last, new_session, owes};
 
 use crate::answer::{Answer, answer_bytes};
-use crate::fault::ViewFault;
 use crate::request::{ViewRequest, next_view};
 use std::alloc::{AllocError, Global};
 use std::io;

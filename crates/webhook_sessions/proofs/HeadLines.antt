@@ -256,41 +256,41 @@ may_be_head bytes rest lines begins may =
     request_may (Completes_next RequestStart_deterministic {a = begins.start} begins.first
     (Section_after_lines begins.fields begins.others (may_complete rest may)))
 
--- ---- the place of a line feed
+-- ---- the offset of a line feed
 
 abbrev pub is_feed : ℕ → Bool
 is_feed b = b == 10
 
-pub record FeedAt (bytes : List ℕ) (place : ℕ) : Type 0 where
-  pub within : place < length bytes
-  pub free : AllPass no_feed (take place bytes)
-  pub cut : bytes ≡ take place bytes ++ 10 ∷ drop (place + 1) bytes
+pub record FeedAt (bytes : List ℕ) (offset : ℕ) : Type 0 where
+  pub within : offset < length bytes
+  pub free : AllPass no_feed (take offset bytes)
+  pub cut : bytes ≡ take offset bytes ++ 10 ∷ drop (offset + 1) bytes
 
-pub feed_at_place : (bytes : List ℕ) (place : ℕ) → position is_feed bytes ≡ Some place → FeedAt bytes place
-feed_at_place bytes place e =
-    let found = position-Some is_feed bytes place 0 e in
-    let feed : slice_index_or bytes place 0 ≡ 10 = eqb-true (slice_index_or bytes place 0) 10 found.1 in
+pub feed_at_offset : (bytes : List ℕ) (offset : ℕ) → position is_feed bytes ≡ Some offset → FeedAt bytes offset
+feed_at_offset bytes offset e =
+    let found = position-Some is_feed bytes offset 0 e in
+    let feed : slice_index_or bytes offset 0 ≡ 10 = eqb-true (slice_index_or bytes offset 0) 10 found.1 in
     record {
       within = found.0;
       free = λ k d h.
-          let below : k < place = let l = length-take place bytes in omega arith in
-          ap no_feed (get_or-take place bytes k d below) ∙ ap not ((position-Some is_feed bytes place d e).2 k below);
-      cut = sym (take-append-drop (place + 1) bytes) ∙ ap (λ (l : List ℕ). l ++ drop (place + 1) bytes) (take_more bytes place 0 found.0)
-          ∙ append_assoc (take place bytes) (slice_index_or bytes place 0 ∷ []) (drop (place + 1) bytes)
-          ∙ ap (λ (b : ℕ). take place bytes ++ b ∷ drop (place + 1) bytes) feed;
+          let below : k < offset = let l = length-take offset bytes in omega arith in
+          ap no_feed (get_or-take offset bytes k d below) ∙ ap not ((position-Some is_feed bytes offset d e).2 k below);
+      cut = sym (take-append-drop (offset + 1) bytes) ∙ ap (λ (l : List ℕ). l ++ drop (offset + 1) bytes) (take_more bytes offset 0 found.0)
+          ∙ append_assoc (take offset bytes) (slice_index_or bytes offset 0 ∷ []) (drop (offset + 1) bytes)
+          ∙ ap (λ (b : ℕ). take offset bytes ++ b ∷ drop (offset + 1) bytes) feed;
     }
 
 -- ---- what the code reads
 
-pub lines_go_on : (bytes : List ℕ) (p : Progress) (place : ℕ) → AreUnfinishedLines bytes p → position is_feed (drop p.read bytes) ≡ Some place
-    → AreUnfinishedLines bytes (record { read = p.read + place + 1; lines = p.lines + 1 })
-lines_go_on bytes p place ((within, few, begins), unfinished) e =
+pub lines_go_on : (bytes : List ℕ) (p : Progress) (offset : ℕ) → AreUnfinishedLines bytes p → position is_feed (drop p.read bytes) ≡ Some offset
+    → AreUnfinishedLines bytes (record { read = p.read + offset + 1; lines = p.lines + 1 })
+lines_go_on bytes p offset ((within, few, begins), unfinished) e =
     let rest = drop p.read bytes in
-    let feed = feed_at_place rest place e in
-    let after = drop (place + 1) rest in
-    let next = next_line rest (take place rest) after feed.cut feed.free unfinished in
-    let sum : p.read + (place + 1) ≡ p.read + place + 1 = omega arith in
-    let same : after ≡ drop (p.read + place + 1) bytes = drop-drop (place + 1) p.read bytes ∙ ap (λ (n : ℕ). drop n bytes) sum in
+    let feed = feed_at_offset rest offset e in
+    let after = drop (offset + 1) rest in
+    let next = next_line rest (take offset rest) after feed.cut feed.free unfinished in
+    let sum : p.read + (offset + 1) ≡ p.read + offset + 1 = omega arith in
+    let same : after ≡ drop (p.read + offset + 1) bytes = drop-drop (offset + 1) p.read bytes ∙ ap (λ (n : ℕ). drop n bytes) sum in
     let short = feed.within in
     let left = length-drop p.read bytes in (
       (
@@ -301,13 +301,13 @@ lines_go_on bytes p place ((within, few, begins), unfinished) e =
       subst AreUnfinished same next.unfinished,
     )
 
-pub first_read : (bytes : List ℕ) (place : ℕ) → Stops is_newline bytes → HasNoRequest bytes → MayBecomeRequest bytes
-    → position is_feed bytes ≡ Some place → AreUnfinishedLines bytes (record { read = place + 1; lines = 1 })
-first_read bytes place stops none may e =
-    let feed = feed_at_place bytes place e in
-    let first = first_line bytes (take place bytes) (drop (place + 1) bytes) stops feed.cut feed.free none may in
+pub first_read : (bytes : List ℕ) (offset : ℕ) → Stops is_newline bytes → HasNoRequest bytes → MayBecomeRequest bytes
+    → position is_feed bytes ≡ Some offset → AreUnfinishedLines bytes (record { read = offset + 1; lines = 1 })
+first_read bytes offset stops none may e =
+    let feed = feed_at_offset bytes offset e in
+    let first = first_line bytes (take offset bytes) (drop (offset + 1) bytes) stops feed.cut feed.free none may in
     let short = feed.within in
-    ((omega arith, omega arith, begins_first bytes (drop (place + 1) bytes) first), first.unfinished)
+    ((omega arith, omega arith, begins_first bytes (drop (offset + 1) bytes) first), first.unfinished)
 
 pub waits_by_lines : (bytes : List ℕ) (p : Progress) → AreUnfinishedLines bytes p → length bytes < 8192 → HookWaits bytes
 waits_by_lines bytes p ((within, few, begins), (none, may)) short =

@@ -45,8 +45,8 @@ mapped f None p e = absurd (none_is_some p e)
 mapped f (Some x) p e = (x, refl, same_some (f x) p e)
 
 -- the bytes before a slash and those from it on are all the bytes
-parts_are : (bytes : List ℕ) (place : Option ℕ) (parts : List ℕ × List ℕ)
-    → option_map (λ n. (take n bytes, drop n bytes)) place ≡ Some parts → bytes ≡ parts.0 ++ parts.1
+parts_are : (bytes : List ℕ) (offset : Option ℕ) (parts : List ℕ × List ℕ)
+    → option_map (λ n. (take n bytes, drop n bytes)) offset ≡ Some parts → bytes ≡ parts.0 ++ parts.1
 parts_are bytes None parts e = absurd (none_is_some parts e)
 parts_are bytes (Some n) parts e =
     subst (λ q. bytes ≡ q.0 ++ q.1) (same_some (take n bytes, drop n bytes) parts e) (sym (take-append-drop n bytes))
@@ -144,23 +144,23 @@ no_slash : (text : List ℕ) → list_all is_ascii_digit text ≡ true → at_sl
 no_slash text digits =
     let suffix = slash_after text [] digits in
     let n = length text in
-    let place : first_slash text ≡ n = ap first_slash (sym (append-nil text)) ∙ suffix ∙ omega arith in
-    ap (option_map (λ k. (take k text, drop k text))) (position_by text n false place (le-ltb n n (omega arith)))
+    let offset : first_slash text ≡ n = ap first_slash (sym (append-nil text)) ∙ suffix ∙ omega arith in
+    ap (option_map (λ k. (take k text, drop k text))) (position_by text n false offset (le-ltb n n (omega arith)))
 
 slash_of : (text rest : List ℕ) → list_all is_ascii_digit text ≡ true → at_slash (text ++ 47 ∷ rest) ≡ Some (text, 47 ∷ rest)
 slash_of text rest digits =
     let all = text ++ 47 ∷ rest in
     let n = length text in
-    let place : first_slash all ≡ n = slash_after text (47 ∷ rest) digits ∙ omega arith in
+    let offset : first_slash all ≡ n = slash_after text (47 ∷ rest) digits ∙ omega arith in
     let long = length-append text (47 ∷ rest) in
-    ap (option_map (λ k. (take k all, drop k all))) (position_by all n true place (lt-ltb n (length all) (omega arith)))
+    ap (option_map (λ k. (take k all, drop k all))) (position_by all n true offset (lt-ltb n (length all) (omega arith)))
     ∙ ap₂ (λ a b. Some (a, b)) (take-append_seam text (47 ∷ rest)) (drop-append_seam text (47 ∷ rest))
 
 end_of : (end text : List ℕ) → bytes_eq end end ≡ true → before_end end (text ++ end) ≡ Some text
 end_of end text same =
     let long = length-append text end in
-    let place : length (text ++ end) - length end ≡ length text = omega arith in
-    ap (λ n. found_if (bytes_eq (drop n (text ++ end)) end) (take n (text ++ end))) place
+    let offset : length (text ++ end) - length end ≡ length text = omega arith in
+    ap (λ n. found_if (bytes_eq (drop n (text ++ end)) end) (take n (text ++ end))) offset
     ∙ ap₂ (λ d t. found_if (bytes_eq d end) t) (drop-append_seam text end) (take-append_seam text end) ∙ ap (λ b. found_if b text) same
 
 run_alone : (text : List ℕ) (n : ℕ) → number_of text ≡ Some n → run_path text ≡ Some (Run n)

@@ -14,8 +14,8 @@ after_prefix prefix bytes = found_if (bytes_eq (take (length prefix) bytes) pref
 -- the bytes before a suffix, if they end with it
 abbrev pub before_end : List ℕ → List ℕ → Option (List ℕ)
 before_end end bytes =
-    let place = length bytes - length end in
-    found_if (bytes_eq (drop place bytes) end) (take place bytes)
+    let offset = length bytes - length end in
+    found_if (bytes_eq (drop offset bytes) end) (take offset bytes)
 
 -- the bytes before the first slash, and those from it on
 abbrev pub at_slash : List ℕ → Option (List ℕ × List ℕ)

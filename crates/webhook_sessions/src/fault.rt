@@ -1,6 +1,5 @@
-use http::{Method, StatusCode};
-use std::alloc::Global;
-use wf_value::{Code, Refusal};
+use http::Method;
+use wf_value::Refusal;
 
 /// Why no command is submitted for a request.
 #[derive(Drop)]

@@ -34,9 +34,9 @@ pub fn read_on(bytes: &[u8], progress: Progress) -> Progress
     ensures { HeadKnown bytes.now result }
 {
     let mut known = progress;
-    'lines: while let Some(place) = line_feed_index(&bytes[known.read..]) {
+    'lines: while let Some(offset) = line_feed_index(&bytes[known.read..]) {
         known = Progress {
-            read: known.read + place + 1,
+            read: known.read + offset + 1,
             lines: known.lines + 1,
         };
     }
@@ -50,9 +50,9 @@ pub fn read_first(bytes: &[u8]) -> Progress
     ensures { HeadKnown bytes.now result }
 {
     match line_feed_index(bytes) {
-        Some(place) if begin_a_line(bytes) => {
+        Some(offset) if begin_a_line(bytes) => {
             let start = Progress {
-                read: place + 1,
+                read: offset + 1,
                 lines: 1,
             };
             read_on(bytes, start)

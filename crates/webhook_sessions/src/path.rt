@@ -77,7 +77,7 @@ fn at_slash(bytes: &[u8]) -> Option<(&[u8], &[u8])>
     ensures { option_map (λ p. (p.0.now, p.1.now)) result ≡ at_slash bytes.now }
 {
     match slash_index(bytes) {
-        Some(place) => Some((&bytes[..place], &bytes[place..])),
+        Some(offset) => Some((&bytes[..offset], &bytes[offset..])),
         None => None,
     }
 }

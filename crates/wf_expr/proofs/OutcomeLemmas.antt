@@ -9,7 +9,7 @@ use Rattle.wf_expr.specs.Outcome.{IsOutcome, EncodesNone, EncodesElsewhere}
 use Rattle.wf_expr.specs.Parsing.{is_in_profile, is_allowed_in, judged, template_of, needed, pieces_of}
 use Rattle.wf_expr.specs.Profile.{Encodes, IsInProfile, AllowedIn}
 use Rattle.wf_expr.specs.declared.piece.Piece.{Piece}
-use Rattle.wf_expr.specs.declared.place.ContextSite.{ContextSite}
+use Rattle.wf_expr.specs.declared.context_site.ContextSite.{ContextSite}
 use Rattle.wf_expr.proofs.ProfileLemmas.{Decides-profile, Decides-allowed_in}
 use Rattle.wf_expr.proofs.EncodeLemmas.{spelled-read, read-spelled}
 
@@ -18,107 +18,107 @@ off : {P : Type 0} (b : Bool) → Decides b P → ¬ P → b ≡ false
 off true t n = absurd (n (t.0 refl))
 off false t n = refl
 
-pub judged-off : (place : ContextSite) (t : List Piece) → ¬ (IsInProfile t) → judged place (Some t) ≡ Err wrong_expression
-judged-off place t n =
-    ap (λ b. cond b (cond (is_allowed_in place t) (Ok t) (Err wrong_place)) (Err wrong_expression))
+pub judged-off : (site : ContextSite) (t : List Piece) → ¬ (IsInProfile t) → judged site (Some t) ≡ Err wrong_expression
+judged-off site t n =
+    ap (λ b. cond b (cond (is_allowed_in site t) (Ok t) (Err wrong_place)) (Err wrong_expression))
     (off (is_in_profile t) (Decides-profile t) n)
 
-in-profile : (place : ContextSite) (t : List Piece) → IsInProfile t
-    → judged place (Some t) ≡ cond (is_allowed_in place t) (Ok t) (Err wrong_place)
-in-profile place t p =
-    ap (λ b. cond b (cond (is_allowed_in place t) (Ok t) (Err wrong_place)) (Err wrong_expression)) ((Decides-profile t).1 p)
+in-profile : (site : ContextSite) (t : List Piece) → IsInProfile t
+    → judged site (Some t) ≡ cond (is_allowed_in site t) (Ok t) (Err wrong_place)
+in-profile site t p =
+    ap (λ b. cond b (cond (is_allowed_in site t) (Ok t) (Err wrong_place)) (Err wrong_expression)) ((Decides-profile t).1 p)
 
-pub judged-ok : (place : ContextSite) (t : List Piece) → IsInProfile t → AllowedIn place t → judged place (Some t) ≡ Ok t
-judged-ok place t p a = in-profile place t p ∙ ap (λ b. cond b (Ok t) (Err wrong_place)) ((Decides-allowed_in place t).1 a)
+pub judged-ok : (site : ContextSite) (t : List Piece) → IsInProfile t → AllowedIn site t → judged site (Some t) ≡ Ok t
+judged-ok site t p a = in-profile site t p ∙ ap (λ b. cond b (Ok t) (Err wrong_place)) ((Decides-allowed_in site t).1 a)
 
-pub judged-elsewhere : (place : ContextSite) (t : List Piece) → IsInProfile t → ¬ (AllowedIn place t) → judged place (Some t) ≡ Err wrong_place
-judged-elsewhere place t p n =
-    in-profile place t p ∙ ap (λ b. cond b (Ok t) (Err wrong_place)) (off (is_allowed_in place t) (Decides-allowed_in place t) n)
+pub judged-elsewhere : (site : ContextSite) (t : List Piece) → IsInProfile t → ¬ (AllowedIn site t) → judged site (Some t) ≡ Err wrong_place
+judged-elsewhere site t p n =
+    in-profile site t p ∙ ap (λ b. cond b (Ok t) (Err wrong_place)) (off (is_allowed_in site t) (Decides-allowed_in site t) n)
 
 -- a parsed text has these pieces
 pub read-some : (o : Option (List Piece)) (t : List Piece) → needed o ≡ Ok t → o ≡ Some t
 read-some None t e = cc
 read-some (Some u) t e = cc
 
-pub read-none : (place : ContextSite) (o : Option (List Piece)) (e : Refusal) → needed o ≡ Err e → judged place o ≡ Err e
-read-none place None e h = cc
-read-none place (Some t) e h = cc
+pub read-none : (site : ContextSite) (o : Option (List Piece)) (e : Refusal) → needed o ≡ Err e → judged site o ≡ Err e
+read-none site None e h = cc
+read-none site (Some t) e h = cc
 
 -- each answer of the function is an outcome by the grammar
-judged-outcome : (text : List ℕ) (place : ContextSite) (t : List Piece) → needed (pieces_of text) ≡ Ok t → (p a : Bool) → is_in_profile t ≡ p
-    → is_allowed_in place t ≡ a → IsOutcome text place (cond p (cond a (Ok t) (Err wrong_place)) (Err wrong_expression))
-judged-outcome text place t read false a e f =
+judged-outcome : (text : List ℕ) (site : ContextSite) (t : List Piece) → needed (pieces_of text) ≡ Ok t → (p a : Bool) → is_in_profile t ≡ p
+    → is_allowed_in site t ≡ a → IsOutcome text site (cond p (cond a (Ok t) (Err wrong_place)) (Err wrong_expression))
+judged-outcome text site t read false a e f =
     let P : List Piece → Type 0 = IsInProfile in
     inl (
       refl,
       λ u s. let ok = spelled-read text u s in let same : u ≡ t = cc in let yes =
           (Decides-profile t).1 (subst P same s.profile) in cc,
     )
-judged-outcome text place t read true true e f = (read-spelled text t read ((Decides-profile t).0 e), (Decides-allowed_in place t).0 f)
-judged-outcome text place t read true false e f =
-    inr (refl, (t, read-spelled text t read ((Decides-profile t).0 e), λ a. let yes = (Decides-allowed_in place t).1 a in cc))
+judged-outcome text site t read true true e f = (read-spelled text t read ((Decides-profile t).0 e), (Decides-allowed_in site t).0 f)
+judged-outcome text site t read true false e f =
+    inr (refl, (t, read-spelled text t read ((Decides-profile t).0 e), λ a. let yes = (Decides-allowed_in site t).1 a in cc))
 
-given : (text : List ℕ) (place : ContextSite) (o : Option (List Piece)) → pieces_of text ≡ o → IsOutcome text place (judged place o)
-given text place None e = inl (refl, λ t s. let ok = spelled-read text t s in cc)
-given text place (Some t) e = judged-outcome text place t (ap needed e) (is_in_profile t) (is_allowed_in place t) refl refl
+given : (text : List ℕ) (site : ContextSite) (o : Option (List Piece)) → pieces_of text ≡ o → IsOutcome text site (judged site o)
+given text site None e = inl (refl, λ t s. let ok = spelled-read text t s in cc)
+given text site (Some t) e = judged-outcome text site t (ap needed e) (is_in_profile t) (is_allowed_in site t) refl refl
 
 -- each outcome by the grammar is the function's answer
 read-of : (text : List ℕ) (t : List Piece) → Encodes text t → pieces_of text ≡ Some t
 read-of text t s = read-some (pieces_of text) t (spelled-read text t s)
 
-unspelled : (text : List ℕ) (place : ContextSite) (o : Option (List Piece)) → pieces_of text ≡ o → EncodesNone text
-    → judged place o ≡ Err wrong_expression
-unspelled text place None e n = refl
-unspelled text place (Some t) e n = judged-off place t (λ p. n t (read-spelled text t (ap needed e) p))
+unspelled : (text : List ℕ) (site : ContextSite) (o : Option (List Piece)) → pieces_of text ≡ o → EncodesNone text
+    → judged site o ≡ Err wrong_expression
+unspelled text site None e n = refl
+unspelled text site (Some t) e n = judged-off site t (λ p. n t (read-spelled text t (ap needed e) p))
 
-computed : (text : List ℕ) (place : ContextSite) (outcome : Result (List Piece) Refusal) → IsOutcome text place outcome
-    → template_of text place ≡ outcome
-computed text place (Ok t) o = ap (judged place) (read-of text t o.0) ∙ judged-ok place t o.0.profile o.1
-computed text place (Err e) (inl p) = unspelled text place (pieces_of text) refl p.1 ∙ ap Err (sym p.0)
-computed text place (Err e) (inr p) =
-    ap (judged place) (read-of text p.1.0 p.1.1) ∙ (judged-elsewhere place p.1.0 p.1.1.profile p.1.2 ∙ ap Err (sym p.0))
+computed : (text : List ℕ) (site : ContextSite) (outcome : Result (List Piece) Refusal) → IsOutcome text site outcome
+    → template_of text site ≡ outcome
+computed text site (Ok t) o = ap (judged site) (read-of text t o.0) ∙ judged-ok site t o.0.profile o.1
+computed text site (Err e) (inl p) = unspelled text site (pieces_of text) refl p.1 ∙ ap Err (sym p.0)
+computed text site (Err e) (inr p) =
+    ap (judged site) (read-of text p.1.0 p.1.1) ∙ (judged-elsewhere site p.1.0 p.1.1.profile p.1.2 ∙ ap Err (sym p.0))
 
-outcome-of : (text : List ℕ) (place : ContextSite) (outcome : Result (List Piece) Refusal) → template_of text place ≡ outcome
-    → IsOutcome text place outcome
-outcome-of text place outcome e =
-    let P : Result (List Piece) Refusal → Type 0 = IsOutcome text place in
-    subst P e (given text place (pieces_of text) refl)
+outcome-of : (text : List ℕ) (site : ContextSite) (outcome : Result (List Piece) Refusal) → template_of text site ≡ outcome
+    → IsOutcome text site outcome
+outcome-of text site outcome e =
+    let P : Result (List Piece) Refusal → Type 0 = IsOutcome text site in
+    subst P e (given text site (pieces_of text) refl)
 
-pub grammars-answer : (text : List ℕ) (place : ContextSite) (outcome : Result (List Piece) Refusal) → IsOutcome text place outcome
-    ↔ (template_of text place ≡ outcome)
-grammars-answer text place outcome = (computed text place outcome, outcome-of text place outcome)
+pub grammars-answer : (text : List ℕ) (site : ContextSite) (outcome : Result (List Piece) Refusal) → IsOutcome text site outcome
+    ↔ (template_of text site ≡ outcome)
+grammars-answer text site outcome = (computed text site outcome, outcome-of text site outcome)
 
 -- ---- the clauses of `parse`, from the result
 abbrev GivesIt : List ℕ → ContextSite → Result (List Piece) Refusal → Type 0
-GivesIt text place r = Gives (λ p. p) r (template_of text place)
+GivesIt text site r = Gives (λ p. p) r (template_of text site)
 
-pub when-outcome : (text : List ℕ) (place : ContextSite) (r : Result (List Piece) Refusal) → GivesIt text place r
-    → (outcome : Result (List Piece) Refusal) → IsOutcome text place outcome → Gives (λ p. p) r outcome
-when-outcome text place r g outcome o =
+pub when-outcome : (text : List ℕ) (site : ContextSite) (r : Result (List Piece) Refusal) → GivesIt text site r
+    → (outcome : Result (List Piece) Refusal) → IsOutcome text site outcome → Gives (λ p. p) r outcome
+when-outcome text site r g outcome o =
     let P : Result (List Piece) Refusal → Type 0 = Gives (λ p. p) r in
-    subst P (computed text place outcome o) g
+    subst P (computed text site outcome o) g
 
-pub when-ok : (text : List ℕ) (place : ContextSite) (r : Result (List Piece) Refusal) → GivesIt text place r
-    → IfOk r (λ t. Encodes text t × AllowedIn place t)
-when-ok text place (Ok t) g = outcome-of text place (Ok t) g
-when-ok text place (Err e) g = tt
+pub when-ok : (text : List ℕ) (site : ContextSite) (r : Result (List Piece) Refusal) → GivesIt text site r
+    → IfOk r (λ t. Encodes text t × AllowedIn site t)
+when-ok text site (Ok t) g = outcome-of text site (Ok t) g
+when-ok text site (Err e) g = tt
 
-pub only-expression : (text : List ℕ) (place : ContextSite) (r : Result (List Piece) Refusal) → GivesIt text place r → r ≡ Err wrong_expression
+pub only-expression : (text : List ℕ) (site : ContextSite) (r : Result (List Piece) Refusal) → GivesIt text site r → r ≡ Err wrong_expression
     → EncodesNone text
-only-expression text place (Ok t) g h = cc
-only-expression text place (Err e) (inl m) h = let same : e ≡ wrong_expression = cc in cc
-only-expression text place (Err e) (inr g) h =
-    elim (outcome-of text place (Err e) g) [ inl p ↦ p.1 | inr p ↦ let same : e ≡ wrong_expression = cc in let other = p.0 in cc ]
+only-expression text site (Ok t) g h = cc
+only-expression text site (Err e) (inl m) h = let same : e ≡ wrong_expression = cc in cc
+only-expression text site (Err e) (inr g) h =
+    elim (outcome-of text site (Err e) g) [ inl p ↦ p.1 | inr p ↦ let same : e ≡ wrong_expression = cc in let other = p.0 in cc ]
 
-pub only-place : (text : List ℕ) (place : ContextSite) (r : Result (List Piece) Refusal) → GivesIt text place r → r ≡ Err wrong_place
-    → EncodesElsewhere text place
-only-place text place (Ok t) g h = cc
-only-place text place (Err e) (inl m) h = let same : e ≡ wrong_place = cc in cc
-only-place text place (Err e) (inr g) h =
-    elim (outcome-of text place (Err e) g) [ inl p ↦ let same : e ≡ wrong_place = cc in let other = p.0 in cc | inr p ↦ p.1 ]
+pub only-site : (text : List ℕ) (site : ContextSite) (r : Result (List Piece) Refusal) → GivesIt text site r → r ≡ Err wrong_place
+    → EncodesElsewhere text site
+only-site text site (Ok t) g h = cc
+only-site text site (Err e) (inl m) h = let same : e ≡ wrong_place = cc in cc
+only-site text site (Err e) (inr g) h =
+    elim (outcome-of text site (Err e) g) [ inl p ↦ let same : e ≡ wrong_place = cc in let other = p.0 in cc | inr p ↦ p.1 ]
 
-pub which-error : (text : List ℕ) (place : ContextSite) (r : Result (List Piece) Refusal) → GivesIt text place r
+pub which-error : (text : List ℕ) (site : ContextSite) (r : Result (List Piece) Refusal) → GivesIt text site r
     → IfErr r (λ e. (e ≡ wrong_expression) ⊎ (e ≡ wrong_place) ⊎ (e ≡ no_memory))
-which-error text place (Ok t) g = tt
-which-error text place (Err e) (inl m) = inr (inr m)
-which-error text place (Err e) (inr g) = elim (outcome-of text place (Err e) g) [ inl p ↦ inl p.0 | inr p ↦ inr (inl p.0) ]
+which-error text site (Ok t) g = tt
+which-error text site (Err e) (inl m) = inr (inr m)
+which-error text site (Err e) (inr g) = elim (outcome-of text site (Err e) g) [ inl p ↦ inl p.0 | inr p ↦ inr (inl p.0) ]

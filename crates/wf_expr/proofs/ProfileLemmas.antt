@@ -10,8 +10,8 @@ use Rattle.wf_expr.specs.Profile.{IsShared, IsInContext, InProfile, IsAllowed, O
 use Rattle.wf_expr.specs.Profile.{reference_count}
 use Rattle.wf_expr.specs.Parsing.{is_result, is_shared, is_in_context, is_path, is_allowed, of_reference, of_references, is_in_profile}
 use Rattle.wf_expr.specs.Parsing.{is_allowed_in}
-use Rattle.wf_expr.specs.declared.place.ContextSite.{ContextSite}
-use Rattle.wf_expr.specs.declared.place.ContextSite.TheVariants.{Workflow, Job}
+use Rattle.wf_expr.specs.declared.context_site.ContextSite.{ContextSite}
+use Rattle.wf_expr.specs.declared.context_site.ContextSite.TheVariants.{Workflow, Job}
 use Rattle.wf_expr.specs.declared.piece.Operand.{Operand}
 use Rattle.wf_expr.specs.declared.piece.Operand.TheVariants.{Quoted, Reference}
 use Rattle.wf_expr.specs.declared.piece.Piece.{Piece}
@@ -47,7 +47,7 @@ Decides-in_profile [] = never
 Decides-in_profile (c ∷ []) = never
 Decides-in_profile (c ∷ n ∷ ns) = Decides-in_context c ns
 
-Decides-allowed : (place : ContextSite) (path : List (List ℕ)) → Decides (is_allowed place path) (IsAllowed place path)
+Decides-allowed : (site : ContextSite) (path : List (List ℕ)) → Decides (is_allowed site path) (IsAllowed site path)
 Decides-allowed Job path = always
 Decides-allowed Workflow [] = never
 Decides-allowed Workflow (c ∷ ns) = Decides-shared c
@@ -73,7 +73,7 @@ Decides-profile ts =
     let both = Decides-and _ _ each few in
     (λ e. let h = both.0 e in record { each = h.0; few = h.1 }, λ h. both.1 (h.each, h.few))
 
-pub Decides-allowed_in : (place : ContextSite) (ts : List Piece) → Decides (is_allowed_in place ts) (AllowedIn place ts)
-Decides-allowed_in place ts =
-    Decides-all (of_references (is_allowed place)) (OfReferences (IsAllowed place))
-    (Decides-references (is_allowed place) (IsAllowed place) (Decides-allowed place)) ts
+pub Decides-allowed_in : (site : ContextSite) (ts : List Piece) → Decides (is_allowed_in site ts) (AllowedIn site ts)
+Decides-allowed_in site ts =
+    Decides-all (of_references (is_allowed site)) (OfReferences (IsAllowed site))
+    (Decides-references (is_allowed site) (IsAllowed site) (Decides-allowed site)) ts

@@ -12,8 +12,8 @@ use Rattle.wf_expr.specs.TemplateValue.{Values, template_value}
 use Rattle.wf_expr.specs.Faults.{wrong_expression, wrong_place}
 use Rattle.wf_expr.specs.Grammar.{begins_name, continues_name}
 use Rattle.wf_expr.specs.Parsing.{template_of, run}
-use Rattle.wf_expr.specs.declared.place.ContextSite.{ContextSite}
-use Rattle.wf_expr.specs.declared.place.ContextSite.TheVariants.{Workflow, Job}
+use Rattle.wf_expr.specs.declared.context_site.ContextSite.{ContextSite}
+use Rattle.wf_expr.specs.declared.context_site.ContextSite.TheVariants.{Workflow, Job}
 use Rattle.wf_expr.specs.declared.piece.Operand.TheVariants.{Quoted, Reference}
 use Rattle.wf_expr.specs.declared.piece.Piece.{Piece}
 use Rattle.wf_expr.specs.declared.piece.Piece.TheVariants.{Plain, Braced}
@@ -25,7 +25,7 @@ run_name =
     ∷ Braced (Reference (codes "github" ∷ codes "head_ref" ∷ []) ∷ Reference (codes "github" ∷ codes "run_id" ∷ []) ∷ [])
     ∷ []
 
--- each text, its place, and the result of parsing it
+-- each text, its site, and the result of parsing it
 abbrev texts : List (List ℕ × ContextSite × Result (List Piece) Refusal)
 texts =
     (codes "${{ github.workflow }}-${{ github.head_ref || github.run_id }}", Workflow, Ok run_name)

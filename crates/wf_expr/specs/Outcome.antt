@@ -1,21 +1,21 @@
--- The outcome of parsing a text for a place, in terms of the grammar.
+-- The outcome of parsing a text for a site, in terms of the grammar.
 use Rattle.std.specs.Prelude.{◌≡◌, ◌⊎◌, ℕ, List, Result, Ok, Err}
 use Rattle.wf_value.specs.declared.refusal.Refusal.{Refusal}
 use Rattle.wf_expr.specs.Faults.{wrong_expression, wrong_place}
 use Rattle.wf_expr.specs.Profile.{Encodes, AllowedIn}
 use Rattle.wf_expr.specs.declared.piece.Piece.{Piece}
-use Rattle.wf_expr.specs.declared.place.ContextSite.{ContextSite}
+use Rattle.wf_expr.specs.declared.context_site.ContextSite.{ContextSite}
 
 -- the text is not a template
 abbrev pub EncodesNone : List ℕ → Type 0
 EncodesNone text = (t : List Piece) → ¬ (Encodes text t)
 
--- the text is a template with a context that the place does not allow
+-- the text is a template with a context that the site does not allow
 abbrev pub EncodesElsewhere : List ℕ → ContextSite → Type 0
-EncodesElsewhere text place = (t : List Piece) × Encodes text t × (¬ (AllowedIn place t))
+EncodesElsewhere text site = (t : List Piece) × Encodes text t × (¬ (AllowedIn site t))
 
--- the template, if the text is one and the place allows its contexts; 17 if the text is not a template; 18 if it is a template with
--- a context that the place does not allow
+-- the template, if the text is one and the site allows its contexts; 17 if the text is not a template; 18 if it is a template with
+-- a context that the site does not allow
 abbrev pub IsOutcome : List ℕ → ContextSite → Result (List Piece) Refusal → Type 0
-IsOutcome text place (Ok t) = Encodes text t × AllowedIn place t
-IsOutcome text place (Err e) = ((e ≡ wrong_expression) × EncodesNone text) ⊎ ((e ≡ wrong_place) × EncodesElsewhere text place)
+IsOutcome text site (Ok t) = Encodes text t × AllowedIn site t
+IsOutcome text site (Err e) = ((e ≡ wrong_expression) × EncodesNone text) ⊎ ((e ≡ wrong_place) × EncodesElsewhere text site)

@@ -17,8 +17,8 @@ use Rattle.wf_expr.specs.declared.reader.Reader.TheVariants.{InQuoted, AfterQuot
 use Rattle.std.specs.List.{list_all}
 use Rattle.definitions.specs.Limits.{max_references}
 use Rattle.wf_expr.specs.Profile.{reference_count}
-use Rattle.wf_expr.specs.declared.place.ContextSite.{ContextSite}
-use Rattle.wf_expr.specs.declared.place.ContextSite.TheVariants.{Workflow, Job}
+use Rattle.wf_expr.specs.declared.context_site.ContextSite.{ContextSite}
+use Rattle.wf_expr.specs.declared.context_site.ContextSite.TheVariants.{Workflow, Job}
 
 -- ---- parsing a template from left to right, one character at a time. The module `Grammar` defines which texts it accepts.
 
@@ -94,7 +94,7 @@ run r (c ∷ cs) = option_and_then (λ next. run next cs) (taken r c)
 abbrev pub pieces_of : List ℕ → Option (List Piece)
 pieces_of text = run (InText [] []) (chars text)
 
--- ---- parsing a text for a place, as a function that computes what `Outcome` defines.
+-- ---- parsing a text for a site, as a function that computes what `Outcome` defines.
 
 -- whether the list is the one name `result`
 abbrev pub is_result : List (List ℕ) → Bool
@@ -133,12 +133,12 @@ abbrev pub is_in_profile : List Piece → Bool
 is_in_profile pieces = list_all (of_references is_path) pieces && nat_le (sum_by reference_count pieces) max_references
 
 abbrev pub is_allowed_in : ContextSite → List Piece → Bool
-is_allowed_in place = list_all (of_references (is_allowed place))
+is_allowed_in site = list_all (of_references (is_allowed site))
 
 -- the template, if it is in the profile and allowed, else the refusal; 17 comes before 18
 abbrev pub judged : ContextSite → Option (List Piece) → Result (List Piece) Refusal
-judged place None = Err wrong_expression
-judged place (Some t) = if is_in_profile t then (if is_allowed_in place t then Ok t else Err wrong_place) else Err wrong_expression
+judged site None = Err wrong_expression
+judged site (Some t) = if is_in_profile t then (if is_allowed_in site t then Ok t else Err wrong_place) else Err wrong_expression
 
 abbrev pub template_of : List ℕ → ContextSite → Result (List Piece) Refusal
-template_of text place = judged place (pieces_of text)
+template_of text site = judged site (pieces_of text)

@@ -3,14 +3,14 @@ use Rattle.std.specs.Prelude.{◌≡◌, ◌⊎◌, ◌≤◌, ℕ, List, [], �
 use Rattle.std.specs.Str.{chars}
 use Rattle.definitions.specs.Limits.{max_references}
 use Rattle.wf_expr.specs.Grammar.{EncodesPieces}
-use Rattle.wf_expr.specs.declared.place.ContextSite.{ContextSite}
-use Rattle.wf_expr.specs.declared.place.ContextSite.TheVariants.{Workflow, Job}
+use Rattle.wf_expr.specs.declared.context_site.ContextSite.{ContextSite}
+use Rattle.wf_expr.specs.declared.context_site.ContextSite.TheVariants.{Workflow, Job}
 use Rattle.wf_expr.specs.declared.piece.Operand.{Operand}
 use Rattle.wf_expr.specs.declared.piece.Operand.TheVariants.{Quoted, Reference}
 use Rattle.wf_expr.specs.declared.piece.Piece.{Piece}
 use Rattle.wf_expr.specs.declared.piece.Piece.TheVariants.{Plain, Braced}
 
--- the contexts that every place may use
+-- the contexts that every site may use
 abbrev pub IsShared : List ℕ → Type 0
 IsShared name = (name ≡ codes "github") ⊎ (name ≡ codes "inputs") ⊎ (name ≡ codes "vars")
 
@@ -62,6 +62,6 @@ pub record Encodes (text : List ℕ) (pieces : List Piece) : Type 0 where
   pub grammar : EncodesPieces (chars text) pieces
   pub profile : IsInProfile pieces
 
--- the place allows each context
+-- the site allows each context
 abbrev pub AllowedIn : ContextSite → List Piece → Type 0
-AllowedIn place = All (OfReferences (IsAllowed place))
+AllowedIn site = All (OfReferences (IsAllowed site))

@@ -4,17 +4,17 @@ ghost use Rattle.wf_expr.specs.Outcome.{IsOutcome};
 ghost use Rattle.wf_expr.specs.Parsing.{template_of};
 ghost use Rattle.wf_expr.specs.Profile.{Encodes};
 ghost use Rattle.wf_expr.specs.declared.piece.Piece.{Piece};
-ghost use Rattle.wf_expr.specs.declared.place.ContextSite.{ContextSite};
+ghost use Rattle.wf_expr.specs.declared.context_site.ContextSite.{ContextSite};
 
 /// A text is the source of at most one template.
 pub fn spells_one_template()
     ensures { (text : List ℕ) (t u : List Piece) → Encodes text t → Encodes text u → t ≡ u }
 {}
 
-/// Every text has exactly one outcome in each place, and `template_of` computes it: the template, if the text is one and the place
+/// Every text has exactly one outcome in each site, and `template_of` computes it: the template, if the text is one and the site
 /// allows its contexts; 17 if and only if the text is not a template; and 18 if and only if it is a template with a context that
-/// the place does not allow.
+/// the site does not allow.
 pub fn template_of_is_the_grammars()
-    ensures { (text : List ℕ) (place : ContextSite) (outcome : Result (List Piece) Refusal) →
-        IsOutcome text place outcome ↔ (template_of text place ≡ outcome) }
+    ensures { (text : List ℕ) (site : ContextSite) (outcome : Result (List Piece) Refusal) →
+        IsOutcome text site outcome ↔ (template_of text site ≡ outcome) }
 {}

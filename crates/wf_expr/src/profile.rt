@@ -3,8 +3,8 @@ ghost use Rattle.definitions.specs.Limits.{max_references};
 ghost use Rattle.wf_expr.specs.Profile.{IsShared, IsInContext, InProfile, IsAllowed, OfReference, OfReferences, AllowedIn};
 ghost use Rattle.wf_expr.specs.Profile.{IsInProfile, is_reference, reference_count};
 
+use crate::context_site::ContextSite;
 use crate::piece::{Operand, Piece};
-use crate::place::ContextSite;
 use wf_value::Chars;
 
 /// The maximum number of references in a template.
@@ -56,11 +56,11 @@ fn is_text(name: &Chars, text: &str) -> bool
     name.as_str() == text
 }
 
-/// Whether a reference with these names is allowed in the place.
-pub(crate) fn is_allowed(place: ContextSite, path: &[Chars]) -> bool
-    ensures { IsTrue result ↔ IsAllowed place path.now }
+/// Whether a reference with these names is allowed in the site.
+pub(crate) fn is_allowed(site: ContextSite, path: &[Chars]) -> bool
+    ensures { IsTrue result ↔ IsAllowed site path.now }
 {
-    match (place, path) {
+    match (site, path) {
         (ContextSite::Job, _) => true,
         (ContextSite::Workflow, []) => false,
         (ContextSite::Workflow, [context, ..]) => is_shared(context.as_str()),
@@ -97,37 +97,37 @@ fn pieces_in_profile(pieces: &[Piece]) -> bool
     pieces.iter().all(|piece| piece_in_profile(piece))
 }
 
-fn operand_allowed(place: ContextSite, operand: &Operand) -> bool
-    ensures { IsTrue result ↔ OfReference (IsAllowed place) operand.now }
+fn operand_allowed(site: ContextSite, operand: &Operand) -> bool
+    ensures { IsTrue result ↔ OfReference (IsAllowed site) operand.now }
 {
     match operand {
         Operand::Quoted(_) => true,
-        Operand::Reference(path) => is_allowed(place, path.as_slice()),
+        Operand::Reference(path) => is_allowed(site, path.as_slice()),
     }
 }
 
-fn operands_allowed(place: ContextSite, operands: &[Operand]) -> bool
-    ensures { IsTrue result ↔ All (OfReference (IsAllowed place)) operands.now }
+fn operands_allowed(site: ContextSite, operands: &[Operand]) -> bool
+    ensures { IsTrue result ↔ All (OfReference (IsAllowed site)) operands.now }
 {
     operands
         .iter()
-        .all(|operand| operand_allowed(place, operand))
+        .all(|operand| operand_allowed(site, operand))
 }
 
-fn piece_allowed(place: ContextSite, piece: &Piece) -> bool
-    ensures { IsTrue result ↔ OfReferences (IsAllowed place) piece.now }
+fn piece_allowed(site: ContextSite, piece: &Piece) -> bool
+    ensures { IsTrue result ↔ OfReferences (IsAllowed site) piece.now }
 {
     match piece {
         Piece::Plain(_) => true,
-        Piece::Braced(operands) => operands_allowed(place, operands.as_slice()),
+        Piece::Braced(operands) => operands_allowed(site, operands.as_slice()),
     }
 }
 
-/// Whether the place allows every context.
-pub(crate) fn pieces_allowed(place: ContextSite, pieces: &[Piece]) -> bool
-    ensures { IsTrue result ↔ AllowedIn place pieces.now }
+/// Whether the site allows every context.
+pub(crate) fn pieces_allowed(site: ContextSite, pieces: &[Piece]) -> bool
+    ensures { IsTrue result ↔ AllowedIn site pieces.now }
 {
-    pieces.iter().all(|piece| piece_allowed(place, piece))
+    pieces.iter().all(|piece| piece_allowed(site, piece))
 }
 
 fn references_of(operands: &[Operand]) -> usize

@@ -13,9 +13,9 @@ ghost use Rattle.wf_expr.specs.Profile.{Encodes, AllowedIn};
 use crate::case::Case;
 use crate::comparison::are_text;
 use crate::context::Context;
+use crate::context_site::ContextSite;
 use crate::flag::view_sets_flag;
 use crate::piece::Piece;
-use crate::place::ContextSite;
 use crate::profile::{are_in_profile, pieces_allowed};
 use crate::reader::read;
 use crate::value::{expression_value, joined};
@@ -39,7 +39,7 @@ impl Model for Template {
 }
 
 impl Template {
-    /// Parses a text. The `Err` is 17 if the text is not a template, else 18 if the place does not allow the context of a
+    /// Parses a text. The `Err` is 17 if the text is not a template, else 18 if the site does not allow the context of a
     /// reference, and 50 when out of memory.
     /// Promise (Needs, matrices, templates and values): Parsing answers the grammar's outcome, in both directions: the template, 17 or 18; a
     ///   text has one outcome
@@ -47,16 +47,16 @@ impl Template {
     /// Refusal (The layers below): `wf_expr`: `Template::parse`
     /// When: 17, then 18: exactly, with memory. 50: else
     /// Afterwards: nothing is made
-    /// By: `grammar`, `expression`, `place`, `errors`
-    pub fn parse(alloc: Global, text: &str, place: ContextSite) -> Result<Template, Refusal>
-        ensures exact { Gives (λ p. p) result (template_of text.now place) }
-        ensures grammar { (outcome : Result (List Piece) Refusal) → IsOutcome text.now place outcome → Gives (λ p. p) result outcome }
-        ensures ok { IfOk result (λ t. Encodes text.now t × AllowedIn place t) }
+    /// By: `grammar`, `expression`, `site`, `errors`
+    pub fn parse(alloc: Global, text: &str, site: ContextSite) -> Result<Template, Refusal>
+        ensures exact { Gives (λ p. p) result (template_of text.now site) }
+        ensures grammar { (outcome : Result (List Piece) Refusal) → IsOutcome text.now site outcome → Gives (λ p. p) result outcome }
+        ensures ok { IfOk result (λ t. Encodes text.now t × AllowedIn site t) }
         ensures expression { result ≡ Err wrong_expression → EncodesNone text.now }
-        ensures place { result ≡ Err wrong_place → EncodesElsewhere text.now place }
+        ensures site { result ≡ Err wrong_place → EncodesElsewhere text.now site }
         ensures errors { IfErr result (λ e. (e ≡ wrong_expression) ⊎ (e ≡ wrong_place) ⊎ (e ≡ no_memory)) }
     {
-        parsed(alloc, text, place)
+        parsed(alloc, text, site)
     }
 
     /// Promise (Needs, matrices, templates and values): Templates are seen as the list of their pieces; copies are the same list
@@ -117,14 +117,14 @@ impl TryCopy for Template {
     }
 }
 
-fn parsed(alloc: Global, text: &str, place: ContextSite) -> Result<Template, Refusal>
-    ensures { Gives (λ p. p) result (template_of text.now place) }
+fn parsed(alloc: Global, text: &str, site: ContextSite) -> Result<Template, Refusal>
+    ensures { Gives (λ p. p) result (template_of text.now site) }
 {
     let pieces = read(alloc, text)?;
     if !are_in_profile(pieces.as_slice()) {
         return Err(Refusal::Numbered(Code::Expression));
     }
-    if !pieces_allowed(place, pieces.as_slice()) {
+    if !pieces_allowed(site, pieces.as_slice()) {
         return Err(Refusal::Numbered(Code::PlaceOfContext));
     }
     Ok(Template { pieces })

@@ -5,7 +5,7 @@ use Rattle.std.specs.Prelude.{◌++◌, nat_le}
 use Rattle.wf_value.specs.declared.refusal.Refusal.{Refusal}
 use Rattle.wf_expr.specs.Parsing.{template_of}
 use Rattle.wf_expr.specs.declared.piece.Piece.{Piece}
-use Rattle.wf_expr.specs.declared.place.ContextSite.{ContextSite}
+use Rattle.wf_expr.specs.declared.context_site.ContextSite.{ContextSite}
 use Rattle.wf_reader.specs.Faults.{outcome_faults, fault, text_faults, fault_unless, faults_in_order, optional, required, left_out}
 use Rattle.wf_reader.specs.Faults.{faults_within}
 use Rattle.serde_json.specs.Data.{Data, null, boolean, number, string, array, object, no_items, item}
@@ -23,7 +23,7 @@ use Rattle.serde_json.specs.Find.{get, as_bool, as_str}
 use Rattle.wf_reader.specs.declared.concurrency.Concurrency.{Concurrency}
 use Rattle.std.specs.Char.{is_ascii_alphabetic, is_ascii_digit}
 use Rattle.definitions.specs.Limits.{max_job_id}
-use Rattle.wf_expr.specs.declared.place.ContextSite.TheVariants as context_site
+use Rattle.wf_expr.specs.declared.context_site.ContextSite.TheVariants as context_site
 use Rattle.wf_reader.specs.Strategy.{strategy_faults, strategy_of}
 use Rattle.wf_reader.specs.declared.job.Job.{Job}
 
@@ -34,33 +34,33 @@ abbrev outcome_pieces : Result (List Piece) Refusal → List Piece
 outcome_pieces (Ok t) = t
 outcome_pieces (Err e) = []
 
--- 17 if the text is not a template, else 18 if the place does not allow one of its contexts
+-- 17 if the text is not a template, else 18 if the site does not allow one of its contexts
 abbrev pub template_faults : ContextSite → List ℕ → List Refusal
-template_faults place text = outcome_faults (template_of text place)
+template_faults site text = outcome_faults (template_of text site)
 
 -- the pieces of the text's template
 abbrev pub template_in : ContextSite → List ℕ → List Piece
-template_in place text = outcome_pieces (template_of text place)
+template_in site text = outcome_pieces (template_of text site)
 
 -- ---- members that set a flag: a boolean, or a template whose value decides. GitHub Docs, "Workflow syntax for GitHub Actions":
 -- jobs.<job_id>.continue-on-error, concurrency (cancel-in-progress).
 
 abbrev pub flag_faults : ContextSite → Data → List Refusal
-flag_faults place null = fault WrongKind
-flag_faults place (boolean b) = []
-flag_faults place (number n) = fault WrongKind
-flag_faults place (string t) = template_faults place t
-flag_faults place (array ds) = fault WrongKind
-flag_faults place (object ms) = fault WrongKind
+flag_faults site null = fault WrongKind
+flag_faults site (boolean b) = []
+flag_faults site (number n) = fault WrongKind
+flag_faults site (string t) = template_faults site t
+flag_faults site (array ds) = fault WrongKind
+flag_faults site (object ms) = fault WrongKind
 
 -- a missing flag is not set
 abbrev pub flag_in : ContextSite → Data → Flag
-flag_in place null = Fixed false
-flag_in place (boolean b) = Fixed b
-flag_in place (number n) = Fixed false
-flag_in place (string t) = Template (template_in place t)
-flag_in place (array ds) = Fixed false
-flag_in place (object ms) = Fixed false
+flag_in site null = Fixed false
+flag_in site (boolean b) = Fixed b
+flag_in site (number n) = Fixed false
+flag_in site (string t) = Template (template_in site t)
+flag_in site (array ds) = Fixed false
+flag_in site (object ms) = Fixed false
 
 -- ---- the `needs` of a job: the ids that it lists. GitHub Docs, "Workflow syntax for GitHub Actions": jobs.<job_id>.needs.
 
@@ -171,14 +171,14 @@ is_concurrency d =
 -- ---- all kinds are checked before the templates, and the group before `cancel-in-progress`
 
 abbrev pub concurrency_faults : ContextSite → Data → List Refusal
-concurrency_faults place d = faults_in_order (fault_unless (is_concurrency d) WrongKind
-    ∷ template_faults place (unwrap_or (group_text d) [])
-    ∷ optional (flag_faults place) (get (codes "cancel-in-progress") d) ∷ [])
+concurrency_faults site d = faults_in_order (fault_unless (is_concurrency d) WrongKind
+    ∷ template_faults site (unwrap_or (group_text d) [])
+    ∷ optional (flag_faults site) (get (codes "cancel-in-progress") d) ∷ [])
 
 abbrev pub concurrency_in : ContextSite → Data → Concurrency
-concurrency_in place d = record {
-  group = template_in place (unwrap_or (group_text d) []);
-  cancel_in_progress = flag_in place (member_at (codes "cancel-in-progress") d);
+concurrency_in site d = record {
+  group = template_in site (unwrap_or (group_text d) []);
+  cancel_in_progress = flag_in site (member_at (codes "cancel-in-progress") d);
 }
 
 -- ---- a job of a workflow: its faults and its value. `Needs`, `Condition`, `Concurrency` and `Strategy` define its needs, if,

@@ -9,7 +9,7 @@ use Rattle.wf_value.specs.declared.code.Code.TheVariants.{NotJson, TooLong, Wron
 use Rattle.wf_value.specs.declared.refusal.Refusal.{Refusal}
 use Rattle.wf_reader.specs.Faults.{fault, required, fault_unless, faults_in_order, optional, text_faults, faults_within}
 use Rattle.serde_json.specs.Find.{get}
-use Rattle.wf_expr.specs.declared.place.ContextSite.TheVariants as place
+use Rattle.wf_expr.specs.declared.context_site.ContextSite.TheVariants as context_site
 use Rattle.wf_reader.specs.Job.{concurrency_faults, concurrency_in, job_faults, job_of}
 use Rattle.wf_reader.specs.Json.{text_in, members_of, member_at}
 use Rattle.wf_reader.specs.declared.workflow.Workflow.{Workflow}
@@ -39,7 +39,7 @@ jobs_faults (j ∷ js) = fault_unless (nat_le (length (j ∷ js)) max_jobs) TooM
 
 abbrev pub inside_workflow : Data → List Refusal
 inside_workflow d = faults_in_order (optional text_faults (get (codes "name") d)
-    ∷ optional (concurrency_faults place.Workflow) (get (codes "concurrency") d)
+    ∷ optional (concurrency_faults context_site.Workflow) (get (codes "concurrency") d)
     ∷ jobs_faults (members_of (member_at (codes "jobs") d)) ∷ [])
 
 -- the faults of a value as a workflow
@@ -49,7 +49,7 @@ workflow_faults_in = faults_within inside_workflow
 abbrev pub workflow_in : Data → Workflow
 workflow_in d = record {
   name = text_in (member_at (codes "name") d);
-  concurrency = option_map (concurrency_in place.Workflow) (get (codes "concurrency") d);
+  concurrency = option_map (concurrency_in context_site.Workflow) (get (codes "concurrency") d);
   jobs = map job_of (members_of (member_at (codes "jobs") d));
 }
 

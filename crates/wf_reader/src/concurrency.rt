@@ -80,25 +80,25 @@ pub fn is_concurrency(value: &Value) -> bool
     }
 }
 
-/// The group of a value of that kind: 17 if its text is not a template, else 18 if the place does not allow one of its contexts.
-pub fn read_group(alloc: Global, value: &Value, place: ContextSite) -> Result<Template, Refusal>
+/// The group of a value of that kind: 17 if its text is not a template, else 18 if the site does not allow one of its contexts.
+pub fn read_group(alloc: Global, value: &Value, site: ContextSite) -> Result<Template, Refusal>
     ensures { Gives (λ t. t) result
-        (unless_faulty (template_faults place (unwrap_or (group_text (view value.now)) []))
-        (template_in place (unwrap_or (group_text (view value.now)) []))) }
+        (unless_faulty (template_faults site (unwrap_or (group_text (view value.now)) []))
+        (template_in site (unwrap_or (group_text (view value.now)) []))) }
 {
-    Template::parse(alloc, group_text(value).unwrap_or(""), place)
+    Template::parse(alloc, group_text(value).unwrap_or(""), site)
 }
 
 /// The concurrency of a value: 11 if it or one of its members has a wrong kind, then the faults of its templates.
-fn concurrency_of(alloc: Global, value: &Value, place: ContextSite) -> Result<Concurrency, Refusal>
+fn concurrency_of(alloc: Global, value: &Value, site: ContextSite) -> Result<Concurrency, Refusal>
     ensures { Gives (λ c. c) result
-        (unless_faulty (concurrency_faults place (view value.now)) (concurrency_in place (view value.now))) }
+        (unless_faulty (concurrency_faults site (view value.now)) (concurrency_in site (view value.now))) }
 {
     if !is_concurrency(value) {
         return Err(wrong_kind());
     }
-    let group = read_group(alloc, value, place)?;
-    let cancel_in_progress = read_flag(alloc, value, "cancel-in-progress", place)?;
+    let group = read_group(alloc, value, site)?;
+    let cancel_in_progress = read_flag(alloc, value, "cancel-in-progress", site)?;
     Ok(Concurrency {
         group,
         cancel_in_progress,
@@ -109,14 +109,14 @@ fn concurrency_of(alloc: Global, value: &Value, place: ContextSite) -> Result<Co
 pub fn read_concurrency(
     alloc: Global,
     object: &Value,
-    place: ContextSite,
+    site: ContextSite,
 ) -> Result<Option<Concurrency>, Refusal>
     ensures { Gives (λ c. c) result
-        (unless_faulty (optional (concurrency_faults place) (get (codes "concurrency") (view object.now)))
-        (option_map (concurrency_in place) (get (codes "concurrency") (view object.now)))) }
+        (unless_faulty (optional (concurrency_faults site) (get (codes "concurrency") (view object.now)))
+        (option_map (concurrency_in site) (get (codes "concurrency") (view object.now)))) }
 {
     match object.get("concurrency") {
-        Some(value) => Ok(Some(concurrency_of(alloc, value, place)?)),
+        Some(value) => Ok(Some(concurrency_of(alloc, value, site)?)),
         None => Ok(None),
     }
 }

@@ -10,7 +10,7 @@ ghost use Rattle.wf_value.specs.declared.refusal.Refusal.TheVariants.{Numbered};
 ghost use Rattle.wf_reader.specs.Faults.{unless_faulty, required};
 ghost use Rattle.wf_reader.specs.Workflow.{workflow_faults_in, workflow_in};
 
-use crate::body::{MAX_BODY, read_body};
+use crate::body::read_body;
 use crate::contexts::Contexts;
 use crate::fields::{check_contexts, read_filled_text, wrong_kind};
 use crate::workflow::{Workflow, workflow_in};

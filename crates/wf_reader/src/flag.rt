@@ -18,14 +18,14 @@ pub enum Flag {
     Template(Template),
 }
 
-/// The flag of a value: 11 if it is neither a boolean nor a text, 17 or 18 if the text is not a template that the place allows.
-pub fn flag_of(alloc: Global, value: &Value, place: ContextSite) -> Result<Flag, Refusal>
+/// The flag of a value: 11 if it is neither a boolean nor a text, 17 or 18 if the text is not a template that the site allows.
+pub fn flag_of(alloc: Global, value: &Value, site: ContextSite) -> Result<Flag, Refusal>
     ensures { Gives (λ f. f) result
-        (unless_faulty (flag_faults place (view value.now)) (flag_in place (view value.now))) }
+        (unless_faulty (flag_faults site (view value.now)) (flag_in site (view value.now))) }
 {
     match value {
         Value::Bool(truth) => Ok(Flag::Fixed(*truth)),
-        Value::String(text) => Ok(Flag::Template(Template::parse(alloc, text.as_str(), place)?)),
+        Value::String(text) => Ok(Flag::Template(Template::parse(alloc, text.as_str(), site)?)),
         _ => Err(wrong_kind()),
     }
 }
@@ -35,14 +35,14 @@ pub fn read_flag(
     alloc: Global,
     object: &Value,
     name: &str,
-    place: ContextSite,
+    site: ContextSite,
 ) -> Result<Flag, Refusal>
     ensures { Gives (λ f. f) result
-        (unless_faulty (optional (flag_faults place) (get name.now (view object.now)))
-        (flag_in place (member_at name.now (view object.now)))) }
+        (unless_faulty (optional (flag_faults site) (get name.now (view object.now)))
+        (flag_in site (member_at name.now (view object.now)))) }
 {
     match object.get(name) {
-        Some(value) => flag_of(alloc, value, place),
+        Some(value) => flag_of(alloc, value, site),
         None => Ok(Flag::Fixed(false)),
     }
 }

@@ -1,5 +1,5 @@
 ghost use Rattle.wf_value.specs.Gives.{Gives};
-ghost use Rattle.wf_expr.specs.declared.place.ContextSite.TheVariants.{Job};
+ghost use Rattle.wf_expr.specs.declared.context_site.ContextSite.TheVariants.{Job};
 ghost use Rattle.wf_reader.specs.Faults.{unless_faulty};
 ghost use Rattle.wf_reader.specs.Job.{template_faults, template_in};
 

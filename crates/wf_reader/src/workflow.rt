@@ -10,10 +10,10 @@ ghost use Rattle.wf_reader.specs.Job.{job_faults, job_of};
 ghost use Rattle.wf_reader.specs.Json.{members_of, member_at};
 ghost use Rattle.wf_reader.specs.Workflow.{jobs_faults, workflow_faults_in, workflow_in, workflow_faults, workflow_of};
 
-use crate::body::{MAX_BODY, read_body};
+use crate::body::read_body;
 use crate::concurrency::{Concurrency, read_concurrency};
 use crate::fields::{read_text, taken_members, wrong_kind};
-use crate::job::{Job, read_job};
+use crate::job::read_job;
 use crate::jobs::Jobs;
 use serde_json::{Map, Value};
 use std::alloc::Global;

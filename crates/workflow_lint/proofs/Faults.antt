@@ -5,8 +5,8 @@ use Rattle.serde_json.specs.Data.{Data, null, boolean, number, string, array, ob
 use Rattle.wf_value.specs.Gives.{Gives, no_memory}
 use Rattle.wf_value.specs.declared.refusal.Refusal.{Refusal}
 use Rattle.wf_expr.specs.Parsing.{template_of}
-use Rattle.wf_expr.specs.declared.place.ContextSite.{ContextSite}
-use Rattle.wf_expr.specs.declared.place.ContextSite.TheVariants as place
+use Rattle.wf_expr.specs.declared.context_site.ContextSite.{ContextSite}
+use Rattle.wf_expr.specs.declared.context_site.ContextSite.TheVariants as context_site
 use Rattle.wf_reader.specs.Faults.{outcome_faults, unless_faulty}
 use Rattle.wf_reader.specs.Job.{flag_faults, label_faults}
 
@@ -20,7 +20,7 @@ pub of_label : {X : Type 0} (d : Data) (x : X) → outcome_faults (unless_faulty
 of_label null x = refl
 of_label (boolean b) x = refl
 of_label (number n) x = refl
-of_label (string t) x = of_outcome (template_of t place.Job) x
+of_label (string t) x = of_outcome (template_of t context_site.Job) x
 of_label (array ds) x = refl
 of_label (object ms) x = refl
 

@@ -7,8 +7,8 @@ use Rattle.serde_json.specs.Data.{Data, null, boolean, number, string, array, ob
 use Rattle.serde_json.specs.Find.{as_array, as_object, get}
 use Rattle.wf_value.specs.declared.code.Code.TheVariants.{JobId, LeftOut, MatrixValue, NoLabels, NotJson, StrategyMember, TooLong, WrongKind}
 use Rattle.wf_value.specs.declared.refusal.Refusal.{Refusal}
-use Rattle.wf_expr.specs.declared.place.ContextSite.{ContextSite}
-use Rattle.wf_expr.specs.declared.place.ContextSite.TheVariants as place
+use Rattle.wf_expr.specs.declared.context_site.ContextSite.{ContextSite}
+use Rattle.wf_expr.specs.declared.context_site.ContextSite.TheVariants as context_site
 use Rattle.wf_reader.specs.Workflow.{json_of, inside_workflow, jobs_faults, workflow_faults, workflow_faults_in}
 use Rattle.wf_reader.specs.Job.{concurrency_faults, is_concurrency, inside_job, is_job_id, job_faults, label_faults, labels_faults}
 use Rattle.wf_reader.specs.Faults.{fault, fault_unless, faults_in_order, left_out, optional, required, text_faults}
@@ -153,10 +153,10 @@ of_needs path (string t) = refl
 of_needs path (array ds) = of_items (found_by check.Text) text_faults (of_check check.Text) path (item_list ds)
 of_needs path (object ms) = refl
 
-of_concurrency : (place : ContextSite) (path : List ℕ) (d : Data) → refusals (concurrency_at place path d) ≡ concurrency_faults place d
-of_concurrency place path d =
+of_concurrency : (site : ContextSite) (path : List ℕ) (d : Data) → refusals (concurrency_at site path d) ≡ concurrency_faults site d
+of_concurrency site path d =
     three _ _ _ _ _ _ (of_at path (fault_unless (is_concurrency d) WrongKind)) (of_at (group_path path d) _)
-    (of_member (found_by (check.Flag place)) (faults_by (check.Flag place)) (of_check (check.Flag place)) path (codes "cancel-in-progress") d)
+    (of_member (found_by (check.Flag site)) (faults_by (check.Flag site)) (of_check (check.Flag site)) path (codes "cancel-in-progress") d)
 
 of_required : (f : Data → List Finding) (g : Data → List Refusal) (path : List ℕ) → ((d : Data) → refusals (f d) ≡ g d)
     → (o : Option Data) → refusals (option_map_or f o (at path (fault NoLabels))) ≡ required NoLabels g o
@@ -174,9 +174,9 @@ of_start path d =
 of_legs : (path : List ℕ) (d : Data) → refusals (legs_at path d) ≡ legs_faults d
 of_legs path d =
     three _ _ _ _ _ _
-    (of_member (found_by (check.Flag place.Job)) (faults_by (check.Flag place.Job)) (of_check (check.Flag place.Job)) path
+    (of_member (found_by (check.Flag context_site.Job)) (faults_by (check.Flag context_site.Job)) (of_check (check.Flag context_site.Job)) path
     (codes "continue-on-error") d)
-    (of_member (concurrency_at place.Job) (concurrency_faults place.Job) (of_concurrency place.Job) path (codes "concurrency") d)
+    (of_member (concurrency_at context_site.Job) (concurrency_faults context_site.Job) (of_concurrency context_site.Job) path (codes "concurrency") d)
     (of_member strategy_at strategy_faults of_strategy path (codes "strategy") d)
 
 of_inside_job : (path : List ℕ) (d : Data) → refusals (inside_job_at path d) ≡ inside_job d
@@ -204,7 +204,7 @@ of_jobs (j ∷ js) =
 of_inside_workflow : (d : Data) → refusals (inside_workflow_at d) ≡ inside_workflow d
 of_inside_workflow d =
     three _ _ _ _ _ _ (of_member (found_by check.Text) text_faults (of_check check.Text) [] (codes "name") d)
-    (of_member (concurrency_at place.Workflow) (concurrency_faults place.Workflow) (of_concurrency place.Workflow) [] (codes "concurrency") d)
+    (of_member (concurrency_at context_site.Workflow) (concurrency_faults context_site.Workflow) (of_concurrency context_site.Workflow) [] (codes "concurrency") d)
     (of_jobs (members_of (member_at (codes "jobs") d)))
 
 of_workflow : (d : Data) → refusals (workflow_at d) ≡ workflow_faults_in d

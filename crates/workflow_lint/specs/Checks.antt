@@ -18,7 +18,7 @@ use Rattle.workflow_lint.specs.declared.finding.Finding.{Finding}
 abbrev pub faults_by : Check → Data → List Refusal
 faults_by check.Text d = text_faults d
 faults_by check.Label d = label_faults d
-faults_by (check.Flag place) d = flag_faults place d
+faults_by (check.Flag site) d = flag_faults site d
 faults_by check.Condition d = condition_faults d
 faults_by check.FailFast d = fail_fast_faults d
 faults_by check.MaxParallel d = max_parallel_faults d

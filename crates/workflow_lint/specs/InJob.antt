@@ -4,8 +4,8 @@ use Rattle.std.specs.Option.{option_map_or}
 use Rattle.serde_json.specs.Data.{Data}
 use Rattle.serde_json.specs.Find.{as_array, as_object, as_str, get}
 use Rattle.wf_value.specs.declared.code.Code.TheVariants.{JobId, NoLabels, WrongKind}
-use Rattle.wf_expr.specs.declared.place.ContextSite.{ContextSite}
-use Rattle.wf_expr.specs.declared.place.ContextSite.TheVariants as place
+use Rattle.wf_expr.specs.declared.context_site.ContextSite.{ContextSite}
+use Rattle.wf_expr.specs.declared.context_site.ContextSite.TheVariants as context_site
 use Rattle.wf_reader.specs.Job.{group_text, is_concurrency, is_job_id, labels_faults, template_faults}
 use Rattle.wf_reader.specs.Faults.{fault, fault_unless, text_faults}
 use Rattle.wf_reader.specs.Strategy.{items_of}
@@ -36,10 +36,10 @@ abbrev pub group_path : List ℕ → Data → List ℕ
 group_path path d = if is_some (as_str d) then path else member_path path (codes "group")
 
 abbrev pub concurrency_at : ContextSite → List ℕ → Data → List Finding
-concurrency_at place path d =
+concurrency_at site path d =
     at path (fault_unless (is_concurrency d) WrongKind)
-    ++ at (group_path path d) (template_faults place (unwrap_or (group_text d) []))
-    ++ optional_at (found_by (check.Flag place)) path (codes "cancel-in-progress") d
+    ++ at (group_path path d) (template_faults site (unwrap_or (group_text d) []))
+    ++ optional_at (found_by (check.Flag site)) path (codes "cancel-in-progress") d
 
 -- ---- the job
 
@@ -52,8 +52,8 @@ start_at path d =
 
 abbrev pub legs_at : List ℕ → Data → List Finding
 legs_at path d =
-    optional_at (found_by (check.Flag place.Job)) path (codes "continue-on-error") d
-    ++ optional_at (concurrency_at place.Job) path (codes "concurrency") d ++ optional_at strategy_at path (codes "strategy") d
+    optional_at (found_by (check.Flag context_site.Job)) path (codes "continue-on-error") d
+    ++ optional_at (concurrency_at context_site.Job) path (codes "concurrency") d ++ optional_at strategy_at path (codes "strategy") d
 
 abbrev pub inside_job_at : List ℕ → Data → List Finding
 inside_job_at path d = optional_at (found_by check.LeftOut) path (codes "uses") d ++ start_at path d ++ legs_at path d

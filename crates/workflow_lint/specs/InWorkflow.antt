@@ -6,7 +6,7 @@ use Rattle.definitions.specs.Limits.{max_body, max_jobs}
 use Rattle.serde_json.specs.Data.{Data}
 use Rattle.serde_json.specs.Find.{as_object}
 use Rattle.wf_value.specs.declared.code.Code.TheVariants.{NotJson, TooLong, TooManyJobs, WrongKind}
-use Rattle.wf_expr.specs.declared.place.ContextSite.TheVariants as place
+use Rattle.wf_expr.specs.declared.context_site.ContextSite.TheVariants as context_site
 use Rattle.wf_reader.specs.Workflow.{json_of}
 use Rattle.wf_reader.specs.Faults.{fault, fault_unless}
 use Rattle.wf_reader.specs.Json.{member_at, members_of}
@@ -28,7 +28,7 @@ jobs_at (j ∷ js) = at (codes "jobs") (fault_unless (nat_le (length (j ∷ js))
 abbrev pub inside_workflow_at : Data → List Finding
 inside_workflow_at d =
     optional_at (found_by check.Text) [] (codes "name") d
-    ++ optional_at (concurrency_at place.Workflow) [] (codes "concurrency") d
+    ++ optional_at (concurrency_at context_site.Workflow) [] (codes "concurrency") d
     ++ jobs_at (members_of (member_at (codes "jobs") d))
 
 -- the whole workflow has the empty path

@@ -62,12 +62,12 @@ fn label_fault(alloc: Global, value: &Value) -> Result<Option<Refusal>, AllocErr
 
 fn flag_fault(
     alloc: Global,
-    place: ContextSite,
+    site: ContextSite,
     value: &Value,
 ) -> Result<Option<Refusal>, AllocError>
-    ensures { IfOk result (λ fault. option_to_list fault ≡ flag_faults place (view value.now)) }
+    ensures { IfOk result (λ fault. option_to_list fault ≡ flag_faults site (view value.now)) }
 {
-    fault_of(flag_of(alloc, value, place))
+    fault_of(flag_of(alloc, value, site))
 }
 
 /// Whether a value is allowed in a matrix.
@@ -83,7 +83,7 @@ fn fault_by(alloc: Global, check: Check, value: &Value) -> Result<Option<Refusal
     let fault = match check {
         Check::Text => fault_unless(value.is_string(), Code::WrongKind),
         Check::Label => label_fault(alloc, value)?,
-        Check::Flag(place) => flag_fault(alloc, place, value)?,
+        Check::Flag(site) => flag_fault(alloc, site, value)?,
         Check::Condition => fault_unless(condition_in(value).is_some(), Code::Condition),
         Check::FailFast => fault_unless(value.is_boolean(), Code::StrategyMember),
         Check::MaxParallel => fault_unless(max_parallel_in(value).is_some(), Code::StrategyMember),

@@ -45,25 +45,25 @@ fn group_path(alloc: Global, path: &str, value: &Value) -> Result<String, AllocE
 /// The fault of the text that names the group, if any.
 fn group_fault(
     alloc: Global,
-    place: ContextSite,
+    site: ContextSite,
     value: &Value,
 ) -> Result<Option<Refusal>, AllocError>
-    ensures { IfOk result (λ fault. option_to_list fault ≡ template_faults place (unwrap_or (group_text (view value.now)) [])) }
+    ensures { IfOk result (λ fault. option_to_list fault ≡ template_faults site (unwrap_or (group_text (view value.now)) [])) }
 {
-    fault_of(read_group(alloc, value, place))
+    fault_of(read_group(alloc, value, site))
 }
 
 fn check_group(
     alloc: Global,
-    place: ContextSite,
+    site: ContextSite,
     path: &str,
     value: &Value,
     found: &mut Vec<Finding>,
 ) -> Result<(), AllocError>
     ensures { OnOk result (found.new.items ≡ found.old.items
-        ++ at (group_path path.now (view value.now)) (template_faults place (unwrap_or (group_text (view value.now)) []))) }
+        ++ at (group_path path.now (view value.now)) (template_faults site (unwrap_or (group_text (view value.now)) []))) }
 {
-    let fault = group_fault(alloc, place, value)?;
+    let fault = group_fault(alloc, site, value)?;
     let path = group_path(alloc, path, value)?;
     push_if(alloc, path.as_str(), fault, found)
 }
@@ -71,13 +71,13 @@ fn check_group(
 /// The rule for a `concurrency`: first wrong kinds, of the value and of its members, then faults of its templates.
 #[derive(Clone, Copy)]
 pub(crate) struct ConcurrencyIn {
-    pub(crate) place: ContextSite,
+    pub(crate) site: ContextSite,
 }
 
 impl Rule for ConcurrencyIn {
     ghost use Rattle.workflow_lint.specs.InJob.{concurrency_at};
 
-    ghost findings = { λ c. concurrency_at c.place };
+    ghost findings = { λ c. concurrency_at c.site };
 
     fn check(
         &self,
@@ -87,8 +87,8 @@ impl Rule for ConcurrencyIn {
         found: &mut Vec<Finding>,
     ) -> Result<(), AllocError> {
         check_kind(alloc, path, value, found)?;
-        check_group(alloc, self.place, path, value, found)?;
-        let flag = Check::Flag(self.place);
+        check_group(alloc, self.site, path, value, found)?;
+        let flag = Check::Flag(self.site);
         check_member(alloc, &flag, path, value, "cancel-in-progress", found)
     }
 }

@@ -102,10 +102,10 @@ fn check_legs(
 ) -> Result<(), AllocError>
     ensures { OnOk result (found.new.items ≡ found.old.items ++ legs_at path.now (view job.now)) }
 {
-    let place = ContextSite::Job;
+    let site = ContextSite::Job;
     check_member(
         alloc,
-        &Check::Flag(place),
+        &Check::Flag(site),
         path,
         job,
         "continue-on-error",
@@ -113,7 +113,7 @@ fn check_legs(
     )?;
     check_member(
         alloc,
-        &ConcurrencyIn { place },
+        &ConcurrencyIn { site },
         path,
         job,
         "concurrency",

@@ -81,10 +81,10 @@ fn check_inside(alloc: Global, workflow: &Value, found: &mut Vec<Finding>) -> Re
     ensures { OnOk result (found.new.items ≡ found.old.items ++ inside_workflow_at (view workflow.now)) }
 {
     check_member(alloc, &Check::Text, "", workflow, "name", found)?;
-    let place = ContextSite::Workflow;
+    let site = ContextSite::Workflow;
     check_member(
         alloc,
-        &ConcurrencyIn { place },
+        &ConcurrencyIn { site },
         "",
         workflow,
         "concurrency",

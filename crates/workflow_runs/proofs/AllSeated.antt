@@ -37,15 +37,15 @@ and_no true false e = true≢false (sym e)
 and_no false b e = true≢false (sym e)
 
 -- a place that nobody has
-none_seated : (place : GroupSlot) (runs : List RunState) (entries : Entries) → ((g : Group) → in_slot place (slot_in entries g) ≡ None)
-    → AreSeated place nobody runs entries
-none_seated place runs entries free g h = (
+none_seated : (slot : GroupSlot) (runs : List RunState) (entries : Entries) → ((g : Group) → in_slot slot (slot_in entries g) ≡ None)
+    → AreSeated slot nobody runs entries
+none_seated slot runs entries free g h = (
   λ at. absurd (no_such h (sym (free g) ∙ at)),
-  λ is. absurd (and_no (is_in runs g h) (is_of place runs h) is),
+  λ is. absurd (and_no (is_in runs g h) (is_of slot runs h) is),
 )
 
-nobody_apart : (place : GroupSlot) (runs : List RunState) (among : Holder → Bool) → AreApart place runs nobody among
-nobody_apart place runs among h e = refl
+nobody_apart : (slot : GroupSlot) (runs : List RunState) (among : Holder → Bool) → AreApart slot runs nobody among
+nobody_apart slot runs among h e = refl
 
 empty_book : (entries : Entries) (g : Group) → entries ≡ [] → ((slot_in entries g).in_progress ≡ None) × ((slot_in entries g).pending ≡ None)
 empty_book entries g empty =

@@ -5,7 +5,7 @@ use Rattle.std.proofs.Common.{ap}
 use Rattle.run_states.specs.Groups.{leg_waits, waits}
 use Rattle.run_states.specs.inner.Resuming.{is_new_at}
 use Rattle.run_states.specs.Runs.{leg_at, LegState, RunState, is_new, leg_in_phase}
-use Rattle.run_states.specs.declared.place.LegSite.{LegSite}
+use Rattle.run_states.specs.declared.sites.LegSite.{LegSite}
 use Rattle.run_states.specs.Settling.{with_leg_in}
 use Rattle.run_states.specs.Sound.{RunsAreSound}
 use Rattle.run_states.specs.declared.phases.LegPhase.{LegPhase}

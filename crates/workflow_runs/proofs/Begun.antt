@@ -10,7 +10,7 @@ use Rattle.run_states.specs.Holders.{run_of}
 use Rattle.run_states.specs.Runs.{leg_at, run_at, JobState, LegState, RunState}
 use Rattle.run_states.specs.declared.holder.Holder.{Holder}
 use Rattle.run_states.specs.declared.holder.Holder.TheVariants.{Run, Leg}
-use Rattle.run_states.specs.declared.place.LegSite.{LegSite}
+use Rattle.run_states.specs.declared.sites.LegSite.{LegSite}
 use Rattle.run_states.proofs.Changed.{at_another, at_changed, length-changed_at}
 use Rattle.run_states.proofs.JobKeeps.{leg_in}
 use Rattle.run_states.proofs.Optional.{some_of}

@@ -8,7 +8,7 @@ use Rattle.run_states.specs.Stops.{cancelled, stopped, stopped_phase, stopped_ru
 use Rattle.run_states.specs.declared.holder.Holder.TheVariants.{Leg, Run}
 use Rattle.run_states.specs.declared.phases.LegPhase.{LegPhase}
 use Rattle.run_states.specs.declared.phases.LegPhase.TheVariants as leg
-use Rattle.run_states.specs.declared.place.LegSite.{LegSite}
+use Rattle.run_states.specs.declared.sites.LegSite.{LegSite}
 use Rattle.wf_value.specs.declared.outcome.Outcome.TheVariants as outcome
 use Rattle.workflow_runs.proofs.OneChange.{leg_written}
 use Rattle.workflow_runs.proofs.OneHolder.{leg_that_waits, run_that_waits, stop_cancels}

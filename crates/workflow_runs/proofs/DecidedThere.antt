@@ -8,7 +8,7 @@ use Rattle.group_name.specs.BoundGroup.{group_at as bound_group_at}
 use Rattle.group_name.specs.Group.{Group}
 use Rattle.run_states.specs.Runs.{changed_at}
 use Rattle.run_states.specs.declared.holder.Holder.TheVariants.{Leg}
-use Rattle.run_states.specs.declared.place.LegSite.{LegSite}
+use Rattle.run_states.specs.declared.sites.LegSite.{LegSite}
 use Rattle.run_states.proofs.Changed.{at_another, at_changed}
 use Rattle.run_bindings.specs.BoundGroups.{is_set_by}
 use Rattle.run_bindings.specs.GroupKeys.{KeyState, decided, holder_key, key_in, known_as, ticket_in}

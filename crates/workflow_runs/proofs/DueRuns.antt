@@ -1,4 +1,4 @@
--- The first place where a rule applies is found in the runs that are due.
+-- The first site where a rule applies is found in the runs that are due.
 use Rattle.std.specs.Prelude.{◌≡◌, ℕ, ◌<◌, ◌≤◌, List, length, true, Option, Some, None, is_some}
 use Rattle.std.proofs.Common.{arith, sym, ◌∙◌, inl, inr}
 use Rattle.std.proofs.lemmas.Bool.{cases_lt, true≢false}
@@ -6,7 +6,7 @@ use Rattle.run_states.specs.Resuming.{NoneBefore, apply_at}
 use Rattle.run_states.specs.Runs.{RunState}
 use Rattle.run_states.specs.Settling.{first_site}
 use Rattle.run_states.specs.WithinRun.{first_in_run}
-use Rattle.run_states.specs.declared.place.RuleSite.{RuleSite}
+use Rattle.run_states.specs.declared.sites.RuleSite.{RuleSite}
 use Rattle.settling_laws.proofs.Firsts.{found_at, none_found}
 use Rattle.settling_laws.proofs.Walks.{first_place_by_run}
 

@@ -15,7 +15,7 @@ use Rattle.run_states.specs.Stops.{stopped, stopped_run}
 use Rattle.run_states.specs.declared.holder.Holder.{Holder}
 use Rattle.run_states.specs.declared.holder.Holder.TheVariants.{Leg, Run}
 use Rattle.run_states.specs.declared.holder.HolderFilter.TheVariants.{InProgress, OthersPending}
-use Rattle.run_states.specs.declared.place.JobSite.{JobSite}
+use Rattle.run_states.specs.declared.sites.JobSite.{JobSite}
 use Rattle.run_states.proofs.Changed.{length-changed_at}
 use Rattle.run_states.proofs.JobKeeps.{with_job_of, with_leg_of}
 use Rattle.run_bindings.specs.declared.bindings.RunBindings.{RunBindings}

@@ -1,4 +1,4 @@
--- What the rule at the first place where one applies says of the run, the job or the leg there.
+-- What the rule at the first site where one applies says of the run, the job or the leg there.
 use Rattle.std.specs.Prelude.{◌≡◌, ◌&&◌, ℕ, List, Bool, true, false, IfSome, None, Some, option_and_then, if◌then◌else◌}
 use Rattle.std.specs.List.{list_all}
 use Rattle.std.proofs.Common.{ap, sym, subst, ◌∙◌}
@@ -8,7 +8,7 @@ use Rattle.wf_value.specs.declared.outcome.JobResult.TheVariants as result
 use Rattle.run_states.specs.Groups.{may_start}
 use Rattle.run_states.specs.GroupLaw.{Transition, without_moves}
 use Rattle.run_states.specs.Runs.{job_at, leg_at, run_at, with_job, with_run, JobState, LegState, RunState}
-use Rattle.run_states.specs.Settling.{closing_rule, decided, leg_rule, leg_rule_in, may_run, opening_rule, places, result_at, rule_at, whole_rule, whole_rule_in}
+use Rattle.run_states.specs.Settling.{closing_rule, decided, leg_rule, leg_rule_in, may_run, opening_rule, rule_sites, result_at, rule_at, whole_rule, whole_rule_in}
 use Rattle.run_states.specs.Settling.{applies, first_site}
 use Rattle.run_states.specs.Runs.{is_blocked, is_done, is_finished, opened, run_in_phase, finished_as}
 use Rattle.run_states.specs.LegContext.{is_stopping, needs_have_finished, planned_legs}
@@ -17,9 +17,9 @@ use Rattle.run_states.specs.declared.phases.LegPhase.{LegPhase}
 use Rattle.run_states.specs.declared.phases.LegPhase.TheVariants as leg
 use Rattle.run_states.specs.declared.phases.RunPhase.{RunPhase}
 use Rattle.run_states.specs.declared.phases.RunPhase.TheVariants as run
-use Rattle.run_states.specs.declared.place.LegSite.{LegSite}
-use Rattle.run_states.specs.declared.place.RuleSite.{RuleSite}
-use Rattle.run_states.specs.declared.place.RuleSite.TheVariants.{AtLeg, Closing, Opening, Whole}
+use Rattle.run_states.specs.declared.sites.LegSite.{LegSite}
+use Rattle.run_states.specs.declared.sites.RuleSite.{RuleSite}
+use Rattle.run_states.specs.declared.sites.RuleSite.TheVariants.{AtLeg, Closing, Opening, Whole}
 use Rattle.run_states.proofs.Found.{find_passes}
 use Rattle.run_states.proofs.Optional.{from_and_then, if_some, some_of}
 use Rattle.run_states.proofs.RunFits.{RunsFit}
@@ -27,12 +27,12 @@ use Rattle.run_states.proofs.Settles.{Settles}
 use Rattle.settling_laws.proofs.SettlingKeeps.{first_rule_settles}
 
 -- the rule that applies there
-pub rule_there : (runs : List RunState) (place : RuleSite) → first_site runs ≡ Some place → (m : Transition) × (rule_at runs place ≡ Some m)
-rule_there runs place first = some_of (rule_at runs place) (find_passes (applies runs) (places runs) place first)
+pub rule_there : (runs : List RunState) (site : RuleSite) → first_site runs ≡ Some site → (m : Transition) × (rule_at runs site ≡ Some m)
+rule_there runs site first = some_of (rule_at runs site) (find_passes (applies runs) (rule_sites runs) site first)
 
-pub first_settles : (runs : List RunState) (place : RuleSite) (m : Transition) → RunsFit runs → first_site runs ≡ Some place
-    → rule_at runs place ≡ Some m → Settles runs m.runs
-first_settles runs place m fit first at = first_rule_settles runs m fit (ap (option_and_then (rule_at runs)) first ∙ at)
+pub first_settles : (runs : List RunState) (site : RuleSite) (m : Transition) → RunsFit runs → first_site runs ≡ Some site
+    → rule_at runs site ≡ Some m → Settles runs m.runs
+first_settles runs site m fit first at = first_rule_settles runs m fit (ap (option_and_then (rule_at runs)) first ∙ at)
 
 -- ---- a job that opens
 

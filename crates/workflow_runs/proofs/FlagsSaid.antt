@@ -12,7 +12,7 @@ use Rattle.run_plan.specs.declared.planned.PlannedJob.{PlannedJob}
 use Rattle.run_states.specs.Groups.{RunFacts, run_facts_at}
 use Rattle.run_states.specs.LegContext.{context_at, continues_on_error, is_set, is_set_for}
 use Rattle.run_states.specs.Runs.{plan_at, run_at, RunState}
-use Rattle.run_states.specs.declared.place.LegSite.{LegSite}
+use Rattle.run_states.specs.declared.sites.LegSite.{LegSite}
 use Rattle.run_states.proofs.Optional.{from_and_then}
 use Rattle.run_bindings.specs.Bindings.{RunSays, flag_for}
 use Rattle.run_bindings.specs.BoundFlags.{FlagsSay, flags_bound}

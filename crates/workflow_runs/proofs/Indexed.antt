@@ -79,9 +79,9 @@ of_runs runs d =
     position_from-zero (has_delivery d) (events runs) ∙ from_map (has_delivery d) (λ (run : RunState). run.admitted) 0 runs
     ∙ sym (position_from-zero (is_delivered_as d) runs)
 
-pub found_run : {S : Type 0} (items runs : List RunState) (places : IndexMap (String Global) ℕ S) (d : List ℕ) (found : Option ℕ) → items ≡ runs
-    → FindsFirst (events items) places → found ≡ get_by_text places d → found ≡ position (is_delivered_as d) runs
-found_run items runs places d found same finds is =
+pub found_run : {S : Type 0} (items runs : List RunState) (indexes : IndexMap (String Global) ℕ S) (d : List ℕ) (found : Option ℕ) → items ≡ runs
+    → FindsFirst (events items) indexes → found ≡ get_by_text indexes d → found ≡ position (is_delivered_as d) runs
+found_run items runs indexes d found same finds is =
     is ∙ finds d ∙ of_runs items d ∙ ap (λ (rs : List RunState). position (is_delivered_as d) rs) same
 
 pub found_within : (runs : List RunState) (d : List ℕ) (most : ℕ) (found : Option ℕ) → found ≡ position (is_delivered_as d) runs

@@ -8,7 +8,7 @@ use Rattle.run_states.specs.Runs.{job_at, run_at, with_job, JobState, RunState, 
 use Rattle.run_states.specs.Settling.{may_run, result_at, first_site}
 use Rattle.run_states.specs.Sound.{RunsAreSound}
 use Rattle.run_states.specs.LegContext.{is_stopping}
-use Rattle.run_states.specs.declared.place.RuleSite.TheVariants.{Closing, Opening}
+use Rattle.run_states.specs.declared.sites.RuleSite.TheVariants.{Closing, Opening}
 use Rattle.run_states.proofs.JobKeeps.{with_job_of}
 use Rattle.run_states.proofs.Optional.{from_and_then}
 use Rattle.run_states.proofs.RunFits.{RunsFit}

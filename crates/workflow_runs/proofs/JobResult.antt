@@ -11,7 +11,7 @@ use Rattle.needs_graph.specs.declared.ended.LegEnd.{LegEnd}
 use Rattle.run_states.specs.Runs.{first_some, placed, LegState, RunState}
 use Rattle.run_states.specs.Settling.{leg_end, outcome_of}
 use Rattle.run_states.specs.inner.WithinRun.{failing, leg_site}
-use Rattle.run_states.specs.declared.place.LegSite.{LegSite}
+use Rattle.run_states.specs.declared.sites.LegSite.{LegSite}
 use Rattle.run_states.specs.LegContext.{continues_on_error}
 
 -- ---- the legs that fail it

@@ -10,7 +10,7 @@ use Rattle.run_plan.specs.declared.planned.PlannedJob.{PlannedJob}
 use Rattle.run_states.specs.Groups.{RunFacts, run_facts_at}
 use Rattle.run_states.specs.LegContext.{context_at, context_of, nothing, label_texts, labels_at}
 use Rattle.run_states.specs.Runs.{plan_at, run_at, RunState}
-use Rattle.run_states.specs.declared.place.LegSite.{LegSite}
+use Rattle.run_states.specs.declared.sites.LegSite.{LegSite}
 use Rattle.run_states.proofs.Optional.{from_and_then}
 use Rattle.run_bindings.specs.Bindings.{AreBound, JobSays, KeepsLabels, KeepsLabelsAt, RunSays}
 use Rattle.run_bindings.specs.BoundGroups.{facts_by, need_of_job, results_by_index}

@@ -3,7 +3,7 @@ use Rattle.std.specs.Prelude.{◌≡◌, List, [], None, Option, Some, option_ma
 use Rattle.std.specs.Option.{option_map_or}
 use Rattle.std.proofs.Common.{ap, ◌∙◌}
 use Rattle.run_states.specs.LegContext.{LegFacts, context_at, context_of, facts_at, nothing, label_texts, labels_at}
-use Rattle.run_states.specs.declared.place.LegSite.{LegSite}
+use Rattle.run_states.specs.declared.sites.LegSite.{LegSite}
 use Rattle.run_states.specs.Runs.{RunState}
 use Rattle.run_states.proofs.LegFacts.{plan_of_facts}
 

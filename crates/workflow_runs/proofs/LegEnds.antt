@@ -12,7 +12,7 @@ use Rattle.run_states.specs.Sound.{LeaseFits, RunsAreSound}
 use Rattle.run_states.specs.declared.holder.Holder.TheVariants.{Leg}
 use Rattle.run_states.specs.declared.phases.LegPhase.{LegPhase}
 use Rattle.run_states.specs.declared.phases.LegPhase.TheVariants as leg
-use Rattle.run_states.specs.declared.place.LegSite.{LegSite}
+use Rattle.run_states.specs.declared.sites.LegSite.{LegSite}
 use Rattle.run_states.proofs.JobKeeps.{leg_in, leg_stays}
 use Rattle.run_states.proofs.Optional.{some_of}
 use Rattle.run_states.proofs.Settles.{StayFit}

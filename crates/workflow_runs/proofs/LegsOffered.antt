@@ -7,7 +7,7 @@ use Rattle.label_lists.specs.Lists.{HasPlace, ListsState, OnlyGrows, PutsOffer, 
 use Rattle.run_states.specs.Changes.{offered_by}
 use Rattle.run_states.specs.Fitting.{is_ready}
 use Rattle.run_states.specs.Runs.{leg_site, run_at, RunState}
-use Rattle.run_states.specs.declared.place.LegSite.{LegSite}
+use Rattle.run_states.specs.declared.sites.LegSite.{LegSite}
 use Rattle.run_states.specs.declared.change.Change.{Change}
 use Rattle.run_states.specs.declared.change.Change.TheVariants as change
 use Rattle.run_bindings.specs.LabelNumbers.{AreListsOf}

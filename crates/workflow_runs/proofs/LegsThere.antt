@@ -8,7 +8,7 @@ use Rattle.run_states.proofs.Found.{all_weaken, placed_get}
 use Rattle.run_states.proofs.Optional.{from_map}
 
 abbrev pub IsThere : List RunState → PlacedLeg → Type 0
-IsThere runs x = leg_at runs x.place ≡ Some x.leg
+IsThere runs x = leg_at runs x.site ≡ Some x.leg
 
 mapped : {X Y : Type 0} (P : Y → Type 0) (f : X → Y) (xs : List X) → AllByRecursion (λ x. P (f x)) xs → AllByRecursion P (map f xs)
 mapped P f [] all = tt

@@ -14,7 +14,7 @@ use Rattle.run_states.specs.Resuming.{apply_at}
 use Rattle.run_states.specs.Runs.{run_at, RunState}
 use Rattle.run_states.specs.LegContext.{events}
 use Rattle.run_states.specs.WithinRun.{first_in_run}
-use Rattle.run_states.specs.declared.place.RuleSite.{RuleSite}
+use Rattle.run_states.specs.declared.sites.RuleSite.{RuleSite}
 use Rattle.run_states.proofs.Found.{before_the_end}
 use Rattle.run_states.proofs.LegFacts.{SameUpTo}
 use Rattle.settling_laws.specs.inner.Releases.{ReleasesNone}

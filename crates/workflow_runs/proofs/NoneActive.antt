@@ -14,7 +14,7 @@ use Rattle.run_states.specs.GroupLaw.{same_holder}
 use Rattle.run_states.specs.Groups.{is_in, is_pending_in, leg_holds, leg_waits, run_waits, waits}
 use Rattle.run_states.specs.Resuming.{apply_at}
 use Rattle.run_states.specs.inner.PlacedLegs.{PlacedLeg, placed_legs_of_run}
-use Rattle.run_states.specs.declared.place.LegSite.{LegSite}
+use Rattle.run_states.specs.declared.sites.LegSite.{LegSite}
 use Rattle.run_states.specs.inner.WithinRun.{lease_in_run}
 use Rattle.run_states.specs.declared.phases.LegPhase.{LegPhase}
 use Rattle.run_states.specs.declared.phases.LegPhase.TheVariants as a_leg
@@ -81,7 +81,7 @@ module _ (runs : List RunState) (lease : ℕ) (only : OnlyAtWork runs lease) whe
           → option_and_then (lease_in_run lease i) o ≡ None
       by None at_run e = refl
       by (Some x) at_run e =
-          let leased : PlacedLeg → Option LegSite = λ y. if has_lease lease y.leg then Some y.place else None in
+          let leased : PlacedLeg → Option LegSite = λ y. if has_lease lease y.leg then Some y.site else None in
           first_some_same leased (λ y. None) (placed_legs_of_run (i, x))
           (each_in_run (λ y. leased y ≡ None) i x
           (λ j l job leg at_job at_leg. ap (λ b. if b then Some (leg_site i j l) else None)

@@ -12,7 +12,7 @@ use Rattle.run_states.specs.Fitting.{has_labels, is_ready, is_served, has_room}
 use Rattle.run_states.specs.LegContext.{context_at, label_texts, labels_at}
 use Rattle.run_states.specs.Resuming.{NoneBefore, apply_at}
 use Rattle.run_states.specs.Runs.{leg_at, leg_site, plan_at, run_at, JobState, LegState, RunState}
-use Rattle.run_states.specs.declared.place.LegSite.{LegSite}
+use Rattle.run_states.specs.declared.sites.LegSite.{LegSite}
 use Rattle.run_states.specs.inner.WithinRun.{fit_in_job, fit_in_run, served_in_job}
 use Rattle.run_states.proofs.RunFits.{job_in_run, leg_in_job}
 use Rattle.run_bindings.specs.Bindings.{AreBound}

@@ -8,7 +8,7 @@ use Rattle.std.proofs.lemmas.Bool.{or_parts}
 use Rattle.run_states.specs.inner.ActiveRuns.{has_ready_leg}
 use Rattle.run_states.specs.Runs.{first_some, leg_site, JobState, LegState, RunState}
 use Rattle.run_states.specs.Fitting.{is_ready, is_served, has_room}
-use Rattle.run_states.specs.declared.place.LegSite.{LegSite}
+use Rattle.run_states.specs.declared.sites.LegSite.{LegSite}
 use Rattle.run_states.specs.inner.WithinRun.{fit_in_job, served_in_job}
 
 module _ (labels : List (List ℕ)) (runs : List RunState) (r : ℕ) where

@@ -20,8 +20,8 @@ use Rattle.run_states.specs.declared.holder.Holder.{Holder}
 use Rattle.run_states.specs.declared.holder.Holder.TheVariants.{Leg}
 use Rattle.run_states.specs.declared.phases.JobPhase.{JobPhase}
 use Rattle.run_states.specs.declared.phases.JobPhase.TheVariants as job
-use Rattle.run_states.specs.declared.place.LegSite.{LegSite}
-use Rattle.run_states.specs.declared.place.RuleSite.TheVariants.{Opening}
+use Rattle.run_states.specs.declared.sites.LegSite.{LegSite}
+use Rattle.run_states.specs.declared.sites.RuleSite.TheVariants.{Opening}
 use Rattle.run_states.proofs.Changed.{at_changed}
 use Rattle.run_states.proofs.JobKeeps.{with_job_of}
 use Rattle.run_states.proofs.Optional.{from_and_then, some_of}

@@ -8,7 +8,7 @@ use Rattle.run_states.specs.Changes.{changed}
 use Rattle.run_states.specs.Changes.{offered_by}
 use Rattle.run_states.specs.Fitting.{is_ready}
 use Rattle.run_states.specs.Runs.{leg_at, leg_site, with_leg, with_run, LegState, RunState, opened, run_in_phase, finished_as}
-use Rattle.run_states.specs.declared.place.LegSite.{LegSite}
+use Rattle.run_states.specs.declared.sites.LegSite.{LegSite}
 use Rattle.run_states.specs.Settling.{legs_in_plan}
 use Rattle.run_states.specs.declared.change.Change.{Change}
 use Rattle.run_states.specs.declared.change.Change.TheVariants as change

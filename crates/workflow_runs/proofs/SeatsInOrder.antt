@@ -126,15 +126,15 @@ leg_is_no_run r (Leg p) of_run = refl
 
 -- ---- all of them
 
-module _ (place : GroupSlot) (runs : List RunState) where
-  there : (h : Holder) → is_of place runs h ≡ true → is_there runs h ≡ true
-  there h has = by place has
+module _ (slot : GroupSlot) (runs : List RunState) where
+  there : (h : Holder) → is_of slot runs h ≡ true → is_there runs h ≡ true
+  there h has = by slot has
     where
       by : (at : GroupSlot) → is_of at runs h ≡ true → is_there runs h ≡ true
       by InProgress holding = there_if_holds runs h holding
       by Pending waiting = there_if_waits runs h waiting
 
-  pub all_legs : (r j n : ℕ) → n ≡ option_map_or (λ (y : JobState). length y.legs) (job_at runs r j) 0 → (h : Holder) → is_of place runs h ≡ true
+  pub all_legs : (r j n : ℕ) → n ≡ option_map_or (λ (y : JobState). length y.legs) (job_at runs r j) 0 → (h : Holder) → is_of slot runs h ≡ true
       → legs_below r j n h ≡ in_job r j h
   all_legs r j n many (Run s) has = refl
   all_legs r j n many (Leg p) has = by (nat_eq p.run r) (nat_eq p.job j) refl refl
@@ -155,7 +155,7 @@ module _ (place : GroupSlot) (runs : List RunState) where
       by true false run job = refl
       by false c run job = refl
 
-  pub all_jobs : (r n : ℕ) → n ≡ option_map_or (λ (x : RunState). length x.jobs) (run_at runs r) 0 → (h : Holder) → is_of place runs h ≡ true
+  pub all_jobs : (r n : ℕ) → n ≡ option_map_or (λ (x : RunState). length x.jobs) (run_at runs r) 0 → (h : Holder) → is_of slot runs h ≡ true
       → jobs_below r n h ≡ legs_of_run r h
   all_jobs r n many (Run s) has = refl
   all_jobs r n many (Leg p) has = by (nat_eq p.run r) refl
@@ -172,7 +172,7 @@ module _ (place : GroupSlot) (runs : List RunState) where
       by true run = (Decides-ltb p.job n).1 (within (eqb-true p.run r run))
       by false run = refl
 
-  pub all_runs : (n : ℕ) → n ≡ length runs → (h : Holder) → is_of place runs h ≡ true → runs_below n h ≡ true
+  pub all_runs : (n : ℕ) → n ≡ length runs → (h : Holder) → is_of slot runs h ≡ true → runs_below n h ≡ true
   all_runs n many h has =
       let within = within_there runs h (there h has) in
       (Decides-ltb (run_of h) n).1 (omega (arith, many, within))

@@ -6,10 +6,10 @@ use Rattle.std.proofs.Common.{ap, sym, ◌∙◌}
 use Rattle.run_states.specs.Runs.{first_some, placed, leg_at, leg_sites_of_job, leg_sites_of_run, LegState, JobState, RunState}
 use Rattle.run_states.specs.Fitting.{is_ready, is_served, may_run_too, fits, first_fit, has_lease, site_of_lease, has_room}
 use Rattle.run_states.specs.inner.PlacedLegs.{PlacedLeg, placed_legs_of_run}
-use Rattle.run_states.specs.declared.place.LegSite.{LegSite}
+use Rattle.run_states.specs.declared.sites.LegSite.{LegSite}
 use Rattle.run_states.specs.inner.WithinRun.{leg_site, fit_in_job, fit_in_jobs, lease_in_run}
 use Rattle.settling_laws.proofs.Firsts.{find-flat_map, find-map, first_same_placed, first_some_same}
-use Rattle.settling_laws.proofs.PlacedLegs.{each_in_run, leg_there, places_of_run}
+use Rattle.settling_laws.proofs.PlacedLegs.{each_in_run, leg_there, sites_of_run}
 use Rattle.settling_laws.proofs.Walks.{job_found}
 
 -- ---- the leg with a lease
@@ -18,12 +18,12 @@ pub site_of_lease_by_run : (runs : List RunState) (lease : ℕ)
     → site_of_lease runs lease ≡ first_some (λ r. lease_in_run lease r.0 r.1) (placed runs)
 site_of_lease_by_run runs lease =
     let test : LegSite → Bool = λ p. option_map_or (has_lease lease) (leg_at runs p) false in
-    let sought : PlacedLeg → Option LegSite = λ x. if test x.place then Some x.place else None in
-    let leased : PlacedLeg → Option LegSite = λ x. if has_lease lease x.leg then Some x.place else None in
+    let sought : PlacedLeg → Option LegSite = λ x. if test x.site then Some x.site else None in
+    let leased : PlacedLeg → Option LegSite = λ x. if has_lease lease x.leg then Some x.site else None in
     find-flat_map test leg_sites_of_run (placed runs)
     ∙ first_same_placed (λ r. find test (leg_sites_of_run r)) (λ r. lease_in_run lease r.0 r.1) runs
     (λ r run at_run.
-    ap (find test) (sym (places_of_run (r, run))) ∙ find-map test (λ (x : PlacedLeg). x.place) (placed_legs_of_run (r, run))
+    ap (find test) (sym (sites_of_run (r, run))) ∙ find-map test (λ (x : PlacedLeg). x.site) (placed_legs_of_run (r, run))
     ∙ first_some_same sought leased (placed_legs_of_run (r, run))
     (each_in_run (λ x. sought x ≡ leased x) r run
     (λ j l job leg at_job at_leg.

@@ -9,7 +9,7 @@ use Rattle.run_states.specs.Runs.{changed_at}
 use Rattle.run_states.specs.Holders.{run_of}
 use Rattle.run_states.specs.declared.holder.Holder.{Holder}
 use Rattle.run_states.specs.declared.holder.Holder.TheVariants.{Run, Leg}
-use Rattle.run_states.specs.declared.place.LegSite.{LegSite}
+use Rattle.run_states.specs.declared.sites.LegSite.{LegSite}
 use Rattle.run_states.proofs.Changed.{at_another, at_changed}
 use Rattle.run_states.proofs.LeaseReads.{same_place}
 use Rattle.run_bindings.specs.GroupKeys.{KeyState, arrivals_in, arrivals_of, arrivals_of_legs, holder_key, key_in, spent, ticket_in, with_spent}

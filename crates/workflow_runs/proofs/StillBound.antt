@@ -66,7 +66,7 @@ still_kept xs numbers kept index lists active active' r x y offered lt is same a
     record {
       numbered = still_numbered xs numbers r x y lt is same are.numbered;
       bound = still_bound xs kept r x y lt is same attempt are.bound;
-      found = subst (λ (es : List Admitted). FindsFirst es index.places.places) (sym stay) are.found;
+      found = subst (λ (es : List Admitted). FindsFirst es index.deliveries.indexes) (sym stay) are.found;
       counted = subst (λ (es : List Admitted). AreCounted es index.counts.counts) (sym stay) are.counted;
       active = written is_active xs active active' r y as_long puts are.active;
       offered = offered;
@@ -74,13 +74,13 @@ still_kept xs numbers kept index lists active active' r x y offered lt is same a
 
 -- the same runs, with another index that finds and counts the same
 pub kept_in : (xs : List RunState) (numbers : List ℕ) (kept : List RunBindings) (old new : Index) (active : List ℕ)
-    → ((d : List ℕ) → get_by_text new.places.places d ≡ get_by_text old.places.places d)
+    → ((d : List ℕ) → get_by_text new.deliveries.indexes d ≡ get_by_text old.deliveries.indexes d)
     → ((event : Admitted) → count_of new.counts.counts event ≡ count_of old.counts.counts event) → new.lists ≡ old.lists
     → RunsAreKept xs numbers kept old active → RunsAreKept xs numbers kept new active
 kept_in xs numbers kept old new active found counted lists are = record {
   numbered = are.numbered;
   bound = are.bound;
-  found = finds_the_same (events xs) old.places.places new.places.places found are.found;
+  found = finds_the_same (events xs) old.deliveries.indexes new.deliveries.indexes found are.found;
   counted = (λ event. counted event ∙ are.counted event);
   active = are.active;
   offered = subst (LegsAreOffered xs kept) (sym lists) are.offered;
@@ -323,7 +323,7 @@ kept_again xs numbers kept index lists active active' r x y requested offered lt
     record {
       numbered = still_numbered xs numbers r x y lt is same are.numbered;
       bound = bound_again xs kept r x y requested lt is same says are.bound;
-      found = subst (λ (es : List Admitted). FindsFirst es index.places.places) (sym stay) are.found;
+      found = subst (λ (es : List Admitted). FindsFirst es index.deliveries.indexes) (sym stay) are.found;
       counted = subst (λ (es : List Admitted). AreCounted es index.counts.counts) (sym stay) are.counted;
       active = written is_active xs active active' r y as_long puts are.active;
       offered = offered;

@@ -15,7 +15,7 @@ use Rattle.run_states.specs.inner.Resuming.{is_new_at}
 use Rattle.run_states.specs.LegContext.{events}
 use Rattle.run_states.specs.declared.holder.Holder.{Holder}
 use Rattle.run_states.specs.declared.holder.Holder.TheVariants.{Run, Leg}
-use Rattle.run_states.specs.declared.place.LegSite.{LegSite}
+use Rattle.run_states.specs.declared.sites.LegSite.{LegSite}
 use Rattle.run_states.proofs.Changed.{at_another, at_changed}
 use Rattle.run_states.proofs.Found.{at_the_end, before_the_end}
 use Rattle.run_states.proofs.LegFacts.{SameUpTo}

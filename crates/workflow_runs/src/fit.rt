@@ -10,7 +10,6 @@ ghost use Rattle.run_states.specs.Runs.{leg_at, run_at};
 ghost use Rattle.run_states.specs.inner.WithinRun.{fit_in_job, fit_in_jobs, lease_in_run, served_in_job};
 ghost use Rattle.run_states.specs.LegContext.{planned_legs};
 
-use crate::first_site::count;
 use crate::runs::Runs;
 use crate::walk::Legs;
 use run_plan::{Label, Number};
@@ -86,18 +85,16 @@ fn fit_in_run(labels: &[Label], runs: &Runs, r: usize, run: &Run) -> Option<LegS
     fit_in_jobs(labels, runs, r, run.planned_jobs())
 }
 
-/// The first ready leg such that `labels` has all labels that it asks for and one more leg of its job may run. Takes no memory. `tries` counts
-/// the runs that are looked at.
+/// The first ready leg such that `labels` has all labels that it asks for and one more leg of its job may run. Takes no memory.
 /// Promise (Runs, and how they are found): The leg that a claim gets is the first that fits
 /// By: `workflow_runs::fit::{first_fit, site_of_lease, is_stopping, outcome_of_loss}`
-pub(crate) fn first_fit(labels: &[Label], runs: &Runs, tries: &mut u64) -> Option<LegSite>
+pub fn first_fit(labels: &[Label], runs: &Runs) -> Option<LegSite>
     ensures found { result ≡ first_fit labels.now runs.now }
     ensures run { IfSome result (λ p. p.run < max_runs) }
 {
     let all = runs.as_slice();
     let mut from = 0;
     while let Some(r) = runs.next_offering(labels, from) {
-        count(tries);
         let run = &all[r];
         let site = fit_in_run(labels, runs, r, run);
         if site.is_some() {

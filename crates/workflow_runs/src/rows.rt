@@ -27,9 +27,9 @@ ghost use Rattle.workflow_runs.specs.inner.RowsKept.{IsUndecided, decided_in, ho
 
 mod active;
 pub(crate) mod counts;
+mod deliveries;
 pub(crate) mod index;
 pub(crate) mod offers;
-mod places;
 mod rerun;
 pub(crate) mod sizes;
 pub(crate) mod workflow;
@@ -124,7 +124,7 @@ impl Rows {
         ensures found { result ≡ position (is_delivered_as delivery.now) self.now.runs }
         ensures most { IfSome result (λ i. i < max_runs) }
     {
-        self.index.places.index_of(delivery)
+        self.index.deliveries.index_of(delivery)
     }
 
     /// Adds a run at the end, with its number and its bindings, and takes the memory for the arrivals of the run and of its legs. On an

@@ -38,8 +38,6 @@ pub struct Runs {
     book: Book<Holder>,
     /// The runs in which a settling rule applies.
     due: RunBitmap,
-    /// How often settling has tried a rule at a site, since the count was last set to 0.
-    tries: u64,
 }
 
 impl Model for Runs {
@@ -63,7 +61,6 @@ impl Runs {
             rows: Rows::new(alloc),
             book: Book::new(alloc),
             due: RunBitmap::new(alloc),
-            tries: 0,
         }
     }
 
@@ -151,7 +148,7 @@ impl Runs {
             run_id: site.run + 1,
             run_number,
             job,
-            place: site.job,
+            index: site.job,
             leg: site.leg,
         })
     }
@@ -188,7 +185,6 @@ impl Drop for Runs {
             rows: _,
             book: _,
             due: _,
-            tries: _,
         } = self;
     }
 }
@@ -199,7 +195,6 @@ impl TryCopy for Runs {
             rows: self.rows.copy(alloc)?,
             book: self.book.copy(alloc)?,
             due: self.due.copy()?,
-            tries: self.tries,
         })
     }
 }

@@ -81,7 +81,7 @@ impl<'a> Legs<'a> {
 impl<'a> Iterator for Legs<'a> {
     type Item = (LegSite, &'a Leg);
 
-    ghost next_gives = { λ s r t. YieldsFirstBy (λ item. record { place = item.0; leg = item.1.now }) (λ rest. rest) s r t
+    ghost next_gives = { λ s r t. YieldsFirstBy (λ item. record { site = item.0; leg = item.1.now }) (λ rest. rest) s r t
         × IfSome r (λ item. item.0.leg < 2 ^ 63) };
 
     ghost remaining = { item_count (λ rest. rest) };

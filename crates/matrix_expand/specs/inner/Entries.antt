@@ -12,7 +12,7 @@ use Rattle.matrix_expand.specs.inner.Values.{AxisValue, PatternValue, EntryValue
 
 -- the pairs of an object, each with the object's index
 abbrev pub object_entries : ℕ → Combination → List EntryValue
-object_entries place object = map (λ pair. (place, pair)) object
+object_entries index object = map (λ pair. (index, pair)) object
 
 abbrev pub comes_before : EntryValue → EntryValue → Bool
 comes_before e f = is_lt (slice_cmp nat_cmp e.1.0 f.1.0)
@@ -45,9 +45,9 @@ flagged flags entries = pairs_of (filter (λ e. slice_index_or flags e.0 false) 
 
 -- the value of a name in the last flagged object that has it; the first object has the index place
 abbrev pub added_value : List Bool → ℕ → List Combination → List ℕ → Option Scalar
-added_value flags place [] name = None
-added_value flags place (c ∷ cs) name = option_or (added_value flags (place + 1) cs name)
-    (cond (slice_index_or flags place false) (value_at c name) None)
+added_value flags index [] name = None
+added_value flags index (c ∷ cs) name = option_or (added_value flags (index + 1) cs name)
+    (cond (slice_index_or flags index false) (value_at c name) None)
 
 -- the entries are those of the objects, in the order of their names, those of later objects first
 pub record SortsEntries (first : ℕ) (objects : List Combination) (entries : List EntryValue) : Type 0 where

@@ -1,14 +1,14 @@
 -- Sets of jobs as flags: one for each job, in order.
 use Rattle.std.specs.Prelude.{ℕ, zero, suc, List, [], ◌∷◌, Bool, false, ◌||◌, map, if◌then◌else◌}
 use Rattle.std.specs.List.{slice_index_or}
-use Rattle.needs_graph.specs.Needs.{places}
+use Rattle.needs_graph.specs.Needs.{indexes}
 
 abbrev pub is_marked : List Bool → ℕ → Bool
 is_marked marks job = slice_index_or marks job false
 
 -- the jobs of a set, in order
 abbrev pub marked : List Bool → List ℕ
-marked marks = places (λ mark. mark) marks
+marked marks = indexes (λ mark. mark) marks
 
 -- the union of two sets, with the length of the first
 abbrev pub either : List Bool → List Bool → List Bool

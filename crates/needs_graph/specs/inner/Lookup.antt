@@ -6,4 +6,4 @@ use Rattle.definitions.specs.Rising.{JobNeeds}
 -- the index of a job with this id, or None if no job has it
 abbrev pub Finds : List JobNeeds → List ℕ → Option ℕ → Type 0
 Finds jobs id found =
-    MatchOption found (All (λ job. job.id ≢ id) jobs) (λ place. (place < length jobs) × HoldsAt (λ job. job.id ≡ id) jobs place)
+    MatchOption found (All (λ job. job.id ≢ id) jobs) (λ index. (index < length jobs) × HoldsAt (λ job. job.id ≡ id) jobs index)

@@ -5,7 +5,7 @@ use Rattle.wf_value.specs.declared.refusal.Refusal.{Refusal}
 use Rattle.needs_graph.specs.inner.JobSets.{is_in}
 use Rattle.definitions.specs.Rising.{JobNeeds}
 use Rattle.needs_graph.specs.inner.JobBitmap.{is_marked}
-use Rattle.needs_graph.specs.Needs.{places, is_listed, is_job, unknown_need}
+use Rattle.needs_graph.specs.Needs.{indexes, is_listed, is_job, unknown_need}
 
 -- for each job, whether it is listed
 abbrev pub needs_row : List JobNeeds → List (List ℕ) → List Bool
@@ -28,7 +28,7 @@ own_ids jobs rows = map (λ e. e.1.id) (filter (λ e. is_marked (slice_index_or 
 
 -- for each job, the jobs whose rows contain it, in order
 abbrev pub dependents_by : List (List Bool) → List (List ℕ)
-dependents_by rows = map (λ job. places (λ row. is_marked row job) rows) (range_with_len 0 (length rows))
+dependents_by rows = map (λ job. indexes (λ row. is_marked row job) rows) (range_with_len 0 (length rows))
 
 -- one set per row, with the same jobs
 pub record IsSets (sets : List (List ℕ)) (rows : List (List Bool)) : Type 0 where

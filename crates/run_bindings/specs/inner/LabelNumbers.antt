@@ -8,7 +8,7 @@ use Rattle.run_bindings.specs.LabelNumbers.{list_number, AreListsOf}
 use Rattle.label_lists.specs.Lists.{HasPlace, ListsState, labels_of, may_offer}
 use Rattle.run_states.specs.Runs.{placed, leg_at, JobState, LegState, RunState}
 use Rattle.run_states.specs.Fitting.{has_labels, is_ready}
-use Rattle.run_states.specs.declared.place.LegSite.{LegSite}
+use Rattle.run_states.specs.declared.sites.LegSite.{LegSite}
 use Rattle.run_bindings.specs.KnownLabels.{AreAlike}
 use Rattle.run_bindings.specs.declared.bindings.RunBindings.{RunBindings}
 use Rattle.run_bindings.specs.declared.label_numbers.ListNumbers.{ListNumbers}

@@ -1,12 +1,12 @@
--- The place of the leg that a runner's last claim was given, as it is kept with the reply. In the attempt in which the
--- lease was granted, the leg at that place has the lease. The place does not say whether the runner still holds the
+-- The site of the leg that a runner's last claim was given, as it is kept with the reply. In the attempt in which the
+-- lease was granted, the leg at that site has the lease. The site does not say whether the runner still holds the
 -- lease.
 use Rattle.std.specs.Prelude.{◌-◌, Option, Some, None}
 use Rattle.run_plan.specs.declared.last_command.LastCommand.{LastCommand}
 use Rattle.run_plan.specs.declared.last_command.LastCommand.TheVariants as last
 use Rattle.run_plan.specs.declared.last_command.ClaimReply.TheVariants as given
 use Rattle.run_states.specs.Runs.{leg_site}
-use Rattle.run_states.specs.declared.place.LegSite.{LegSite}
+use Rattle.run_states.specs.declared.sites.LegSite.{LegSite}
 
 abbrev pub kept_site : LastCommand → Option LegSite
 kept_site (last.Claim claim given.Nothing) = None

@@ -10,7 +10,7 @@ use Rattle.run_states.specs.Runs.{results_so_far}
 
 -- how many of the jobs at these indices have no result so far
 abbrev pub unfinished : List (Option JobResult) → List ℕ → ℕ
-unfinished results places = count_by (λ place. is_none (slice_index_or results place None)) places
+unfinished results indexes = count_by (λ index. is_none (slice_index_or results index None)) indexes
 
 -- the count that job `j` keeps
 abbrev pub needs_left_at : List JobCells → ℕ → ℕ

@@ -1,16 +1,16 @@
--- The legs of a table with their places, in the order of run, job and leg.
+-- The legs of a table with their sites, in the order of run, job and leg.
 use Rattle.std.specs.Prelude.{ℕ, ◌+◌, ◌<◌, ◌^◌, List, ◌++◌, length, map, flat_map}
 use Rattle.std.specs.List.{enumerate_from}
 use Rattle.run_states.specs.inner.Cells.{JobCells, states}
 use Rattle.run_states.specs.Runs.{placed, leg_site, LegState, JobState, RunState}
-use Rattle.run_states.specs.declared.place.LegSite.{LegSite}
+use Rattle.run_states.specs.declared.sites.LegSite.{LegSite}
 
 pub record PlacedLeg : Type 0 where
-  pub place : LegSite
+  pub site : LegSite
   pub leg : LegState
 
 abbrev pub placed_leg : ℕ → ℕ → ℕ × LegState → PlacedLeg
-placed_leg r j l = record { place = leg_site r j l.0; leg = l.1 }
+placed_leg r j l = record { site = leg_site r j l.0; leg = l.1 }
 
 abbrev pub placed_legs_of_job : ℕ → ℕ × JobState → List PlacedLeg
 placed_legs_of_job r j = map (placed_leg r j.0) (placed j.1.legs)
@@ -22,7 +22,7 @@ placed_legs_of_run r = flat_map (placed_legs_of_job r.0) (placed r.1.jobs)
 abbrev pub placed_legs : List RunState → List PlacedLeg
 placed_legs runs = flat_map placed_legs_of_run (placed runs)
 
--- ---- from a place on
+-- ---- from a site on
 
 -- these legs of a job, then the later jobs of its run, then the later runs; `at.leg`, `job` and `run` are the indices of the first of each
 abbrev pub to_come : LegSite → List LegState → ℕ → List JobCells → ℕ → List RunState → List PlacedLeg

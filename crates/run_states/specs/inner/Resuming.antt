@@ -1,4 +1,4 @@
--- Where settling resumes after it has applied a rule: no rule applies before that place.
+-- Where settling resumes after it has applied a rule: no rule applies before that site.
 use Rattle.std.specs.Prelude.{ℕ, min, List, ◌&&◌, ◌||◌, Bool, false, is_some, None, slice_get}
 use Rattle.std.specs.Prelude.{if◌then◌else◌}
 use Rattle.std.specs.List.{slice_index_or}
@@ -7,11 +7,11 @@ use Rattle.needs_graph.specs.Needs.{dependents_of}
 use Rattle.run_states.specs.Groups.{cancels_in_progress, group_at, holds}
 use Rattle.run_states.specs.inner.Holders.{first_conflicting}
 use Rattle.run_states.specs.Runs.{needs_in, results_so_far, leg_at, run_at, RunState, is_new}
-use Rattle.run_states.specs.declared.place.LegSite.{LegSite}
+use Rattle.run_states.specs.declared.sites.LegSite.{LegSite}
 use Rattle.run_states.specs.declared.holder.HolderFilter.TheVariants.{OthersPending, InProgress}
-use Rattle.run_states.specs.declared.place.JobSite.{JobSite}
-use Rattle.run_states.specs.declared.place.RuleSite.{RuleSite}
-use Rattle.run_states.specs.declared.place.RuleSite.TheVariants.{Opening, AtLeg, Closing, Whole}
+use Rattle.run_states.specs.declared.sites.JobSite.{JobSite}
+use Rattle.run_states.specs.declared.sites.RuleSite.{RuleSite}
+use Rattle.run_states.specs.declared.sites.RuleSite.TheVariants.{Opening, AtLeg, Closing, Whole}
 use Rattle.run_states.specs.declared.holder.Holder.{Holder}
 use Rattle.run_states.specs.declared.holder.Holder.TheVariants.{Run, Leg}
 
@@ -58,4 +58,4 @@ resume_near runs (Whole r) = record { run = r; job = 0 }
 
 -- otherwise from the first run
 abbrev pub resume_point : Bool → List RunState → RuleSite → JobSite
-resume_point freed runs place = if freed then record { run = 0; job = 0 } else resume_near runs place
+resume_point freed runs site = if freed then record { run = 0; job = 0 } else resume_near runs site

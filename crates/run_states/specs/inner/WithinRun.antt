@@ -1,4 +1,4 @@
--- The first place where a rule applies, and the first leg that a search finds, run by run and job by job. Whether a rule applies depends on
+-- The first site where a rule applies, and the first leg that a search finds, run by run and job by job. Whether a rule applies depends on
 -- other runs only for a waiting run and for a waiting leg, which need a group without a holder in progress. A leg's labels depend on the
 -- events of other runs, and on nothing else of theirs.
 use Rattle.std.specs.Prelude.{ℕ, ◌&&◌, List, false, Option, Some, None, if◌then◌else◌}
@@ -8,7 +8,7 @@ use Rattle.run_states.specs.Runs.{placed, first_some, LegState, JobState, RunSta
 use Rattle.run_states.specs.Fitting.{is_ready, is_served, has_lease, has_room}
 use Rattle.run_states.specs.inner.PlacedLegs.{PlacedLeg, placed_legs_of_run}
 pub use Rattle.run_states.specs.Runs.{leg_site}
-use Rattle.run_states.specs.declared.place.LegSite.{LegSite}
+use Rattle.run_states.specs.declared.sites.LegSite.{LegSite}
 use Rattle.run_states.specs.Settling.{leg_end}
 pub use Rattle.run_states.specs.LegContext.{condition_in, may_run_in, needs_finished_in}
 use Rattle.run_states.specs.declared.phases.LegPhase.TheVariants as leg
@@ -39,9 +39,9 @@ failing runs r j l = if option_map_or fails_job (leg_end runs r j l) false then 
 
 -- ---- the leg with a lease
 
--- the place of the first of these legs that has the lease
+-- the site of the first of these legs that has the lease
 abbrev pub first_leased : ℕ → List PlacedLeg → Option LegSite
-first_leased lease legs = first_some (λ x. if has_lease lease x.leg then Some x.place else None) legs
+first_leased lease legs = first_some (λ x. if has_lease lease x.leg then Some x.site else None) legs
 
 abbrev pub lease_in_run : ℕ → ℕ → RunState → Option LegSite
 lease_in_run lease r run = first_leased lease (placed_legs_of_run (r, run))

@@ -45,35 +45,35 @@ pub(super) fn settle_among(jobs: &mut Vec<Job>, graph: &Graph, j: usize, settled
 }
 
 /// How many of the jobs at these indices have not finished.
-fn count_unfinished(jobs: &[Job], places: &[usize]) -> usize
-    ensures { result ≡ unfinished (results_so_far (states jobs.now)) places.now }
+fn count_unfinished(jobs: &[Job], indexes: &[usize]) -> usize
+    ensures { result ≡ unfinished (results_so_far (states jobs.now)) indexes.now }
 {
-    places
+    indexes
         .iter()
-        .filter(|place| !is_finished_at(jobs, **place))
+        .filter(|index| !is_finished_at(jobs, **index))
         .count()
 }
 
 /// Lowers the counts of the jobs at these indices by one.
-fn lower_needs(jobs: &mut Vec<Job>, places: &[usize])
+fn lower_needs(jobs: &mut Vec<Job>, indexes: &[usize])
     ensures states { states jobs.new.items ≡ states jobs.old.items }
     ensures rooms { rooms jobs.new.items ≡ rooms jobs.old.items }
-    ensures left { (j : ℕ) → needs_left_at jobs.new.items j ≡ needs_left_at jobs.old.items j - count_by (nat_eq j) places.now }
+    ensures left { (j : ℕ) → needs_left_at jobs.new.items j ≡ needs_left_at jobs.old.items j - count_by (nat_eq j) indexes.now }
 {
-    for place in places {
-        lower_needs_at(jobs, *place);
+    for index in indexes {
+        lower_needs_at(jobs, *index);
     }
 }
 
 /// Lowers the count of the job at this index by one, if there is one.
-fn lower_needs_at(jobs: &mut Vec<Job>, place: usize)
+fn lower_needs_at(jobs: &mut Vec<Job>, index: usize)
     ensures states { states jobs.new.items ≡ states jobs.old.items }
     ensures rooms { rooms jobs.new.items ≡ rooms jobs.old.items }
-    ensures there { needs_left_at jobs.new.items place ≡ needs_left_at jobs.old.items place - 1 }
-    ensures elsewhere { (j : ℕ) → j ≢ place → needs_left_at jobs.new.items j ≡ needs_left_at jobs.old.items j }
+    ensures there { needs_left_at jobs.new.items index ≡ needs_left_at jobs.old.items index - 1 }
+    ensures elsewhere { (j : ℕ) → j ≢ index → needs_left_at jobs.new.items j ≡ needs_left_at jobs.old.items j }
 {
-    if place < jobs.len() {
-        let job = &mut jobs[place];
+    if index < jobs.len() {
+        let job = &mut jobs[index];
         let left = job.needs_left();
         job.set_needs_left(left.saturating_sub(1));
     }

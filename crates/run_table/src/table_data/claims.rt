@@ -20,6 +20,7 @@ use run_plan::{BoxedLease, Claim, ClaimReply, LAST_NUMBER, Number, Reply};
 use run_states::LegSite;
 use std::alloc::Global;
 use wf_value::{Code, Refusal, TryCopy};
+use workflow_runs::fit::first_fit;
 use workflow_runs::runs::Runs;
 
 impl TableData {
@@ -50,14 +51,14 @@ impl TableData {
         index: usize,
     ) -> Result<(Reply, Reply), Refusal>
         requires sound { IsSound self.old }
-        requires place { index ≡ index_named self.old.runners claim.now.runner }
+        requires index { index ≡ index_named self.old.runners claim.now.runner }
         ensures step { Gives (λ replies. (self.new, replies.0)) result
             (Ok (outcome (option_map_or (unchanged self.old) (lease_answer self.old claim.now) (claiming self.old claim.now)))) }
         ensures copy { IfOk result (λ replies. replies.1 ≡ replies.0) }
         ensures err { OnErr result (self.new ≡ self.old) }
         ensures answers { is_some (lease_answer self.old claim.now) ≡ true → IsOk result }
     {
-        match self.runs.first_fit(claim.labels.as_slice()) {
+        match first_fit(claim.labels.as_slice(), &self.runs) {
             None => self.serve_nothing(alloc, claim, index),
             Some(_) if self.last_lease >= LAST_NUMBER => {
                 Ok((refused(Code::LastCounter), refused(Code::LastCounter)))
@@ -75,7 +76,7 @@ impl TableData {
         index: usize,
     ) -> Result<(Reply, Reply), Refusal>
         requires sound { IsSound self.old }
-        requires place { index ≡ index_named self.old.runners claim.now.runner }
+        requires index { index ≡ index_named self.old.runners claim.now.runner }
         ensures step { Gives (λ replies. (self.new, replies.0)) result (Ok (outcome (serving_nothing self.old claim.now))) }
         ensures copy { IfOk result (λ replies. replies.1 ≡ replies.0) }
         ensures err { OnErr result (self.new ≡ self.old) }
@@ -94,7 +95,7 @@ impl TableData {
         leg: LegSite,
     ) -> Result<(Reply, Reply), Refusal>
         requires sound { IsSound self.old }
-        requires place { index ≡ index_named self.old.runners claim.now.runner }
+        requires index { index ≡ index_named self.old.runners claim.now.runner }
         requires run { leg.run < max_runs }
         requires fits { first_fit claim.now.labels self.old.runs ≡ Some leg }
         requires left { self.old.last_lease < last_number }

@@ -38,7 +38,7 @@ impl TableData {
     /// Ends the leg of a lost runner's lease. `runner` is that runner, released.
     fn end_lost(&mut self, index: usize, runner: Runner, lease: Number) -> Result<Reply, Refusal>
         requires sound { IsSound self.old }
-        requires place { index ≡ index_named self.old.runners runner.name }
+        requires index { index ≡ index_named self.old.runners runner.name }
         requires work { OnlyAtWork self.old.runs lease }
         requires ends { RunsAreSound (with_ended lease (outcome_of_loss self.old.runs lease) self.old.runs) }
         ensures step { Gives (λ reply. (self.new, reply)) result (Ok (outcome (losing self.old runner lease))) }

@@ -34,7 +34,7 @@ impl TableData {
     /// Ends the leg of the lease.
     fn end(&mut self, alloc: Global, report: &Done, index: usize) -> Result<Reply, Refusal>
         requires sound { IsSound self.old }
-        requires place { index ≡ index_named self.old.runners report.now.runner }
+        requires index { index ≡ index_named self.old.runners report.now.runner }
         requires due { report_answer self.old report.now ≡ None }
         ensures step { Gives (λ reply. (self.new, reply)) result (Ok (outcome (reporting self.old report.now))) }
         ensures err { OnErr result (self.new ≡ self.old) }

@@ -3,7 +3,7 @@ use Rattle.std.specs.Prelude.{ℕ, ◌≤◌, List, Option, length, option_and_t
 use Rattle.definitions.specs.Limits.{max_runs}
 use Rattle.stored_tables.specs.inner.ByNumber.{Finds}
 use Rattle.run_states.specs.Runs.{run_at, LegState, JobState, RunState}
-use Rattle.run_states.specs.declared.place.LegSite.{LegSite}
+use Rattle.run_states.specs.declared.sites.LegSite.{LegSite}
 use Rattle.run_states.specs.TableState.{RunnerState}
 
 -- the lease of the leg at an index, if it has one

@@ -6,7 +6,7 @@ use Rattle.std.specs.Option.{option_map_or}
 use Rattle.std.specs.Ordering.{nat_cmp}
 use Rattle.run_states.specs.Fitting.{is_at_work, legs_at_work, most_at_work}
 use Rattle.run_states.specs.Runs.{leg_at, run_at, LegState, JobState, RunState}
-use Rattle.run_states.specs.declared.place.LegSite.{LegSite}
+use Rattle.run_states.specs.declared.sites.LegSite.{LegSite}
 use Rattle.run_states.specs.Settling.{result_at}
 use Rattle.run_states.specs.Sound.{AttemptIsGiven, IsLastOf, LeaseFits, LegsFit, PhaseFits}
 use Rattle.run_states.specs.TableState.{RunnerState}

@@ -4,7 +4,7 @@ use Rattle.serde_json.specs.Data.{Data}
 use Rattle.serde_json.specs.Find.{get}
 use Rattle.wf_value.specs.declared.code.Code.TheVariants.{NoLabels}
 use Rattle.wf_value.specs.declared.refusal.Refusal.{Refusal}
-use Rattle.wf_expr.specs.declared.place.ContextSite.TheVariants as place
+use Rattle.wf_expr.specs.declared.context_site.ContextSite.TheVariants as context_site
 use Rattle.wf_reader.specs.Job.{concurrency_faults, concurrency_in, condition_faults, condition_where, flag_faults, flag_in}
 use Rattle.wf_reader.specs.Faults.{faults_in_order, optional, required}
 use Rattle.wf_reader.specs.Job.{labels_faults, requested_labels, needs_faults, needs_in}
@@ -33,8 +33,8 @@ start_of d = record {
 -- ---- how its legs run: its continue-on-error, concurrency and strategy
 
 abbrev pub legs_checks : Data → List (List Refusal)
-legs_checks d = optional (flag_faults place.Job) (get (codes "continue-on-error") d)
-    ∷ optional (concurrency_faults place.Job) (get (codes "concurrency") d)
+legs_checks d = optional (flag_faults context_site.Job) (get (codes "continue-on-error") d)
+    ∷ optional (concurrency_faults context_site.Job) (get (codes "concurrency") d)
     ∷ optional strategy_faults (get (codes "strategy") d) ∷ []
 
 abbrev pub legs_faults : Data → List Refusal
@@ -42,7 +42,7 @@ legs_faults d = faults_in_order (legs_checks d)
 
 abbrev pub legs_of : Data → Legs
 legs_of d = record {
-  continue_on_error = flag_in place.Job (member_at (codes "continue-on-error") d);
-  concurrency = option_map (concurrency_in place.Job) (get (codes "concurrency") d);
+  continue_on_error = flag_in context_site.Job (member_at (codes "continue-on-error") d);
+  concurrency = option_map (concurrency_in context_site.Job) (get (codes "concurrency") d);
   strategy = option_map strategy_of (get (codes "strategy") d);
 }

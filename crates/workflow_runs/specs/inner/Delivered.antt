@@ -12,4 +12,4 @@ has_delivery delivery event = bytes_eq event.delivery delivery
 
 -- the index of the first event of each delivery is kept for the delivery, and nothing else
 abbrev pub FindsFirst : {S : Type 0} → List Admitted → IndexMap (String Global) ℕ S → Type 0
-FindsFirst events places = (delivery : List ℕ) → get_by_text places delivery ≡ position (has_delivery delivery) events
+FindsFirst events indexes = (delivery : List ℕ) → get_by_text indexes delivery ≡ position (has_delivery delivery) events

@@ -10,7 +10,7 @@ use Rattle.run_states.specs.Runs.{job_at, leg_at, run_at, JobState, RunState, is
 use Rattle.run_states.specs.inner.Resuming.{is_new_at}
 use Rattle.run_states.specs.declared.holder.Holder.{Holder}
 use Rattle.run_states.specs.declared.holder.Holder.TheVariants.{Run, Leg}
-use Rattle.run_states.specs.declared.place.LegSite.{LegSite}
+use Rattle.run_states.specs.declared.sites.LegSite.{LegSite}
 use Rattle.run_bindings.specs.GroupKeys.{AreLater, arrivals_of, key_in, requests_of, ticket_in}
 use Rattle.run_bindings.specs.declared.bindings.RunBindings.{RunBindings}
 use Rattle.run_bindings.specs.declared.group_keys.HolderKey.{HolderKey}

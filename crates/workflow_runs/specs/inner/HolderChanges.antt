@@ -4,7 +4,7 @@ use Rattle.run_states.specs.Groups.{cancels_in_progress, group_at, holds, may_st
 use Rattle.run_states.specs.inner.Resuming.{is_new_at}
 use Rattle.run_states.specs.Runs.{RunState}
 use Rattle.run_states.specs.declared.holder.Holder.{Holder}
-use Rattle.run_states.specs.declared.place.LegSite.{LegSite}
+use Rattle.run_states.specs.declared.sites.LegSite.{LegSite}
 use Rattle.workflow_runs.specs.inner.GroupsKept.{is_blocked_at, is_there}
 
 -- no run or leg comes, and each keeps its group; nothing becomes new or blocked

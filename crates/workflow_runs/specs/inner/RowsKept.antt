@@ -26,7 +26,7 @@ pub record RowState : Type 0 where
 pub record RunsAreKept (runs : List RunState) (numbers : List ℕ) (bindings : List RunBindings) (index : Index) (marks : List ℕ) : Type 0 where
   pub numbered : AreNumbered runs numbers
   pub bound : AreBound runs bindings
-  pub found : FindsFirst (events runs) index.places.places
+  pub found : FindsFirst (events runs) index.deliveries.indexes
   pub counted : AreCounted (events runs) index.counts.counts
   pub active : AreMarked (λ _ x. is_active x) runs marks
   pub offered : LegsAreOffered runs bindings index.lists

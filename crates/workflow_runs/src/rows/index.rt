@@ -11,7 +11,7 @@ ghost use Rattle.workflow_runs.specs.inner.Counted.{AreCounted, count_of};
 ghost use Rattle.workflow_runs.specs.inner.Delivered.{FindsFirst};
 
 use crate::rows::counts::Counts;
-use crate::rows::places::DeliveryIndexes;
+use crate::rows::deliveries::DeliveryIndexes;
 use crate::rows::workflow::Workflow;
 use label_lists::LabelLists;
 use run_plan::DeliveryId;
@@ -22,7 +22,7 @@ use wf_value::{Chars, Refusal};
 /// labels.
 #[derive(Drop)]
 pub(crate) struct Index {
-    pub places: DeliveryIndexes,
+    pub deliveries: DeliveryIndexes,
     pub counts: Counts,
     pub lists: LabelLists,
 }
@@ -30,12 +30,12 @@ pub(crate) struct Index {
 impl Index {
     #[tactic(auto, using(crate::proofs::LegsOffered::none_offered))]
     pub(crate) fn new(alloc: Global) -> Self
-        ensures places { FindsFirst [] result.places.places }
+        ensures deliveries { FindsFirst [] result.deliveries.indexes }
         ensures counts { AreCounted [] result.counts.counts }
         ensures offered { LegsAreOffered [] [] result.lists }
     {
         Index {
-            places: DeliveryIndexes::new(alloc),
+            deliveries: DeliveryIndexes::new(alloc),
             counts: Counts::new(alloc),
             lists: LabelLists::new(alloc),
         }
@@ -49,42 +49,42 @@ impl Index {
     ) -> Result<String, Refusal>
         ensures err { ErrsOnlyByMemory result }
         ensures copy { IfOk result (λ copy. string_bytes copy ≡ delivery.now) }
-        ensures found { (other : List ℕ) → get_by_text self.new.places.places other ≡ get_by_text self.old.places.places other }
+        ensures found { (other : List ℕ) → get_by_text self.new.deliveries.indexes other ≡ get_by_text self.old.deliveries.indexes other }
         ensures counted { (event : Admitted) → count_of self.new.counts.counts event ≡ count_of self.old.counts.counts event }
         ensures lists { self.new.lists ≡ self.old.lists }
-        ensures room { OnOk result ((0 < spare self.new.places.places) × (0 < spare self.new.counts.counts)) }
+        ensures room { OnOk result ((0 < spare self.new.deliveries.indexes) × (0 < spare self.new.counts.counts)) }
     {
-        self.places.make_room()?;
+        self.deliveries.make_room()?;
         self.counts.make_room()?;
         string_of(alloc, delivery.as_str())
     }
 
     /// Enters a run of this delivery and workflow: that at index `r`, with this number. An earlier run of the delivery is found as before.
     pub(crate) fn enter(&mut self, delivery: String, workflow: Workflow, number: usize, r: usize)
-        requires places { 0 < spare self.old.places.places }
+        requires deliveries { 0 < spare self.old.deliveries.indexes }
         requires counts { 0 < spare self.old.counts.counts }
-        ensures found { (other : List ℕ) → get_by_text self.new.places.places other
-            ≡ (if bytes_eq (string_bytes delivery) other then Some (unwrap_or (get_by_text self.old.places.places other) r)
-            else get_by_text self.old.places.places other) }
+        ensures found { (other : List ℕ) → get_by_text self.new.deliveries.indexes other
+            ≡ (if bytes_eq (string_bytes delivery) other then Some (unwrap_or (get_by_text self.old.deliveries.indexes other) r)
+            else get_by_text self.old.deliveries.indexes other) }
         ensures counted { (event : Admitted) → count_of self.new.counts.counts event
             ≡ (if same_workflow workflow event then number else count_of self.old.counts.counts event) }
         ensures lists { self.new.lists ≡ self.old.lists }
     {
-        self.places.keep(delivery, r);
+        self.deliveries.keep(delivery, r);
         self.counts.add(workflow, number, r);
     }
 
     /// A copy of the index.
     pub(crate) fn copy(&self, alloc: Global) -> Result<Self, Refusal>
         ensures err { ErrsOnlyByMemory result }
-        ensures places { IfOk result (λ index. (delivery : List ℕ)
-            → get_by_text index.places.places delivery ≡ get_by_text self.now.places.places delivery) }
+        ensures deliveries { IfOk result (λ index. (delivery : List ℕ)
+            → get_by_text index.deliveries.indexes delivery ≡ get_by_text self.now.deliveries.indexes delivery) }
         ensures counts { IfOk result (λ index. (event : Admitted)
             → count_of index.counts.counts event ≡ count_of self.now.counts.counts event) }
         ensures lists { IfOk result (λ index. index.lists ≡ self.now.lists) }
     {
         Ok(Index {
-            places: self.places.copy()?,
+            deliveries: self.deliveries.copy()?,
             counts: self.counts.copy()?,
             lists: self.lists.copy(alloc)?,
         })

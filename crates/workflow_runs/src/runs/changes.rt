@@ -15,7 +15,7 @@ ghost use Rattle.run_states.specs.declared.holder.Holder.{Holder as HolderInWord
 ghost use Rattle.run_states.specs.declared.holder.Holder.TheVariants as held;
 ghost use Rattle.run_states.specs.declared.phases.LegPhase.TheVariants as leg;
 ghost use Rattle.run_states.specs.declared.phases.RunPhase.TheVariants as run;
-ghost use Rattle.run_states.specs.declared.place.RuleSite.TheVariants.{Opening};
+ghost use Rattle.run_states.specs.declared.sites.RuleSite.TheVariants.{Opening};
 ghost use Rattle.workflow_runs.specs.inner.BookSteps.{Begins, Leaves};
 ghost use Rattle.workflow_runs.specs.inner.HolderChanges.{ChangesNobody, EndsOnly, StartsOnly};
 ghost use Rattle.workflow_runs.specs.inner.RowsKept.{key_at};

@@ -57,7 +57,6 @@ impl Runs {
             rows,
             book,
             due: all_marked(alloc, parts.len())?,
-            tries: 0,
         }))
     }
 }

@@ -5,21 +5,18 @@ ghost use Rattle.std.specs.Bool.{Decides};
 ghost use Rattle.definitions.specs.Limits.{max_runs};
 ghost use Rattle.run_marks.specs.Marked.{is_marked};
 ghost use Rattle.run_states.specs.inner.ActiveRuns.{is_active};
-ghost use Rattle.run_states.specs.Fitting.{first_fit};
-ghost use Rattle.run_states.specs.Resuming.{JobsRestBefore, RestBefore, apply_at};
-ghost use Rattle.run_states.specs.Runs.{run_at, RunState};
+ghost use Rattle.run_states.specs.Resuming.{RestBefore, apply_at};
 ghost use Rattle.run_states.specs.Settling.{first_site};
 ghost use Rattle.run_states.specs.WithinRun.{first_in_run};
 ghost use Rattle.run_states.specs.inner.WithinRun.{fit_in_run};
 ghost use Rattle.settling_laws.specs.inner.RunFacts.{is_so_at};
 
 use crate::first_site::first_in_run_at;
-use crate::fit::first_fit;
 use crate::rows::offers::{below, first_offering};
 use crate::runs::Runs;
 use run_marks::RunBitmap;
 use run_plan::Label;
-use run_states::{JobSite, LegSite, RuleSite};
+use run_states::{JobSite, RuleSite};
 
 impl Runs {
     /// The next run that may have a ready leg whose labels are all among `labels`.
@@ -67,18 +64,6 @@ impl Runs {
         self.rows.refresh_marks(r);
     }
 
-    /// The first site in run `r` where a rule applies. None applies before the job at index `from`.
-    fn first_site_in_run(&mut self, r: usize, from: usize) -> Option<RuleSite>
-        requires { (run : RunState) → run_at self.old r ≡ Some run → JobsRestBefore self.old r run from }
-        ensures found { result ≡ apply_at (first_in_run self.old) self.old r }
-        ensures kept { self.new ≡ self.old }
-    {
-        let mut tries = self.tries;
-        let site = first_in_run_at(self, r, from, &mut tries);
-        self.tries = tries;
-        site
-    }
-
     /// The first site where a rule applies. None applies before `from`.
     pub(crate) fn first_site(&mut self, from: JobSite) -> Option<RuleSite>
         requires { RestBefore self.old from }
@@ -88,7 +73,7 @@ impl Runs {
         let mut run = from.run;
         while let Some(r) = self.next_due(run) {
             let job = if r == from.run { from.job } else { 0 };
-            let site = self.first_site_in_run(r, job);
+            let site = first_in_run_at(self, r, job);
             if site.is_some() {
                 return site;
             }
@@ -104,27 +89,6 @@ impl Runs {
         ensures kept { self.new ≡ self.old }
     {
         self.first_site(JobSite { run: 0, job: 0 }).is_none()
-    }
-
-    /// The first ready leg such that `labels` has all labels that it asks for and one more leg of its job may run. Takes no memory.
-    pub fn first_fit(&mut self, labels: &[Label]) -> Option<LegSite>
-        ensures found { result ≡ first_fit labels.now self.old }
-        ensures run { IfSome result (λ p. p.run < max_runs) }
-        ensures kept { self.new ≡ self.old }
-    {
-        let mut tries = self.tries;
-        let site = first_fit(labels, self, &mut tries);
-        self.tries = tries;
-        site
-    }
-
-    /// How often a settling rule was tried at a site, and how many runs claims looked at, since the last call. The runs stay as they are.
-    pub fn take_tries(&mut self) -> u64
-        ensures { self.new ≡ self.old }
-    {
-        let tries = self.tries;
-        self.tries = 0;
-        tries
     }
 }
 

@@ -11,7 +11,7 @@ ghost use Rattle.run_states.specs.inner.Resuming.{at_job_again, may_invalidate_o
 ghost use Rattle.run_states.specs.Settling.{closing_rule, decided, leg_end, leg_rule, may_run, rule_at, whole_rule};
 ghost use Rattle.run_states.specs.Settling.{first_site, first_rule, settled};
 ghost use Rattle.run_states.specs.Sound.{RunsAreSound};
-ghost use Rattle.run_states.specs.declared.place.RuleSite.TheVariants.{AtLeg, Closing, Opening, Whole};
+ghost use Rattle.run_states.specs.declared.sites.RuleSite.TheVariants.{AtLeg, Closing, Opening, Whole};
 ghost use Rattle.run_states.specs.inner.WithinRun.{failing};
 ghost use Rattle.run_states.specs.LegContext.{is_stopping};
 

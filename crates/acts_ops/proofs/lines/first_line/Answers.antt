@@ -7,8 +7,8 @@ use Rattle.acts_ops.proofs.lines.first_line.Goals as goal
 pub returns-in-Some-clause-lines : goal.returns-in-Some-clause-lines
 returns-in-Some-clause-lines c =
     let w = c.args.text.now in
-    let after = c.in-Some.place + 1 in
-    let first = lines_at_feed w c.in-Some.place (sym c.line_feed_index.ensures ∙ c.in-Some.is) in
+    let after = c.in-Some.offset + 1 in
+    let first = lines_at_feed w c.in-Some.offset (sym c.line_feed_index.ensures ∙ c.in-Some.is) in
     let all : take (length w - after) (drop after w) ≡ drop after w = grind (arith, common_steps) in
     let stripped = c.strip_carriage_return.ensures in
     rw (all, stripped) first

@@ -5,8 +5,8 @@ use Rattle.acts_ops.specs.Show.{run_lines}
 use Rattle.acts_ops.proofs.Showing.{lines_after}
 use Rattle.acts_ops.proofs.show.write_views.Given as goal
 
-abbrev pub invariant-loop-place : goal.invariant-loop-place
-invariant-loop-place g l =
+abbrev pub invariant-loop-index : goal.invariant-loop-index
+invariant-loop-index g l =
     let t = table_of l.store in
     (out : List ℕ) × Appends (g.W.Write.contents l.initial.writer) (g.W.Write.contents l.writer) out
-    × (out ++ lines_after l.form t l.place ≡ run_lines l.form t) × (0 < l.place → length t.runs ≤ 100000)
+    × (out ++ lines_after l.form t l.index ≡ run_lines l.form t) × (0 < l.index → length t.runs ≤ 100000)

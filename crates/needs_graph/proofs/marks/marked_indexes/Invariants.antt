@@ -4,4 +4,4 @@ use Rattle.needs_graph.proofs.marks.marked_indexes.Given as goal
 
 -- the indices so far are those of the marks so far
 abbrev pub invariant-loop-job : goal.invariant-loop-job
-invariant-loop-job l = l.places.items ≡ marked (take l.job l.first)
+invariant-loop-job l = l.indexes.items ≡ marked (take l.job l.first)

@@ -11,14 +11,14 @@ returns-in-None c = inr
 
 pub loop-id-preserved : goal.loop-id-preserved
 loop-id-preserved c =
-    let place = c.in-Some.place in
+    let index = c.in-Some.index in
     let jobs = c.args.jobs.now in
     let ids = c.args.ids.now in
     let at = c.loop-id.id-index in
     let below : at < length ids = omega arith in
     let held = c.in-Some.ensures in (
       c.insert.ensures
-          ∙ (ap (λ row. set row place true) c.loop-id.invariant.0
-          ∙ row_more jobs c.requires ids at place c.id-item.result below c.id-item.is held.0 held.1),
-      known_more jobs ids at place c.id-item.result below c.id-item.is held.0 held.1 c.loop-id.invariant.1,
+          ∙ (ap (λ row. set row index true) c.loop-id.invariant.0
+          ∙ row_more jobs c.requires ids at index c.id-item.result below c.id-item.is held.0 held.1),
+      known_more jobs ids at index c.id-item.result below c.id-item.is held.0 held.1 c.loop-id.invariant.1,
     )

@@ -16,7 +16,7 @@ loop-leg-preserved c =
     let values : ℕ → Results → Values = λ l results. context_of (facts_by identity c.args.j c.args.job.now l results) in
     let said : ℕ → GroupRequest → Type 0 = λ l kept. Says (event_of identity.event.body).repo (values l) c.args.requested.now kept in
     let has = by_needs (context_of c.leg_context-context.result) c.leg_needs-needs.result identity.event c.args.j (values c.loop-leg.leg)
-    c.leg_needs-needs.ensures.event c.leg_needs-needs.ensures.place c.leg_context-context.ensures in
+    c.leg_needs-needs.ensures.event c.leg_needs-needs.ensures.index c.leg_context-context.ensures in
     let repository = c.as_str-repository.ensures ∙ c.repo.ensures ∙ ap (λ a. (event_of a.body).repo) c.prepared.ensures in
     one_pushed said c.loop-leg.legs.items c.push.new.self.items bound c.loop-leg.leg c.in_ok-push.ensures.items c.loop-leg.invariant.0
     c.loop-leg.invariant.1

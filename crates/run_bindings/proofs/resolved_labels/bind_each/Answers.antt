@@ -29,7 +29,7 @@ loop-leg-preserved c =
     ∙ ap kept_of (sym (same_Ok _ _ c.in_ok-bound.ensures))
     ∙ ap (kept_by (need_of_job (plan_of needs.0.admitted.body) needs.1)) c.as_slice.ensures
     ∙ ap (λ (event : Admitted). kept_by (need_of_job (plan_of event.body) needs.1) job.labels) c.leg_needs-needs.ensures.event
-    ∙ ap (λ (place : ℕ). kept_by (need_of_job (plan_of identity.event.body) place) job.labels) c.leg_needs-needs.ensures.place
+    ∙ ap (λ (index : ℕ). kept_by (need_of_job (plan_of identity.event.body) index) job.labels) c.leg_needs-needs.ensures.index
     ∙ ap (λ (bound : List Piece → List BoundPiece). kept_of (map bound job.labels))
     (bound_by_none context need_of (context_of (facts_by identity c.args.j job c.loop-leg.leg no_results))
     (c.leg_context-context.ensures no_results)))

@@ -7,4 +7,4 @@ pub returns-in-Some : goal.returns-in-Some
 returns-in-Some c =
     let lookup = c.in-Some.ensures.lookup in
     c.result.ensures ∙ ap finished_result c.phase.ensures
-    ∙ sym (result_read c.args.jobs.now c.args.place c.in-Some.job.now lookup.3.0 lookup.1)
+    ∙ sym (result_read c.args.jobs.now c.args.index c.in-Some.job.now lookup.3.0 lookup.1)

@@ -9,7 +9,7 @@ use Rattle.run_states.proofs.direct_needs.result_of_need.Goals as goal
 pub returns-in-Some : goal.returns-in-Some
 returns-in-Some c =
     need_found c.args.run.now c.args.j c.args.id.now c.as_slice-plan.result.now c.needs.result.now (states c.jobs.result.now)
-    (Some c.in-Some.place.now) c.result_at.result
+    (Some c.in-Some.index.now) c.result_at.result
     (c.as_slice-plan.ensures ∙ c.plan.ensures ∙ ap (λ (event : Admitted). plan_of event.body) c.prepared.ensures)
     c.needs.ensures c.jobs.ensures c.in-Some.ensures c.result_at.ensures
 

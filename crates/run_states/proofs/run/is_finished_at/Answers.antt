@@ -6,4 +6,4 @@ use Rattle.run_states.proofs.run.is_finished_at.Goals as goal
 pub returns-in-Some : goal.returns-in-Some
 returns-in-Some c =
     let lookup = c.in-Some.ensures.lookup in
-    c.is_finished.ensures ∙ sym (ap is_some (result_read c.args.jobs.now c.args.place c.in-Some.job.now lookup.3.0 lookup.1))
+    c.is_finished.ensures ∙ sym (ap is_some (result_read c.args.jobs.now c.args.index c.in-Some.job.now lookup.3.0 lookup.1))

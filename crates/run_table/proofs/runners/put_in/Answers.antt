@@ -20,7 +20,7 @@ replace-requires c =
     let items = c.args.runners.now.items in
     let name = c.runner.inside.name in
     let index = c.args.index in
-    let at = c.requires.place ∙ ap (λ (r : RunnerState). index_named c.args.runners.now.items r.name) (sym c.runner.view_is) in
+    let at = c.requires.index ∙ ap (λ (r : RunnerState). index_named c.args.runners.now.items r.name) (sym c.runner.view_is) in
     let there = c.named_at.ensures ∙ ap (λ (xs : List RunnerState). option_and_then (kept_named name) (slice_get xs index)) c.deref.ensures.value
     ∙ found_there items name c.requires.rise index at in
     place_within items name c.requires.rise index at
@@ -29,7 +29,7 @@ replace-requires c =
 pub insert-requires : goal.insert-requires
 insert-requires c =
     let name = c.runner.inside.name in
-    let at = c.requires.place ∙ ap (λ (r : RunnerState). index_named c.args.runners.now.items r.name) (sym c.runner.view_is) in
+    let at = c.requires.index ∙ ap (λ (r : RunnerState). index_named c.args.runners.now.items r.name) (sym c.runner.view_is) in
     omega (
       arith,
       place_in_range c.args.runners.now.items name c.requires.rise c.args.index at,
@@ -42,7 +42,7 @@ returns-then-is_some-clause-put c =
     let items = c.args.runners.now.items in
     let name = c.runner.inside.name in
     let index = c.args.index in
-    let at = c.requires.place ∙ ap (λ (r : RunnerState). index_named c.args.runners.now.items r.name) (sym c.runner.view_is) in
+    let at = c.requires.index ∙ ap (λ (r : RunnerState). index_named c.args.runners.now.items r.name) (sym c.runner.view_is) in
     let there = c.named_at.ensures ∙ ap (λ (xs : List RunnerState). option_and_then (kept_named name) (slice_get xs index)) c.deref.ensures.value
     ∙ found_there items name c.requires.rise index at in
     let known = known_by (λ r. r.now) c.named_at.result (runner_named items name) c.is_some.result there c.is_some.ensures ∙ c.if-is_some.true in
@@ -54,7 +54,7 @@ returns-clause-put c =
     let items = c.args.runners.now.items in
     let name = c.runner.inside.name in
     let index = c.args.index in
-    let at = c.requires.place ∙ ap (λ (r : RunnerState). index_named c.args.runners.now.items r.name) (sym c.runner.view_is) in
+    let at = c.requires.index ∙ ap (λ (r : RunnerState). index_named c.args.runners.now.items r.name) (sym c.runner.view_is) in
     let there = c.named_at.ensures ∙ ap (λ (xs : List RunnerState). option_and_then (kept_named name) (slice_get xs index)) c.deref.ensures.value
     ∙ found_there items name c.requires.rise index at in
     let unknown = known_by (λ r. r.now) c.named_at.result (runner_named items name) c.is_some.result there c.is_some.ensures ∙ c.if-is_some.false in

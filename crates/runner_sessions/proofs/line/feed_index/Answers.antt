@@ -8,9 +8,9 @@ pub returns-in-Some : goal.returns-in-Some
 returns-in-Some c =
     let bytes = c.args.bytes.now in
     let n = c.args.read in
-    let found : position is_feed (drop n bytes) ≡ Some c.in-Some.place =
+    let found : position is_feed (drop n bytes) ≡ Some c.in-Some.offset =
     ap (position is_feed) (sym (take_rest bytes n)) ∙ sym c.line_feed_index.ensures ∙ c.in-Some.is in
-    sym (position_after bytes n (Some c.in-Some.place) c.requires.within c.requires.none found)
+    sym (position_after bytes n (Some c.in-Some.offset) c.requires.within c.requires.none found)
 
 pub returns-in-None : goal.returns-in-None
 returns-in-None c =

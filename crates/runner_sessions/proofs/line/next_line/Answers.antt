@@ -10,14 +10,14 @@ use Rattle.runner_sessions.proofs.line.next_line.Goals as goal
 pub returns-in_ok-request_in-in-Some-clause-found : goal.returns-in_ok-request_in-in-Some-clause-found
 returns-in_ok-request_in-in-Some-clause-found c =
     let bytes = c.args.bytes.now in
-    let place = c.in-Some.place in
+    let offset = c.in-Some.offset in
     let m = c.min.result in
     let least = c.min.ensures in
-    let found : position is_feed (take m bytes) ≡ Some place = sym c.feed_index.ensures ∙ c.in-Some.is in
-    let first = first_at bytes m place (omega arith) (omega arith) found in
+    let found : position is_feed (take m bytes) ≡ Some offset = sym c.feed_index.ensures ∙ c.in-Some.is in
+    let first = first_at bytes m offset (omega arith) (omega arith) found in
     let within = first.within in
-    let short : length (take place bytes) < 512 = let l = length-take place bytes in let s = first.short in omega arith in
-    (omega arith, (take place bytes, first.none, inl (short, first.cut, let asks = c.in_ok-request_in-in-Some.ensures in cc)))
+    let short : length (take offset bytes) < 512 = let l = length-take offset bytes in let s = first.short in omega arith in
+    (omega arith, (take offset bytes, first.none, inl (short, first.cut, let asks = c.in_ok-request_in-in-Some.ensures in cc)))
 
 pub returns-in-None-clause-found : goal.returns-in-None-clause-found
 returns-in-None-clause-found c =

@@ -15,4 +15,4 @@ abbrev pub invariant-loop-site : goal.invariant-loop-site
 invariant-loop-site l =
     map said l.claims.items
     ≡ filter_map (claim_of l.runs) (map (λ (x : ℕ × RunState). Run x.0) (placed l.runs)
-    ++ map (λ p. Leg p) (take l.site-index l.places))
+    ++ map (λ p. Leg p) (take l.site-index l.sites))

@@ -6,4 +6,4 @@ use Rattle.table_views.proofs.queue.ready_text.Given as goal
 
 -- the lines of the ready legs so far
 abbrev pub invariant-loop-site : goal.invariant-loop-site
-invariant-loop-site l = string_bytes l.text ≡ flat_map (ready_line l.form l.runs) (filter (is_ready_at l.runs) (take l.site-index l.places))
+invariant-loop-site l = string_bytes l.text ≡ flat_map (ready_line l.form l.runs) (filter (is_ready_at l.runs) (take l.site-index l.sites))

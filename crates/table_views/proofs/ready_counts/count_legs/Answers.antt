@@ -1,27 +1,27 @@
 use Rattle.std.proofs.Common.{◌<◌, ◌≤◌, ◌++◌, ℕ, List, length, take, get_or, refl, sym, subst, arith}
 use Rattle.std.proofs.lemmas.List.{take_all}
 use Rattle.run_states.specs.Runs.{leg_site}
-use Rattle.run_states.specs.declared.place.LegSite.{LegSite}
+use Rattle.run_states.specs.declared.sites.LegSite.{LegSite}
 use Rattle.table_views.specs.NamedCounts.{AreCounts}
 use Rattle.table_views.specs.TableMetrics.{asked_at}
 use Rattle.table_views.proofs.AskedLists.{asked_more}
-use Rattle.table_views.proofs.Claimed.{place_read}
+use Rattle.table_views.proofs.Claimed.{site_read}
 use Rattle.table_views.proofs.ready_counts.count_legs.Goals as goal
 
 pub loop-site-preserved : goal.loop-site-preserved
 loop-site-preserved c = λ lists are.
     let runs = c.args.runs.now in
-    let places = c.args.places.now in
+    let sites = c.args.sites.now in
     let i = c.loop-site.site-index in
-    let lt : i < length places = omega (arith, c.loop-site-test.true) in
-    let p = get_or places i (leg_site 0 0 0) in
+    let lt : i < length sites = omega (arith, c.loop-site-test.true) in
+    let p = get_or sites i (leg_site 0 0 0) in
     subst (λ (all : List (List ℕ)). AreCounts all c.count_leg.new.counts)
-    (asked_more runs lists places i p lt (sym (place_read places i (leg_site 0 0 0) p lt refl)))
-    (c.in_ok-count_leg.ensures (lists ++ asked_at runs (take i places)) (c.loop-site.invariant lists are))
+    (asked_more runs lists sites i p lt (sym (site_read sites i (leg_site 0 0 0) p lt refl)))
+    (c.in_ok-count_leg.ensures (lists ++ asked_at runs (take i sites)) (c.loop-site.invariant lists are))
 
 pub returns : goal.returns
 returns c = λ lists are.
-    let places = c.args.places.now in
-    let past : length places ≤ c.loop-site.site-index = omega (arith, c.loop-site-test.false) in
+    let sites = c.args.sites.now in
+    let past : length sites ≤ c.loop-site.site-index = omega (arith, c.loop-site-test.false) in
     subst (λ (ps : List LegSite). AreCounts (lists ++ asked_at c.args.runs.now ps) c.loop-site.counts)
-    (take_all c.loop-site.site-index places past) (c.loop-site.invariant lists are)
+    (take_all c.loop-site.site-index sites past) (c.loop-site.invariant lists are)

@@ -4,5 +4,5 @@ use Rattle.workflow_lint.proofs.check.flag_fault.Goals as goal
 
 pub returns : goal.returns
 returns c =
-    fault_read _ _ _ _ _ (of_flag c.args.place (view c.args.value.now) _) c.flag_of.ensures c.fault_of.ensures.fault
+    fault_read _ _ _ _ _ (of_flag c.args.site (view c.args.value.now) _) c.flag_of.ensures c.fault_of.ensures.fault
     c.fault_of.ensures.memory

@@ -2,7 +2,7 @@ use Rattle.std.proofs.Common.{List, ap, sym, subst, ◌∙◌}
 use Rattle.std.specs.List.{AllByRecursion}
 use Rattle.run_states.specs.inner.PlacedLegs.{PlacedLeg}
 use Rattle.run_states.specs.WithinRun.{goes_on}
-use Rattle.run_states.specs.declared.place.RuleSite.TheVariants.{AtLeg}
+use Rattle.run_states.specs.declared.sites.RuleSite.TheVariants.{AtLeg}
 use Rattle.settling_laws.proofs.PlacedLegs.{first_passing, first_passing_in_job}
 use Rattle.workflow_runs.proofs.LegsThere.{IsThere, legs_there}
 use Rattle.workflow_runs.proofs.first_site.first_of_legs.Goals as goal

@@ -1,7 +1,7 @@
 use Rattle.std.specs.Prelude.{◌≡◌}
 use Rattle.std.specs.List.{AllByRecursion}
 use Rattle.run_states.specs.WithinRun.{first_of_legs, goes_on}
-use Rattle.run_states.specs.declared.place.RuleSite.TheVariants.{AtLeg}
+use Rattle.run_states.specs.declared.sites.RuleSite.TheVariants.{AtLeg}
 use Rattle.settling_laws.proofs.PlacedLegs.{first_passing}
 use Rattle.workflow_runs.proofs.LegsThere.{IsThere}
 use Rattle.workflow_runs.proofs.first_site.first_of_legs.Given as goal

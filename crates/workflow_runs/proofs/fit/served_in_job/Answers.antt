@@ -17,6 +17,6 @@ loop-site-init c =
       ap (first_passing (serves labels runs) (λ p. p)) to_come
           ∙ first_passing_in_job (serves labels runs) (λ p. p) c.args.r c.args.j legs
           ∙ ap (λ ls. served_in_job labels runs c.args.r c.args.j (record job { legs = ls })) c.planned_legs.ensures.legs,
-      subst (AllByRecursion (λ (x : PlacedLeg). IsInJob c.args.r c.args.j c.args.job.now.room x.place)) (sym to_come)
+      subst (AllByRecursion (λ (x : PlacedLeg). IsInJob c.args.r c.args.j c.args.job.now.room x.site)) (sym to_come)
           (all_in_job c.args.r c.args.j c.args.job.now.room legs c.planned_legs.ensures.most),
     )

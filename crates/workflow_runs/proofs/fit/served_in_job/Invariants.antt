@@ -10,4 +10,4 @@ use Rattle.workflow_runs.proofs.fit.served_in_job.Given as goal
 abbrev pub invariant-loop-site : goal.invariant-loop-site
 invariant-loop-site l =
     (first_passing (serves l.labels l.runs) (λ p. p) l.site-iterator ≡ served_in_job l.labels l.runs l.r l.j l.job.state)
-    × AllByRecursion (λ (x : PlacedLeg). IsInJob l.r l.j l.job.room x.place) l.site-iterator
+    × AllByRecursion (λ (x : PlacedLeg). IsInJob l.r l.j l.job.room x.site) l.site-iterator

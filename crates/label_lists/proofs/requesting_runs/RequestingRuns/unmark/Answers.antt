@@ -1,5 +1,5 @@
 use Rattle.std.proofs.Common.{false, sym, subst, ap, ◌∙◌}
-use Rattle.label_lists.specs.Requesting.{RequestingState, place_of}
+use Rattle.label_lists.specs.Requesting.{RequestingState, index_of}
 use Rattle.label_lists.specs.inner.Requesting.{PutsRun}
 use Rattle.label_lists.proofs.Offers.{puts_run}
 use Rattle.label_lists.proofs.requesting_runs.RequestingRuns.unmark.Goals as goal
@@ -7,6 +7,6 @@ use Rattle.label_lists.proofs.requesting_runs.RequestingRuns.unmark.Goals as goa
 pub returns-in-Some-clause-puts : goal.returns-in-Some-clause-puts
 returns-in-Some-clause-puts c =
     let runs = c.self.inside.runs.items in
-    let there = ap (λ (a : RequestingState). place_of a.runs c.args.run) c.self.view_is ∙ sym c.in-Some.ensures in
+    let there = ap (λ (a : RequestingState). index_of a.runs c.args.run) c.self.view_is ∙ sym c.in-Some.ensures in
     subst (λ (a : RequestingState). PutsRun false c.args.run a (record { runs = runs; marks = c.unmark.new.self })) c.self.view_is
-    (puts_run false runs c.self.inside.marks c.unmark.new.self c.args.run c.in-Some.place there c.unmark.ensures.puts)
+    (puts_run false runs c.self.inside.marks c.unmark.new.self c.args.run c.in-Some.index there c.unmark.ensures.puts)

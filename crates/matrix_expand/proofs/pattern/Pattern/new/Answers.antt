@@ -11,13 +11,13 @@ loop-name-preserved c =
     let items = c.as_slice-name-items.result.now in
     let i = c.loop-name.name-index in
     let item = c.loop-name-item.result in
-    elim c.match-place_of.branch [
+    elim c.match-index_of.branch [
       | in-Some+in_ok-push-in-Some w ↦
-          let more = wanted_more axes items i item c.loop-name-test.true c.loop-name-item.is w.in-Some.place w.index-axes-place.result
-          w.in-Some.ensures.found w.index-axes-place.is w.in-Some.ensures.value in
-          let others = others_more axes items i item c.loop-name-test.true c.loop-name-item.is w.in-Some.place w.index-axes-place.result
-          w.in-Some.ensures.found w.index-axes-place.is w.in-Some.ensures.value in
-          let made : w.new.result ≡ (w.index-axes-place.result.1, item.1) = w.new.ensures ∙ rw (w.again.ensures, w.choice.ensures) refl in
+          let more = wanted_more axes items i item c.loop-name-test.true c.loop-name-item.is w.in-Some.index w.index-axes-index.result
+          w.in-Some.ensures.found w.index-axes-index.is w.in-Some.ensures.value in
+          let others = others_more axes items i item c.loop-name-test.true c.loop-name-item.is w.in-Some.index w.index-axes-index.result
+          w.in-Some.ensures.found w.index-axes-index.is w.in-Some.ensures.value in
+          let made : w.new.result ≡ (w.index-axes-index.result.1, item.1) = w.new.ensures ∙ rw (w.again.ensures, w.choice.ensures) refl in
           record {
             wanted = rw w.wanted-is
                 (pushed c.loop-name.wanted.items w.push.new.self.items _ _ _ w.new.result w.in_ok-push-in-Some.ensures.items

@@ -3,7 +3,7 @@ use Rattle.std.proofs.lemmas.List.{nil_from_length}
 use Rattle.std.proofs.lemmas.Bool.Decides.{nat_tests}
 use Rattle.wf_value.specs.declared.refusal.Refusal.TheVariants.{Cycle}
 use Rattle.needs_graph.specs.inner.Rows.{IsSets}
-use Rattle.needs_graph.proofs.GraphFacts.{length-reached, ids_are, places_are, dependents_are, graph_cyclic, graph_made}
+use Rattle.needs_graph.proofs.GraphFacts.{length-reached, ids_are, indexes_are, dependents_are, graph_cyclic, graph_made}
 use Rattle.needs_graph.proofs.GraphFacts.{graph_is_graph}
 use Rattle.needs_graph.proofs.graph.Graph.of_needs.Goals as goal
 
@@ -32,7 +32,7 @@ invariant_of-result c =
     let own = ids_are jobs direct c.as_slice-3.result.now c.in_ok-reached.reached.items c.in_ok-ids.ids.items c.in_ok-reached.ensures
     c.as_slice-3.ensures.value c.in_ok-ids.ensures in
     let none : c.in_ok-ids.ids.items ≡ [] = nil_from_length _ (grind (arith, nat_tests, c.if-not-is_empty.ensures)) in
-    let needs_are = places_are c.as_slice.result.now direct c.in_ok-needs.needs c.as_slice.ensures.value c.in_ok-needs.ensures
+    let needs_are = indexes_are c.as_slice.result.now direct c.in_ok-needs.needs c.as_slice.ensures.value c.in_ok-needs.ensures
     ∙ sym c.needs.view_is in
     let P : List (List Bool) → Type 0 = λ rows. IsSets sets rows in
     let sets_are = subst P (c.as_slice-4.ensures.value ∙ c.in_ok-reached.ensures) c.in_ok-all_sets.ensures in
@@ -48,5 +48,5 @@ returns c =
     c.as_slice-3.ensures.value c.in_ok-ids.ensures in
     let none : c.in_ok-ids.ids.items ≡ [] = nil_from_length _ (grind (arith, nat_tests, c.if-not-is_empty.ensures)) in
     graph_made jobs direct c.in_ok-direct.ensures (own ∙ none)
-    ∙ ap Ok (places_are c.as_slice.result.now direct c.in_ok-needs.needs c.as_slice.ensures.value c.in_ok-needs.ensures
+    ∙ ap Ok (indexes_are c.as_slice.result.now direct c.in_ok-needs.needs c.as_slice.ensures.value c.in_ok-needs.ensures
     ∙ sym c.needs.view_is)

@@ -7,8 +7,8 @@ use Rattle.needs_graph.proofs.lookup.Lookup.index_from.Goals as goal
 
 pub returns : goal.returns
 returns c =
-    let places = c.self.inside.places in
-    let requested : get_by (λ k. bytes_eq c.args.id.now k.now) places ≡ c.copied.result = ap (λ id. get_by (λ k. bytes_eq id k.now) places)
+    let indexes = c.self.inside.indexes in
+    let requested : get_by (λ k. bytes_eq c.args.id.now k.now) indexes ≡ c.copied.result = ap (λ id. get_by (λ k. bytes_eq id k.now) indexes)
     (sym c.as_str.ensures) ∙ cc (c.get.ensures.value, c.copied.ensures) in
     let found = c.self.invariant c.args.id.now in
     let P : Option ℕ → Type 0 = λ o. Finds c.self.inside.jobs.now c.args.id.now o in

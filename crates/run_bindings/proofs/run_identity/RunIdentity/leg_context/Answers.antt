@@ -14,7 +14,7 @@ returns c = λ results.
     let number = c.self.inside.run_number.now in
     let attempt = c.self.inside.run_attempt.now in
     let job = c.args.job.now in
-    let j = c.args.place in
+    let j = c.args.index in
     let l = c.args.leg in
     subst
     (λ (t : RunFacts). HasResults (context_of (facts_now run id number attempt job j l)) (need_of_job (plan_of t.event.body) j) results

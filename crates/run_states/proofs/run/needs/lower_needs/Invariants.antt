@@ -4,7 +4,7 @@ use Rattle.run_states.specs.inner.NeedsLeft.{needs_left_at}
 use Rattle.run_states.proofs.run.needs.lower_needs.Given as goal
 
 -- each count is lowered by the number of times that the job is listed so far
-abbrev pub invariant-loop-place : goal.invariant-loop-place
-invariant-loop-place l =
+abbrev pub invariant-loop-index : goal.invariant-loop-index
+invariant-loop-index l =
     (states l.jobs.items ≡ states l.fn.jobs.items) × (rooms l.jobs.items ≡ rooms l.fn.jobs.items)
-    × ((j : ℕ) → needs_left_at l.jobs.items j ≡ needs_left_at l.fn.jobs.items j - count_by (nat_eq j) (take l.place-index l.places))
+    × ((j : ℕ) → needs_left_at l.jobs.items j ≡ needs_left_at l.fn.jobs.items j - count_by (nat_eq j) (take l.index-index l.indexes))

@@ -5,7 +5,7 @@ use Rattle.run_table.specs.inner.IndexNamed.{index_named}
 use Rattle.run_states.specs.Fitting.{is_at_work}
 use Rattle.run_states.specs.Runs.{leg_at, RunState}
 use Rattle.run_states.specs.Stops.{with_ended}
-use Rattle.run_states.specs.declared.place.LegSite.{LegSite}
+use Rattle.run_states.specs.declared.sites.LegSite.{LegSite}
 use Rattle.run_table.proofs.BeforeSettling.{reported_may_settle, so_settles, sound_as_they_are}
 use Rattle.run_table.proofs.HeldAtWork.{this_at_work}
 use Rattle.run_table.proofs.LegHeld.{ended_at, held_is_at_work}
@@ -21,7 +21,7 @@ leg_held-leg-requires-clause-work c =
 
 pub put-requires : goal.put-requires
 put-requires c =
-    c.requires.place ∙ ap (λ (t : TableState). index_named t.runners c.args.report.now.runner) (sym c.self.view_is)
+    c.requires.index ∙ ap (λ (t : TableState). index_named t.runners c.args.report.now.runner) (sym c.self.view_is)
     ∙ ap (λ (r : RunnerState). index_named c.self.inside.runners r.name) (same_Ok _ _ c.in_ok-runner.ensures)
 
 pub settle-requires : goal.settle-requires

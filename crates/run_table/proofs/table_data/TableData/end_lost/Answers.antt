@@ -7,7 +7,7 @@ use Rattle.run_states.specs.Fitting.{is_at_work, is_stopping_leg}
 use Rattle.run_states.specs.Runs.{leg_at, RunState}
 use Rattle.run_states.specs.Sound.{RunsAreSound}
 use Rattle.run_states.specs.Stops.{with_ended, outcome_of_loss}
-use Rattle.run_states.specs.declared.place.LegSite.{LegSite}
+use Rattle.run_states.specs.declared.sites.LegSite.{LegSite}
 use Rattle.run_states.specs.TableState.{TableState}
 use Rattle.run_table.specs.inner.IndexNamed.{index_named}
 use Rattle.run_table.proofs.BeforeSettling.{sound_as_they_are}
@@ -16,7 +16,7 @@ use Rattle.run_table.proofs.table_data.TableData.end_lost.Goals as goal
 use Rattle.run_table.proofs.table_data.TableData.end_lost.Goals.{After-end}
 
 pub put-requires : goal.put-requires
-put-requires c = c.requires.place ∙ ap (λ (t : TableState). index_named t.runners c.args.runner.name) (sym c.self.view_is)
+put-requires c = c.requires.index ∙ ap (λ (t : TableState). index_named t.runners c.args.runner.name) (sym c.self.view_is)
 
 its_outcome : (c : After-end) → c.outcome_of_loss-outcome.result ≡ outcome_of_loss c.args.self.now.runs c.args.lease
 its_outcome c =

@@ -19,7 +19,7 @@ use Rattle.wf_value.proofs.PassedOn.{same_Ok}
 
 pub put-requires : goal.put-requires
 put-requires c =
-    c.requires.place ∙ ap (λ (t : TableState). index_named t.runners c.args.claim.now.runner) (sym c.self.view_is)
+    c.requires.index ∙ ap (λ (t : TableState). index_named t.runners c.args.claim.now.runner) (sym c.self.view_is)
     ∙ ap (λ (r : RunnerState). index_named c.self.inside.runners r.name) (sym c.in_ok-runner.ensures.runner)
 
 pub runner_and_replies-requires-clause-there : goal.runner_and_replies-requires-clause-there

@@ -21,7 +21,7 @@ end_lost-requires c =
     ∙ ap (λ (r : RunnerState). r.name) (same_Ok _ _ c.in_ok-runner-in-Some-holds.ensures) in
     record {
       sound = c.requires;
-      place = c.index_named-index.ensures ∙ ap (λ (t : TableState). index_named t.runners name) c.self.view_is
+      index = c.index_named-index.ensures ∙ ap (λ (t : TableState). index_named t.runners name) c.self.view_is
           ∙ ap (λ (n : List ℕ). index_named c.args.self.now.runners n) same;
       work = held_at_work c.args.self.now name c.in-Some.runner.now c.in-Some-holds.lease c.requires named holds;
       ends = may.sound;

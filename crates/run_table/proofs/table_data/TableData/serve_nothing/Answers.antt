@@ -7,7 +7,7 @@ use Rattle.run_table.proofs.table_data.TableData.serve_nothing.Goals as goal
 
 pub put-requires : goal.put-requires
 put-requires c =
-    c.requires.place ∙ ap (λ (t : TableState). index_named t.runners c.args.claim.now.runner) (sym c.self.view_is)
+    c.requires.index ∙ ap (λ (t : TableState). index_named t.runners c.args.claim.now.runner) (sym c.self.view_is)
     ∙ ap (λ (r : RunnerState). index_named c.self.inside.runners r.name) (same_Ok _ _ c.in_ok-runner.ensures)
 
 pub returns-clause-step : goal.returns-clause-step

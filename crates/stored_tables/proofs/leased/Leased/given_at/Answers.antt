@@ -3,7 +3,7 @@ use Rattle.std.specs.Bool.{Decides}
 use Rattle.run_states.specs.Sound.{IsOfALeg}
 use Rattle.run_states.specs.Step.{kept_lease}
 use Rattle.stored_tables.specs.Stored.{site_in_runs}
-use Rattle.run_states.specs.declared.place.LegSite.{LegSite}
+use Rattle.run_states.specs.declared.sites.LegSite.{LegSite}
 use Rattle.run_states.proofs.OneAfterAnother.{not_so}
 use Rattle.stored_tables.proofs.PartsRead.{given_lease, no_given, run_within}
 use Rattle.stored_tables.proofs.leased.Leased.given_at.Goals as goal

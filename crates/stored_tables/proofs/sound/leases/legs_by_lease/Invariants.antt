@@ -5,7 +5,7 @@ use Rattle.std.specs.Prelude.{Option}
 use Rattle.stored_tables.specs.inner.ByNumber.{Adds}
 use Rattle.stored_tables.proofs.LeasesPut.{HasLease}
 use Rattle.run_states.specs.inner.PlacedLegs.{placed_legs}
-use Rattle.run_states.specs.declared.place.LegSite.{LegSite}
+use Rattle.run_states.specs.declared.sites.LegSite.{LegSite}
 use Rattle.stored_tables.proofs.sound.leases.legs_by_lease.Given as goal
 
 -- once the remaining legs are inserted, all legs are

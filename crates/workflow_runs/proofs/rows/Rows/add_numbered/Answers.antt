@@ -145,7 +145,7 @@ invariant_of-self-2 c =
     let items = c.self.inside.runs.items in
     let run = c.args.run in
     let event = run.admitted in
-    let places = c.make_room.new.self.places.places in
+    let indexes = c.make_room.new.self.deliveries.indexes in
     let counts = c.make_room.new.self.counts.counts in
     let more = c.enter.new.self in
     let entries = c.bind.new.lists in
@@ -172,8 +172,8 @@ invariant_of-self-2 c =
       record {
         numbered = kept.0;
         bound = kept.1;
-        found = subst (λ (es : List Admitted). FindsFirst es more.places.places) (sym (events_more items run))
-            (finds_one_more items run places more.places.places (string_bytes c.in_ok-delivery.delivery) r delivery end c.enter.ensures.found
+        found = subst (λ (es : List Admitted). FindsFirst es more.deliveries.indexes) (sym (events_more items run))
+            (finds_one_more items run indexes more.deliveries.indexes (string_bytes c.in_ok-delivery.delivery) r delivery end c.enter.ensures.found
             were.found);
         counted = subst (λ (es : List Admitted). AreCounted es more.counts.counts) (sym (events_more items run))
             (one_counted items run counts more.counts.counts c.args.number were.counted (its_number bound) counted);

@@ -3,7 +3,7 @@ use Rattle.std.proofs.Common.{ap, subst, ◌≡◌, ◌≤◌, ◌∙◌, ◌<�
 use Rattle.std.proofs.lemmas.Option.{slice_get_read}
 use Rattle.run_states.specs.Changes.{changed, offered_by}
 use Rattle.run_states.specs.Runs.{with_run, RunState}
-use Rattle.run_states.specs.declared.place.LegSite.{LegSite}
+use Rattle.run_states.specs.declared.sites.LegSite.{LegSite}
 use Rattle.run_states.proofs.Doors.{changed_past, changed_within}
 use Rattle.run_bindings.specs.inner.LabelNumbers.{IsOffered, IsReadyAt, LegsAreOffered}
 use Rattle.workflow_runs.proofs.Stays.{changed_admitted, changed_attempt}

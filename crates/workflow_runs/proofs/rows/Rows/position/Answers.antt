@@ -9,7 +9,7 @@ pub returns : goal.returns
 returns c =
     let items = c.self.inside.runs.items in
     let runs_are = ap (λ (rows : RowState). rows.runs) c.self.view_is in
-    let found = found_run items c.args.self.now.runs c.self.inside.index.places.places c.args.delivery.now c.index_of.result runs_are
+    let found = found_run items c.args.self.now.runs c.self.inside.index.deliveries.indexes c.args.delivery.now c.index_of.result runs_are
     c.self.invariant.0.found c.index_of.ensures in
     let few = c.self.invariant.0.numbered.few in
     let all = ap (λ (runs : List RunState). length runs) runs_are in

@@ -5,7 +5,7 @@ use Rattle.run_states.specs.GroupLaw.{Transition}
 use Rattle.run_states.specs.Runs.{RunState}
 use Rattle.run_states.specs.Settling.{first_rule, remaining_phases, settled}
 use Rattle.run_states.specs.Sound.{RunsAreSound}
-use Rattle.run_states.specs.declared.place.JobSite.{JobSite}
+use Rattle.run_states.specs.declared.sites.JobSite.{JobSite}
 use Rattle.run_states.proofs.Optional.{from_map}
 use Rattle.settling_laws.proofs.Lowered.{first_rule_lowers}
 use Rattle.settling_laws.proofs.Rests.{settled_after_rule, settled_at_rest}

@@ -3,7 +3,7 @@ use Rattle.run_states.specs.Resuming.{RestBefore}
 use Rattle.run_states.specs.Runs.{RunState}
 use Rattle.run_states.specs.Settling.{settled, remaining_phases}
 use Rattle.run_states.specs.Sound.{RunsAreSound}
-use Rattle.run_states.specs.declared.place.JobSite.{JobSite}
+use Rattle.run_states.specs.declared.sites.JobSite.{JobSite}
 use Rattle.workflow_runs.proofs.runs.Runs.settle_from.Given as goal
 
 -- settling from here gives what settling from the start gives, and no rule applies before `from`

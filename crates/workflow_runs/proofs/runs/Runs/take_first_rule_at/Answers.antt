@@ -6,8 +6,8 @@ use Rattle.run_states.specs.GroupLaw.{Transition}
 use Rattle.run_states.specs.Settling.{rule_at, first_site, first_rule}
 use Rattle.run_states.specs.Runs.{RunState}
 use Rattle.run_states.specs.Sound.{RunsAreSound}
-use Rattle.run_states.specs.declared.place.JobSite.{JobSite}
-use Rattle.run_states.specs.declared.place.RuleSite.{RuleSite}
+use Rattle.run_states.specs.declared.sites.JobSite.{JobSite}
+use Rattle.run_states.specs.declared.sites.RuleSite.{RuleSite}
 use Rattle.run_states.proofs.Optional.{from_map}
 use Rattle.run_states.proofs.Transitions.{first_rule_taken}
 use Rattle.settling_laws.proofs.Resumed.{rest_after_rule}

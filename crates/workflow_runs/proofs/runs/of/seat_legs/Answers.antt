@@ -4,7 +4,7 @@ use Rattle.run_states.specs.GroupLaw.{same_holder}
 use Rattle.run_states.specs.Runs.{RunState}
 use Rattle.run_states.specs.declared.holder.Holder.{Holder}
 use Rattle.run_states.specs.declared.holder.Holder.TheVariants.{Leg}
-use Rattle.run_states.specs.declared.place.LegSite.{LegSite}
+use Rattle.run_states.specs.declared.sites.LegSite.{LegSite}
 use Rattle.workflow_runs.specs.inner.Seating.{HaveKeys, TakeSeats, in_job, legs_below}
 use Rattle.workflow_runs.proofs.Seating.{are_seated, one_is_taken, said_of}
 use Rattle.workflow_runs.proofs.SeatSteps.{all_legs_seated, keys_still, leg_in_its_job, leg_site, leg_seated, leg_taken, no_leg_seated}
