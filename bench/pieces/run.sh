@@ -11,7 +11,7 @@ of=${1:-stream}
 if [ $# -gt 1 ]; then
     built=$2
 else
-    [ "$of" = loop ] && more='act_disk act_store act_loop runner_sessions' || more='wf_value run_plan'
+    [ "$of" = loop ] && more='act_disk act_store client_loop runner_sessions' || more='wf_value run_plan'
     copy_for "pieces_$of" "$of.rt.txt" act_sessions webhook_sessions anyhow $more
     build "pieces_$of"
 fi

@@ -5,8 +5,8 @@ set -eu
 . "$(dirname "$0")/../../bench/copy.sh"
 folder=${1:-$here/out}
 mkdir -p "$folder"
-copy_for killed_play killed.rt.txt act_disk act_store acts_ops run_plan wf_value anyhow
+copy_for killed_play killed.rt.txt act_disk act_store program_commands run_plan wf_value anyhow
 # Lines are read as `acts` reads them.
-sed -i 's/^pub use check::/pub use line::command_of;\n&/' "$scratch/crates/acts_ops/src/lib.rt"
+sed -i 's/^pub use check::/pub use line::command_of;\n&/' "$scratch/crates/program_commands/src/lib.rt"
 build killed_play
 "$here/killed" "$built" "$folder" "${@:2}"

@@ -31,22 +31,22 @@ use Rattle.run_plan.proofs.command.Done.TheSendSync as done
 use Rattle.run_plan.proofs.command.Attempt.TheSendSync as attempt
 use Rattle.run_plan.proofs.command.Beat.TheSendSync as beat
 use Rattle.act_sessions.proofs.transcript.Ending.TheSendSync as ending
-use Rattle.run_states.proofs.job.Job.TheSendSync as job
-use Rattle.run_states.proofs.phases.RunPhase.TheSendSync as phase
-use Rattle.run_bindings.proofs.bindings.RunBindings.TheSendSync as bindings
+use Rattle.table_model.proofs.job.Job.TheSendSync as job
+use Rattle.table_model.proofs.phases.RunPhase.TheSendSync as phase
+use Rattle.table_bindings.proofs.bindings.RunBindings.TheSendSync as bindings
 use Rattle.group_book.proofs.book.Book.TheSendSync as book
 use Rattle.run_marks.proofs.marks.RunBitmap.TheSendSync as bitmap
-use Rattle.run_states.proofs.holder.Holder.TheSendSync as holder
+use Rattle.table_model.proofs.holder.Holder.TheSendSync as holder
 use Rattle.std.proofs.hash.BuildHasherDefault.TheSendSync as hashers
 use Rattle.std.proofs.hash.FoldHasher.TheSendSync as hasher
 use Rattle.indexmap.proofs.map.IndexMap.TheSendSync as indexed
 use Rattle.label_lists.proofs.lists.LabelLists.TheSendSync as lists
-use Rattle.workflow_runs.proofs.rows.deliveries.DeliveryIndexes.TheSendSync as deliveries
-use Rattle.workflow_runs.proofs.rows.counts.Counted.TheSendSync as counted
-use Rattle.workflow_runs.specs.contracts.rows.workflow.Workflow.{the_row as key}
-use Rattle.workflow_runs.specs.contracts.rows.workflow.Workflow.TheInside.{the_row as key_inside}
-use Rattle.workflow_runs.specs.contracts.rows.counts.Counts.{the_row as counts, the_type as counts_type}
-use Rattle.workflow_runs.specs.contracts.rows.index.Index.{the_row as index, the_type as index_type}
+use Rattle.table_runs.proofs.rows.deliveries.DeliveryIndexes.TheSendSync as deliveries
+use Rattle.table_runs.proofs.rows.counts.Counted.TheSendSync as counted
+use Rattle.table_runs.specs.contracts.rows.workflow.Workflow.{the_row as key}
+use Rattle.table_runs.specs.contracts.rows.workflow.Workflow.TheInside.{the_row as key_inside}
+use Rattle.table_runs.specs.contracts.rows.counts.Counts.{the_row as counts, the_type as counts_type}
+use Rattle.table_runs.specs.contracts.rows.index.Index.{the_row as index, the_type as index_type}
 use Rattle.run_table.proofs.runners.Runners.TheSendSync as runners
 use Rattle.run_plan.specs.contracts.command.Command.{the_row as command, enum as command_variants}
 use Rattle.run_plan.specs.contracts.reply.Reply.{the_row as reply, enum as reply_variants}
@@ -55,12 +55,12 @@ use Rattle.run_plan.specs.contracts.shared_body.SharedBody.TheInside.{the_row as
 use Rattle.act_store.specs.contracts.entry.Entry.{the_row as entry, the_type as entry_type}
 use Rattle.act_sessions.specs.contracts.transcript.LoggedExchange.{the_row as asked, the_type as asked_type}
 use Rattle.act_sessions.specs.contracts.transcript.Transcript.{the_row as transcript, the_type as transcript_type}
-use Rattle.run_states.specs.contracts.run.Run.{the_row as run}
-use Rattle.run_states.specs.contracts.run.Run.TheInside.{the_row as run_inside, the_type as run_type}
-use Rattle.workflow_runs.specs.contracts.rows.Rows.{the_row as rows}
-use Rattle.workflow_runs.specs.contracts.rows.Rows.TheInside.{the_row as rows_inside, the_type as rows_type}
-use Rattle.workflow_runs.specs.contracts.runs.Runs.{the_row as runs}
-use Rattle.workflow_runs.specs.contracts.runs.Runs.TheInside.{the_row as runs_inside, the_type as runs_type}
+use Rattle.table_model.specs.contracts.run.Run.{the_row as run}
+use Rattle.table_model.specs.contracts.run.Run.TheInside.{the_row as run_inside, the_type as run_type}
+use Rattle.table_runs.specs.contracts.rows.Rows.{the_row as rows}
+use Rattle.table_runs.specs.contracts.rows.Rows.TheInside.{the_row as rows_inside, the_type as rows_type}
+use Rattle.table_runs.specs.contracts.runs.Runs.{the_row as runs}
+use Rattle.table_runs.specs.contracts.runs.Runs.TheInside.{the_row as runs_inside, the_type as runs_type}
 use Rattle.run_table.specs.contracts.table_data.TableData.{the_row as table_data}
 use Rattle.run_table.specs.contracts.table_data.TableData.TheInside.{the_row as table_data_inside, the_type as table_data_type}
 use Rattle.run_table.specs.contracts.table.Table.{the_row as table}

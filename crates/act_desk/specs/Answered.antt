@@ -7,7 +7,7 @@ use Rattle.wf_value.specs.declared.refusal.Refusal.TheVariants.{Numbered}
 use Rattle.act_disk.specs.Failed.{device_failed}
 use Rattle.run_plan.specs.declared.command.Command.{Command}
 use Rattle.run_plan.specs.declared.reply.Reply.{Reply}
-use Rattle.run_states.specs.Step.{stepped}
+use Rattle.table_model.specs.Step.{stepped}
 use Rattle.act_store.specs.StoreState.{StoreState, table_of}
 use Rattle.act_store.specs.Plain.{broken, committed, entered, entry_of, refusal_of_apply}
 

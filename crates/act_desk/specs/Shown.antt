@@ -2,8 +2,8 @@
 use Rattle.std.specs.Prelude.{◌≡◌, ℕ, ◌-◌, List, Some, slice_get}
 use Rattle.run_plan.specs.declared.command.Command.{Command}
 use Rattle.run_plan.specs.declared.reply.Reply.{Reply}
-use Rattle.run_states.specs.Step.{stepped}
-use Rattle.run_states.specs.TableState.{TableState}
+use Rattle.table_model.specs.Step.{stepped}
+use Rattle.table_model.specs.TableState.{TableState}
 use Rattle.act_sessions.specs.Exchange.{Exchange}
 use Rattle.act_store.specs.StoreState.{StoreState}
 use Rattle.act_store.specs.declared.entry.Entry.{Entry}

@@ -6,7 +6,7 @@ use std::sync::ledger::Ledger;
 pub trait Named: Ledger {
     ghost use Rattle.std.specs.Prelude.{ℕ};
     ghost use Rattle.logbook.specs.Pages.{Book};
-    ghost use Rattle.run_states.specs.TableState.{TableState};
+    ghost use Rattle.table_model.specs.TableState.{TableState};
 
     ghost book: { Book };
 
@@ -16,7 +16,7 @@ pub trait Named: Ledger {
 }
 
 impl Named for Brand {
-    ghost use Rattle.run_states.specs.Step.{empty};
+    ghost use Rattle.table_model.specs.Step.{empty};
 
     ghost book = { record { number = 0; log_name = 0; cells_name = 0 } };
 

@@ -9,8 +9,8 @@ use run_plan::Command;
 use std::alloc::Global;
 
 /// Submits the commands of a session to an answerer, and records each with its answer.
-/// Promise (Sessions): A command of a turn is submitted for a transcript and for a client of `act_loop`
-/// By: `act_sessions::Submit` (`TakesCommand`), for a transcript (`IsRecorded`) and for a client of `act_loop` (`IsEntered`)
+/// Promise (Sessions): A command of a turn is submitted for a transcript and for a client of `client_loop`
+/// By: `act_sessions::Submit` (`TakesCommand`), for a transcript (`IsRecorded`) and for a client of `client_loop` (`IsEntered`)
 pub trait Submit<A> {
     /// What a command changes, by its answer. With `None` there was no memory, and it was not submitted.
     ghost submits: { Self → A → Command → Option Response → Self → A → Type 0 };

@@ -9,9 +9,9 @@ use Rattle.gated_journal.specs.declared.gate.GateState.{GateState}
 use Rattle.gated_journal.specs.declared.gate.GateState.TheVariants.{Closed}
 use Rattle.gated_journal.specs.declared.side.Side.{Side}
 use Rattle.gated_journal.specs.declared.side.Side.TheVariants.{First}
-use Rattle.run_states.specs.Sound.{IsSound}
-use Rattle.run_states.specs.Step.{empty}
-use Rattle.run_states.specs.TableState.{TableState}
+use Rattle.table_model.specs.Sound.{IsSound}
+use Rattle.table_model.specs.Step.{empty}
+use Rattle.table_model.specs.TableState.{TableState}
 use Rattle.act_store.specs.Entries.{table_after}
 use Rattle.act_store.specs.Images.{IsAreaLength, RecoversTo, MeansTable}
 use Rattle.act_store.specs.Layouts.{current_version}

@@ -10,9 +10,9 @@ use Rattle.gated_journal.specs.Whole.{RecoversWhole, WholeEither}
 use Rattle.gated_journal.specs.declared.gate.GateState.{GateState}
 use Rattle.gated_journal.specs.declared.gate.GateState.TheVariants.{Open, Closed}
 use Rattle.gated_journal.specs.declared.side.Side.{Side}
-use Rattle.run_states.specs.Sound.{IsSound}
+use Rattle.table_model.specs.Sound.{IsSound}
 use Rattle.stored_tables.specs.Stored.{RunnerParts, stored_runner}
-use Rattle.run_states.specs.TableState.{TableState}
+use Rattle.table_model.specs.TableState.{TableState}
 use Rattle.table_laws.proofs.ReachedTables.{after_is_sound}
 use Rattle.command_encodings.specs.Commands.{number}
 use Rattle.definitions.specs.Format.{pair, word_bytes, text_bytes}

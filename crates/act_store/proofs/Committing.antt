@@ -10,7 +10,7 @@ use Rattle.definitions.specs.Area.{Head, opened}
 use Rattle.gated_journal.specs.Whole.{RecoversWhole, WholeOrGrew}
 use Rattle.gated_journal.specs.declared.gate.GateState.{GateState}
 use Rattle.gated_journal.specs.declared.side.Side.{Side}
-use Rattle.run_states.specs.TableState.{TableState}
+use Rattle.table_model.specs.TableState.{TableState}
 use Rattle.command_encodings.specs.Commands.{IsEncoded, batch}
 use Rattle.act_store.specs.Entries.{commands_of, table_after}
 use Rattle.act_store.specs.Images.{RecoversTo}

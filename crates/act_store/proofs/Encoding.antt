@@ -5,8 +5,8 @@ use Rattle.definitions.specs.Area.{Head, Reads, ReadsNothing}
 use Rattle.gated_journal.specs.Scanned.{IsScanned}
 use Rattle.gated_journal.proofs.OneReading.{one_reading}
 use Rattle.wf_value.specs.declared.refusal.Refusal.{Refusal}
-use Rattle.run_states.specs.Sound.{IsSound}
-use Rattle.run_states.specs.TableState.{TableState}
+use Rattle.table_model.specs.Sound.{IsSound}
+use Rattle.table_model.specs.TableState.{TableState}
 use Rattle.table_laws.proofs.ReachedTables.{after_is_sound}
 use Rattle.act_store.specs.Layouts.{layout_of, EncodesTable}
 use Rattle.act_store.specs.Images.{MeansTable, EncodeCommands}

@@ -14,8 +14,8 @@ use Rattle.gated_journal.specs.Whole.{RecoversWhole, WholeOrSwitched}
 use Rattle.gated_journal.specs.declared.gate.GateState.{GateState}
 use Rattle.gated_journal.specs.declared.gate.GateState.TheVariants.{Open, Closed}
 use Rattle.run_plan.specs.declared.command.Command.{Command}
-use Rattle.run_states.specs.Step.{after}
-use Rattle.run_states.specs.TableState.{TableState}
+use Rattle.table_model.specs.Step.{after}
+use Rattle.table_model.specs.TableState.{TableState}
 use Rattle.command_encodings.specs.Commands.{IsEncoded, batch, command_bytes}
 use Rattle.act_store.specs.Checkpoints.{IsFinished, finished, first_gate, gate_after, refusal_of_finish}
 use Rattle.act_store.specs.Entries.{commands_of, table_after}

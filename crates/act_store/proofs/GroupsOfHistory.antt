@@ -1,7 +1,7 @@
 -- The law of concurrency groups over a store's history is that over the commands of its entries.
 use Rattle.std.proofs.Common.{List}
-use Rattle.run_states.specs.Sound.{IsSound}
-use Rattle.run_states.specs.TableState.{TableState}
+use Rattle.table_model.specs.Sound.{IsSound}
+use Rattle.table_model.specs.TableState.{TableState}
 use Rattle.table_laws.proofs.HistoryLaw.{group_keeps_law}
 use Rattle.table_laws.proofs.HistoryWords.{one_pending_after, one_in_progress_after}
 use Rattle.act_store.specs.Entries.{commands_of}

@@ -3,8 +3,8 @@ use Rattle.std.proofs.Common.{◌≡◌, ℕ, List, [], ◌∷◌, ◌++◌, tak
 use Rattle.std.proofs.lemmas.List.{map-append}
 use Rattle.run_plan.specs.declared.command.Command.{Command}
 use Rattle.run_plan.specs.declared.reply.Reply.{Reply}
-use Rattle.run_states.specs.Step.{after, replies, stepped}
-use Rattle.run_states.specs.TableState.{TableState}
+use Rattle.table_model.specs.Step.{after, replies, stepped}
+use Rattle.table_model.specs.TableState.{TableState}
 use Rattle.table_laws.proofs.LeasesStay.{after_both}
 use Rattle.act_store.specs.Entries.{commands_of, table_after, IsLegal}
 use Rattle.act_store.specs.declared.entry.Entry.{Entry}

@@ -6,8 +6,8 @@ use Rattle.gated_journal.specs.TwoAreas.{area_on, Encodes}
 use Rattle.gated_journal.specs.declared.side.Side.{Side}
 use Rattle.gated_journal.proofs.OneReading.{one_reading}
 use Rattle.run_plan.specs.declared.command.Command.{Command}
-use Rattle.run_states.specs.Step.{after}
-use Rattle.run_states.specs.TableState.{TableState}
+use Rattle.table_model.specs.Step.{after}
+use Rattle.table_model.specs.TableState.{TableState}
 use Rattle.act_store.specs.Images.{RecoversTo, MeansTable, EncodeCommands}
 use Rattle.act_store.specs.Layouts.{batch_format, EncodesTable}
 use Rattle.act_store.specs.declared.layout.Layout.{Layout}

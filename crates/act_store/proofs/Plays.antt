@@ -9,7 +9,7 @@ use Rattle.definitions.specs.Disk.{EachSince}
 use Rattle.act_disk.proofs.Moments.{started, weakened, joined}
 use Rattle.run_plan.specs.declared.command.Command.{Command}
 use Rattle.run_plan.specs.declared.reply.Reply.{Reply}
-use Rattle.run_states.specs.TableState.{TableState}
+use Rattle.table_model.specs.TableState.{TableState}
 use Rattle.act_store.specs.Checkpoints.{dropped, finished, taken, with_slice}
 use Rattle.act_store.specs.Entries.{table_after}
 use Rattle.act_store.specs.Images.{RecoversTo}

@@ -8,8 +8,8 @@ use Rattle.run_plan.specs.declared.command.Command.{Command}
 use Rattle.run_plan.specs.declared.command.Command.TheVariants as command
 use Rattle.run_plan.specs.declared.reply.Reply.{Reply}
 use Rattle.run_plan.specs.declared.reply.Reply.TheVariants as reply
-use Rattle.run_states.specs.Step.{after, replies, step, stepped}
-use Rattle.run_states.specs.TableState.{TableState}
+use Rattle.table_model.specs.Step.{after, replies, step, stepped}
+use Rattle.table_model.specs.TableState.{TableState}
 use Rattle.table_laws.specs.ExactlyOnce.{HasNumber, IsRefused}
 use Rattle.table_laws.specs.Remembered.{AreNoLaterNumbers, AreNoOtherAttempts, KnowsAttempt, KnowsDelivery, LastCommandIs}
 use Rattle.table_laws.proofs.KnownAttempts.{attempt_after, begun_is_known, known_attempt_is_answered}

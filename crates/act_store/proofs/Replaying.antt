@@ -7,8 +7,8 @@ use Rattle.gated_journal.specs.Scanned.{OpensWith, Parts}
 use Rattle.gated_journal.proofs.OneReading.{AreShort, same_frames}
 use Rattle.gated_journal.proofs.Parting.{all_parted, parts_more}
 use Rattle.run_plan.specs.declared.command.Command.{Command}
-use Rattle.run_states.specs.Step.{after}
-use Rattle.run_states.specs.TableState.{TableState}
+use Rattle.table_model.specs.Step.{after}
+use Rattle.table_model.specs.TableState.{TableState}
 use Rattle.table_laws.proofs.LeasesStay.{after_both}
 use Rattle.definitions.specs.Format.{OpensWith as BeginsWith, Encodes}
 use Rattle.act_store.specs.Layouts.{batch_format}

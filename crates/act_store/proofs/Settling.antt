@@ -9,8 +9,8 @@ use Rattle.gated_journal.specs.Whole.{RecoversWhole, WholeOrGrew}
 use Rattle.gated_journal.specs.declared.gate.GateState.{GateState}
 use Rattle.gated_journal.specs.declared.side.Side.{Side}
 use Rattle.gated_journal.proofs.Grown.{opened-push}
-use Rattle.run_states.specs.Step.{after}
-use Rattle.run_states.specs.TableState.{TableState}
+use Rattle.table_model.specs.Step.{after}
+use Rattle.table_model.specs.TableState.{TableState}
 use Rattle.command_encodings.specs.Commands.{batch}
 use Rattle.act_store.specs.Entries.{table_after}
 use Rattle.act_store.specs.Images.{IsAreaLength, RecoversFrom, RecoversTo, MeansTable}

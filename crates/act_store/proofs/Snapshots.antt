@@ -12,7 +12,7 @@ use Rattle.gated_journal.specs.declared.gate.GateState.{GateState}
 use Rattle.gated_journal.specs.declared.gate.GateState.TheVariants.{Closed}
 use Rattle.gated_journal.specs.declared.side.Side.{Side}
 use Rattle.run_plan.specs.declared.command.Command.{Command}
-use Rattle.run_states.specs.TableState.{TableState}
+use Rattle.table_model.specs.TableState.{TableState}
 use Rattle.command_encodings.specs.Commands.{IsEncoded, command_bytes}
 use Rattle.table_text.specs.Tables.{whole_table}
 use Rattle.act_store.specs.Checkpoints.{first_gate, text_length}

@@ -1,10 +1,10 @@
 -- Which texts encode a table, from what is read of them.
 use Rattle.std.proofs.Common.{◌≡◌, ℕ, ◌<◌, ◌≤◌, List, [], ◌∷◌, length, refl, arith}
 use Rattle.std.specs.Prelude.{None}
-use Rattle.run_states.specs.Sound.{IsSound}
-use Rattle.run_states.specs.Step.{empty}
+use Rattle.table_model.specs.Sound.{IsSound}
+use Rattle.table_model.specs.Step.{empty}
 use Rattle.stored_tables.specs.Stored.{stored_table}
-use Rattle.run_states.specs.TableState.{TableState}
+use Rattle.table_model.specs.TableState.{TableState}
 use Rattle.run_table.proofs.StepKeeps.{empty_is_sound}
 use Rattle.definitions.specs.Format.{OpensWith, ReadsPrefix, word_bytes}
 use Rattle.table_text.specs.Tables.{table, whole_table}

@@ -7,7 +7,7 @@ use Rattle.wf_value.specs.declared.refusal.Refusal.{Refusal}
 use Rattle.wf_value.specs.declared.refusal.Refusal.TheVariants.{Numbered}
 use Rattle.gated_journal.specs.declared.lengths.TheConstants.{FRAME, GATE, HEAD}
 use Rattle.run_plan.specs.declared.command.Command.{Command}
-use Rattle.run_states.specs.TableState.{TableState}
+use Rattle.table_model.specs.TableState.{TableState}
 use Rattle.table_text.specs.Tables.{whole_table}
 use Rattle.act_store.specs.Entries.{commands_of}
 use Rattle.act_store.specs.StoreState.{Checkpoint, StoreState, table_of}

@@ -3,8 +3,8 @@
 use Rattle.std.specs.Prelude.{◌≡◌, List, map}
 use Rattle.run_plan.specs.declared.command.Command.{Command}
 use Rattle.run_plan.specs.declared.reply.Reply.{Reply}
-use Rattle.run_states.specs.Step.{after, replies}
-use Rattle.run_states.specs.TableState.{TableState}
+use Rattle.table_model.specs.Step.{after, replies}
+use Rattle.table_model.specs.TableState.{TableState}
 use Rattle.act_store.specs.declared.entry.Entry.{Entry}
 
 abbrev pub commands_of : List Entry → List Command

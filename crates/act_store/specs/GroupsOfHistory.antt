@@ -2,10 +2,10 @@
 -- a group is in progress and at most one is pending.
 use Rattle.std.specs.Prelude.{◌≡◌, ◌≤◌, List, ◌++◌, length}
 use Rattle.group_name.specs.Group.{Group}
-use Rattle.run_states.specs.Groups.{pending_in, in_progress_in}
-use Rattle.run_states.specs.TableState.{TableState}
+use Rattle.table_model.specs.Groups.{pending_in, in_progress_in}
+use Rattle.table_model.specs.TableState.{TableState}
 use Rattle.table_laws.specs.GroupHistories.{all_moves, requests_cancellation}
-use Rattle.run_states.specs.GroupLaw.{KeepsLaw}
+use Rattle.table_model.specs.GroupLaw.{KeepsLaw}
 use Rattle.table_laws.specs.Names.{Names}
 use Rattle.act_store.specs.Entries.{commands_of, table_after}
 use Rattle.act_store.specs.declared.entry.Entry.{Entry}

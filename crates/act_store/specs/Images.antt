@@ -3,8 +3,8 @@ use Rattle.std.specs.Prelude.{◌≡◌, ℕ, List, map, Some, ◌+◌, ◌≤�
 use Rattle.std.specs.List.{AllByRecursion, flat_map}
 use Rattle.definitions.specs.Area.{Head, opened}
 use Rattle.run_plan.specs.declared.command.Command.{Command}
-use Rattle.run_states.specs.Step.{after}
-use Rattle.run_states.specs.TableState.{TableState}
+use Rattle.table_model.specs.Step.{after}
+use Rattle.table_model.specs.TableState.{TableState}
 use Rattle.act_store.specs.Layouts.{batch_format, layout_of, EncodesTable}
 use Rattle.act_store.specs.declared.layout.Layout.{Layout}
 use Rattle.definitions.specs.Limits.{max_area, min_area}

@@ -1,7 +1,7 @@
 -- The layouts of a store's texts.
 use Rattle.std.specs.Prelude.{ℕ, ◌==◌, Bool, true, IsTrue, List, Option, Some, None, if◌then◌else◌}
 use Rattle.run_plan.specs.declared.command.Command.{Command}
-use Rattle.run_states.specs.TableState.{TableState}
+use Rattle.table_model.specs.TableState.{TableState}
 use Rattle.command_encodings.specs.Commands.{batch}
 use Rattle.table_text.specs.FirstLayout.{first_batch, is_in_first_layout, whole_first_table}
 use Rattle.definitions.specs.Format.{Format, Encodes}

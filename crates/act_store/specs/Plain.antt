@@ -10,7 +10,7 @@ use Rattle.wf_value.specs.Gives.{no_memory}
 use Rattle.act_disk.specs.Failed.{device_failed}
 use Rattle.gated_journal.specs.declared.lengths.TheConstants.{FRAME, GATE}
 use Rattle.run_plan.specs.declared.command.Command.{Command}
-use Rattle.run_states.specs.Step.{empty, stepped}
+use Rattle.table_model.specs.Step.{empty, stepped}
 use Rattle.command_encodings.specs.Commands.{batch}
 use Rattle.act_store.specs.Layouts.{has_command}
 use Rattle.act_store.specs.StoreState.{StoreState, pending_commands, table_of}

@@ -1,7 +1,7 @@
 -- What is known of an acknowledged entry, after any number of crashes and reopenings, and whatever commands come in between.
 use Rattle.std.specs.Prelude.{◌≡◌, ◌⊎◌, ℕ, ◌<◌, ◌≤◌, List, [], ◌∷◌, ◌++◌, length, take}
 use Rattle.run_plan.specs.declared.command.Command.{Command}
-use Rattle.run_states.specs.TableState.{TableState}
+use Rattle.table_model.specs.TableState.{TableState}
 use Rattle.act_store.specs.Entries.{IsLegal, commands_of, table_after}
 use Rattle.act_store.specs.Images.{RecoversTo}
 use Rattle.act_store.specs.declared.entry.Entry.{Entry}

@@ -8,7 +8,7 @@ use Rattle.wf_value.specs.declared.refusal.Refusal.TheVariants.{Numbered}
 use Rattle.act_disk.specs.Failed.{device_failed}
 use Rattle.definitions.specs.Disk.{EachSince}
 use Rattle.run_plan.specs.declared.reply.Reply.{Reply}
-use Rattle.run_states.specs.Step.{stepped}
+use Rattle.table_model.specs.Step.{stepped}
 use Rattle.act_store.specs.Checkpoints.{IsFinished, begun_at, dropped, left_of, sliced, checkpoint_length}
 use Rattle.act_store.specs.Checkpoints.{refusal_of_begin, refusal_of_finish, refusal_of_slice}
 use Rattle.act_store.specs.StoreState.{StoreState, RecoversToEither, table_of}

@@ -1,7 +1,7 @@
 -- A store, as its callers see it, and what the images of its disk recover to.
 use Rattle.std.specs.Prelude.{◌≡◌, ◌⊎◌, ℕ, ◌≤◌, List, length, take, drop, Bool, Option, false}
 use Rattle.run_plan.specs.declared.command.Command.{Command}
-use Rattle.run_states.specs.TableState.{TableState}
+use Rattle.table_model.specs.TableState.{TableState}
 use Rattle.act_store.specs.Entries.{commands_of, table_after}
 use Rattle.act_store.specs.Images.{RecoversFrom, RecoversTo}
 use Rattle.act_store.specs.declared.entry.Entry.{Entry}

@@ -3,7 +3,7 @@ ghost use Rattle.std.specs.Prelude.{vec_capacity, vec_len};
 ghost use Rattle.wf_value.specs.Gives.{no_memory};
 ghost use Rattle.act_disk.specs.Failed.{device_failed};
 ghost use Rattle.definitions.specs.Disk.{EachSince};
-ghost use Rattle.run_states.specs.Step.{stepped};
+ghost use Rattle.table_model.specs.Step.{stepped};
 ghost use Rattle.command_encodings.specs.Commands.{IsEncoded, command_bytes};
 ghost use Rattle.act_store.specs.StoreState.{RecoversToEither};
 ghost use Rattle.act_store.specs.Plain.{entered, receipt_of, refusal_of_apply};

@@ -3,7 +3,7 @@ ghost use Rattle.wf_value.specs.Gives.{no_memory};
 ghost use Rattle.act_disk.specs.Failed.{device_failed};
 ghost use Rattle.definitions.specs.Disk.{EachSince};
 ghost use Rattle.definitions.specs.Area.{head_bytes};
-ghost use Rattle.run_states.specs.Sound.{IsSound};
+ghost use Rattle.table_model.specs.Sound.{IsSound};
 ghost use Rattle.table_text.specs.Tables.{whole_table};
 ghost use Rattle.act_store.specs.Checkpoints.{begun_at, first_gate, refusal_of_begin, text_length, checkpoint_length};
 ghost use Rattle.act_store.specs.Layouts.{current_version, EncodesTable};

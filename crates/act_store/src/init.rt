@@ -1,7 +1,7 @@
 ghost use Rattle.std.specs.Prelude.{◌≡◌, ◌↔◌, ◌<◌, ◌≤◌, ◌+◌, ℕ, List, Err, IfErr, IfOk};
 ghost use Rattle.definitions.specs.Limits.{max_area, min_area};
 ghost use Rattle.act_disk.specs.Failed.{device_failed};
-ghost use Rattle.run_states.specs.Step.{empty};
+ghost use Rattle.table_model.specs.Step.{empty};
 ghost use Rattle.act_store.specs.Images.{RecoversTo};
 ghost use Rattle.act_store.specs.Plain.{disk_not_empty, fresh};
 

@@ -4,7 +4,7 @@ ghost use Rattle.act_disk.specs.Failed.{device_failed};
 ghost use Rattle.definitions.specs.Disk.{Only, SameImages};
 ghost use Rattle.gated_journal.specs.Choice.{part};
 ghost use Rattle.gated_journal.specs.Reading.{OnlyRead};
-ghost use Rattle.run_states.specs.Sound.{IsSound};
+ghost use Rattle.table_model.specs.Sound.{IsSound};
 ghost use Rattle.act_store.specs.Images.{HasNoArea, HasNoTable, IsAreaLength};
 ghost use Rattle.act_store.specs.inner.Opened.{IsFound};
 ghost use Rattle.act_store.specs.Plain.{RefusesOpening, TellsNoArea, no_area, no_table};

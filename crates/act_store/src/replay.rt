@@ -1,7 +1,7 @@
 ghost use Rattle.std.specs.Prelude.{◌≡◌, IfErr, IfOk, List, MatchOption};
 ghost use Rattle.wf_value.specs.Gives.{no_memory};
 ghost use Rattle.run_plan.specs.declared.command.Command.{Command};
-ghost use Rattle.run_states.specs.Step.{after};
+ghost use Rattle.table_model.specs.Step.{after};
 ghost use Rattle.definitions.specs.Format.{Encodes};
 ghost use Rattle.act_store.specs.Layouts.{batch_format};
 ghost use Rattle.act_store.specs.inner.Replayed.{IsCarried, IsReplayed};

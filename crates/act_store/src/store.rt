@@ -3,8 +3,8 @@ ghost use Rattle.act_store.specs.Entries.{IsLegal};
 ghost use Rattle.act_store.specs.GroupsOfHistory.{KeepsGroups};
 ghost use Rattle.act_store.specs.StoreState.{RecoverToCovered, RecoversToEither, table_of};
 ghost use Rattle.act_store.specs.Plain.{room_in};
-ghost use Rattle.run_states.specs.Sound.{IsSound};
-ghost use Rattle.run_states.specs.Step.{seen};
+ghost use Rattle.table_model.specs.Sound.{IsSound};
+ghost use Rattle.table_model.specs.Step.{seen};
 
 use crate::begun::Begun;
 use crate::entry::Entry;

@@ -5,5 +5,5 @@ use act_disk::Empty;
 use std::process::ExitCode;
 
 fn main(rt: HostRuntime) -> ExitCode {
-    acts_cli::run::<Empty, _, _>(&rt, &rt)
+    program_main::run::<Empty, _, _>(&rt, &rt)
 }

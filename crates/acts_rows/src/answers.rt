@@ -6,7 +6,7 @@ use crate::steps::push_steps;
 use crate::upgraded::push_upgraded;
 use crate::views::push_views;
 use act_disk::MemoryDisk;
-use acts_ops::{run_check, run_lint, run_script};
+use program_commands::{run_check, run_lint, run_script};
 use std::alloc::{AllocError, Global};
 use wf_value::Refusal;
 

@@ -5,7 +5,7 @@ use crate::images::{disk_of, number_in, push_calls, push_file};
 use crate::upgraded::opened;
 use act_disk::{Disk, MemoryDisk};
 use act_store::Store;
-use acts_ops::{answer_line, answer_to};
+use program_commands::{answer_line, answer_to};
 use std::alloc::{AllocError, Global};
 use wf_value::{Code, Refusal};
 

@@ -2,7 +2,7 @@
 
 use crate::answers::push_refusal;
 use act_disk::{Disk, MemoryDisk};
-use acts_ops::{Form, Shown, run_script, run_show};
+use program_commands::{Form, Shown, run_script, run_show};
 use std::alloc::{AllocError, Global};
 
 /// Appends a view of a disk. A disk in memory has counted no faults, so each view is shown.

@@ -3,7 +3,7 @@ use Rattle.std.specs.Prelude.{ℕ, ◌+◌, List, [], ◌∷◌, length}
 use Rattle.std.specs.List.{flat_map}
 use Rattle.run_plan.specs.declared.command.Command.{Command}
 use Rattle.run_plan.specs.declared.reply.Reply.{Reply}
-use Rattle.run_states.specs.Runs.{RunState}
+use Rattle.table_model.specs.Runs.{RunState}
 use Rattle.table_views.specs.ChangeLines.{entry_line, run_change_line}
 
 -- What a line tells: an entry, or a run with its id as it stands after the entries before. A missed change is one of runs that there was no

@@ -6,9 +6,9 @@ use crate::kept::KeptLines;
 use crate::page::{Page, page_end, text_between};
 use crate::told::ToldChanges;
 use run_plan::{Command, Number, Reply};
-use run_states::Run;
 use std::alloc::{AllocError, Global};
 use std::marker::Model;
+use table_model::Run;
 use table_views::{entry_line, run_change_line};
 
 /// The changes of a service: its covered entries, in the order of the history, and the runs that they have changed. The lines of the last

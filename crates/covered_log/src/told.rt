@@ -3,9 +3,9 @@ ghost use Rattle.covered_log.specs.Lines.{Entered, Missed, Stands};
 
 use http_server::Log;
 use run_plan::{Command, Number, Reply};
-use run_states::Run;
 use std::marker::Model;
 use std::snapshot::Snapshot;
+use table_model::Run;
 
 /// What a line tells.
 #[derive(Drop)]

@@ -2,9 +2,9 @@
 use Rattle.std.proofs.Common.{◌<◌, arith}
 use Rattle.std.specs.List.{AllByRecursion}
 use Rattle.wf_value.specs.declared.outcome.JobResult.TheVariants as result
-use Rattle.run_states.specs.Runs.{JobState}
-use Rattle.run_states.specs.declared.phases.JobPhase.{JobPhase}
-use Rattle.run_states.specs.declared.phases.JobPhase.TheVariants as job_phase
+use Rattle.table_model.specs.Runs.{JobState}
+use Rattle.table_model.specs.declared.phases.JobPhase.{JobPhase}
+use Rattle.table_model.specs.declared.phases.JobPhase.TheVariants as job_phase
 use Rattle.table_text.specs.Tables.{job, job_byte, leg}
 use Rattle.table_text.specs.inner.Writing.{JobHasBytes}
 

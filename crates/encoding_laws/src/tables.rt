@@ -1,6 +1,6 @@
 ghost use Rattle.std.specs.Prelude.{◌<◌, ◌≤◌, ◌^◌, length};
 ghost use Rattle.run_plan.specs.declared.last_command.LastCommand.TheVariants as last;
-ghost use Rattle.run_states.specs.Sound.{IsSound};
+ghost use Rattle.table_model.specs.Sound.{IsSound};
 ghost use Rattle.stored_tables.specs.Stored.{stored_last, stored_lease, stored_runner, stored_table};
 ghost use Rattle.table_text.specs.Tables.{job, kept_lease, last_command, lease, leg, run, runner, table};
 ghost use Rattle.table_text.specs.inner.Writing.{HasByte, JobHasBytes, KeptHasBytes, RunHasBytes};
@@ -8,8 +8,8 @@ ghost use Rattle.table_text.specs.inner.Writing.{HasByte, JobHasBytes, KeptHasBy
 use crate::commands::{admit_fits, claim_fits, done_fits, number_fits, small_text_fits};
 use crate::lists::{Fits, all_fit};
 use run_plan::{Claim, ClaimReply, KeptLease, LastCommand, Number};
-use run_states::{Job, Leg, Run};
 use run_table::{Runner, Table};
+use table_model::{Job, Leg, Run};
 
 fn lease_fits(value: Option<Number>)
     ensures { lease.Takes value }

@@ -3,7 +3,7 @@
 #![tactic(auto)]
 
 use act_disk::MemoryDisk;
-use acts_ops::run_script;
+use program_commands::run_script;
 use std::io;
 use std::process::ExitCode;
 

@@ -3,8 +3,8 @@
 use crate::failure::{Failure, ended};
 use crate::streams::{input, output, printed};
 use act_disk::MemoryDisk;
-use acts_ops::{run_check, run_lint, run_script};
 use command_words::{Explanation, Unparsed};
+use program_commands::{run_check, run_lint, run_script};
 
 /// Plays the script on standard input to standard output.
 pub fn play<R: Input + Print + AllocGlobal>(rt: &R) -> Result<(), Failure<'static>> {

@@ -3,9 +3,9 @@
 use crate::failure::{Failure, ended};
 use crate::streams::output;
 use act_disk::Start;
-use acts_ops::{Form, Shown, run_init, run_show};
 use command_words::{AreaLength, Shown as Asked, View};
 use process_io::HeldStreams;
+use program_commands::{Form, Shown, run_init, run_show};
 use run_plan::Number;
 use std::fs::{File, Files};
 use std::sync::Wait;

@@ -139,7 +139,7 @@ impl Graph {
     /// stopping. It considers all ancestors of the job; one without a result has neither succeeded nor failed.
     /// Promise (Needs, matrices, templates and values): Conditions, the result of a job and the conclusion of a run are those of the definition,
     ///   memory or not
-    /// By: `needs_graph::Graph::decide`; `needs_graph::{decide, gather, conclude}`; of a table `workflow_runs::Runs::result`
+    /// By: `needs_graph::Graph::decide`; `needs_graph::{decide, gather, conclude}`; of a table `table_runs::Runs::result`
     pub fn decide<J: HasResult>(
         &self,
         job: usize,

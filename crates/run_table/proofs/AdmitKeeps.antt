@@ -14,23 +14,23 @@ use Rattle.definitions.specs.SmallText.{Admitted}
 use Rattle.run_plan.specs.PlanOf.{plan_of}
 use Rattle.run_plan.specs.declared.planned.PlannedJob.{PlannedJob}
 use Rattle.run_plan.specs.declared.reply.Reply.TheVariants as reply
-use Rattle.run_states.specs.Fitting.{legs_at_work}
-use Rattle.run_states.specs.Runs.{run_at, is_delivered_as, blocked_job, new_run, run_in_attempt, LegState, JobState, RunState}
-use Rattle.run_states.specs.declared.sites.LegSite.{LegSite}
-use Rattle.run_states.specs.Settling.{result_at}
-use Rattle.run_states.specs.Sound.{AttemptsAreGiven, DeliveriesDiffer, ParallelIsBounded}
-use Rattle.run_states.specs.Step.{admission_answer, refused}
-use Rattle.run_states.specs.TableState.{TableState}
-use Rattle.run_states.specs.LegContext.{planned_legs}
-use Rattle.run_states.proofs.Found.{none_found, found_nowhere, each_at, at_the_end, before_the_end}
+use Rattle.table_model.specs.Fitting.{legs_at_work}
+use Rattle.table_model.specs.Runs.{run_at, is_delivered_as, blocked_job, new_run, run_in_attempt, LegState, JobState, RunState}
+use Rattle.table_model.specs.declared.sites.LegSite.{LegSite}
+use Rattle.table_model.specs.Settling.{result_at}
+use Rattle.table_model.specs.Sound.{AttemptsAreGiven, DeliveriesDiffer, ParallelIsBounded}
+use Rattle.table_model.specs.Step.{admission_answer, refused}
+use Rattle.table_model.specs.TableState.{TableState}
+use Rattle.table_model.specs.LegContext.{planned_legs}
+use Rattle.table_model.proofs.Found.{none_found, found_nowhere, each_at, at_the_end, before_the_end}
 use Rattle.run_table.proofs.Kept.{IsKept, StillHad, kept_still_had}
-use Rattle.run_states.proofs.LeaseReads.{leases_same}
-use Rattle.run_states.proofs.LegReads.{work_of, had_at, works_at}
-use Rattle.run_states.proofs.NeedsSettled.{result_in}
-use Rattle.run_states.proofs.Optional.{from_map, if_none}
-use Rattle.run_states.proofs.RunFits.{JobFits, RunFits, RunsFit}
+use Rattle.table_model.proofs.LeaseReads.{leases_same}
+use Rattle.table_model.proofs.LegReads.{work_of, had_at, works_at}
+use Rattle.table_model.proofs.NeedsSettled.{result_in}
+use Rattle.table_model.proofs.Optional.{from_map, if_none}
+use Rattle.table_model.proofs.RunFits.{JobFits, RunFits, RunsFit}
 use Rattle.run_table.proofs.RunnerPut.{holds_at}
-use Rattle.run_states.proofs.Settles.{fits_beside}
+use Rattle.table_model.proofs.Settles.{fits_beside}
 
 -- ---- the new run by itself
 

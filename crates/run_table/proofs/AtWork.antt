@@ -6,15 +6,15 @@ use Rattle.std.proofs.Common.{arith, ap, sym, ◌∙◌, cond}
 use Rattle.std.proofs.lemmas.List.Sums.{sum_by-cons}
 use Rattle.std.proofs.lemmas.Option.{none-some}
 use Rattle.run_plan.specs.declared.planned.PlannedJob.{PlannedJob}
-use Rattle.run_states.specs.Fitting.{is_at_work, legs_at_work, most_at_work}
-use Rattle.run_states.specs.Runs.{job_at, leg_site, LegState, JobState, RunState}
-use Rattle.run_states.specs.declared.sites.LegSite.{LegSite}
-use Rattle.run_states.specs.Sound.{ParallelIsBounded, LeaseFits}
-use Rattle.run_states.specs.declared.phases.LegPhase.{LegPhase}
-use Rattle.run_states.specs.declared.phases.LegPhase.TheVariants as leg
-use Rattle.run_states.proofs.LegReads.{work_of, works_at, works_is}
-use Rattle.run_states.proofs.RunFits.{RunsFit, admitted_at, leases_fit, leg_in_job, plan_at_same}
-use Rattle.run_states.proofs.Settles.{Settles}
+use Rattle.table_model.specs.Fitting.{is_at_work, legs_at_work, most_at_work}
+use Rattle.table_model.specs.Runs.{job_at, leg_site, LegState, JobState, RunState}
+use Rattle.table_model.specs.declared.sites.LegSite.{LegSite}
+use Rattle.table_model.specs.Sound.{ParallelIsBounded, LeaseFits}
+use Rattle.table_model.specs.declared.phases.LegPhase.{LegPhase}
+use Rattle.table_model.specs.declared.phases.LegPhase.TheVariants as leg
+use Rattle.table_model.proofs.LegReads.{work_of, works_at, works_is}
+use Rattle.table_model.proofs.RunFits.{RunsFit, admitted_at, leases_fit, leg_in_job, plan_at_same}
+use Rattle.table_model.proofs.Settles.{Settles}
 
 abbrev pub at_work : LegState → Bool
 at_work l = is_at_work l.phase

@@ -5,11 +5,11 @@ use Rattle.run_plan.specs.declared.command.Beat.{Beat as Requested}
 use Rattle.run_plan.specs.declared.command.Claim.{Claim as Claimed}
 use Rattle.run_plan.specs.declared.command.Command.TheVariants as command
 use Rattle.run_plan.specs.declared.last_command.ClaimReply.TheVariants as given
-use Rattle.run_states.specs.Step.{claiming_runner, stepped}
-use Rattle.run_states.specs.TableState.{TableState}
-use Rattle.run_states.specs.declared.phases.LegPhase.{LegPhase}
-use Rattle.run_states.specs.declared.phases.LegPhase.TheVariants as leg
-use Rattle.run_states.specs.declared.phases.RunPhase.TheVariants as run
+use Rattle.table_model.specs.Step.{claiming_runner, stepped}
+use Rattle.table_model.specs.TableState.{TableState}
+use Rattle.table_model.specs.declared.phases.LegPhase.{LegPhase}
+use Rattle.table_model.specs.declared.phases.LegPhase.TheVariants as leg
+use Rattle.table_model.specs.declared.phases.RunPhase.TheVariants as run
 use Rattle.run_table.proofs.StepRows.{open_job}
 use Rattle.run_table.proofs.ViewRows.{claimed}
 

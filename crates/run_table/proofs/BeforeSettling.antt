@@ -6,31 +6,31 @@ use Rattle.std.proofs.lemmas.Option.{slice_get_within}
 use Rattle.definitions.specs.SmallText.{Admitted}
 use Rattle.run_plan.specs.declared.command.Attempt.{Attempt}
 use Rattle.run_plan.specs.declared.command.Done.{Done as Reported}
-use Rattle.run_states.specs.Settling.{arrived}
-use Rattle.run_states.specs.Fitting.{first_fit}
-use Rattle.run_states.specs.Groups.{HasOneBeside, HasOneEach, waits}
-use Rattle.run_states.specs.Runs.{run_at, with_leg, with_run, leg_has_ended, again, leased_leg, new_run, RunState}
-use Rattle.run_states.specs.declared.sites.LegSite.{LegSite}
-use Rattle.run_states.specs.Sound.{IsSound, RunsAreSound}
-use Rattle.run_states.specs.Step.{entered, entered_again, report_answer, rerun_answer}
-use Rattle.run_states.specs.Stops.{with_ended, outcome_of_loss, stopped_run}
-use Rattle.run_states.specs.declared.phases.RunPhase.TheVariants as run
-use Rattle.run_states.specs.TableState.{RunnerState, TableState, runner_named}
-use Rattle.run_states.specs.declared.phases.LegPhase.{LegPhase}
+use Rattle.table_model.specs.Settling.{arrived}
+use Rattle.table_model.specs.Fitting.{first_fit}
+use Rattle.table_model.specs.Groups.{HasOneBeside, HasOneEach, waits}
+use Rattle.table_model.specs.Runs.{run_at, with_leg, with_run, leg_has_ended, again, leased_leg, new_run, RunState}
+use Rattle.table_model.specs.declared.sites.LegSite.{LegSite}
+use Rattle.table_model.specs.Sound.{IsSound, RunsAreSound}
+use Rattle.table_model.specs.Step.{entered, entered_again, report_answer, rerun_answer}
+use Rattle.table_model.specs.Stops.{with_ended, outcome_of_loss, stopped_run}
+use Rattle.table_model.specs.declared.phases.RunPhase.TheVariants as run
+use Rattle.table_model.specs.TableState.{RunnerState, TableState, runner_named}
+use Rattle.table_model.specs.declared.phases.LegPhase.{LegPhase}
 use Rattle.run_table.proofs.AdmitKeeps.{all_fit}
 use Rattle.run_table.proofs.BeginsAgain.{BeginsAgain, begins_again}
 use Rattle.run_table.proofs.ClaimKeeps.{fitting_leg}
 use Rattle.run_table.proofs.CommandsOneEach.{ended_one_each, leased_one_each, stopped_one_each}
 use Rattle.run_table.proofs.Entered.{beside_new_run, entered_one_each, entered_settles, new_run_waits}
 use Rattle.run_table.proofs.EnteredAgain.{again_fits, again_waits, beside_again, entered_again_one_each, entered_again_settles}
-use Rattle.run_states.proofs.JobKeeps.{leg_in, leg_stays}
+use Rattle.table_model.proofs.JobKeeps.{leg_in, leg_stays}
 use Rattle.settling_laws.proofs.HoldersKeep.{run_stop_settles}
 use Rattle.run_table.proofs.Kept.{kept_from_sound}
 use Rattle.run_table.proofs.ReportKeeps.{loss_stays, report_stays}
-use Rattle.run_states.proofs.RunFits.{RunsFit}
+use Rattle.table_model.proofs.RunFits.{RunsFit}
 use Rattle.settling_laws.proofs.SoundRuns.{sound_runs}
-use Rattle.run_states.specs.declared.holder.Holder.{Holder}
-use Rattle.run_states.specs.declared.holder.Holder.TheVariants.{Run}
+use Rattle.table_model.specs.declared.holder.Holder.{Holder}
+use Rattle.table_model.specs.declared.holder.Holder.TheVariants.{Run}
 
 -- the runs fit, and no group has two holders of a kind
 pub record MaySettle (runs : List RunState) : Type 0 where

@@ -10,23 +10,23 @@ use Rattle.wf_value.specs.declared.outcome.JobResult.{JobResult}
 use Rattle.wf_value.specs.declared.refusal.Refusal.TheVariants.{Turn}
 use Rattle.run_plan.specs.declared.command.Attempt.{Attempt}
 use Rattle.run_plan.specs.declared.reply.Reply.TheVariants as reply
-use Rattle.run_states.specs.Runs.{finished_result, run_at, LegState, JobState, RunState, is_finished, leg_has_ended, outcome_of}
-use Rattle.run_states.specs.Fitting.{is_at_work}
-use Rattle.run_states.specs.Settling.{result_at}
-use Rattle.run_states.specs.Sound.{LegsFit, PhaseFits}
-use Rattle.run_states.specs.LegContext.{planned_legs}
-use Rattle.run_states.specs.declared.phases.JobPhase.{JobPhase}
-use Rattle.run_states.specs.declared.phases.JobPhase.TheVariants as job
-use Rattle.run_states.specs.declared.phases.LegPhase.{LegPhase}
-use Rattle.run_states.specs.declared.phases.LegPhase.TheVariants as leg
-use Rattle.run_states.specs.declared.phases.RunPhase.{RunPhase}
-use Rattle.run_states.specs.declared.phases.RunPhase.TheVariants as run
-use Rattle.run_states.specs.Step.{answer_of_attempt, answer_of_next, has_completed, refused, rerun_answer}
-use Rattle.run_states.specs.TableState.{TableState}
-use Rattle.run_states.proofs.JobKeeps.{no_leg}
-use Rattle.run_states.proofs.LegReads.{work_of, works_in, works_in_job}
-use Rattle.run_states.proofs.Optional.{each_passes}
-use Rattle.run_states.proofs.RunFits.{RunFits}
+use Rattle.table_model.specs.Runs.{finished_result, run_at, LegState, JobState, RunState, is_finished, leg_has_ended, outcome_of}
+use Rattle.table_model.specs.Fitting.{is_at_work}
+use Rattle.table_model.specs.Settling.{result_at}
+use Rattle.table_model.specs.Sound.{LegsFit, PhaseFits}
+use Rattle.table_model.specs.LegContext.{planned_legs}
+use Rattle.table_model.specs.declared.phases.JobPhase.{JobPhase}
+use Rattle.table_model.specs.declared.phases.JobPhase.TheVariants as job
+use Rattle.table_model.specs.declared.phases.LegPhase.{LegPhase}
+use Rattle.table_model.specs.declared.phases.LegPhase.TheVariants as leg
+use Rattle.table_model.specs.declared.phases.RunPhase.{RunPhase}
+use Rattle.table_model.specs.declared.phases.RunPhase.TheVariants as run
+use Rattle.table_model.specs.Step.{answer_of_attempt, answer_of_next, has_completed, refused, rerun_answer}
+use Rattle.table_model.specs.TableState.{TableState}
+use Rattle.table_model.proofs.JobKeeps.{no_leg}
+use Rattle.table_model.proofs.LegReads.{work_of, works_in, works_in_job}
+use Rattle.table_model.proofs.Optional.{each_passes}
+use Rattle.table_model.proofs.RunFits.{RunFits}
 
 -- ---- what was checked first
 

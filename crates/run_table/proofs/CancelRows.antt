@@ -7,14 +7,14 @@ use Rattle.run_plan.specs.declared.command.Claim.{Claim as Claimed}
 use Rattle.run_plan.specs.declared.command.Command.TheVariants as command
 use Rattle.run_plan.specs.declared.reply.Reply.TheVariants as reply
 use Rattle.run_plan.specs.declared.last_command.ClaimReply.TheVariants as given
-use Rattle.run_states.specs.Step.{step, empty, claiming_runner, refused}
-use Rattle.run_states.specs.Runs.{blocked_job, JobState, RunState}
-use Rattle.run_states.specs.Stops.{outcome_of_loss, stopped_run, stopped_where}
-use Rattle.run_states.specs.TableState.{RunnerState, TableState}
-use Rattle.run_states.specs.declared.phases.JobPhase.TheVariants as job
-use Rattle.run_states.specs.declared.phases.LegPhase.TheVariants as leg
-use Rattle.run_states.specs.declared.phases.RunPhase.{RunPhase}
-use Rattle.run_states.specs.declared.phases.RunPhase.TheVariants as run
+use Rattle.table_model.specs.Step.{step, empty, claiming_runner, refused}
+use Rattle.table_model.specs.Runs.{blocked_job, JobState, RunState}
+use Rattle.table_model.specs.Stops.{outcome_of_loss, stopped_run, stopped_where}
+use Rattle.table_model.specs.TableState.{RunnerState, TableState}
+use Rattle.table_model.specs.declared.phases.JobPhase.TheVariants as job
+use Rattle.table_model.specs.declared.phases.LegPhase.TheVariants as leg
+use Rattle.table_model.specs.declared.phases.RunPhase.{RunPhase}
+use Rattle.table_model.specs.declared.phases.RunPhase.TheVariants as run
 use Rattle.run_table.proofs.StepRows.{open_job}
 use Rattle.run_table.proofs.ViewRows.{claimed, unclaimed}
 

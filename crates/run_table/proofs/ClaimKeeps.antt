@@ -11,30 +11,30 @@ use Rattle.wf_value.specs.declared.code.Code.TheVariants.{HasLease, LastCounter}
 use Rattle.wf_value.proofs.OptionOr.{or_nothing}
 use Rattle.run_plan.specs.declared.command.Claim.{Claim as Claimed}
 use Rattle.run_plan.specs.declared.reply.Reply.{Reply}
-use Rattle.run_states.specs.Runs.{changed_at, job_at, leg_at, leg_sites, run_at, with_leg, leased_leg, LegState, JobState, RunState}
-use Rattle.run_states.specs.Fitting.{is_ready, is_served, may_run_too, fits, first_fit, has_room, legs_at_work, most_at_work}
-use Rattle.run_states.specs.declared.sites.LegSite.{LegSite}
-use Rattle.run_states.specs.Settling.{leg_has_ended, result_at}
+use Rattle.table_model.specs.Runs.{changed_at, job_at, leg_at, leg_sites, run_at, with_leg, leased_leg, LegState, JobState, RunState}
+use Rattle.table_model.specs.Fitting.{is_ready, is_served, may_run_too, fits, first_fit, has_room, legs_at_work, most_at_work}
+use Rattle.table_model.specs.declared.sites.LegSite.{LegSite}
+use Rattle.table_model.specs.Settling.{leg_has_ended, result_at}
 use Rattle.run_plan.specs.LastCommand.{is_last_claim}
-use Rattle.run_states.specs.Sound.{IsLastOf, ParallelIsBounded, LeaseFits, LegsFit}
+use Rattle.table_model.specs.Sound.{IsLastOf, ParallelIsBounded, LeaseFits, LegsFit}
 use Rattle.wf_value.specs.declared.outcome.JobResult.{JobResult}
-use Rattle.run_states.specs.LegContext.{planned_legs}
-use Rattle.run_states.specs.declared.phases.JobPhase.{JobPhase}
-use Rattle.run_states.specs.declared.phases.JobPhase.TheVariants as job
-use Rattle.run_states.proofs.Optional.{from_and_then, from_map}
-use Rattle.run_states.specs.Step.{refused, has_no_lease_left, claim_answer, claiming_runner, kept_lease_at}
-use Rattle.run_states.specs.TableState.{RunnerState, TableState, runner_named, answer_by_number, with_runner, holds_lease}
+use Rattle.table_model.specs.LegContext.{planned_legs}
+use Rattle.table_model.specs.declared.phases.JobPhase.{JobPhase}
+use Rattle.table_model.specs.declared.phases.JobPhase.TheVariants as job
+use Rattle.table_model.proofs.Optional.{from_and_then, from_map}
+use Rattle.table_model.specs.Step.{refused, has_no_lease_left, claim_answer, claiming_runner, kept_lease_at}
+use Rattle.table_model.specs.TableState.{RunnerState, TableState, runner_named, answer_by_number, with_runner, holds_lease}
 use Rattle.run_plan.specs.declared.last_command.ClaimReply.TheVariants as given
-use Rattle.run_states.specs.declared.phases.LegPhase.{LegPhase}
-use Rattle.run_states.specs.declared.phases.LegPhase.TheVariants as leg
-use Rattle.run_states.proofs.Found.{find_passes}
+use Rattle.table_model.specs.declared.phases.LegPhase.{LegPhase}
+use Rattle.table_model.specs.declared.phases.LegPhase.TheVariants as leg
+use Rattle.table_model.proofs.Found.{find_passes}
 use Rattle.run_table.proofs.AtWork.{at_work, one_at_work, at_most_one, fewer_in_job, most_same}
-use Rattle.run_states.proofs.JobKeeps.{leg_in, leg_stays, leg_now, leg_elsewhere, job_is_now, with_leg_of}
+use Rattle.table_model.proofs.JobKeeps.{leg_in, leg_stays, leg_now, leg_elsewhere, job_is_now, with_leg_of}
 use Rattle.settling_laws.proofs.Lowered.{sum_of_changed}
 use Rattle.run_table.proofs.Kept.{IsKept, KeptIsHad, WasHad, attempts_still_given, kept_still_had, stay_still_had, lease_reply_same, deliveries_still_differ}
-use Rattle.run_states.proofs.LeaseReads.{ChangesAt, names_same, place_or_another, lease_given, leases_same}
-use Rattle.run_states.proofs.LegReads.{work_of, had_at, works_at, had_is, works_is, had_from_leg, works_from_leg}
-use Rattle.run_states.proofs.RunFits.{RunsFit, admitted_at, plan_at_same, planned_legs_same, jobs_fit, leases_fit}
+use Rattle.table_model.proofs.LeaseReads.{ChangesAt, names_same, place_or_another, lease_given, leases_same}
+use Rattle.table_model.proofs.LegReads.{work_of, had_at, works_at, had_is, works_is, had_from_leg, works_from_leg}
+use Rattle.table_model.proofs.RunFits.{RunsFit, admitted_at, plan_at_same, planned_legs_same, jobs_fit, leases_fit}
 use Rattle.run_table.proofs.RunnerOrder.{names_still_rise}
 use Rattle.run_table.proofs.RunnerPut.{each_put, holds_at, holds_changes}
 

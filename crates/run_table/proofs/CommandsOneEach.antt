@@ -4,22 +4,22 @@ use Rattle.std.specs.Option.{option_map_or}
 use Rattle.std.proofs.Common.{ap, inl, inr, ◌∙◌}
 use Rattle.std.proofs.lemmas.Bool.{false≢true}
 use Rattle.wf_value.specs.declared.outcome.Outcome.{Outcome}
-use Rattle.run_states.specs.Fitting.{first_fit, site_of_lease}
-use Rattle.run_states.specs.Groups.{HasOneEach, holds, leg_holds}
-use Rattle.run_states.specs.Runs.{leased_leg, with_job, with_leg, with_run, RunState, leg_has_ended, leg_in_phase}
-use Rattle.run_states.specs.declared.sites.LegSite.{LegSite}
-use Rattle.run_states.specs.Stops.{with_ended, after_end, stopped_run, stops_others, with_stopped_legs}
-use Rattle.run_states.specs.declared.phases.LegPhase.{LegPhase}
-use Rattle.run_states.specs.declared.phases.LegPhase.TheVariants as leg
+use Rattle.table_model.specs.Fitting.{first_fit, site_of_lease}
+use Rattle.table_model.specs.Groups.{HasOneEach, holds, leg_holds}
+use Rattle.table_model.specs.Runs.{leased_leg, with_job, with_leg, with_run, RunState, leg_has_ended, leg_in_phase}
+use Rattle.table_model.specs.declared.sites.LegSite.{LegSite}
+use Rattle.table_model.specs.Stops.{with_ended, after_end, stopped_run, stops_others, with_stopped_legs}
+use Rattle.table_model.specs.declared.phases.LegPhase.{LegPhase}
+use Rattle.table_model.specs.declared.phases.LegPhase.TheVariants as leg
 use Rattle.run_table.proofs.ClaimKeeps.{fitting_leg}
-use Rattle.run_states.proofs.JobKeeps.{leg_in, leg_stays}
-use Rattle.run_states.proofs.RunFits.{RunsFit}
-use Rattle.run_states.proofs.Settles.{StayFit}
+use Rattle.table_model.proofs.JobKeeps.{leg_in, leg_stays}
+use Rattle.table_model.proofs.RunFits.{RunsFit}
+use Rattle.table_model.proofs.Settles.{StayFit}
 use Rattle.settling_laws.proofs.HoldersFade.{leg_fades, leg_passes, legs_stop_fades, passes, run_stop_fades, waits_before_leg}
 use Rattle.settling_laws.proofs.HoldersKeep.{run_stop_settles}
 use Rattle.settling_laws.proofs.OneEach.{Fades, fades_not, fades_on, fading_keeps, groups_stay}
 use Rattle.settling_laws.proofs.OneEachRules.{set_holds}
-use Rattle.run_states.specs.declared.holder.Holder.TheVariants.{Leg}
+use Rattle.table_model.specs.declared.holder.Holder.TheVariants.{Leg}
 
 -- ---- a leg is leased: it held its group already
 

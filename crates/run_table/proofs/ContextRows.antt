@@ -7,7 +7,7 @@ use Rattle.wf_value.specs.declared.scalar.Scalar.TheVariants.{Truth, Whole, Text
 use Rattle.wf_reader.specs.declared.flag.Flag.TheVariants.{Fixed}
 use Rattle.definitions.specs.SmallText.{Admitted}
 use Rattle.run_plan.specs.declared.planned.PlannedJob.{PlannedJob}
-use Rattle.run_states.specs.LegContext.{LegFacts, context_of}
+use Rattle.table_model.specs.LegContext.{LegFacts, context_of}
 
 abbrev event : Admitted
 event = record { delivery = codes "d1"; event = codes "push"; body = [] }

@@ -12,11 +12,11 @@ use Rattle.run_plan.specs.declared.command.Claim.{Claim as Claimed}
 use Rattle.run_plan.specs.declared.command.Command.{Command}
 use Rattle.run_plan.specs.declared.command.Command.TheVariants as command
 use Rattle.run_plan.specs.declared.reply.Reply.{Reply}
-use Rattle.run_states.specs.inner.Claims.{is_claim}
-use Rattle.run_states.specs.TableState.{Step, TableState, runner_named}
-use Rattle.run_states.specs.Step.{admission_answer, admitting, beat_answer, cancel_answer, cancelling, claim_answer, claiming, fetch_answer}
-use Rattle.run_states.specs.Step.{read_only_reply as answer_of, is_allocation_free, look_answer, losing, lost, refused, released, report_answer, reporting}
-use Rattle.run_states.specs.Step.{rerun_answer, rerunning, step, stepped, unchanged}
+use Rattle.table_model.specs.inner.Claims.{is_claim}
+use Rattle.table_model.specs.TableState.{Step, TableState, runner_named}
+use Rattle.table_model.specs.Step.{admission_answer, admitting, beat_answer, cancel_answer, cancelling, claim_answer, claiming, fetch_answer}
+use Rattle.table_model.specs.Step.{read_only_reply as answer_of, is_allocation_free, look_answer, losing, lost, refused, released, report_answer, reporting}
+use Rattle.table_model.specs.Step.{rerun_answer, rerunning, step, stepped, unchanged}
 
 abbrev Stays : TableState → Step → Type 0
 Stays t s = carries_text s.reply ≡ true → s.table ≡ t

@@ -7,29 +7,29 @@ use Rattle.std.proofs.lemmas.Option.{slice_get-map, slice_get_within}
 use Rattle.definitions.specs.SmallText.{Admitted}
 use Rattle.run_plan.specs.PlanOf.{plan_of}
 use Rattle.run_plan.specs.declared.planned.PlannedJob.{PlannedJob}
-use Rattle.run_states.specs.Settling.{arrived}
-use Rattle.run_states.specs.Groups.{HasOneBeside, HasOneEach, holds, leg_holds, leg_waits, run_waits, waits}
-use Rattle.run_states.specs.Runs.{leg_at, is_live, blocked_job, new_run, RunState}
-use Rattle.run_states.specs.declared.sites.LegSite.{LegSite}
-use Rattle.run_states.specs.LegContext.{events}
-use Rattle.run_states.specs.Step.{admission_answer, entered}
-use Rattle.run_states.specs.TableState.{TableState}
-use Rattle.run_states.specs.declared.phases.LegPhase.{LegPhase}
+use Rattle.table_model.specs.Settling.{arrived}
+use Rattle.table_model.specs.Groups.{HasOneBeside, HasOneEach, holds, leg_holds, leg_waits, run_waits, waits}
+use Rattle.table_model.specs.Runs.{leg_at, is_live, blocked_job, new_run, RunState}
+use Rattle.table_model.specs.declared.sites.LegSite.{LegSite}
+use Rattle.table_model.specs.LegContext.{events}
+use Rattle.table_model.specs.Step.{admission_answer, entered}
+use Rattle.table_model.specs.TableState.{TableState}
+use Rattle.table_model.specs.declared.phases.LegPhase.{LegPhase}
 use Rattle.run_table.proofs.AdmitKeeps.{admit_keeps, all_fit}
-use Rattle.run_states.proofs.Found.{at_the_end, before_the_end}
-use Rattle.run_states.proofs.JobKeeps.{leg_in}
+use Rattle.table_model.proofs.Found.{at_the_end, before_the_end}
+use Rattle.table_model.proofs.JobKeeps.{leg_in}
 use Rattle.settling_laws.proofs.ArrivalKeeps.{arrival_one_each}
 use Rattle.settling_laws.proofs.GroupStays.{leg_group_same, leg_needs_finished, run_group_stays}
 use Rattle.settling_laws.proofs.HoldersFade.{by_run, job_passes, leg_passes, passes, run_passes}
 use Rattle.settling_laws.proofs.HoldersKeep.{arrival_settles}
 use Rattle.run_table.proofs.Kept.{IsKept, kept_settles}
-use Rattle.run_states.proofs.LegFacts.{SameUpTo, facts_stay}
-use Rattle.run_states.proofs.NeedsSettled.{result_in}
-use Rattle.run_states.proofs.RunFits.{RunsFit}
-use Rattle.run_states.proofs.Settles.{Settles, same_events}
+use Rattle.table_model.proofs.LegFacts.{SameUpTo, facts_stay}
+use Rattle.table_model.proofs.NeedsSettled.{result_in}
+use Rattle.table_model.proofs.RunFits.{RunsFit}
+use Rattle.table_model.proofs.Settles.{Settles, same_events}
 use Rattle.settling_laws.proofs.OneEach.{Comes, GroupsStay, newcomer_besides}
-use Rattle.run_states.specs.declared.holder.Holder.{Holder}
-use Rattle.run_states.specs.declared.holder.Holder.TheVariants.{Run, Leg}
+use Rattle.table_model.specs.declared.holder.Holder.{Holder}
+use Rattle.table_model.specs.declared.holder.Holder.TheVariants.{Run, Leg}
 
 -- ---- holders that wait and holders in progress
 

@@ -9,24 +9,24 @@ use Rattle.std.proofs.lemmas.Option.{none-some, same_Some}
 use Rattle.definitions.specs.Limits.{last_attempt}
 use Rattle.group_name.specs.Group.{Group, same_group}
 use Rattle.run_plan.specs.PlanOf.{plan_of}
-use Rattle.run_states.specs.Groups.{group_at, waits}
-use Rattle.run_states.specs.Groups.{HasOneBeside, HasOneEach, holds, is_in, is_pending_in, is_in_progress_in, leg_holds, leg_waits, run_waits}
-use Rattle.run_states.specs.Holders.{run_of}
-use Rattle.run_states.specs.Runs.{again, leg_at, run_at, with_run, LegState, JobState, RunState, is_live}
-use Rattle.run_states.specs.declared.sites.LegSite.{LegSite}
-use Rattle.run_states.specs.LegContext.{events}
-use Rattle.run_states.specs.declared.phases.LegPhase.{LegPhase}
-use Rattle.run_states.specs.Sound.{AttemptsAreGiven}
-use Rattle.run_states.specs.Step.{entered_again}
-use Rattle.run_states.specs.TableState.{TableState}
-use Rattle.run_states.proofs.Changed.{at_another, at_changed, length-changed_at}
-use Rattle.run_states.proofs.LeaseReads.{LeasesAgree}
-use Rattle.run_states.proofs.LegFacts.{SameUpTo, attempt_at, facts_stay}
-use Rattle.run_states.proofs.LegReads.{had_at, had_in, work_of, works_at, works_in}
-use Rattle.run_states.proofs.NeedsSettled.{KeepsResults, result_in}
-use Rattle.run_states.proofs.Optional.{from_map}
-use Rattle.run_states.proofs.RunFits.{RunFits, RunsFit, admitted_at}
-use Rattle.run_states.proofs.Settles.{Settles, fits_beside, same_events}
+use Rattle.table_model.specs.Groups.{group_at, waits}
+use Rattle.table_model.specs.Groups.{HasOneBeside, HasOneEach, holds, is_in, is_pending_in, is_in_progress_in, leg_holds, leg_waits, run_waits}
+use Rattle.table_model.specs.Holders.{run_of}
+use Rattle.table_model.specs.Runs.{again, leg_at, run_at, with_run, LegState, JobState, RunState, is_live}
+use Rattle.table_model.specs.declared.sites.LegSite.{LegSite}
+use Rattle.table_model.specs.LegContext.{events}
+use Rattle.table_model.specs.declared.phases.LegPhase.{LegPhase}
+use Rattle.table_model.specs.Sound.{AttemptsAreGiven}
+use Rattle.table_model.specs.Step.{entered_again}
+use Rattle.table_model.specs.TableState.{TableState}
+use Rattle.table_model.proofs.Changed.{at_another, at_changed, length-changed_at}
+use Rattle.table_model.proofs.LeaseReads.{LeasesAgree}
+use Rattle.table_model.proofs.LegFacts.{SameUpTo, attempt_at, facts_stay}
+use Rattle.table_model.proofs.LegReads.{had_at, had_in, work_of, works_at, works_in}
+use Rattle.table_model.proofs.NeedsSettled.{KeepsResults, result_in}
+use Rattle.table_model.proofs.Optional.{from_map}
+use Rattle.table_model.proofs.RunFits.{RunFits, RunsFit, admitted_at}
+use Rattle.table_model.proofs.Settles.{Settles, fits_beside, same_events}
 use Rattle.settling_laws.proofs.ArrivalKeeps.{arrival_one_each}
 use Rattle.settling_laws.proofs.GroupStays.{leg_group_same, leg_needs_finished, run_group_stays}
 use Rattle.settling_laws.proofs.HoldersFade.{by_run, leg_passes, passes, run_passes}
@@ -38,8 +38,8 @@ use Rattle.run_table.proofs.BeginsAgain.{BeginsAgain, no_work}
 use Rattle.run_table.proofs.Entered.{no_leg_of_new_run}
 use Rattle.run_table.proofs.Kept.{IsKept, StillHad, deliveries_still_differ, kept_settles, kept_still_had}
 use Rattle.run_table.proofs.RunnerPut.{holds_at}
-use Rattle.run_states.specs.declared.holder.Holder.{Holder}
-use Rattle.run_states.specs.declared.holder.Holder.TheVariants.{Run, Leg}
+use Rattle.table_model.specs.declared.holder.Holder.{Holder}
+use Rattle.table_model.specs.declared.holder.Holder.TheVariants.{Run, Leg}
 
 -- ---- leases of legs that are gone
 

@@ -5,19 +5,19 @@ use Rattle.std.proofs.Common.{arith, ap, sym, subst, ◌∙◌}
 use Rattle.std.proofs.lemmas.Option.{slice_get_within}
 use Rattle.definitions.specs.SmallText.{Admitted}
 use Rattle.group_name.specs.Group.{Group}
-use Rattle.run_states.specs.Settling.{arrived, room_made, first_site}
-use Rattle.run_states.specs.Groups.{cancels_in_progress, group_at, leg_holds}
-use Rattle.run_states.specs.Resuming.{NoneBefore, RestBefore, resume_at_arrival}
-use Rattle.run_states.specs.GroupLaw.{without_moves}
-use Rattle.run_states.specs.Sound.{IsSound}
-use Rattle.run_states.specs.Runs.{new_run, is_live, RunState}
-use Rattle.run_states.specs.TableState.{TableState}
-use Rattle.run_states.specs.WithinRun.{first_in_run}
-use Rattle.run_states.specs.declared.sites.JobSite.{JobSite}
+use Rattle.table_model.specs.Settling.{arrived, room_made, first_site}
+use Rattle.table_model.specs.Groups.{cancels_in_progress, group_at, leg_holds}
+use Rattle.table_model.specs.Resuming.{NoneBefore, RestBefore, resume_at_arrival}
+use Rattle.table_model.specs.GroupLaw.{without_moves}
+use Rattle.table_model.specs.Sound.{IsSound}
+use Rattle.table_model.specs.Runs.{new_run, is_live, RunState}
+use Rattle.table_model.specs.TableState.{TableState}
+use Rattle.table_model.specs.WithinRun.{first_in_run}
+use Rattle.table_model.specs.declared.sites.JobSite.{JobSite}
 use Rattle.run_table.proofs.BeforeSettling.{Enters}
 use Rattle.run_table.proofs.Entered.{groups_before}
-use Rattle.run_states.proofs.Found.{before_the_end}
-use Rattle.run_states.proofs.JobKeeps.{leg_in}
+use Rattle.table_model.proofs.Found.{before_the_end}
+use Rattle.table_model.proofs.JobKeeps.{leg_in}
 use Rattle.settling_laws.proofs.HoldersFade.{by_run, passes, run_passes}
 use Rattle.run_table.proofs.Kept.{kept_from_sound}
 use Rattle.settling_laws.proofs.KeptBack.{StillHold, kept_back}
@@ -25,7 +25,7 @@ use Rattle.settling_laws.proofs.Resumed.{rest_before_all, runs_rest}
 use Rattle.settling_laws.proofs.OneEach.{one_that_holds}
 use Rattle.run_table.proofs.NoAnswer.{requested_none, each_none}
 use Rattle.settling_laws.proofs.Walks.{first_place_by_run}
-use Rattle.run_states.specs.declared.holder.Holder.TheVariants.{Run, Leg}
+use Rattle.table_model.specs.declared.holder.Holder.TheVariants.{Run, Leg}
 
 past : (n m : ℕ) → n < m → n ≡ m → ⊥
 past n m lt is = absurd (omega (arith, lt, is))

@@ -2,10 +2,10 @@
 use Rattle.std.specs.Prelude.{◌≡◌, ℕ, List, true, Some, None, Option, option_and_then, refl}
 use Rattle.std.proofs.Common.{ap, sym, ◌∙◌}
 use Rattle.std.proofs.lemmas.Option.{same_Some}
-use Rattle.run_states.specs.Sound.{IsSound}
-use Rattle.run_states.specs.TableState.{RunnerState, TableState, holds_this, runner_named}
-use Rattle.run_states.specs.Fitting.{OnlyAtWork, is_at_work}
-use Rattle.run_states.specs.Runs.{leg_at, LegState}
+use Rattle.table_model.specs.Sound.{IsSound}
+use Rattle.table_model.specs.TableState.{RunnerState, TableState, holds_this, runner_named}
+use Rattle.table_model.specs.Fitting.{OnlyAtWork, is_at_work}
+use Rattle.table_model.specs.Runs.{leg_at, LegState}
 use Rattle.run_table.proofs.ReportKeeps.{holds_it}
 use Rattle.run_table.proofs.RunnerPut.{stood}
 

@@ -2,8 +2,8 @@
 use Rattle.std.proofs.Common.{◌≡◌, ℕ, List, [], ◌∷◌, ◌++◌, length, refl, arith, sym, ◌∙◌}
 use Rattle.std.proofs.lemmas.List.{append-nil}
 use Rattle.run_plan.specs.declared.planned.PlannedJob.{PlannedJob}
-use Rattle.run_states.specs.inner.Cells.{JobCells, states}
-use Rattle.run_states.specs.ViewText.{jobs_text}
+use Rattle.table_model.specs.inner.Cells.{JobCells, states}
+use Rattle.table_model.specs.ViewText.{jobs_text}
 
 pub no_plan_left : (plan : List PlannedJob) (jobs : List JobCells) → length plan ≡ 0 → jobs_text plan (states jobs) ≡ []
 no_plan_left [] jobs e = refl

@@ -6,9 +6,9 @@ use Rattle.wf_value.specs.declared.refusal.Refusal.{Refusal}
 use Rattle.wf_value.proofs.PassedOn.{same_Ok}
 use Rattle.run_plan.specs.declared.command.Command.{Command}
 use Rattle.run_plan.specs.declared.reply.Reply.{Reply}
-use Rattle.run_states.specs.Sound.{IsSound}
-use Rattle.run_states.specs.Step.{step}
-use Rattle.run_states.specs.TableState.{TableState}
+use Rattle.table_model.specs.Sound.{IsSound}
+use Rattle.table_model.specs.Step.{step}
+use Rattle.table_model.specs.TableState.{TableState}
 use Rattle.run_table.proofs.StepKeeps.{step_keeps}
 
 pub stays_sound : (old new : TableState) (c : Command) (r : Result Reply Refusal)

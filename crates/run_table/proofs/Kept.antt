@@ -5,32 +5,32 @@ use Rattle.std.specs.Option.{option_map_or}
 use Rattle.std.proofs.Common.{arith, ap, sym, ◌∙◌, subst}
 use Rattle.std.proofs.lemmas.Option.{same_Some}
 use Rattle.definitions.specs.Limits.{last_attempt, last_number}
-use Rattle.run_states.specs.Groups.{HasOneEach}
+use Rattle.table_model.specs.Groups.{HasOneEach}
 use Rattle.run_plan.specs.declared.planned.PlannedJob.{PlannedJob}
-use Rattle.run_states.specs.Runs.{run_at, leg_at, plan_at, LegState, RunState}
-use Rattle.run_states.specs.declared.sites.LegSite.{LegSite}
-use Rattle.run_states.specs.Settling.{first_site, settled}
-use Rattle.run_states.specs.Sound.{DeliveriesDiffer, LeasesAreGiven, LeasesDiffer, IsHeld, IsAtWork, WorkIsHeld}
-use Rattle.run_states.specs.Fitting.{is_at_work}
-use Rattle.run_states.specs.LegContext.{planned_legs}
-use Rattle.run_states.specs.Sound.{HeldIsAtWork, HeldOnce, LastsAreOwn, AttemptsAreGiven, KeptIsOfALeg, IsSound, ParallelIsBounded}
-use Rattle.run_states.specs.Step.{lease_at}
-use Rattle.run_states.specs.TableState.{RunnerState, TableState, names_rise, runner_named}
+use Rattle.table_model.specs.Runs.{run_at, leg_at, plan_at, LegState, RunState}
+use Rattle.table_model.specs.declared.sites.LegSite.{LegSite}
+use Rattle.table_model.specs.Settling.{first_site, settled}
+use Rattle.table_model.specs.Sound.{DeliveriesDiffer, LeasesAreGiven, LeasesDiffer, IsHeld, IsAtWork, WorkIsHeld}
+use Rattle.table_model.specs.Fitting.{is_at_work}
+use Rattle.table_model.specs.LegContext.{planned_legs}
+use Rattle.table_model.specs.Sound.{HeldIsAtWork, HeldOnce, LastsAreOwn, AttemptsAreGiven, KeptIsOfALeg, IsSound, ParallelIsBounded}
+use Rattle.table_model.specs.Step.{lease_at}
+use Rattle.table_model.specs.TableState.{RunnerState, TableState, names_rise, runner_named}
 use Rattle.run_plan.specs.declared.last_command.LastCommand.{LastCommand}
 use Rattle.run_plan.specs.declared.last_command.LastCommand.TheVariants as last
 use Rattle.run_plan.specs.declared.last_command.ClaimReply.TheVariants as given
 use Rattle.run_plan.specs.declared.last_command.KeptLease.{KeptLease}
 use Rattle.run_table.proofs.AtWork.{settling_bounded}
-use Rattle.run_states.proofs.LeaseReads.{LeasesAgree, leases_same}
-use Rattle.run_states.proofs.LegFacts.{attempt_at}
-use Rattle.run_states.proofs.LegReads.{had_at, works_at, had_from_leg, works_from_leg, leg_from_had, leg_from_works, work_parts}
-use Rattle.run_states.proofs.Optional.{from_and_then, from_map}
-use Rattle.run_states.proofs.RunFits.{RunsFit, admitted_at, plan_at_same, runs_fit, jobs_are_the_plans, run_phases_fit, jobs_fit}
-use Rattle.run_states.proofs.RunFits.{needs_come_first, leases_fit}
+use Rattle.table_model.proofs.LeaseReads.{LeasesAgree, leases_same}
+use Rattle.table_model.proofs.LegFacts.{attempt_at}
+use Rattle.table_model.proofs.LegReads.{had_at, works_at, had_from_leg, works_from_leg, leg_from_had, leg_from_works, work_parts}
+use Rattle.table_model.proofs.Optional.{from_and_then, from_map}
+use Rattle.table_model.proofs.RunFits.{RunsFit, admitted_at, plan_at_same, runs_fit, jobs_are_the_plans, run_phases_fit, jobs_fit}
+use Rattle.table_model.proofs.RunFits.{needs_come_first, leases_fit}
 use Rattle.settling_laws.proofs.OneEachRules.{settled_one_each}
 use Rattle.settling_laws.proofs.Rests.{settled_has_no_place}
 use Rattle.run_table.proofs.RunnerPut.{apart, found_by_name, has_the_name, holds_at, stood}
-use Rattle.run_states.proofs.Settles.{Settles}
+use Rattle.table_model.proofs.Settles.{Settles}
 use Rattle.settling_laws.proofs.SettlingKeeps.{settling_settles}
 
 -- A kept lease was granted and names a leg of the run's plan, in an attempt up to the current one. If that is the

@@ -6,11 +6,11 @@ use Rattle.run_plan.specs.declared.last_command.ClaimReply.TheVariants as given
 use Rattle.run_plan.specs.declared.reply.Lease.{Lease as Leased}
 use Rattle.run_plan.specs.declared.reply.Reply.{Reply}
 use Rattle.run_plan.specs.declared.reply.Reply.TheVariants as reply
-use Rattle.run_states.specs.Runs.{with_leg, leased_leg, RunState}
-use Rattle.run_states.specs.declared.sites.LegSite.{LegSite}
-use Rattle.run_states.specs.Settling.{settled}
-use Rattle.run_states.specs.Step.{claiming_runner, kept_lease_at, lease_at, leasing, outcome}
-use Rattle.run_states.specs.TableState.{RunnerState, TableState, with_runner}
+use Rattle.table_model.specs.Runs.{with_leg, leased_leg, RunState}
+use Rattle.table_model.specs.declared.sites.LegSite.{LegSite}
+use Rattle.table_model.specs.Settling.{settled}
+use Rattle.table_model.specs.Step.{claiming_runner, kept_lease_at, lease_at, leasing, outcome}
+use Rattle.table_model.specs.TableState.{RunnerState, TableState, with_runner}
 
 abbrev made : ℕ → List RunState → List RunnerState → Leased → TableState × Reply
 made last runs runners lease_reply = (record { last_lease = last; runs = runs; runners = runners }, reply.Lease lease_reply)

@@ -5,17 +5,17 @@ use Rattle.std.proofs.Common.{arith, ap, sym, ◌∙◌}
 use Rattle.std.proofs.lemmas.Bool.{true≢false}
 use Rattle.std.proofs.lemmas.Option.{same_Some, slice_get_within}
 use Rattle.wf_value.specs.declared.outcome.Outcome.{Outcome}
-use Rattle.run_states.specs.Fitting.{OnlyAtWork, has_lease, site_of_lease, is_at_work}
-use Rattle.run_states.specs.Runs.{leg_at, leg_sites, LegState, RunState}
-use Rattle.run_states.specs.declared.sites.LegSite.{LegSite}
-use Rattle.run_states.specs.Stops.{with_ended, after_end}
-use Rattle.run_states.proofs.Found.{find_passes, none_found}
-use Rattle.run_states.proofs.JobKeeps.{leg_in}
-use Rattle.run_states.proofs.Optional.{From, from_and_then}
-use Rattle.run_states.proofs.RunFits.{job_in_run}
+use Rattle.table_model.specs.Fitting.{OnlyAtWork, has_lease, site_of_lease, is_at_work}
+use Rattle.table_model.specs.Runs.{leg_at, leg_sites, LegState, RunState}
+use Rattle.table_model.specs.declared.sites.LegSite.{LegSite}
+use Rattle.table_model.specs.Stops.{with_ended, after_end}
+use Rattle.table_model.proofs.Found.{find_passes, none_found}
+use Rattle.table_model.proofs.JobKeeps.{leg_in}
+use Rattle.table_model.proofs.Optional.{From, from_and_then}
+use Rattle.table_model.proofs.RunFits.{job_in_run}
 use Rattle.settling_laws.proofs.HolderPlaces.{each_leg_place}
-use Rattle.run_states.specs.Sound.{IsSound}
-use Rattle.run_states.specs.TableState.{TableState}
+use Rattle.table_model.specs.Sound.{IsSound}
+use Rattle.table_model.specs.TableState.{TableState}
 use Rattle.run_table.proofs.ReportKeeps.{has_it}
 use Rattle.run_table.proofs.Storable.{legs_few}
 

@@ -2,8 +2,8 @@
 use Rattle.std.specs.Prelude.{◌≡◌, ℕ, zero, suc, ◌+◌, List, [], ◌∷◌, Option, Some, None, option_and_then, slice_get, refl}
 use Rattle.std.specs.List.{enumerate_from}
 use Rattle.std.proofs.Common.{arith, ap, sym, ◌∙◌}
-use Rattle.run_states.specs.Runs.{first_some, placed}
-use Rattle.run_states.proofs.OneAfterAnother.{OfEach}
+use Rattle.table_model.specs.Runs.{first_some, placed}
+use Rattle.table_model.proofs.OneAfterAnother.{OfEach}
 use Rattle.wf_value.proofs.OptionOr.{or_nothing}
 
 each_none_from : {X Y : Type 0} (f : ℕ → X → Option Y) (xs : List X) (n : ℕ) → first_some (λ e. f e.0 e.1) (enumerate_from n xs) ≡ None

@@ -12,29 +12,29 @@ use Rattle.wf_value.specs.declared.outcome.Outcome.TheVariants as outcome
 use Rattle.wf_value.proofs.OptionOr.{or_nothing}
 use Rattle.run_plan.specs.declared.command.Done.{Done as Reported}
 use Rattle.run_plan.specs.declared.reply.Reply.{Reply}
-use Rattle.run_states.specs.Fitting.{has_lease, site_of_lease, is_at_work}
-use Rattle.run_states.specs.Runs.{leg_at, leg_sites, with_job, with_leg, LegState}
-use Rattle.run_states.specs.declared.sites.LegSite.{LegSite}
-use Rattle.run_states.specs.Settling.{leg_in_phase, outcome_of}
+use Rattle.table_model.specs.Fitting.{has_lease, site_of_lease, is_at_work}
+use Rattle.table_model.specs.Runs.{leg_at, leg_sites, with_job, with_leg, LegState}
+use Rattle.table_model.specs.declared.sites.LegSite.{LegSite}
+use Rattle.table_model.specs.Settling.{leg_in_phase, outcome_of}
 use Rattle.run_plan.specs.LastCommand.{is_last_report}
-use Rattle.run_states.specs.Sound.{IsLastOf, LeaseFits}
-use Rattle.run_states.specs.Step.{refused, released, report_answer, reporting_runner}
-use Rattle.run_states.specs.Stops.{with_ended, after_end, outcome_of_loss, stops_others, with_stopped_legs}
-use Rattle.run_states.specs.TableState.{RunnerState, TableState, is_named, runner_named, answer_by_number, with_runner, holds_this}
-use Rattle.run_states.specs.declared.phases.LegPhase.{LegPhase}
-use Rattle.run_states.specs.declared.phases.LegPhase.TheVariants as leg
+use Rattle.table_model.specs.Sound.{IsLastOf, LeaseFits}
+use Rattle.table_model.specs.Step.{refused, released, report_answer, reporting_runner}
+use Rattle.table_model.specs.Stops.{with_ended, after_end, outcome_of_loss, stops_others, with_stopped_legs}
+use Rattle.table_model.specs.TableState.{RunnerState, TableState, is_named, runner_named, answer_by_number, with_runner, holds_this}
+use Rattle.table_model.specs.declared.phases.LegPhase.{LegPhase}
+use Rattle.table_model.specs.declared.phases.LegPhase.TheVariants as leg
 use Rattle.run_table.proofs.AtWork.{fewer_at_work}
 use Rattle.run_table.proofs.ClaimKeeps.{had_changes, works_changes}
-use Rattle.run_states.proofs.Found.{find_passes, none_found}
-use Rattle.run_states.proofs.JobKeeps.{leg_in, leg_stays, job_is_now, job_is_open, with_leg_of}
+use Rattle.table_model.proofs.Found.{find_passes, none_found}
+use Rattle.table_model.proofs.JobKeeps.{leg_in, leg_stays, job_is_now, job_is_open, with_leg_of}
 use Rattle.settling_laws.proofs.HolderPlaces.{each_leg_place}
 use Rattle.run_table.proofs.Kept.{IsKept, KeptIsHad, StillHad, attempts_still_given, stay_still_had, kept_settles, kept_still_had, deliveries_still_differ}
-use Rattle.run_states.proofs.LeaseReads.{ChangesAt, place_or_another, lease_ended, leases_same}
-use Rattle.run_states.proofs.LegReads.{had_at, works_at, had_is, had_from_leg, works_from_leg, leg_from_had, work_parts}
-use Rattle.run_states.proofs.Settles.{StayFit, stay_on}
+use Rattle.table_model.proofs.LeaseReads.{ChangesAt, place_or_another, lease_ended, leases_same}
+use Rattle.table_model.proofs.LegReads.{had_at, works_at, had_is, had_from_leg, works_from_leg, leg_from_had, work_parts}
+use Rattle.table_model.proofs.Settles.{StayFit, stay_on}
 use Rattle.run_table.proofs.RunnerOrder.{names_still_rise}
 use Rattle.run_table.proofs.RunnerPut.{each_put, holds_at, holds_changes, stood}
-use Rattle.run_states.proofs.StopKeeps.{stop_settles}
+use Rattle.table_model.proofs.StopKeeps.{stop_settles}
 
 -- ---- the leg of a lease
 

@@ -6,11 +6,11 @@ use Rattle.run_plan.specs.PlanOf.{plan_of}
 use Rattle.run_plan.specs.declared.command.Attempt.{Attempt}
 use Rattle.run_plan.specs.declared.command.Command.TheVariants as command
 use Rattle.run_plan.specs.declared.reply.Reply.TheVariants as reply
-use Rattle.run_states.specs.Step.{empty, refused, step}
-use Rattle.run_states.specs.TableState.{TableState}
-use Rattle.run_states.specs.Runs.{again, blocked_job}
-use Rattle.run_states.specs.declared.phases.RunPhase.{RunPhase}
-use Rattle.run_states.specs.declared.phases.RunPhase.TheVariants as run
+use Rattle.table_model.specs.Step.{empty, refused, step}
+use Rattle.table_model.specs.TableState.{TableState}
+use Rattle.table_model.specs.Runs.{again, blocked_job}
+use Rattle.table_model.specs.declared.phases.RunPhase.{RunPhase}
+use Rattle.table_model.specs.declared.phases.RunPhase.TheVariants as run
 use Rattle.run_table.proofs.CancelRows.{cancelled_job, run_of, table_of}
 
 abbrev attempt_of : ℕ → ℕ → Attempt

@@ -15,8 +15,8 @@ use Rattle.wf_value.specs.Gives.{Gives}
 use Rattle.wf_value.specs.declared.refusal.Refusal.{Refusal}
 use Rattle.wf_value.proofs.Rising.{Equal-from_same, Less-from_is_lt, after_less, earlier_below, name_cmp, rises_next, rises_rest}
 use Rattle.wf_value.proofs.PassedOn.{same_Ok}
-use Rattle.run_states.specs.TableState.{RunnerState, is_named, is_below, is_above, kept_named, names_rise, runner_named, with_runner}
-use Rattle.run_states.proofs.Found.{all_weaken, all_append, each_at}
+use Rattle.table_model.specs.TableState.{RunnerState, is_named, is_below, is_above, kept_named, names_rise, runner_named, with_runner}
+use Rattle.table_model.proofs.Found.{all_weaken, all_append, each_at}
 
 -- ---- two names
 

@@ -7,10 +7,10 @@ use Rattle.std.proofs.Common.{arith, ap, below_more, get_or, inl, inr, subst, sy
 use Rattle.std.proofs.lemmas.Bool.{cases_Bool}
 use Rattle.std.proofs.lemmas.List.{length-take, take_all}
 use Rattle.std.proofs.lemmas.List.Sums.{get_or-le-sum_by, sum_by-cons, sum_by-insert, sum_by-set, sum_by_more}
-use Rattle.run_states.proofs.Found.{each_at}
+use Rattle.table_model.proofs.Found.{each_at}
 use Rattle.run_table.specs.inner.IndexNamed.{index_named}
 use Rattle.run_table.specs.inner.RunnerSizes.{AreSized, max_runner_size, runner_size}
-use Rattle.run_states.specs.TableState.{is_named, kept_named, names_rise, runner_named, with_runner, RunnerState}
+use Rattle.table_model.specs.TableState.{is_named, kept_named, names_rise, runner_named, with_runner, RunnerState}
 use Rattle.run_table.proofs.RunnerOrder.{found_there, put_between, put_over}
 use Rattle.run_table.proofs.RunnerPut.{all_from_each, each_put}
 

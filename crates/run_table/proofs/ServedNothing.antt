@@ -6,12 +6,12 @@ use Rattle.run_plan.specs.declared.command.Claim.{Claim as Claimed}
 use Rattle.run_plan.specs.declared.last_command.ClaimReply.TheVariants as given
 use Rattle.run_plan.specs.declared.reply.Reply.{Reply}
 use Rattle.run_plan.specs.declared.reply.Reply.TheVariants as reply
-use Rattle.run_states.specs.Settling.{rule_at, settled}
-use Rattle.run_states.specs.Runs.{RunState}
+use Rattle.table_model.specs.Settling.{rule_at, settled}
+use Rattle.table_model.specs.Runs.{RunState}
 use Rattle.settling_laws.proofs.Rests.{settled_at_rest}
-use Rattle.run_states.specs.Sound.{IsSound}
-use Rattle.run_states.specs.Step.{claiming_runner, outcome, serving_nothing}
-use Rattle.run_states.specs.TableState.{RunnerState, TableState, with_runner}
+use Rattle.table_model.specs.Sound.{IsSound}
+use Rattle.table_model.specs.Step.{claiming_runner, outcome, serving_nothing}
+use Rattle.table_model.specs.TableState.{RunnerState, TableState, with_runner}
 
 abbrev table_of : ℕ → List RunState → List RunnerState → TableState
 table_of last runs runners = record { last_lease = last; runs = runs; runners = runners }

@@ -11,16 +11,16 @@ use Rattle.run_plan.specs.declared.command.Done.{Done as Reported}
 use Rattle.run_plan.specs.declared.command.Command.{Command}
 use Rattle.run_plan.specs.declared.command.Command.TheVariants as command
 use Rattle.run_plan.specs.declared.reply.Reply.{Reply}
-use Rattle.run_states.specs.Fitting.{first_fit}
-use Rattle.run_states.specs.TableState.{Step, TableState, runner_named, with_runner}
-use Rattle.run_states.specs.Runs.{run_at, with_leg, with_run, leased_leg, RunState}
-use Rattle.run_states.specs.declared.sites.LegSite.{LegSite}
-use Rattle.run_states.specs.Sound.{IsSound}
-use Rattle.run_states.specs.Step.{empty, entered, unchanged, admission_answer, admitting, admitted, claim_answer, claiming_runner}
-use Rattle.run_states.specs.Step.{kept_lease_at, leasing, serving_nothing, claiming, claimed, report_answer, reporting_runner}
-use Rattle.run_states.specs.Step.{answer_of_run, cancel_answer, cancelling, cancelled, losing, lost, refused, released}
-use Rattle.run_states.specs.Stops.{outcome_of_loss, stopped_run, with_ended}
-use Rattle.run_states.specs.Step.{entered_again, reporting, reported, rerun, rerun_answer, rerunning, stepped, step}
+use Rattle.table_model.specs.Fitting.{first_fit}
+use Rattle.table_model.specs.TableState.{Step, TableState, runner_named, with_runner}
+use Rattle.table_model.specs.Runs.{run_at, with_leg, with_run, leased_leg, RunState}
+use Rattle.table_model.specs.declared.sites.LegSite.{LegSite}
+use Rattle.table_model.specs.Sound.{IsSound}
+use Rattle.table_model.specs.Step.{empty, entered, unchanged, admission_answer, admitting, admitted, claim_answer, claiming_runner}
+use Rattle.table_model.specs.Step.{kept_lease_at, leasing, serving_nothing, claiming, claimed, report_answer, reporting_runner}
+use Rattle.table_model.specs.Step.{answer_of_run, cancel_answer, cancelling, cancelled, losing, lost, refused, released}
+use Rattle.table_model.specs.Stops.{outcome_of_loss, stopped_run, with_ended}
+use Rattle.table_model.specs.Step.{entered_again, reporting, reported, rerun, rerun_answer, rerunning, stepped, step}
 use Rattle.run_plan.specs.declared.last_command.ClaimReply.TheVariants as given
 use Rattle.run_table.proofs.ClaimKeeps.{serving_keeps, leasing_keeps}
 use Rattle.run_table.proofs.CommandsOneEach.{ended_one_each, leased_one_each, stopped_one_each}
@@ -30,7 +30,7 @@ use Rattle.run_table.proofs.EnteredAgain.{entered_again_keeps, entered_again_one
 use Rattle.run_table.proofs.Kept.{kept_from_sound, kept_settles, rest_is_sound}
 use Rattle.settling_laws.proofs.OneEach.{none_of_each}
 use Rattle.run_table.proofs.ReportKeeps.{loss_keeps, loss_stays, report_keeps, report_stays}
-use Rattle.run_states.proofs.StopKeeps.{stopped_run_settles}
+use Rattle.table_model.proofs.StopKeeps.{stopped_run_settles}
 
 -- a command leaves the table unchanged or changes it
 answered_or_changed : (t : TableState) (answer : Option Reply) (change : Step) → IsSound t → (answer ≡ None → IsSound change.table)

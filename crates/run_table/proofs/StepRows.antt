@@ -16,23 +16,23 @@ use Rattle.run_plan.specs.declared.planned.PlannedJob.{PlannedJob}
 use Rattle.run_plan.specs.declared.command.Claim.{Claim as Claimed}
 use Rattle.run_plan.specs.declared.command.Command.TheVariants as command
 use Rattle.run_plan.specs.declared.reply.Reply.TheVariants as reply
-use Rattle.run_states.specs.Settling.{started, decided, may_run, new_leg, opened, rule_at, finished_as}
-use Rattle.run_states.specs.Fitting.{site_of_lease}
-use Rattle.run_states.specs.LegContext.{context_at, all_have_results, is_set_for, needs_have_finished, planned_legs}
-use Rattle.run_states.specs.GroupLaw.{without_moves}
-use Rattle.run_states.specs.Runs.{with_job, blocked_job, leased_leg, LegState, JobState, RunState}
-use Rattle.run_states.specs.Settling.{settled, first_site, first_rule, remaining_phases}
-use Rattle.run_states.specs.Step.{step, empty, claiming_runner, reporting_runner, refused}
-use Rattle.run_states.specs.Stops.{with_stopped_legs}
-use Rattle.run_states.specs.TableState.{RunnerState, TableState}
+use Rattle.table_model.specs.Settling.{started, decided, may_run, new_leg, opened, rule_at, finished_as}
+use Rattle.table_model.specs.Fitting.{site_of_lease}
+use Rattle.table_model.specs.LegContext.{context_at, all_have_results, is_set_for, needs_have_finished, planned_legs}
+use Rattle.table_model.specs.GroupLaw.{without_moves}
+use Rattle.table_model.specs.Runs.{with_job, blocked_job, leased_leg, LegState, JobState, RunState}
+use Rattle.table_model.specs.Settling.{settled, first_site, first_rule, remaining_phases}
+use Rattle.table_model.specs.Step.{step, empty, claiming_runner, reporting_runner, refused}
+use Rattle.table_model.specs.Stops.{with_stopped_legs}
+use Rattle.table_model.specs.TableState.{RunnerState, TableState}
 use Rattle.run_plan.specs.declared.last_command.ClaimReply.TheVariants as given
-use Rattle.run_states.specs.declared.phases.JobPhase.TheVariants as job
-use Rattle.run_states.specs.declared.phases.LegPhase.TheVariants as leg
-use Rattle.run_states.specs.declared.phases.RunPhase.{RunPhase}
-use Rattle.run_states.specs.declared.phases.RunPhase.TheVariants as run
-use Rattle.run_states.specs.declared.sites.RuleSite.TheVariants.{Opening, Whole}
+use Rattle.table_model.specs.declared.phases.JobPhase.TheVariants as job
+use Rattle.table_model.specs.declared.phases.LegPhase.TheVariants as leg
+use Rattle.table_model.specs.declared.phases.RunPhase.{RunPhase}
+use Rattle.table_model.specs.declared.phases.RunPhase.TheVariants as run
+use Rattle.table_model.specs.declared.sites.RuleSite.TheVariants.{Opening, Whole}
 use Rattle.run_table.proofs.OnTables.{on_tables}
-use Rattle.run_states.specs.declared.holder.Holder.TheVariants.{Leg}
+use Rattle.table_model.specs.declared.holder.Holder.TheVariants.{Leg}
 
 -- a run of the event with this body
 abbrev pub run_with : List ℕ → RunPhase → List JobState → RunState

@@ -9,24 +9,24 @@ use Rattle.wf_value.specs.declared.outcome.JobResult.{JobResult}
 use Rattle.run_plan.specs.PlanOf.{plan_of}
 use Rattle.run_plan.specs.declared.planned.PlannedJob.{PlannedJob}
 use Rattle.run_plan.proofs.FewLegs.{few_planned}
-use Rattle.run_states.specs.Runs.{placed, finished_result, job_at, leg_at, run_at, is_new, LegState, JobState, RunState}
-use Rattle.run_states.specs.declared.sites.LegSite.{LegSite}
-use Rattle.run_states.specs.Settling.{leg_has_ended, is_live, is_finished, job_sites, leg_rule, leg_rule_in, outcome_of, result_at, rule_sites}
-use Rattle.run_states.specs.Settling.{run_sites, applies, first_site}
-use Rattle.run_states.specs.Sound.{IsSound, LegsFit, PhaseFits}
+use Rattle.table_model.specs.Runs.{placed, finished_result, job_at, leg_at, run_at, is_new, LegState, JobState, RunState}
+use Rattle.table_model.specs.declared.sites.LegSite.{LegSite}
+use Rattle.table_model.specs.Settling.{leg_has_ended, is_live, is_finished, job_sites, leg_rule, leg_rule_in, outcome_of, result_at, rule_sites}
+use Rattle.table_model.specs.Settling.{run_sites, applies, first_site}
+use Rattle.table_model.specs.Sound.{IsSound, LegsFit, PhaseFits}
 use Rattle.run_table.specs.Storable.{IsStorable, LegsAreFew}
-use Rattle.run_states.specs.TableState.{TableState}
-use Rattle.run_states.specs.LegContext.{planned_legs}
-use Rattle.run_states.specs.declared.phases.JobPhase.{JobPhase}
-use Rattle.run_states.specs.declared.phases.JobPhase.TheVariants as job
-use Rattle.run_states.specs.declared.phases.LegPhase.{LegPhase}
-use Rattle.run_states.specs.declared.phases.LegPhase.TheVariants as leg
-use Rattle.run_states.specs.declared.phases.RunPhase.{RunPhase}
-use Rattle.run_states.specs.declared.phases.RunPhase.TheVariants as run
-use Rattle.run_states.specs.declared.sites.RuleSite.{RuleSite}
-use Rattle.run_states.specs.declared.sites.RuleSite.TheVariants.{AtLeg, Closing, Whole}
-use Rattle.run_states.proofs.Found.{each_of_append, each_of_flat_map, each_of_map, each_of_placed, none_found}
-use Rattle.run_states.proofs.Optional.{each_passes}
+use Rattle.table_model.specs.TableState.{TableState}
+use Rattle.table_model.specs.LegContext.{planned_legs}
+use Rattle.table_model.specs.declared.phases.JobPhase.{JobPhase}
+use Rattle.table_model.specs.declared.phases.JobPhase.TheVariants as job
+use Rattle.table_model.specs.declared.phases.LegPhase.{LegPhase}
+use Rattle.table_model.specs.declared.phases.LegPhase.TheVariants as leg
+use Rattle.table_model.specs.declared.phases.RunPhase.{RunPhase}
+use Rattle.table_model.specs.declared.phases.RunPhase.TheVariants as run
+use Rattle.table_model.specs.declared.sites.RuleSite.{RuleSite}
+use Rattle.table_model.specs.declared.sites.RuleSite.TheVariants.{AtLeg, Closing, Whole}
+use Rattle.table_model.proofs.Found.{each_of_append, each_of_flat_map, each_of_map, each_of_placed, none_found}
+use Rattle.table_model.proofs.Optional.{each_passes}
 
 -- ---- the legs of a job are few
 

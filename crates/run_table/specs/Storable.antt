@@ -2,9 +2,9 @@
 -- encoding.
 use Rattle.std.specs.Prelude.{◌≡◌, ℕ, ◌≤◌, List, length, false, Some}
 use Rattle.definitions.specs.Limits.{max_runs}
-use Rattle.run_states.specs.Runs.{job_at, leg_at, LegState, JobState, RunState, is_new}
-use Rattle.run_states.specs.declared.sites.LegSite.{LegSite}
-use Rattle.run_states.specs.Sound.{JobsAreThePlans, AttemptsAreGiven}
+use Rattle.table_model.specs.Runs.{job_at, leg_at, LegState, JobState, RunState, is_new}
+use Rattle.table_model.specs.declared.sites.LegSite.{LegSite}
+use Rattle.table_model.specs.Sound.{JobsAreThePlans, AttemptsAreGiven}
 
 -- after settling none is
 abbrev pub NoLegIsNew : List RunState → Type 0

@@ -4,16 +4,16 @@ ghost use Rattle.std.specs.Option.{option_map_or};
 ghost use Rattle.std.specs.Prelude.{◌≡◌, ◌<◌, Ok, false};
 ghost use Rattle.definitions.specs.Limits.{max_runs};
 ghost use Rattle.wf_value.specs.Gives.{Gives};
-ghost use Rattle.run_states.specs.Fitting.{has_lease};
-ghost use Rattle.run_states.specs.Runs.{leg_at};
-ghost use Rattle.run_states.specs.Step.{kept_lease, lease_at};
+ghost use Rattle.table_model.specs.Fitting.{has_lease};
+ghost use Rattle.table_model.specs.Runs.{leg_at};
+ghost use Rattle.table_model.specs.Step.{kept_lease, lease_at};
 
 use crate::table_data::id_of;
 use run_plan::{KeptLease, Lease, Number};
-use run_states::LegSite;
 use std::alloc::Global;
+use table_model::LegSite;
+use table_runs::runs::Runs;
 use wf_value::Refusal;
-use workflow_runs::runs::Runs;
 
 /// The kept form of a lease that was granted in an attempt of its run.
 /// Promise (The table): What a kept lease says of its leg follows from its number, its place and the runs

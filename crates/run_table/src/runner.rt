@@ -1,6 +1,6 @@
 ghost use Rattle.std.specs.Prelude.{◌≡◌, Ok, None, Some, option_map, false};
 ghost use Rattle.wf_value.specs.Gives.{Gives};
-ghost use Rattle.run_states.specs.TableState.{holds_lease, holds_this};
+ghost use Rattle.table_model.specs.TableState.{holds_lease, holds_this};
 
 use run_plan::{Claim, ClaimReply, Done, LastCommand, Number, RunnerName};
 use std::alloc::Global;
@@ -19,7 +19,7 @@ pub struct Runner {
 }
 
 impl Model for Runner {
-    ghost use Rattle.run_states.specs.TableState.{RunnerState};
+    ghost use Rattle.table_model.specs.TableState.{RunnerState};
 
     ghost Value = { RunnerState };
 
@@ -27,7 +27,7 @@ impl Model for Runner {
 }
 
 impl Runner {
-    ghost use Rattle.run_states.specs.Step.{claiming_runner, released, reporting_runner};
+    ghost use Rattle.table_model.specs.Step.{claiming_runner, released, reporting_runner};
 
     /// The record of a runner after its claim.
     pub(crate) fn claiming(

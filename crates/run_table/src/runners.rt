@@ -4,7 +4,7 @@ ghost use Rattle.std.specs.Prelude.{sum_by, true};
 ghost use Rattle.wf_value.specs.Gives.{Gives};
 ghost use Rattle.run_table.specs.inner.IndexNamed.{index_named};
 ghost use Rattle.run_table.specs.inner.RunnerSizes.{max_runner_size, runner_size};
-ghost use Rattle.run_states.specs.TableState.{is_below, is_named, kept_named, names_rise, runner_named, with_runner};
+ghost use Rattle.table_model.specs.TableState.{is_below, is_named, kept_named, names_rise, runner_named, with_runner};
 
 use crate::runner::Runner;
 use crate::runner_size::all_sizes;
@@ -24,7 +24,7 @@ pub struct Runners {
 impl Model for Runners {
     ghost use Rattle.std.specs.Prelude.{◌≡◌, List, true};
     ghost use Rattle.run_table.specs.inner.RunnerSizes.{AreSized};
-    ghost use Rattle.run_states.specs.TableState.{RunnerState, names_rise};
+    ghost use Rattle.table_model.specs.TableState.{RunnerState, names_rise};
 
     ghost Value = { List RunnerState };
 

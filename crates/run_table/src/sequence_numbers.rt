@@ -5,7 +5,7 @@ ghost use Rattle.std.specs.Prelude.{◌≡◌, false, Ok, option_map, Some, IsOk
 ghost use Rattle.wf_value.specs.Gives.{Gives};
 ghost use Rattle.run_plan.specs.LastCommand.{is_last_claim, is_last_report, kept_reply};
 ghost use Rattle.run_plan.specs.ReplyText.{carries_text};
-ghost use Rattle.run_states.specs.TableState.{answer_by_number, needs_text, number_refusal};
+ghost use Rattle.table_model.specs.TableState.{answer_by_number, needs_text, number_refusal};
 
 use crate::runner::Runner;
 use run_plan::{Claim, Done, LastCommand, Number, Reply};

@@ -2,21 +2,21 @@ ghost use Rattle.std.specs.Prelude.{◌≡◌, ◌≤◌, ◌-◌, ◌*◌, leng
 ghost use Rattle.definitions.specs.Limits.{last_number};
 ghost use Rattle.wf_value.specs.Gives.{Gives};
 ghost use Rattle.run_table.specs.inner.RunnerSizes.{max_runner_size, runner_size};
-ghost use Rattle.run_states.specs.Sound.{IsSound};
+ghost use Rattle.table_model.specs.Sound.{IsSound};
 ghost use Rattle.run_table.specs.Storable.{IsStorable};
-ghost use Rattle.run_states.specs.Step.{read_only_reply, empty, is_allocation_free, seen, step};
-ghost use Rattle.run_states.specs.TableState.{names_rise};
+ghost use Rattle.table_model.specs.Step.{read_only_reply, empty, is_allocation_free, seen, step};
+ghost use Rattle.table_model.specs.TableState.{names_rise};
 
 use crate::runner::Runner;
 use crate::runners::Runners;
 use crate::table_data::TableData;
 use crate::view::RunView;
 use run_plan::{Command, Number, Prepared, Reply};
-use run_states::Run;
 use std::alloc::Global;
 use std::marker::Model;
+use table_model::Run;
+use table_runs::runs::Runs;
 use wf_value::{Refusal, TryCopy};
-use workflow_runs::runs::Runs;
 
 /// The run table. It is sound (`IsSound`) after any sequence of commands.
 #[derive(Drop)]
@@ -25,8 +25,8 @@ pub struct Table {
 }
 
 impl Model for Table {
-    ghost use Rattle.run_states.specs.TableState.{TableState};
-    ghost use Rattle.run_states.specs.Sound.{IsSound};
+    ghost use Rattle.table_model.specs.TableState.{TableState};
+    ghost use Rattle.table_model.specs.Sound.{IsSound};
 
     ghost Value = { TableState };
 

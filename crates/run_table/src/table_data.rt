@@ -4,10 +4,10 @@ ghost use Rattle.std.specs.Prelude.{◌≡◌, ◌<◌, ◌+◌, ◌-◌, true, 
 ghost use Rattle.definitions.specs.Limits.{max_runs};
 ghost use Rattle.wf_value.specs.Gives.{Gives};
 ghost use Rattle.run_plan.specs.ReplyText.{carries_text};
-ghost use Rattle.run_states.specs.inner.Claims.{is_claim};
-ghost use Rattle.run_states.specs.Sound.{IsSound};
-ghost use Rattle.run_states.specs.Step.{empty, is_allocation_free, read_only_reply, refused, step};
-ghost use Rattle.run_states.specs.TableState.{names_rise};
+ghost use Rattle.table_model.specs.inner.Claims.{is_claim};
+ghost use Rattle.table_model.specs.Sound.{IsSound};
+ghost use Rattle.table_model.specs.Step.{empty, is_allocation_free, read_only_reply, refused, step};
+ghost use Rattle.table_model.specs.TableState.{names_rise};
 
 mod admissions;
 mod cancellations;
@@ -21,11 +21,11 @@ mod reruns;
 use crate::runner::Runner;
 use crate::runners::Runners;
 use run_plan::{Command, Number, Reply};
-use run_states::Run;
 use std::alloc::Global;
 use std::marker::Model;
+use table_model::Run;
+use table_runs::runs::Runs;
 use wf_value::{Code, Refusal, TryCopy};
-use workflow_runs::runs::Runs;
 
 /// The contents of a table: the last lease granted, the runs and the runners.
 #[derive(Drop)]
@@ -36,7 +36,7 @@ pub struct TableData {
 }
 
 impl Model for TableData {
-    ghost use Rattle.run_states.specs.TableState.{TableState};
+    ghost use Rattle.table_model.specs.TableState.{TableState};
 
     ghost Value = { TableState };
 

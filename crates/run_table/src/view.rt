@@ -1,15 +1,15 @@
 ghost use Rattle.std.specs.Prelude.{◌≡◌, IfOk, Ok, string_bytes};
 ghost use Rattle.wf_value.specs.Gives.{Gives};
-ghost use Rattle.run_states.specs.ViewText.{number_text, seen_of, seen_text};
+ghost use Rattle.table_model.specs.ViewText.{number_text, seen_of, seen_text};
 
 use crate::view_text::{conclusion_word, push_jobs, status_word};
 use run_plan::Number;
-use run_states::Run;
 use std::alloc::{AllocError, Global};
 use std::fmt::Write;
 use std::marker::Model;
+use table_model::Run;
+use table_runs::runs::Runs;
 use wf_value::{Chars, Refusal};
-use workflow_runs::runs::Runs;
 
 /// The room that the text of a view takes at first: as much as most runs of one job need.
 const VIEW_ROOM: usize = 64;
@@ -23,7 +23,7 @@ pub struct RunView<'a> {
 }
 
 impl<'a> Model for RunView<'a> {
-    ghost use Rattle.run_states.specs.ViewText.{Seen};
+    ghost use Rattle.table_model.specs.ViewText.{Seen};
 
     ghost Value = { Seen };
 

@@ -3,14 +3,14 @@
 ghost use Rattle.std.specs.Prelude.{◌≡◌, ◌++◌, OnOk, map, string_bytes};
 ghost use Rattle.std.specs.List.{join_with_byte, list_any};
 ghost use Rattle.needs_graph.specs.Needs.{conclusion_of};
-ghost use Rattle.run_states.specs.inner.Cells.{states};
-ghost use Rattle.run_states.specs.ViewText.{conclusion_text, has_claimed_leg, job_text, jobs_text, leg_text, legs_text, planned_job_text};
-ghost use Rattle.run_states.specs.ViewText.{results_of, status_text, was_claimed};
+ghost use Rattle.table_model.specs.inner.Cells.{states};
+ghost use Rattle.table_model.specs.ViewText.{conclusion_text, has_claimed_leg, job_text, jobs_text, leg_text, legs_text, planned_job_text};
+ghost use Rattle.table_model.specs.ViewText.{results_of, status_text, was_claimed};
 
 use needs_graph::conclude;
 use run_plan::PlannedJob;
-use run_states::{Job, JobPhase, Leg, LegPhase, RunPhase};
 use std::alloc::AllocError;
+use table_model::{Job, JobPhase, Leg, LegPhase, RunPhase};
 use wf_value::Outcome;
 
 pub fn leg_word(phase: LegPhase) -> &'static str

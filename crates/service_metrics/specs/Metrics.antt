@@ -1,6 +1,6 @@
 -- The metrics of a service, in Prometheus' text format, version 0.0.4. Their names are defined by this project.
 use Rattle.std.specs.Prelude.{ℕ, List, ◌++◌}
-use Rattle.run_states.specs.TableState.{TableState}
+use Rattle.table_model.specs.TableState.{TableState}
 use Rattle.table_views.specs.TableMetrics.{table_metrics}
 use Rattle.service_metrics.specs.Counters.{CountersState, count_lines}
 use Rattle.service_metrics.specs.Gauges.{client_lines, file_lines, program_lines}

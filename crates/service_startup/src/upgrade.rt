@@ -32,8 +32,8 @@ fn make_checkpoint<D: Disk>(alloc: Global, store: &mut Store<D>) -> Result<(), R
 /// Promise (One history for all sessions): A service brings a store of the first layout into the second before its first client, with the same
 ///   base and history. It stays in the first exactly if a checkpoint of it has no room in an area, or no generation is left for one
 /// By: `service_startup::brought_up`, `same`, `layout`, `passed`
-/// Refusal (Sessions and programs): before `ready`: `service_startup::brought_up`, of `acts_rounds::{serve_on, serve_rounds}` and
-///   `acts_serve::serve_forever`
+/// Refusal (Sessions and programs): before `ready`: `service_startup::brought_up`, of `service_rounds::{serve_on, serve_rounds}` and
+///   `service_forever::serve_forever`
 /// When: 50, 51 of the checkpoint of a file of the first layout: T. Its 47 and 48 are passed over
 /// Afterwards: no client was served; the file recovers as before: T
 /// By: `passed`, `layout`

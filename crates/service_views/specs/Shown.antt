@@ -4,8 +4,8 @@ use Rattle.std.specs.declared.time.Instant.{Instant}
 use Rattle.std.specs.Option.{option_map_or}
 use Rattle.act_store.specs.Images.{RecoversTo}
 use Rattle.covered_log.specs.LogState.{LogState, is_known}
-use Rattle.run_states.specs.TableState.{RunnerState, TableState}
-use Rattle.run_states.specs.ViewText.{Seen as RunSeen, seen_of}
+use Rattle.table_model.specs.TableState.{RunnerState, TableState}
+use Rattle.table_model.specs.ViewText.{Seen as RunSeen, seen_of}
 use Rattle.service_metrics.specs.Metrics.{metrics_text}
 use Rattle.service_metrics.specs.declared.gauges.Gauges.{Gauges}
 use Rattle.store_copies.specs.Copies.{copy_bytes, file_of, fits}

@@ -9,10 +9,10 @@ use act_disk::Disk;
 use act_store::{Entry, Store};
 use covered_log::CoveredLog;
 use run_plan::{Command, Number, Reply};
-use run_states::Run;
 use run_table::{Table, conclusion_word, status_word};
 use std::alloc::{AllocError, Global};
 use std::mem;
+use table_model::Run;
 
 /// How a run stands.
 #[derive(Clone, Copy, PartialEq, Eq)]

@@ -7,21 +7,21 @@ use Rattle.std.proofs.Common.{ap, inl, inr, sym, ◌∙◌}
 use Rattle.std.proofs.lemmas.Bool.{and_from, and_parts, eq-eqb, eqb-true, true≢false}
 use Rattle.std.proofs.lemmas.Option.{same_Some}
 use Rattle.group_name.specs.Group.{Group}
-use Rattle.run_states.specs.Settling.{arrived, displaced, others_pending, room_made, stopped_where_requested}
-use Rattle.run_states.specs.Groups.{cancels_in_progress, group_at}
-use Rattle.run_states.specs.GroupLaw.{same_holder, same_place as is_same_place, at_each, without_moves}
-use Rattle.run_states.specs.Groups.{HasOneBeside, HasOneEach, all_holders, is_in, is_pending_in, in_progress_in, waits}
-use Rattle.run_states.specs.declared.sites.LegSite.{LegSite}
-use Rattle.run_states.specs.Runs.{RunState}
-use Rattle.run_states.specs.Stops.{displace, stop_holder}
-use Rattle.run_states.proofs.LeaseReads.{same_place}
-use Rattle.run_states.proofs.RunFits.{RunsFit}
+use Rattle.table_model.specs.Settling.{arrived, displaced, others_pending, room_made, stopped_where_requested}
+use Rattle.table_model.specs.Groups.{cancels_in_progress, group_at}
+use Rattle.table_model.specs.GroupLaw.{same_holder, same_place as is_same_place, at_each, without_moves}
+use Rattle.table_model.specs.Groups.{HasOneBeside, HasOneEach, all_holders, is_in, is_pending_in, in_progress_in, waits}
+use Rattle.table_model.specs.declared.sites.LegSite.{LegSite}
+use Rattle.table_model.specs.Runs.{RunState}
+use Rattle.table_model.specs.Stops.{displace, stop_holder}
+use Rattle.table_model.proofs.LeaseReads.{same_place}
+use Rattle.table_model.proofs.RunFits.{RunsFit}
 use Rattle.settling_laws.proofs.HoldersFade.{each_fades, holder_stop_fades, stop_ends_waiting}
 use Rattle.settling_laws.proofs.HoldersKeep.{requested_settles, displaced_settles}
 use Rattle.settling_laws.proofs.OneEach.{Fades, besides_fades, each_holder, fades_not, fading_keeps, group_is, groups_stay}
 use Rattle.settling_laws.proofs.OneEach.{one_that_waits, was_pending}
-use Rattle.run_states.specs.declared.holder.Holder.{Holder}
-use Rattle.run_states.specs.declared.holder.Holder.TheVariants.{Run, Leg}
+use Rattle.table_model.specs.declared.holder.Holder.{Holder}
+use Rattle.table_model.specs.declared.holder.Holder.TheVariants.{Run, Leg}
 
 -- ---- the test of two holders for equality
 

@@ -6,24 +6,24 @@ use Rattle.std.specs.Option.{option_map_or}
 use Rattle.std.proofs.Common.{ap, sym, ◌∙◌}
 use Rattle.std.proofs.lemmas.Bool.{and_parts, true≢false}
 use Rattle.group_name.specs.Group.{Group}
-use Rattle.run_states.specs.Settling.{arrived, displaced, in_progress_stopped, room_made, stopped_where_requested}
-use Rattle.run_states.specs.Runs.{changed_at, LegState, JobState, RunState, leg_in_phase}
-use Rattle.run_states.specs.Groups.{cancels_in_progress, group_at, HasOneBeside, all_holders, is_pending_in, is_in_progress_in, waits}
-use Rattle.run_states.specs.GroupLaw.{same_holder, Transition, at_each, without_moves}
-use Rattle.run_states.specs.inner.Holders.{first_conflicting}
-use Rattle.run_states.specs.Sound.{RunsAreSound}
-use Rattle.run_states.specs.Stops.{displace, stop_holder, stopped, stopped_in, stopped_phase, stopped_run, with_stop_requested}
-use Rattle.run_states.specs.declared.holder.HolderFilter.{HolderFilter}
-use Rattle.run_states.specs.declared.holder.HolderFilter.TheVariants.{OthersPending, InProgress}
-use Rattle.run_states.specs.declared.phases.LegPhase.{LegPhase}
-use Rattle.run_states.specs.declared.phases.LegPhase.TheVariants as leg
-use Rattle.run_states.specs.declared.phases.RunPhase.{RunPhase}
-use Rattle.run_states.specs.declared.phases.RunPhase.TheVariants as run
-use Rattle.run_states.proofs.Optional.{some_of}
-use Rattle.run_states.proofs.RunFits.{RunsFit, runs_fit}
+use Rattle.table_model.specs.Settling.{arrived, displaced, in_progress_stopped, room_made, stopped_where_requested}
+use Rattle.table_model.specs.Runs.{changed_at, LegState, JobState, RunState, leg_in_phase}
+use Rattle.table_model.specs.Groups.{cancels_in_progress, group_at, HasOneBeside, all_holders, is_pending_in, is_in_progress_in, waits}
+use Rattle.table_model.specs.GroupLaw.{same_holder, Transition, at_each, without_moves}
+use Rattle.table_model.specs.inner.Holders.{first_conflicting}
+use Rattle.table_model.specs.Sound.{RunsAreSound}
+use Rattle.table_model.specs.Stops.{displace, stop_holder, stopped, stopped_in, stopped_phase, stopped_run, with_stop_requested}
+use Rattle.table_model.specs.declared.holder.HolderFilter.{HolderFilter}
+use Rattle.table_model.specs.declared.holder.HolderFilter.TheVariants.{OthersPending, InProgress}
+use Rattle.table_model.specs.declared.phases.LegPhase.{LegPhase}
+use Rattle.table_model.specs.declared.phases.LegPhase.TheVariants as leg
+use Rattle.table_model.specs.declared.phases.RunPhase.{RunPhase}
+use Rattle.table_model.specs.declared.phases.RunPhase.TheVariants as run
+use Rattle.table_model.proofs.Optional.{some_of}
+use Rattle.table_model.proofs.RunFits.{RunsFit, runs_fit}
 use Rattle.settling_laws.proofs.ArrivalKeeps.{displaced_one_each, itself, still_its}
-use Rattle.run_states.specs.declared.holder.Holder.{Holder}
-use Rattle.run_states.specs.declared.holder.Holder.TheVariants.{Run, Leg}
+use Rattle.table_model.specs.declared.holder.Holder.{Holder}
+use Rattle.table_model.specs.declared.holder.Holder.TheVariants.{Run, Leg}
 
 -- ---- stopping twice is the same as stopping once
 

@@ -5,22 +5,22 @@ use Rattle.std.proofs.Common.{subst}
 use Rattle.std.proofs.lemmas.Bool.{and_parts}
 use Rattle.wf_value.specs.declared.outcome.Outcome.TheVariants as outcome
 use Rattle.needs_graph.specs.Needs.{conclusion_of}
-use Rattle.run_states.specs.Settling.{arrived, is_in_group_of_run, started, whole_rule, whole_rule_in, with_leg_in}
-use Rattle.run_states.specs.Groups.{may_start}
-use Rattle.run_states.specs.Runs.{results_of, job_at, leg_at, run_at, with_job, with_run, JobState, LegState, RunState}
-use Rattle.run_states.specs.GroupLaw.{Move, Transition, without_moves}
-use Rattle.run_states.specs.declared.sites.LegSite.{LegSite}
-use Rattle.run_states.specs.Settling.{closing_rule, decided, leg_rule, leg_rule_in, newcomer_rule, opening_rule, result_at, rule_at}
-use Rattle.run_states.specs.Runs.{is_blocked, is_done, is_finished, run_in_phase, finished_as}
-use Rattle.run_states.specs.LegContext.{needs_have_finished}
-use Rattle.run_states.specs.declared.phases.LegPhase.{LegPhase}
-use Rattle.run_states.specs.declared.phases.LegPhase.TheVariants as leg
-use Rattle.run_states.specs.declared.phases.RunPhase.{RunPhase}
-use Rattle.run_states.specs.declared.phases.RunPhase.TheVariants as run
-use Rattle.run_states.specs.declared.sites.RuleSite.{RuleSite}
-use Rattle.run_states.specs.declared.sites.RuleSite.TheVariants.{Opening, AtLeg, Closing, Whole}
-use Rattle.run_states.proofs.Optional.{from_and_then, if_some}
-use Rattle.run_states.specs.declared.holder.Holder.TheVariants.{Run, Leg}
+use Rattle.table_model.specs.Settling.{arrived, is_in_group_of_run, started, whole_rule, whole_rule_in, with_leg_in}
+use Rattle.table_model.specs.Groups.{may_start}
+use Rattle.table_model.specs.Runs.{results_of, job_at, leg_at, run_at, with_job, with_run, JobState, LegState, RunState}
+use Rattle.table_model.specs.GroupLaw.{Move, Transition, without_moves}
+use Rattle.table_model.specs.declared.sites.LegSite.{LegSite}
+use Rattle.table_model.specs.Settling.{closing_rule, decided, leg_rule, leg_rule_in, newcomer_rule, opening_rule, result_at, rule_at}
+use Rattle.table_model.specs.Runs.{is_blocked, is_done, is_finished, run_in_phase, finished_as}
+use Rattle.table_model.specs.LegContext.{needs_have_finished}
+use Rattle.table_model.specs.declared.phases.LegPhase.{LegPhase}
+use Rattle.table_model.specs.declared.phases.LegPhase.TheVariants as leg
+use Rattle.table_model.specs.declared.phases.RunPhase.{RunPhase}
+use Rattle.table_model.specs.declared.phases.RunPhase.TheVariants as run
+use Rattle.table_model.specs.declared.sites.RuleSite.{RuleSite}
+use Rattle.table_model.specs.declared.sites.RuleSite.TheVariants.{Opening, AtLeg, Closing, Whole}
+use Rattle.table_model.proofs.Optional.{from_and_then, if_some}
+use Rattle.table_model.specs.declared.holder.Holder.TheVariants.{Run, Leg}
 
 -- what becomes of a live run whose jobs have all finished
 abbrev pub run_ended : List RunState → ℕ → RunState → Transition

@@ -6,11 +6,11 @@ use Rattle.std.specs.Option.{option_or}
 use Rattle.std.proofs.Common.{arith, ap, subst, sym, ◌∙◌, below_more, get_or}
 use Rattle.std.proofs.lemmas.Option.{slice_get-get_or, slice_get-map}
 use Rattle.std.proofs.lemmas.List.Folds.{find-append}
-use Rattle.run_states.specs.inner.Cells.{JobCells, states}
-use Rattle.run_states.specs.Runs.{first_some, placed, JobState}
-use Rattle.run_states.specs.Resuming.{apply_at, NoneBefore}
-use Rattle.run_states.proofs.Found.{all_weaken, placed_get}
-use Rattle.run_states.proofs.Optional.{and_then-option_map}
+use Rattle.table_model.specs.inner.Cells.{JobCells, states}
+use Rattle.table_model.specs.Runs.{first_some, placed, JobState}
+use Rattle.table_model.specs.Resuming.{apply_at, NoneBefore}
+use Rattle.table_model.proofs.Found.{all_weaken, placed_get}
+use Rattle.table_model.proofs.Optional.{and_then-option_map}
 
 -- ---- two functions with the same values
 

@@ -6,17 +6,17 @@ use Rattle.std.specs.Option.{option_map_or}
 use Rattle.std.proofs.Common.{arith, ap, sym, ◌∙◌}
 use Rattle.std.proofs.lemmas.Option.{same_Some, slice_get-map}
 use Rattle.definitions.specs.SmallText.{Admitted}
-use Rattle.run_states.specs.Groups.{RunFacts, cancels_in_progress, group_at, leg_cancels, leg_group, run_cancels, run_facts_at, run_group}
-use Rattle.run_states.specs.Holders.{run_of}
-use Rattle.run_states.specs.LegContext.{facts_at, events, same_workflow, needs_have_finished}
-use Rattle.run_states.specs.Runs.{leg_at, run_at, LegState, RunState}
-use Rattle.run_states.specs.declared.sites.LegSite.{LegSite}
-use Rattle.run_states.proofs.JobKeeps.{leg_in, no_leg}
-use Rattle.run_states.proofs.LegFacts.{SameUpTo, attempt_at, facts_are, facts_stay, taken_same, leg_facts_in}
-use Rattle.run_states.proofs.RunFits.{RunsFit}
-use Rattle.run_states.proofs.Settles.{StayFit, same_events}
-use Rattle.run_states.specs.declared.holder.Holder.{Holder}
-use Rattle.run_states.specs.declared.holder.Holder.TheVariants.{Run, Leg}
+use Rattle.table_model.specs.Groups.{RunFacts, cancels_in_progress, group_at, leg_cancels, leg_group, run_cancels, run_facts_at, run_group}
+use Rattle.table_model.specs.Holders.{run_of}
+use Rattle.table_model.specs.LegContext.{facts_at, events, same_workflow, needs_have_finished}
+use Rattle.table_model.specs.Runs.{leg_at, run_at, LegState, RunState}
+use Rattle.table_model.specs.declared.sites.LegSite.{LegSite}
+use Rattle.table_model.proofs.JobKeeps.{leg_in, no_leg}
+use Rattle.table_model.proofs.LegFacts.{SameUpTo, attempt_at, facts_are, facts_stay, taken_same, leg_facts_in}
+use Rattle.table_model.proofs.RunFits.{RunsFit}
+use Rattle.table_model.proofs.Settles.{StayFit, same_events}
+use Rattle.table_model.specs.declared.holder.Holder.{Holder}
+use Rattle.table_model.specs.declared.holder.Holder.TheVariants.{Run, Leg}
 
 -- ---- the facts of a run
 

@@ -1,10 +1,10 @@
 -- A property of the sites of all legs holds of each of them.
 use Rattle.std.specs.Prelude.{◌≡◌, ℕ, List, Some}
 use Rattle.std.specs.List.{AllByRecursion}
-use Rattle.run_states.specs.Runs.{placed, leg_at, leg_sites, leg_sites_of_job, leg_sites_of_run, LegState, JobState, RunState}
-use Rattle.run_states.specs.declared.sites.LegSite.{LegSite}
-use Rattle.run_states.proofs.Found.{each_of_flat_map, each_of_map, each_of_placed}
-use Rattle.run_states.proofs.JobKeeps.{leg_in}
+use Rattle.table_model.specs.Runs.{placed, leg_at, leg_sites, leg_sites_of_job, leg_sites_of_run, LegState, JobState, RunState}
+use Rattle.table_model.specs.declared.sites.LegSite.{LegSite}
+use Rattle.table_model.proofs.Found.{each_of_flat_map, each_of_map, each_of_placed}
+use Rattle.table_model.proofs.JobKeeps.{leg_in}
 
 pub each_leg_place : (P : LegSite → Type 0) (runs : List RunState) (p : LegSite) (z : LegState) → AllByRecursion P (leg_sites runs)
     → leg_at runs p ≡ Some z → P p

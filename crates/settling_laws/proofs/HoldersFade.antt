@@ -6,23 +6,23 @@ use Rattle.std.proofs.Common.{ap, sym, ◌∙◌}
 use Rattle.std.proofs.lemmas.Bool.{false≢true}
 use Rattle.std.proofs.lemmas.Option.{slice_get-map}
 use Rattle.wf_value.specs.declared.outcome.JobResult.TheVariants as result
-use Rattle.run_states.specs.Runs.{changed_at, placed, job_at, leg_at, run_at, with_job, with_leg, with_run, LegState, JobState, RunState}
-use Rattle.run_states.specs.Groups.{holds, leg_holds, leg_waits, run_waits, waits}
-use Rattle.run_states.specs.GroupLaw.{Transition, at_each}
-use Rattle.run_states.specs.declared.sites.LegSite.{LegSite}
-use Rattle.run_states.specs.LegContext.{may_run_in}
-use Rattle.run_states.specs.Runs.{is_live, is_open, finished_as}
-use Rattle.run_states.specs.Stops.{stop_holder, with_stopped_legs}
-use Rattle.run_states.specs.Stops.{cancelled, stopped, stopped_in, stopped_phase, stopped_run, stopped_where, with_stop_requested}
-use Rattle.run_states.specs.declared.phases.LegPhase.{LegPhase}
-use Rattle.run_states.specs.declared.phases.LegPhase.TheVariants as leg
-use Rattle.run_states.specs.declared.phases.RunPhase.{RunPhase}
-use Rattle.run_states.specs.declared.phases.RunPhase.TheVariants as run
-use Rattle.run_states.proofs.JobKeeps.{with_job_of, with_leg_of}
-use Rattle.run_states.proofs.StopKeeps.{get_placed}
+use Rattle.table_model.specs.Runs.{changed_at, placed, job_at, leg_at, run_at, with_job, with_leg, with_run, LegState, JobState, RunState}
+use Rattle.table_model.specs.Groups.{holds, leg_holds, leg_waits, run_waits, waits}
+use Rattle.table_model.specs.GroupLaw.{Transition, at_each}
+use Rattle.table_model.specs.declared.sites.LegSite.{LegSite}
+use Rattle.table_model.specs.LegContext.{may_run_in}
+use Rattle.table_model.specs.Runs.{is_live, is_open, finished_as}
+use Rattle.table_model.specs.Stops.{stop_holder, with_stopped_legs}
+use Rattle.table_model.specs.Stops.{cancelled, stopped, stopped_in, stopped_phase, stopped_run, stopped_where, with_stop_requested}
+use Rattle.table_model.specs.declared.phases.LegPhase.{LegPhase}
+use Rattle.table_model.specs.declared.phases.LegPhase.TheVariants as leg
+use Rattle.table_model.specs.declared.phases.RunPhase.{RunPhase}
+use Rattle.table_model.specs.declared.phases.RunPhase.TheVariants as run
+use Rattle.table_model.proofs.JobKeeps.{with_job_of, with_leg_of}
+use Rattle.table_model.proofs.StopKeeps.{get_placed}
 use Rattle.settling_laws.proofs.OneEach.{Fades, fades_not, fades_on}
-use Rattle.run_states.specs.declared.holder.Holder.{Holder}
-use Rattle.run_states.specs.declared.holder.Holder.TheVariants.{Run, Leg}
+use Rattle.table_model.specs.declared.holder.Holder.{Holder}
+use Rattle.table_model.specs.declared.holder.Holder.TheVariants.{Run, Leg}
 
 -- ---- a test of the element at an index, before and after a change
 

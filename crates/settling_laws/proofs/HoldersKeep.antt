@@ -3,21 +3,21 @@ use Rattle.std.specs.Prelude.{◌≡◌, ℕ, List, [], ◌∷◌, Bool, true, f
 use Rattle.std.specs.Option.{option_map_or}
 use Rattle.std.proofs.Common.{ap, sym, ◌∙◌, subst}
 use Rattle.group_name.specs.Group.{Group}
-use Rattle.run_states.specs.Settling.{arrived, displaced, others_pending, room_made, stopped_where_requested}
-use Rattle.run_states.specs.Groups.{cancels_in_progress, group_at, in_progress_in}
-use Rattle.run_states.specs.GroupLaw.{Transition, at_each, without_moves}
-use Rattle.run_states.specs.Runs.{leg_at, run_at, with_leg, with_run, LegState, RunState, leg_has_ended, outcome_of}
-use Rattle.run_states.specs.declared.sites.LegSite.{LegSite}
-use Rattle.run_states.specs.Stops.{displace, stop_holder, stopped, stopped_phase, stopped_run}
-use Rattle.run_states.specs.declared.phases.LegPhase.{LegPhase}
-use Rattle.run_states.specs.declared.phases.LegPhase.TheVariants as leg
-use Rattle.run_states.proofs.JobKeeps.{leg_in, leg_settles}
-use Rattle.run_states.proofs.RunFits.{RunsFit, leases_fit}
-use Rattle.run_states.proofs.Settles.{Settles, settles_nothing, settles_on}
-use Rattle.run_states.proofs.StopKeeps.{lease_still_fits, same_work, stopped_run_settles}
-use Rattle.run_states.proofs.Transitions.{changed_none, with_leg_none, with_leg_stays}
-use Rattle.run_states.specs.declared.holder.Holder.{Holder}
-use Rattle.run_states.specs.declared.holder.Holder.TheVariants.{Run, Leg}
+use Rattle.table_model.specs.Settling.{arrived, displaced, others_pending, room_made, stopped_where_requested}
+use Rattle.table_model.specs.Groups.{cancels_in_progress, group_at, in_progress_in}
+use Rattle.table_model.specs.GroupLaw.{Transition, at_each, without_moves}
+use Rattle.table_model.specs.Runs.{leg_at, run_at, with_leg, with_run, LegState, RunState, leg_has_ended, outcome_of}
+use Rattle.table_model.specs.declared.sites.LegSite.{LegSite}
+use Rattle.table_model.specs.Stops.{displace, stop_holder, stopped, stopped_phase, stopped_run}
+use Rattle.table_model.specs.declared.phases.LegPhase.{LegPhase}
+use Rattle.table_model.specs.declared.phases.LegPhase.TheVariants as leg
+use Rattle.table_model.proofs.JobKeeps.{leg_in, leg_settles}
+use Rattle.table_model.proofs.RunFits.{RunsFit, leases_fit}
+use Rattle.table_model.proofs.Settles.{Settles, settles_nothing, settles_on}
+use Rattle.table_model.proofs.StopKeeps.{lease_still_fits, same_work, stopped_run_settles}
+use Rattle.table_model.proofs.Transitions.{changed_none, with_leg_none, with_leg_stays}
+use Rattle.table_model.specs.declared.holder.Holder.{Holder}
+use Rattle.table_model.specs.declared.holder.Holder.TheVariants.{Run, Leg}
 
 -- ---- a run
 

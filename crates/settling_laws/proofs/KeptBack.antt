@@ -6,17 +6,17 @@ use Rattle.std.proofs.Common.{ap, sym, ◌∙◌}
 use Rattle.std.proofs.lemmas.Bool.{and_from, and_parts, both_ways, not-false}
 use Rattle.std.proofs.lemmas.Option.{same_Some}
 use Rattle.group_name.specs.Group.{Group, same_group}
-use Rattle.run_states.specs.Runs.{changed_at, job_at, leg_at, run_at, with_job, with_leg, with_run, LegState, JobState, RunState, is_live}
-use Rattle.run_states.specs.Groups.{group_at, all_holders, holds, is_in, is_in_progress_in, is_taken, leg_holds, may_start, waits}
-use Rattle.run_states.specs.Holders.{run_of}
-use Rattle.run_states.specs.declared.sites.LegSite.{LegSite}
-use Rattle.run_states.proofs.JobKeeps.{with_job_of, with_leg_of}
-use Rattle.run_states.proofs.RunFits.{job_in_run, leg_in_job}
+use Rattle.table_model.specs.Runs.{changed_at, job_at, leg_at, run_at, with_job, with_leg, with_run, LegState, JobState, RunState, is_live}
+use Rattle.table_model.specs.Groups.{group_at, all_holders, holds, is_in, is_in_progress_in, is_taken, leg_holds, may_start, waits}
+use Rattle.table_model.specs.Holders.{run_of}
+use Rattle.table_model.specs.declared.sites.LegSite.{LegSite}
+use Rattle.table_model.proofs.JobKeeps.{with_job_of, with_leg_of}
+use Rattle.table_model.proofs.RunFits.{job_in_run, leg_in_job}
 use Rattle.settling_laws.specs.inner.Releases.{ReleasesNone}
 use Rattle.settling_laws.proofs.HoldersFade.{by_run, job_passes, leg_passes, passes, run_passes}
 use Rattle.settling_laws.proofs.OneEach.{GroupsStay, IsOneOf, not_taken, one_that_holds}
-use Rattle.run_states.specs.declared.holder.Holder.{Holder}
-use Rattle.run_states.specs.declared.holder.Holder.TheVariants.{Run, Leg}
+use Rattle.table_model.specs.declared.holder.Holder.{Holder}
+use Rattle.table_model.specs.declared.holder.Holder.TheVariants.{Run, Leg}
 
 -- ---- which holders hold a group
 

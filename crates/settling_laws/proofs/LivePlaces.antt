@@ -1,13 +1,13 @@
 -- Settling opens jobs of live runs only.
 use Rattle.std.specs.Prelude.{◌≡◌, ℕ, List, [], ◌∷◌, map, flat_map, Bool, true, false, if◌then◌else◌, Some, slice_get, refl}
 use Rattle.std.specs.List.{AllByRecursion}
-use Rattle.run_states.specs.Runs.{placed, run_at, LegState, JobState, RunState}
-use Rattle.run_states.specs.Settling.{is_live, job_sites, run_sites, rule_sites, applies, first_site}
-use Rattle.run_states.specs.declared.phases.RunPhase.{RunPhase}
-use Rattle.run_states.specs.declared.phases.RunPhase.TheVariants as run
-use Rattle.run_states.specs.declared.sites.RuleSite.{RuleSite}
-use Rattle.run_states.specs.declared.sites.RuleSite.TheVariants.{Opening, AtLeg, Closing, Whole}
-use Rattle.run_states.proofs.Found.{found, all_weaken, all_of, all_append, all_map, all_flat_map, placed_get}
+use Rattle.table_model.specs.Runs.{placed, run_at, LegState, JobState, RunState}
+use Rattle.table_model.specs.Settling.{is_live, job_sites, run_sites, rule_sites, applies, first_site}
+use Rattle.table_model.specs.declared.phases.RunPhase.{RunPhase}
+use Rattle.table_model.specs.declared.phases.RunPhase.TheVariants as run
+use Rattle.table_model.specs.declared.sites.RuleSite.{RuleSite}
+use Rattle.table_model.specs.declared.sites.RuleSite.TheVariants.{Opening, AtLeg, Closing, Whole}
+use Rattle.table_model.proofs.Found.{found, all_weaken, all_of, all_append, all_map, all_flat_map, placed_get}
 
 abbrev pub LivePlace : List RunState → RuleSite → Type 0
 LivePlace runs (Opening r j) = (x : RunState) × (run_at runs r ≡ Some x) × (x.phase ≡ run.Live)

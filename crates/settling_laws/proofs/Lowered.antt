@@ -11,25 +11,25 @@ use Rattle.wf_value.specs.declared.outcome.JobResult.TheVariants as result
 use Rattle.wf_value.specs.declared.outcome.Outcome.TheVariants as outcome
 use Rattle.run_plan.specs.PlanOf.{plan_of}
 use Rattle.run_plan.specs.declared.planned.PlannedJob.{PlannedJob}
-use Rattle.run_states.specs.Runs.{changed_at, run_at, job_at, leg_at, with_run, with_job, LegState, JobState, RunState, finished_as}
-use Rattle.run_states.specs.GroupLaw.{Transition}
-use Rattle.run_states.specs.declared.sites.LegSite.{LegSite}
-use Rattle.run_states.specs.Settling.{decided, may_run, result_at, rule_at, with_leg_in, run_phases_left, run_left, remaining_phases}
-use Rattle.run_states.specs.Settling.{first_site, first_rule, leg_phases_left, leg_left, job_phases_left, job_left, legs_in_plan}
-use Rattle.run_states.specs.Runs.{leg_has_ended, is_blocked, is_done, is_open, leg_in_phase, new_leg, opened, run_in_phase}
-use Rattle.run_states.specs.LegContext.{is_stopping, planned_legs}
-use Rattle.run_states.specs.declared.phases.JobPhase.TheVariants as job
-use Rattle.run_states.specs.declared.phases.LegPhase.{LegPhase}
-use Rattle.run_states.specs.declared.phases.LegPhase.TheVariants as leg
-use Rattle.run_states.specs.declared.phases.RunPhase.{RunPhase}
-use Rattle.run_states.specs.declared.phases.RunPhase.TheVariants as run
-use Rattle.run_states.specs.declared.sites.RuleSite.{RuleSite}
-use Rattle.run_states.proofs.JobKeeps.{JobIn, job_in, leg_in, with_job_of, with_leg_of}
-use Rattle.run_states.proofs.JobPhases.{is_blocked_blocked, is_open_open}
-use Rattle.run_states.proofs.Optional.{from_and_then}
+use Rattle.table_model.specs.Runs.{changed_at, run_at, job_at, leg_at, with_run, with_job, LegState, JobState, RunState, finished_as}
+use Rattle.table_model.specs.GroupLaw.{Transition}
+use Rattle.table_model.specs.declared.sites.LegSite.{LegSite}
+use Rattle.table_model.specs.Settling.{decided, may_run, result_at, rule_at, with_leg_in, run_phases_left, run_left, remaining_phases}
+use Rattle.table_model.specs.Settling.{first_site, first_rule, leg_phases_left, leg_left, job_phases_left, job_left, legs_in_plan}
+use Rattle.table_model.specs.Runs.{leg_has_ended, is_blocked, is_done, is_open, leg_in_phase, new_leg, opened, run_in_phase}
+use Rattle.table_model.specs.LegContext.{is_stopping, planned_legs}
+use Rattle.table_model.specs.declared.phases.JobPhase.TheVariants as job
+use Rattle.table_model.specs.declared.phases.LegPhase.{LegPhase}
+use Rattle.table_model.specs.declared.phases.LegPhase.TheVariants as leg
+use Rattle.table_model.specs.declared.phases.RunPhase.{RunPhase}
+use Rattle.table_model.specs.declared.phases.RunPhase.TheVariants as run
+use Rattle.table_model.specs.declared.sites.RuleSite.{RuleSite}
+use Rattle.table_model.proofs.JobKeeps.{JobIn, job_in, leg_in, with_job_of, with_leg_of}
+use Rattle.table_model.proofs.JobPhases.{is_blocked_blocked, is_open_open}
+use Rattle.table_model.proofs.Optional.{from_and_then}
 use Rattle.settling_laws.proofs.EachRule.{EachRule, by_rule}
 use Rattle.settling_laws.proofs.StopsLower.{arrival_lowers}
-use Rattle.run_states.specs.declared.holder.Holder.TheVariants.{Leg}
+use Rattle.table_model.specs.declared.holder.Holder.TheVariants.{Leg}
 
 -- ---- sums over a list that is changed at one index
 

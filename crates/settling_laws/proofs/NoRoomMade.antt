@@ -4,20 +4,20 @@ use Rattle.std.specs.Option.{option_map_or}
 use Rattle.std.proofs.Common.{ap, sym, ◌∙◌}
 use Rattle.std.proofs.lemmas.Bool.{and_from, and_parts, or_parts, true≢false}
 use Rattle.group_name.specs.Group.{Group}
-use Rattle.run_states.specs.Settling.{displaced, room_made, room_made_for, stopped_where_requested}
-use Rattle.run_states.specs.Groups.{cancels_in_progress, group_at, all_holders, holds, is_in, is_pending_in, is_in_progress_in, waits}
-use Rattle.run_states.specs.GroupLaw.{same_holder, at_each, without_moves}
-use Rattle.run_states.specs.inner.Holders.{first_conflicting, is_conflicting}
-use Rattle.run_states.specs.inner.Resuming.{finds_others, makes_room}
-use Rattle.run_states.specs.Runs.{RunState}
-use Rattle.run_states.specs.Stops.{displace, stop_holder}
-use Rattle.run_states.specs.declared.holder.HolderFilter.{HolderFilter}
-use Rattle.run_states.specs.declared.holder.HolderFilter.TheVariants.{OthersPending, InProgress}
-use Rattle.run_states.proofs.Found.{none_found}
+use Rattle.table_model.specs.Settling.{displaced, room_made, room_made_for, stopped_where_requested}
+use Rattle.table_model.specs.Groups.{cancels_in_progress, group_at, all_holders, holds, is_in, is_pending_in, is_in_progress_in, waits}
+use Rattle.table_model.specs.GroupLaw.{same_holder, at_each, without_moves}
+use Rattle.table_model.specs.inner.Holders.{first_conflicting, is_conflicting}
+use Rattle.table_model.specs.inner.Resuming.{finds_others, makes_room}
+use Rattle.table_model.specs.Runs.{RunState}
+use Rattle.table_model.specs.Stops.{displace, stop_holder}
+use Rattle.table_model.specs.declared.holder.HolderFilter.{HolderFilter}
+use Rattle.table_model.specs.declared.holder.HolderFilter.TheVariants.{OthersPending, InProgress}
+use Rattle.table_model.proofs.Found.{none_found}
 use Rattle.settling_laws.proofs.Arrives.{no_other}
 use Rattle.settling_laws.proofs.Meant.{nothing_yet}
 use Rattle.settling_laws.proofs.OneEach.{Comes, GroupsStay, IsOneOf, each_holder, one_that_holds, one_that_waits, ran_too, was_another}
-use Rattle.run_states.specs.declared.holder.Holder.{Holder}
+use Rattle.table_model.specs.declared.holder.Holder.{Holder}
 
 filtered_none : {X : Type 0} (test : X → Bool) (xs : List X) → ((x : X) → test x ≡ false) → filter test xs ≡ []
 filtered_none test [] none = refl

@@ -6,17 +6,17 @@ use Rattle.std.proofs.Common.{ap, inl, inr, sym, ◌∙◌}
 use Rattle.std.proofs.lemmas.Bool.{and_from, and_parts, not-true, true≢false}
 use Rattle.group_name.specs.Group.{Group, same_group}
 use Rattle.group_name.proofs.SameGroups.{same_is_one}
-use Rattle.run_states.specs.Runs.{placed, leg_at, leg_sites, run_at, LegState, RunState}
-use Rattle.run_states.specs.Groups.{group_at, may_start, waits}
-use Rattle.run_states.specs.Groups.{HasOneBeside, HasOneEach, all_holders, holds, is_in, is_pending_in, is_in_progress_in, is_taken}
-use Rattle.run_states.specs.declared.sites.LegSite.{LegSite}
-use Rattle.run_states.proofs.Found.{each_of_append, each_of_map, each_of_placed}
-use Rattle.run_states.proofs.RunFits.{RunsFit}
-use Rattle.run_states.proofs.Settles.{StayFit}
+use Rattle.table_model.specs.Runs.{placed, leg_at, leg_sites, run_at, LegState, RunState}
+use Rattle.table_model.specs.Groups.{group_at, may_start, waits}
+use Rattle.table_model.specs.Groups.{HasOneBeside, HasOneEach, all_holders, holds, is_in, is_pending_in, is_in_progress_in, is_taken}
+use Rattle.table_model.specs.declared.sites.LegSite.{LegSite}
+use Rattle.table_model.proofs.Found.{each_of_append, each_of_map, each_of_placed}
+use Rattle.table_model.proofs.RunFits.{RunsFit}
+use Rattle.table_model.proofs.Settles.{StayFit}
 use Rattle.settling_laws.proofs.GroupStays.{group_stays}
 use Rattle.settling_laws.proofs.HolderPlaces.{each_leg_place}
-use Rattle.run_states.specs.declared.holder.Holder.{Holder}
-use Rattle.run_states.specs.declared.holder.Holder.TheVariants.{Run, Leg}
+use Rattle.table_model.specs.declared.holder.Holder.{Holder}
+use Rattle.table_model.specs.declared.holder.Holder.TheVariants.{Run, Leg}
 
 -- ---- groups that the test finds equal are equal
 

@@ -5,22 +5,22 @@ use Rattle.std.proofs.Common.{ap, inl, inr, sym, ◌∙◌}
 use Rattle.std.proofs.lemmas.Bool.{cases_eq, false≢true}
 use Rattle.wf_value.specs.declared.outcome.JobResult.TheVariants as result
 use Rattle.wf_value.specs.declared.outcome.Outcome.TheVariants as outcome
-use Rattle.run_states.specs.Settling.{arrived, decided, may_run, result_at, rule_at, with_leg_in, first_rule, settled}
-use Rattle.run_states.specs.Groups.{HasOneEach, holds, leg_holds, leg_waits, may_start, run_waits, waits}
-use Rattle.run_states.specs.GroupLaw.{Transition}
-use Rattle.run_states.specs.Runs.{leg_at, run_at, with_job, with_leg, with_run, LegState, RunState, finished_as}
-use Rattle.run_states.specs.declared.sites.LegSite.{LegSite}
-use Rattle.run_states.specs.Runs.{is_live, leg_in_phase, new_leg, opened, run_in_phase}
-use Rattle.run_states.specs.LegContext.{is_stopping, planned_legs}
-use Rattle.run_states.specs.declared.phases.LegPhase.{LegPhase}
-use Rattle.run_states.specs.declared.phases.LegPhase.TheVariants as leg
-use Rattle.run_states.specs.declared.phases.RunPhase.TheVariants as run
-use Rattle.run_states.specs.declared.sites.RuleSite.{RuleSite}
-use Rattle.run_states.proofs.Changed.{at_another}
-use Rattle.run_states.proofs.JobKeeps.{leg_elsewhere, leg_in, leg_now}
-use Rattle.run_states.proofs.LeaseReads.{place_or_another}
-use Rattle.run_states.proofs.RunFits.{RunsFit, leases_fit}
-use Rattle.run_states.proofs.Settles.{Settles}
+use Rattle.table_model.specs.Settling.{arrived, decided, may_run, result_at, rule_at, with_leg_in, first_rule, settled}
+use Rattle.table_model.specs.Groups.{HasOneEach, holds, leg_holds, leg_waits, may_start, run_waits, waits}
+use Rattle.table_model.specs.GroupLaw.{Transition}
+use Rattle.table_model.specs.Runs.{leg_at, run_at, with_job, with_leg, with_run, LegState, RunState, finished_as}
+use Rattle.table_model.specs.declared.sites.LegSite.{LegSite}
+use Rattle.table_model.specs.Runs.{is_live, leg_in_phase, new_leg, opened, run_in_phase}
+use Rattle.table_model.specs.LegContext.{is_stopping, planned_legs}
+use Rattle.table_model.specs.declared.phases.LegPhase.{LegPhase}
+use Rattle.table_model.specs.declared.phases.LegPhase.TheVariants as leg
+use Rattle.table_model.specs.declared.phases.RunPhase.TheVariants as run
+use Rattle.table_model.specs.declared.sites.RuleSite.{RuleSite}
+use Rattle.table_model.proofs.Changed.{at_another}
+use Rattle.table_model.proofs.JobKeeps.{leg_elsewhere, leg_in, leg_now}
+use Rattle.table_model.proofs.LeaseReads.{place_or_another}
+use Rattle.table_model.proofs.RunFits.{RunsFit, leases_fit}
+use Rattle.table_model.proofs.Settles.{Settles}
 use Rattle.settling_laws.proofs.ArrivalKeeps.{arrival_one_each}
 use Rattle.settling_laws.proofs.EachRule.{EachRule, by_rule}
 use Rattle.settling_laws.proofs.HoldersFade.{JobFades, holds_before_leg, job_fades, job_passes, leg_before, leg_fades, leg_passes}
@@ -29,8 +29,8 @@ use Rattle.settling_laws.proofs.LivePlaces.{LivePlace}
 use Rattle.settling_laws.proofs.OneEach.{Comes, Fades, Starts, fading_keeps, groups_stay, newcomer_besides, start_keeps}
 use Rattle.settling_laws.proofs.RuleKeeps.{each_settles, leg_goes, new_ends, newcomer_waits, phase_settles, waiting_starts}
 use Rattle.settling_laws.proofs.SettlingKeeps.{first_rule_keeps, settling_keeps}
-use Rattle.run_states.specs.declared.holder.Holder.{Holder}
-use Rattle.run_states.specs.declared.holder.Holder.TheVariants.{Run, Leg}
+use Rattle.table_model.specs.declared.holder.Holder.{Holder}
+use Rattle.table_model.specs.declared.holder.Holder.TheVariants.{Run, Leg}
 
 -- ---- a job opens or finishes
 

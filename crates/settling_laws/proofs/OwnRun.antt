@@ -1,13 +1,13 @@
 -- A rule changes only the run of its site, unless a leg arrives.
 use Rattle.std.specs.Prelude.{◌≡◌, ℕ, List, Some}
-use Rattle.run_states.specs.GroupLaw.{Transition}
-use Rattle.run_states.specs.Runs.{run_at, RunState, leg_in_phase, run_in_phase, finished_as}
-use Rattle.run_states.specs.Settling.{rule_at, run_of_site, IsNoArrival, decided, result_at}
-use Rattle.run_states.specs.declared.phases.LegPhase.TheVariants as leg
-use Rattle.run_states.specs.declared.phases.RunPhase.TheVariants as run
-use Rattle.run_states.specs.declared.sites.RuleSite.{RuleSite}
-use Rattle.run_states.proofs.Changed.{at_another}
-use Rattle.run_states.proofs.JobKeeps.{with_job_of, with_leg_of}
+use Rattle.table_model.specs.GroupLaw.{Transition}
+use Rattle.table_model.specs.Runs.{run_at, RunState, leg_in_phase, run_in_phase, finished_as}
+use Rattle.table_model.specs.Settling.{rule_at, run_of_site, IsNoArrival, decided, result_at}
+use Rattle.table_model.specs.declared.phases.LegPhase.TheVariants as leg
+use Rattle.table_model.specs.declared.phases.RunPhase.TheVariants as run
+use Rattle.table_model.specs.declared.sites.RuleSite.{RuleSite}
+use Rattle.table_model.proofs.Changed.{at_another}
+use Rattle.table_model.proofs.JobKeeps.{with_job_of, with_leg_of}
 use Rattle.settling_laws.proofs.EachRule.{by_rule}
 
 pub own_run_alone : (runs : List RunState) (m : Transition) (site : RuleSite) (r : ℕ) → rule_at runs site ≡ Some m → IsNoArrival runs site

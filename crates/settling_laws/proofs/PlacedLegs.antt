@@ -4,11 +4,11 @@ use Rattle.std.specs.List.{AllByRecursion, enumerate_from}
 use Rattle.std.specs.Option.{option_or}
 use Rattle.std.proofs.Common.{arith, ap, ap₂, ◌∙◌}
 use Rattle.std.proofs.lemmas.List.{map-append}
-use Rattle.run_states.specs.Runs.{first_some, placed, leg_at, leg_site, leg_sites_of_job, leg_sites_of_run, LegState, JobState, RunState}
-use Rattle.run_states.specs.inner.PlacedLegs.{PlacedLeg, placed_leg, placed_legs, placed_legs_of_job, placed_legs_of_run}
-use Rattle.run_states.specs.declared.sites.LegSite.{LegSite}
-use Rattle.run_states.proofs.Found.{all_flat_map, all_weaken, each_of_flat_map, each_of_map, each_of_placed, placed_get}
-use Rattle.run_states.proofs.JobKeeps.{leg_in}
+use Rattle.table_model.specs.Runs.{first_some, placed, leg_at, leg_site, leg_sites_of_job, leg_sites_of_run, LegState, JobState, RunState}
+use Rattle.table_model.specs.inner.PlacedLegs.{PlacedLeg, placed_leg, placed_legs, placed_legs_of_job, placed_legs_of_run}
+use Rattle.table_model.specs.declared.sites.LegSite.{LegSite}
+use Rattle.table_model.proofs.Found.{all_flat_map, all_weaken, each_of_flat_map, each_of_map, each_of_placed, placed_get}
+use Rattle.table_model.proofs.JobKeeps.{leg_in}
 
 -- ---- the first leg of a job that passes a test
 

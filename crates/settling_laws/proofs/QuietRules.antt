@@ -5,23 +5,23 @@ use Rattle.std.proofs.Common.{ap, sym, ◌∙◌, subst, inl, inr}
 use Rattle.std.proofs.lemmas.Bool.{cases_eq}
 use Rattle.wf_value.specs.declared.outcome.Outcome.TheVariants as outcome
 use Rattle.group_name.specs.Group.{Group}
-use Rattle.run_states.specs.Settling.{arrived, decided, result_at, rule_at, with_leg_in, first_site}
-use Rattle.run_states.specs.Groups.{group_at, holds, leg_holds}
-use Rattle.run_states.specs.inner.Resuming.{is_new_at, makes_room, may_invalidate_others}
-use Rattle.run_states.specs.GroupLaw.{Transition}
-use Rattle.run_states.specs.Runs.{job_at, leg_at, with_job, with_run, LegState, JobState, RunState}
-use Rattle.run_states.specs.declared.sites.LegSite.{LegSite}
-use Rattle.run_states.specs.Runs.{is_blocked, is_live, is_new, leg_in_phase, run_in_phase, finished_as}
-use Rattle.run_states.specs.LegContext.{planned_legs}
-use Rattle.run_states.specs.declared.phases.LegPhase.{LegPhase}
-use Rattle.run_states.specs.declared.phases.LegPhase.TheVariants as leg
-use Rattle.run_states.specs.declared.phases.RunPhase.TheVariants as run
-use Rattle.run_states.specs.declared.sites.RuleSite.{RuleSite}
-use Rattle.run_states.specs.declared.sites.RuleSite.TheVariants.{Opening, AtLeg, Closing, Whole}
-use Rattle.run_states.proofs.Changed.{at_another}
-use Rattle.run_states.proofs.JobKeeps.{job_in, with_leg_of}
-use Rattle.run_states.proofs.JobPhases.{is_blocked_blocked, no_legs}
-use Rattle.run_states.proofs.RunFits.{RunsFit}
+use Rattle.table_model.specs.Settling.{arrived, decided, result_at, rule_at, with_leg_in, first_site}
+use Rattle.table_model.specs.Groups.{group_at, holds, leg_holds}
+use Rattle.table_model.specs.inner.Resuming.{is_new_at, makes_room, may_invalidate_others}
+use Rattle.table_model.specs.GroupLaw.{Transition}
+use Rattle.table_model.specs.Runs.{job_at, leg_at, with_job, with_run, LegState, JobState, RunState}
+use Rattle.table_model.specs.declared.sites.LegSite.{LegSite}
+use Rattle.table_model.specs.Runs.{is_blocked, is_live, is_new, leg_in_phase, run_in_phase, finished_as}
+use Rattle.table_model.specs.LegContext.{planned_legs}
+use Rattle.table_model.specs.declared.phases.LegPhase.{LegPhase}
+use Rattle.table_model.specs.declared.phases.LegPhase.TheVariants as leg
+use Rattle.table_model.specs.declared.phases.RunPhase.TheVariants as run
+use Rattle.table_model.specs.declared.sites.RuleSite.{RuleSite}
+use Rattle.table_model.specs.declared.sites.RuleSite.TheVariants.{Opening, AtLeg, Closing, Whole}
+use Rattle.table_model.proofs.Changed.{at_another}
+use Rattle.table_model.proofs.JobKeeps.{job_in, with_leg_of}
+use Rattle.table_model.proofs.JobPhases.{is_blocked_blocked, no_legs}
+use Rattle.table_model.proofs.RunFits.{RunsFit}
 use Rattle.settling_laws.proofs.EachRule.{EachRule, by_rule}
 use Rattle.settling_laws.proofs.GroupStays.{leg_cancels_stays, leg_group_stays}
 use Rattle.settling_laws.proofs.HoldersFade.{leg_passes, passes}
@@ -31,8 +31,8 @@ use Rattle.settling_laws.proofs.NoRoomMade.{no_room_made}
 use Rattle.settling_laws.proofs.OneEach.{groups_stay}
 use Rattle.settling_laws.proofs.OneEachRules.{newcomer_comes}
 use Rattle.settling_laws.proofs.RuleKeeps.{newcomer_waits, rule_settles}
-use Rattle.run_states.specs.declared.holder.Holder.{Holder}
-use Rattle.run_states.specs.declared.holder.Holder.TheVariants.{Run, Leg}
+use Rattle.table_model.specs.declared.holder.Holder.{Holder}
+use Rattle.table_model.specs.declared.holder.Holder.TheVariants.{Run, Leg}
 
 -- the site is in job `j` of run `r`
 abbrev pub IsAt : ℕ → ℕ → RuleSite → Type 0

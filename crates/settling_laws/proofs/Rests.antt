@@ -2,9 +2,9 @@
 use Rattle.std.specs.Prelude.{◌≡◌, ℕ, zero, suc, ◌≤◌, ◌++◌, List, Bool, true, is_some, Option, Some, None, option_and_then, refl}
 use Rattle.std.specs.Option.{option_map_or}
 use Rattle.std.proofs.Common.{arith, ap, sym, ◌∙◌}
-use Rattle.run_states.specs.GroupLaw.{Transition, and_then, without_moves}
-use Rattle.run_states.specs.Settling.{rule_at, applies, first_site, first_rule, remaining_phases, settled_within, settled, settling}
-use Rattle.run_states.specs.Runs.{RunState}
+use Rattle.table_model.specs.GroupLaw.{Transition, and_then, without_moves}
+use Rattle.table_model.specs.Settling.{rule_at, applies, first_site, first_rule, remaining_phases, settled_within, settled, settling}
+use Rattle.table_model.specs.Runs.{RunState}
 use Rattle.settling_laws.proofs.LivePlaces.{first_place_applies}
 use Rattle.settling_laws.proofs.Lowered.{first_rule_lowers}
 

@@ -10,34 +10,34 @@ use Rattle.std.proofs.lemmas.List.{get_or_past}
 use Rattle.wf_value.specs.declared.outcome.JobResult.{JobResult}
 use Rattle.wf_value.proofs.OptionOr.{or_nothing}
 use Rattle.needs_graph.specs.Needs.{dependents_of, needs_at}
-use Rattle.run_states.specs.Runs.{changed_at, first_some, placed, needs_in, results_so_far, finished_result, leg_at, run_at}
-use Rattle.run_states.specs.Groups.{leg_waits, run_waits}
-use Rattle.run_states.specs.Resuming.{NoneBefore, RestBefore}
-use Rattle.run_states.specs.inner.Resuming.{may_invalidate_others, has_finished, job_again, resume_point, resume_near}
-use Rattle.run_states.specs.GroupLaw.{Transition}
-use Rattle.run_states.specs.Settling.{rule_at, first_site}
-use Rattle.run_states.specs.Runs.{LegState, JobState, RunState, is_blocked, is_done, is_live}
-use Rattle.run_states.specs.WithinRun.{first_in_job, first_in_jobs, first_in_run, first_of_legs, first_of_open, first_of_whole, goes_on}
-use Rattle.run_states.specs.WithinRun.{goes_on_in, whole_goes_on_in}
-use Rattle.run_states.specs.inner.WithinRun.{leg_site, needs_finished_in}
-use Rattle.run_states.specs.LegContext.{all_have_results}
-use Rattle.run_states.specs.declared.phases.LegPhase.{LegPhase}
-use Rattle.run_states.specs.declared.phases.LegPhase.TheVariants as leg
-use Rattle.run_states.specs.declared.phases.RunPhase.{RunPhase}
-use Rattle.run_states.specs.declared.phases.RunPhase.TheVariants as run
-use Rattle.run_states.specs.declared.sites.RuleSite.{RuleSite}
-use Rattle.run_states.specs.declared.sites.RuleSite.TheVariants.{Opening, AtLeg, Closing, Whole}
-use Rattle.run_states.proofs.Changed.{at_another, at_changed}
-use Rattle.run_states.proofs.Found.{all_weaken, placed_get}
-use Rattle.run_states.proofs.NeedsSettled.{result_among}
-use Rattle.run_states.proofs.Optional.{from_and_then, if_none, if_some}
-use Rattle.run_states.proofs.RunFits.{RunsFit, job_in_run, leg_in_job}
+use Rattle.table_model.specs.Runs.{changed_at, first_some, placed, needs_in, results_so_far, finished_result, leg_at, run_at}
+use Rattle.table_model.specs.Groups.{leg_waits, run_waits}
+use Rattle.table_model.specs.Resuming.{NoneBefore, RestBefore}
+use Rattle.table_model.specs.inner.Resuming.{may_invalidate_others, has_finished, job_again, resume_point, resume_near}
+use Rattle.table_model.specs.GroupLaw.{Transition}
+use Rattle.table_model.specs.Settling.{rule_at, first_site}
+use Rattle.table_model.specs.Runs.{LegState, JobState, RunState, is_blocked, is_done, is_live}
+use Rattle.table_model.specs.WithinRun.{first_in_job, first_in_jobs, first_in_run, first_of_legs, first_of_open, first_of_whole, goes_on}
+use Rattle.table_model.specs.WithinRun.{goes_on_in, whole_goes_on_in}
+use Rattle.table_model.specs.inner.WithinRun.{leg_site, needs_finished_in}
+use Rattle.table_model.specs.LegContext.{all_have_results}
+use Rattle.table_model.specs.declared.phases.LegPhase.{LegPhase}
+use Rattle.table_model.specs.declared.phases.LegPhase.TheVariants as leg
+use Rattle.table_model.specs.declared.phases.RunPhase.{RunPhase}
+use Rattle.table_model.specs.declared.phases.RunPhase.TheVariants as run
+use Rattle.table_model.specs.declared.sites.RuleSite.{RuleSite}
+use Rattle.table_model.specs.declared.sites.RuleSite.TheVariants.{Opening, AtLeg, Closing, Whole}
+use Rattle.table_model.proofs.Changed.{at_another, at_changed}
+use Rattle.table_model.proofs.Found.{all_weaken, placed_get}
+use Rattle.table_model.proofs.NeedsSettled.{result_among}
+use Rattle.table_model.proofs.Optional.{from_and_then, if_none, if_some}
+use Rattle.table_model.proofs.RunFits.{RunsFit, job_in_run, leg_in_job}
 use Rattle.settling_laws.proofs.Firsts.{first_at}
 use Rattle.settling_laws.proofs.KeptBack.{KeepsBack, KeepsBackIn}
 use Rattle.settling_laws.proofs.OneEach.{one_that_waits}
 use Rattle.settling_laws.proofs.QuietRules.{IsAt, quiet_at_job, quiet_in_run, quiet_keeps_back}
 use Rattle.settling_laws.proofs.Walks.{first_place_by_run}
-use Rattle.run_states.specs.declared.holder.Holder.TheVariants.{Run, Leg}
+use Rattle.table_model.specs.declared.holder.Holder.TheVariants.{Run, Leg}
 
 -- ---- the run and the job of the first site
 

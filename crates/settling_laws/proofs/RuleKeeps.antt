@@ -8,32 +8,32 @@ use Rattle.std.proofs.Math.ListN.{length-replicate}
 use Rattle.wf_value.specs.declared.outcome.JobResult.{JobResult}
 use Rattle.wf_value.specs.declared.outcome.JobResult.TheVariants as result
 use Rattle.wf_value.specs.declared.outcome.Outcome.TheVariants as outcome
-use Rattle.run_states.specs.Settling.{arrived, decided, may_run, result_at, rule_at, with_leg_in}
-use Rattle.run_states.specs.Runs.{changed_at, run_at, job_at, leg_at, with_run, with_job, LegState, JobState, RunState, run_in_phase}
-use Rattle.run_states.specs.GroupLaw.{Transition}
-use Rattle.run_states.specs.Fitting.{is_at_work}
-use Rattle.run_states.specs.declared.sites.LegSite.{LegSite}
-use Rattle.run_states.specs.Sound.{PhaseFits, MayLackLegs, LeaseFits}
-use Rattle.run_states.specs.Runs.{leg_has_ended, is_done, is_open, is_finished, leg_in_phase, new_leg, opened, outcome_of, finished_as}
-use Rattle.run_states.specs.LegContext.{needs_have_finished, is_stopping, planned_legs, finished_result}
-use Rattle.run_states.specs.declared.phases.JobPhase.{JobPhase}
-use Rattle.run_states.specs.declared.phases.JobPhase.TheVariants as job
-use Rattle.run_states.specs.declared.phases.LegPhase.{LegPhase}
-use Rattle.run_states.specs.declared.phases.LegPhase.TheVariants as leg
-use Rattle.run_states.specs.declared.phases.RunPhase.{RunPhase}
-use Rattle.run_states.specs.declared.phases.RunPhase.TheVariants as run
-use Rattle.run_states.specs.declared.sites.RuleSite.{RuleSite}
-use Rattle.run_states.specs.declared.sites.RuleSite.TheVariants.{Opening}
-use Rattle.run_states.proofs.JobKeeps.{job_in, leg_in, live_fits, open_is_live, job_keeps, leg_settles}
-use Rattle.run_states.proofs.JobPhases.{all_legs, is_blocked_blocked, is_open_open, no_legs}
-use Rattle.run_states.proofs.LegReads.{work_of}
-use Rattle.run_states.proofs.Optional.{each_passes}
-use Rattle.run_states.proofs.RunFits.{JobFits, RunsFit, leases_fit}
-use Rattle.run_states.proofs.Settles.{Settles, one_settles, settles_on}
+use Rattle.table_model.specs.Settling.{arrived, decided, may_run, result_at, rule_at, with_leg_in}
+use Rattle.table_model.specs.Runs.{changed_at, run_at, job_at, leg_at, with_run, with_job, LegState, JobState, RunState, run_in_phase}
+use Rattle.table_model.specs.GroupLaw.{Transition}
+use Rattle.table_model.specs.Fitting.{is_at_work}
+use Rattle.table_model.specs.declared.sites.LegSite.{LegSite}
+use Rattle.table_model.specs.Sound.{PhaseFits, MayLackLegs, LeaseFits}
+use Rattle.table_model.specs.Runs.{leg_has_ended, is_done, is_open, is_finished, leg_in_phase, new_leg, opened, outcome_of, finished_as}
+use Rattle.table_model.specs.LegContext.{needs_have_finished, is_stopping, planned_legs, finished_result}
+use Rattle.table_model.specs.declared.phases.JobPhase.{JobPhase}
+use Rattle.table_model.specs.declared.phases.JobPhase.TheVariants as job
+use Rattle.table_model.specs.declared.phases.LegPhase.{LegPhase}
+use Rattle.table_model.specs.declared.phases.LegPhase.TheVariants as leg
+use Rattle.table_model.specs.declared.phases.RunPhase.{RunPhase}
+use Rattle.table_model.specs.declared.phases.RunPhase.TheVariants as run
+use Rattle.table_model.specs.declared.sites.RuleSite.{RuleSite}
+use Rattle.table_model.specs.declared.sites.RuleSite.TheVariants.{Opening}
+use Rattle.table_model.proofs.JobKeeps.{job_in, leg_in, live_fits, open_is_live, job_keeps, leg_settles}
+use Rattle.table_model.proofs.JobPhases.{all_legs, is_blocked_blocked, is_open_open, no_legs}
+use Rattle.table_model.proofs.LegReads.{work_of}
+use Rattle.table_model.proofs.Optional.{each_passes}
+use Rattle.table_model.proofs.RunFits.{JobFits, RunsFit, leases_fit}
+use Rattle.table_model.proofs.Settles.{Settles, one_settles, settles_on}
 use Rattle.settling_laws.proofs.EachRule.{EachRule, by_rule}
 use Rattle.settling_laws.proofs.HoldersKeep.{arrival_settles}
 use Rattle.settling_laws.proofs.LivePlaces.{LivePlace}
-use Rattle.run_states.specs.declared.holder.Holder.TheVariants.{Leg}
+use Rattle.table_model.specs.declared.holder.Holder.TheVariants.{Leg}
 
 -- ---- a leg advances
 

@@ -1,13 +1,13 @@
 -- Settling keeps what each rule keeps.
 use Rattle.std.specs.Prelude.{◌≡◌, ℕ, zero, suc, List, Some, None, refl}
 use Rattle.std.specs.Option.{option_map_or}
-use Rattle.run_states.specs.GroupLaw.{Transition, and_then, without_moves}
-use Rattle.run_states.specs.Settling.{rule_at, first_site, first_rule, remaining_phases, settled_within, settled}
-use Rattle.run_states.specs.Runs.{RunState}
-use Rattle.run_states.specs.declared.sites.RuleSite.{RuleSite}
-use Rattle.run_states.proofs.Optional.{from_and_then}
-use Rattle.run_states.proofs.RunFits.{RunsFit}
-use Rattle.run_states.proofs.Settles.{Settles, settles_nothing, settles_on}
+use Rattle.table_model.specs.GroupLaw.{Transition, and_then, without_moves}
+use Rattle.table_model.specs.Settling.{rule_at, first_site, first_rule, remaining_phases, settled_within, settled}
+use Rattle.table_model.specs.Runs.{RunState}
+use Rattle.table_model.specs.declared.sites.RuleSite.{RuleSite}
+use Rattle.table_model.proofs.Optional.{from_and_then}
+use Rattle.table_model.proofs.RunFits.{RunsFit}
+use Rattle.table_model.proofs.Settles.{Settles, settles_nothing, settles_on}
 use Rattle.settling_laws.proofs.LivePlaces.{LivePlace, first_place_is_live}
 use Rattle.settling_laws.proofs.RuleKeeps.{rule_settles}
 

@@ -1,8 +1,8 @@
 -- What the runs of a table satisfy, stated for all runs and for each run.
 use Rattle.std.specs.Prelude.{List}
-use Rattle.run_states.specs.Runs.{RunState}
-use Rattle.run_states.specs.Sound.{RunsAreSound}
-use Rattle.run_states.proofs.RunFits.{RunsFit, jobs_are_the_plans, jobs_fit, leases_fit, needs_come_first, run_phases_fit, runs_fit}
+use Rattle.table_model.specs.Runs.{RunState}
+use Rattle.table_model.specs.Sound.{RunsAreSound}
+use Rattle.table_model.proofs.RunFits.{RunsFit, jobs_are_the_plans, jobs_fit, leases_fit, needs_come_first, run_phases_fit, runs_fit}
 
 pub runs_that_fit : (runs : List RunState) → RunsAreSound runs → RunsFit runs
 runs_that_fit runs s = runs_fit runs s.jobs_are_the_plans s.run_phases_fit s.jobs_fit s.needs_finished_first s.leases_fit

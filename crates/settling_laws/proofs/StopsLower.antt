@@ -8,21 +8,21 @@ use Rattle.std.proofs.lemmas.List.Sums.{sum_by-cons}
 use Rattle.wf_value.specs.declared.outcome.JobResult.TheVariants as result
 use Rattle.group_name.specs.Group.{Group}
 use Rattle.run_plan.specs.PlanOf.{plan_of}
-use Rattle.run_states.specs.Settling.{arrived, displaced, others_pending, room_made, stopped_where_requested}
-use Rattle.run_states.specs.Runs.{changed_at, LegState, JobState, RunState, is_open, finished_as}
-use Rattle.run_states.specs.Groups.{cancels_in_progress, group_at, in_progress_in}
-use Rattle.run_states.specs.GroupLaw.{Transition, at_each, without_moves}
-use Rattle.run_states.specs.LegContext.{may_run_in}
-use Rattle.run_states.specs.Settling.{job_left, leg_left, leg_phases_left, remaining_phases, legs_in_plan, run_left}
-use Rattle.run_states.specs.Stops.{displace, stop_holder, with_stopped_legs}
-use Rattle.run_states.specs.Stops.{cancelled, stopped, stopped_in, stopped_phase, stopped_run, stopped_where, with_stop_requested}
-use Rattle.run_states.specs.declared.phases.LegPhase.{LegPhase}
-use Rattle.run_states.specs.declared.phases.LegPhase.TheVariants as leg
-use Rattle.run_states.specs.declared.phases.RunPhase.{RunPhase}
-use Rattle.run_states.specs.declared.phases.RunPhase.TheVariants as run
-use Rattle.run_states.proofs.JobKeeps.{with_job_of, with_leg_of}
-use Rattle.run_states.specs.declared.holder.Holder.{Holder}
-use Rattle.run_states.specs.declared.holder.Holder.TheVariants.{Run, Leg}
+use Rattle.table_model.specs.Settling.{arrived, displaced, others_pending, room_made, stopped_where_requested}
+use Rattle.table_model.specs.Runs.{changed_at, LegState, JobState, RunState, is_open, finished_as}
+use Rattle.table_model.specs.Groups.{cancels_in_progress, group_at, in_progress_in}
+use Rattle.table_model.specs.GroupLaw.{Transition, at_each, without_moves}
+use Rattle.table_model.specs.LegContext.{may_run_in}
+use Rattle.table_model.specs.Settling.{job_left, leg_left, leg_phases_left, remaining_phases, legs_in_plan, run_left}
+use Rattle.table_model.specs.Stops.{displace, stop_holder, with_stopped_legs}
+use Rattle.table_model.specs.Stops.{cancelled, stopped, stopped_in, stopped_phase, stopped_run, stopped_where, with_stop_requested}
+use Rattle.table_model.specs.declared.phases.LegPhase.{LegPhase}
+use Rattle.table_model.specs.declared.phases.LegPhase.TheVariants as leg
+use Rattle.table_model.specs.declared.phases.RunPhase.{RunPhase}
+use Rattle.table_model.specs.declared.phases.RunPhase.TheVariants as run
+use Rattle.table_model.proofs.JobKeeps.{with_job_of, with_leg_of}
+use Rattle.table_model.specs.declared.holder.Holder.{Holder}
+use Rattle.table_model.specs.declared.holder.Holder.TheVariants.{Run, Leg}
 
 -- ---- sums of terms that do not grow
 

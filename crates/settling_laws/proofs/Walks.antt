@@ -5,25 +5,25 @@ use Rattle.std.specs.List.{list_all}
 use Rattle.std.specs.Option.{option_or}
 use Rattle.std.proofs.Common.{ap, ◌∙◌}
 use Rattle.std.proofs.lemmas.List.Folds.{find-append}
-use Rattle.run_states.specs.Runs.{first_some, placed, job_at, leg_at, LegState, JobState, RunState}
-use Rattle.run_states.specs.Groups.{may_start}
-use Rattle.run_states.specs.declared.sites.LegSite.{LegSite}
-use Rattle.run_states.specs.Settling.{job_sites, run_sites, opening_rule, leg_rule, leg_rule_in, closing_rule, whole_rule, whole_rule_in}
-use Rattle.run_states.specs.Settling.{applies, first_site}
-use Rattle.run_states.specs.Runs.{is_live, is_blocked, is_done, is_finished}
-use Rattle.run_states.specs.WithinRun.{goes_on, goes_on_in, first_in_job, first_in_jobs, first_in_run, first_of_legs}
-use Rattle.run_states.specs.inner.WithinRun.{leg_site}
-use Rattle.run_states.specs.inner.WithinRun.{needs_finished_in}
-use Rattle.run_states.specs.WithinRun.{whole_goes_on_in}
-use Rattle.run_states.specs.LegContext.{needs_have_finished}
-use Rattle.run_states.specs.declared.phases.LegPhase.{LegPhase}
-use Rattle.run_states.specs.declared.phases.LegPhase.TheVariants as leg
-use Rattle.run_states.specs.declared.phases.RunPhase.{RunPhase}
-use Rattle.run_states.specs.declared.phases.RunPhase.TheVariants as run
-use Rattle.run_states.specs.declared.sites.RuleSite.TheVariants.{Opening, AtLeg, Closing, Whole}
-use Rattle.run_states.proofs.NeedsSettled.{needs_by_run}
+use Rattle.table_model.specs.Runs.{first_some, placed, job_at, leg_at, LegState, JobState, RunState}
+use Rattle.table_model.specs.Groups.{may_start}
+use Rattle.table_model.specs.declared.sites.LegSite.{LegSite}
+use Rattle.table_model.specs.Settling.{job_sites, run_sites, opening_rule, leg_rule, leg_rule_in, closing_rule, whole_rule, whole_rule_in}
+use Rattle.table_model.specs.Settling.{applies, first_site}
+use Rattle.table_model.specs.Runs.{is_live, is_blocked, is_done, is_finished}
+use Rattle.table_model.specs.WithinRun.{goes_on, goes_on_in, first_in_job, first_in_jobs, first_in_run, first_of_legs}
+use Rattle.table_model.specs.inner.WithinRun.{leg_site}
+use Rattle.table_model.specs.inner.WithinRun.{needs_finished_in}
+use Rattle.table_model.specs.WithinRun.{whole_goes_on_in}
+use Rattle.table_model.specs.LegContext.{needs_have_finished}
+use Rattle.table_model.specs.declared.phases.LegPhase.{LegPhase}
+use Rattle.table_model.specs.declared.phases.LegPhase.TheVariants as leg
+use Rattle.table_model.specs.declared.phases.RunPhase.{RunPhase}
+use Rattle.table_model.specs.declared.phases.RunPhase.TheVariants as run
+use Rattle.table_model.specs.declared.sites.RuleSite.TheVariants.{Opening, AtLeg, Closing, Whole}
+use Rattle.table_model.proofs.NeedsSettled.{needs_by_run}
 use Rattle.settling_laws.proofs.Firsts.{find-flat_map, find-map, first_same_placed}
-use Rattle.run_states.specs.declared.holder.Holder.TheVariants.{Run, Leg}
+use Rattle.table_model.specs.declared.holder.Holder.TheVariants.{Run, Leg}
 
 -- ---- whether the rule at a site applies, from the element there
 

@@ -1,10 +1,10 @@
 //! Laws of settling.
 
 ghost use Rattle.std.specs.Prelude.{◌≡◌, ◌<◌, ℕ, List, Some, None};
-ghost use Rattle.run_states.specs.GroupLaw.{Transition, and_then};
-ghost use Rattle.run_states.specs.Runs.{run_at, RunState};
-ghost use Rattle.run_states.specs.Settling.{IsNoArrival, rule_at, run_of_site, first_site, first_rule, remaining_phases, settled, settling};
-ghost use Rattle.run_states.specs.declared.sites.RuleSite.{RuleSite};
+ghost use Rattle.table_model.specs.GroupLaw.{Transition, and_then};
+ghost use Rattle.table_model.specs.Runs.{run_at, RunState};
+ghost use Rattle.table_model.specs.Settling.{IsNoArrival, rule_at, run_of_site, first_site, first_rule, remaining_phases, settled, settling};
+ghost use Rattle.table_model.specs.declared.sites.RuleSite.{RuleSite};
 
 /// Settling terminates: each rule lowers the number of phases that the runs still have to pass.
 /// Promise (Laws of the definitions): Settling ends, at a fixpoint, which does not depend on a rule that is applied first. A rule changes no run

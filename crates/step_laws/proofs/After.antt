@@ -5,8 +5,8 @@ use Rattle.wf_value.specs.Gives.{Gives}
 use Rattle.wf_value.specs.declared.refusal.Refusal.{Refusal}
 use Rattle.run_plan.specs.declared.command.Command.{Command}
 use Rattle.run_plan.specs.declared.reply.Reply.{Reply}
-use Rattle.run_states.specs.Step.{after, step, stepped}
-use Rattle.run_states.specs.TableState.{TableState}
+use Rattle.table_model.specs.Step.{after, step, stepped}
+use Rattle.table_model.specs.TableState.{TableState}
 
 after_next : (t : TableState) (cs : List Command) (i : ℕ) (d : Command) → i < length cs
     → after t (take (suc i) cs) ≡ (stepped (after t (take i cs)) (get_or cs i d)).table

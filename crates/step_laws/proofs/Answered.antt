@@ -24,14 +24,14 @@ use Rattle.run_plan.specs.declared.reply.Reply.TheVariants as reply
 use Rattle.definitions.specs.SmallText.{Admitted}
 use Rattle.definitions.specs.Limits.{max_runs}
 use Rattle.wf_value.specs.declared.code.Code.TheVariants as code
-use Rattle.run_states.specs.Runs.{is_delivered_as, run_at, RunState}
-use Rattle.run_states.specs.declared.phases.RunPhase.{RunPhase}
-use Rattle.run_states.specs.declared.phases.RunPhase.TheVariants as phase
-use Rattle.run_states.specs.declared.sites.LegSite.{LegSite}
-use Rattle.run_states.specs.Fitting.{first_fit, is_lease_stopping}
-use Rattle.run_states.specs.TableState.{answer_by_number, holds_lease, holds_this, number_refusal, runner_named}
-use Rattle.run_states.specs.Step.{admitting, admission_answer, answer_of_attempt, answer_of_next, answer_of_run, beat_answer, cancel_answer, cancelling, claim_answer, claiming, fetch_answer, is_allocation_free, lease_answer, leasing, look_answer, losing, read_only_reply, refused, released, report_answer, reporting, rerun_answer, rerunning, serving_nothing, stepped, unchanged}
-use Rattle.run_states.specs.TableState.{RunnerState, Step, TableState}
+use Rattle.table_model.specs.Runs.{is_delivered_as, run_at, RunState}
+use Rattle.table_model.specs.declared.phases.RunPhase.{RunPhase}
+use Rattle.table_model.specs.declared.phases.RunPhase.TheVariants as phase
+use Rattle.table_model.specs.declared.sites.LegSite.{LegSite}
+use Rattle.table_model.specs.Fitting.{first_fit, is_lease_stopping}
+use Rattle.table_model.specs.TableState.{answer_by_number, holds_lease, holds_this, number_refusal, runner_named}
+use Rattle.table_model.specs.Step.{admitting, admission_answer, answer_of_attempt, answer_of_next, answer_of_run, beat_answer, cancel_answer, cancelling, claim_answer, claiming, fetch_answer, is_allocation_free, lease_answer, leasing, look_answer, losing, read_only_reply, refused, released, report_answer, reporting, rerun_answer, rerunning, serving_nothing, stepped, unchanged}
+use Rattle.table_model.specs.TableState.{RunnerState, Step, TableState}
 use Rattle.step_laws.specs.Texts.{CarriesText, IsAnsweredAnyway}
 
 -- ---- an answer from the table, or a change of it

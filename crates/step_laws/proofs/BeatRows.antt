@@ -5,8 +5,8 @@ use Rattle.run_plan.specs.declared.command.Beat.{Beat}
 use Rattle.run_plan.specs.declared.command.Claim.{Claim}
 use Rattle.run_plan.specs.declared.command.Command.TheVariants as command
 use Rattle.run_plan.specs.declared.last_command.ClaimReply.TheVariants as given
-use Rattle.run_states.specs.Step.{claiming_runner, empty, refused, stepped}
-use Rattle.run_states.specs.TableState.{TableState}
+use Rattle.table_model.specs.Step.{claiming_runner, empty, refused, stepped}
+use Rattle.table_model.specs.TableState.{TableState}
 
 abbrev beat_of_one : Beat
 beat_of_one = record { runner = codes "r1"; lease = 1 }

@@ -5,8 +5,8 @@ use Rattle.run_plan.specs.declared.command.Command.{Command}
 use Rattle.run_plan.specs.declared.reply.Lease.{Lease}
 use Rattle.run_plan.specs.declared.reply.Reply.{Reply}
 use Rattle.run_plan.specs.declared.reply.Reply.TheVariants as reply
-use Rattle.run_states.specs.Step.{is_allocation_free, read_only_reply}
-use Rattle.run_states.specs.TableState.{TableState}
+use Rattle.table_model.specs.Step.{is_allocation_free, read_only_reply}
+use Rattle.table_model.specs.TableState.{TableState}
 
 abbrev pub CarriesText : Reply → Type 0
 CarriesText r = ((l : Lease) × (r ≡ reply.Lease l)) ⊎ ((view : List ℕ) × (r ≡ reply.Run view)) ⊎ ((body : List ℕ) × (r ≡ reply.Body body))

@@ -3,9 +3,9 @@ ghost use Rattle.wf_value.specs.Gives.{no_memory};
 ghost use Rattle.group_name.specs.Group.{Group};
 ghost use Rattle.table_laws.specs.GroupHistories.{all_moves, requests_cancellation};
 ghost use Rattle.table_laws.specs.GroupHolders.{SayWhoHolds};
-ghost use Rattle.run_states.specs.GroupLaw.{KeepsLaw};
+ghost use Rattle.table_model.specs.GroupLaw.{KeepsLaw};
 ghost use Rattle.table_laws.specs.Names.{Names};
-ghost use Rattle.run_states.specs.Step.{after};
+ghost use Rattle.table_model.specs.Step.{after};
 
 use run_plan::Command;
 use run_table::Table;

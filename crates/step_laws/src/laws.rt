@@ -11,10 +11,10 @@ ghost use Rattle.run_plan.specs.declared.command.Command.{Command};
 ghost use Rattle.run_plan.specs.declared.command.Command.TheVariants as command;
 ghost use Rattle.run_plan.specs.declared.command.Done.{Done};
 ghost use Rattle.run_plan.specs.declared.reply.Reply.TheVariants as reply;
-ghost use Rattle.run_states.specs.Runs.{is_delivered_as, run_at, RunState};
-ghost use Rattle.run_states.specs.declared.phases.RunPhase.TheVariants as phase;
-ghost use Rattle.run_states.specs.TableState.{runner_named, RunnerState, TableState};
-ghost use Rattle.run_states.specs.Step.{refused, stepped};
+ghost use Rattle.table_model.specs.Runs.{is_delivered_as, run_at, RunState};
+ghost use Rattle.table_model.specs.declared.phases.RunPhase.TheVariants as phase;
+ghost use Rattle.table_model.specs.TableState.{runner_named, RunnerState, TableState};
+ghost use Rattle.table_model.specs.Step.{refused, stepped};
 ghost use Rattle.step_laws.specs.Texts.{CarriesText, IsAnsweredAnyway};
 
 /// Every refusal is given memory or not, whatever the command is: those with a number alone (40 to 42, 44, 45, 48, 49), and 43 with the

@@ -7,7 +7,7 @@ use Rattle.std.specs.Int.{to_be_bytes, w64}
 use Rattle.gated_journal.specs.Choice.{newer, open_generation}
 use Rattle.definitions.specs.Area.{IsClosed, Reads, head_bytes}
 use Rattle.gated_journal.specs.declared.side.Side.TheVariants.{First}
-use Rattle.run_states.specs.TableState.{TableState}
+use Rattle.table_model.specs.TableState.{TableState}
 use Rattle.act_store.specs.Images.{IsAreaLength, RecoversTo, MeansTable}
 use Rattle.act_store.specs.Layouts.{EncodesTable}
 use Rattle.act_store.specs.declared.layout.Layout.TheVariants as layouts

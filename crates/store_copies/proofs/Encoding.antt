@@ -1,7 +1,7 @@
 -- A sound table is encoded by its text.
 use Rattle.std.proofs.Common.{refl}
-use Rattle.run_states.specs.Sound.{IsSound}
-use Rattle.run_states.specs.TableState.{TableState}
+use Rattle.table_model.specs.Sound.{IsSound}
+use Rattle.table_model.specs.TableState.{TableState}
 use Rattle.stored_tables.specs.Stored.{stored_table}
 use Rattle.table_text.specs.Tables.{table, whole_table}
 use Rattle.act_store.specs.Layouts.{EncodesTable}

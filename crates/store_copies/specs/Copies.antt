@@ -2,7 +2,7 @@
 use Rattle.std.specs.Prelude.{ℕ, ◌-◌, List, ◌∷◌, ◌++◌, length, nat_le, replicate, Bool, ◌&&◌}
 use Rattle.definitions.specs.Limits.{max_area, min_area}
 use Rattle.definitions.specs.Area.{Head, head_bytes}
-use Rattle.run_states.specs.TableState.{TableState}
+use Rattle.table_model.specs.TableState.{TableState}
 use Rattle.table_text.specs.Tables.{whole_table}
 use Rattle.act_store.specs.Layouts.{current_version}
 use Rattle.view_sessions.specs.declared.file_bytes.FileBytes.{FileBytes}

@@ -1,5 +1,5 @@
 ghost use Rattle.std.specs.Prelude.{◌≡◌, ◌+◌, ◌<◌, ◌≤◌, IfOk, IfSome, OnOk, is_some, length, true};
-ghost use Rattle.run_states.specs.Sound.{IsSound};
+ghost use Rattle.table_model.specs.Sound.{IsSound};
 ghost use Rattle.table_text.specs.Tables.{whole_table};
 ghost use Rattle.wf_value.specs.Gives.{ErrsOnlyByMemory};
 ghost use Rattle.act_store.specs.Images.{IsAreaLength, RecoversTo};

@@ -7,11 +7,11 @@ use Rattle.std.proofs.lemmas.Bool.{true≢false}
 use Rattle.std.proofs.lemmas.Bool.Decides.{Decides-eqb, Decides-like}
 use Rattle.std.proofs.lemmas.Slice.Eq.{bytes_eq-Decides}
 use Rattle.std.proofs.lemmas.Option.{none-some, same_Some}
-use Rattle.run_states.specs.Sound.{DeliveriesDiffer}
-use Rattle.run_states.specs.Runs.{is_delivered_as, RunState}
-use Rattle.run_states.proofs.Found.{each_at, found_nowhere, none_found}
-use Rattle.run_states.proofs.OneAfterAnother.{OfEach, no}
-use Rattle.workflow_runs.proofs.Indexed.{first_one}
+use Rattle.table_model.specs.Sound.{DeliveriesDiffer}
+use Rattle.table_model.specs.Runs.{is_delivered_as, RunState}
+use Rattle.table_model.proofs.Found.{each_at, found_nowhere, none_found}
+use Rattle.table_model.proofs.OneAfterAnother.{OfEach, no}
+use Rattle.table_runs.proofs.Indexed.{first_one}
 
 -- ---- one look-up
 

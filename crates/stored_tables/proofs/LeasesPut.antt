@@ -5,13 +5,13 @@ use Rattle.std.proofs.Common.{ap, sym, subst, ◌∙◌, inl, inr}
 use Rattle.std.proofs.lemmas.Option.{slice_get_within}
 use Rattle.stored_tables.specs.inner.ByLease.{lease_in_job, lease_of_leg, lease_of_runner}
 use Rattle.stored_tables.specs.inner.ByNumber.{Adds}
-use Rattle.run_states.specs.inner.PlacedLegs.{PlacedLeg, placed_legs}
-use Rattle.run_states.specs.Runs.{job_at, leg_at, run_at, LegState, JobState, RunState}
-use Rattle.run_states.specs.declared.sites.LegSite.{LegSite}
-use Rattle.run_states.specs.TableState.{RunnerState}
+use Rattle.table_model.specs.inner.PlacedLegs.{PlacedLeg, placed_legs}
+use Rattle.table_model.specs.Runs.{job_at, leg_at, run_at, LegState, JobState, RunState}
+use Rattle.table_model.specs.declared.sites.LegSite.{LegSite}
+use Rattle.table_model.specs.TableState.{RunnerState}
 use Rattle.stored_tables.proofs.ByNumberRead.{adds_next, adds_on, adds_same, all_added, nothing_added}
-use Rattle.run_states.proofs.Found.{all_weaken}
-use Rattle.run_states.proofs.Optional.{from_and_then}
+use Rattle.table_model.proofs.Found.{all_weaken}
+use Rattle.table_model.proofs.Optional.{from_and_then}
 use Rattle.settling_laws.proofs.PlacedLegs.{each_is_there, each_placed}
 
 -- one of these legs is at the place and has the lease

@@ -15,24 +15,24 @@ use Rattle.run_plan.specs.declared.last_command.LastCommand.TheVariants as last
 use Rattle.run_plan.specs.declared.planned.PlannedJob.{PlannedJob}
 use Rattle.stored_tables.specs.inner.ByLease.{lease_of_leg}
 use Rattle.stored_tables.specs.inner.ByNumber.{Finds}
-use Rattle.run_states.specs.AsPlanned.{AreAsPlanned, HasRoom}
-use Rattle.run_states.specs.Fitting.{has_lease}
-use Rattle.run_states.specs.Runs.{leg_at, plan_at, run_at, LegState, RunState}
-use Rattle.run_states.specs.declared.sites.LegSite.{LegSite}
-use Rattle.run_states.specs.Sound.{IsOfALeg, KeptIsOfALeg, KeptLeasesAreOfLegs}
-use Rattle.run_states.specs.Step.{kept_lease, lease_at}
+use Rattle.table_model.specs.AsPlanned.{AreAsPlanned, HasRoom}
+use Rattle.table_model.specs.Fitting.{has_lease}
+use Rattle.table_model.specs.Runs.{leg_at, plan_at, run_at, LegState, RunState}
+use Rattle.table_model.specs.declared.sites.LegSite.{LegSite}
+use Rattle.table_model.specs.Sound.{IsOfALeg, KeptIsOfALeg, KeptLeasesAreOfLegs}
+use Rattle.table_model.specs.Step.{kept_lease, lease_at}
 use Rattle.stored_tables.specs.Stored.{RunnerParts, site_in_runs, stored_site}
 use Rattle.stored_tables.specs.TableOf.{AreRunnersAs, IsLastAs, IsLeaseAs, IsReplyAs, IsRunnerAs}
-use Rattle.run_states.specs.TableState.{RunnerState}
-use Rattle.run_states.specs.LegContext.{planned_legs}
+use Rattle.table_model.specs.TableState.{RunnerState}
+use Rattle.table_model.specs.LegContext.{planned_legs}
 use Rattle.stored_tables.specs.declared.parts.LastParts.{LastParts}
 use Rattle.stored_tables.specs.declared.parts.LastParts.TheVariants as stored
 use Rattle.stored_tables.specs.declared.parts.StoredLease.{StoredLease}
 use Rattle.stored_tables.specs.declared.parts.StoredSite.{StoredSite}
 use Rattle.stored_tables.proofs.StoredOnce.{leg_told, present_has_it, run_told, same_place}
-use Rattle.run_states.proofs.JobKeeps.{leg_in}
-use Rattle.run_states.proofs.LegReads.{had_from_leg, leg_from_had}
-use Rattle.run_states.proofs.Optional.{from_map}
+use Rattle.table_model.proofs.JobKeeps.{leg_in}
+use Rattle.table_model.proofs.LegReads.{had_from_leg, leg_from_had}
+use Rattle.table_model.proofs.Optional.{from_map}
 
 -- ---- a leg that exists is planned
 

@@ -3,14 +3,14 @@ use Rattle.std.specs.Prelude.{◌≡◌, ℕ, List, Bool, true, false, Some, sli
 use Rattle.std.specs.Bool.{Decides}
 use Rattle.std.specs.List.{list_all}
 use Rattle.std.proofs.Common.{ap, sym, subst, ◌∙◌}
-use Rattle.run_states.specs.Runs.{JobState, is_blocked, is_finished}
-use Rattle.run_states.specs.Sound.{PhaseFits}
-use Rattle.run_states.specs.declared.phases.JobPhase.TheVariants as job
-use Rattle.run_states.specs.declared.phases.RunPhase.{RunPhase}
-use Rattle.run_states.specs.declared.phases.RunPhase.TheVariants as run
-use Rattle.run_states.proofs.JobPhases.{is_blocked_blocked}
-use Rattle.run_states.proofs.OneAfterAnother.{all_pass}
-use Rattle.run_states.proofs.Optional.{each_passes}
+use Rattle.table_model.specs.Runs.{JobState, is_blocked, is_finished}
+use Rattle.table_model.specs.Sound.{PhaseFits}
+use Rattle.table_model.specs.declared.phases.JobPhase.TheVariants as job
+use Rattle.table_model.specs.declared.phases.RunPhase.{RunPhase}
+use Rattle.table_model.specs.declared.phases.RunPhase.TheVariants as run
+use Rattle.table_model.proofs.JobPhases.{is_blocked_blocked}
+use Rattle.table_model.proofs.OneAfterAnother.{all_pass}
+use Rattle.table_model.proofs.Optional.{each_passes}
 
 are_blocked : (jobs : List JobState) → Decides (list_all (λ (y : JobState). is_blocked y.phase) jobs)
     ((j : ℕ) (x : JobState) → slice_get jobs j ≡ Some x → x.phase ≡ job.Blocked)

@@ -5,21 +5,21 @@ use Rattle.std.proofs.Common.{ap, sym, ◌∙◌}
 use Rattle.std.proofs.lemmas.Option.{same_Some}
 use Rattle.stored_tables.specs.inner.ByLease.{lease_of_leg, lease_of_runner}
 use Rattle.stored_tables.specs.inner.ByNumber.{Finds}
-use Rattle.run_states.specs.Groups.{HasOneEach}
+use Rattle.table_model.specs.Groups.{HasOneEach}
 use Rattle.stored_tables.specs.inner.OneByOne.{EachLegIsSound, EachRunIsSound, EachRunnerIsSound, HoldsWork, IsFound, is_worked_on, leg_of, runner_of}
-use Rattle.run_states.specs.Fitting.{is_at_work}
-use Rattle.run_states.specs.Runs.{leg_at, LegState, RunState}
-use Rattle.run_states.specs.declared.sites.LegSite.{LegSite}
-use Rattle.run_states.specs.Settling.{first_site}
-use Rattle.run_states.specs.Sound.{DeliveriesDiffer, IsAtWork, IsHeld, IsSound, KeptLeasesAreOfLegs}
-use Rattle.run_states.specs.AsPlanned.{AreAsPlanned}
-use Rattle.run_states.specs.TableState.{RunnerState, TableState, names_rise}
+use Rattle.table_model.specs.Fitting.{is_at_work}
+use Rattle.table_model.specs.Runs.{leg_at, LegState, RunState}
+use Rattle.table_model.specs.declared.sites.LegSite.{LegSite}
+use Rattle.table_model.specs.Settling.{first_site}
+use Rattle.table_model.specs.Sound.{DeliveriesDiffer, IsAtWork, IsHeld, IsSound, KeptLeasesAreOfLegs}
+use Rattle.table_model.specs.AsPlanned.{AreAsPlanned}
+use Rattle.table_model.specs.TableState.{RunnerState, TableState, names_rise}
 use Rattle.stored_tables.specs.declared.sound.leases.Leases.{Leases}
-use Rattle.run_states.proofs.JobKeeps.{job_in}
-use Rattle.run_states.proofs.LegReads.{had_from_leg, leg_from_had}
+use Rattle.table_model.proofs.JobKeeps.{job_in}
+use Rattle.table_model.proofs.LegReads.{had_from_leg, leg_from_had}
 use Rattle.stored_tables.proofs.ByNumberRead.{found_has, found_is, found_some, there}
-use Rattle.run_states.proofs.Optional.{from_and_then}
-use Rattle.run_states.proofs.RunFits.{job_in_run}
+use Rattle.table_model.proofs.Optional.{from_and_then}
+use Rattle.table_model.proofs.RunFits.{job_in_run}
 
 abbrev pub table_with : Leases → List RunState → List RunnerState → TableState
 table_with leases runs runners = record { last_lease = leases.last; runs = runs; runners = runners }

@@ -15,22 +15,22 @@ use Rattle.run_plan.specs.declared.last_command.LastCommand.{LastCommand}
 use Rattle.run_plan.specs.declared.last_command.LastCommand.TheVariants as last
 use Rattle.run_plan.specs.declared.planned.PlannedJob.{PlannedJob}
 use Rattle.run_plan.specs.declared.reply.Lease.{Lease}
-use Rattle.run_states.specs.Runs.{leg_at, plan_at, run_at, LegState, RunState}
-use Rattle.run_states.specs.declared.sites.LegSite.{LegSite}
-use Rattle.run_states.specs.Sound.{IsOfALeg, IsSound, LeasesDiffer, LegsFit}
-use Rattle.run_states.specs.Step.{lease_at}
+use Rattle.table_model.specs.Runs.{leg_at, plan_at, run_at, LegState, RunState}
+use Rattle.table_model.specs.declared.sites.LegSite.{LegSite}
+use Rattle.table_model.specs.Sound.{IsOfALeg, IsSound, LeasesDiffer, LegsFit}
+use Rattle.table_model.specs.Step.{lease_at}
 use Rattle.stored_tables.specs.Stored.{RunnerParts, TableParts, stored_site}
 use Rattle.stored_tables.specs.TableOf.{AreRunnersAs, IsLastAs, IsLeaseAs, IsNoTable, IsPlacedAs, IsReplyAs, IsRunnerAs, IsStoredAs}
-use Rattle.run_states.specs.AsPlanned.{AreAsPlanned, HasRoom}
-use Rattle.run_states.specs.TableState.{RunnerState, TableState, names_rise}
-use Rattle.run_states.specs.Groups.{HasOneEach}
+use Rattle.table_model.specs.AsPlanned.{AreAsPlanned, HasRoom}
+use Rattle.table_model.specs.TableState.{RunnerState, TableState, names_rise}
+use Rattle.table_model.specs.Groups.{HasOneEach}
 use Rattle.stored_tables.specs.declared.parts.LastParts.{LastParts}
 use Rattle.stored_tables.specs.declared.parts.LastParts.TheVariants as stored
 use Rattle.stored_tables.specs.declared.parts.StoredLease.{StoredLease}
 use Rattle.stored_tables.specs.declared.parts.StoredSite.{StoredSite}
-use Rattle.run_states.specs.declared.phases.JobPhase.{JobPhase}
-use Rattle.run_states.specs.declared.phases.JobPhase.TheVariants as job
-use Rattle.run_states.proofs.RunFits.{job_in_run}
+use Rattle.table_model.specs.declared.phases.JobPhase.{JobPhase}
+use Rattle.table_model.specs.declared.phases.JobPhase.TheVariants as job
+use Rattle.table_model.proofs.RunFits.{job_in_run}
 
 -- ---- a kept lease follows from the runs
 

@@ -8,11 +8,11 @@ use Rattle.run_plan.specs.declared.last_command.ClaimReply.TheVariants as given
 use Rattle.run_plan.specs.declared.last_command.KeptLease.{KeptLease}
 use Rattle.run_plan.specs.declared.last_command.LastCommand.{LastCommand}
 use Rattle.run_plan.specs.declared.last_command.LastCommand.TheVariants as last
-use Rattle.run_states.specs.Runs.{RunState}
-use Rattle.run_states.specs.Sound.{IsSound, KeptIsOfALeg}
+use Rattle.table_model.specs.Runs.{RunState}
+use Rattle.table_model.specs.Sound.{IsSound, KeptIsOfALeg}
 use Rattle.stored_tables.specs.Stored.{RunnerParts, TableParts, stored_last, stored_lease, stored_site, stored_runner, stored_table}
 use Rattle.stored_tables.specs.TableOf.{AreRunnersAs, IsLastAs, IsPlacedAs, IsRunnerAs, IsStoredAs}
-use Rattle.run_states.specs.TableState.{RunnerState, TableState}
+use Rattle.table_model.specs.TableState.{RunnerState, TableState}
 use Rattle.stored_tables.specs.declared.parts.LastParts.{LastParts}
 use Rattle.stored_tables.specs.declared.parts.LastParts.TheVariants as stored
 use Rattle.stored_tables.specs.declared.parts.StoredSite.{StoredSite}

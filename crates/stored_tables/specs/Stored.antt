@@ -5,10 +5,10 @@ use Rattle.run_plan.specs.declared.last_command.ClaimReply.TheVariants as given
 use Rattle.run_plan.specs.declared.last_command.KeptLease.{KeptLease}
 use Rattle.run_plan.specs.declared.last_command.LastCommand.{LastCommand}
 use Rattle.run_plan.specs.declared.last_command.LastCommand.TheVariants as last
-use Rattle.run_states.specs.Runs.{leg_site, RunState}
-use Rattle.run_states.specs.declared.sites.LegSite.{LegSite}
-pub use Rattle.run_states.specs.Runs.{is_new}
-use Rattle.run_states.specs.TableState.{RunnerState, TableState}
+use Rattle.table_model.specs.Runs.{leg_site, RunState}
+use Rattle.table_model.specs.declared.sites.LegSite.{LegSite}
+pub use Rattle.table_model.specs.Runs.{is_new}
+use Rattle.table_model.specs.TableState.{RunnerState, TableState}
 use Rattle.stored_tables.specs.declared.parts.LastParts.{LastParts}
 use Rattle.stored_tables.specs.declared.parts.LastParts.TheVariants as stored
 use Rattle.stored_tables.specs.declared.parts.StoredLease.{StoredLease}

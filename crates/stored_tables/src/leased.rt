@@ -8,23 +8,23 @@ ghost use Rattle.definitions.specs.Limits.{max_runs};
 ghost use Rattle.wf_value.specs.Gives.{ErrsOnlyByMemory};
 ghost use Rattle.run_plan.specs.declared.last_command.KeptLease.{KeptLease as Kept};
 ghost use Rattle.stored_tables.specs.inner.ByLease.{FindsLegs};
-ghost use Rattle.run_states.specs.Sound.{IsOfALeg};
-ghost use Rattle.run_states.specs.Step.{kept_lease};
+ghost use Rattle.table_model.specs.Sound.{IsOfALeg};
+ghost use Rattle.table_model.specs.Step.{kept_lease};
 ghost use Rattle.stored_tables.specs.Stored.{site_in_runs};
 ghost use Rattle.stored_tables.specs.TableOf.{IsLeaseAs};
-ghost use Rattle.run_states.specs.AsPlanned.{AreAsPlanned};
-ghost use Rattle.run_states.specs.Runs.{run_at};
-ghost use Rattle.run_states.specs.LegContext.{planned_legs};
+ghost use Rattle.table_model.specs.AsPlanned.{AreAsPlanned};
+ghost use Rattle.table_model.specs.Runs.{run_at};
+ghost use Rattle.table_model.specs.LegContext.{planned_legs};
 
 use crate::parts::{StoredLease, StoredSite};
 use crate::sound::jobs::planned_legs;
 use run_plan::{KeptLease, Number};
-use run_states::LegSite;
 use run_table::{kept_lease, leg_has_lease};
 use std::alloc::Global;
 use std::collections::BTreeMap;
+use table_model::LegSite;
+use table_runs::runs::Runs;
 use wf_value::Refusal;
-use workflow_runs::runs::Runs;
 
 /// What a stored lease is checked against: the last lease, the runs, and the sites of their legs by lease.
 #[derive(Drop)]

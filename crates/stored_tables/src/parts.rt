@@ -7,8 +7,8 @@ ghost use Rattle.std.specs.Prelude.{◌≡◌};
 ghost use Rattle.definitions.specs.Rising.{rises_by};
 
 use run_plan::{Claim, Done, Number, RunnerName};
-use run_states::RunParts;
 use std::marker::Model;
+use table_model::RunParts;
 use wf_value::Sequence;
 
 /// The site of a leg in an attempt of its run.

@@ -6,20 +6,20 @@ ghost use Rattle.std.specs.Prelude.{◌≡◌, IfOk, List, MatchOption, true};
 ghost use Rattle.wf_value.specs.Gives.{ErrsOnlyByMemory};
 ghost use Rattle.stored_tables.specs.inner.ByLease.{FindsLegs};
 ghost use Rattle.stored_tables.specs.TableOf.{AreRunnersAs, IsLastAs, IsReplyAs, IsRunnerAs};
-ghost use Rattle.run_states.specs.TableState.{RunnerState, names_rise};
+ghost use Rattle.table_model.specs.TableState.{RunnerState, names_rise};
 ghost use Rattle.run_plan.specs.declared.last_command.ClaimReply.{ClaimReply as Reply};
 ghost use Rattle.run_plan.specs.declared.last_command.LastCommand.{LastCommand as Last};
-ghost use Rattle.run_states.specs.AsPlanned.{AreAsPlanned};
+ghost use Rattle.table_model.specs.AsPlanned.{AreAsPlanned};
 
 use crate::leased::Leased;
 use crate::parts::{LastParts, RunnerParts, StoredLease, do_names_rise};
 use run_plan::{ClaimReply, LastCommand};
-use run_states::LegSite;
 use run_table::Runner;
 use std::alloc::Global;
 use std::collections::BTreeMap;
+use table_model::LegSite;
+use table_runs::runs::Runs;
 use wf_value::{Refusal, TryCopy};
-use workflow_runs::runs::Runs;
 
 /// The runners of these parts, or `None` if their names do not strictly increase or a kept lease is that of no leg.
 pub(crate) fn runners_of(

@@ -6,10 +6,10 @@ ghost use Rattle.std.specs.Ordering.{nat_cmp};
 ghost use Rattle.std.specs.Prelude.{◌≡◌, ℕ, true};
 ghost use Rattle.stored_tables.specs.inner.ByLease.{lease_of_leg, lease_of_runner};
 ghost use Rattle.stored_tables.specs.inner.ByNumber.{Finds};
-ghost use Rattle.run_states.specs.Sound.{IsSound, KeptLeasesAreOfLegs};
-ghost use Rattle.run_states.specs.AsPlanned.{AreAsPlanned};
-ghost use Rattle.run_states.specs.Groups.{HasOneEach};
-ghost use Rattle.run_states.specs.TableState.{names_rise};
+ghost use Rattle.table_model.specs.Sound.{IsSound, KeptLeasesAreOfLegs};
+ghost use Rattle.table_model.specs.AsPlanned.{AreAsPlanned};
+ghost use Rattle.table_model.specs.Groups.{HasOneEach};
+ghost use Rattle.table_model.specs.TableState.{names_rise};
 
 mod deliveries;
 pub(crate) mod jobs;
@@ -25,7 +25,7 @@ use crate::sound::runners::are_runners_sound;
 use crate::sound::runs::are_runs_sound;
 use run_plan::LAST_NUMBER;
 use run_table::Runner;
-use workflow_runs::runs::Runs;
+use table_runs::runs::Runs;
 
 /// Whether the table of these runs and runners is sound. The runs must be as planned, the runners' names must strictly
 /// increase, and each kept lease must be that of a leg. No

@@ -10,8 +10,8 @@ use crate::sound::is_sound;
 use crate::sound::leases::{Leases, legs_by_lease, runners_by_lease};
 use run_table::Table;
 use std::alloc::Global;
+use table_runs::runs::Runs;
 use wf_value::Refusal;
-use workflow_runs::runs::Runs;
 
 impl TableParts {
     /// The table that is stored as these parts, or `None` if they are the parts of no table. It takes as much memory as

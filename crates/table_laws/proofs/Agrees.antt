@@ -1,8 +1,8 @@
 -- Two lists of moves that agree about some holders, under other names.
 use Rattle.std.specs.Prelude.{◌≡◌, List, [], ◌∷◌, ◌++◌, true, Some}
-use Rattle.run_states.specs.GroupLaw.{has_arrived, has_ended, has_started, is_pending, is_in_progress, latest, next_displaced, was_stopped}
-use Rattle.run_states.specs.GroupLaw.{Move}
-use Rattle.run_states.specs.declared.holder.Holder.{Holder}
+use Rattle.table_model.specs.GroupLaw.{has_arrived, has_ended, has_started, is_pending, is_in_progress, latest, next_displaced, was_stopped}
+use Rattle.table_model.specs.GroupLaw.{Move}
+use Rattle.table_model.specs.declared.holder.Holder.{Holder}
 
 -- no two holders have the same name
 abbrev pub IsInjective : (Holder → Holder) → Type 0

@@ -7,8 +7,8 @@ use Rattle.std.proofs.Common.{ap, ◌∙◌}
 use Rattle.std.proofs.lemmas.Bool.{and_from, and_parts, eqb-true}
 use Rattle.wf_value.specs.declared.outcome.JobResult.{JobResult}
 use Rattle.needs_graph.specs.Needs.{ancestors_of, is_ancestor, needs_at, walk_ends, results_at}
-use Rattle.run_states.specs.LegContext.{all_have_results}
-use Rattle.run_states.proofs.LegFacts.{result_kept}
+use Rattle.table_model.specs.LegContext.{all_have_results}
+use Rattle.table_model.proofs.LegFacts.{result_kept}
 
 abbrev pub has_result : List (Option JobResult) → ℕ → Bool
 has_result results j = is_some (slice_index_or results j None)

@@ -9,14 +9,14 @@ use Rattle.std.proofs.lemmas.List.{append-nil}
 use Rattle.std.proofs.lemmas.List.Elements.{filter_map-append}
 use Rattle.wf_value.specs.declared.outcome.Outcome.TheVariants.{Cancelled}
 use Rattle.group_name.specs.Group.{Group, same_group}
-use Rattle.run_states.specs.Settling.{arrived, displaced, others_pending, room_made, stopped_where_requested}
-use Rattle.run_states.specs.Groups.{cancels_in_progress, group_at}
-use Rattle.run_states.specs.GroupLaw.{arrival_of, has_arrived, has_started, is_pending, is_in_progress, latest, next_displaced}
-use Rattle.run_states.specs.GroupLaw.{same_holder, was_stopped, Move, Transition, at_each, without_moves, BeginsWith, cancelled_end}
-use Rattle.run_states.specs.Groups.{HasOneBeside, holds, is_in, is_pending_in, is_in_progress_in, in_progress_in, waits}
-use Rattle.run_states.specs.Runs.{RunState}
-use Rattle.run_states.specs.Stops.{stop_holder}
-use Rattle.run_states.proofs.RunFits.{RunsFit}
+use Rattle.table_model.specs.Settling.{arrived, displaced, others_pending, room_made, stopped_where_requested}
+use Rattle.table_model.specs.Groups.{cancels_in_progress, group_at}
+use Rattle.table_model.specs.GroupLaw.{arrival_of, has_arrived, has_started, is_pending, is_in_progress, latest, next_displaced}
+use Rattle.table_model.specs.GroupLaw.{same_holder, was_stopped, Move, Transition, at_each, without_moves, BeginsWith, cancelled_end}
+use Rattle.table_model.specs.Groups.{HasOneBeside, holds, is_in, is_pending_in, is_in_progress_in, in_progress_in, waits}
+use Rattle.table_model.specs.Runs.{RunState}
+use Rattle.table_model.specs.Stops.{stop_holder}
+use Rattle.table_model.proofs.RunFits.{RunsFit}
 use Rattle.settling_laws.proofs.ArrivalKeeps.{requested_fades, displaced_one_each, itself, nobody_else, one_or_another}
 use Rattle.settling_laws.proofs.OneEach.{Comes, IsOneOf, group_is, one_that_holds, one_that_waits}
 use Rattle.table_laws.proofs.ArrivalTold.{stop_begins, tells_then}
@@ -35,7 +35,7 @@ use Rattle.table_laws.proofs.OwnMoves.{arrived_by_own, of_group, of_group_on, ow
 use Rattle.table_laws.proofs.RoomMade.{Displaces, requested_all_still, requested_stops, requested_tells, begins_in_group, displaced_all_still, displaced_fades, displaced_so, end_is_silent, end_of_another, end_of_group, who_is_displaced}
 use Rattle.table_laws.proofs.StopsTold.{Tells}
 use Rattle.table_laws.proofs.Unbegun.{AllStill, Unbegun, still_of_all, waiting_unbegun}
-use Rattle.run_states.specs.declared.holder.Holder.{Holder}
+use Rattle.table_model.specs.declared.holder.Holder.{Holder}
 
 -- ---- the newcomer has arrived and waits; then room is made for it
 

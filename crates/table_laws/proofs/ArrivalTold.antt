@@ -4,25 +4,25 @@ use Rattle.std.specs.Prelude.{option_map, if◌then◌else◌, slice_get, refl}
 use Rattle.std.specs.Option.{option_map_or}
 use Rattle.std.proofs.Common.{ap, inl, inr, sym, ◌∙◌, subst}
 use Rattle.wf_value.specs.declared.outcome.Outcome.TheVariants.{Cancelled}
-use Rattle.run_states.specs.Runs.{changed_at, leg_at, run_at, with_leg, LegState, RunState}
-use Rattle.run_states.specs.GroupLaw.{Move, Transition, and_then, at_each, without_moves, BeginsWith}
-use Rattle.run_states.specs.declared.sites.LegSite.{LegSite}
-use Rattle.run_states.specs.Stops.{displace, jobs_stop_moves, leg_stop_moves, run_stop_moves_in, stop_holder, stop_request_moves}
-use Rattle.run_states.specs.Stops.{stopped, stopped_in, stopped_run}
-use Rattle.run_states.specs.declared.phases.LegPhase.{LegPhase}
-use Rattle.run_states.specs.declared.phases.LegPhase.TheVariants as leg
-use Rattle.run_states.specs.declared.phases.RunPhase.{RunPhase}
-use Rattle.run_states.specs.declared.phases.RunPhase.TheVariants as run
-use Rattle.run_states.proofs.Changed.{at_changed}
-use Rattle.run_states.proofs.JobKeeps.{with_job_of, with_leg_of}
+use Rattle.table_model.specs.Runs.{changed_at, leg_at, run_at, with_leg, LegState, RunState}
+use Rattle.table_model.specs.GroupLaw.{Move, Transition, and_then, at_each, without_moves, BeginsWith}
+use Rattle.table_model.specs.declared.sites.LegSite.{LegSite}
+use Rattle.table_model.specs.Stops.{displace, jobs_stop_moves, leg_stop_moves, run_stop_moves_in, stop_holder, stop_request_moves}
+use Rattle.table_model.specs.Stops.{stopped, stopped_in, stopped_run}
+use Rattle.table_model.specs.declared.phases.LegPhase.{LegPhase}
+use Rattle.table_model.specs.declared.phases.LegPhase.TheVariants as leg
+use Rattle.table_model.specs.declared.phases.RunPhase.{RunPhase}
+use Rattle.table_model.specs.declared.phases.RunPhase.TheVariants as run
+use Rattle.table_model.proofs.Changed.{at_changed}
+use Rattle.table_model.proofs.JobKeeps.{with_job_of, with_leg_of}
 use Rattle.settling_laws.proofs.ArrivalKeeps.{itself, one_or_another}
 use Rattle.table_laws.proofs.ChangesTold.{only_one, stop_tells}
 use Rattle.table_laws.proofs.HolderStatus.{Goes, Status, ends_at_once, goes_not, goes_on, goes_over, leg_status, run_status, status}
 use Rattle.table_laws.proofs.HolderStatus.{status_by, status_by_run, status_in_job, status_in_run, status_of_leg, status_of_run}
 use Rattle.table_laws.proofs.OwnMoves.{own, own_on}
 use Rattle.table_laws.proofs.StopsTold.{Tells, goes_by}
-use Rattle.run_states.specs.declared.holder.Holder.{Holder}
-use Rattle.run_states.specs.declared.holder.Holder.TheVariants.{Run, Leg}
+use Rattle.table_model.specs.declared.holder.Holder.{Holder}
+use Rattle.table_model.specs.declared.holder.Holder.TheVariants.{Run, Leg}
 
 -- ---- one change after another
 

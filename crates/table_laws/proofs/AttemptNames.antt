@@ -2,19 +2,19 @@
 use Rattle.std.specs.Prelude.{◌≡◌, ℕ, ◌+◌, ◌≤◌, List, Some, option_map}
 use Rattle.std.specs.Option.{option_map_or}
 use Rattle.std.proofs.Common.{arith, ap, inl, inr, ◌∙◌}
-use Rattle.run_states.specs.Holders.{run_of}
-use Rattle.run_states.specs.Runs.{again, run_at, with_run, RunState}
-use Rattle.run_states.specs.Settling.{settled}
-use Rattle.run_states.proofs.Changed.{at_another, at_changed}
-use Rattle.run_states.proofs.RunFits.{RunsFit}
+use Rattle.table_model.specs.Holders.{run_of}
+use Rattle.table_model.specs.Runs.{again, run_at, with_run, RunState}
+use Rattle.table_model.specs.Settling.{settled}
+use Rattle.table_model.proofs.Changed.{at_another, at_changed}
+use Rattle.table_model.proofs.RunFits.{RunsFit}
 use Rattle.settling_laws.proofs.SettlingKeeps.{settling_settles}
-use Rattle.run_states.specs.Step.{entered_again}
-use Rattle.run_states.specs.TableState.{TableState}
+use Rattle.table_model.specs.Step.{entered_again}
+use Rattle.table_model.specs.TableState.{TableState}
 use Rattle.run_table.proofs.EnteredAgain.{entered_again_settles}
 use Rattle.table_laws.specs.Names.{attempt_of}
 use Rattle.table_laws.proofs.GroupsKept.{Grows, grows_on, stays_grows}
 use Rattle.table_laws.proofs.Parked.{here_or_elsewhere}
-use Rattle.run_states.specs.declared.holder.Holder.{Holder}
+use Rattle.table_model.specs.declared.holder.Holder.{Holder}
 
 module _ (t : TableState) (r : ℕ) (x : RunState) (there : run_at t.runs r ≡ Some x) (fit : RunsFit t.runs) where
   abbrev now : List RunState

@@ -7,12 +7,12 @@ use Rattle.std.proofs.Common.{ap, ap₂, sym, ◌∙◌}
 use Rattle.std.proofs.lemmas.Bool.{and_from, and_parts, false≢true, true≢false}
 use Rattle.std.proofs.lemmas.List.{append-nil}
 use Rattle.group_name.specs.Group.{Group}
-use Rattle.run_states.specs.Groups.{cancels_in_progress, is_stop_requested, waits}
-use Rattle.run_states.specs.GroupLaw.{has_arrived, has_started, holder_of, is_pending, is_in_progress, is_the, same_holder, Move}
-use Rattle.run_states.specs.Groups.{HasOneEach, all_holders, group_state, holds, is_in, is_pending_in, is_in_progress_in}
-use Rattle.run_states.specs.Runs.{RunState}
-use Rattle.run_states.proofs.Found.{find_passes, none_found}
-use Rattle.run_states.proofs.RunFits.{RunsFit}
+use Rattle.table_model.specs.Groups.{cancels_in_progress, is_stop_requested, waits}
+use Rattle.table_model.specs.GroupLaw.{has_arrived, has_started, holder_of, is_pending, is_in_progress, is_the, same_holder, Move}
+use Rattle.table_model.specs.Groups.{HasOneEach, all_holders, group_state, holds, is_in, is_pending_in, is_in_progress_in}
+use Rattle.table_model.specs.Runs.{RunState}
+use Rattle.table_model.proofs.Found.{find_passes, none_found}
+use Rattle.table_model.proofs.RunFits.{RunsFit}
 use Rattle.settling_laws.proofs.OneEach.{IsOneOf, each_holder, one_that_holds, one_that_waits}
 use Rattle.run_table.proofs.RunnerOrder.{filter_all, filter_none}
 use Rattle.settling_laws.proofs.ArrivalKeeps.{holder_tested}
@@ -29,7 +29,7 @@ use Rattle.table_laws.proofs.LawSoFar.{LawSoFar}
 use Rattle.table_laws.proofs.NamedMoves.{arrived_named}
 use Rattle.table_laws.proofs.OwnMoves.{arrived_by_own, own, own_on}
 use Rattle.table_laws.proofs.Unbegun.{waiting_unbegun}
-use Rattle.run_states.specs.declared.holder.Holder.{Holder}
+use Rattle.table_model.specs.declared.holder.Holder.{Holder}
 
 -- ---- the moves of each holder
 

@@ -5,20 +5,20 @@ use Rattle.std.specs.Prelude.{option_map, option_and_then, slice_get, if◌then�
 use Rattle.std.specs.Option.{option_map_or}
 use Rattle.std.proofs.Common.{ap, inl, inr, sym, ◌∙◌, subst}
 use Rattle.std.proofs.lemmas.Bool.{cases_eq}
-use Rattle.run_states.specs.GroupLaw.{holder_of, same_holder, Move}
-use Rattle.run_states.specs.Runs.{job_at, leg_at, leg_site, run_at, with_job, with_leg, with_run, LegState, JobState, RunState, new_leg}
-use Rattle.run_states.specs.declared.sites.LegSite.{LegSite}
-use Rattle.run_states.specs.Stops.{leg_stop_moves, legs_stop_moves, stop_holder, stopped, with_stopped_legs}
-use Rattle.run_states.proofs.Changed.{at_another, at_changed}
-use Rattle.run_states.proofs.JobKeeps.{with_job_of, with_leg_of}
+use Rattle.table_model.specs.GroupLaw.{holder_of, same_holder, Move}
+use Rattle.table_model.specs.Runs.{job_at, leg_at, leg_site, run_at, with_job, with_leg, with_run, LegState, JobState, RunState, new_leg}
+use Rattle.table_model.specs.declared.sites.LegSite.{LegSite}
+use Rattle.table_model.specs.Stops.{leg_stop_moves, legs_stop_moves, stop_holder, stopped, with_stopped_legs}
+use Rattle.table_model.proofs.Changed.{at_another, at_changed}
+use Rattle.table_model.proofs.JobKeeps.{with_job_of, with_leg_of}
 use Rattle.settling_laws.proofs.ArrivalKeeps.{one_or_another}
 use Rattle.table_laws.proofs.HolderStatus.{Goes, Status, goes_not, status, status_by, status_in_job, status_in_run, status_of_leg}
 use Rattle.table_laws.proofs.HolderStatus.{status_by_run, status_of_run, through}
 use Rattle.table_laws.proofs.OwnMoves.{own}
 use Rattle.table_laws.proofs.StopsTold.{Tells, goes_by, goes_same, legs_go, not_own_leg_stop, not_own_legs}
 use Rattle.table_laws.proofs.StopsTold.{own_phase_goes, run_stop_goes}
-use Rattle.run_states.specs.declared.holder.Holder.{Holder}
-use Rattle.run_states.specs.declared.holder.Holder.TheVariants.{Run, Leg}
+use Rattle.table_model.specs.declared.holder.Holder.{Holder}
+use Rattle.table_model.specs.declared.holder.Holder.TheVariants.{Run, Leg}
 
 -- ---- which holders move
 

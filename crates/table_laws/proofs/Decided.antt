@@ -11,16 +11,16 @@ use Rattle.wf_value.specs.declared.outcome.JobResult.{JobResult}
 use Rattle.wf_value.specs.declared.outcome.JobResult.TheVariants as result
 use Rattle.needs_graph.specs.Needs.{ancestors_of, condition_value, results_at}
 use Rattle.run_plan.specs.declared.planned.PlannedJob.{PlannedJob}
-use Rattle.run_states.specs.Runs.{changed_at, run_at, job_at, with_job, with_leg, LegState, JobState, RunState}
-use Rattle.run_states.specs.declared.sites.LegSite.{LegSite}
-use Rattle.run_states.specs.LegContext.{ancestor_results, condition_of, job_results, needs_graph_at, needs_have_finished, finished_result}
-use Rattle.run_states.specs.declared.phases.JobPhase.{JobPhase}
-use Rattle.run_states.specs.declared.phases.JobPhase.TheVariants as job
-use Rattle.run_states.proofs.Changed.{holds_of_each}
-use Rattle.run_states.proofs.JobKeeps.{JobIn, job_in, with_job_of}
-use Rattle.run_states.proofs.NeedsSettled.{KeepsResults, graph_same, needs_stay_settled, result_in, result_of_job}
-use Rattle.run_states.proofs.Optional.{from_and_then, some_of}
-use Rattle.run_states.proofs.RunFits.{admitted_at, job_in_run, plan_at_same}
+use Rattle.table_model.specs.Runs.{changed_at, run_at, job_at, with_job, with_leg, LegState, JobState, RunState}
+use Rattle.table_model.specs.declared.sites.LegSite.{LegSite}
+use Rattle.table_model.specs.LegContext.{ancestor_results, condition_of, job_results, needs_graph_at, needs_have_finished, finished_result}
+use Rattle.table_model.specs.declared.phases.JobPhase.{JobPhase}
+use Rattle.table_model.specs.declared.phases.JobPhase.TheVariants as job
+use Rattle.table_model.proofs.Changed.{holds_of_each}
+use Rattle.table_model.proofs.JobKeeps.{JobIn, job_in, with_job_of}
+use Rattle.table_model.proofs.NeedsSettled.{KeepsResults, graph_same, needs_stay_settled, result_in, result_of_job}
+use Rattle.table_model.proofs.Optional.{from_and_then, some_of}
+use Rattle.table_model.proofs.RunFits.{admitted_at, job_in_run, plan_at_same}
 use Rattle.table_laws.proofs.AncestorsSettled.{NeedsBefore, ancestors_settled, results_stay}
 
 -- what holds of a job once it is not blocked

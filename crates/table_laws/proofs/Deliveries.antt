@@ -13,15 +13,15 @@ use Rattle.definitions.specs.SmallText.{Admitted}
 use Rattle.run_plan.specs.declared.command.Command.{Command}
 use Rattle.run_plan.specs.declared.command.Command.TheVariants as command
 use Rattle.run_plan.specs.declared.reply.Reply.TheVariants as reply
-use Rattle.run_states.specs.Step.{after, admitting, entered_again, rerun_answer, rerunning, refused, step, stepped, unchanged}
-use Rattle.run_states.specs.TableState.{Step, TableState}
-use Rattle.run_states.specs.Runs.{with_run, again, is_delivered_as, RunState}
-use Rattle.run_states.specs.LegContext.{events}
-use Rattle.run_states.specs.Settling.{settled}
-use Rattle.run_states.proofs.Optional.{if_some}
+use Rattle.table_model.specs.Step.{after, admitting, entered_again, rerun_answer, rerunning, refused, step, stepped, unchanged}
+use Rattle.table_model.specs.TableState.{Step, TableState}
+use Rattle.table_model.specs.Runs.{with_run, again, is_delivered_as, RunState}
+use Rattle.table_model.specs.LegContext.{events}
+use Rattle.table_model.specs.Settling.{settled}
+use Rattle.table_model.proofs.Optional.{if_some}
 use Rattle.table_laws.proofs.RunsStay.{IsOfCourse, arrived_stays, run_stays, settled_stays}
 use Rattle.table_laws.proofs.StepsStay.{answered, entered_stays, keeps_all, keeps_itself, step_stays}
-use Rattle.run_states.specs.declared.holder.Holder.TheVariants.{Run}
+use Rattle.table_model.specs.declared.holder.Holder.TheVariants.{Run}
 
 -- ---- steps
 

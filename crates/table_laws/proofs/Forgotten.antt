@@ -4,13 +4,13 @@ use Rattle.std.specs.List.{last_or}
 use Rattle.std.proofs.Common.{ap, ap₂, sym, ◌∙◌}
 use Rattle.std.proofs.lemmas.Bool.{true≢false}
 use Rattle.std.proofs.lemmas.Option.{same_Some}
-use Rattle.run_states.specs.GroupLaw.{arrival_of, has_arrived, has_ended, has_started, is_pending, is_in_progress, latest, Move}
-use Rattle.run_states.specs.GroupLaw.{next_displaced, was_stopped}
+use Rattle.table_model.specs.GroupLaw.{arrival_of, has_arrived, has_ended, has_started, is_pending, is_in_progress, latest, Move}
+use Rattle.table_model.specs.GroupLaw.{next_displaced, was_stopped}
 use Rattle.table_laws.proofs.Agrees.{Agrees}
 use Rattle.table_laws.proofs.NamedMoves.{latest_arrived}
 use Rattle.table_laws.proofs.OwnMoves.{arrived_by_own, ended_by_own, of_group, own, own_of_another, own_of_group, started_by_own}
 use Rattle.table_laws.proofs.OwnMoves.{stopped_by_own, waits_by_own}
-use Rattle.run_states.specs.declared.holder.Holder.{Holder}
+use Rattle.table_model.specs.declared.holder.Holder.{Holder}
 
 -- the latest arrival, if it is kept, is the latest of those that are kept
 pub latest_kept : (keeps : Holder → Bool) (moves : List Move) (o u : Option Holder) (h : Holder) → keeps h ≡ true → (o ≡ Some h → u ≡ Some h)

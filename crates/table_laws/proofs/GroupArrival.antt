@@ -7,18 +7,18 @@ use Rattle.std.proofs.lemmas.Bool.{false_from_ne_true, not-true, or_parts}
 use Rattle.std.proofs.lemmas.List.{append-nil}
 use Rattle.std.proofs.lemmas.Option.{same_Some}
 use Rattle.wf_value.specs.declared.outcome.Outcome.TheVariants.{Cancelled}
-use Rattle.run_states.specs.Groups.{GroupState}
-use Rattle.run_states.specs.GroupLaw.{arrival_of, end_of, start_of, stop_of, has_arrived, has_ended, has_started, was_stopped, Move}
-use Rattle.run_states.specs.GroupLaw.{holder_of, is_pending, is_in_progress, is_the, latest, next_displaced, same_holder}
+use Rattle.table_model.specs.Groups.{GroupState}
+use Rattle.table_model.specs.GroupLaw.{arrival_of, end_of, start_of, stop_of, has_arrived, has_ended, has_started, was_stopped, Move}
+use Rattle.table_model.specs.GroupLaw.{holder_of, is_pending, is_in_progress, is_the, latest, next_displaced, same_holder}
 use Rattle.settling_laws.proofs.ArrivalKeeps.{holder_tested, itself}
 use Rattle.table_laws.specs.GroupChanges.{Change, Matches, changed, is_new, moves_of, stopped_at_arrival}
-use Rattle.run_states.specs.GroupLaw.{BeginsWith, cancelled_end}
+use Rattle.table_model.specs.GroupLaw.{BeginsWith, cancelled_end}
 use Rattle.table_laws.proofs.GroupLawWalk.{Lawful}
 use Rattle.table_laws.proofs.GroupSaid.{latest_on, pending_on, in_progress_on, stopped_on, the_one, the_same}
 use Rattle.table_laws.proofs.GroupTruths.{not_both, or_false, pending_after_arrival, in_progress_after_arrival}
 use Rattle.table_laws.proofs.ListWalk.{Walk}
 use Rattle.table_laws.proofs.OwnMoves.{arrival_is_own, end_is_own, start_is_own, stop_is_own}
-use Rattle.run_states.specs.declared.holder.Holder.{Holder}
+use Rattle.table_model.specs.declared.holder.Holder.{Holder}
 
 -- ---- the holder that the next arrival displaces
 

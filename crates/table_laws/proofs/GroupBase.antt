@@ -6,8 +6,8 @@ use Rattle.std.proofs.Common.{◌≡◌, List, [], ◌∷◌, ◌++◌, Bool, tr
 use Rattle.std.proofs.Common.{refl, ap, ap₂, sym, subst, ◌∙◌}
 use Rattle.std.proofs.lemmas.Option.{none-some}
 use Rattle.std.proofs.lemmas.Bool.{and_right, or_right}
-use Rattle.run_states.specs.Groups.{GroupState}
-use Rattle.run_states.specs.GroupLaw.{has_arrived, is_the, same_holder, Move, KeepsLaw, cancelled_end}
+use Rattle.table_model.specs.Groups.{GroupState}
+use Rattle.table_model.specs.GroupLaw.{has_arrived, is_the, same_holder, Move, KeepsLaw, cancelled_end}
 use Rattle.settling_laws.proofs.ArrivalKeeps.{holder_tested, itself}
 use Rattle.table_laws.specs.GroupChanges.{Change, Matches, base_moves, beyond_base, changed, is_new, moves_of, in_progress_moves}
 use Rattle.table_laws.proofs.GroupChangeKeeps.{change_keeps_law, change_matches}
@@ -15,7 +15,7 @@ use Rattle.table_laws.proofs.GroupLawWalk.{Lawful, walk_is_law}
 use Rattle.table_laws.proofs.GroupSaid.{arrived_on, the_same}
 use Rattle.table_laws.proofs.GroupTruths.{not_both, or_false}
 use Rattle.table_laws.proofs.ListWalk.{Walk}
-use Rattle.run_states.specs.declared.holder.Holder.{Holder}
+use Rattle.table_model.specs.declared.holder.Holder.{Holder}
 
 -- ---- no holder yet
 

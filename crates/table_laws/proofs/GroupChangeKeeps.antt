@@ -6,9 +6,9 @@ use Rattle.std.proofs.lemmas.Bool.{and_right, not-true, or_right}
 use Rattle.std.proofs.lemmas.Option.{none-some}
 use Rattle.wf_value.specs.declared.outcome.Outcome.{Outcome}
 use Rattle.wf_value.specs.declared.outcome.Outcome.TheVariants.{Cancelled}
-use Rattle.run_states.specs.Groups.{GroupState}
-use Rattle.run_states.specs.GroupLaw.{has_arrived, has_ended, has_started, was_stopped, is_pending, is_in_progress, is_the, same_holder}
-use Rattle.run_states.specs.GroupLaw.{Move, KeepsLaw}
+use Rattle.table_model.specs.Groups.{GroupState}
+use Rattle.table_model.specs.GroupLaw.{has_arrived, has_ended, has_started, was_stopped, is_pending, is_in_progress, is_the, same_holder}
+use Rattle.table_model.specs.GroupLaw.{Move, KeepsLaw}
 use Rattle.table_laws.specs.GroupChanges.{Change, Matches, MayAllBe, MayBe, after_all, changed, moves_of, moves_of_all}
 use Rattle.table_laws.proofs.GroupArrival.{arrival_matches, arrival_walks}
 use Rattle.table_laws.proofs.GroupLawWalk.{Lawful, law_goes_on}
@@ -19,7 +19,7 @@ use Rattle.table_laws.proofs.GroupTruths.{pending_after_withdrawal, in_progress_
 use Rattle.table_laws.proofs.GroupTruths.{or_false, in_progress_after_stop}
 use Rattle.table_laws.proofs.ListWalk.{Walk}
 use Rattle.table_laws.proofs.OnlyStops.{told_then}
-use Rattle.run_states.specs.declared.holder.Holder.{Holder}
+use Rattle.table_model.specs.declared.holder.Holder.{Holder}
 
 -- ---- a pending holder does not run
 

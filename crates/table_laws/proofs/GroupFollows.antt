@@ -7,12 +7,12 @@ use Rattle.std.proofs.lemmas.Bool.{and_parts, false_from_ne_true, false≢true, 
 use Rattle.std.proofs.lemmas.Option.{none-some, same_Some}
 use Rattle.wf_value.specs.declared.outcome.Outcome.{Outcome}
 use Rattle.wf_value.specs.declared.outcome.Outcome.TheVariants.{Cancelled}
-use Rattle.run_states.specs.GroupLaw.{arrival_of, end_of, has_arrived, has_ended, has_started, was_stopped, Move, BeginsWith, KeepsLaw}
-use Rattle.run_states.specs.GroupLaw.{is_pending, is_in_progress, is_the, latest, next_displaced, same_holder}
+use Rattle.table_model.specs.GroupLaw.{arrival_of, end_of, has_arrived, has_ended, has_started, was_stopped, Move, BeginsWith, KeepsLaw}
+use Rattle.table_model.specs.GroupLaw.{is_pending, is_in_progress, is_the, latest, next_displaced, same_holder}
 use Rattle.settling_laws.proofs.ArrivalKeeps.{holder_tested, itself}
 use Rattle.table_laws.proofs.GroupSaid.{arrived_on, ended_on, latest_on, started_on, runs_started, waits_unstarted}
 use Rattle.table_laws.proofs.GroupTruths.{not_both, or_second}
-use Rattle.run_states.specs.declared.holder.Holder.{Holder}
+use Rattle.table_model.specs.declared.holder.Holder.{Holder}
 
 -- ---- the position of a move
 

@@ -7,8 +7,8 @@ use Rattle.std.proofs.lemmas.List.{append-nil}
 use Rattle.std.proofs.lemmas.Bool.{and_from, and_parts, not-true}
 use Rattle.wf_value.specs.declared.outcome.Outcome.{Outcome}
 use Rattle.wf_value.specs.declared.outcome.Outcome.TheVariants.{Success, Failure, Cancelled}
-use Rattle.run_states.specs.GroupLaw.{has_ended, has_started, holder_of, is_in_progress, is_the, latest, next_displaced, Move}
-use Rattle.run_states.specs.GroupLaw.{same_holder, was_stopped, BeginsWith, IsJustDisplaced, KeepsLaw, cancelled_end}
+use Rattle.table_model.specs.GroupLaw.{has_ended, has_started, holder_of, is_in_progress, is_the, latest, next_displaced, Move}
+use Rattle.table_model.specs.GroupLaw.{same_holder, was_stopped, BeginsWith, IsJustDisplaced, KeepsLaw, cancelled_end}
 use Rattle.settling_laws.proofs.ArrivalKeeps.{holder_tested, itself}
 use Rattle.table_laws.specs.GroupLawTest.{allows, allows_all, begins_with_end, begins_with_stop, displaced_last, ends_displaced}
 use Rattle.table_laws.specs.GroupLawTest.{is_cancelled, keeps_law, stops_after}
@@ -16,7 +16,7 @@ use Rattle.table_laws.proofs.GroupLawWalk.{Lawful, law_walks, walk_is_law}
 use Rattle.table_laws.proofs.GroupSaid.{runs_started, the_one, the_same}
 use Rattle.table_laws.proofs.GroupTruths.{or_second}
 use Rattle.table_laws.proofs.ListWalk.{Walk}
-use Rattle.run_states.specs.declared.holder.Holder.{Holder}
+use Rattle.table_model.specs.declared.holder.Holder.{Holder}
 
 -- ---- from the test to the law
 

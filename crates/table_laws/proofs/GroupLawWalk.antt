@@ -1,10 +1,10 @@
 -- The law of a group by recursion on the list of moves.
 use Rattle.std.proofs.Common.{◌≡◌, List, [], ◌∷◌, ◌++◌, Bool, true, false, Some, ap, ◌∙◌, append_assoc}
 use Rattle.wf_value.specs.declared.outcome.Outcome.TheVariants.{Cancelled}
-use Rattle.run_states.specs.GroupLaw.{has_ended, has_started, is_in_progress, latest, next_displaced, was_stopped, Move}
-use Rattle.run_states.specs.GroupLaw.{BeginsWith, IsJustDisplaced, KeepsLaw, cancelled_end}
+use Rattle.table_model.specs.GroupLaw.{has_ended, has_started, is_in_progress, latest, next_displaced, was_stopped, Move}
+use Rattle.table_model.specs.GroupLaw.{BeginsWith, IsJustDisplaced, KeepsLaw, cancelled_end}
 use Rattle.table_laws.proofs.ListWalk.{AtEach, Walk, each_of, walk_of, walk_on}
-use Rattle.run_states.specs.declared.holder.Holder.{Holder}
+use Rattle.table_model.specs.declared.holder.Holder.{Holder}
 
 -- what the law requires of one move
 abbrev pub Lawful : (Holder → Bool) → List Move → Move → List Move → Type 0

@@ -1,12 +1,12 @@
 -- The law evaluated on examples: the cases of the documentation, and lists that break each rule.
 use Rattle.std.specs.Prelude.{◌≡◌, [], ◌∷◌, ◌++◌, Bool, true, false, Some, refl}
 use Rattle.wf_value.specs.declared.outcome.Outcome.TheVariants.{Success, Failure, Cancelled}
-use Rattle.run_states.specs.Groups.{GroupState}
-use Rattle.run_states.specs.GroupLaw.{Move}
+use Rattle.table_model.specs.Groups.{GroupState}
+use Rattle.table_model.specs.GroupLaw.{Move}
 use Rattle.table_laws.specs.GroupChanges.{base_moves, beyond_base}
 use Rattle.table_laws.specs.GroupLawTest.{keeps_law}
-use Rattle.run_states.specs.declared.holder.Holder.{Holder}
-use Rattle.run_states.specs.declared.holder.Holder.TheVariants.{Run, Leg}
+use Rattle.table_model.specs.declared.holder.Holder.{Holder}
+use Rattle.table_model.specs.declared.holder.Holder.TheVariants.{Run, Leg}
 
 abbrev pub run1 : Holder
 run1 = Run 0

@@ -6,10 +6,10 @@ use Rattle.std.proofs.Common.{refl, ap, ap₂, sym, ◌∙◌}
 use Rattle.std.proofs.lemmas.Bool.{and_parts}
 use Rattle.std.proofs.lemmas.List.Elements.{filter_map-append}
 use Rattle.std.proofs.lemmas.List.Folds.{list_any-append}
-use Rattle.run_states.specs.GroupLaw.{arrival_of, end_of, start_of, stop_of, has_arrived, has_ended, has_started, was_stopped, Move}
-use Rattle.run_states.specs.GroupLaw.{is_pending, is_in_progress, is_the, latest}
+use Rattle.table_model.specs.GroupLaw.{arrival_of, end_of, start_of, stop_of, has_arrived, has_ended, has_started, was_stopped, Move}
+use Rattle.table_model.specs.GroupLaw.{is_pending, is_in_progress, is_the, latest}
 use Rattle.settling_laws.proofs.ArrivalKeeps.{holder_tested, itself}
-use Rattle.run_states.specs.declared.holder.Holder.{Holder}
+use Rattle.table_model.specs.declared.holder.Holder.{Holder}
 
 -- ---- equality of holders
 

@@ -6,8 +6,8 @@ use Rattle.group_name.specs.Group.{Group}
 use Rattle.run_plan.specs.ReplyText.{reply_text}
 use Rattle.run_plan.specs.declared.command.Command.{Command}
 use Rattle.run_plan.specs.declared.command.Command.TheVariants as command
-use Rattle.run_states.specs.Step.{replies, empty}
-use Rattle.run_states.specs.GroupLaw.{Move}
+use Rattle.table_model.specs.Step.{replies, empty}
+use Rattle.table_model.specs.GroupLaw.{Move}
 use Rattle.run_table.proofs.OnTables.{on_tables}
 use Rattle.table_laws.specs.GroupHistories.{all_moves, requests_cancellation, group_moves}
 use Rattle.table_laws.specs.GroupLawTest.{keeps_law}
@@ -15,8 +15,8 @@ use Rattle.table_laws.specs.Names.{Names, renamed}
 use Rattle.table_laws.proofs.GroupRows.{run1, run2, run3}
 use Rattle.table_laws.proofs.GroupTableRows.{group}
 use Rattle.table_laws.proofs.Packed.{packed}
-use Rattle.run_states.specs.declared.holder.Holder.{Holder}
-use Rattle.run_states.specs.declared.holder.Holder.TheVariants.{Leg}
+use Rattle.table_model.specs.declared.holder.Holder.{Holder}
+use Rattle.table_model.specs.declared.holder.Holder.TheVariants.{Leg}
 
 -- a workflow of the repository
 abbrev of_workflow : List ℕ → List ℕ

@@ -2,17 +2,17 @@
 use Rattle.std.specs.Prelude.{◌≡◌, ℕ, List, [], ◌∷◌, ◌++◌, codes, true, Some, None, refl}
 use Rattle.wf_value.specs.declared.outcome.Outcome.TheVariants as outcome
 use Rattle.group_name.specs.Group.{Group}
-use Rattle.run_states.specs.Groups.{group_state, holders_in, pending_in, in_progress_in}
-use Rattle.run_states.specs.GroupLaw.{Move}
-use Rattle.run_states.specs.Runs.{RunState}
-use Rattle.run_states.specs.declared.phases.JobPhase.TheVariants as job
-use Rattle.run_states.specs.declared.phases.LegPhase.TheVariants as leg
-use Rattle.run_states.specs.declared.phases.RunPhase.TheVariants as run
+use Rattle.table_model.specs.Groups.{group_state, holders_in, pending_in, in_progress_in}
+use Rattle.table_model.specs.GroupLaw.{Move}
+use Rattle.table_model.specs.Runs.{RunState}
+use Rattle.table_model.specs.declared.phases.JobPhase.TheVariants as job
+use Rattle.table_model.specs.declared.phases.LegPhase.TheVariants as leg
+use Rattle.table_model.specs.declared.phases.RunPhase.TheVariants as run
 use Rattle.run_table.proofs.OnTables.{on_tables}
 use Rattle.run_table.proofs.StepRows.{run_with}
 use Rattle.table_laws.specs.GroupChanges.{base_moves}
-use Rattle.run_states.specs.declared.holder.Holder.{Holder}
-use Rattle.run_states.specs.declared.holder.Holder.TheVariants.{Run, Leg}
+use Rattle.table_model.specs.declared.holder.Holder.{Holder}
+use Rattle.table_model.specs.declared.holder.Holder.TheVariants.{Run, Leg}
 
 -- a group of the repository
 abbrev pub group : List ℕ → Group

@@ -7,22 +7,22 @@ use Rattle.std.proofs.lemmas.Bool.{cases_eq}
 use Rattle.std.proofs.lemmas.Option.{slice_get-map, slice_get_past, slice_get_within}
 use Rattle.group_name.specs.Group.{Group, same_group}
 use Rattle.definitions.specs.SmallText.{Admitted}
-use Rattle.run_states.specs.Groups.{cancels_in_progress, group_at, leg_cancels, run_cancels, run_facts_at, is_in}
-use Rattle.run_states.specs.Holders.{run_of}
-use Rattle.run_states.specs.LegContext.{facts_at, events}
-use Rattle.run_states.specs.Runs.{new_run, leg_at, run_at, LegState, RunState}
-use Rattle.run_states.specs.declared.sites.LegSite.{LegSite}
-use Rattle.run_states.proofs.Found.{at_the_end, before_the_end}
-use Rattle.run_states.proofs.JobKeeps.{leg_in}
-use Rattle.run_states.proofs.LegFacts.{SameUpTo, attempt_at, facts_stay}
-use Rattle.run_states.proofs.NeedsSettled.{KeepsResults, result_in, result_so_far}
-use Rattle.run_states.proofs.RunFits.{RunsFit, admitted_at}
-use Rattle.run_states.proofs.Settles.{StayFit}
+use Rattle.table_model.specs.Groups.{cancels_in_progress, group_at, leg_cancels, run_cancels, run_facts_at, is_in}
+use Rattle.table_model.specs.Holders.{run_of}
+use Rattle.table_model.specs.LegContext.{facts_at, events}
+use Rattle.table_model.specs.Runs.{new_run, leg_at, run_at, LegState, RunState}
+use Rattle.table_model.specs.declared.sites.LegSite.{LegSite}
+use Rattle.table_model.proofs.Found.{at_the_end, before_the_end}
+use Rattle.table_model.proofs.JobKeeps.{leg_in}
+use Rattle.table_model.proofs.LegFacts.{SameUpTo, attempt_at, facts_stay}
+use Rattle.table_model.proofs.NeedsSettled.{KeepsResults, result_in, result_so_far}
+use Rattle.table_model.proofs.RunFits.{RunsFit, admitted_at}
+use Rattle.table_model.proofs.Settles.{StayFit}
 use Rattle.settling_laws.proofs.GroupStays.{leg_group_same, leg_needs_finished, run_facts_stay, run_group_stays}
 use Rattle.settling_laws.proofs.OneEach.{IsOneOf}
 use Rattle.table_laws.specs.Names.{attempt_of}
-use Rattle.run_states.specs.declared.holder.Holder.{Holder}
-use Rattle.run_states.specs.declared.holder.Holder.TheVariants.{Run, Leg}
+use Rattle.table_model.specs.declared.holder.Holder.{Holder}
+use Rattle.table_model.specs.declared.holder.Holder.TheVariants.{Run, Leg}
 
 -- The earlier runs keep their indices, their events and their attempts, and finished jobs keep their results. The added runs are at their
 -- first attempt, so no holder gets another name.

@@ -6,13 +6,13 @@ use Rattle.std.proofs.lemmas.Bool.{and_from, and_parts, and_right, false≢true,
 use Rattle.std.proofs.lemmas.List.{append-nil}
 use Rattle.group_name.specs.Group.{Group}
 use Rattle.run_plan.specs.declared.command.Command.{Command}
-use Rattle.run_states.specs.Groups.{cancels_in_progress, is_in}
-use Rattle.run_states.specs.GroupLaw.{has_arrived, Move, KeepsLaw}
-use Rattle.run_states.specs.Step.{after, stepped}
-use Rattle.run_states.specs.Sound.{IsSound}
-use Rattle.run_states.specs.TableState.{Step, TableState}
+use Rattle.table_model.specs.Groups.{cancels_in_progress, is_in}
+use Rattle.table_model.specs.GroupLaw.{has_arrived, Move, KeepsLaw}
+use Rattle.table_model.specs.Step.{after, stepped}
+use Rattle.table_model.specs.Sound.{IsSound}
+use Rattle.table_model.specs.TableState.{Step, TableState}
 use Rattle.run_table.proofs.Kept.{kept_from_sound}
-use Rattle.run_states.proofs.RunFits.{RunsFit}
+use Rattle.table_model.proofs.RunFits.{RunsFit}
 use Rattle.run_table.proofs.StepKeeps.{stepped_is_sound}
 use Rattle.table_laws.specs.GroupHistories.{all_moves, requests_by, requests_cancellation, first_moves, group_moves, moves_in, step_moves}
 use Rattle.table_laws.specs.Names.{Names, attempt_of, name_in}
@@ -27,7 +27,7 @@ use Rattle.table_laws.proofs.LawSoFar.{LawSoFar}
 use Rattle.table_laws.proofs.RerunLaw.{again_goes_on}
 use Rattle.table_laws.proofs.SameGroups.{by_later_groups}
 use Rattle.table_laws.proofs.StepsLaw.{StepSays, step_says}
-use Rattle.run_states.specs.declared.holder.Holder.{Holder}
+use Rattle.table_model.specs.declared.holder.Holder.{Holder}
 
 -- ---- one step
 

@@ -2,13 +2,13 @@
 -- has made no move.
 use Rattle.std.specs.Prelude.{◌≡◌, ℕ, ◌≤◌, List, [], ◌∷◌, ◌++◌, Some, refl}
 use Rattle.std.proofs.Common.{arith, ap, sym, ◌∙◌, subst}
-use Rattle.run_states.specs.GroupLaw.{has_arrived, has_ended, has_started, was_stopped, Move}
-use Rattle.run_states.specs.Runs.{RunState}
+use Rattle.table_model.specs.GroupLaw.{has_arrived, has_ended, has_started, was_stopped, Move}
+use Rattle.table_model.specs.Runs.{RunState}
 use Rattle.table_laws.specs.Names.{Names, attempt_of, name_in}
 use Rattle.table_laws.proofs.Agrees.{Agrees, IsInjective}
 use Rattle.table_laws.proofs.ListWalk.{nil_is_no_cons}
 use Rattle.table_laws.proofs.OwnMoves.{own}
-use Rattle.run_states.specs.declared.holder.Holder.{Holder}
+use Rattle.table_model.specs.declared.holder.Holder.{Holder}
 
 pub names_are_injective : (names : Names) (runs : List RunState) → IsInjective (name_in names runs)
 names_are_injective names runs h k e = (names.differ (attempt_of runs h) (attempt_of runs k) h k e).1

@@ -5,11 +5,11 @@ use Rattle.std.proofs.Common.{arith, ap, sym, ◌∙◌, subst}
 use Rattle.std.proofs.lemmas.Bool.{true≢false}
 use Rattle.std.proofs.lemmas.List.{append_cancel_left}
 use Rattle.group_name.specs.Group.{Group}
-use Rattle.run_states.specs.Groups.{cancels_in_progress, is_in, waits}
-use Rattle.run_states.specs.GroupLaw.{has_arrived, has_started, holder_of, latest, same_holder, Move, KeepsLaw}
-use Rattle.run_states.specs.Runs.{RunState}
+use Rattle.table_model.specs.Groups.{cancels_in_progress, is_in, waits}
+use Rattle.table_model.specs.GroupLaw.{has_arrived, has_started, holder_of, latest, same_holder, Move, KeepsLaw}
+use Rattle.table_model.specs.Runs.{RunState}
 use Rattle.settling_laws.proofs.ArrivalKeeps.{holder_tested}
-use Rattle.run_states.specs.TableState.{Step}
+use Rattle.table_model.specs.TableState.{Step}
 use Rattle.table_laws.specs.GroupHistories.{moves_in}
 use Rattle.table_laws.specs.Names.{Names, attempt_of, name_in, renamed}
 use Rattle.table_laws.proofs.Agrees.{Agrees}
@@ -21,7 +21,7 @@ use Rattle.table_laws.proofs.ListWalk.{Walk}
 use Rattle.table_laws.proofs.NamedLaw.{named_law_goes_on}
 use Rattle.table_laws.proofs.OwnMoves.{arrived_by_own, own, own_on}
 use Rattle.table_laws.proofs.Unbegun.{Unbegun}
-use Rattle.run_states.specs.declared.holder.Holder.{Holder}
+use Rattle.table_model.specs.declared.holder.Holder.{Holder}
 
 pub record SoFar (names : Names) (g : Group) (requests : Holder → Bool) (runs : List RunState) (whole : List Move) : Type 0 where
   pub now : List Move

@@ -5,16 +5,16 @@ use Rattle.std.proofs.lemmas.Bool.{and_parts, or_right, true≢false}
 use Rattle.wf_value.specs.declared.outcome.Outcome.{Outcome}
 use Rattle.group_name.specs.Group.{Group}
 use Rattle.run_plan.specs.declared.command.Command.{Command}
-use Rattle.run_states.specs.GroupLaw.{has_arrived, has_ended, has_started, next_displaced, was_stopped, Move}
-use Rattle.run_states.specs.Groups.{pending_in, in_progress_in}
-use Rattle.run_states.specs.Step.{after}
-use Rattle.run_states.specs.Runs.{leg_at, run_at, RunState}
-use Rattle.run_states.specs.Sound.{IsSound}
-use Rattle.run_states.specs.TableState.{TableState}
-use Rattle.run_states.specs.declared.phases.LegPhase.{LegPhase}
-use Rattle.run_states.specs.declared.phases.LegPhase.TheVariants as leg
-use Rattle.run_states.specs.declared.phases.RunPhase.{RunPhase}
-use Rattle.run_states.specs.declared.phases.RunPhase.TheVariants as run
+use Rattle.table_model.specs.GroupLaw.{has_arrived, has_ended, has_started, next_displaced, was_stopped, Move}
+use Rattle.table_model.specs.Groups.{pending_in, in_progress_in}
+use Rattle.table_model.specs.Step.{after}
+use Rattle.table_model.specs.Runs.{leg_at, run_at, RunState}
+use Rattle.table_model.specs.Sound.{IsSound}
+use Rattle.table_model.specs.TableState.{TableState}
+use Rattle.table_model.specs.declared.phases.LegPhase.{LegPhase}
+use Rattle.table_model.specs.declared.phases.LegPhase.TheVariants as leg
+use Rattle.table_model.specs.declared.phases.RunPhase.{RunPhase}
+use Rattle.table_model.specs.declared.phases.RunPhase.TheVariants as run
 use Rattle.settling_laws.proofs.ArrivalKeeps.{itself}
 use Rattle.table_laws.specs.GroupHistories.{NeverBegan, all_moves, requests_cancellation}
 use Rattle.table_laws.specs.Names.{Names, attempt_of, name_in}
@@ -27,8 +27,8 @@ use Rattle.table_laws.proofs.HoldersOnce.{one_pending, one_in_progress}
 use Rattle.table_laws.proofs.OwnMoves.{arrived_by_own, ended_by_own, own}
 use Rattle.table_laws.proofs.ReachedTables.{after_is_sound}
 use Rattle.table_laws.proofs.Unbegun.{Unbegun}
-use Rattle.run_states.specs.declared.holder.Holder.{Holder}
-use Rattle.run_states.specs.declared.holder.Holder.TheVariants.{Run, Leg}
+use Rattle.table_model.specs.declared.holder.Holder.{Holder}
+use Rattle.table_model.specs.declared.holder.Holder.TheVariants.{Run, Leg}
 
 -- ---- starts and ends
 

@@ -6,20 +6,20 @@ use Rattle.std.proofs.Common.{ap, sym, ◌∙◌, append_assoc, subst}
 use Rattle.std.proofs.lemmas.List.{append-nil}
 use Rattle.std.proofs.lemmas.Bool.{and_right, or_right}
 use Rattle.wf_value.specs.declared.outcome.Outcome.{Outcome}
-use Rattle.run_states.specs.Fitting.{is_stopping_leg}
-use Rattle.run_states.specs.GroupLaw.{has_arrived, has_ended, has_started, is_pending, is_in_progress, was_stopped, Move}
-use Rattle.run_states.specs.Groups.{holds, is_stop_requested, leg_holds, leg_waits, run_waits, waits}
-use Rattle.run_states.specs.Runs.{job_at, leg_at, run_at, LegState, JobState, RunState, is_live}
-use Rattle.run_states.specs.declared.sites.LegSite.{LegSite}
-use Rattle.run_states.specs.declared.phases.LegPhase.{LegPhase}
-use Rattle.run_states.specs.declared.phases.LegPhase.TheVariants as leg
-use Rattle.run_states.specs.declared.phases.RunPhase.{RunPhase}
-use Rattle.run_states.specs.declared.phases.RunPhase.TheVariants as run
+use Rattle.table_model.specs.Fitting.{is_stopping_leg}
+use Rattle.table_model.specs.GroupLaw.{has_arrived, has_ended, has_started, is_pending, is_in_progress, was_stopped, Move}
+use Rattle.table_model.specs.Groups.{holds, is_stop_requested, leg_holds, leg_waits, run_waits, waits}
+use Rattle.table_model.specs.Runs.{job_at, leg_at, run_at, LegState, JobState, RunState, is_live}
+use Rattle.table_model.specs.declared.sites.LegSite.{LegSite}
+use Rattle.table_model.specs.declared.phases.LegPhase.{LegPhase}
+use Rattle.table_model.specs.declared.phases.LegPhase.TheVariants as leg
+use Rattle.table_model.specs.declared.phases.RunPhase.{RunPhase}
+use Rattle.table_model.specs.declared.phases.RunPhase.TheVariants as run
 use Rattle.settling_laws.proofs.ArrivalKeeps.{itself}
 use Rattle.table_laws.proofs.GroupSaid.{ended_on}
 use Rattle.table_laws.proofs.OwnMoves.{ended_by_own, own, runs_by_own, stopped_by_own, waits_by_own}
-use Rattle.run_states.specs.declared.holder.Holder.{Holder}
-use Rattle.run_states.specs.declared.holder.Holder.TheVariants.{Run, Leg}
+use Rattle.table_model.specs.declared.holder.Holder.{Holder}
+use Rattle.table_model.specs.declared.holder.Holder.TheVariants.{Run, Leg}
 
 pub data Status : Type 0 where
   -- it does not exist, or is new

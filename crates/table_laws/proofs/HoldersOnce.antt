@@ -8,14 +8,14 @@ use Rattle.std.proofs.lemmas.Bool.{and_parts, true≢false}
 use Rattle.std.proofs.lemmas.List.Concat.{flat_map_single}
 use Rattle.std.proofs.lemmas.List.Elements.{filter-append}
 use Rattle.group_name.specs.Group.{Group}
-use Rattle.run_states.specs.Runs.{placed, leg_at, leg_site, leg_sites, leg_sites_of_job, leg_sites_of_run, LegState, JobState, RunState}
-use Rattle.run_states.specs.Groups.{HasOneEach, all_holders, holds, is_in, is_pending_in, is_in_progress_in, pending_in, in_progress_in, waits}
-use Rattle.run_states.specs.declared.sites.LegSite.{LegSite}
-use Rattle.run_states.proofs.JobKeeps.{leg_in}
+use Rattle.table_model.specs.Runs.{placed, leg_at, leg_site, leg_sites, leg_sites_of_job, leg_sites_of_run, LegState, JobState, RunState}
+use Rattle.table_model.specs.Groups.{HasOneEach, all_holders, holds, is_in, is_pending_in, is_in_progress_in, pending_in, in_progress_in, waits}
+use Rattle.table_model.specs.declared.sites.LegSite.{LegSite}
+use Rattle.table_model.proofs.JobKeeps.{leg_in}
 use Rattle.settling_laws.proofs.OneEach.{IsOneOf, each_holder, one_that_holds, one_that_waits}
 use Rattle.table_laws.proofs.PlacedOne.{filter_flat_map, filter_of_map, filter_to_none, none_of_all, one_of_placed}
-use Rattle.run_states.specs.declared.holder.Holder.{Holder}
-use Rattle.run_states.specs.declared.holder.Holder.TheVariants.{Run, Leg}
+use Rattle.table_model.specs.declared.holder.Holder.{Holder}
+use Rattle.table_model.specs.declared.holder.Holder.TheVariants.{Run, Leg}
 
 -- ---- a test that only one passes
 

@@ -4,12 +4,12 @@ use Rattle.std.proofs.Common.{ap, ap₂, sym, ◌∙◌, subst}
 use Rattle.std.proofs.lemmas.Bool.{and_parts}
 use Rattle.group_name.specs.Group.{Group}
 use Rattle.run_plan.specs.declared.command.Command.{Command}
-use Rattle.run_states.specs.GroupLaw.{is_pending, is_in_progress, was_stopped, Move}
-use Rattle.run_states.specs.Groups.{holds, is_in, is_pending_in, is_in_progress_in, is_stop_requested, waits}
-use Rattle.run_states.specs.Step.{after}
-use Rattle.run_states.specs.Runs.{RunState}
-use Rattle.run_states.specs.Sound.{IsSound}
-use Rattle.run_states.specs.TableState.{TableState}
+use Rattle.table_model.specs.GroupLaw.{is_pending, is_in_progress, was_stopped, Move}
+use Rattle.table_model.specs.Groups.{holds, is_in, is_pending_in, is_in_progress_in, is_stop_requested, waits}
+use Rattle.table_model.specs.Step.{after}
+use Rattle.table_model.specs.Runs.{RunState}
+use Rattle.table_model.specs.Sound.{IsSound}
+use Rattle.table_model.specs.TableState.{TableState}
 use Rattle.table_laws.specs.GroupHistories.{all_moves}
 use Rattle.table_laws.specs.GroupHolders.{SayWhoHolds, is_stopping, is_stopping_in}
 use Rattle.table_laws.specs.Names.{Names, name_in}
@@ -17,7 +17,7 @@ use Rattle.table_laws.proofs.HistoryLaw.{told_so_far}
 use Rattle.table_laws.proofs.HistoryStep.{SoFar}
 use Rattle.table_laws.proofs.HolderStatus.{Fits, Status, fits_pending, fits_in_progress, fits_stopped, held_is, holds_as, status, told_as, waits_as}
 use Rattle.table_laws.proofs.OwnMoves.{own, runs_by_own, waits_by_own}
-use Rattle.run_states.specs.declared.holder.Holder.{Holder}
+use Rattle.table_model.specs.declared.holder.Holder.{Holder}
 
 module _ (names : Names) (runs : List RunState) (g : Group) (requests : Holder → Bool) (whole : List Move)
     (so_far : SoFar names g requests runs whole) where

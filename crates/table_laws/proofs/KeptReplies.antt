@@ -21,13 +21,13 @@ use Rattle.run_plan.specs.declared.last_command.ClaimReply.TheVariants as given
 use Rattle.run_plan.specs.declared.last_command.LastCommand.{LastCommand}
 use Rattle.run_plan.specs.declared.reply.Reply.{Reply}
 use Rattle.run_plan.specs.declared.reply.Reply.TheVariants as reply
-use Rattle.run_states.specs.Fitting.{first_fit}
-use Rattle.run_states.specs.Step.{after, admission_answer, admitting, cancel_answer, cancelling, claim_answer, claiming, claiming_runner}
-use Rattle.run_states.specs.TableState.{Step, RunnerState, TableState}
-use Rattle.run_states.specs.Step.{has_no_lease_left}
-use Rattle.run_states.specs.Step.{kept_lease_at, lease_answer, lease_at, leasing, losing, lost, refused, released, report_answer, reporting}
-use Rattle.run_states.specs.Step.{reporting_runner, outcome, rerun_answer, rerunning, serving_nothing, step, stepped, unchanged}
-use Rattle.run_states.specs.TableState.{answer_by_number, holds_lease, holds_this, is_repeated, number_of, runner_named, number_refusal, with_runner}
+use Rattle.table_model.specs.Fitting.{first_fit}
+use Rattle.table_model.specs.Step.{after, admission_answer, admitting, cancel_answer, cancelling, claim_answer, claiming, claiming_runner}
+use Rattle.table_model.specs.TableState.{Step, RunnerState, TableState}
+use Rattle.table_model.specs.Step.{has_no_lease_left}
+use Rattle.table_model.specs.Step.{kept_lease_at, lease_answer, lease_at, leasing, losing, lost, refused, released, report_answer, reporting}
+use Rattle.table_model.specs.Step.{reporting_runner, outcome, rerun_answer, rerunning, serving_nothing, step, stepped, unchanged}
+use Rattle.table_model.specs.TableState.{answer_by_number, holds_lease, holds_this, is_repeated, number_of, runner_named, number_refusal, with_runner}
 use Rattle.run_table.proofs.RunnerPut.{found_new, found_other, has_the_name}
 use Rattle.table_laws.specs.ExactlyOnce.{HasNumber, HaveNoLaterNumber, IsRefused}
 

@@ -12,18 +12,18 @@ use Rattle.run_plan.specs.declared.command.Command.TheVariants as command
 use Rattle.run_plan.specs.declared.reply.Reply.TheVariants as reply
 use Rattle.wf_value.specs.declared.code.Code.TheVariants.{LastCounter, NoRun, RunNotCompleted}
 use Rattle.wf_value.specs.declared.refusal.Refusal.TheVariants.{Turn}
-use Rattle.run_states.specs.Runs.{again, run_at, with_run, RunState}
-use Rattle.run_states.proofs.Changed.{at_another, at_changed}
-use Rattle.run_states.proofs.LegFacts.{attempt_at}
-use Rattle.run_states.specs.Step.{after, replies, stepped, unchanged}
-use Rattle.run_states.specs.Step.{answer_of_attempt, answer_of_next, entered_again, has_completed, outcome, refused, rerun_answer, rerunning, step}
-use Rattle.run_states.specs.TableState.{TableState}
+use Rattle.table_model.specs.Runs.{again, run_at, with_run, RunState}
+use Rattle.table_model.proofs.Changed.{at_another, at_changed}
+use Rattle.table_model.proofs.LegFacts.{attempt_at}
+use Rattle.table_model.specs.Step.{after, replies, stepped, unchanged}
+use Rattle.table_model.specs.Step.{answer_of_attempt, answer_of_next, entered_again, has_completed, outcome, refused, rerun_answer, rerunning, step}
+use Rattle.table_model.specs.TableState.{TableState}
 use Rattle.run_table.proofs.BeginsAgain.{BeginsAgain, begins_again}
 use Rattle.table_laws.specs.ExactlyOnce.{IsRefused}
 use Rattle.table_laws.specs.Remembered.{AreNoOtherAttempts, IsNoOtherAttempt, KnowsAttempt}
 use Rattle.table_laws.proofs.RunsStay.{IsOfCourse, arrived_stays, settled_stays}
 use Rattle.table_laws.proofs.StepsStay.{Keeps, step_stays}
-use Rattle.run_states.specs.declared.holder.Holder.TheVariants.{Run}
+use Rattle.table_model.specs.declared.holder.Holder.TheVariants.{Run}
 
 -- ---- a run begins again
 

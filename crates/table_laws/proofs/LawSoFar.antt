@@ -7,11 +7,11 @@ use Rattle.std.proofs.lemmas.List.{append-nil}
 use Rattle.std.proofs.lemmas.Bool.{and_from, or_parts}
 use Rattle.wf_value.specs.declared.outcome.Outcome.{Outcome}
 use Rattle.group_name.specs.Group.{Group}
-use Rattle.run_states.specs.GroupLaw.{arrival_of, has_arrived, has_ended, has_started, is_in_progress, latest}
-use Rattle.run_states.specs.Groups.{holds, is_in, may_start, waits}
-use Rattle.run_states.specs.GroupLaw.{Move, Transition, and_then, without_moves}
-use Rattle.run_states.specs.Runs.{RunState}
-use Rattle.run_states.specs.Stops.{stop_holder}
+use Rattle.table_model.specs.GroupLaw.{arrival_of, has_arrived, has_ended, has_started, is_in_progress, latest}
+use Rattle.table_model.specs.Groups.{holds, is_in, may_start, waits}
+use Rattle.table_model.specs.GroupLaw.{Move, Transition, and_then, without_moves}
+use Rattle.table_model.specs.Runs.{RunState}
+use Rattle.table_model.specs.Stops.{stop_holder}
 use Rattle.settling_laws.proofs.HoldersFade.{holder_stop_fades}
 use Rattle.settling_laws.proofs.OneEach.{IsOneOf, free_to_start, one_that_holds, one_that_waits}
 use Rattle.table_laws.proofs.ChangesTold.{stop_tells}
@@ -24,7 +24,7 @@ use Rattle.table_laws.proofs.OnlyStops.{OnlyStops, holder_stops}
 use Rattle.table_laws.proofs.OwnMoves.{of_group, of_group_on, own, own_of_another, own_of_group, own_on, runs_by_own}
 use Rattle.table_laws.proofs.StopsTold.{Tells}
 use Rattle.table_laws.proofs.Unbegun.{AllStill, Still, Unbegun, still_of_all, stop_all_still}
-use Rattle.run_states.specs.declared.holder.Holder.{Holder}
+use Rattle.table_model.specs.declared.holder.Holder.{Holder}
 
 -- ---- so far
 

@@ -10,33 +10,33 @@ use Rattle.run_plan.specs.declared.command.Command.{Command}
 use Rattle.run_plan.specs.declared.command.Command.TheVariants as command
 use Rattle.run_plan.specs.declared.reply.Reply.{Reply}
 use Rattle.wf_value.specs.declared.code.Code.TheVariants.{LeaseNotHeld, NoRunner}
-use Rattle.run_states.specs.Fitting.{first_fit}
-use Rattle.run_states.specs.Step.{after, admission_answer, admitting, cancel_answer, cancelling, claim_answer, claimed, claiming, entered}
-use Rattle.run_states.specs.TableState.{Step, TableState, runner_named}
-use Rattle.run_states.specs.Runs.{with_leg, with_run, again, leased_leg, LegState, RunState}
-use Rattle.run_states.specs.declared.sites.LegSite.{LegSite}
-use Rattle.run_states.specs.Settling.{settled}
-use Rattle.run_states.specs.Sound.{IsSound}
-use Rattle.run_states.specs.Step.{leasing, losing, lost, refused, released, report_answer, reporting, serving_nothing}
-use Rattle.run_states.specs.Step.{entered_again, rerun, rerun_answer, rerunning, stepped, unchanged}
-use Rattle.run_states.specs.Stops.{with_ended, outcome_of_loss, stopped_run}
+use Rattle.table_model.specs.Fitting.{first_fit}
+use Rattle.table_model.specs.Step.{after, admission_answer, admitting, cancel_answer, cancelling, claim_answer, claimed, claiming, entered}
+use Rattle.table_model.specs.TableState.{Step, TableState, runner_named}
+use Rattle.table_model.specs.Runs.{with_leg, with_run, again, leased_leg, LegState, RunState}
+use Rattle.table_model.specs.declared.sites.LegSite.{LegSite}
+use Rattle.table_model.specs.Settling.{settled}
+use Rattle.table_model.specs.Sound.{IsSound}
+use Rattle.table_model.specs.Step.{leasing, losing, lost, refused, released, report_answer, reporting, serving_nothing}
+use Rattle.table_model.specs.Step.{entered_again, rerun, rerun_answer, rerunning, stepped, unchanged}
+use Rattle.table_model.specs.Stops.{with_ended, outcome_of_loss, stopped_run}
 use Rattle.run_table.proofs.AdmitKeeps.{same_reads}
 use Rattle.run_table.proofs.BeginsAgain.{begins_again}
 use Rattle.run_table.proofs.ClaimKeeps.{fitting_leg, had_changes, leasing_keeps, ready_has_no_lease}
 use Rattle.run_table.proofs.Entered.{entered_keeps, entered_settles}
 use Rattle.run_table.proofs.EnteredAgain.{entered_again_settles}
-use Rattle.run_states.proofs.Changed.{at_another}
+use Rattle.table_model.proofs.Changed.{at_another}
 use Rattle.settling_laws.proofs.HoldersKeep.{run_stop_settles}
 use Rattle.run_table.proofs.Kept.{kept_from_sound}
-use Rattle.run_states.proofs.LeaseReads.{place_or_another}
-use Rattle.run_states.proofs.LegReads.{had_at, had_from_leg, had_in}
+use Rattle.table_model.proofs.LeaseReads.{place_or_another}
+use Rattle.table_model.proofs.LegReads.{had_at, had_from_leg, had_in}
 use Rattle.run_table.proofs.ReportKeeps.{loss_keeps, report_keeps}
-use Rattle.run_states.proofs.RunFits.{RunsFit, leases_fit}
+use Rattle.table_model.proofs.RunFits.{RunsFit, leases_fit}
 use Rattle.settling_laws.proofs.SettlingKeeps.{settling_settles}
 use Rattle.table_laws.specs.Names.{attempt_of}
 use Rattle.table_laws.proofs.AttemptNames.{attempt_before, attempt_then}
 use Rattle.table_laws.proofs.ReachedTables.{with_ended_keeps_leases}
-use Rattle.run_states.specs.declared.holder.Holder.TheVariants.{Leg}
+use Rattle.table_model.specs.declared.holder.Holder.TheVariants.{Leg}
 
 abbrev pub HadStays : List RunState → List RunState → Type 0
 HadStays runs next = (p : LegSite) (n : ℕ) → had_at runs p ≡ Some n → had_at next p ≡ Some n

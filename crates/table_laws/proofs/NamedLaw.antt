@@ -1,12 +1,12 @@
 -- Moves after others that satisfy the law, by the names of those.
 use Rattle.std.specs.Prelude.{◌≡◌, List, ◌++◌, map, Bool, true}
-use Rattle.run_states.specs.GroupLaw.{has_arrived, Move, KeepsLaw}
+use Rattle.table_model.specs.GroupLaw.{has_arrived, Move, KeepsLaw}
 use Rattle.table_laws.proofs.Agrees.{Agrees, IsInjective}
 use Rattle.table_laws.specs.Names.{renamed}
 use Rattle.table_laws.proofs.GroupLawWalk.{Lawful, law_goes_on}
 use Rattle.table_laws.proofs.ListWalk.{Walk}
 use Rattle.table_laws.proofs.NamedMoves.{walk_named}
-use Rattle.run_states.specs.declared.holder.Holder.{Holder}
+use Rattle.table_model.specs.declared.holder.Holder.{Holder}
 
 pub named_law_goes_on : (name : Holder → Holder) (cancels requests : Holder → Bool) (now whole more : List Move) → IsInjective name
     → Agrees name now whole → ((k : Holder) → has_arrived k more ≡ true → requests (name k) ≡ true → cancels k ≡ true)

@@ -7,16 +7,16 @@ use Rattle.std.proofs.lemmas.Bool.{and_from, or_right, true≢false}
 use Rattle.std.proofs.lemmas.List.{append-nil, map-append}
 use Rattle.std.proofs.lemmas.Option.{none-some, same_Some}
 use Rattle.wf_value.specs.declared.outcome.Outcome.TheVariants.{Cancelled}
-use Rattle.run_states.specs.GroupLaw.{arrival_of, end_of, start_of, stop_of, has_arrived, has_ended, has_started, was_stopped, Move}
-use Rattle.run_states.specs.GroupLaw.{holder_of, is_pending, is_in_progress, is_the, latest, next_displaced, same_holder}
+use Rattle.table_model.specs.GroupLaw.{arrival_of, end_of, start_of, stop_of, has_arrived, has_ended, has_started, was_stopped, Move}
+use Rattle.table_model.specs.GroupLaw.{holder_of, is_pending, is_in_progress, is_the, latest, next_displaced, same_holder}
 use Rattle.settling_laws.proofs.ArrivalKeeps.{holder_tested, itself}
 use Rattle.table_laws.proofs.Agrees.{Agrees, IsInjective}
-use Rattle.run_states.specs.GroupLaw.{BeginsWith, cancelled_end}
+use Rattle.table_model.specs.GroupLaw.{BeginsWith, cancelled_end}
 use Rattle.table_laws.specs.Names.{renamed}
 use Rattle.table_laws.proofs.GroupLawWalk.{Lawful}
 use Rattle.table_laws.proofs.GroupSaid.{arrived_on, ended_on, latest_on, pending_on, in_progress_on, started_on, stopped_on}
 use Rattle.table_laws.proofs.ListWalk.{Walk}
-use Rattle.run_states.specs.declared.holder.Holder.{Holder}
+use Rattle.table_model.specs.declared.holder.Holder.{Holder}
 
 -- ---- booleans
 

@@ -7,14 +7,14 @@ use Rattle.std.proofs.lemmas.List.{append-nil}
 use Rattle.std.proofs.lemmas.Option.{none-some}
 use Rattle.group_name.specs.Group.{Group}
 use Rattle.run_plan.specs.declared.command.Command.{Command}
-use Rattle.run_states.specs.GroupLaw.{has_arrived, has_started, next_displaced, Move}
-use Rattle.run_states.specs.Runs.{leg_at, run_at, LegState, RunState}
-use Rattle.run_states.specs.declared.sites.LegSite.{LegSite}
-use Rattle.run_states.proofs.JobKeeps.{leg_in, no_leg}
-use Rattle.run_states.proofs.LegReads.{had_at, had_from_leg, leg_from_had}
-use Rattle.run_states.specs.Step.{after, stepped}
-use Rattle.run_states.specs.Sound.{IsSound}
-use Rattle.run_states.specs.TableState.{TableState}
+use Rattle.table_model.specs.GroupLaw.{has_arrived, has_started, next_displaced, Move}
+use Rattle.table_model.specs.Runs.{leg_at, run_at, LegState, RunState}
+use Rattle.table_model.specs.declared.sites.LegSite.{LegSite}
+use Rattle.table_model.proofs.JobKeeps.{leg_in, no_leg}
+use Rattle.table_model.proofs.LegReads.{had_at, had_from_leg, leg_from_had}
+use Rattle.table_model.specs.Step.{after, stepped}
+use Rattle.table_model.specs.Sound.{IsSound}
+use Rattle.table_model.specs.TableState.{TableState}
 use Rattle.run_table.proofs.StepKeeps.{stepped_is_sound}
 use Rattle.table_laws.specs.GroupHistories.{IsOf, all_moves, first_moves, group_moves, moves_in, step_moves}
 use Rattle.table_laws.specs.Names.{Names, attempt_of, name_in}
@@ -26,8 +26,8 @@ use Rattle.table_laws.proofs.HistoryWords.{one_displaced}
 use Rattle.table_laws.proofs.LeasesStay.{step_had}
 use Rattle.table_laws.proofs.ReachedTables.{after_is_sound}
 use Rattle.table_laws.proofs.Unbegun.{Unbegun}
-use Rattle.run_states.specs.declared.holder.Holder.{Holder}
-use Rattle.run_states.specs.declared.holder.Holder.TheVariants.{Run, Leg}
+use Rattle.table_model.specs.declared.holder.Holder.{Holder}
+use Rattle.table_model.specs.declared.holder.Holder.TheVariants.{Run, Leg}
 
 -- ---- a holder that has not begun has no lease
 

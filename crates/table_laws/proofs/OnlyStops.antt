@@ -6,24 +6,24 @@ use Rattle.std.proofs.Common.{ap, ap₂, sym, ◌∙◌, subst}
 use Rattle.std.proofs.lemmas.List.Elements.{filter_map-append}
 use Rattle.std.proofs.lemmas.Bool.{or_right}
 use Rattle.wf_value.specs.declared.outcome.Outcome.TheVariants.{Cancelled}
-use Rattle.run_states.specs.Runs.{placed, job_at, leg_at, leg_site, run_at, LegState, JobState, RunState, is_open}
-use Rattle.run_states.specs.GroupLaw.{arrival_of, was_stopped, Move}
-use Rattle.run_states.specs.declared.sites.LegSite.{LegSite}
-use Rattle.run_states.specs.LegContext.{may_run_in}
-use Rattle.run_states.specs.Stops.{jobs_stop_moves, leg_stop_moves, legs_stop_moves, run_stop_moves_in, stop_holder, stop_request_moves}
-use Rattle.run_states.specs.Stops.{where_stop_moves}
-use Rattle.run_states.specs.declared.phases.LegPhase.{LegPhase}
-use Rattle.run_states.specs.declared.phases.LegPhase.TheVariants as leg
-use Rattle.run_states.specs.declared.phases.RunPhase.{RunPhase}
-use Rattle.run_states.specs.declared.phases.RunPhase.TheVariants as run
+use Rattle.table_model.specs.Runs.{placed, job_at, leg_at, leg_site, run_at, LegState, JobState, RunState, is_open}
+use Rattle.table_model.specs.GroupLaw.{arrival_of, was_stopped, Move}
+use Rattle.table_model.specs.declared.sites.LegSite.{LegSite}
+use Rattle.table_model.specs.LegContext.{may_run_in}
+use Rattle.table_model.specs.Stops.{jobs_stop_moves, leg_stop_moves, legs_stop_moves, run_stop_moves_in, stop_holder, stop_request_moves}
+use Rattle.table_model.specs.Stops.{where_stop_moves}
+use Rattle.table_model.specs.declared.phases.LegPhase.{LegPhase}
+use Rattle.table_model.specs.declared.phases.LegPhase.TheVariants as leg
+use Rattle.table_model.specs.declared.phases.RunPhase.{RunPhase}
+use Rattle.table_model.specs.declared.phases.RunPhase.TheVariants as run
 use Rattle.settling_laws.proofs.ArrivalKeeps.{itself}
 use Rattle.table_laws.proofs.GroupLawWalk.{Lawful, still_lawful}
 use Rattle.table_laws.proofs.GroupSaid.{stopped_on}
 use Rattle.table_laws.proofs.GroupTruths.{not_both}
 use Rattle.table_laws.proofs.ListWalk.{Walk, walk_on}
 use Rattle.table_laws.proofs.OwnMoves.{of_group, of_group_on}
-use Rattle.run_states.specs.declared.holder.Holder.{Holder}
-use Rattle.run_states.specs.declared.holder.Holder.TheVariants.{Run, Leg}
+use Rattle.table_model.specs.declared.holder.Holder.{Holder}
+use Rattle.table_model.specs.declared.holder.Holder.TheVariants.{Run, Leg}
 
 -- in each group: no move is an arrival, and the law allows them after any moves
 pub record OnlyStops (moves : List Move) : Type 0 where

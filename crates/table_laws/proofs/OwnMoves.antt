@@ -2,11 +2,11 @@
 use Rattle.std.specs.Prelude.{◌≡◌, List, [], ◌++◌, ◌&&◌, filter, not, Bool, true, false}
 use Rattle.std.proofs.Common.{ap, ap₂, sym, ◌∙◌}
 use Rattle.std.proofs.lemmas.List.Elements.{filter-append}
-use Rattle.run_states.specs.GroupLaw.{arrival_of, end_of, start_of, stop_of, has_arrived, has_ended, has_started, was_stopped, Move}
-use Rattle.run_states.specs.GroupLaw.{holder_of, is_pending, is_in_progress, is_the, same_holder}
+use Rattle.table_model.specs.GroupLaw.{arrival_of, end_of, start_of, stop_of, has_arrived, has_ended, has_started, was_stopped, Move}
+use Rattle.table_model.specs.GroupLaw.{holder_of, is_pending, is_in_progress, is_the, same_holder}
 use Rattle.settling_laws.proofs.ArrivalKeeps.{holder_tested}
 use Rattle.table_laws.proofs.PlacedOne.{any_filtered, filter_apart, filter_twice}
-use Rattle.run_states.specs.declared.holder.Holder.{Holder}
+use Rattle.table_model.specs.declared.holder.Holder.{Holder}
 
 -- the moves of the holder
 abbrev pub own : Holder → List Move → List Move

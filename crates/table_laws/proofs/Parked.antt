@@ -5,17 +5,17 @@ use Rattle.std.specs.Option.{option_map_or}
 use Rattle.std.proofs.Common.{ap, inl, inr, sym, ◌∙◌, subst}
 use Rattle.std.proofs.lemmas.Bool.{cases_eq, eq-eqb, false≢true, ne_eqb}
 use Rattle.std.proofs.lemmas.Option.{same_Some}
-use Rattle.run_states.specs.Groups.{holds, leg_holds, leg_waits, run_waits, waits}
-use Rattle.run_states.specs.Holders.{run_of}
-use Rattle.run_states.specs.GroupLaw.{Move}
-use Rattle.run_states.specs.Runs.{again, leg_at, run_at, with_run, LegState, JobState, RunState, is_live, outcome_of}
-use Rattle.run_states.specs.declared.sites.LegSite.{LegSite}
-use Rattle.run_states.specs.declared.phases.LegPhase.{LegPhase}
-use Rattle.run_states.specs.declared.phases.LegPhase.TheVariants as leg
-use Rattle.run_states.specs.declared.phases.RunPhase.TheVariants as run
-use Rattle.run_states.proofs.Changed.{at_another, at_changed}
-use Rattle.run_states.proofs.JobKeeps.{leg_in, no_leg}
-use Rattle.run_states.proofs.RunFits.{RunsFit}
+use Rattle.table_model.specs.Groups.{holds, leg_holds, leg_waits, run_waits, waits}
+use Rattle.table_model.specs.Holders.{run_of}
+use Rattle.table_model.specs.GroupLaw.{Move}
+use Rattle.table_model.specs.Runs.{again, leg_at, run_at, with_run, LegState, JobState, RunState, is_live, outcome_of}
+use Rattle.table_model.specs.declared.sites.LegSite.{LegSite}
+use Rattle.table_model.specs.declared.phases.LegPhase.{LegPhase}
+use Rattle.table_model.specs.declared.phases.LegPhase.TheVariants as leg
+use Rattle.table_model.specs.declared.phases.RunPhase.TheVariants as run
+use Rattle.table_model.proofs.Changed.{at_another, at_changed}
+use Rattle.table_model.proofs.JobKeeps.{leg_in, no_leg}
+use Rattle.table_model.proofs.RunFits.{RunsFit}
 use Rattle.settling_laws.proofs.OneEach.{Comes, IsOneOf}
 use Rattle.run_table.proofs.BeginsAgain.{legs_ended}
 use Rattle.run_table.proofs.EnteredAgain.{again_held, again_waited, again_waits}
@@ -26,8 +26,8 @@ use Rattle.table_laws.proofs.StepsLaw.{no_leg_yet}
 use Rattle.table_laws.proofs.OwnMoves.{own}
 use Rattle.table_laws.proofs.StopsTold.{goes_by, goes_same}
 use Rattle.table_laws.proofs.Unbegun.{AllStill, Unbegun, RunUnbegun, LegUnbegun, There, waiting_unbegun}
-use Rattle.run_states.specs.declared.holder.Holder.{Holder}
-use Rattle.run_states.specs.declared.holder.Holder.TheVariants.{Run, Leg}
+use Rattle.table_model.specs.declared.holder.Holder.{Holder}
+use Rattle.table_model.specs.declared.holder.Holder.TheVariants.{Run, Leg}
 
 -- ---- holders of a run, and others
 

@@ -7,7 +7,7 @@ use Rattle.std.proofs.Common.{arith, ap, ap₂, sym, ◌∙◌, ◌||◌}
 use Rattle.std.proofs.lemmas.Bool.{true≢false}
 use Rattle.std.proofs.lemmas.List.{append-nil}
 use Rattle.std.proofs.lemmas.List.Elements.{filter-append}
-use Rattle.run_states.specs.Runs.{placed}
+use Rattle.table_model.specs.Runs.{placed}
 
 -- ---- one index
 

@@ -16,39 +16,39 @@ use Rattle.run_plan.specs.declared.command.Command.TheVariants as command
 use Rattle.run_plan.specs.declared.last_command.ClaimReply.TheVariants as given
 use Rattle.run_plan.specs.declared.reply.Reply.{Reply}
 use Rattle.run_plan.specs.declared.reply.Reply.TheVariants as reply
-use Rattle.run_states.specs.Runs.{changed_at, leg_at, run_at, with_job, with_leg, with_run, again, new_run, leased_leg}
-use Rattle.run_states.specs.Fitting.{first_fit, site_of_lease}
-use Rattle.run_states.specs.Step.{after, replies, empty, at_rest_after, entered, unchanged, admission_answer, admitting, admitted}
-use Rattle.run_states.specs.GroupLaw.{Move}
-use Rattle.run_states.specs.TableState.{Step, TableState, runner_named, with_runner}
-use Rattle.run_states.specs.declared.sites.LegSite.{LegSite}
-use Rattle.run_states.specs.Settling.{leg_in_phase}
-use Rattle.run_states.specs.Sound.{IsSound}
-use Rattle.run_states.specs.Stops.{lease_end_moves, with_ended, stop_holder}
-use Rattle.run_states.specs.Step.{claim_answer, claiming_runner, entered_again, rerun, rerun_answer, rerunning}
-use Rattle.run_states.specs.Step.{kept_lease_at, lease_at, leasing, serving_nothing, claiming, report_answer, reporting_runner}
-use Rattle.run_states.specs.Step.{reporting, reported, stepped, cancel_answer, cancelling, cancelled, losing, lost, refused, released}
-use Rattle.run_states.specs.Runs.{LegState, JobState, RunState}
-use Rattle.run_states.specs.Stops.{after_end, outcome_of_loss, stopped_run, stops_others, with_stopped_legs}
-use Rattle.run_states.specs.declared.phases.LegPhase.TheVariants as leg
+use Rattle.table_model.specs.Runs.{changed_at, leg_at, run_at, with_job, with_leg, with_run, again, new_run, leased_leg}
+use Rattle.table_model.specs.Fitting.{first_fit, site_of_lease}
+use Rattle.table_model.specs.Step.{after, replies, empty, at_rest_after, entered, unchanged, admission_answer, admitting, admitted}
+use Rattle.table_model.specs.GroupLaw.{Move}
+use Rattle.table_model.specs.TableState.{Step, TableState, runner_named, with_runner}
+use Rattle.table_model.specs.declared.sites.LegSite.{LegSite}
+use Rattle.table_model.specs.Settling.{leg_in_phase}
+use Rattle.table_model.specs.Sound.{IsSound}
+use Rattle.table_model.specs.Stops.{lease_end_moves, with_ended, stop_holder}
+use Rattle.table_model.specs.Step.{claim_answer, claiming_runner, entered_again, rerun, rerun_answer, rerunning}
+use Rattle.table_model.specs.Step.{kept_lease_at, lease_at, leasing, serving_nothing, claiming, report_answer, reporting_runner}
+use Rattle.table_model.specs.Step.{reporting, reported, stepped, cancel_answer, cancelling, cancelled, losing, lost, refused, released}
+use Rattle.table_model.specs.Runs.{LegState, JobState, RunState}
+use Rattle.table_model.specs.Stops.{after_end, outcome_of_loss, stopped_run, stops_others, with_stopped_legs}
+use Rattle.table_model.specs.declared.phases.LegPhase.TheVariants as leg
 use Rattle.run_table.proofs.AdmitKeeps.{no_lease, same_reads}
 use Rattle.run_table.proofs.BeginsAgain.{begins_again}
 use Rattle.run_table.proofs.ClaimKeeps.{fitting_leg, had_changes, leasing_keeps, serving_keeps}
 use Rattle.run_table.proofs.Entered.{entered_keeps, entered_settles}
 use Rattle.run_table.proofs.EnteredAgain.{again_admitted, entered_again_keeps, entered_again_settles}
-use Rattle.run_states.proofs.Changed.{at_another, at_changed}
-use Rattle.run_states.proofs.Found.{before_the_end}
+use Rattle.table_model.proofs.Changed.{at_another, at_changed}
+use Rattle.table_model.proofs.Found.{before_the_end}
 use Rattle.run_table.proofs.Kept.{IsKept, kept_from_sound, kept_settles, lease_reply_same}
-use Rattle.run_states.proofs.JobKeeps.{leg_in, with_job_of, with_leg_of}
-use Rattle.run_states.proofs.LeaseReads.{place_or_another}
-use Rattle.run_states.proofs.LegReads.{had_at, had_in, had_in_job, had_from_leg}
+use Rattle.table_model.proofs.JobKeeps.{leg_in, with_job_of, with_leg_of}
+use Rattle.table_model.proofs.LeaseReads.{place_or_another}
+use Rattle.table_model.proofs.LegReads.{had_at, had_in, had_in_job, had_from_leg}
 use Rattle.run_table.proofs.ReportKeeps.{loss_keeps, report_keeps}
-use Rattle.run_states.proofs.RunFits.{admitted_at, plan_at_same}
+use Rattle.table_model.proofs.RunFits.{admitted_at, plan_at_same}
 use Rattle.settling_laws.proofs.SettlingKeeps.{settling_settles}
 use Rattle.run_table.proofs.StepKeeps.{empty_is_sound, run_to_cancel, stepped_is_sound}
-use Rattle.run_states.proofs.StopKeeps.{same_reads as stopped_reads, stopped_run_settles}
+use Rattle.table_model.proofs.StopKeeps.{same_reads as stopped_reads, stopped_run_settles}
 use Rattle.table_laws.specs.Answered.{WasAnswered}
-use Rattle.run_states.specs.declared.holder.Holder.TheVariants.{Run}
+use Rattle.table_model.specs.declared.holder.Holder.TheVariants.{Run}
 
 pub after_is_sound : (t : TableState) (commands : List Command) → IsSound t → IsSound (after t commands)
 after_is_sound t [] sound = sound

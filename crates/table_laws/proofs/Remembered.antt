@@ -10,8 +10,8 @@ use Rattle.run_plan.specs.declared.last_command.LastCommand.TheVariants as last
 use Rattle.run_plan.specs.declared.reply.Reply.{Reply}
 use Rattle.run_plan.specs.declared.reply.Reply.TheVariants as reply
 use Rattle.run_plan.proofs.SameCommands.{claims_decide, reports_decide}
-use Rattle.run_states.specs.Step.{after, replies, step, stepped}
-use Rattle.run_states.specs.TableState.{TableState}
+use Rattle.table_model.specs.Step.{after, replies, step, stepped}
+use Rattle.table_model.specs.TableState.{TableState}
 use Rattle.table_laws.specs.ExactlyOnce.{HasNumber, IsRefused}
 use Rattle.table_laws.specs.Remembered.{AreNoLaterNumbers, IsNoLaterNumber, KnowsDelivery, LastCommandIs, kept_command}
 use Rattle.table_laws.proofs.Deliveries.{Keeps, after_keeps, created_again, created_at, place_of, place_stays, step_keeps}

@@ -4,15 +4,15 @@ use Rattle.std.specs.Option.{unwrap_or}
 use Rattle.std.proofs.Common.{ap, sym, ◌∙◌}
 use Rattle.std.proofs.lemmas.Bool.{or_parts}
 use Rattle.group_name.specs.Group.{Group}
-use Rattle.run_states.specs.Groups.{cancels_in_progress}
-use Rattle.run_states.specs.GroupLaw.{arrival_of, has_arrived, same_holder, Move}
+use Rattle.table_model.specs.Groups.{cancels_in_progress}
+use Rattle.table_model.specs.GroupLaw.{arrival_of, has_arrived, same_holder, Move}
 use Rattle.settling_laws.proofs.ArrivalKeeps.{holder_tested}
-use Rattle.run_states.specs.TableState.{Step}
+use Rattle.table_model.specs.TableState.{Step}
 use Rattle.table_laws.specs.GroupHistories.{requests_in, moves_in, step_moves}
 use Rattle.table_laws.specs.Names.{Names, name_in, renamed}
 use Rattle.table_laws.proofs.HistoryNames.{names_are_injective}
 use Rattle.table_laws.proofs.NamedMoves.{arrived_named}
-use Rattle.run_states.specs.declared.holder.Holder.{Holder}
+use Rattle.table_model.specs.declared.holder.Holder.{Holder}
 
 module _ (name : Holder → Holder) (n : Holder) where
   nobody_comes : (moves : List Move) → has_arrived n (map (renamed name) moves) ≡ false

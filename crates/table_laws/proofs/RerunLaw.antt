@@ -9,18 +9,18 @@ use Rattle.std.proofs.lemmas.List.{append-nil}
 use Rattle.std.proofs.lemmas.Option.{same_Some}
 use Rattle.group_name.specs.Group.{Group, same_group}
 use Rattle.run_plan.specs.declared.command.Attempt.{Attempt}
-use Rattle.run_states.specs.Groups.{cancels_in_progress, is_in, waits}
-use Rattle.run_states.specs.GroupLaw.{has_arrived, has_ended, has_started, is_pending, is_in_progress, latest, next_displaced, same_holder}
-use Rattle.run_states.specs.Holders.{run_of}
-use Rattle.run_states.specs.GroupLaw.{Move, Transition}
-use Rattle.run_states.specs.Runs.{again, with_run, RunState}
-use Rattle.run_states.specs.Settling.{remaining_phases, settled, settling}
-use Rattle.run_states.proofs.RunFits.{RunsFit}
+use Rattle.table_model.specs.Groups.{cancels_in_progress, is_in, waits}
+use Rattle.table_model.specs.GroupLaw.{has_arrived, has_ended, has_started, is_pending, is_in_progress, latest, next_displaced, same_holder}
+use Rattle.table_model.specs.Holders.{run_of}
+use Rattle.table_model.specs.GroupLaw.{Move, Transition}
+use Rattle.table_model.specs.Runs.{again, with_run, RunState}
+use Rattle.table_model.specs.Settling.{remaining_phases, settled, settling}
+use Rattle.table_model.proofs.RunFits.{RunsFit}
 use Rattle.settling_laws.proofs.ArrivalKeeps.{itself, one_or_another}
 use Rattle.settling_laws.proofs.OneEach.{IsOneOf, one_that_waits}
-use Rattle.run_states.specs.Sound.{IsSound}
-use Rattle.run_states.specs.Step.{entered_again, rerunning}
-use Rattle.run_states.specs.TableState.{TableState}
+use Rattle.table_model.specs.Sound.{IsSound}
+use Rattle.table_model.specs.Step.{entered_again, rerunning}
+use Rattle.table_model.specs.TableState.{TableState}
 use Rattle.run_table.proofs.BeginsAgain.{BeginsAgain}
 use Rattle.run_table.proofs.EnteredAgain.{again_fits, again_waits, beside_again, entered_again_one_each, group_beside}
 use Rattle.run_table.proofs.Kept.{kept_from_sound}
@@ -43,8 +43,8 @@ use Rattle.table_laws.proofs.Parked.{one_elsewhere, parked_is_over, parked_run, 
 use Rattle.table_laws.proofs.RulesLaw.{arrival_keeps, settled_keeps}
 use Rattle.table_laws.proofs.SameGroups.{there_or_not}
 use Rattle.table_laws.proofs.Unbegun.{Unbegun}
-use Rattle.run_states.specs.declared.holder.Holder.{Holder}
-use Rattle.run_states.specs.declared.holder.Holder.TheVariants.{Run}
+use Rattle.table_model.specs.declared.holder.Holder.{Holder}
+use Rattle.table_model.specs.declared.holder.Holder.TheVariants.{Run}
 
 still_waits : (a s e : Bool) → (a && (not s && not e)) ≡ true → ((a || true) && (not (s || false) && not (e || false))) ≡ true
 still_waits false s e is = cc

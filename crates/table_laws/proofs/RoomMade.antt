@@ -6,11 +6,11 @@ use Rattle.std.proofs.lemmas.Bool.{and_parts, not-true}
 use Rattle.std.proofs.lemmas.Option.{same_Some}
 use Rattle.wf_value.specs.declared.outcome.Outcome.TheVariants.{Cancelled}
 use Rattle.group_name.specs.Group.{Group}
-use Rattle.run_states.specs.Settling.{displaced, others_pending, stopped_where_requested}
-use Rattle.run_states.specs.GroupLaw.{arrival_of, same_holder, Move, at_each, BeginsWith, cancelled_end}
-use Rattle.run_states.specs.Groups.{HasOneBeside, is_in, is_pending_in, in_progress_in, waits}
-use Rattle.run_states.specs.Runs.{RunState}
-use Rattle.run_states.specs.Stops.{displace, stop_holder}
+use Rattle.table_model.specs.Settling.{displaced, others_pending, stopped_where_requested}
+use Rattle.table_model.specs.GroupLaw.{arrival_of, same_holder, Move, at_each, BeginsWith, cancelled_end}
+use Rattle.table_model.specs.Groups.{HasOneBeside, is_in, is_pending_in, in_progress_in, waits}
+use Rattle.table_model.specs.Runs.{RunState}
+use Rattle.table_model.specs.Stops.{displace, stop_holder}
 use Rattle.settling_laws.proofs.ArrivalKeeps.{itself}
 use Rattle.settling_laws.proofs.HoldersFade.{each_fades, holder_stop_fades}
 use Rattle.settling_laws.proofs.OneEach.{Fades, one_that_waits}
@@ -24,7 +24,7 @@ use Rattle.table_laws.proofs.OnlyStops.{OnlyStops, holder_stops, no_stops, stops
 use Rattle.table_laws.proofs.OwnMoves.{of_group}
 use Rattle.table_laws.proofs.StopsTold.{Tells}
 use Rattle.table_laws.proofs.Unbegun.{AllStill, each_all_still, stop_all_still}
-use Rattle.run_states.specs.declared.holder.Holder.{Holder}
+use Rattle.table_model.specs.declared.holder.Holder.{Holder}
 
 -- ---- the stopped holder
 

@@ -8,26 +8,26 @@ use Rattle.wf_value.specs.declared.outcome.JobResult.TheVariants as result
 use Rattle.wf_value.specs.declared.outcome.Outcome.TheVariants as outcome
 use Rattle.needs_graph.specs.Needs.{condition_value, fails_job, was_cancelled}
 use Rattle.group_name.specs.Group.{Group}
-use Rattle.run_states.specs.Settling.{arrived, displaced, others_pending, room_made, stopped_where_requested, rule_at, settled}
-use Rattle.run_states.specs.Groups.{cancels_in_progress, group_at, in_progress_in}
-use Rattle.run_states.specs.GroupLaw.{Transition, at_each, without_moves}
-use Rattle.run_states.specs.Runs.{run_at, job_at, with_run, with_job, JobState, RunState}
-use Rattle.run_states.specs.Settling.{decided, leg_ends, may_run, result_at, with_leg_in}
-use Rattle.run_states.specs.Runs.{leg_has_ended, is_done, is_open, leg_in_phase, opened, run_in_phase, finished_as}
-use Rattle.run_states.specs.Stops.{displace, stop_holder, stopped, stopped_run}
-use Rattle.run_states.specs.LegContext.{ancestor_results, condition_of, is_stopping, needs_have_finished, planned_legs}
-use Rattle.run_states.specs.declared.phases.JobPhase.{JobPhase}
-use Rattle.run_states.specs.declared.phases.JobPhase.TheVariants as job
-use Rattle.run_states.specs.declared.phases.LegPhase.TheVariants as leg
-use Rattle.run_states.specs.declared.phases.RunPhase.{RunPhase}
-use Rattle.run_states.specs.declared.phases.RunPhase.TheVariants as run
-use Rattle.run_states.specs.declared.sites.RuleSite.{RuleSite}
-use Rattle.run_states.proofs.Changed.{holds_of_each}
-use Rattle.run_states.proofs.JobKeeps.{job_in}
-use Rattle.run_states.proofs.JobPhases.{is_open_open}
-use Rattle.run_states.proofs.RunFits.{RunsFit, job_in_run}
-use Rattle.run_states.proofs.Settles.{Settles}
-use Rattle.run_states.proofs.Transitions.{changed_none}
+use Rattle.table_model.specs.Settling.{arrived, displaced, others_pending, room_made, stopped_where_requested, rule_at, settled}
+use Rattle.table_model.specs.Groups.{cancels_in_progress, group_at, in_progress_in}
+use Rattle.table_model.specs.GroupLaw.{Transition, at_each, without_moves}
+use Rattle.table_model.specs.Runs.{run_at, job_at, with_run, with_job, JobState, RunState}
+use Rattle.table_model.specs.Settling.{decided, leg_ends, may_run, result_at, with_leg_in}
+use Rattle.table_model.specs.Runs.{leg_has_ended, is_done, is_open, leg_in_phase, opened, run_in_phase, finished_as}
+use Rattle.table_model.specs.Stops.{displace, stop_holder, stopped, stopped_run}
+use Rattle.table_model.specs.LegContext.{ancestor_results, condition_of, is_stopping, needs_have_finished, planned_legs}
+use Rattle.table_model.specs.declared.phases.JobPhase.{JobPhase}
+use Rattle.table_model.specs.declared.phases.JobPhase.TheVariants as job
+use Rattle.table_model.specs.declared.phases.LegPhase.TheVariants as leg
+use Rattle.table_model.specs.declared.phases.RunPhase.{RunPhase}
+use Rattle.table_model.specs.declared.phases.RunPhase.TheVariants as run
+use Rattle.table_model.specs.declared.sites.RuleSite.{RuleSite}
+use Rattle.table_model.proofs.Changed.{holds_of_each}
+use Rattle.table_model.proofs.JobKeeps.{job_in}
+use Rattle.table_model.proofs.JobPhases.{is_open_open}
+use Rattle.table_model.proofs.RunFits.{RunsFit, job_in_run}
+use Rattle.table_model.proofs.Settles.{Settles}
+use Rattle.table_model.proofs.Transitions.{changed_none}
 use Rattle.settling_laws.proofs.EachRule.{by_rule}
 use Rattle.settling_laws.proofs.HoldersKeep.{displaced_settles, holder_stop_settles, no_run}
 use Rattle.settling_laws.proofs.LivePlaces.{LivePlace}
@@ -35,8 +35,8 @@ use Rattle.settling_laws.proofs.RuleKeeps.{newcomer_waits, rule_settles}
 use Rattle.settling_laws.proofs.SettlingKeeps.{settling_keeps}
 use Rattle.table_laws.proofs.Decided.{Decided, JobDecided, NowDecided, all_decided, leg_change_decided, one_decided}
 use Rattle.table_laws.proofs.StopDecided.{stopped_decided}
-use Rattle.run_states.specs.declared.holder.Holder.{Holder}
-use Rattle.run_states.specs.declared.holder.Holder.TheVariants.{Run, Leg}
+use Rattle.table_model.specs.declared.holder.Holder.{Holder}
+use Rattle.table_model.specs.declared.holder.Holder.TheVariants.{Run, Leg}
 
 -- ---- the rules
 

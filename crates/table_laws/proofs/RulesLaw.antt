@@ -10,26 +10,26 @@ use Rattle.wf_value.specs.declared.outcome.JobResult.TheVariants as result
 use Rattle.wf_value.specs.declared.outcome.Outcome.TheVariants as outcome
 use Rattle.group_name.specs.Group.{Group}
 use Rattle.needs_graph.specs.Needs.{conclusion_of}
-use Rattle.run_states.specs.Settling.{arrived, displaced, room_made, started, decided, may_run, result_at, rule_at, with_leg_in}
-use Rattle.run_states.specs.Groups.{cancels_in_progress, group_at}
-use Rattle.run_states.specs.GroupLaw.{holder_of, same_holder, Move, Transition, and_then, without_moves}
-use Rattle.run_states.specs.Groups.{HasOneBeside, HasOneEach, holds, is_in, leg_waits, may_start, run_waits, waits}
-use Rattle.run_states.specs.Runs.{results_of, job_at, leg_at, run_at, with_job, with_run, LegState, JobState, RunState}
-use Rattle.run_states.specs.declared.sites.LegSite.{LegSite}
-use Rattle.run_states.specs.Settling.{first_site, first_rule, settled_within}
-use Rattle.run_states.specs.Sound.{PhaseFits}
-use Rattle.run_states.specs.Runs.{leg_has_ended, is_blocked, is_done, is_live, is_open, leg_in_phase, opened, run_in_phase, finished_as}
-use Rattle.run_states.specs.LegContext.{is_stopping, planned_legs}
-use Rattle.run_states.specs.declared.phases.LegPhase.{LegPhase}
-use Rattle.run_states.specs.declared.phases.LegPhase.TheVariants as leg
-use Rattle.run_states.specs.declared.phases.RunPhase.{RunPhase}
-use Rattle.run_states.specs.declared.phases.RunPhase.TheVariants as run
-use Rattle.run_states.specs.declared.sites.RuleSite.{RuleSite}
-use Rattle.run_states.specs.declared.sites.RuleSite.TheVariants.{Opening}
-use Rattle.run_states.proofs.JobKeeps.{open_is_live}
-use Rattle.run_states.proofs.JobPhases.{is_blocked_blocked, is_open_open, no_legs}
-use Rattle.run_states.proofs.Optional.{from_and_then}
-use Rattle.run_states.proofs.RunFits.{RunsFit, job_in_run, jobs_fit}
+use Rattle.table_model.specs.Settling.{arrived, displaced, room_made, started, decided, may_run, result_at, rule_at, with_leg_in}
+use Rattle.table_model.specs.Groups.{cancels_in_progress, group_at}
+use Rattle.table_model.specs.GroupLaw.{holder_of, same_holder, Move, Transition, and_then, without_moves}
+use Rattle.table_model.specs.Groups.{HasOneBeside, HasOneEach, holds, is_in, leg_waits, may_start, run_waits, waits}
+use Rattle.table_model.specs.Runs.{results_of, job_at, leg_at, run_at, with_job, with_run, LegState, JobState, RunState}
+use Rattle.table_model.specs.declared.sites.LegSite.{LegSite}
+use Rattle.table_model.specs.Settling.{first_site, first_rule, settled_within}
+use Rattle.table_model.specs.Sound.{PhaseFits}
+use Rattle.table_model.specs.Runs.{leg_has_ended, is_blocked, is_done, is_live, is_open, leg_in_phase, opened, run_in_phase, finished_as}
+use Rattle.table_model.specs.LegContext.{is_stopping, planned_legs}
+use Rattle.table_model.specs.declared.phases.LegPhase.{LegPhase}
+use Rattle.table_model.specs.declared.phases.LegPhase.TheVariants as leg
+use Rattle.table_model.specs.declared.phases.RunPhase.{RunPhase}
+use Rattle.table_model.specs.declared.phases.RunPhase.TheVariants as run
+use Rattle.table_model.specs.declared.sites.RuleSite.{RuleSite}
+use Rattle.table_model.specs.declared.sites.RuleSite.TheVariants.{Opening}
+use Rattle.table_model.proofs.JobKeeps.{open_is_live}
+use Rattle.table_model.proofs.JobPhases.{is_blocked_blocked, is_open_open, no_legs}
+use Rattle.table_model.proofs.Optional.{from_and_then}
+use Rattle.table_model.proofs.RunFits.{RunsFit, job_in_run, jobs_fit}
 use Rattle.settling_laws.proofs.ArrivalKeeps.{itself}
 use Rattle.settling_laws.proofs.EachRule.{by_rule, run_ended}
 use Rattle.settling_laws.proofs.HoldersFade.{job_fades, leg_fades, leg_passes, passes, waits_before_leg}
@@ -49,8 +49,8 @@ use Rattle.table_laws.proofs.LawSoFar.{unmoved_is_quiet}
 use Rattle.table_laws.proofs.OwnMoves.{of_group, own}
 use Rattle.table_laws.proofs.StopsTold.{Tells, goes_by}
 use Rattle.table_laws.proofs.Unbegun.{AllStill, LegUnbegun, There, leg_all_still, live_job_still, new_leg_unbegun, phase_still, still_of_all}
-use Rattle.run_states.specs.declared.holder.Holder.{Holder}
-use Rattle.run_states.specs.declared.holder.Holder.TheVariants.{Run, Leg}
+use Rattle.table_model.specs.declared.holder.Holder.{Holder}
+use Rattle.table_model.specs.declared.holder.Holder.TheVariants.{Run, Leg}
 
 -- ---- a job opens
 

@@ -5,24 +5,24 @@ use Rattle.std.specs.Prelude.{Some, None, if◌then◌else◌}
 use Rattle.std.specs.Option.{option_map_or}
 use Rattle.wf_value.specs.declared.outcome.Outcome.{Outcome}
 use Rattle.wf_value.specs.declared.outcome.Outcome.TheVariants as outcome
-use Rattle.run_states.specs.Settling.{arrived, displaced, others_pending, room_made, stopped_where_requested, decided, leg_in_phase}
-use Rattle.run_states.specs.Runs.{changed_at, with_job, with_leg, with_run, JobState, LegState, RunState}
-use Rattle.run_states.specs.Fitting.{site_of_lease}
-use Rattle.run_states.specs.Groups.{cancels_in_progress, group_at, in_progress_in}
-use Rattle.run_states.specs.GroupLaw.{Transition, and_then, at_each, without_moves}
-use Rattle.run_states.specs.declared.sites.LegSite.{LegSite}
-use Rattle.run_states.specs.Settling.{result_at, rule_at, run_in_phase, finished_as, with_leg_in}
-use Rattle.run_states.specs.Settling.{first_site, first_rule, remaining_phases, settled, settled_within}
-use Rattle.run_states.specs.Stops.{with_ended, displace, stop_holder}
-use Rattle.run_states.specs.Stops.{after_end, stopped, stopped_in, stopped_run, stops_others, with_stop_requested, with_stopped_legs}
-use Rattle.run_states.specs.declared.phases.LegPhase.TheVariants as leg
-use Rattle.run_states.specs.declared.phases.RunPhase.{RunPhase}
-use Rattle.run_states.specs.declared.phases.RunPhase.TheVariants as run
-use Rattle.run_states.specs.declared.sites.RuleSite.{RuleSite}
-use Rattle.run_states.proofs.Optional.{from_and_then}
+use Rattle.table_model.specs.Settling.{arrived, displaced, others_pending, room_made, stopped_where_requested, decided, leg_in_phase}
+use Rattle.table_model.specs.Runs.{changed_at, with_job, with_leg, with_run, JobState, LegState, RunState}
+use Rattle.table_model.specs.Fitting.{site_of_lease}
+use Rattle.table_model.specs.Groups.{cancels_in_progress, group_at, in_progress_in}
+use Rattle.table_model.specs.GroupLaw.{Transition, and_then, at_each, without_moves}
+use Rattle.table_model.specs.declared.sites.LegSite.{LegSite}
+use Rattle.table_model.specs.Settling.{result_at, rule_at, run_in_phase, finished_as, with_leg_in}
+use Rattle.table_model.specs.Settling.{first_site, first_rule, remaining_phases, settled, settled_within}
+use Rattle.table_model.specs.Stops.{with_ended, displace, stop_holder}
+use Rattle.table_model.specs.Stops.{after_end, stopped, stopped_in, stopped_run, stops_others, with_stop_requested, with_stopped_legs}
+use Rattle.table_model.specs.declared.phases.LegPhase.TheVariants as leg
+use Rattle.table_model.specs.declared.phases.RunPhase.{RunPhase}
+use Rattle.table_model.specs.declared.phases.RunPhase.TheVariants as run
+use Rattle.table_model.specs.declared.sites.RuleSite.{RuleSite}
+use Rattle.table_model.proofs.Optional.{from_and_then}
 use Rattle.settling_laws.proofs.EachRule.{by_rule}
-use Rattle.run_states.specs.declared.holder.Holder.{Holder}
-use Rattle.run_states.specs.declared.holder.Holder.TheVariants.{Run, Leg}
+use Rattle.table_model.specs.declared.holder.Holder.{Holder}
+use Rattle.table_model.specs.declared.holder.Holder.TheVariants.{Run, Leg}
 
 -- the value read from a run depends only on these two
 abbrev pub IsOfCourse : {X : Type 0} → (RunState → X) → Type 0

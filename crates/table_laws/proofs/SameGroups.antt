@@ -4,17 +4,17 @@ use Rattle.std.specs.Prelude.{◌≡◌, ◌⊎◌, List, [], Bool, true, false,
 use Rattle.std.proofs.Common.{ap, inl, inr, sym, ◌∙◌, subst}
 use Rattle.std.proofs.lemmas.Bool.{true≢false}
 use Rattle.group_name.specs.Group.{Group}
-use Rattle.run_states.specs.GroupLaw.{has_arrived, Move}
-use Rattle.run_states.specs.Groups.{is_in}
-use Rattle.run_states.specs.Runs.{leg_at, run_at, LegState, RunState}
-use Rattle.run_states.proofs.RunFits.{RunsFit}
+use Rattle.table_model.specs.GroupLaw.{has_arrived, Move}
+use Rattle.table_model.specs.Groups.{is_in}
+use Rattle.table_model.specs.Runs.{leg_at, run_at, LegState, RunState}
+use Rattle.table_model.proofs.RunFits.{RunsFit}
 use Rattle.settling_laws.proofs.OneEach.{IsOneOf, one_that_waits}
 use Rattle.table_laws.proofs.GroupsKept.{Grows, is_in_kept}
 use Rattle.table_laws.proofs.HolderStatus.{Fits, Status, status, status_by, status_of_leg, status_of_run}
 use Rattle.table_laws.proofs.LawSoFar.{LawSoFar, unseen_is_unmoved}
 use Rattle.table_laws.proofs.OwnMoves.{arrived_by_own, own}
-use Rattle.run_states.specs.declared.holder.Holder.{Holder}
-use Rattle.run_states.specs.declared.holder.Holder.TheVariants.{Run, Leg}
+use Rattle.table_model.specs.declared.holder.Holder.{Holder}
+use Rattle.table_model.specs.declared.holder.Holder.TheVariants.{Run, Leg}
 
 pub there_or_not : (runs : List RunState) (h : Holder) → IsOneOf runs h ⊎ (status runs h ≡ Status.unarrived)
 there_or_not runs (Run r) =

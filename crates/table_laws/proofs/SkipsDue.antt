@@ -15,36 +15,36 @@ use Rattle.run_plan.specs.declared.command.Done.{Done as Reported}
 use Rattle.run_plan.specs.declared.command.Command.{Command}
 use Rattle.run_plan.specs.declared.command.Command.TheVariants as command
 use Rattle.run_plan.specs.declared.reply.Reply.{Reply}
-use Rattle.run_states.specs.Fitting.{first_fit, site_of_lease}
-use Rattle.run_states.specs.Step.{after, empty, entered, unchanged, admission_answer, admitting, admitted, claim_answer, leasing}
-use Rattle.run_states.specs.TableState.{Step, TableState, runner_named}
-use Rattle.run_states.specs.Runs.{run_at, with_job, with_leg, with_run, again, new_run, leased_leg, JobState, RunState}
-use Rattle.run_states.specs.declared.sites.LegSite.{LegSite}
-use Rattle.run_states.specs.Settling.{leg_in_phase}
-use Rattle.run_states.specs.Sound.{IsSound}
-use Rattle.run_states.specs.Step.{entered_again, rerun, rerun_answer, rerunning}
-use Rattle.run_states.specs.Step.{serving_nothing, claiming, claimed, report_answer, reporting, reported, stepped}
-use Rattle.run_states.specs.Stops.{with_ended, after_end, outcome_of_loss, stopped_run, stops_others, with_stopped_legs}
-use Rattle.run_states.specs.Step.{cancel_answer, cancelling, cancelled, losing, lost, refused, released}
-use Rattle.run_states.specs.declared.phases.LegPhase.TheVariants as leg
+use Rattle.table_model.specs.Fitting.{first_fit, site_of_lease}
+use Rattle.table_model.specs.Step.{after, empty, entered, unchanged, admission_answer, admitting, admitted, claim_answer, leasing}
+use Rattle.table_model.specs.TableState.{Step, TableState, runner_named}
+use Rattle.table_model.specs.Runs.{run_at, with_job, with_leg, with_run, again, new_run, leased_leg, JobState, RunState}
+use Rattle.table_model.specs.declared.sites.LegSite.{LegSite}
+use Rattle.table_model.specs.Settling.{leg_in_phase}
+use Rattle.table_model.specs.Sound.{IsSound}
+use Rattle.table_model.specs.Step.{entered_again, rerun, rerun_answer, rerunning}
+use Rattle.table_model.specs.Step.{serving_nothing, claiming, claimed, report_answer, reporting, reported, stepped}
+use Rattle.table_model.specs.Stops.{with_ended, after_end, outcome_of_loss, stopped_run, stops_others, with_stopped_legs}
+use Rattle.table_model.specs.Step.{cancel_answer, cancelling, cancelled, losing, lost, refused, released}
+use Rattle.table_model.specs.declared.phases.LegPhase.TheVariants as leg
 use Rattle.run_table.proofs.AdmitKeeps.{all_fit, job_is_blocked}
 use Rattle.run_table.proofs.ClaimKeeps.{leasing_keeps}
 use Rattle.run_table.proofs.Entered.{entered_settles}
 use Rattle.run_table.proofs.EnteredAgain.{again_fits, entered_again_settles}
-use Rattle.run_states.proofs.Changed.{at_another, at_changed}
-use Rattle.run_states.proofs.Found.{at_the_end, before_the_end}
-use Rattle.run_states.proofs.JobKeeps.{job_in}
+use Rattle.table_model.proofs.Changed.{at_another, at_changed}
+use Rattle.table_model.proofs.Found.{at_the_end, before_the_end}
+use Rattle.table_model.proofs.JobKeeps.{job_in}
 use Rattle.run_table.proofs.Kept.{kept_from_sound}
-use Rattle.run_states.proofs.NeedsSettled.{result_in}
+use Rattle.table_model.proofs.NeedsSettled.{result_in}
 use Rattle.run_table.proofs.ReportKeeps.{loss_keeps, report_keeps}
-use Rattle.run_states.proofs.RunFits.{job_in_run}
+use Rattle.table_model.proofs.RunFits.{job_in_run}
 use Rattle.run_table.proofs.StepKeeps.{empty_is_sound, run_to_cancel, stepped_is_sound}
-use Rattle.run_states.proofs.StopKeeps.{stopped_run_settles}
+use Rattle.table_model.proofs.StopKeeps.{stopped_run_settles}
 use Rattle.table_laws.specs.Skips.{SkipsAreDue}
 use Rattle.table_laws.proofs.Decided.{JobDecided, Decided, decided_stays, job_change_decided, leg_change_decided}
 use Rattle.table_laws.proofs.RulesDecided.{arrival_decided, settled_decided}
 use Rattle.table_laws.proofs.StopDecided.{stopped_decided}
-use Rattle.run_states.specs.declared.holder.Holder.TheVariants.{Run}
+use Rattle.table_model.specs.declared.holder.Holder.TheVariants.{Run}
 
 -- ---- a new run
 

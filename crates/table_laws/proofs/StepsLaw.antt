@@ -20,40 +20,40 @@ use Rattle.run_plan.specs.declared.planned.PlannedJob.{PlannedJob}
 use Rattle.run_plan.specs.declared.reply.Reply.{Reply}
 use Rattle.run_plan.specs.declared.reply.Reply.TheVariants as reply
 use Rattle.wf_value.specs.declared.code.Code.TheVariants.{LeaseNotHeld, NoRunner}
-use Rattle.run_states.specs.Fitting.{first_fit, has_lease, site_of_lease, is_at_work}
-use Rattle.run_states.specs.Groups.{cancels_in_progress, HasOneEach, holds, is_in, leg_holds}
-use Rattle.run_states.specs.GroupLaw.{Move, Transition, without_moves}
-use Rattle.run_states.specs.TableState.{Step, RunnerState, TableState, runner_named, with_runner}
-use Rattle.run_states.specs.Runs.{job_at, leg_at, leg_sites, run_at, with_job, with_leg, leg_has_ended, leg_in_phase, RunState}
-use Rattle.run_states.specs.declared.sites.LegSite.{LegSite}
-use Rattle.run_states.specs.Settling.{remaining_phases, settled, settling}
-use Rattle.run_states.specs.Sound.{IsSound}
-use Rattle.run_states.specs.Step.{admission_answer, admitted, admitting, at_rest_after, cancel_answer, cancelled, serving_nothing, stepped}
-use Rattle.run_states.specs.Runs.{blocked_job, leased_leg, new_run}
-use Rattle.run_states.specs.Step.{cancelling, claim_answer, claimed, claiming, claiming_runner, entered, kept_lease_at, lease_at, leasing, losing, lost}
-use Rattle.run_states.specs.Stops.{lease_end_moves, with_ended, end_moves, legs_stop_moves, others_stop_moves, stop_holder}
-use Rattle.run_states.specs.Step.{refused, released, report_answer, reported, reporting, reporting_runner, rerun, rerun_answer, rerunning}
-use Rattle.run_states.specs.Step.{unchanged}
-use Rattle.run_states.specs.Stops.{after_end, outcome_of_loss, stops_others, with_stopped_legs}
-use Rattle.run_states.specs.declared.phases.LegPhase.{LegPhase}
-use Rattle.run_states.specs.declared.phases.LegPhase.TheVariants as leg
+use Rattle.table_model.specs.Fitting.{first_fit, has_lease, site_of_lease, is_at_work}
+use Rattle.table_model.specs.Groups.{cancels_in_progress, HasOneEach, holds, is_in, leg_holds}
+use Rattle.table_model.specs.GroupLaw.{Move, Transition, without_moves}
+use Rattle.table_model.specs.TableState.{Step, RunnerState, TableState, runner_named, with_runner}
+use Rattle.table_model.specs.Runs.{job_at, leg_at, leg_sites, run_at, with_job, with_leg, leg_has_ended, leg_in_phase, RunState}
+use Rattle.table_model.specs.declared.sites.LegSite.{LegSite}
+use Rattle.table_model.specs.Settling.{remaining_phases, settled, settling}
+use Rattle.table_model.specs.Sound.{IsSound}
+use Rattle.table_model.specs.Step.{admission_answer, admitted, admitting, at_rest_after, cancel_answer, cancelled, serving_nothing, stepped}
+use Rattle.table_model.specs.Runs.{blocked_job, leased_leg, new_run}
+use Rattle.table_model.specs.Step.{cancelling, claim_answer, claimed, claiming, claiming_runner, entered, kept_lease_at, lease_at, leasing, losing, lost}
+use Rattle.table_model.specs.Stops.{lease_end_moves, with_ended, end_moves, legs_stop_moves, others_stop_moves, stop_holder}
+use Rattle.table_model.specs.Step.{refused, released, report_answer, reported, reporting, reporting_runner, rerun, rerun_answer, rerunning}
+use Rattle.table_model.specs.Step.{unchanged}
+use Rattle.table_model.specs.Stops.{after_end, outcome_of_loss, stops_others, with_stopped_legs}
+use Rattle.table_model.specs.declared.phases.LegPhase.{LegPhase}
+use Rattle.table_model.specs.declared.phases.LegPhase.TheVariants as leg
 use Rattle.run_table.proofs.AdmitKeeps.{all_fit}
 use Rattle.run_table.proofs.BeginsAgain.{BeginsAgain, begins_again}
 use Rattle.run_table.proofs.ClaimKeeps.{fitting_leg}
 use Rattle.run_table.proofs.CommandsOneEach.{ended_one_each, leased_fades, leased_one_each, stopped_one_each}
 use Rattle.run_table.proofs.Entered.{entered_keeps, entered_one_each, entered_settles, groups_before, held, new_run_waits, waited}
-use Rattle.run_states.proofs.Found.{at_the_end, before_the_end, find_passes}
-use Rattle.run_states.proofs.JobKeeps.{leg_elsewhere, leg_in, leg_now, leg_stays}
+use Rattle.table_model.proofs.Found.{at_the_end, before_the_end, find_passes}
+use Rattle.table_model.proofs.JobKeeps.{leg_elsewhere, leg_in, leg_now, leg_stays}
 use Rattle.settling_laws.proofs.HoldersFade.{leg_fades, leg_passes, legs_stop_fades, passes}
 use Rattle.settling_laws.proofs.HoldersKeep.{run_stop_settles}
 use Rattle.run_table.proofs.Kept.{kept_from_sound}
-use Rattle.run_states.proofs.LegReads.{had_at, had_is, leg_from_works, work_parts, works_at}
+use Rattle.table_model.proofs.LegReads.{had_at, had_is, leg_from_works, work_parts, works_at}
 use Rattle.settling_laws.proofs.OneEach.{Comes}
 use Rattle.run_table.proofs.ReportKeeps.{has_it, held_for_loss, held_for_report, loss_keeps, loss_stays, report_keeps, report_stays}
 use Rattle.run_table.proofs.ReportKeeps.{work_at}
-use Rattle.run_states.proofs.RunFits.{RunsFit}
+use Rattle.table_model.proofs.RunFits.{RunsFit}
 use Rattle.run_table.proofs.RunnerPut.{stood}
-use Rattle.run_states.proofs.Settles.{StayFit}
+use Rattle.table_model.proofs.Settles.{StayFit}
 use Rattle.settling_laws.proofs.ArrivalKeeps.{itself}
 use Rattle.settling_laws.proofs.SettlingKeeps.{settling_settles}
 use Rattle.table_laws.proofs.ChangesTold.{leg_tells, legs_stop_tells, only_none, only_one}
@@ -67,8 +67,8 @@ use Rattle.table_laws.proofs.OwnMoves.{own}
 use Rattle.table_laws.proofs.RulesLaw.{first_arrival_keeps, settled_keeps}
 use Rattle.table_laws.proofs.StopsTold.{Tells, goes_by, goes_same}
 use Rattle.table_laws.proofs.Unbegun.{Still, leg_still, legs_all_still, new_run_still}
-use Rattle.run_states.specs.declared.holder.Holder.{Holder}
-use Rattle.run_states.specs.declared.holder.Holder.TheVariants.{Run, Leg}
+use Rattle.table_model.specs.declared.holder.Holder.{Holder}
+use Rattle.table_model.specs.declared.holder.Holder.TheVariants.{Run, Leg}
 
 -- ---- a new run
 

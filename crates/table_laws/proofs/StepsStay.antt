@@ -11,15 +11,15 @@ use Rattle.run_plan.specs.declared.command.Claim.{Claim as Claimed}
 use Rattle.run_plan.specs.declared.command.Command.{Command}
 use Rattle.run_plan.specs.declared.command.Command.TheVariants as command
 use Rattle.run_plan.specs.declared.reply.Reply.{Reply}
-use Rattle.run_states.specs.Fitting.{first_fit}
-use Rattle.run_states.specs.Runs.{leased_leg, new_run, with_leg, LegState, RunState}
-use Rattle.run_states.specs.Settling.{settled}
-use Rattle.run_states.specs.Stops.{with_ended, stop_holder, outcome_of_loss}
-use Rattle.run_states.specs.Step.{admission_answer, admitting, cancel_answer, cancelling, claim_answer, claiming, entered}
-use Rattle.run_states.specs.Step.{leasing, losing, lost, refused, released, report_answer, reporting, serving_nothing, stepped, unchanged}
-use Rattle.run_states.specs.TableState.{Step, TableState, runner_named}
+use Rattle.table_model.specs.Fitting.{first_fit}
+use Rattle.table_model.specs.Runs.{leased_leg, new_run, with_leg, LegState, RunState}
+use Rattle.table_model.specs.Settling.{settled}
+use Rattle.table_model.specs.Stops.{with_ended, stop_holder, outcome_of_loss}
+use Rattle.table_model.specs.Step.{admission_answer, admitting, cancel_answer, cancelling, claim_answer, claiming, entered}
+use Rattle.table_model.specs.Step.{leasing, losing, lost, refused, released, report_answer, reporting, serving_nothing, stepped, unchanged}
+use Rattle.table_model.specs.TableState.{Step, TableState, runner_named}
 use Rattle.table_laws.proofs.RunsStay.{IsOfCourse, arrived_stays, ended_stays, leg_stays, settled_stays, stop_stays}
-use Rattle.run_states.specs.declared.holder.Holder.TheVariants.{Run}
+use Rattle.table_model.specs.declared.holder.Holder.TheVariants.{Run}
 
 abbrev pub IsNoRerun : Command → Type 0
 IsNoRerun (command.Rerun requested) = ⊥

@@ -11,20 +11,20 @@ use Rattle.wf_value.specs.declared.outcome.JobResult.TheVariants as result
 use Rattle.needs_graph.specs.Needs.{needs_at, indexes, is_listed, needs_of}
 use Rattle.definitions.specs.Rising.{JobNeeds}
 use Rattle.run_plan.specs.PlanOf.{needs_listed, needs_of_planned, plan_of}
-use Rattle.run_states.specs.Runs.{run_at, job_at, with_run, JobState, RunState}
-use Rattle.run_states.specs.Settling.{is_open, finished_as}
-use Rattle.run_states.specs.Stops.{cancelled, stopped_in, stopped_run, stopped_where, with_stop_requested, with_stopped_legs}
-use Rattle.run_states.specs.inner.WithinRun.{may_run_in, needs_finished_in}
-use Rattle.run_states.specs.LegContext.{all_have_results, needs_have_finished, results_so_far}
-use Rattle.run_states.specs.declared.phases.JobPhase.{JobPhase}
-use Rattle.run_states.specs.declared.phases.RunPhase.{RunPhase}
-use Rattle.run_states.specs.declared.phases.RunPhase.TheVariants as run
-use Rattle.run_states.proofs.Changed.{at_changed, holds_of_each}
-use Rattle.run_states.proofs.JobKeeps.{job_in}
-use Rattle.run_states.proofs.NeedsSettled.{needs_by_run}
-use Rattle.run_states.proofs.Optional.{from_map}
-use Rattle.run_states.proofs.RunFits.{RunsFit, job_in_run}
-use Rattle.run_states.proofs.StopKeeps.{get_placed, stopped_run_settles}
+use Rattle.table_model.specs.Runs.{run_at, job_at, with_run, JobState, RunState}
+use Rattle.table_model.specs.Settling.{is_open, finished_as}
+use Rattle.table_model.specs.Stops.{cancelled, stopped_in, stopped_run, stopped_where, with_stop_requested, with_stopped_legs}
+use Rattle.table_model.specs.inner.WithinRun.{may_run_in, needs_finished_in}
+use Rattle.table_model.specs.LegContext.{all_have_results, needs_have_finished, results_so_far}
+use Rattle.table_model.specs.declared.phases.JobPhase.{JobPhase}
+use Rattle.table_model.specs.declared.phases.RunPhase.{RunPhase}
+use Rattle.table_model.specs.declared.phases.RunPhase.TheVariants as run
+use Rattle.table_model.proofs.Changed.{at_changed, holds_of_each}
+use Rattle.table_model.proofs.JobKeeps.{job_in}
+use Rattle.table_model.proofs.NeedsSettled.{needs_by_run}
+use Rattle.table_model.proofs.Optional.{from_map}
+use Rattle.table_model.proofs.RunFits.{RunsFit, job_in_run}
+use Rattle.table_model.proofs.StopKeeps.{get_placed, stopped_run_settles}
 use Rattle.table_laws.proofs.AncestorsSettled.{has_result}
 use Rattle.table_laws.proofs.Decided.{JobDecided, Decided, decided_stays}
 

@@ -7,19 +7,19 @@ use Rattle.std.proofs.lemmas.Bool.{cases_eq, eqb-true}
 use Rattle.std.proofs.lemmas.Option.{slice_get-map}
 use Rattle.wf_value.specs.declared.outcome.JobResult.TheVariants as result
 use Rattle.wf_value.specs.declared.outcome.Outcome.TheVariants.{Cancelled}
-use Rattle.run_states.specs.Runs.{changed_at, placed, leg_site, run_at, with_run, LegState, JobState, RunState, is_open, finished_as}
-use Rattle.run_states.specs.GroupLaw.{holder_of, same_holder, Move, Transition}
-use Rattle.run_states.specs.declared.sites.LegSite.{LegSite}
-use Rattle.run_states.specs.LegContext.{may_run_in}
-use Rattle.run_states.specs.Stops.{jobs_stop_moves, leg_stop_moves, legs_stop_moves, run_stop_moves, run_stop_moves_in, stop_holder}
-use Rattle.run_states.specs.Stops.{stop_request_moves, where_stop_moves, with_stopped_legs}
-use Rattle.run_states.specs.Stops.{cancelled, stopped, stopped_in, stopped_phase, stopped_run, stopped_where, with_stop_requested}
-use Rattle.run_states.specs.declared.phases.LegPhase.{LegPhase}
-use Rattle.run_states.specs.declared.phases.LegPhase.TheVariants as leg
-use Rattle.run_states.specs.declared.phases.RunPhase.{RunPhase}
-use Rattle.run_states.specs.declared.phases.RunPhase.TheVariants as run
-use Rattle.run_states.proofs.Changed.{at_another, at_changed}
-use Rattle.run_states.proofs.StopKeeps.{get_placed}
+use Rattle.table_model.specs.Runs.{changed_at, placed, leg_site, run_at, with_run, LegState, JobState, RunState, is_open, finished_as}
+use Rattle.table_model.specs.GroupLaw.{holder_of, same_holder, Move, Transition}
+use Rattle.table_model.specs.declared.sites.LegSite.{LegSite}
+use Rattle.table_model.specs.LegContext.{may_run_in}
+use Rattle.table_model.specs.Stops.{jobs_stop_moves, leg_stop_moves, legs_stop_moves, run_stop_moves, run_stop_moves_in, stop_holder}
+use Rattle.table_model.specs.Stops.{stop_request_moves, where_stop_moves, with_stopped_legs}
+use Rattle.table_model.specs.Stops.{cancelled, stopped, stopped_in, stopped_phase, stopped_run, stopped_where, with_stop_requested}
+use Rattle.table_model.specs.declared.phases.LegPhase.{LegPhase}
+use Rattle.table_model.specs.declared.phases.LegPhase.TheVariants as leg
+use Rattle.table_model.specs.declared.phases.RunPhase.{RunPhase}
+use Rattle.table_model.specs.declared.phases.RunPhase.TheVariants as run
+use Rattle.table_model.proofs.Changed.{at_another, at_changed}
+use Rattle.table_model.proofs.StopKeeps.{get_placed}
 use Rattle.settling_laws.proofs.ArrivalKeeps.{itself, one_or_another}
 use Rattle.table_laws.proofs.HolderStatus.{Goes, Status, ends_by_stop, goes_not, goes_over, goes_to_stop, goes_unseen, leg_status}
 use Rattle.table_laws.proofs.HolderStatus.{run_status, status}
@@ -27,8 +27,8 @@ use Rattle.table_laws.proofs.HolderStatus.{status_by, status_by_run, status_in_j
 use Rattle.table_laws.proofs.OwnMoves.{own}
 use Rattle.table_laws.proofs.PlacedOne.{filter_flat_map, none_of_all, one_of_placed}
 use Rattle.table_laws.proofs.HoldersOnce.{leg_is}
-use Rattle.run_states.specs.declared.holder.Holder.{Holder}
-use Rattle.run_states.specs.declared.holder.Holder.TheVariants.{Run, Leg}
+use Rattle.table_model.specs.declared.holder.Holder.{Holder}
+use Rattle.table_model.specs.declared.holder.Holder.TheVariants.{Run, Leg}
 
 -- ---- the element at an index, changed
 

@@ -11,31 +11,31 @@ use Rattle.wf_value.specs.declared.outcome.JobResult.TheVariants as result
 use Rattle.wf_value.specs.declared.outcome.Outcome.{Outcome}
 use Rattle.wf_value.specs.declared.outcome.Outcome.TheVariants as outcome
 use Rattle.definitions.specs.SmallText.{Admitted}
-use Rattle.run_states.specs.Runs.{changed_at, new_run, job_at, leg_at, run_at, with_job, with_leg, with_run, LegState, JobState, RunState}
-use Rattle.run_states.specs.Groups.{holds, leg_holds, leg_waits, run_waits, waits}
-use Rattle.run_states.specs.GroupLaw.{Transition, at_each}
-use Rattle.run_states.specs.declared.sites.LegSite.{LegSite}
-use Rattle.run_states.specs.Settling.{result_at}
-use Rattle.run_states.specs.LegContext.{may_run_in, planned_legs}
-use Rattle.run_states.specs.Sound.{LeaseFits, PhaseFits}
-use Rattle.run_states.specs.Runs.{is_live, is_open, new_leg, run_in_phase, finished_as}
-use Rattle.run_states.specs.Stops.{stop_holder, with_stopped_legs}
-use Rattle.run_states.specs.Stops.{cancelled, stopped, stopped_in, stopped_phase, stopped_run, stopped_where, with_stop_requested}
-use Rattle.run_states.specs.declared.phases.JobPhase.TheVariants as job
-use Rattle.run_states.specs.declared.phases.LegPhase.{LegPhase}
-use Rattle.run_states.specs.declared.phases.LegPhase.TheVariants as leg
-use Rattle.run_states.specs.declared.phases.RunPhase.{RunPhase}
-use Rattle.run_states.specs.declared.phases.RunPhase.TheVariants as run
-use Rattle.run_states.proofs.Changed.{came}
-use Rattle.run_states.proofs.Found.{before_the_end}
-use Rattle.run_states.proofs.JobKeeps.{with_job_of, with_leg_of}
-use Rattle.run_states.proofs.JobPhases.{no_legs}
-use Rattle.run_states.proofs.LeaseReads.{place_or_another}
-use Rattle.run_states.proofs.Optional.{from_and_then}
-use Rattle.run_states.proofs.RunFits.{RunsFit, leases_fit}
-use Rattle.run_states.proofs.StopKeeps.{get_placed, where_no_legs}
-use Rattle.run_states.specs.declared.holder.Holder.{Holder}
-use Rattle.run_states.specs.declared.holder.Holder.TheVariants.{Run, Leg}
+use Rattle.table_model.specs.Runs.{changed_at, new_run, job_at, leg_at, run_at, with_job, with_leg, with_run, LegState, JobState, RunState}
+use Rattle.table_model.specs.Groups.{holds, leg_holds, leg_waits, run_waits, waits}
+use Rattle.table_model.specs.GroupLaw.{Transition, at_each}
+use Rattle.table_model.specs.declared.sites.LegSite.{LegSite}
+use Rattle.table_model.specs.Settling.{result_at}
+use Rattle.table_model.specs.LegContext.{may_run_in, planned_legs}
+use Rattle.table_model.specs.Sound.{LeaseFits, PhaseFits}
+use Rattle.table_model.specs.Runs.{is_live, is_open, new_leg, run_in_phase, finished_as}
+use Rattle.table_model.specs.Stops.{stop_holder, with_stopped_legs}
+use Rattle.table_model.specs.Stops.{cancelled, stopped, stopped_in, stopped_phase, stopped_run, stopped_where, with_stop_requested}
+use Rattle.table_model.specs.declared.phases.JobPhase.TheVariants as job
+use Rattle.table_model.specs.declared.phases.LegPhase.{LegPhase}
+use Rattle.table_model.specs.declared.phases.LegPhase.TheVariants as leg
+use Rattle.table_model.specs.declared.phases.RunPhase.{RunPhase}
+use Rattle.table_model.specs.declared.phases.RunPhase.TheVariants as run
+use Rattle.table_model.proofs.Changed.{came}
+use Rattle.table_model.proofs.Found.{before_the_end}
+use Rattle.table_model.proofs.JobKeeps.{with_job_of, with_leg_of}
+use Rattle.table_model.proofs.JobPhases.{no_legs}
+use Rattle.table_model.proofs.LeaseReads.{place_or_another}
+use Rattle.table_model.proofs.Optional.{from_and_then}
+use Rattle.table_model.proofs.RunFits.{RunsFit, leases_fit}
+use Rattle.table_model.proofs.StopKeeps.{get_placed, where_no_legs}
+use Rattle.table_model.specs.declared.holder.Holder.{Holder}
+use Rattle.table_model.specs.declared.holder.Holder.TheVariants.{Run, Leg}
 
 -- ---- holders that have not begun
 

@@ -6,10 +6,10 @@ use Rattle.std.specs.List.{list_any}
 use Rattle.std.specs.Option.{option_map_or}
 use Rattle.wf_value.specs.declared.outcome.Outcome.{Outcome}
 use Rattle.wf_value.specs.declared.outcome.Outcome.TheVariants.{Cancelled}
-use Rattle.run_states.specs.Groups.{GroupState}
-use Rattle.run_states.specs.GroupLaw.{has_arrived, holder_of, is_pending, is_in_progress, is_the, latest, same_holder, was_stopped, Move}
-use Rattle.run_states.specs.GroupLaw.{cancelled_end}
-use Rattle.run_states.specs.declared.holder.Holder.{Holder}
+use Rattle.table_model.specs.Groups.{GroupState}
+use Rattle.table_model.specs.GroupLaw.{has_arrived, holder_of, is_pending, is_in_progress, is_the, latest, same_holder, was_stopped, Move}
+use Rattle.table_model.specs.GroupLaw.{cancelled_end}
+use Rattle.table_model.specs.declared.holder.Holder.{Holder}
 
 -- The state agrees with the moves: the holder in progress has started and not ended, the pending holder is the latest arrival and has
 -- neither started nor ended, and there are no others.

@@ -7,19 +7,19 @@ use Rattle.wf_value.specs.declared.outcome.JobResult.TheVariants as result
 use Rattle.wf_value.specs.declared.outcome.Outcome.TheVariants as outcome
 use Rattle.group_name.specs.Group.{Group}
 use Rattle.run_plan.specs.declared.command.Command.{Command}
-use Rattle.run_states.specs.Groups.{cancels_in_progress, group_state, is_in}
-use Rattle.run_states.specs.GroupLaw.{arrival_of, has_arrived, holder_of, same_holder, Move}
-use Rattle.run_states.specs.Runs.{leg_at, run_at, LegState, JobState, RunState}
-use Rattle.run_states.specs.declared.sites.LegSite.{LegSite}
-use Rattle.run_states.specs.Step.{stepped}
-use Rattle.run_states.specs.TableState.{Step, TableState}
-use Rattle.run_states.specs.declared.phases.JobPhase.TheVariants as job
-use Rattle.run_states.specs.declared.phases.LegPhase.TheVariants as leg
-use Rattle.run_states.specs.declared.phases.RunPhase.TheVariants as run
+use Rattle.table_model.specs.Groups.{cancels_in_progress, group_state, is_in}
+use Rattle.table_model.specs.GroupLaw.{arrival_of, has_arrived, holder_of, same_holder, Move}
+use Rattle.table_model.specs.Runs.{leg_at, run_at, LegState, JobState, RunState}
+use Rattle.table_model.specs.declared.sites.LegSite.{LegSite}
+use Rattle.table_model.specs.Step.{stepped}
+use Rattle.table_model.specs.TableState.{Step, TableState}
+use Rattle.table_model.specs.declared.phases.JobPhase.TheVariants as job
+use Rattle.table_model.specs.declared.phases.LegPhase.TheVariants as leg
+use Rattle.table_model.specs.declared.phases.RunPhase.TheVariants as run
 use Rattle.table_laws.specs.GroupChanges.{base_moves}
 use Rattle.table_laws.specs.Names.{Names, name_in, renamed}
-use Rattle.run_states.specs.declared.holder.Holder.{Holder}
-use Rattle.run_states.specs.declared.holder.Holder.TheVariants.{Run, Leg}
+use Rattle.table_model.specs.declared.holder.Holder.{Holder}
+use Rattle.table_model.specs.declared.holder.Holder.TheVariants.{Run, Leg}
 
 -- ---- the moves
 

@@ -2,11 +2,11 @@
 -- stop. GitHub Docs, "Control the concurrency of workflows and jobs".
 use Rattle.std.specs.Prelude.{◌≡◌, ◌&&◌, Bool, true, List}
 use Rattle.group_name.specs.Group.{Group}
-use Rattle.run_states.specs.GroupLaw.{is_pending, is_in_progress, was_stopped, Move}
-use Rattle.run_states.specs.Groups.{is_pending_in, is_in_progress_in, is_stop_requested}
-use Rattle.run_states.specs.Runs.{RunState}
+use Rattle.table_model.specs.GroupLaw.{is_pending, is_in_progress, was_stopped, Move}
+use Rattle.table_model.specs.Groups.{is_pending_in, is_in_progress_in, is_stop_requested}
+use Rattle.table_model.specs.Runs.{RunState}
 use Rattle.table_laws.specs.Names.{Names, name_in}
-use Rattle.run_states.specs.declared.holder.Holder.{Holder}
+use Rattle.table_model.specs.declared.holder.Holder.{Holder}
 
 -- it has started, has not ended, and has been asked to stop
 abbrev pub is_stopping : Holder → List Move → Bool

@@ -3,9 +3,9 @@ use Rattle.std.specs.Prelude.{List, [], ◌∷◌, ◌++◌, map, Bool, true, fa
 use Rattle.std.specs.List.{list_all}
 use Rattle.wf_value.specs.declared.outcome.Outcome.{Outcome}
 use Rattle.wf_value.specs.declared.outcome.Outcome.TheVariants.{Success, Failure, Cancelled}
-use Rattle.run_states.specs.GroupLaw.{arrival_of, has_ended, has_started, holder_of, is_in_progress, is_the, latest, next_displaced, Move}
-use Rattle.run_states.specs.GroupLaw.{same_holder, was_stopped}
-use Rattle.run_states.specs.declared.holder.Holder.{Holder}
+use Rattle.table_model.specs.GroupLaw.{arrival_of, has_ended, has_started, holder_of, is_in_progress, is_the, latest, next_displaced, Move}
+use Rattle.table_model.specs.GroupLaw.{same_holder, was_stopped}
+use Rattle.table_model.specs.declared.holder.Holder.{Holder}
 
 abbrev pub is_cancelled : Outcome → Bool
 is_cancelled Success = false

@@ -2,10 +2,10 @@
 -- a different holder from what ended in the attempt before.
 use Rattle.std.specs.Prelude.{◌≡◌, ℕ, List}
 use Rattle.std.specs.Option.{option_map_or}
-use Rattle.run_states.specs.Holders.{run_of}
-use Rattle.run_states.specs.GroupLaw.{Move}
-use Rattle.run_states.specs.Runs.{run_at, RunState}
-use Rattle.run_states.specs.declared.holder.Holder.{Holder}
+use Rattle.table_model.specs.Holders.{run_of}
+use Rattle.table_model.specs.GroupLaw.{Move}
+use Rattle.table_model.specs.Runs.{run_at, RunState}
+use Rattle.table_model.specs.declared.holder.Holder.{Holder}
 
 -- Any names such that two attempts, or two holders, have different names.
 pub record Names : Type 0 where

@@ -11,8 +11,8 @@ use Rattle.run_plan.specs.declared.command.Command.TheVariants as command
 use Rattle.run_plan.specs.declared.last_command.LastCommand.{LastCommand}
 use Rattle.run_plan.specs.declared.last_command.LastCommand.TheVariants as last
 use Rattle.run_plan.specs.declared.reply.Reply.{Reply}
-use Rattle.run_states.specs.Runs.{is_delivered_as, run_at}
-use Rattle.run_states.specs.TableState.{RunnerState, TableState, runner_named}
+use Rattle.table_model.specs.Runs.{is_delivered_as, run_at}
+use Rattle.table_model.specs.TableState.{RunnerState, TableState, runner_named}
 use Rattle.table_laws.specs.ExactlyOnce.{HasNumber, IsRefused}
 
 -- ---- a delivery

@@ -3,9 +3,9 @@
 use Rattle.std.specs.Prelude.{◌≡◌, ℕ, List, true, false, Some}
 use Rattle.wf_value.specs.declared.outcome.JobResult.TheVariants as result
 use Rattle.needs_graph.specs.Needs.{condition_value}
-use Rattle.run_states.specs.Runs.{job_at, JobState, RunState}
-use Rattle.run_states.specs.LegContext.{ancestor_results, condition_of, needs_have_finished}
-use Rattle.run_states.specs.declared.phases.JobPhase.TheVariants as job
+use Rattle.table_model.specs.Runs.{job_at, JobState, RunState}
+use Rattle.table_model.specs.LegContext.{ancestor_results, condition_of, needs_have_finished}
+use Rattle.table_model.specs.declared.phases.JobPhase.TheVariants as job
 
 -- all needs of a skipped job have finished, and its condition is false for the results of its ancestors in a run that is not stopping
 abbrev pub SkipsAreDue : List RunState → Type 0

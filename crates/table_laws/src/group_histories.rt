@@ -3,18 +3,18 @@
 ghost use Rattle.std.specs.Prelude.{◌≡◌, ◌≤◌, ℕ, List, [], ◌∷◌, ◌++◌, length, false, true, Some, None};
 ghost use Rattle.run_plan.specs.declared.command.Command.{Command};
 ghost use Rattle.group_name.specs.Group.{Group};
-ghost use Rattle.run_states.specs.GroupLaw.{has_arrived, has_ended, has_started, next_displaced, was_stopped, Move, KeepsLaw};
-ghost use Rattle.run_states.specs.Groups.{pending_in, in_progress_in};
-ghost use Rattle.run_states.specs.Step.{after};
-ghost use Rattle.run_states.specs.Runs.{leg_at, LegState};
-ghost use Rattle.run_states.specs.declared.sites.LegSite.{LegSite};
-ghost use Rattle.run_states.specs.Sound.{IsSound};
-ghost use Rattle.run_states.specs.TableState.{TableState};
+ghost use Rattle.table_model.specs.GroupLaw.{has_arrived, has_ended, has_started, next_displaced, was_stopped, Move, KeepsLaw};
+ghost use Rattle.table_model.specs.Groups.{pending_in, in_progress_in};
+ghost use Rattle.table_model.specs.Step.{after};
+ghost use Rattle.table_model.specs.Runs.{leg_at, LegState};
+ghost use Rattle.table_model.specs.declared.sites.LegSite.{LegSite};
+ghost use Rattle.table_model.specs.Sound.{IsSound};
+ghost use Rattle.table_model.specs.TableState.{TableState};
 ghost use Rattle.wf_value.specs.declared.outcome.Outcome.{Outcome};
 ghost use Rattle.table_laws.specs.GroupHistories.{IsOf, NeverBegan, all_moves, requests_cancellation};
 ghost use Rattle.table_laws.specs.GroupHolders.{SayWhoHolds};
 ghost use Rattle.table_laws.specs.Names.{Names, attempt_of};
-ghost use Rattle.run_states.specs.declared.holder.Holder.{Holder};
+ghost use Rattle.table_model.specs.declared.holder.Holder.{Holder};
 
 /// Among all runs and legs of the table, at most one is pending and at most one is running in each concurrency group.
 /// Promise (Concurrency groups): At most one holder of a group is in progress and one pending

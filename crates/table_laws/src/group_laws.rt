@@ -2,15 +2,15 @@
 //! preserves it.
 
 ghost use Rattle.std.specs.Prelude.{◌≡◌, ◌⊎◌, ◌∷◌, [], ◌++◌, List, Bool, true, false, Some};
-ghost use Rattle.run_states.specs.Groups.{GroupState};
-ghost use Rattle.run_states.specs.GroupLaw.{has_arrived, has_ended, has_started, is_pending, is_in_progress, is_the, Move};
-ghost use Rattle.run_states.specs.GroupLaw.{latest, next_displaced, was_stopped, BeginsWith, KeepsLaw};
+ghost use Rattle.table_model.specs.Groups.{GroupState};
+ghost use Rattle.table_model.specs.GroupLaw.{has_arrived, has_ended, has_started, is_pending, is_in_progress, is_the, Move};
+ghost use Rattle.table_model.specs.GroupLaw.{latest, next_displaced, was_stopped, BeginsWith, KeepsLaw};
 ghost use Rattle.wf_value.specs.declared.outcome.Outcome.{Outcome};
 ghost use Rattle.wf_value.specs.declared.outcome.Outcome.TheVariants.{Cancelled};
 ghost use Rattle.table_laws.specs.GroupChanges.{Change, Matches, MayAllBe, MayBe, after_all, base_moves};
 ghost use Rattle.table_laws.specs.GroupChanges.{beyond_base, changed, moves_of, moves_of_all};
 ghost use Rattle.table_laws.specs.GroupLawTest.{keeps_law};
-ghost use Rattle.run_states.specs.declared.holder.Holder.{Holder};
+ghost use Rattle.table_model.specs.declared.holder.Holder.{Holder};
 ghost use Rattle.table_laws.specs.Names.{Names};
 
 // ---- what follows

@@ -7,8 +7,8 @@ use Rattle.definitions.specs.SmallText.{Admitted, is_runner_byte}
 use Rattle.stored_tables.specs.Stored.{RunnerParts, TableParts}
 use Rattle.stored_tables.specs.declared.parts.LastParts.{LastParts}
 use Rattle.stored_tables.specs.declared.parts.StoredLease.{StoredLease}
-use Rattle.run_states.specs.Runs.{JobState, RunState}
-use Rattle.run_states.specs.declared.phases.RunPhase.{RunPhase}
+use Rattle.table_model.specs.Runs.{JobState, RunState}
+use Rattle.table_model.specs.declared.phases.RunPhase.{RunPhase}
 use Rattle.table_text.specs.declared.kept.StoredReply.{StoredReply}
 use Rattle.table_text.specs.declared.kept.StoredReply.TheVariants as replied
 use Rattle.command_encodings.specs.Commands.{admit, command, number, small_text}

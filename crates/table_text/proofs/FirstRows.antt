@@ -4,10 +4,10 @@ use Rattle.wf_value.specs.declared.outcome.Outcome.TheVariants as outcome
 use Rattle.run_plan.specs.declared.command.Command.TheVariants as requested
 use Rattle.stored_tables.specs.Stored.{RunnerParts, TableParts}
 use Rattle.stored_tables.specs.declared.parts.LastParts.TheVariants as last
-use Rattle.run_states.specs.Runs.{RunState}
-use Rattle.run_states.specs.declared.phases.JobPhase.TheVariants as job_phase
-use Rattle.run_states.specs.declared.phases.LegPhase.TheVariants as leg_phase
-use Rattle.run_states.specs.declared.phases.RunPhase.TheVariants as run_phase
+use Rattle.table_model.specs.Runs.{RunState}
+use Rattle.table_model.specs.declared.phases.JobPhase.TheVariants as job_phase
+use Rattle.table_model.specs.declared.phases.LegPhase.TheVariants as leg_phase
+use Rattle.table_model.specs.declared.phases.RunPhase.TheVariants as run_phase
 use Rattle.table_text.specs.FirstLayout.{first_runner, first_table, is_in_first_layout}
 use Rattle.definitions.specs.Format.{text_bytes, word_bytes}
 

@@ -20,21 +20,21 @@ use Rattle.run_plan.specs.declared.planned.PlannedJob.{PlannedJob}
 use Rattle.run_plan.specs.declared.reply.Lease.{Lease}
 use Rattle.run_plan.proofs.FewJobs.{few_jobs}
 use Rattle.run_plan.proofs.FewLegs.{few_planned}
-use Rattle.run_states.specs.Runs.{job_at, plan_at, LegState, JobState, RunState}
-use Rattle.run_states.specs.Sound.{IsOfALeg, IsSound, KeptIsOfALeg}
+use Rattle.table_model.specs.Runs.{job_at, plan_at, LegState, JobState, RunState}
+use Rattle.table_model.specs.Sound.{IsOfALeg, IsSound, KeptIsOfALeg}
 use Rattle.run_table.specs.Storable.{IsStorable}
 use Rattle.stored_tables.specs.Stored.{stored_runner, stored_table}
-use Rattle.run_states.specs.TableState.{RunnerState, TableState, names_rise}
-use Rattle.run_states.specs.declared.phases.LegPhase.{LegPhase}
-use Rattle.run_states.specs.declared.phases.LegPhase.TheVariants as leg_phase
-use Rattle.run_states.specs.declared.phases.RunPhase.{RunPhase}
-use Rattle.run_states.specs.declared.phases.RunPhase.TheVariants as run_phase
+use Rattle.table_model.specs.TableState.{RunnerState, TableState, names_rise}
+use Rattle.table_model.specs.declared.phases.LegPhase.{LegPhase}
+use Rattle.table_model.specs.declared.phases.LegPhase.TheVariants as leg_phase
+use Rattle.table_model.specs.declared.phases.RunPhase.{RunPhase}
+use Rattle.table_model.specs.declared.phases.RunPhase.TheVariants as run_phase
 use Rattle.command_encodings.specs.Commands.{admit, are_none, is_faultless}
 use Rattle.table_text.specs.Tables.{IsLease, flag_byte, is_attempt, job, leg, leg_byte, run, run_byte, runner, table}
 use Rattle.definitions.specs.Format.{only, word, word_bytes}
 use Rattle.table_text.specs.inner.Writing.{HasByte, JobHasBytes, KeptHasBytes, RunHasBytes}
 use Rattle.run_table.proofs.RunnerPut.{all_from_each}
-use Rattle.run_states.proofs.Found.{each_at}
+use Rattle.table_model.proofs.Found.{each_at}
 
 leg_byte_fits : (p : LegPhase) → leg_byte p < 256
 leg_byte_fits leg_phase.New = omega arith

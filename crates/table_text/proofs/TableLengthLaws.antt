@@ -9,10 +9,10 @@ use Rattle.run_plan.specs.declared.last_command.ClaimReply.TheVariants as given
 use Rattle.run_plan.specs.declared.last_command.LastCommand.{LastCommand}
 use Rattle.run_plan.specs.declared.last_command.LastCommand.TheVariants as kept_last
 use Rattle.run_table.specs.inner.RunnerSizes.{last_size, runner_size}
-use Rattle.run_states.specs.TableState.{RunnerState}
+use Rattle.table_model.specs.TableState.{RunnerState}
 use Rattle.stored_tables.specs.Stored.{RunnerParts, TableParts, stored_last, stored_runner}
-use Rattle.run_states.specs.Runs.{LegState, JobState, RunState}
-use Rattle.workflow_runs.specs.StoredSizes.{job_size, leg_counts, run_size}
+use Rattle.table_model.specs.Runs.{LegState, JobState, RunState}
+use Rattle.table_runs.specs.StoredSizes.{job_size, leg_counts, run_size}
 use Rattle.stored_tables.specs.declared.parts.LastParts.{LastParts}
 use Rattle.stored_tables.specs.declared.parts.LastParts.TheVariants as last
 use Rattle.stored_tables.specs.declared.parts.StoredLease.{StoredLease}

@@ -11,17 +11,17 @@ use Rattle.run_plan.specs.declared.command.Done.{Done}
 use Rattle.run_plan.specs.declared.command.Command.{Command}
 use Rattle.run_plan.specs.declared.command.Command.TheVariants as requested
 use Rattle.stored_tables.specs.Stored.{RunnerParts, TableParts, is_new}
-use Rattle.run_states.specs.Runs.{LegState, JobState, RunState}
+use Rattle.table_model.specs.Runs.{LegState, JobState, RunState}
 use Rattle.stored_tables.specs.declared.parts.LastParts.{LastParts}
 use Rattle.stored_tables.specs.declared.parts.LastParts.TheVariants as last
 use Rattle.stored_tables.specs.declared.parts.StoredLease.{StoredLease}
 use Rattle.stored_tables.specs.declared.parts.StoredSite.{StoredSite}
-use Rattle.run_states.specs.declared.phases.JobPhase.{JobPhase}
-use Rattle.run_states.specs.declared.phases.JobPhase.TheVariants as job_phase
-use Rattle.run_states.specs.declared.phases.LegPhase.{LegPhase}
-use Rattle.run_states.specs.declared.phases.LegPhase.TheVariants as leg_phase
-use Rattle.run_states.specs.declared.phases.RunPhase.{RunPhase}
-use Rattle.run_states.specs.declared.phases.RunPhase.TheVariants as run_phase
+use Rattle.table_model.specs.declared.phases.JobPhase.{JobPhase}
+use Rattle.table_model.specs.declared.phases.JobPhase.TheVariants as job_phase
+use Rattle.table_model.specs.declared.phases.LegPhase.{LegPhase}
+use Rattle.table_model.specs.declared.phases.LegPhase.TheVariants as leg_phase
+use Rattle.table_model.specs.declared.phases.RunPhase.{RunPhase}
+use Rattle.table_model.specs.declared.phases.RunPhase.TheVariants as run_phase
 use Rattle.command_encodings.specs.Commands.{admit, command, is_numbered, number, small_text}
 use Rattle.definitions.specs.Format.{Format, byte, counted, follow, only, pair, parts, present, row, word}
 use Rattle.command_encodings.specs.inner.Reading.{byte_at, counted_at, follow_at, items_at, pair_at, parts_at, present_at, some_at, word_at}
@@ -40,7 +40,7 @@ use Rattle.wf_value.proofs.Bytes.{AreBytes, AreBytes-drop}
 use Rattle.command_encodings.proofs.FormReaders.{byte_reads, follow_reads, present_reads, row_reads}
 use Rattle.command_encodings.proofs.Readers.{Prefixes, Reads, bind_some, counted_reads, only_reads, pair_reads, parts_reads, some_bind, some_reads}
 use Rattle.command_encodings.proofs.Readers.{these_read, word_reads}
-use Rattle.run_states.proofs.Found.{find_passes}
+use Rattle.table_model.proofs.Found.{find_passes}
 
 -- ---- leases
 

@@ -2,15 +2,15 @@
 use Rattle.std.proofs.Common.{◌≡◌, List, ℕ, ◌++◌, refl, sym, ◌∙◌, ap, subst}
 use Rattle.std.specs.Prelude.{true, is_some, Option, None, Some}
 use Rattle.std.specs.List.{AllByRecursion}
-use Rattle.run_states.specs.Sound.{IsSound}
+use Rattle.table_model.specs.Sound.{IsSound}
 use Rattle.stored_tables.specs.Stored.{RunnerParts, TableParts, stored_table}
 use Rattle.stored_tables.specs.TableOf.{AreRunnersAs, IsNoTable, IsStoredAs}
-use Rattle.run_states.specs.TableState.{TableState}
+use Rattle.table_model.specs.TableState.{TableState}
 use Rattle.stored_tables.specs.declared.parts.LastParts.{LastParts}
 use Rattle.stored_tables.specs.declared.parts.LastParts.TheVariants as last
 use Rattle.stored_tables.specs.declared.parts.StoredSite.{StoredSite}
-use Rattle.run_states.specs.Runs.{RunState}
-use Rattle.run_states.proofs.Found.{each_at}
+use Rattle.table_model.specs.Runs.{RunState}
+use Rattle.table_model.proofs.Found.{each_at}
 use Rattle.stored_tables.proofs.StoredOnce.{same_runners}
 use Rattle.stored_tables.proofs.StoredParts.{HasPlace, HavePlaces, is_stored, stored_again}
 use Rattle.definitions.specs.Format.{NoneBeginsAnother, OpensWith, ReadsPrefix, present}

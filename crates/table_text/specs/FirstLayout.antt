@@ -7,7 +7,7 @@ use Rattle.run_plan.specs.declared.command.Command.{Command}
 use Rattle.run_plan.specs.declared.command.Command.TheVariants as requested
 use Rattle.stored_tables.specs.Stored.{RunnerParts, TableParts}
 use Rattle.stored_tables.specs.declared.parts.LastParts.{LastParts}
-use Rattle.run_states.specs.Runs.{RunState}
+use Rattle.table_model.specs.Runs.{RunState}
 use Rattle.table_text.specs.declared.kept.StoredReply.{StoredReply}
 use Rattle.table_text.specs.declared.kept.StoredReply.TheVariants as replied
 use Rattle.command_encodings.specs.Commands.{admit, batch, command, number, small_text}
@@ -16,8 +16,8 @@ use Rattle.table_text.specs.Tables.{flag_byte, is_last_lease, job, jobs_planned,
 use Rattle.run_plan.specs.declared.last_command.ClaimReply.TheVariants as given
 use Rattle.run_plan.specs.declared.last_command.LastCommand.{LastCommand}
 use Rattle.run_plan.specs.declared.last_command.LastCommand.TheVariants as last
-use Rattle.run_states.specs.Sound.{IsSound}
-use Rattle.run_states.specs.TableState.{RunnerState, TableState}
+use Rattle.table_model.specs.Sound.{IsSound}
+use Rattle.table_model.specs.TableState.{RunnerState, TableState}
 use Rattle.stored_tables.specs.declared.parts.LastParts.TheVariants as stored
 
 -- ---- the encoding of a table and of a batch in the first layout of an area, where it differs from the second layout. The

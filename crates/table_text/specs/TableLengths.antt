@@ -3,7 +3,7 @@ use Rattle.std.specs.Prelude.{ℕ, ◌+◌, sum_by, Some, None}
 use Rattle.std.specs.Option.{option_map_or}
 use Rattle.run_plan.specs.declared.command.Command.TheVariants as requested
 use Rattle.stored_tables.specs.Stored.{RunnerParts, TableParts}
-use Rattle.workflow_runs.specs.StoredSizes.{run_size}
+use Rattle.table_runs.specs.StoredSizes.{run_size}
 use Rattle.stored_tables.specs.declared.parts.LastParts.{LastParts}
 use Rattle.stored_tables.specs.declared.parts.LastParts.TheVariants as last
 use Rattle.stored_tables.specs.declared.parts.StoredLease.{StoredLease}

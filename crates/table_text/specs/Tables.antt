@@ -9,23 +9,23 @@ use Rattle.run_plan.specs.PlanOf.{plan_of}
 use Rattle.run_plan.specs.declared.command.Command.{Command}
 use Rattle.run_plan.specs.declared.command.Command.TheVariants as requested
 use Rattle.stored_tables.specs.Stored.{RunnerParts, TableParts, is_new, stored_table}
-use Rattle.run_states.specs.Runs.{LegState, JobState, RunState}
+use Rattle.table_model.specs.Runs.{LegState, JobState, RunState}
 use Rattle.stored_tables.specs.declared.parts.LastParts.{LastParts}
 use Rattle.stored_tables.specs.declared.parts.LastParts.TheVariants as last
 use Rattle.stored_tables.specs.declared.parts.StoredLease.{StoredLease}
 use Rattle.stored_tables.specs.declared.parts.StoredSite.{StoredSite}
-use Rattle.run_states.specs.declared.phases.JobPhase.{JobPhase}
-use Rattle.run_states.specs.declared.phases.JobPhase.TheVariants as job_phase
-use Rattle.run_states.specs.declared.phases.LegPhase.{LegPhase}
-use Rattle.run_states.specs.declared.phases.LegPhase.TheVariants as leg_phase
-use Rattle.run_states.specs.declared.phases.RunPhase.{RunPhase}
-use Rattle.run_states.specs.declared.phases.RunPhase.TheVariants as run_phase
+use Rattle.table_model.specs.declared.phases.JobPhase.{JobPhase}
+use Rattle.table_model.specs.declared.phases.JobPhase.TheVariants as job_phase
+use Rattle.table_model.specs.declared.phases.LegPhase.{LegPhase}
+use Rattle.table_model.specs.declared.phases.LegPhase.TheVariants as leg_phase
+use Rattle.table_model.specs.declared.phases.RunPhase.{RunPhase}
+use Rattle.table_model.specs.declared.phases.RunPhase.TheVariants as run_phase
 use Rattle.table_text.specs.declared.kept.StoredReply.{StoredReply}
 use Rattle.table_text.specs.declared.kept.StoredReply.TheVariants as replied
 use Rattle.command_encodings.specs.Commands.{admit, command, number, small_text}
 use Rattle.definitions.specs.Format.{Format, byte, counted, follow, only, pair, parts, present, row, word, word_bytes}
-use Rattle.run_states.specs.Sound.{IsSound}
-use Rattle.run_states.specs.TableState.{TableState}
+use Rattle.table_model.specs.Sound.{IsSound}
+use Rattle.table_model.specs.TableState.{TableState}
 
 -- ---- the encoding of a table, field by field. The bytes of a run do not contain the number of its jobs: it follows from
 -- the body's plan. This is defined by this project.

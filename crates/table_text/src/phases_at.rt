@@ -8,7 +8,7 @@ ghost use Rattle.table_text.specs.inner.ReadingTables.{run_phases};
 ghost use Rattle.table_text.specs.Tables.{flag_byte, job_byte, leg_byte, run_byte};
 
 use command_encodings::{DecodeError, byte_at};
-use run_states::{JobPhase, LegPhase, RunPhase};
+use table_model::{JobPhase, LegPhase, RunPhase};
 use wf_value::{JobResult, Outcome};
 
 /// The phase that a byte encodes.

@@ -15,9 +15,9 @@ use command_encodings::{
     push_admit, push_claim, push_done, push_number, push_small_text, push_word,
 };
 use run_plan::{Claim, ClaimReply, Done, KeptLease, LastCommand, Number};
-use run_states::{Job, JobPhase, Leg, LegPhase, Run, RunPhase};
 use run_table::{Runner, Table};
 use std::alloc::AllocError;
+use table_model::{Job, JobPhase, Leg, LegPhase, Run, RunPhase};
 use wf_value::{JobResult, Outcome};
 
 fn push_byte(out: &mut Vec<u8>, value: u8) -> Result<(), AllocError>

@@ -11,8 +11,8 @@ use crate::list_at::{ReadAt, list_at};
 use crate::phases_at::{flag_at, job_phase_at, leg_phase_at, run_phase_at};
 use command_encodings::{DecodeError, admit_at, word_at};
 use run_plan::{Number, Prepared};
-use run_states::{JobParts, LAST_ATTEMPT, Leg, LegPhase, MAX_RUNS, RunParts};
 use std::alloc::Global;
+use table_model::{JobParts, LAST_ATTEMPT, Leg, LegPhase, MAX_RUNS, RunParts};
 use wf_value::Sequence;
 
 /// The leg at the front of the bytes: its phase, the number of its lease, 0 for none, and the bytes after it.

@@ -4,12 +4,12 @@ use Rattle.std.specs.List.{AllByRecursion, enumerate_from}
 use Rattle.std.proofs.Common.{arith, ap, sym, ◌∙◌}
 use Rattle.std.proofs.lemmas.Bool.{eq-eqb, true≢false}
 use Rattle.std.proofs.lemmas.Bool.Decides.{Decides-ltb}
-use Rattle.run_states.specs.Runs.{placed, leg_sites, leg_sites_of_job, leg_sites_of_run, JobState, LegState, RunState}
-use Rattle.run_states.specs.Groups.{all_holders}
-use Rattle.run_states.specs.declared.holder.Holder.{Holder}
-use Rattle.run_states.specs.declared.holder.Holder.TheVariants.{Run, Leg}
-use Rattle.run_states.specs.declared.sites.LegSite.{LegSite}
-use Rattle.run_states.proofs.Found.{all_append, all_map, all_weaken}
+use Rattle.table_model.specs.Runs.{placed, leg_sites, leg_sites_of_job, leg_sites_of_run, JobState, LegState, RunState}
+use Rattle.table_model.specs.Groups.{all_holders}
+use Rattle.table_model.specs.declared.holder.Holder.{Holder}
+use Rattle.table_model.specs.declared.holder.Holder.TheVariants.{Run, Leg}
+use Rattle.table_model.specs.declared.sites.LegSite.{LegSite}
+use Rattle.table_model.proofs.Found.{all_append, all_map, all_weaken}
 use Rattle.table_views.specs.inner.HolderOrder.{is_before, is_site_before}
 
 module _ {X : Type 0} (before : X → X → Bool) where

@@ -6,9 +6,9 @@ use Rattle.std.proofs.lemmas.Option.{slice_get_cases}
 use Rattle.std.specs.Prelude.{Some, Option, slice_get, false}
 use Rattle.std.specs.List.{filter, flat_map}
 use Rattle.std.specs.Option.{option_map_or}
-use Rattle.run_states.specs.inner.ActiveRuns.{offers_legs}
-use Rattle.run_states.specs.Runs.{placed, leg_sites_of_run, RunState}
-use Rattle.run_states.specs.declared.sites.LegSite.{LegSite}
+use Rattle.table_model.specs.inner.ActiveRuns.{offers_legs}
+use Rattle.table_model.specs.Runs.{placed, leg_sites_of_run, RunState}
+use Rattle.table_model.specs.declared.sites.LegSite.{LegSite}
 use Rattle.table_views.specs.NamedCounts.{AreCounts, counted, times}
 use Rattle.table_views.specs.QueueLines.{is_ready_at, labels_json}
 use Rattle.table_views.specs.ReadyPages.{legs_at}

@@ -3,12 +3,12 @@ use Rattle.std.proofs.Common.{◌≡◌, ◌∙◌, ℕ, zero, suc, ◌+◌, ◌
 use Rattle.std.specs.Prelude.{filter_map, Option}
 use Rattle.std.proofs.lemmas.List.Elements.{filter_map-append}
 use Rattle.group_name.specs.Group.{Group}
-use Rattle.run_states.specs.Runs.{placed, RunState}
-use Rattle.run_states.specs.declared.sites.LegSite.{LegSite}
+use Rattle.table_model.specs.Runs.{placed, RunState}
+use Rattle.table_model.specs.declared.sites.LegSite.{LegSite}
 use Rattle.table_views.specs.inner.Claims.{claim_of}
 use Rattle.table_views.proofs.Placing.{one_place_more}
-use Rattle.run_states.specs.declared.holder.Holder.{Holder}
-use Rattle.run_states.specs.declared.holder.Holder.TheVariants.{Run, Leg}
+use Rattle.table_model.specs.declared.holder.Holder.{Holder}
+use Rattle.table_model.specs.declared.holder.Holder.TheVariants.{Run, Leg}
 
 pub run_claimed : (runs : List RunState) (r : ℕ) (old new : List (Group × Holder)) → r < length runs
     → old ≡ filter_map (claim_of runs) (map (λ (x : ℕ × RunState). Run x.0) (placed (take r runs)))

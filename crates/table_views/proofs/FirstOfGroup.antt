@@ -8,12 +8,12 @@ use Rattle.std.proofs.lemmas.Bool.Decides.{Decides-ltb}
 use Rattle.std.proofs.lemmas.List.{take-map}
 use Rattle.group_name.specs.Group.{Group, same_group}
 use Rattle.group_name.proofs.SameGroups.{own_group, same_is_one}
-use Rattle.run_states.specs.Groups.{group_at, all_holders, holds, is_in_progress_in, is_pending_in, waits}
-use Rattle.run_states.specs.Runs.{RunState}
-use Rattle.run_states.specs.declared.holder.Holder.{Holder}
-use Rattle.run_states.specs.declared.holder.Holder.TheVariants.{Run, Leg}
-use Rattle.run_states.specs.declared.sites.LegSite.{LegSite}
-use Rattle.run_states.proofs.Found.{each_of_append}
+use Rattle.table_model.specs.Groups.{group_at, all_holders, holds, is_in_progress_in, is_pending_in, waits}
+use Rattle.table_model.specs.Runs.{RunState}
+use Rattle.table_model.specs.declared.holder.Holder.{Holder}
+use Rattle.table_model.specs.declared.holder.Holder.TheVariants.{Run, Leg}
+use Rattle.table_model.specs.declared.sites.LegSite.{LegSite}
+use Rattle.table_model.proofs.Found.{each_of_append}
 use Rattle.table_views.specs.inner.Claims.{claim_of, claims_of, said}
 use Rattle.table_views.specs.GroupLines.{group_in_use}
 use Rattle.table_views.specs.inner.HolderOrder.{is_before, is_earlier, is_site_before}

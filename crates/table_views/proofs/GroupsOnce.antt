@@ -5,13 +5,13 @@ use Rattle.std.specs.List.{cons_option, flat_map, list_any}
 use Rattle.std.specs.Option.{option_map_or}
 use Rattle.std.proofs.lemmas.Grind.{flat_map-append}
 use Rattle.group_name.specs.Group.{Group, same_group}
-use Rattle.run_states.specs.Groups.{all_holders}
-use Rattle.run_states.specs.Runs.{RunState}
+use Rattle.table_model.specs.Groups.{all_holders}
+use Rattle.table_model.specs.Runs.{RunState}
 use Rattle.table_views.specs.inner.Claims.{claim_of, claims_of, line_once, said}
 use Rattle.table_views.specs.GroupLines.{distinct_groups, group_in_use}
 use Rattle.table_views.specs.declared.claim.GroupClaim.{GroupClaim}
 use Rattle.table_views.proofs.Distinct.{distinct_more, one_unless}
-use Rattle.run_states.specs.declared.holder.Holder.{Holder}
+use Rattle.table_model.specs.declared.holder.Holder.{Holder}
 
 -- ---- the group of the claim at an index
 

@@ -2,7 +2,7 @@
 use Rattle.std.proofs.Common.{◌≡◌, ℕ, List, [], ◌∷◌, ◌++◌, length, refl, arith, sym, ap, ◌∙◌, append-nil, Result, Ok}
 use Rattle.wf_value.specs.declared.refusal.Refusal.{Refusal}
 use Rattle.run_plan.specs.declared.planned.PlannedJob.{PlannedJob}
-use Rattle.run_states.specs.inner.Cells.{JobCells, states}
+use Rattle.table_model.specs.inner.Cells.{JobCells, states}
 use Rattle.table_views.specs.RunLines.{jobs_json}
 
 pub no_plan_left : (plan : List PlannedJob) (jobs : List JobCells) → length plan ≡ 0 → jobs_json plan (states jobs) ≡ []

@@ -5,10 +5,10 @@ use Rattle.std.proofs.lemmas.Option.{get_or_from_slice_get, slice_get_within}
 use Rattle.std.specs.Prelude.{Bool, true, false, cond, Option, None, Some, option_and_then, slice_get}
 use Rattle.std.specs.List.{AllByRecursion, filter, flat_map, list_any}
 use Rattle.std.specs.Option.{option_map_or}
-use Rattle.run_states.specs.inner.ActiveRuns.{has_ready_leg, offers_legs}
-use Rattle.run_states.specs.Runs.{placed, leg_site, leg_sites_of_job, leg_sites_of_run, JobState, LegState, RunState}
-use Rattle.run_states.specs.Fitting.{is_ready}
-use Rattle.run_states.specs.declared.sites.LegSite.{LegSite}
+use Rattle.table_model.specs.inner.ActiveRuns.{has_ready_leg, offers_legs}
+use Rattle.table_model.specs.Runs.{placed, leg_site, leg_sites_of_job, leg_sites_of_run, JobState, LegState, RunState}
+use Rattle.table_model.specs.Fitting.{is_ready}
+use Rattle.table_model.specs.declared.sites.LegSite.{LegSite}
 use Rattle.table_views.specs.QueueLines.{is_ready_at}
 
 -- ---- lists all of whose elements have a property

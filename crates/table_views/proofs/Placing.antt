@@ -2,7 +2,7 @@
 use Rattle.std.proofs.Common.{◌≡◌, ◌∙◌, ℕ, zero, suc, ◌+◌, ◌<◌, List, [], ◌∷◌, ◌++◌, length, map, take, get_or, sym, ap, arith}
 use Rattle.std.proofs.Common.{append_assoc, append-nil}
 use Rattle.std.specs.List.{flat_map, enumerate_from}
-use Rattle.run_states.specs.Runs.{placed}
+use Rattle.table_model.specs.Runs.{placed}
 
 -- ---- what each element gives with its index
 

@@ -12,7 +12,7 @@ use Rattle.run_plan.specs.declared.command.Command.TheVariants as command
 use Rattle.run_plan.specs.declared.command.Done.{Done}
 use Rattle.run_plan.specs.declared.reply.Reply.{Reply}
 use Rattle.run_plan.specs.declared.reply.Reply.TheVariants as reply
-use Rattle.run_states.specs.Runs.{RunState}
+use Rattle.table_model.specs.Runs.{RunState}
 use Rattle.table_views.specs.Members.{member}
 use Rattle.table_views.specs.RunRows.{state_members}
 use Rattle.table_views.specs.Texts.{line, listed, quoted}

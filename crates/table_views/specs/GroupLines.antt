@@ -4,14 +4,14 @@
 use Rattle.std.specs.Prelude.{ℕ, ◌+◌, List, ◌++◌, ◌||◌, filter_map, flat_map, codes, decimal, if◌then◌else◌, Option, Some, None}
 use Rattle.group_name.specs.Group.{Group, same_group}
 use Rattle.group_name.specs.KeyTexts.{name_bytes, repository_bytes}
-use Rattle.run_states.specs.Groups.{group_at, all_holders, group_state, holds, waits}
-use Rattle.run_states.specs.Runs.{RunState}
+use Rattle.table_model.specs.Groups.{group_at, all_holders, group_state, holds, waits}
+use Rattle.table_model.specs.Runs.{RunState}
 use Rattle.table_views.specs.Distinct.{distinct}
 use Rattle.table_views.specs.Texts.{leg_members, leg_words, line, quoted}
 use Rattle.table_views.specs.declared.form.Form.{Form}
 use Rattle.table_views.specs.declared.form.Form.TheVariants as form
-use Rattle.run_states.specs.declared.holder.Holder.{Holder}
-use Rattle.run_states.specs.declared.holder.Holder.TheVariants.{Run, Leg}
+use Rattle.table_model.specs.declared.holder.Holder.{Holder}
+use Rattle.table_model.specs.declared.holder.Holder.TheVariants.{Run, Leg}
 
 -- ---- which groups
 

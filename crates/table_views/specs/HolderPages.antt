@@ -4,11 +4,11 @@ use Rattle.std.specs.Prelude.{◌≡◌, ℕ, ◌+◌, ◌-◌, List, ◌∷◌,
 use Rattle.std.specs.Option.{option_and_then}
 use Rattle.group_name.specs.Group.{Group}
 use Rattle.group_name.specs.KeyTexts.{name_bytes, repository_bytes}
-use Rattle.run_states.specs.Groups.{holds}
-use Rattle.run_states.specs.Runs.{RunState}
-use Rattle.run_states.specs.declared.holder.Holder.{Holder}
-use Rattle.run_states.specs.declared.holder.Holder.TheVariants.{Run, Leg}
-use Rattle.run_states.specs.TableState.{TableState}
+use Rattle.table_model.specs.Groups.{holds}
+use Rattle.table_model.specs.Runs.{RunState}
+use Rattle.table_model.specs.declared.holder.Holder.{Holder}
+use Rattle.table_model.specs.declared.holder.Holder.TheVariants.{Run, Leg}
+use Rattle.table_model.specs.TableState.{TableState}
 use Rattle.table_views.specs.GroupLines.{group_in_use}
 use Rattle.table_views.specs.Members.{member, number_or_null}
 use Rattle.table_views.specs.Pages.{IsPage, page_text, rows_from}

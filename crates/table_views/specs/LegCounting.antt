@@ -2,10 +2,10 @@
 use Rattle.std.specs.Prelude.{ℕ, List, ◌++◌, codes, map}
 use Rattle.std.specs.List.{count_by, flat_map}
 use Rattle.std.specs.Str.{bytes_eq}
-use Rattle.run_states.specs.Runs.{JobState, RunState}
-use Rattle.run_states.specs.declared.phases.LegPhase.{LegPhase}
-use Rattle.run_states.specs.declared.phases.LegPhase.TheVariants as leg
-use Rattle.run_states.specs.ViewText.{leg_text}
+use Rattle.table_model.specs.Runs.{JobState, RunState}
+use Rattle.table_model.specs.declared.phases.LegPhase.{LegPhase}
+use Rattle.table_model.specs.declared.phases.LegPhase.TheVariants as leg
+use Rattle.table_model.specs.ViewText.{leg_text}
 use Rattle.table_views.specs.MetricLines.{capped, head, value_line}
 use Rattle.table_views.specs.declared.leg_counts.LegCounts.{LegCounts}
 

@@ -3,11 +3,11 @@
 use Rattle.std.specs.Prelude.{ℕ, List, [], ◌++◌, map, codes, flat_map, Bool, false, unwrap_or}
 use Rattle.std.specs.List.{filter}
 use Rattle.std.specs.Option.{option_map_or}
-use Rattle.run_states.specs.Fitting.{is_ready}
-use Rattle.run_states.specs.Runs.{leg_at, leg_sites, RunState}
-use Rattle.run_states.specs.declared.sites.LegSite.{LegSite}
-use Rattle.run_states.specs.LegContext.{labels_at}
-use Rattle.run_states.specs.TableState.{TableState}
+use Rattle.table_model.specs.Fitting.{is_ready}
+use Rattle.table_model.specs.Runs.{leg_at, leg_sites, RunState}
+use Rattle.table_model.specs.declared.sites.LegSite.{LegSite}
+use Rattle.table_model.specs.LegContext.{labels_at}
+use Rattle.table_model.specs.TableState.{TableState}
 use Rattle.table_views.specs.GroupLines.{group_lines}
 use Rattle.table_views.specs.Texts.{leg_members, leg_words, line, listed, quoted}
 use Rattle.table_views.specs.declared.form.Form.{Form}

@@ -3,8 +3,8 @@ use Rattle.std.specs.Prelude.{ℕ, List, [], ◌++◌, Bool, ◌&&◌, codes, ma
 use Rattle.std.specs.List.{count_by}
 use Rattle.std.specs.Str.{bytes_eq}
 use Rattle.wf_value.specs.ScalarValue.{outcome_word}
-use Rattle.run_states.specs.Runs.{RunState}
-use Rattle.run_states.specs.ViewText.{status_text}
+use Rattle.table_model.specs.Runs.{RunState}
+use Rattle.table_model.specs.ViewText.{status_text}
 use Rattle.table_views.specs.MetricLines.{capped, head, value_line}
 use Rattle.table_views.specs.RunRows.{conclusion_at}
 use Rattle.table_views.specs.declared.run_counts.RunCounts.{RunCounts}

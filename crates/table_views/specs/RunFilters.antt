@@ -3,8 +3,8 @@ use Rattle.std.specs.Prelude.{ℕ, List, ◌&&◌, Bool, true, false, Option, So
 use Rattle.std.specs.Str.{bytes_eq}
 use Rattle.wf_reader.specs.Event.{event_of}
 use Rattle.definitions.specs.SmallText.{Admitted}
-use Rattle.run_states.specs.Runs.{RunState}
-use Rattle.run_states.specs.ViewText.{Seen, status_text}
+use Rattle.table_model.specs.Runs.{RunState}
+use Rattle.table_model.specs.ViewText.{Seen, status_text}
 use Rattle.table_views.specs.RunRows.{conclusion_at, own_group, ref_of}
 use Rattle.table_views.specs.declared.run_filter.RunFilter.{RunFilter}
 

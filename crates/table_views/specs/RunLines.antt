@@ -5,10 +5,10 @@ use Rattle.std.specs.List.{zip}
 use Rattle.wf_value.specs.ScalarValue.{result_word}
 use Rattle.run_plan.specs.PlanOf.{plan_of}
 use Rattle.run_plan.specs.declared.planned.PlannedJob.{PlannedJob}
-use Rattle.run_states.specs.Runs.{JobState, LegState}
-use Rattle.run_states.specs.declared.phases.JobPhase.{JobPhase}
-use Rattle.run_states.specs.declared.phases.JobPhase.TheVariants as job
-use Rattle.run_states.specs.ViewText.{Seen, conclusion_text, leg_text, seen_text, status_text}
+use Rattle.table_model.specs.Runs.{JobState, LegState}
+use Rattle.table_model.specs.declared.phases.JobPhase.{JobPhase}
+use Rattle.table_model.specs.declared.phases.JobPhase.TheVariants as job
+use Rattle.table_model.specs.ViewText.{Seen, conclusion_text, leg_text, seen_text, status_text}
 use Rattle.table_views.specs.Texts.{line, listed, quoted}
 use Rattle.table_views.specs.declared.form.Form.{Form}
 use Rattle.table_views.specs.declared.form.Form.TheVariants as form

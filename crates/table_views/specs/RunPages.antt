@@ -1,9 +1,9 @@
 -- A page of the runs of a table, newest first.
 use Rattle.std.specs.Prelude.{◌≡◌, ℕ, ◌+◌, ◌-◌, List, [], ◌∷◌, codes, length, min, nat_lt, Option, Some, None, if◌then◌else◌}
 use Rattle.std.specs.Option.{option_map_or}
-use Rattle.run_states.specs.Runs.{RunState}
-use Rattle.run_states.specs.TableState.{TableState}
-use Rattle.run_states.specs.ViewText.{seen_of}
+use Rattle.table_model.specs.Runs.{RunState}
+use Rattle.table_model.specs.TableState.{TableState}
+use Rattle.table_model.specs.ViewText.{seen_of}
 use Rattle.table_views.specs.Members.{number_or_null}
 use Rattle.table_views.specs.Pages.{IsPage, page_text, rows_from}
 use Rattle.table_views.specs.RunFilters.{is_shown}

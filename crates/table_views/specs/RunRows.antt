@@ -8,12 +8,12 @@ use Rattle.wf_reader.specs.Contexts.{sent_value}
 use Rattle.wf_reader.specs.Event.{event_of}
 use Rattle.definitions.specs.SmallText.{Admitted}
 use Rattle.group_name.specs.KeyTexts.{name_bytes}
-use Rattle.run_states.specs.Groups.{group_at}
-use Rattle.run_states.specs.Runs.{JobState, RunState}
-use Rattle.run_states.specs.declared.holder.Holder.TheVariants.{Run}
-use Rattle.run_states.specs.declared.phases.RunPhase.{RunPhase}
-use Rattle.run_states.specs.declared.phases.RunPhase.TheVariants as phase
-use Rattle.run_states.specs.ViewText.{Seen, results_of, status_text}
+use Rattle.table_model.specs.Groups.{group_at}
+use Rattle.table_model.specs.Runs.{JobState, RunState}
+use Rattle.table_model.specs.declared.holder.Holder.TheVariants.{Run}
+use Rattle.table_model.specs.declared.phases.RunPhase.{RunPhase}
+use Rattle.table_model.specs.declared.phases.RunPhase.TheVariants as phase
+use Rattle.table_model.specs.ViewText.{Seen, results_of, status_text}
 use Rattle.table_views.specs.Members.{member, text_or_null}
 use Rattle.table_views.specs.Texts.{quoted}
 

@@ -6,18 +6,18 @@ use Rattle.group_name.specs.KeyTexts.{name_bytes}
 use Rattle.run_plan.specs.PlanOf.{plan_of}
 use Rattle.run_plan.specs.ReplyText.{combo_text}
 use Rattle.run_plan.specs.declared.planned.PlannedJob.{PlannedJob}
-use Rattle.run_states.specs.Fitting.{may_run_too, is_at_work, most_at_work}
-use Rattle.run_states.specs.Groups.{group_at}
-use Rattle.run_states.specs.Runs.{placed, leg_site, JobState, LegState, RunState}
-use Rattle.run_states.specs.LegContext.{combo_at}
-use Rattle.run_states.specs.declared.holder.Holder.TheVariants.{Leg}
-use Rattle.run_states.specs.declared.phases.LegPhase.{LegPhase}
-use Rattle.run_states.specs.declared.phases.LegPhase.TheVariants as leg
-use Rattle.run_states.specs.declared.phases.RunPhase.{RunPhase}
-use Rattle.run_states.specs.declared.phases.RunPhase.TheVariants as phase
-use Rattle.run_states.specs.declared.sites.LegSite.{LegSite}
-use Rattle.run_states.specs.TableState.{RunnerState, TableState}
-use Rattle.run_states.specs.ViewText.{Seen, leg_text}
+use Rattle.table_model.specs.Fitting.{may_run_too, is_at_work, most_at_work}
+use Rattle.table_model.specs.Groups.{group_at}
+use Rattle.table_model.specs.Runs.{placed, leg_site, JobState, LegState, RunState}
+use Rattle.table_model.specs.LegContext.{combo_at}
+use Rattle.table_model.specs.declared.holder.Holder.TheVariants.{Leg}
+use Rattle.table_model.specs.declared.phases.LegPhase.{LegPhase}
+use Rattle.table_model.specs.declared.phases.LegPhase.TheVariants as leg
+use Rattle.table_model.specs.declared.phases.RunPhase.{RunPhase}
+use Rattle.table_model.specs.declared.phases.RunPhase.TheVariants as phase
+use Rattle.table_model.specs.declared.sites.LegSite.{LegSite}
+use Rattle.table_model.specs.TableState.{RunnerState, TableState}
+use Rattle.table_model.specs.ViewText.{Seen, leg_text}
 use Rattle.table_views.specs.Members.{member, number_or_null, text_or_null}
 use Rattle.table_views.specs.Pages.{IsPage, rows_from}
 use Rattle.table_views.specs.QueueLines.{labels_json}

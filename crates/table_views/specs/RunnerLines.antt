@@ -1,10 +1,10 @@
 -- The runners as an operator sees them: the name, the last number, and the lease that each holds, with the leg that has
 -- it. The format is defined by this project.
 use Rattle.std.specs.Prelude.{ℕ, List, ◌++◌, codes, decimal, flat_map, Option, Some, None, option_map, option_and_then}
-use Rattle.run_states.specs.Fitting.{site_of_lease}
-use Rattle.run_states.specs.declared.sites.LegSite.{LegSite}
-use Rattle.run_states.specs.Runs.{RunState}
-use Rattle.run_states.specs.TableState.{RunnerState, TableState}
+use Rattle.table_model.specs.Fitting.{site_of_lease}
+use Rattle.table_model.specs.declared.sites.LegSite.{LegSite}
+use Rattle.table_model.specs.Runs.{RunState}
+use Rattle.table_model.specs.TableState.{RunnerState, TableState}
 use Rattle.table_views.specs.Texts.{leg_members, leg_words, line, quoted}
 use Rattle.table_views.specs.declared.form.Form.{Form}
 use Rattle.table_views.specs.declared.form.Form.TheVariants as form

@@ -7,7 +7,7 @@ use Rattle.run_plan.specs.declared.last_command.LastCommand.{LastCommand}
 use Rattle.run_plan.specs.declared.last_command.LastCommand.TheVariants.{Claim, Done}
 use Rattle.run_plan.specs.declared.last_command.ClaimReply.{ClaimReply}
 use Rattle.run_plan.specs.declared.reply.Lease.{Lease}
-use Rattle.run_states.specs.TableState.{is_above, runner_named, RunnerState, TableState}
+use Rattle.table_model.specs.TableState.{is_above, runner_named, RunnerState, TableState}
 use Rattle.table_views.specs.Members.{member, number_or_null, text_or_null}
 use Rattle.table_views.specs.Pages.{IsPage, page_text, rows_from}
 use Rattle.table_views.specs.Texts.{quoted}

@@ -1,9 +1,9 @@
 -- The numbers of a table, in Prometheus' text format. Their names are defined by this project.
 use Rattle.std.specs.Prelude.{ℕ, List, ◌++◌, codes, flat_map, is_some, length, map}
 use Rattle.std.specs.List.{count_by, filter}
-use Rattle.run_states.specs.Runs.{leg_sites, RunState}
-use Rattle.run_states.specs.declared.sites.LegSite.{LegSite}
-use Rattle.run_states.specs.TableState.{RunnerState, TableState}
+use Rattle.table_model.specs.Runs.{leg_sites, RunState}
+use Rattle.table_model.specs.declared.sites.LegSite.{LegSite}
+use Rattle.table_model.specs.TableState.{RunnerState, TableState}
 use Rattle.table_views.specs.LegCounting.{leg_lines}
 use Rattle.table_views.specs.MetricLines.{capped, head, metric, value_line}
 use Rattle.table_views.specs.NamedCounts.{named, others, times}

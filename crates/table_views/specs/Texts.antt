@@ -2,9 +2,9 @@
 use Rattle.std.specs.Prelude.{ℕ, ◌+◌, List, [], ◌∷◌, ◌++◌, codes, decimal}
 use Rattle.std.specs.List.{join_with_byte}
 pub use Rattle.json.specs.Print.{quoted}
-use Rattle.run_states.specs.declared.sites.LegSite.{LegSite}
-use Rattle.run_states.specs.Runs.{RunState}
-use Rattle.run_states.specs.LegContext.{job_id}
+use Rattle.table_model.specs.declared.sites.LegSite.{LegSite}
+use Rattle.table_model.specs.Runs.{RunState}
+use Rattle.table_model.specs.LegContext.{job_id}
 
 -- a line, with its line feed
 abbrev pub line : List ℕ → List ℕ

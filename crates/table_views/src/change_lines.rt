@@ -9,8 +9,8 @@ use crate::members::{push_member, push_number, push_text};
 use crate::run_rows::push_state;
 use crate::texts::{listed, quoted};
 use run_plan::{Attempt, Beat, Claim, Command, Done, Label, Number, Prepared, Reply, RunnerName};
-use run_states::Run;
 use std::alloc::{AllocError, Global};
+use table_model::Run;
 use wf_value::{Chars, Refusal, TryCopy};
 
 // ---- commands, without a body

@@ -1,9 +1,9 @@
 ghost use Rattle.std.specs.Prelude.{◌<◌};
 ghost use Rattle.definitions.specs.Limits.{max_runs};
-ghost use Rattle.run_states.specs.Holders.{run_of};
+ghost use Rattle.table_model.specs.Holders.{run_of};
 
 use group_name::GroupKey;
-use run_states::Holder;
+use table_model::Holder;
 
 /// A run or a leg that holds a concurrency group or waits for it.
 #[derive(Drop)]

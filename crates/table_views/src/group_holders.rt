@@ -4,10 +4,10 @@ ghost use Rattle.std.specs.Prelude.{◌≡◌, ◌&&◌, ◌++◌, ◌∷◌, �
 ghost use Rattle.std.specs.List.{All};
 ghost use Rattle.definitions.specs.Limits.{max_runs};
 ghost use Rattle.wf_value.specs.Gives.{ErrsOnlyByMemory, Gives};
-ghost use Rattle.run_states.specs.Holders.{run_of};
+ghost use Rattle.table_model.specs.Holders.{run_of};
 ghost use Rattle.table_views.specs.HolderPages.{IsHolderPage, holder_members, holder_row, holder_rows, holding_word, is_group_shown, row_of_holder};
 ghost use Rattle.table_views.specs.inner.Placed.{IsWithin};
-ghost use Rattle.run_states.specs.declared.holder.Holder.TheVariants as held;
+ghost use Rattle.table_model.specs.declared.holder.Holder.TheVariants as held;
 
 use crate::group_filter::GroupFilter;
 use crate::groups::group_in_use;
@@ -18,11 +18,11 @@ use crate::run_legs::{legs_at, next_run, start_at};
 use crate::texts::{leg_members, quoted};
 use group_name::GroupKey;
 use run_plan::Number;
-use run_states::{Holder, LegSite};
 use run_table::Table;
 use std::alloc::Global;
+use table_model::{Holder, LegSite};
+use table_runs::runs::Runs;
 use wf_value::{Chars, Refusal};
-use workflow_runs::runs::Runs;
 
 impl GroupFilter {
     fn shows(&self, group: &GroupKey) -> bool

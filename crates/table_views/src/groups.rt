@@ -5,24 +5,24 @@ ghost use Rattle.std.specs.Prelude.{◌≡◌, ◌||◌, ◌++◌, ◌<◌, [], 
 ghost use Rattle.std.specs.List.{All};
 ghost use Rattle.definitions.specs.Limits.{max_runs};
 ghost use Rattle.wf_value.specs.Gives.{ErrsOnlyByMemory, Gives};
-ghost use Rattle.run_states.specs.Groups.{all_holders, is_in_progress_in, is_pending_in};
-ghost use Rattle.run_states.specs.Holders.{run_of};
-ghost use Rattle.run_states.specs.Runs.{leg_sites};
+ghost use Rattle.table_model.specs.Groups.{all_holders, is_in_progress_in, is_pending_in};
+ghost use Rattle.table_model.specs.Holders.{run_of};
+ghost use Rattle.table_model.specs.Runs.{leg_sites};
 ghost use Rattle.table_views.specs.inner.Claims.{claim_of, claims_of, line_once, said};
 ghost use Rattle.table_views.specs.GroupLines.{group_in_use, group_line, group_lines, holder_text};
 ghost use Rattle.table_views.specs.inner.HolderOrder.{is_before, is_earlier, is_site_before};
 ghost use Rattle.table_views.specs.inner.Placed.{IsWithin};
 ghost use Rattle.table_views.specs.Texts.{line};
-ghost use Rattle.run_states.specs.declared.holder.Holder.TheVariants as held;
+ghost use Rattle.table_model.specs.declared.holder.Holder.TheVariants as held;
 
 use crate::claim::GroupClaim;
 use crate::form::Form;
 use crate::texts::{leg_members, leg_words, quoted};
 use group_name::GroupKey;
-use run_states::{Holder, LegSite};
 use std::alloc::{AllocError, Global};
+use table_model::{Holder, LegSite};
+use table_runs::runs::Runs;
 use wf_value::Refusal;
-use workflow_runs::runs::Runs;
 
 // ---- runs and legs that hold groups or wait for them
 

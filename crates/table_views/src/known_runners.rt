@@ -3,7 +3,7 @@
 ghost use Rattle.std.specs.Prelude.{◌≡◌, ◌≤◌, ◌<◌, ◌^◌, ◌+◌, IfOk, IfSome, Ok, length, option_map, slice_get, string_bytes};
 ghost use Rattle.std.specs.List.{position};
 ghost use Rattle.wf_value.specs.Gives.{ErrsOnlyByMemory, Gives};
-ghost use Rattle.run_states.specs.TableState.{is_above, is_named, runner_named};
+ghost use Rattle.table_model.specs.TableState.{is_above, is_named, runner_named};
 ghost use Rattle.table_views.specs.RunnerPages.{IsRunnerPage, heard_at, held_lease, index_after, lease_json, lease_of_last, next_name, one_runner, rows_of, runner_row, runner_rows};
 
 use crate::members::{number_or_null, push_member, push_number, push_text, text_or_null};

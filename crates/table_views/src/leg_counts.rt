@@ -2,11 +2,11 @@
 
 ghost use Rattle.std.specs.Prelude.{◌≡◌, ◌++◌, ◌∷◌, [], List, OnOk, flat_map, string_bytes};
 ghost use Rattle.table_views.specs.LegCounting.{leg_counts, leg_line, leg_lines, leg_phases, lines_of_legs, phases_of};
-ghost use Rattle.run_states.specs.declared.phases.LegPhase.{LegPhase as Phase};
+ghost use Rattle.table_model.specs.declared.phases.LegPhase.{LegPhase as Phase};
 
 use crate::metric_lines::{one_more, push_head, push_value};
-use run_states::{Job, LegPhase, Run};
 use std::alloc::{AllocError, Global};
+use table_model::{Job, LegPhase, Run};
 use wf_value::Outcome;
 
 /// How many legs are in each state.

@@ -3,7 +3,7 @@
 ghost use Rattle.std.specs.Prelude.{◌≡◌, ◌++◌, ◌+◌, ◌-◌, ◌<◌, ◌≤◌, ◌^◌, IfOk, MatchOption, None, Ok, Some, find, length, min, option_map, slice_get, string_bytes};
 ghost use Rattle.wf_value.specs.Gives.{ErrsOnlyByMemory, Gives};
 ghost use Rattle.run_plan.specs.PlanOf.{plan_of};
-ghost use Rattle.run_states.specs.ViewText.{Seen, seen_of};
+ghost use Rattle.table_model.specs.ViewText.{Seen, seen_of};
 ghost use Rattle.table_views.specs.RunViews.{IsRunView, holds_lease, job_row, job_rows, leg_row, leg_rows, legs_of_job, next_job, plan_members, run_view_text, runner_of, standing_members, truth, wish_members};
 
 use crate::members::{number_or_null, push_member, push_text, push_text_or_null};
@@ -14,9 +14,9 @@ use crate::runs::state_word;
 use crate::texts::{listed, quoted};
 use crate::waiting::{leg_group, leg_waits_for, run_waits_for};
 use run_plan::{Number, PlannedJob, text_of_combo};
-use run_states::{Job, Leg, LegSite, Run};
 use run_table::{RunView, Runner, Table, leg_word};
 use std::alloc::Global;
+use table_model::{Job, Leg, LegSite, Run};
 use wf_value::{Chars, Refusal};
 
 /// The number of legs with which a page is full.

@@ -3,8 +3,8 @@
 ghost use Rattle.std.specs.Prelude.{◌≡◌, ◌<◌, ◌^◌, Ok, false, map, string_bytes};
 ghost use Rattle.std.specs.List.{All};
 ghost use Rattle.wf_value.specs.Gives.{Gives};
-ghost use Rattle.run_states.specs.Fitting.{is_ready};
-ghost use Rattle.run_states.specs.Runs.{leg_sites};
+ghost use Rattle.table_model.specs.Fitting.{is_ready};
+ghost use Rattle.table_model.specs.Runs.{leg_sites};
 ghost use Rattle.table_views.specs.inner.Placed.{IsWithin};
 ghost use Rattle.table_views.specs.QueueLines.{is_ready_at, labels_json, queue_lines, ready_line, ready_lines, ready_row};
 ghost use Rattle.table_views.specs.declared.form.Form.TheVariants as form;
@@ -14,11 +14,11 @@ use crate::form::Form;
 use crate::groups::groups_text;
 use crate::sites::leg_sites;
 use crate::texts::{leg_members, leg_words, listed, quoted};
-use run_states::{LegPhase, LegSite};
 use run_table::Table;
 use std::alloc::Global;
+use table_model::{LegPhase, LegSite};
+use table_runs::runs::Runs;
 use wf_value::{Chars, Refusal};
-use workflow_runs::runs::Runs;
 
 fn is_ready(phase: LegPhase) -> bool
     ensures { result ≡ is_ready phase }

@@ -12,10 +12,10 @@ use crate::named_counts::{NamedCount, NamedCounts};
 use crate::queue::{is_ready_at, labels_json};
 use crate::run_legs::legs_at;
 use crate::texts::quoted;
-use run_states::LegSite;
 use std::alloc::Global;
+use table_model::LegSite;
+use table_runs::runs::Runs;
 use wf_value::Refusal;
-use workflow_runs::runs::Runs;
 
 // ---- counts
 

@@ -12,11 +12,11 @@ use crate::pages::{Source, page_of, page_text};
 use crate::queue::{is_ready_at, ready_row};
 use crate::run_legs::{legs_at, next_run, start_at};
 use run_plan::Number;
-use run_states::LegSite;
 use run_table::Table;
 use std::alloc::Global;
+use table_model::LegSite;
+use table_runs::runs::Runs;
 use wf_value::{Chars, Refusal};
-use workflow_runs::runs::Runs;
 
 /// The ready legs of a table, run by run.
 #[derive(Drop)]

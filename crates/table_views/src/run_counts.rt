@@ -5,9 +5,9 @@ ghost use Rattle.table_views.specs.RunCounting.{Words, lines_of_runs, run_counts
 
 use crate::metric_lines::{one_more, push_head, push_value};
 use needs_graph::conclude;
-use run_states::{Run, RunPhase};
 use run_table::status_word;
 use std::alloc::{AllocError, Global};
+use table_model::{Run, RunPhase};
 use wf_value::Outcome;
 
 /// The status of a run, and its conclusion once it has completed.

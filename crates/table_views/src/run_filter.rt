@@ -6,11 +6,11 @@ ghost use Rattle.table_views.specs.RunFilters.{is_event_wanted, is_group_wanted,
 
 use crate::run_rows::{as_text, conclusion_at, own_group, ref_of};
 use run_plan::Prepared;
-use run_states::Run;
 use run_table::{RunView, status_word};
 use std::alloc::Global;
+use table_model::Run;
+use table_runs::runs::Runs;
 use wf_value::{Chars, Refusal};
-use workflow_runs::runs::Runs;
 
 /// The runs that a list shows: those with each of the given texts.
 #[derive(Drop)]

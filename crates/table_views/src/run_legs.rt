@@ -7,9 +7,9 @@ ghost use Rattle.table_views.specs.ReadyPages.{legs_at, next_run, start_at};
 
 use crate::sites::push_legs_of_run;
 use run_plan::Number;
-use run_states::LegSite;
 use std::alloc::{AllocError, Global};
-use workflow_runs::runs::Runs;
+use table_model::LegSite;
+use table_runs::runs::Runs;
 
 /// The sites of the legs of the run at an index.
 pub(crate) fn legs_at(alloc: Global, runs: &Runs, r: usize) -> Result<Vec<LegSite>, AllocError>

@@ -2,17 +2,17 @@
 
 ghost use Rattle.std.specs.Prelude.{◌≡◌, ◌++◌, IfOk, Ok, option_map, string_bytes};
 ghost use Rattle.wf_value.specs.Gives.{Gives};
-ghost use Rattle.run_states.specs.inner.Cells.{states};
+ghost use Rattle.table_model.specs.inner.Cells.{states};
 ghost use Rattle.table_views.specs.RunRows.{conclusion_at, event_members, number_members, origin_members, own_group, ref_of, run_members, run_row, state_members};
 
 use crate::members::{push_number, push_text, push_text_or_null};
 use run_plan::{Number, Prepared};
-use run_states::{Holder, Job, Run, RunPhase};
 use run_table::{RunView, conclusion_word, status_word};
 use std::alloc::{AllocError, Global};
+use table_model::{Holder, Job, Run, RunPhase};
+use table_runs::runs::Runs;
 use wf_expr::{Context, ScalarView};
 use wf_value::{Chars, Refusal};
-use workflow_runs::runs::Runs;
 
 // ---- what a row shows
 

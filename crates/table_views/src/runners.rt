@@ -5,8 +5,8 @@ ghost use Rattle.std.specs.List.{All};
 ghost use Rattle.std.specs.Option.{option_map_or};
 ghost use Rattle.definitions.specs.Limits.{max_runs};
 ghost use Rattle.wf_value.specs.Gives.{Gives};
-ghost use Rattle.run_states.specs.Fitting.{has_lease, site_of_lease};
-ghost use Rattle.run_states.specs.Runs.{leg_at, leg_sites};
+ghost use Rattle.table_model.specs.Fitting.{has_lease, site_of_lease};
+ghost use Rattle.table_model.specs.Runs.{leg_at, leg_sites};
 ghost use Rattle.table_views.specs.inner.Placed.{IsWithin};
 ghost use Rattle.table_views.specs.RunnerLines.{held_leg, lease_text, runner_line, runner_lines};
 ghost use Rattle.table_views.specs.Texts.{line};
@@ -15,11 +15,11 @@ use crate::form::Form;
 use crate::sites::leg_sites;
 use crate::texts::{leg_members, leg_words, quoted};
 use run_plan::Number;
-use run_states::{Leg, LegSite};
 use run_table::{Runner, Table};
 use std::alloc::{AllocError, Global};
+use table_model::{Leg, LegSite};
+use table_runs::runs::Runs;
 use wf_value::{Chars, Refusal};
-use workflow_runs::runs::Runs;
 
 fn has_lease(leg: &Leg, lease: Number) -> bool
     ensures { result ≡ has_lease lease leg.now }

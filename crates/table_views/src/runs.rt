@@ -2,16 +2,16 @@
 
 ghost use Rattle.std.specs.Prelude.{◌≡◌, ◌++◌, IfOk, Ok, codes, decimal, map, string_bytes};
 ghost use Rattle.wf_value.specs.Gives.{Gives};
-ghost use Rattle.run_states.specs.inner.Cells.{states};
-ghost use Rattle.run_states.specs.ViewText.{seen_text};
+ghost use Rattle.table_model.specs.inner.Cells.{states};
+ghost use Rattle.table_model.specs.ViewText.{seen_text};
 ghost use Rattle.table_views.specs.RunLines.{job_json, jobs_json, leg_json, run_json, run_line, run_start, state_text};
 
 use crate::form::Form;
 use crate::texts::{listed, quoted};
 use run_plan::PlannedJob;
-use run_states::{Job, JobPhase, Leg};
 use run_table::{RunView, conclusion_word, leg_word, status_word};
 use std::alloc::{AllocError, Global};
+use table_model::{Job, JobPhase, Leg};
 use wf_value::{Chars, Refusal};
 
 pub(crate) fn state_word(phase: JobPhase) -> &'static str

@@ -3,12 +3,12 @@
 ghost use Rattle.std.specs.Prelude.{◌≡◌, ◌++◌, ◌<◌, IfOk, OnOk};
 ghost use Rattle.std.specs.List.{All};
 ghost use Rattle.definitions.specs.Limits.{max_runs};
-ghost use Rattle.run_states.specs.Runs.{leg_sites, leg_sites_of_job, leg_sites_of_run};
+ghost use Rattle.table_model.specs.Runs.{leg_sites, leg_sites_of_job, leg_sites_of_run};
 ghost use Rattle.table_views.specs.inner.Placed.{IsWithin};
 
-use run_states::{Job, LegSite, Run};
 use std::alloc::{AllocError, Global};
-use workflow_runs::runs::Runs;
+use table_model::{Job, LegSite, Run};
+use table_runs::runs::Runs;
 
 /// Adds the sites of a job's legs.
 fn push_legs_of_job(

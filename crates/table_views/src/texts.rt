@@ -7,10 +7,10 @@ ghost use Rattle.wf_value.specs.Gives.{Gives};
 ghost use Rattle.table_views.specs.Texts.{leg_members, leg_words, listed, quoted};
 
 use json::Writer;
-use run_states::LegSite;
 use std::alloc::{AllocError, Global};
+use table_model::LegSite;
+use table_runs::runs::Runs;
 use wf_value::{Chars, Refusal};
-use workflow_runs::runs::Runs;
 
 /// A text as JSON. RFC 8259, section 7.
 pub(crate) fn quoted(alloc: Global, text: &str) -> Result<String, Refusal>

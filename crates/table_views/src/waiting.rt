@@ -2,15 +2,15 @@
 
 ghost use Rattle.std.specs.Prelude.{◌≡◌, Ok, codes, option_map, string_bytes};
 ghost use Rattle.wf_value.specs.Gives.{Gives};
-ghost use Rattle.run_states.specs.Fitting.{may_run_too, most_at_work};
+ghost use Rattle.table_model.specs.Fitting.{may_run_too, most_at_work};
 ghost use Rattle.table_views.specs.RunViews.{for_group, leg_group, leg_waits_for, ready_waits_for, run_waits_for};
 
 use crate::members::{number_or_null, push_member, push_text_or_null};
 use crate::run_rows::as_text;
-use run_states::{Holder, LegPhase, LegSite, RunPhase};
 use std::alloc::Global;
+use table_model::{Holder, LegPhase, LegSite, RunPhase};
+use table_runs::runs::Runs;
 use wf_value::{Chars, Refusal};
-use workflow_runs::runs::Runs;
 
 fn for_group(alloc: Global, name: Option<&str>) -> Result<String, Refusal>
     ensures { Gives string_bytes result (Ok (for_group (option_map (λ n. n.now) name.entry))) }

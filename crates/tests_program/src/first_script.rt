@@ -1,7 +1,7 @@
 //! The first script, a workflow, and what is printed for each.
 
 use act_disk::MemoryDisk;
-use acts_ops::{run_check, run_script};
+use program_commands::{run_check, run_script};
 use std::alloc::Global;
 use std::io::{Read, Write};
 

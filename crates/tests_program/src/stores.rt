@@ -3,7 +3,7 @@
 use crate::holds::holds;
 use act_disk::{Disk, Fill, FuseDisk, MemoryDisk};
 use act_store::Store;
-use acts_ops::{Form, Shown, run_init, run_show};
+use program_commands::{Form, Shown, run_init, run_show};
 use std::alloc::Global;
 use std::process::Abort;
 use tests_common::commands::{Words, command_of};

@@ -3,8 +3,8 @@
 use crate::clients::{BODY, CREATED, LOOK, POST, SEEN, is_answered, listeners};
 use act_disk::MemoryDisk;
 use act_store::Store;
-use acts_rounds::serve_on;
 use crossbeam_channel::{Receiver, Sender};
+use service_rounds::serve_on;
 use std::alloc::Global;
 use std::net::{Net, SocketAddr, TcpListener, TcpStream};
 use std::sync::Wait;

@@ -4,9 +4,9 @@
 
 use crate::holds::holds;
 use run_plan::Number;
-use run_states::{JobParts, JobPhase, Leg, LegPhase, RunParts, RunPhase};
 use std::alloc::Global;
 use stored_tables::TableParts;
+use table_model::{JobParts, JobPhase, Leg, LegPhase, RunParts, RunPhase};
 use tests_common::commands::prepared;
 use wf_value::{Refusal, Sequence};
 

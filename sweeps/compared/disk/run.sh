@@ -10,12 +10,12 @@
 set -eu
 . "$(dirname "$0")/../../../bench/copy.sh"
 cases=$(cd "$1" && pwd)
-copy_for compared_disk main.rt.txt wf_value act_disk act_store table_text acts_ops sha2 anyhow
+copy_for compared_disk main.rt.txt wf_value act_disk act_store table_text program_commands sha2 anyhow
 for part in script crash faults; do cp "$here/$part.rt.txt" "$scratch/crates/compared_disk/src/$part.rt"; done
 # Lines are read as `acts` reads them, and a store shows its table and its disk, which no contract describes; so none of this is proved.
 rm -rf "$scratch"/crates/*/proofs
 shown='    pub fn table(\&self) -> \&Table {\n        \&self.table\n    }\n\n    pub fn disk(\&self) -> \&D {\n        \&self.disk\n    }\n'
-sed -i 's/^pub use check::/pub use answer::{Answer, answer_line, answer_to};\n&/' "$scratch/crates/acts_ops/src/lib.rt"
+sed -i 's/^pub use check::/pub use answer::{Answer, answer_line, answer_to};\n&/' "$scratch/crates/program_commands/src/lib.rt"
 sed -i "s/^impl<D: Disk> Store<D> {\$/&\n$shown/" "$scratch/crates/act_store/src/store.rt"
 
 cd "$scratch/crates/compared_disk"

@@ -1,7 +1,7 @@
 -- What the bytes of an area encode.
 use Rattle.std.specs.Prelude.{◌≡◌, ℕ, ◌+◌, List, length, Option, Some, None}
 use Rattle.definitions.specs.Area.{Head, Reads, opened}
-use Rattle.run_states.specs.TableState.{TableState}
+use Rattle.table_model.specs.TableState.{TableState}
 use Rattle.act_store.specs.Images.{IsAreaLength, MeansTable}
 use Rattle.act_store.specs.Layouts.{layout_of, EncodesTable}
 use Rattle.act_store.specs.declared.decoded_area.DecodedArea.{DecodedArea}

@@ -9,8 +9,8 @@ use Rattle.gated_journal.specs.Whole.{RecoversWhole}
 use Rattle.gated_journal.specs.declared.gate.GateState.{GateState}
 use Rattle.gated_journal.specs.declared.gate.GateState.TheVariants.{Closed}
 use Rattle.gated_journal.specs.declared.side.Side.{Side}
-use Rattle.run_states.specs.Sound.{IsSound}
-use Rattle.run_states.specs.TableState.{TableState}
+use Rattle.table_model.specs.Sound.{IsSound}
+use Rattle.table_model.specs.TableState.{TableState}
 use Rattle.command_encodings.specs.Commands.{IsEncoded, command_bytes}
 use Rattle.act_store.specs.Entries.{IsLegal, commands_of, table_after}
 use Rattle.act_store.specs.Images.{IsAreaLength, MeansTable}

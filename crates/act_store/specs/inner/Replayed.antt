@@ -3,8 +3,8 @@ use Rattle.std.specs.Prelude.{◌≡◌, ℕ, ◌<◌, ◌^◌, List, length, Op
 use Rattle.std.specs.List.{AllByRecursion}
 use Rattle.definitions.specs.Area.{record_bytes}
 use Rattle.run_plan.specs.declared.command.Command.{Command}
-use Rattle.run_states.specs.Step.{after}
-use Rattle.run_states.specs.TableState.{TableState}
+use Rattle.table_model.specs.Step.{after}
+use Rattle.table_model.specs.TableState.{TableState}
 use Rattle.definitions.specs.Format.{Encodes}
 use Rattle.act_store.specs.Layouts.{batch_format}
 use Rattle.act_store.specs.Images.{EncodeCommands}

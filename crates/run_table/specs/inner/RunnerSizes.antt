@@ -6,7 +6,7 @@ use Rattle.run_plan.specs.declared.last_command.ClaimReply.TheVariants as given
 use Rattle.run_plan.specs.declared.last_command.LastCommand.{LastCommand}
 use Rattle.run_plan.specs.declared.last_command.LastCommand.TheVariants as last
 use Rattle.command_encodings.specs.Lengths.{command_length, text_length}
-use Rattle.run_states.specs.TableState.{RunnerState}
+use Rattle.table_model.specs.TableState.{RunnerState}
 
 -- a command, a byte for its reply, and for a lease its number and the four numbers of its site
 abbrev pub last_size : LastCommand → ℕ

@@ -3,13 +3,13 @@
 ghost use Rattle.std.specs.Prelude.{◌≡◌, ◌<◌, ◌-◌, true, length, slice_get, option_copied, option_map, Ok, OnErr, IsOk};
 ghost use Rattle.definitions.specs.Limits.{max_runs};
 ghost use Rattle.wf_value.specs.Gives.{Gives};
-ghost use Rattle.run_states.specs.Sound.{IsSound};
-ghost use Rattle.run_states.specs.Step.{admission_answer, admitted, admitting, is_allocation_free, outcome};
+ghost use Rattle.table_model.specs.Sound.{IsSound};
+ghost use Rattle.table_model.specs.Step.{admission_answer, admitted, admitting, is_allocation_free, outcome};
 
 use crate::table_data::{TableData, id_of, refused};
 use run_plan::{Prepared, Reply};
-use run_states::{MAX_RUNS, Run};
 use std::alloc::Global;
+use table_model::{MAX_RUNS, Run};
 use wf_value::{Code, Refusal};
 
 impl TableData {

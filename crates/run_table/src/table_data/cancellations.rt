@@ -1,12 +1,12 @@
 //! Cancels a run, unless it has completed.
 
 ghost use Rattle.std.specs.Prelude.{◌≡◌};
-ghost use Rattle.run_states.specs.Sound.{IsSound};
-ghost use Rattle.run_states.specs.Step.{answer_of_run, cancel_answer, cancelled, outcome};
+ghost use Rattle.table_model.specs.Sound.{IsSound};
+ghost use Rattle.table_model.specs.Step.{answer_of_run, cancel_answer, cancelled, outcome};
 
 use crate::table_data::{TableData, index_of, refused};
 use run_plan::{Number, Reply};
-use run_states::RunPhase;
+use table_model::RunPhase;
 use wf_value::Code;
 
 impl TableData {

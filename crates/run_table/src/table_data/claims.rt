@@ -4,11 +4,11 @@ ghost use Rattle.std.specs.Prelude.{◌≡◌, ◌<◌, true, length, Ok, IfErr,
 ghost use Rattle.std.specs.Option.{option_map_or};
 ghost use Rattle.definitions.specs.Limits.{last_number, max_runs};
 ghost use Rattle.wf_value.specs.Gives.{Gives, no_memory};
-ghost use Rattle.run_states.specs.Fitting.{first_fit};
-ghost use Rattle.run_states.specs.Sound.{IsSound};
-ghost use Rattle.run_states.specs.Runs.{run_at};
-ghost use Rattle.run_states.specs.Step.{claim_answer, claimed, claiming, claiming_runner, is_allocation_free, kept_lease_at};
-ghost use Rattle.run_states.specs.Step.{lease_answer, lease_at, leasing, outcome, serving_nothing, unchanged};
+ghost use Rattle.table_model.specs.Fitting.{first_fit};
+ghost use Rattle.table_model.specs.Sound.{IsSound};
+ghost use Rattle.table_model.specs.Runs.{run_at};
+ghost use Rattle.table_model.specs.Step.{claim_answer, claimed, claiming, claiming_runner, is_allocation_free, kept_lease_at};
+ghost use Rattle.table_model.specs.Step.{lease_answer, lease_at, leasing, outcome, serving_nothing, unchanged};
 ghost use Rattle.run_table.specs.inner.IndexNamed.{index_named};
 ghost use Rattle.run_plan.specs.declared.last_command.ClaimReply.TheVariants as given;
 
@@ -17,11 +17,11 @@ use crate::runner::{Runner, holds_lease};
 use crate::sequence_numbers::answer_to_claim;
 use crate::table_data::{TableData, refused, with_copy};
 use run_plan::{BoxedLease, Claim, ClaimReply, LAST_NUMBER, Number, Reply};
-use run_states::LegSite;
 use std::alloc::Global;
+use table_model::LegSite;
+use table_runs::fit::first_fit;
+use table_runs::runs::Runs;
 use wf_value::{Code, Refusal, TryCopy};
-use workflow_runs::fit::first_fit;
-use workflow_runs::runs::Runs;
 
 impl TableData {
     pub(super) fn claim(&mut self, alloc: Global, claim: &Claim) -> Result<(Reply, Reply), Refusal>

@@ -1,16 +1,16 @@
 //! Finds the leg of a lease that a runner holds.
 
 ghost use Rattle.std.specs.Prelude.{◌≡◌, ◌<◌, ◌^◌, IfSome, option_and_then};
-ghost use Rattle.run_states.specs.inner.KeptSite.{kept_site};
-ghost use Rattle.run_states.specs.Sound.{IsSound};
-ghost use Rattle.run_states.specs.Fitting.{OnlyAtWork, site_of_lease};
+ghost use Rattle.table_model.specs.inner.KeptSite.{kept_site};
+ghost use Rattle.table_model.specs.Sound.{IsSound};
+ghost use Rattle.table_model.specs.Fitting.{OnlyAtWork, site_of_lease};
 
 use crate::leases::leg_has_lease;
 use crate::runner::Runner;
 use crate::table_data::TableData;
 use run_plan::{ClaimReply, LastCommand, Number};
-use run_states::LegSite;
-use workflow_runs::fit::site_of_lease;
+use table_model::LegSite;
+use table_runs::fit::site_of_lease;
 
 impl TableData {
     /// The leg of a lease on which a runner is at work. It first tries the leg that is kept with the last claim of the

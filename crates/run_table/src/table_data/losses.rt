@@ -2,18 +2,18 @@
 
 ghost use Rattle.std.specs.Prelude.{◌≡◌, true, Ok, OnErr, IsOk};
 ghost use Rattle.wf_value.specs.Gives.{Gives};
-ghost use Rattle.run_states.specs.Fitting.{OnlyAtWork};
-ghost use Rattle.run_states.specs.Sound.{IsSound, RunsAreSound};
-ghost use Rattle.run_states.specs.Step.{is_allocation_free, losing, loss_answer, lost, outcome};
-ghost use Rattle.run_states.specs.Stops.{with_ended, outcome_of_loss};
+ghost use Rattle.table_model.specs.Fitting.{OnlyAtWork};
+ghost use Rattle.table_model.specs.Sound.{IsSound, RunsAreSound};
+ghost use Rattle.table_model.specs.Step.{is_allocation_free, losing, loss_answer, lost, outcome};
+ghost use Rattle.table_model.specs.Stops.{with_ended, outcome_of_loss};
 ghost use Rattle.run_table.specs.inner.IndexNamed.{index_named};
 
 use crate::runner::Runner;
 use crate::table_data::{TableData, refused};
 use run_plan::{Number, Reply, RunnerName};
 use std::alloc::Global;
+use table_runs::fit::outcome_of_loss;
 use wf_value::{Code, Refusal};
-use workflow_runs::fit::outcome_of_loss;
 
 impl TableData {
     pub(super) fn lose(&mut self, alloc: Global, name: &RunnerName) -> Result<Reply, Refusal>

@@ -2,16 +2,16 @@
 
 ghost use Rattle.std.specs.Prelude.{◌≡◌, true, Ok, IsOk, Some};
 ghost use Rattle.wf_value.specs.Gives.{Gives};
-ghost use Rattle.run_states.specs.Sound.{IsSound};
-ghost use Rattle.run_states.specs.Step.{beat_answer, fetch_answer, is_allocation_free, look_answer, seen};
+ghost use Rattle.table_model.specs.Sound.{IsSound};
+ghost use Rattle.table_model.specs.Step.{beat_answer, fetch_answer, is_allocation_free, look_answer, seen};
 
 use crate::runner::holds_this;
 use crate::table_data::{TableData, index_of, refused};
 use crate::view::{RunView, look};
 use run_plan::{Beat, Number, Reply, SharedBody};
 use std::alloc::Global;
+use table_runs::fit::is_stopping;
 use wf_value::{Code, Refusal};
-use workflow_runs::fit::is_stopping;
 
 impl TableData {
     /// Tells a runner whether to go on with its leg. It takes no memory.

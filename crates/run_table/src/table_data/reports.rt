@@ -2,8 +2,8 @@
 
 ghost use Rattle.std.specs.Prelude.{◌≡◌, true, Ok, OnErr, IsOk};
 ghost use Rattle.wf_value.specs.Gives.{Gives};
-ghost use Rattle.run_states.specs.Sound.{IsSound};
-ghost use Rattle.run_states.specs.Step.{is_allocation_free, outcome, report_answer, reported, reporting};
+ghost use Rattle.table_model.specs.Sound.{IsSound};
+ghost use Rattle.table_model.specs.Step.{is_allocation_free, outcome, report_answer, reported, reporting};
 ghost use Rattle.run_table.specs.inner.IndexNamed.{index_named};
 
 use crate::runner::{Runner, holds_this};

@@ -2,13 +2,13 @@
 
 ghost use Rattle.std.specs.Prelude.{◌≡◌, Ok, IsOk, OnErr, true};
 ghost use Rattle.wf_value.specs.Gives.{Gives};
-ghost use Rattle.run_states.specs.Sound.{IsSound};
-ghost use Rattle.run_states.specs.Step.{answer_of_attempt, answer_of_next, is_allocation_free, outcome, rerun, rerun_answer};
+ghost use Rattle.table_model.specs.Sound.{IsSound};
+ghost use Rattle.table_model.specs.Step.{answer_of_attempt, answer_of_next, is_allocation_free, outcome, rerun, rerun_answer};
 
 use crate::table_data::{TableData, index_of, refused};
 use run_plan::{Attempt, Reply};
-use run_states::{LAST_ATTEMPT, Run, RunPhase};
 use std::alloc::Global;
+use table_model::{LAST_ATTEMPT, Run, RunPhase};
 use wf_value::{Code, Refusal};
 
 impl TableData {

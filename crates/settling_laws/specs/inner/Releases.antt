@@ -1,9 +1,9 @@
 -- Which holders a change leaves in progress.
 use Rattle.std.specs.Prelude.{◌≡◌, List, true}
 use Rattle.group_name.specs.Group.{Group}
-use Rattle.run_states.specs.Groups.{is_in_progress_in}
-use Rattle.run_states.specs.Runs.{RunState}
-use Rattle.run_states.specs.declared.holder.Holder.{Holder}
+use Rattle.table_model.specs.Groups.{is_in_progress_in}
+use Rattle.table_model.specs.Runs.{RunState}
+use Rattle.table_model.specs.declared.holder.Holder.{Holder}
 
 -- each holder that is in progress in a group still is
 abbrev pub ReleasesNone : List RunState → List RunState → Type 0

@@ -1,7 +1,7 @@
 -- Properties of the runs of a table.
 use Rattle.std.specs.Prelude.{ℕ, List, Bool, false, slice_get}
 use Rattle.std.specs.Option.{option_map_or}
-use Rattle.run_states.specs.Runs.{RunState}
+use Rattle.table_model.specs.Runs.{RunState}
 
 -- whether run `r` has the property
 abbrev pub is_so_at : (RunState → Bool) → List RunState → ℕ → Bool

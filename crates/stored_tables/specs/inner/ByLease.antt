@@ -2,9 +2,9 @@
 use Rattle.std.specs.Prelude.{ℕ, ◌≤◌, List, Option, length, option_and_then, slice_get}
 use Rattle.definitions.specs.Limits.{max_runs}
 use Rattle.stored_tables.specs.inner.ByNumber.{Finds}
-use Rattle.run_states.specs.Runs.{run_at, LegState, JobState, RunState}
-use Rattle.run_states.specs.declared.sites.LegSite.{LegSite}
-use Rattle.run_states.specs.TableState.{RunnerState}
+use Rattle.table_model.specs.Runs.{run_at, LegState, JobState, RunState}
+use Rattle.table_model.specs.declared.sites.LegSite.{LegSite}
+use Rattle.table_model.specs.TableState.{RunnerState}
 
 -- the lease of the leg at an index, if it has one
 abbrev pub lease_in_job : List LegState → ℕ → Option ℕ

@@ -4,13 +4,13 @@ use Rattle.std.specs.Prelude.{◌≡◌, ℕ, ◌≤◌, List, [], slice_get, Bo
 use Rattle.std.specs.BTreeMap.{get}
 use Rattle.std.specs.Option.{option_map_or}
 use Rattle.std.specs.Ordering.{nat_cmp}
-use Rattle.run_states.specs.Fitting.{is_at_work, legs_at_work, most_at_work}
-use Rattle.run_states.specs.Runs.{leg_at, run_at, LegState, JobState, RunState}
-use Rattle.run_states.specs.declared.sites.LegSite.{LegSite}
-use Rattle.run_states.specs.Settling.{result_at}
-use Rattle.run_states.specs.Sound.{AttemptIsGiven, IsLastOf, LeaseFits, LegsFit, PhaseFits}
-use Rattle.run_states.specs.TableState.{RunnerState}
-use Rattle.run_states.specs.LegContext.{needs_have_finished, planned_legs}
+use Rattle.table_model.specs.Fitting.{is_at_work, legs_at_work, most_at_work}
+use Rattle.table_model.specs.Runs.{leg_at, run_at, LegState, JobState, RunState}
+use Rattle.table_model.specs.declared.sites.LegSite.{LegSite}
+use Rattle.table_model.specs.Settling.{result_at}
+use Rattle.table_model.specs.Sound.{AttemptIsGiven, IsLastOf, LeaseFits, LegsFit, PhaseFits}
+use Rattle.table_model.specs.TableState.{RunnerState}
+use Rattle.table_model.specs.LegContext.{needs_have_finished, planned_legs}
 use Rattle.stored_tables.specs.declared.sound.leases.Leases.{Leases}
 
 -- ---- look-ups by lease

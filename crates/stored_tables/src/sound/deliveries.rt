@@ -3,11 +3,11 @@
 ghost use Rattle.std.specs.Bool.{Decides};
 ghost use Rattle.std.specs.List.{position};
 ghost use Rattle.std.specs.Prelude.{◌≡◌, Some};
-ghost use Rattle.run_states.specs.Sound.{DeliveriesDiffer};
-ghost use Rattle.run_states.specs.Runs.{is_delivered_as};
+ghost use Rattle.table_model.specs.Sound.{DeliveriesDiffer};
+ghost use Rattle.table_model.specs.Runs.{is_delivered_as};
 
-use run_states::Run;
-use workflow_runs::runs::Runs;
+use table_model::Run;
+use table_runs::runs::Runs;
 
 /// Whether a look-up by the run's delivery finds the run at this index.
 fn is_found(runs: &Runs, r: usize, run: &Run) -> bool

@@ -3,16 +3,16 @@
 
 ghost use Rattle.std.specs.Bool.{Decides};
 ghost use Rattle.std.specs.Prelude.{◌≡◌};
-ghost use Rattle.run_states.specs.inner.Cells.{states};
+ghost use Rattle.table_model.specs.inner.Cells.{states};
 ghost use Rattle.stored_tables.specs.inner.OneByOne.{EachJobIsSound, IsWithinParallel, JobIsSound, NeedsAreFirst};
-ghost use Rattle.run_states.specs.Settling.{result_at};
-ghost use Rattle.run_states.specs.Sound.{LegsFit, MayLackLegs};
-ghost use Rattle.run_states.specs.LegContext.{needs_have_finished, planned_legs};
-ghost use Rattle.run_states.specs.declared.phases.JobPhase.TheVariants.{Finished};
+ghost use Rattle.table_model.specs.Settling.{result_at};
+ghost use Rattle.table_model.specs.Sound.{LegsFit, MayLackLegs};
+ghost use Rattle.table_model.specs.LegContext.{needs_have_finished, planned_legs};
+ghost use Rattle.table_model.specs.declared.phases.JobPhase.TheVariants.{Finished};
 
-use run_states::{Job, JobPhase};
+use table_model::{Job, JobPhase};
+use table_runs::runs::Runs;
 use wf_value::JobResult;
-use workflow_runs::runs::Runs;
 
 /// Whether a job that never opened may finish with this result.
 fn may_lack_legs(settled: JobResult) -> bool

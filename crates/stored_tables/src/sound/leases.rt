@@ -8,13 +8,13 @@ ghost use Rattle.stored_tables.specs.inner.ByLease.{lease_of_leg, lease_of_runne
 ghost use Rattle.stored_tables.specs.inner.ByNumber.{Adds, Finds};
 
 use run_plan::Number;
-use run_states::LegSite;
 use run_table::Runner;
 use std::alloc::Global;
 use std::collections::BTreeMap;
+use table_model::LegSite;
+use table_runs::runs::Runs;
+use table_runs::walk::Legs;
 use wf_value::Refusal;
-use workflow_runs::runs::Runs;
-use workflow_runs::walk::Legs;
 
 /// The leases of a table.
 #[derive(Drop)]

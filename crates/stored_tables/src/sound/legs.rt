@@ -4,14 +4,14 @@
 ghost use Rattle.std.specs.Bool.{Decides};
 ghost use Rattle.std.specs.Prelude.{◌≡◌, is_some, Some};
 ghost use Rattle.stored_tables.specs.inner.OneByOne.{EachLegIsSound, IsFound, IsGiven, LegIsSound, leg_of, runner_of};
-ghost use Rattle.run_states.specs.Sound.{LeaseFits};
+ghost use Rattle.table_model.specs.Sound.{LeaseFits};
 
 use crate::sound::leases::Leases;
 use run_plan::Number;
-use run_states::{Leg, LegPhase, LegSite};
+use table_model::{Leg, LegPhase, LegSite};
+use table_runs::runs::Runs;
+use table_runs::walk::Legs;
 use wf_value::Outcome;
-use workflow_runs::runs::Runs;
-use workflow_runs::walk::Legs;
 
 /// Whether a leg in this phase may have this lease, or may lack one.
 fn lease_fits(phase: LegPhase, lease: Option<Number>) -> bool

@@ -4,12 +4,12 @@
 ghost use Rattle.std.specs.Bool.{Decides};
 ghost use Rattle.std.specs.Prelude.{◌≡◌, Some};
 ghost use Rattle.stored_tables.specs.inner.OneByOne.{EachRunnerIsSound, HoldsWork, RunnerIsSound, is_worked_on, runner_of};
-ghost use Rattle.run_states.specs.Sound.{IsLastOf};
+ghost use Rattle.table_model.specs.Sound.{IsLastOf};
 
 use crate::sound::leases::Leases;
 use run_plan::{LastCommand, Number, RunnerName};
 use run_table::Runner;
-use workflow_runs::runs::Runs;
+use table_runs::runs::Runs;
 
 /// Whether the last command is this runner's and has this number.
 fn is_last_of(name: &RunnerName, number: Number, last: &LastCommand) -> bool

@@ -5,13 +5,13 @@ ghost use Rattle.std.specs.Bool.{Decides};
 ghost use Rattle.std.specs.Prelude.{◌≡◌};
 ghost use Rattle.std.specs.List.{list_all};
 ghost use Rattle.stored_tables.specs.inner.OneByOne.{EachRunIsSound, RunIsSound};
-ghost use Rattle.run_states.specs.Sound.{AttemptIsGiven, PhaseFits};
-ghost use Rattle.run_states.specs.Runs.{is_blocked};
+ghost use Rattle.table_model.specs.Sound.{AttemptIsGiven, PhaseFits};
+ghost use Rattle.table_model.specs.Runs.{is_blocked};
 
 use crate::sound::jobs::are_jobs_sound;
-use run_states::{Job, LAST_ATTEMPT, Run, RunPhase};
-use workflow_runs::first_site::has_finished_jobs;
-use workflow_runs::runs::Runs;
+use table_model::{Job, LAST_ATTEMPT, Run, RunPhase};
+use table_runs::first_site::has_finished_jobs;
+use table_runs::runs::Runs;
 
 fn are_blocked(jobs: &[Job]) -> bool
     ensures { result ≡ list_all (λ job. is_blocked job.state.phase) jobs.now }

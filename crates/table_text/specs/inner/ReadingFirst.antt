@@ -4,8 +4,8 @@ use Rattle.definitions.specs.Limits.{max_runs}
 use Rattle.definitions.specs.SmallText.{Admitted, is_runner_byte}
 use Rattle.stored_tables.specs.Stored.{RunnerParts, TableParts}
 use Rattle.stored_tables.specs.declared.parts.LastParts.{LastParts}
-use Rattle.run_states.specs.Runs.{JobState, RunState}
-use Rattle.run_states.specs.declared.phases.RunPhase.{RunPhase}
+use Rattle.table_model.specs.Runs.{JobState, RunState}
+use Rattle.table_model.specs.declared.phases.RunPhase.{RunPhase}
 use Rattle.table_text.specs.declared.kept.StoredReply.{StoredReply}
 use Rattle.table_text.specs.declared.kept.StoredReply.TheVariants as replied
 use Rattle.command_encodings.specs.inner.Reading.{Reader, byte_at, counted_at, follow_at, items_at, only_at, pair_at, parts_at, some_at}

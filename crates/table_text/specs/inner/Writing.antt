@@ -4,9 +4,9 @@ use Rattle.std.specs.List.{AllByRecursion}
 use Rattle.run_plan.specs.declared.last_command.ClaimReply.TheVariants as given
 use Rattle.run_plan.specs.declared.last_command.LastCommand.{LastCommand}
 use Rattle.run_plan.specs.declared.last_command.LastCommand.TheVariants as last
-use Rattle.run_states.specs.Sound.{AttemptIsGiven}
+use Rattle.table_model.specs.Sound.{AttemptIsGiven}
 use Rattle.stored_tables.specs.Stored.{is_new}
-use Rattle.run_states.specs.Runs.{LegState, JobState, RunState}
+use Rattle.table_model.specs.Runs.{LegState, JobState, RunState}
 use Rattle.table_text.specs.Tables.{jobs_planned}
 
 -- a leg that has a byte

@@ -8,8 +8,8 @@ use crate::phases_at::{flag_at, run_phase_at};
 use crate::runs_at::planned_jobs_at;
 use command_encodings::{DecodeError, admit_at, word_at};
 use run_plan::Number;
-use run_states::{MAX_RUNS, RunParts};
 use std::alloc::Global;
+use table_model::{MAX_RUNS, RunParts};
 use wf_value::Sequence;
 
 impl ReadFirstAt for RunParts {

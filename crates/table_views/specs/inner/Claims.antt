@@ -3,11 +3,11 @@ use Rattle.std.specs.Prelude.{ℕ, List, [], filter_map, take, Option, option_ma
 use Rattle.std.specs.List.{list_any}
 use Rattle.std.specs.Option.{option_map_or}
 use Rattle.group_name.specs.Group.{Group, same_group}
-use Rattle.run_states.specs.Groups.{all_holders}
-use Rattle.run_states.specs.Runs.{RunState}
+use Rattle.table_model.specs.Groups.{all_holders}
+use Rattle.table_model.specs.Runs.{RunState}
 use Rattle.table_views.specs.GroupLines.{group_in_use}
 use Rattle.table_views.specs.declared.claim.GroupClaim.{GroupClaim}
-use Rattle.run_states.specs.declared.holder.Holder.{Holder}
+use Rattle.table_model.specs.declared.holder.Holder.{Holder}
 
 abbrev pub claim_of : List RunState → Holder → Option (Group × Holder)
 claim_of runs h = option_map (λ g. (g, h)) (group_in_use runs h)

@@ -1,9 +1,9 @@
 -- The order of a table's runs and legs: all runs first, and then the legs, by run, job and index.
 use Rattle.std.specs.Prelude.{Bool, true, false, ◌&&◌, ◌||◌, nat_eq, nat_lt, Option}
 use Rattle.std.specs.Option.{option_map_or}
-use Rattle.run_states.specs.declared.holder.Holder.{Holder}
-use Rattle.run_states.specs.declared.holder.Holder.TheVariants.{Run, Leg}
-use Rattle.run_states.specs.declared.sites.LegSite.{LegSite}
+use Rattle.table_model.specs.declared.holder.Holder.{Holder}
+use Rattle.table_model.specs.declared.holder.Holder.TheVariants.{Run, Leg}
+use Rattle.table_model.specs.declared.sites.LegSite.{LegSite}
 
 abbrev pub is_site_before : LegSite → LegSite → Bool
 is_site_before p q =

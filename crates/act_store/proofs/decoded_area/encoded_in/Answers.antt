@@ -1,7 +1,7 @@
 use Rattle.std.proofs.Common.{rules, ◌≡◌, subst}
 use Rattle.std.specs.Prelude.{None, Option, Some}
 use Rattle.gated_journal.specs.ScannedHead.{head_of}
-use Rattle.run_states.specs.TableState.{TableState}
+use Rattle.table_model.specs.TableState.{TableState}
 use Rattle.act_store.specs.Layouts.{layout_of}
 use Rattle.act_store.specs.inner.Replayed.{IsReplayed}
 use Rattle.act_store.specs.inner.Encoded.{IsTextOf}

@@ -1,5 +1,5 @@
 use Rattle.std.proofs.Common.{◌≡◌, drop}
-use Rattle.run_states.specs.Step.{after}
+use Rattle.table_model.specs.Step.{after}
 use Rattle.act_store.proofs.replay.carry_all.Given as goal
 
 -- what is left leads on to the end

@@ -1,6 +1,6 @@
 use Rattle.std.proofs.Common.{rules, subst}
 use Rattle.std.specs.Prelude.{Option}
-use Rattle.run_states.specs.TableState.{TableState}
+use Rattle.table_model.specs.TableState.{TableState}
 use Rattle.act_store.specs.inner.Replayed.{IsCarried}
 use Rattle.act_store.proofs.Replaying.{at_broken, at_end, one_more}
 use Rattle.act_store.proofs.replay.replay.Goals as goal

@@ -2,7 +2,7 @@ use Rattle.std.proofs.Common.{◌≡◌, Bool, List, ap, arith, length, refl, sl
 use Rattle.std.specs.Prelude.{Option, Some, None, option_and_then, option_map}
 use Rattle.std.specs.Option.{is_some}
 use Rattle.run_table.specs.inner.IndexNamed.{index_named}
-use Rattle.run_states.specs.TableState.{kept_named, runner_named, RunnerState}
+use Rattle.table_model.specs.TableState.{kept_named, runner_named, RunnerState}
 use Rattle.run_table.proofs.RunnerOrder.{found_there, place_in_range, place_within, put_between, put_over}
 use Rattle.run_table.proofs.runners.put_in.Goals as goal
 

@@ -1,7 +1,7 @@
 use Rattle.std.proofs.Common.{◌≡◌, ◌++◌}
 use Rattle.std.specs.Prelude.{string_bytes}
-use Rattle.run_states.specs.inner.Cells.{states}
-use Rattle.run_states.specs.ViewText.{jobs_text}
+use Rattle.table_model.specs.inner.Cells.{states}
+use Rattle.table_model.specs.ViewText.{jobs_text}
 use Rattle.run_table.proofs.view_text.push_jobs.Given as goal
 
 -- what has been added and what is left make up the whole

@@ -1,6 +1,6 @@
 use Rattle.std.proofs.Common.{rules}
 use Rattle.run_table.proofs.JoinedLegs.{all_joined}
-use Rattle.run_states.specs.ViewText.{leg_text}
+use Rattle.table_model.specs.ViewText.{leg_text}
 use Rattle.run_table.proofs.view_text.push_leg_words.Goals as goal
 
 pub returns : goal.returns

@@ -1,7 +1,7 @@
 use Rattle.std.proofs.Common.{◌≡◌, ◌++◌, take}
 use Rattle.std.specs.Prelude.{codes, string_bytes}
 use Rattle.std.specs.List.{flat_map}
-use Rattle.run_states.specs.ViewText.{leg_text}
+use Rattle.table_model.specs.ViewText.{leg_text}
 use Rattle.run_table.proofs.view_text.push_leg_words.Given as goal
 
 -- the legs so far have been added, each after a comma

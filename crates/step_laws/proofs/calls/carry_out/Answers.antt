@@ -3,7 +3,7 @@ use Rattle.table_laws.specs.GroupHistories.{all_moves}
 use Rattle.table_laws.specs.GroupHolders.{SayWhoHolds}
 use Rattle.table_laws.proofs.HistoryLaw.{group_keeps_law}
 use Rattle.table_laws.proofs.HoldersSaid.{moves_say_who_holds}
-use Rattle.run_states.specs.TableState.{TableState}
+use Rattle.table_model.specs.TableState.{TableState}
 use Rattle.step_laws.proofs.calls.carry_out.Goals as goal
 
 pub returns-clause-law : goal.returns-clause-law

@@ -1,5 +1,5 @@
 use Rattle.std.proofs.Common.{◌≡◌, take}
-use Rattle.run_states.specs.Step.{after}
+use Rattle.table_model.specs.Step.{after}
 use Rattle.step_laws.proofs.calls.take_steps.Given as goal
 
 -- the commands so far have been carried out

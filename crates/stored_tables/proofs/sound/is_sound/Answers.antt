@@ -1,6 +1,6 @@
 use Rattle.std.proofs.Common.{◌≤◌, arith, rules}
 use Rattle.std.proofs.lemmas.Bool.Decides.{Decides-like}
-use Rattle.run_states.proofs.OneAfterAnother.{no, not_so}
+use Rattle.table_model.proofs.OneAfterAnother.{no, not_so}
 use Rattle.stored_tables.proofs.SoundOneByOne.{each_leg, each_run, each_runner, to_sound}
 use Rattle.stored_tables.proofs.sound.is_sound.Goals as goal
 

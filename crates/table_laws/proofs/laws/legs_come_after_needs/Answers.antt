@@ -1,4 +1,4 @@
-use Rattle.run_states.specs.Step.{empty}
+use Rattle.table_model.specs.Step.{empty}
 use Rattle.run_table.proofs.StepKeeps.{empty_is_sound}
 use Rattle.table_laws.proofs.ReachedTables.{after_is_sound}
 use Rattle.table_laws.proofs.laws.legs_come_after_needs.Goals as goal

@@ -1,7 +1,7 @@
 use Rattle.std.proofs.Common.{ℕ, ◌≤◌, sym, subst}
 use Rattle.std.specs.List.{AllByRecursion}
 use Rattle.stored_tables.specs.Stored.{stored_runner}
-use Rattle.run_states.specs.TableState.{RunnerState}
+use Rattle.table_model.specs.TableState.{RunnerState}
 use Rattle.table_text.specs.Tables.{run, runner}
 use Rattle.table_text.specs.inner.Writing.{KeptHasBytes, RunHasBytes}
 use Rattle.table_text.proofs.TableKnown.{runners_have_bytes, runs_have_bytes, table_bytes, table_takes}

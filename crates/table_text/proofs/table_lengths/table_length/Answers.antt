@@ -1,7 +1,7 @@
 use Rattle.std.proofs.Common.{◌≡◌, ap, arith, ◌∙◌}
 use Rattle.std.specs.Prelude.{sum_by}
 use Rattle.stored_tables.specs.Stored.{stored_table}
-use Rattle.workflow_runs.specs.StoredSizes.{run_size}
+use Rattle.table_runs.specs.StoredSizes.{run_size}
 use Rattle.table_text.specs.TableLengths.{runner_length}
 use Rattle.table_text.proofs.TableLengthLaws.{length_table, runner_sizes}
 use Rattle.table_text.proofs.table_lengths.table_length.Goals as goal

@@ -1,5 +1,5 @@
 use Rattle.std.proofs.Common.{◌<◌, length, refl, arith}
-use Rattle.run_states.specs.Runs.{leg_site}
+use Rattle.table_model.specs.Runs.{leg_site}
 use Rattle.table_views.specs.HolderPages.{row_of_holder}
 use Rattle.table_views.proofs.Claimed.{leg_row_more, site_read}
 use Rattle.table_views.proofs.group_holders.push_legs.Goals as goal

@@ -1,6 +1,6 @@
 use Rattle.std.proofs.Common.{◌≡◌, ◌++◌, map, take}
 use Rattle.std.specs.Prelude.{filter_map}
-use Rattle.run_states.specs.declared.holder.Holder.TheVariants.{Leg}
+use Rattle.table_model.specs.declared.holder.Holder.TheVariants.{Leg}
 use Rattle.table_views.specs.HolderPages.{row_of_holder}
 use Rattle.table_views.proofs.group_holders.push_legs.Given as goal
 

@@ -1,9 +1,9 @@
 use Rattle.std.specs.Prelude.{refl}
 use Rattle.std.proofs.Common.{ℕ, ◌<◌, length, map, arith}
-use Rattle.run_states.specs.Runs.{placed, RunState, leg_site}
+use Rattle.table_model.specs.Runs.{placed, RunState, leg_site}
 use Rattle.table_views.proofs.Claimed.{leg_claimed, site_read, run_claimed}
 use Rattle.table_views.proofs.groups.claims_of.Goals as goal
-use Rattle.run_states.specs.declared.holder.Holder.TheVariants.{Run}
+use Rattle.table_model.specs.declared.holder.Holder.TheVariants.{Run}
 
 pub loop-r-preserved : goal.loop-r-preserved
 loop-r-preserved c =

@@ -1,9 +1,9 @@
 use Rattle.std.proofs.Common.{◌≡◌, ℕ, ◌++◌, map, take}
 use Rattle.std.specs.Prelude.{filter_map}
-use Rattle.run_states.specs.Runs.{placed, RunState}
+use Rattle.table_model.specs.Runs.{placed, RunState}
 use Rattle.table_views.specs.inner.Claims.{claim_of, said}
 use Rattle.table_views.proofs.groups.claims_of.Given as goal
-use Rattle.run_states.specs.declared.holder.Holder.TheVariants.{Run, Leg}
+use Rattle.table_model.specs.declared.holder.Holder.TheVariants.{Run, Leg}
 
 -- the claims of the runs so far
 abbrev pub invariant-loop-r : goal.invariant-loop-r

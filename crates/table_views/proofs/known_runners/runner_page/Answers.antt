@@ -1,6 +1,6 @@
 use Rattle.std.proofs.Common.{◌∙◌, ◌-◌, ℕ, List, length, ap, ap₂, subst, sym}
 use Rattle.std.specs.Prelude.{codes, string_bytes}
-use Rattle.run_states.specs.TableState.{RunnerState}
+use Rattle.table_model.specs.TableState.{RunnerState}
 use Rattle.table_views.specs.Members.{text_or_null}
 use Rattle.table_views.specs.Pages.{IsPage, page_text, rows_from}
 use Rattle.table_views.specs.RunnerPages.{IsRunnerPage, next_name, runner_rows}

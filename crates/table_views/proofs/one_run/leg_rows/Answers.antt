@@ -1,7 +1,7 @@
 use Rattle.std.proofs.Common.{◌≡◌, ◌∙◌, ◌<◌, ℕ, List, [], ◌∷◌, ◌++◌, length, ap, sym, arith}
 use Rattle.std.specs.Prelude.{string_bytes}
-use Rattle.run_states.specs.Runs.{leg_site, LegState}
-use Rattle.run_states.specs.declared.sites.LegSite.{LegSite}
+use Rattle.table_model.specs.Runs.{leg_site, LegState}
+use Rattle.table_model.specs.declared.sites.LegSite.{LegSite}
 use Rattle.table_views.specs.RunViews.{leg_row}
 use Rattle.table_views.proofs.Paging.{gives_ok}
 use Rattle.table_views.proofs.Placing.{one_value_more}

@@ -1,5 +1,5 @@
 use Rattle.std.proofs.Common.{◌≡◌, ℕ, map, take}
-use Rattle.run_states.specs.Runs.{placed, leg_site, LegState}
+use Rattle.table_model.specs.Runs.{placed, leg_site, LegState}
 use Rattle.table_views.specs.RunViews.{leg_row}
 use Rattle.table_views.proofs.one_run.leg_rows.Given as goal
 

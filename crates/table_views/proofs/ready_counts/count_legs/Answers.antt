@@ -1,7 +1,7 @@
 use Rattle.std.proofs.Common.{◌<◌, ◌≤◌, ◌++◌, ℕ, List, length, take, get_or, refl, sym, subst, arith}
 use Rattle.std.proofs.lemmas.List.{take_all}
-use Rattle.run_states.specs.Runs.{leg_site}
-use Rattle.run_states.specs.declared.sites.LegSite.{LegSite}
+use Rattle.table_model.specs.Runs.{leg_site}
+use Rattle.table_model.specs.declared.sites.LegSite.{LegSite}
 use Rattle.table_views.specs.NamedCounts.{AreCounts}
 use Rattle.table_views.specs.TableMetrics.{asked_at}
 use Rattle.table_views.proofs.AskedLists.{asked_more}

@@ -1,7 +1,7 @@
 use Rattle.std.proofs.Common.{◌≡◌, ◌∙◌, ◌<◌, List, length, refl, sym, ap, arith, rules}
 use Rattle.std.proofs.lemmas.Option.{slice_get_read}
 use Rattle.std.specs.Prelude.{false, slice_get}
-use Rattle.run_states.specs.Runs.{RunState}
+use Rattle.table_model.specs.Runs.{RunState}
 use Rattle.table_views.proofs.AskedLists.{still_counts}
 use Rattle.table_views.proofs.ready_counts.count_run.Goals as goal
 

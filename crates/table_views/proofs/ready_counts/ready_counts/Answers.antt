@@ -1,6 +1,6 @@
 use Rattle.std.proofs.Common.{◌<◌, length, take, arith}
 use Rattle.std.specs.List.{flat_map}
-use Rattle.run_states.specs.Runs.{placed, leg_sites_of_run}
+use Rattle.table_model.specs.Runs.{placed, leg_sites_of_run}
 use Rattle.table_views.specs.TableMetrics.{asked_at}
 use Rattle.table_views.proofs.AskedLists.{run_asked}
 use Rattle.table_views.proofs.ready_counts.ready_counts.Goals as goal

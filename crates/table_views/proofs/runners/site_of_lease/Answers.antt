@@ -1,8 +1,8 @@
 use Rattle.std.proofs.Common.{◌∙◌, ap}
 use Rattle.std.specs.Prelude.{false, find}
 use Rattle.std.specs.Option.{option_map_or}
-use Rattle.run_states.specs.Fitting.{has_lease}
-use Rattle.run_states.specs.Runs.{leg_at}
+use Rattle.table_model.specs.Fitting.{has_lease}
+use Rattle.table_model.specs.Runs.{leg_at}
 use Rattle.table_views.proofs.runners.site_of_lease.Goals as goal
 
 pub returns-in-Some-clause-found : goal.returns-in-Some-clause-found

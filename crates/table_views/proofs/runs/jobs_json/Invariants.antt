@@ -1,5 +1,5 @@
 use Rattle.std.proofs.Common.{◌≡◌, ◌++◌}
-use Rattle.run_states.specs.inner.Cells.{states}
+use Rattle.table_model.specs.inner.Cells.{states}
 use Rattle.table_views.specs.RunLines.{jobs_json}
 use Rattle.table_views.proofs.runs.jobs_json.Given as goal
 

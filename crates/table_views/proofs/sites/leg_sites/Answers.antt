@@ -1,5 +1,5 @@
 use Rattle.std.proofs.Common.{◌∙◌, ◌++◌, ◌<◌, length, ap, sym, arith}
-use Rattle.run_states.specs.Runs.{leg_sites_of_run}
+use Rattle.table_model.specs.Runs.{leg_sites_of_run}
 use Rattle.table_views.proofs.Placing.{one_more}
 use Rattle.table_views.proofs.sites.leg_sites.Goals as goal
 

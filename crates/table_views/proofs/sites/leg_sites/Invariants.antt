@@ -1,6 +1,6 @@
 use Rattle.std.proofs.Common.{◌≡◌, take}
 use Rattle.std.specs.List.{All, flat_map}
-use Rattle.run_states.specs.Runs.{placed, leg_sites_of_run}
+use Rattle.table_model.specs.Runs.{placed, leg_sites_of_run}
 use Rattle.table_views.specs.inner.Placed.{IsWithin}
 use Rattle.table_views.proofs.sites.leg_sites.Given as goal
 

@@ -1,8 +1,8 @@
 use Rattle.std.proofs.Common.{◌≡◌, ◌∙◌, ℕ, ◌++◌, ◌∷◌, [], ◌<◌, ◌^◌, length, map, take, ap, sym, subst, arith}
 use Rattle.std.specs.List.{All}
 use Rattle.std.proofs.lemmas.List.Elements.{All-append, All-cons, All-nil}
-use Rattle.run_states.specs.Runs.{placed, leg_site, LegState}
-use Rattle.run_states.specs.declared.sites.LegSite.{LegSite}
+use Rattle.table_model.specs.Runs.{placed, leg_site, LegState}
+use Rattle.table_model.specs.declared.sites.LegSite.{LegSite}
 use Rattle.table_views.specs.inner.Placed.{IsWithin}
 use Rattle.table_views.proofs.Placing.{added_more, one_place_more}
 use Rattle.table_views.proofs.sites.push_legs_of_job.Goals as goal

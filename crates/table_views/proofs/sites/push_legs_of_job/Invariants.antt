@@ -1,6 +1,6 @@
 use Rattle.std.proofs.Common.{◌≡◌, ℕ, ◌++◌, map, take}
 use Rattle.std.specs.List.{All}
-use Rattle.run_states.specs.Runs.{placed, leg_site, LegState}
+use Rattle.table_model.specs.Runs.{placed, leg_site, LegState}
 use Rattle.table_views.specs.inner.Placed.{IsWithin}
 use Rattle.table_views.proofs.sites.push_legs_of_job.Given as goal
 

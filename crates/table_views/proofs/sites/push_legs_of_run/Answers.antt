@@ -1,8 +1,8 @@
 use Rattle.std.proofs.Common.{◌≡◌, ◌∙◌, ◌++◌, ◌<◌, length, take, get_or, ap, sym, arith}
 use Rattle.std.proofs.lemmas.List.{get_or-map, length-map}
 use Rattle.std.specs.List.{flat_map}
-use Rattle.run_states.specs.inner.Cells.{JobCells, states}
-use Rattle.run_states.specs.Runs.{placed, leg_sites_of_job}
+use Rattle.table_model.specs.inner.Cells.{JobCells, states}
+use Rattle.table_model.specs.Runs.{placed, leg_sites_of_job}
 use Rattle.table_views.proofs.Placing.{added_more, one_more}
 use Rattle.table_views.proofs.sites.push_legs_of_run.Goals as goal
 

@@ -1,7 +1,7 @@
 use Rattle.std.proofs.Common.{◌≡◌, ◌++◌, take}
 use Rattle.std.specs.List.{All, flat_map}
-use Rattle.run_states.specs.inner.Cells.{states}
-use Rattle.run_states.specs.Runs.{placed, leg_sites_of_job}
+use Rattle.table_model.specs.inner.Cells.{states}
+use Rattle.table_model.specs.Runs.{placed, leg_sites_of_job}
 use Rattle.table_views.specs.inner.Placed.{IsWithin}
 use Rattle.table_views.proofs.sites.push_legs_of_run.Given as goal
 

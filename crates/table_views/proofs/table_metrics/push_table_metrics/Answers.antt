@@ -1,7 +1,7 @@
 use Rattle.std.proofs.Common.{◌∙◌, ◌++◌, List, ap}
 use Rattle.std.specs.Prelude.{string_bytes}
-use Rattle.run_states.specs.Runs.{RunState}
-use Rattle.run_states.specs.TableState.{RunnerState}
+use Rattle.table_model.specs.Runs.{RunState}
+use Rattle.table_model.specs.TableState.{RunnerState}
 use Rattle.table_views.specs.LegCounting.{leg_lines}
 use Rattle.table_views.specs.RunCounting.{run_lines}
 use Rattle.table_views.specs.TableMetrics.{ready_lines, runner_lines}

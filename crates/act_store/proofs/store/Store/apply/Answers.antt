@@ -1,8 +1,8 @@
 use Rattle.std.proofs.Common.{rules, ◌≡◌, ◌++◌, [], ◌∷◌, refl, sym, subst}
 use Rattle.std.specs.Prelude.{None, Option, Some, option_map}
-use Rattle.run_states.specs.Step.{stepped}
+use Rattle.table_model.specs.Step.{stepped}
 use Rattle.command_encodings.specs.Commands.{command_bytes}
-use Rattle.run_states.specs.TableState.{TableState}
+use Rattle.table_model.specs.TableState.{TableState}
 use Rattle.definitions.specs.Disk.{EachSince}
 use Rattle.act_disk.proofs.Moments.{started}
 use Rattle.act_store.specs.StoreState.{Checkpoint, StoreState, RecoversToEither}

@@ -1,5 +1,5 @@
 use Rattle.std.proofs.Common.{subst}
-use Rattle.run_states.specs.Sound.{IsSound}
+use Rattle.table_model.specs.Sound.{IsSound}
 use Rattle.act_store.specs.GroupsOfHistory.{KeepsGroups}
 use Rattle.act_store.specs.StoreState.{StoreState, RecoverToCovered}
 use Rattle.act_store.proofs.GroupsOfHistory.{keeps_groups}

@@ -1,7 +1,7 @@
 use Rattle.std.proofs.Common.{rules, false, arith, ◌≡◌, [], ℕ, List, sym, subst}
 use Rattle.std.specs.Prelude.{None}
-use Rattle.run_states.specs.Sound.{IsSound}
-use Rattle.run_states.specs.TableState.{TableState}
+use Rattle.table_model.specs.Sound.{IsSound}
+use Rattle.table_model.specs.TableState.{TableState}
 use Rattle.act_store.specs.Images.{RecoversFrom, RecoversTo}
 use Rattle.act_store.proofs.Beginning.{counted_begun, consistent_begun}
 use Rattle.act_store.proofs.Opening.{found_at, found_settled, found_recovers}

@@ -1,6 +1,6 @@
 use Rattle.std.proofs.Common.{◌≡◌, List, ◌+◌, ap, false, length, not, subst}
 use Rattle.std.specs.Prelude.{nat_lt}
-use Rattle.run_states.specs.TableState.{RunnerState}
+use Rattle.table_model.specs.TableState.{RunnerState}
 use Rattle.act_store.specs.Checkpoints.{first_gate, text_length}
 use Rattle.act_store.specs.StoreState.{StoreState, table_of}
 use Rattle.act_store.specs.inner.StoreSeen.{as_state}

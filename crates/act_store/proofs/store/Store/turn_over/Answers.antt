@@ -1,7 +1,7 @@
 use Rattle.std.proofs.Common.{rules, ◌≡◌, sym, ◌∙◌, subst}
 use Rattle.std.specs.Prelude.{None, option_map}
-use Rattle.run_states.specs.Sound.{IsSound}
-use Rattle.run_states.specs.TableState.{TableState}
+use Rattle.table_model.specs.Sound.{IsSound}
+use Rattle.table_model.specs.TableState.{TableState}
 use Rattle.act_store.specs.StoreState.{StoreState, covered_table}
 use Rattle.act_store.specs.Plain.{refusal_of_turn_over}
 use Rattle.act_store.specs.inner.Promise.{IsBegun}

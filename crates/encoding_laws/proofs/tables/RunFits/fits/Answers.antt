@@ -1,7 +1,7 @@
 use Rattle.std.proofs.Common.{sym, subst}
 use Rattle.std.specs.List.{AllByRecursion}
-use Rattle.run_states.specs.inner.Cells.{JobCells}
-use Rattle.run_states.proofs.Found.{each_of_map}
+use Rattle.table_model.specs.inner.Cells.{JobCells}
+use Rattle.table_model.proofs.Found.{each_of_map}
 use Rattle.command_encodings.specs.Commands.{admit}
 use Rattle.table_text.specs.Tables.{job}
 use Rattle.table_text.specs.inner.Writing.{JobHasBytes}

@@ -1,6 +1,6 @@
 use Rattle.std.specs.Prelude.{List, option_and_then, slice_get}
 use Rattle.std.proofs.Common.{ap, ◌∙◌}
-use Rattle.run_states.specs.TableState.{RunnerState, kept_named}
+use Rattle.table_model.specs.TableState.{RunnerState, kept_named}
 use Rattle.run_table.proofs.RunnerOrder.{found_there}
 use Rattle.run_table.proofs.runners.Runners.at.Goals as goal
 

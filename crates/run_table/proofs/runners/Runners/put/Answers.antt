@@ -1,6 +1,6 @@
 use Rattle.std.proofs.Common.{◌≡◌, List, ℕ, ap, arith, sym, ◌∙◌}
 use Rattle.wf_value.proofs.PassedOn.{same_Ok}
-use Rattle.run_states.specs.TableState.{runner_named, with_runner, RunnerState}
+use Rattle.table_model.specs.TableState.{runner_named, with_runner, RunnerState}
 use Rattle.run_table.proofs.RunnerOrder.{put_keeps_order}
 use Rattle.run_table.proofs.RunnerSizes.{size_most, size_of, size_within, sized_with}
 use Rattle.run_table.proofs.runners.Runners.put.Goals as goal

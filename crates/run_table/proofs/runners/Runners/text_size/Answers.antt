@@ -1,7 +1,7 @@
 use Rattle.std.proofs.Common.{List, ap, ◌∙◌, ◌*◌, ◌≤◌, length, subst}
 use Rattle.std.specs.Prelude.{sum_by}
 use Rattle.run_table.specs.inner.RunnerSizes.{runner_size, max_runner_size}
-use Rattle.run_states.specs.TableState.{RunnerState}
+use Rattle.table_model.specs.TableState.{RunnerState}
 use Rattle.run_table.proofs.RunnerSizes.{size_most}
 use Rattle.run_table.proofs.runners.Runners.text_size.Goals as goal
 

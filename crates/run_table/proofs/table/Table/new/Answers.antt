@@ -1,5 +1,5 @@
 use Rattle.std.proofs.Common.{subst, sym}
-use Rattle.run_states.specs.Sound.{IsSound}
+use Rattle.table_model.specs.Sound.{IsSound}
 use Rattle.run_table.proofs.StepKeeps.{empty_is_sound}
 use Rattle.run_table.proofs.table.Table.new.Goals as goal
 

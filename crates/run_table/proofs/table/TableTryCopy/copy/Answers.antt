@@ -1,5 +1,5 @@
 use Rattle.std.proofs.Common.{subst}
-use Rattle.run_states.specs.Sound.{IsSound}
+use Rattle.table_model.specs.Sound.{IsSound}
 use Rattle.run_table.proofs.table.TableTryCopy.copy.Goals as goal
 use Rattle.wf_value.proofs.PassedOn.{same_Ok}
 

@@ -1,6 +1,6 @@
 use Rattle.std.specs.Prelude.{◌≡◌, true}
 use Rattle.std.proofs.Common.{ap, sym, ◌∙◌}
-use Rattle.run_states.specs.TableState.{TableState, holds_this, runner_named}
+use Rattle.table_model.specs.TableState.{TableState, holds_this, runner_named}
 use Rattle.run_table.proofs.HeldAtWork.{this_at_work}
 use Rattle.run_table.proofs.table_data.TableData.beat.Goals as goal
 

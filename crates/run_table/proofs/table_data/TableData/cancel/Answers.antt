@@ -1,8 +1,8 @@
 use Rattle.std.specs.Prelude.{◌-◌}
 use Rattle.std.proofs.Common.{ap, ◌∙◌}
-use Rattle.run_states.specs.TableState.{TableState}
-use Rattle.run_states.specs.Runs.{with_run}
-use Rattle.run_states.specs.Stops.{stopped_run}
+use Rattle.table_model.specs.TableState.{TableState}
+use Rattle.table_model.specs.Runs.{with_run}
+use Rattle.table_model.specs.Stops.{stopped_run}
 use Rattle.run_table.proofs.BeforeSettling.{so_settles, sound_as_they_are, stopped_may_settle}
 use Rattle.run_table.proofs.table_data.TableData.cancel.Goals as goal
 

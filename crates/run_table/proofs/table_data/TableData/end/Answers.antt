@@ -1,11 +1,11 @@
 use Rattle.std.specs.Prelude.{◌≡◌, IfSome, List, Option, true}
 use Rattle.std.proofs.Common.{ap, subst, sym, ◌∙◌}
-use Rattle.run_states.specs.TableState.{RunnerState, TableState}
+use Rattle.table_model.specs.TableState.{RunnerState, TableState}
 use Rattle.run_table.specs.inner.IndexNamed.{index_named}
-use Rattle.run_states.specs.Fitting.{is_at_work}
-use Rattle.run_states.specs.Runs.{leg_at, RunState}
-use Rattle.run_states.specs.Stops.{with_ended}
-use Rattle.run_states.specs.declared.sites.LegSite.{LegSite}
+use Rattle.table_model.specs.Fitting.{is_at_work}
+use Rattle.table_model.specs.Runs.{leg_at, RunState}
+use Rattle.table_model.specs.Stops.{with_ended}
+use Rattle.table_model.specs.declared.sites.LegSite.{LegSite}
 use Rattle.run_table.proofs.BeforeSettling.{reported_may_settle, so_settles, sound_as_they_are}
 use Rattle.run_table.proofs.HeldAtWork.{this_at_work}
 use Rattle.run_table.proofs.LegHeld.{ended_at, held_is_at_work}

@@ -3,12 +3,12 @@ use Rattle.std.specs.Option.{option_map_or}
 use Rattle.std.proofs.Common.{ap, ap₂, sym, subst, ◌∙◌}
 use Rattle.wf_value.specs.declared.outcome.Outcome.{Outcome}
 use Rattle.wf_value.specs.declared.outcome.Outcome.TheVariants as outcome
-use Rattle.run_states.specs.Fitting.{is_at_work, is_stopping_leg}
-use Rattle.run_states.specs.Runs.{leg_at, RunState}
-use Rattle.run_states.specs.Sound.{RunsAreSound}
-use Rattle.run_states.specs.Stops.{with_ended, outcome_of_loss}
-use Rattle.run_states.specs.declared.sites.LegSite.{LegSite}
-use Rattle.run_states.specs.TableState.{TableState}
+use Rattle.table_model.specs.Fitting.{is_at_work, is_stopping_leg}
+use Rattle.table_model.specs.Runs.{leg_at, RunState}
+use Rattle.table_model.specs.Sound.{RunsAreSound}
+use Rattle.table_model.specs.Stops.{with_ended, outcome_of_loss}
+use Rattle.table_model.specs.declared.sites.LegSite.{LegSite}
+use Rattle.table_model.specs.TableState.{TableState}
 use Rattle.run_table.specs.inner.IndexNamed.{index_named}
 use Rattle.run_table.proofs.BeforeSettling.{sound_as_they_are}
 use Rattle.run_table.proofs.LegHeld.{ended_at, held_is_at_work}

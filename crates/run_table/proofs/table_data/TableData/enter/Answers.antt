@@ -1,10 +1,10 @@
 use Rattle.std.proofs.Common.{◌≡◌, [], ◌∷◌, ◌++◌, true, ap, refl, subst, sym, ◌∙◌}
-use Rattle.run_states.specs.Settling.{arrived}
-use Rattle.run_states.specs.Groups.{run_waits}
-use Rattle.run_states.specs.Resuming.{resume_at_arrival}
-use Rattle.run_states.specs.Runs.{RunState}
-use Rattle.run_states.specs.declared.holder.Holder.TheVariants.{Run}
-use Rattle.run_states.specs.TableState.{TableState}
+use Rattle.table_model.specs.Settling.{arrived}
+use Rattle.table_model.specs.Groups.{run_waits}
+use Rattle.table_model.specs.Resuming.{resume_at_arrival}
+use Rattle.table_model.specs.Runs.{RunState}
+use Rattle.table_model.specs.declared.holder.Holder.TheVariants.{Run}
+use Rattle.table_model.specs.TableState.{TableState}
 use Rattle.run_table.proofs.BeforeSettling.{entering_arrives, entering_settles, enters}
 use Rattle.run_table.proofs.EnteredRests.{entering_rests}
 use Rattle.run_table.proofs.table_data.TableData.enter.Goals as goal

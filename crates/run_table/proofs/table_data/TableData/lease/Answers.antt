@@ -3,13 +3,13 @@ use Rattle.std.proofs.Common.{◌≡◌, ◌<◌, List, false, ap, length, refl,
 use Rattle.std.proofs.lemmas.Option.{slice_get_within}
 use Rattle.run_plan.specs.declared.reply.Lease.{Lease as Leased}
 use Rattle.run_plan.specs.declared.reply.Reply.TheVariants as reply
-use Rattle.run_states.specs.Runs.{with_leg, leased_leg, LegState, RunState}
-use Rattle.run_states.specs.Step.{lease_at}
-use Rattle.run_states.specs.Groups.{holds, leg_holds}
-use Rattle.run_states.specs.declared.holder.Holder.TheVariants.{Leg}
-use Rattle.run_states.specs.TableState.{RunnerState, TableState}
+use Rattle.table_model.specs.Runs.{with_leg, leased_leg, LegState, RunState}
+use Rattle.table_model.specs.Step.{lease_at}
+use Rattle.table_model.specs.Groups.{holds, leg_holds}
+use Rattle.table_model.specs.declared.holder.Holder.TheVariants.{Leg}
+use Rattle.table_model.specs.TableState.{RunnerState, TableState}
 use Rattle.run_table.specs.inner.IndexNamed.{index_named}
-use Rattle.run_states.proofs.JobKeeps.{leg_in}
+use Rattle.table_model.proofs.JobKeeps.{leg_in}
 use Rattle.run_table.proofs.ClaimKeeps.{fitting_leg}
 use Rattle.run_table.proofs.Leased.{leased_table}
 use Rattle.run_table.proofs.BeforeSettling.{leased_may_settle, so_settles, sound_as_they_are}

@@ -1,6 +1,6 @@
 use Rattle.std.specs.Prelude.{◌≡◌, true}
 use Rattle.std.proofs.Common.{ap, sym, ◌∙◌}
-use Rattle.run_states.specs.TableState.{TableState}
+use Rattle.table_model.specs.TableState.{TableState}
 use Rattle.run_table.proofs.LegHeld.{has_lease_at, leg_below, leg_found}
 use Rattle.run_table.proofs.table_data.TableData.leg_held.Goals as goal
 

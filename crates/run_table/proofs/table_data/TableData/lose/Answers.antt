@@ -1,6 +1,6 @@
 use Rattle.std.specs.Prelude.{◌≡◌, ℕ, List, Some}
 use Rattle.std.proofs.Common.{ap, sym, ◌∙◌}
-use Rattle.run_states.specs.TableState.{RunnerState, TableState, runner_named}
+use Rattle.table_model.specs.TableState.{RunnerState, TableState, runner_named}
 use Rattle.run_table.specs.inner.IndexNamed.{index_named}
 use Rattle.run_table.proofs.BeforeSettling.{lost_may_settle}
 use Rattle.run_table.proofs.HeldAtWork.{held_at_work}

@@ -1,6 +1,6 @@
 use Rattle.std.proofs.Common.{ap, refl, sym}
-use Rattle.run_states.specs.Runs.{again, with_run}
-use Rattle.run_states.specs.TableState.{TableState}
+use Rattle.table_model.specs.Runs.{again, with_run}
+use Rattle.table_model.specs.TableState.{TableState}
 use Rattle.run_table.proofs.BeforeSettling.{begins_within, begun_arrives, begun_settles, has_begun, may_begin, may_begin_again, sound_as_they_are}
 use Rattle.run_table.proofs.table_data.TableData.rerun.Goals as goal
 use Rattle.wf_value.proofs.PassedOn.{same_Ok}

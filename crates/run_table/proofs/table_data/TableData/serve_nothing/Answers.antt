@@ -1,6 +1,6 @@
 use Rattle.std.proofs.Common.{ap, sym, ◌∙◌, Ok}
 use Rattle.wf_value.proofs.PassedOn.{same_Ok}
-use Rattle.run_states.specs.TableState.{RunnerState, TableState}
+use Rattle.table_model.specs.TableState.{RunnerState, TableState}
 use Rattle.run_table.specs.inner.IndexNamed.{index_named}
 use Rattle.run_table.proofs.ServedNothing.{served_nothing}
 use Rattle.run_table.proofs.table_data.TableData.serve_nothing.Goals as goal

@@ -1,10 +1,10 @@
 use Rattle.std.proofs.Common.{ap, sym, subst, ◌∙◌, rules}
 use Rattle.std.specs.Bool.{Decides}
-use Rattle.run_states.specs.Sound.{IsOfALeg}
-use Rattle.run_states.specs.Step.{kept_lease}
+use Rattle.table_model.specs.Sound.{IsOfALeg}
+use Rattle.table_model.specs.Step.{kept_lease}
 use Rattle.stored_tables.specs.Stored.{site_in_runs}
-use Rattle.run_states.specs.declared.sites.LegSite.{LegSite}
-use Rattle.run_states.proofs.OneAfterAnother.{not_so}
+use Rattle.table_model.specs.declared.sites.LegSite.{LegSite}
+use Rattle.table_model.proofs.OneAfterAnother.{not_so}
 use Rattle.stored_tables.proofs.PartsRead.{given_lease, no_given, run_within}
 use Rattle.stored_tables.proofs.leased.Leased.given_at.Goals as goal
 use Rattle.stored_tables.proofs.leased.Leased.given_at.Goals.{After-is_of_a_leg}

@@ -2,9 +2,9 @@ use Rattle.std.proofs.Common.{◌≡◌, arith, false, true, ap, sym, ◌∙◌,
 use Rattle.std.specs.Prelude.{option_map}
 use Rattle.std.proofs.lemmas.Bool.{ltb-false, ltb-true}
 use Rattle.std.proofs.lemmas.Option.{none-some}
-use Rattle.run_states.specs.Runs.{RunState}
-use Rattle.run_states.specs.LegContext.{planned_legs}
-use Rattle.run_states.proofs.OneAfterAnother.{no}
+use Rattle.table_model.specs.Runs.{RunState}
+use Rattle.table_model.specs.LegContext.{planned_legs}
+use Rattle.table_model.proofs.OneAfterAnother.{no}
 use Rattle.stored_tables.proofs.PartsRead.{may_have, present_decides}
 use Rattle.stored_tables.proofs.leased.Leased.is_of_a_leg.Goals as goal
 

@@ -3,9 +3,9 @@ use Rattle.std.specs.Prelude.{MatchOption, Some, slice_get}
 use Rattle.std.proofs.lemmas.Option.{same_Some}
 use Rattle.stored_tables.specs.Stored.{RunnerParts}
 use Rattle.stored_tables.specs.TableOf.{IsRunnerAs}
-use Rattle.run_states.specs.TableState.{RunnerState}
-use Rattle.run_states.proofs.OneAfterAnother.{read_at}
-use Rattle.run_bindings.proofs.Binding.{one_pushed}
+use Rattle.table_model.specs.TableState.{RunnerState}
+use Rattle.table_model.proofs.OneAfterAnother.{read_at}
+use Rattle.table_bindings.proofs.Binding.{one_pushed}
 use Rattle.stored_tables.proofs.PartsRead.{no_runners}
 use Rattle.stored_tables.proofs.leased.Leased.runners.Goals as goal
 

@@ -2,7 +2,7 @@ use Rattle.std.proofs.Common.{◌≡◌, ℕ, length}
 use Rattle.std.specs.Prelude.{Some, slice_get}
 use Rattle.stored_tables.specs.Stored.{RunnerParts}
 use Rattle.stored_tables.specs.TableOf.{IsRunnerAs}
-use Rattle.run_states.specs.TableState.{RunnerState}
+use Rattle.table_model.specs.TableState.{RunnerState}
 use Rattle.stored_tables.proofs.leased.Leased.runners.Given as goal
 
 -- the runners so far, each of the parts at its index

@@ -1,13 +1,13 @@
 use Rattle.std.proofs.Common.{◌≡◌, List, Option, None, false, ap, sym, ◌∙◌, subst, rules}
 use Rattle.std.specs.Prelude.{MatchOption, true}
 use Rattle.stored_tables.specs.Stored.{RunnerParts, TableParts}
-use Rattle.run_states.specs.Sound.{KeptLeasesAreOfLegs}
+use Rattle.table_model.specs.Sound.{KeptLeasesAreOfLegs}
 use Rattle.stored_tables.specs.TableOf.{AreRunnersAs}
-use Rattle.run_states.specs.AsPlanned.{AreAsPlanned}
-use Rattle.run_states.specs.TableState.{RunnerState, names_rise}
-use Rattle.run_states.specs.Groups.{HasOneEach}
-use Rattle.run_states.specs.Runs.{RunState}
-use Rattle.run_states.proofs.OneAfterAnother.{not_so}
+use Rattle.table_model.specs.AsPlanned.{AreAsPlanned}
+use Rattle.table_model.specs.TableState.{RunnerState, names_rise}
+use Rattle.table_model.specs.Groups.{HasOneEach}
+use Rattle.table_model.specs.Runs.{RunState}
+use Rattle.table_model.proofs.OneAfterAnother.{not_so}
 use Rattle.stored_tables.proofs.PartsRead.{kept_of_legs}
 use Rattle.stored_tables.proofs.StoredOnce.{none_listed, none_planned, none_sound, stored_as}
 use Rattle.stored_tables.proofs.parts.TableParts.table.Goals as goal

@@ -1,8 +1,8 @@
 use Rattle.std.proofs.Common.{◌≡◌, List, arith, ap, false, true, get_or, length, subst, rules}
 use Rattle.std.proofs.lemmas.Bool.Decides.{Decides-like}
-use Rattle.run_states.specs.Runs.{RunState}
+use Rattle.table_model.specs.Runs.{RunState}
 use Rattle.stored_tables.proofs.DeliveriesFound.{IsFoundAt, differ_found, found_differ}
-use Rattle.run_states.proofs.OneAfterAnother.{none_yet, one_passed, passed, stopped_at}
+use Rattle.table_model.proofs.OneAfterAnother.{none_yet, one_passed, passed, stopped_at}
 use Rattle.stored_tables.proofs.sound.deliveries.do_deliveries_differ.Goals as goal
 
 pub loop-r-init : goal.loop-r-init

@@ -1,5 +1,5 @@
 use Rattle.stored_tables.proofs.DeliveriesFound.{IsFoundAt}
-use Rattle.run_states.proofs.OneAfterAnother.{SoFar}
+use Rattle.table_model.proofs.OneAfterAnother.{SoFar}
 use Rattle.stored_tables.proofs.sound.deliveries.do_deliveries_differ.Given as goal
 
 -- a look-up by delivery finds each run so far

@@ -1,6 +1,6 @@
 use Rattle.std.proofs.Common.{◌≡◌, None, Some, rules}
 use Rattle.std.specs.List.{position}
-use Rattle.run_states.specs.Runs.{is_delivered_as}
+use Rattle.table_model.specs.Runs.{is_delivered_as}
 use Rattle.stored_tables.proofs.DeliveriesFound.{is_no_place, is_place}
 use Rattle.stored_tables.proofs.sound.deliveries.is_found.Goals as goal
 

@@ -1,9 +1,9 @@
 use Rattle.std.proofs.Common.{◌≡◌, ℕ, arith, false, true, rules}
 use Rattle.std.proofs.lemmas.Bool.Decides.{Decides-like}
-use Rattle.run_states.specs.inner.Cells.{JobCells}
+use Rattle.table_model.specs.inner.Cells.{JobCells}
 use Rattle.stored_tables.specs.inner.OneByOne.{JobIsSound}
-use Rattle.run_states.specs.Runs.{JobState}
-use Rattle.run_states.proofs.OneAfterAnother.{each_mapped, each_unmapped, none_yet, one_passed, passed, stopped_at}
+use Rattle.table_model.specs.Runs.{JobState}
+use Rattle.table_model.proofs.OneAfterAnother.{each_mapped, each_unmapped, none_yet, one_passed, passed, stopped_at}
 use Rattle.stored_tables.proofs.sound.jobs.are_jobs_sound.Goals as goal
 
 pub loop-j-init : goal.loop-j-init

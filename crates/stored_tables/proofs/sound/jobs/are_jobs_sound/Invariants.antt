@@ -1,5 +1,5 @@
 use Rattle.stored_tables.specs.inner.OneByOne.{JobIsSound}
-use Rattle.run_states.proofs.OneAfterAnother.{SoFar}
+use Rattle.table_model.proofs.OneAfterAnother.{SoFar}
 use Rattle.stored_tables.proofs.sound.jobs.are_jobs_sound.Given as goal
 
 -- each job so far is sound

@@ -4,8 +4,8 @@ use Rattle.std.specs.Ordering.{nat_cmp}
 use Rattle.std.specs.Prelude.{Option}
 use Rattle.stored_tables.specs.inner.ByNumber.{Adds}
 use Rattle.stored_tables.proofs.LeasesPut.{HasLease}
-use Rattle.run_states.specs.inner.PlacedLegs.{placed_legs}
-use Rattle.run_states.specs.declared.sites.LegSite.{LegSite}
+use Rattle.table_model.specs.inner.PlacedLegs.{placed_legs}
+use Rattle.table_model.specs.declared.sites.LegSite.{LegSite}
 use Rattle.stored_tables.proofs.sound.leases.legs_by_lease.Given as goal
 
 -- once the remaining legs are inserted, all legs are

@@ -3,7 +3,7 @@ use Rattle.std.specs.BTreeMap.{get}
 use Rattle.std.specs.Ordering.{nat_cmp}
 use Rattle.stored_tables.specs.inner.ByLease.{lease_of_runner}
 use Rattle.stored_tables.proofs.LeasesPut.{runner_put, runners_put}
-use Rattle.run_states.proofs.OneAfterAnother.{read_at}
+use Rattle.table_model.proofs.OneAfterAnother.{read_at}
 use Rattle.stored_tables.proofs.ByNumberRead.{all_found, none_added}
 use Rattle.stored_tables.proofs.sound.leases.runners_by_lease.Goals as goal
 

@@ -2,10 +2,10 @@ use Rattle.std.specs.Prelude.{Some}
 use Rattle.std.specs.List.{AllByRecursion}
 use Rattle.std.proofs.Common.{◌≡◌, false, subst, sym, rules}
 use Rattle.stored_tables.specs.inner.OneByOne.{LegIsSound}
-use Rattle.run_states.specs.inner.PlacedLegs.{PlacedLeg, placed_legs}
-use Rattle.run_states.specs.Runs.{leg_at}
-use Rattle.run_states.proofs.Found.{all_weaken}
-use Rattle.run_states.proofs.OneAfterAnother.{no, not_so, yes}
+use Rattle.table_model.specs.inner.PlacedLegs.{PlacedLeg, placed_legs}
+use Rattle.table_model.specs.Runs.{leg_at}
+use Rattle.table_model.proofs.Found.{all_weaken}
+use Rattle.table_model.proofs.OneAfterAnother.{no, not_so, yes}
 use Rattle.settling_laws.proofs.PlacedLegs.{each_is_there, each_placed}
 use Rattle.stored_tables.proofs.sound.legs.are_legs_sound.Goals as goal
 

@@ -1,6 +1,6 @@
 use Rattle.std.specs.List.{AllByRecursion}
 use Rattle.stored_tables.specs.inner.OneByOne.{EachLegIsSound, LegIsSound}
-use Rattle.run_states.specs.inner.PlacedLegs.{PlacedLeg}
+use Rattle.table_model.specs.inner.PlacedLegs.{PlacedLeg}
 use Rattle.stored_tables.proofs.sound.legs.are_legs_sound.Given as goal
 
 -- all legs are sound exactly if all remaining legs are

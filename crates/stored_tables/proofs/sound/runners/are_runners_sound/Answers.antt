@@ -1,6 +1,6 @@
 use Rattle.std.proofs.Common.{◌≡◌, arith, false, rules}
 use Rattle.stored_tables.specs.inner.OneByOne.{RunnerIsSound}
-use Rattle.run_states.proofs.OneAfterAnother.{none_yet, one_passed, passed, stopped_at}
+use Rattle.table_model.proofs.OneAfterAnother.{none_yet, one_passed, passed, stopped_at}
 use Rattle.stored_tables.proofs.sound.runners.are_runners_sound.Goals as goal
 
 pub loop-k-init : goal.loop-k-init

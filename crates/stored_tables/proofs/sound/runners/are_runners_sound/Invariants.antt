@@ -1,5 +1,5 @@
 use Rattle.stored_tables.specs.inner.OneByOne.{RunnerIsSound}
-use Rattle.run_states.proofs.OneAfterAnother.{SoFar}
+use Rattle.table_model.proofs.OneAfterAnother.{SoFar}
 use Rattle.stored_tables.proofs.sound.runners.are_runners_sound.Given as goal
 
 -- each runner so far is sound

@@ -1,8 +1,8 @@
 use Rattle.std.proofs.Common.{◌≡◌, List, arith, subst, false, true, rules}
 use Rattle.std.specs.Bool.{Decides}
 use Rattle.stored_tables.specs.inner.OneByOne.{RunIsSound}
-use Rattle.run_states.specs.Runs.{RunState}
-use Rattle.run_states.proofs.OneAfterAnother.{OfEach, none_yet, one_passed, passed, stopped_at}
+use Rattle.table_model.specs.Runs.{RunState}
+use Rattle.table_model.proofs.OneAfterAnother.{OfEach, none_yet, one_passed, passed, stopped_at}
 use Rattle.stored_tables.proofs.sound.runs.are_runs_sound.Goals as goal
 
 pub loop-r-init : goal.loop-r-init

@@ -1,5 +1,5 @@
 use Rattle.stored_tables.specs.inner.OneByOne.{RunIsSound}
-use Rattle.run_states.proofs.OneAfterAnother.{SoFar}
+use Rattle.table_model.proofs.OneAfterAnother.{SoFar}
 use Rattle.stored_tables.proofs.sound.runs.are_runs_sound.Given as goal
 
 -- each run so far is sound

@@ -1,8 +1,8 @@
 use Rattle.std.specs.List.{list_all}
 use Rattle.std.proofs.Common.{ap, sym, ◌∙◌}
 use Rattle.std.proofs.lemmas.List.Folds.{list_all-map}
-use Rattle.run_states.specs.inner.Cells.{JobCells}
-use Rattle.run_states.specs.Runs.{JobState, is_blocked}
+use Rattle.table_model.specs.inner.Cells.{JobCells}
+use Rattle.table_model.specs.Runs.{JobState, is_blocked}
 use Rattle.stored_tables.proofs.sound.runs.has_blocked_jobs.Goals as goal
 
 pub returns : goal.returns

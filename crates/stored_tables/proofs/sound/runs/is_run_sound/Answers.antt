@@ -1,7 +1,7 @@
 use Rattle.std.proofs.Common.{◌≡◌, List, subst, true, rules}
 use Rattle.std.specs.Bool.{Decides}
-use Rattle.run_states.specs.Runs.{JobState}
-use Rattle.run_states.proofs.OneAfterAnother.{no, not_so}
+use Rattle.table_model.specs.Runs.{JobState}
+use Rattle.table_model.proofs.OneAfterAnother.{no, not_so}
 use Rattle.stored_tables.specs.inner.OneByOne.{EachJobIsSound}
 use Rattle.stored_tables.proofs.sound.runs.is_run_sound.Goals as goal
 

@@ -1,8 +1,8 @@
 use Rattle.std.proofs.Common.{sym, ◌∙◌, ap, subst}
 use Rattle.std.specs.List.{AllByRecursion, flat_map}
 use Rattle.std.proofs.lemmas.List.Folds.{flat_map-map}
-use Rattle.run_states.specs.inner.Cells.{JobCells}
-use Rattle.run_states.proofs.Found.{each_of_map}
+use Rattle.table_model.specs.inner.Cells.{JobCells}
+use Rattle.table_model.proofs.Found.{each_of_map}
 use Rattle.command_encodings.specs.Commands.{admit}
 use Rattle.table_text.specs.Tables.{flag_byte, job, run_byte}
 use Rattle.table_text.specs.inner.Writing.{JobHasBytes}

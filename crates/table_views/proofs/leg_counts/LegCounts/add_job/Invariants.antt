@@ -1,5 +1,5 @@
 use Rattle.std.proofs.Common.{◌≡◌, ◌++◌, List, map, take}
-use Rattle.run_states.specs.declared.phases.LegPhase.{LegPhase}
+use Rattle.table_model.specs.declared.phases.LegPhase.{LegPhase}
 use Rattle.table_views.specs.LegCounting.{leg_counts}
 use Rattle.table_views.proofs.leg_counts.LegCounts.add_job.Given as goal
 

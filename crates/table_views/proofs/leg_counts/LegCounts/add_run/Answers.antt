@@ -1,7 +1,7 @@
 use Rattle.std.proofs.Common.{◌≡◌, ◌∙◌, ◌<◌, ◌≤◌, ◌∷◌, ◌++◌, [], List, length, take, refl, ap, arith}
 use Rattle.std.proofs.lemmas.List.{take_all}
 use Rattle.std.specs.List.{flat_map}
-use Rattle.run_states.specs.inner.Cells.{JobCells, states}
+use Rattle.table_model.specs.inner.Cells.{JobCells, states}
 use Rattle.table_views.specs.LegCounting.{leg_counts, phases_of}
 use Rattle.table_views.proofs.SoFar.{joined_more}
 use Rattle.table_views.proofs.leg_counts.LegCounts.add_run.Goals as goal

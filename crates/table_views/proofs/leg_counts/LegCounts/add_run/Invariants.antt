@@ -1,6 +1,6 @@
 use Rattle.std.proofs.Common.{◌≡◌, ◌++◌, List, take}
 use Rattle.std.specs.List.{flat_map}
-use Rattle.run_states.specs.declared.phases.LegPhase.{LegPhase}
+use Rattle.table_model.specs.declared.phases.LegPhase.{LegPhase}
 use Rattle.table_views.specs.LegCounting.{leg_counts, phases_of}
 use Rattle.table_views.proofs.leg_counts.LegCounts.add_run.Given as goal
 

@@ -1,8 +1,8 @@
 use Rattle.std.proofs.Common.{◌∙◌, ◌<◌, ◌≤◌, [], List, length, take, ap, arith}
 use Rattle.std.proofs.lemmas.List.{take_all}
 use Rattle.std.specs.List.{flat_map}
-use Rattle.run_states.specs.Runs.{RunState}
-use Rattle.run_states.specs.declared.phases.LegPhase.{LegPhase}
+use Rattle.table_model.specs.Runs.{RunState}
+use Rattle.table_model.specs.declared.phases.LegPhase.{LegPhase}
 use Rattle.table_views.specs.LegCounting.{leg_counts, leg_phases, phases_of}
 use Rattle.table_views.proofs.SoFar.{joined_more}
 use Rattle.table_views.proofs.leg_counts.LegCounts.of.Goals as goal

@@ -2,8 +2,8 @@ use Rattle.std.proofs.Common.{◌∙◌, [], ap}
 use Rattle.std.specs.Prelude.{codes, unwrap_or}
 use Rattle.wf_value.specs.ScalarValue.{outcome_word}
 use Rattle.needs_graph.specs.Needs.{conclusion_of}
-use Rattle.run_states.proofs.Doors.{results_of_cells}
-use Rattle.run_states.specs.ViewText.{results_of, status_text}
+use Rattle.table_model.proofs.Doors.{results_of_cells}
+use Rattle.table_model.specs.ViewText.{results_of, status_text}
 use Rattle.table_views.specs.RunRows.{conclusion_at}
 use Rattle.table_views.proofs.run_counts.RunStatus.of.Goals as goal
 

@@ -1,5 +1,0 @@
-use Rattle.act_loop.proofs.Served.{stays_released}
-use Rattle.act_loop.proofs.laws.released_answers_survive.Goals as goal
-
-pub returns : goal.returns
-returns c = λ history covered count number before client durable le. stays_released history covered count number before client durable le

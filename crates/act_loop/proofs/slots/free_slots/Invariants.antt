@@ -1,7 +1,0 @@
-use Rattle.std.proofs.Common.{◌≡◌}
-use Rattle.std.specs.Prelude.{replicate}
-use Rattle.act_loop.specs.Clients.{free_slot}
-use Rattle.act_loop.proofs.slots.free_slots.Given as goal
-
-abbrev pub invariant-loop-i : goal.invariant-loop-i
-invariant-loop-i g l = l.slots.items ≡ replicate l._i free_slot

@@ -1,0 +1,123 @@
+-- Slots of two ports under one numbering.
+use Rattle.std.proofs.Common.{◌≡◌, ℕ, ◌+◌, ◌-◌, ◌<◌, ◌≤◌, Bool, true, false, List, [], ◌∷◌, ◌++◌, length, get_or, refl, sym, ap, subst, ◌∙◌, arith, zero, suc, length-append}
+use Rattle.std.specs.Prelude.{nat_lt, replicate, slice_get, slice_set, Option, Some}
+use Rattle.std.proofs.lemmas.Bool.Decides.{nat_tests}
+use Rattle.std.proofs.lemmas.List.{length-set, set-append_left, set-append_right}
+use Rattle.std.proofs.lemmas.Option.{slice_get_read}
+use Rattle.act_sessions.specs.Rules.{Rules}
+use Rattle.client_loop.specs.Clients.{SlotState, free_slot}
+use Rattle.client_loop.specs.Conversation.{Conversation, Follows, no_conversation}
+use Rattle.client_loop.specs.Slots.{AreFree, ChangesSlot, FollowsAt, SlotsState, by_port}
+use Rattle.client_loop.proofs.HeldPieces.{at_first}
+
+-- ---- lists
+
+get_left : (xs ys : List SlotState) (i : ℕ) (x : SlotState) → slice_get xs i ≡ Some x → slice_get (xs ++ ys) i ≡ Some x
+get_left [] ys i x is = cc
+get_left (y ∷ xs) ys zero x is = is
+get_left (y ∷ xs) ys (suc i) x is = get_left xs ys i x is
+
+get_right : (xs ys : List SlotState) (i k : ℕ) (x : SlotState) → i ≡ length xs + k → slice_get ys k ≡ Some x → slice_get (xs ++ ys) i ≡ Some x
+get_right [] ys i k x e is = let same : k ≡ i = omega (arith, e) in subst (λ (n : ℕ). slice_get ys n ≡ Some x) same is
+get_right (y ∷ xs) ys zero k x e is = absurd (omega (arith, e))
+get_right (y ∷ xs) ys (suc i) k x e is = get_right xs ys i k x (omega (arith, e)) is
+
+set_same : (xs : List SlotState) (i : ℕ) (x : SlotState) → slice_get xs i ≡ Some x → slice_set xs i x ≡ xs
+set_same [] i x is = refl
+set_same (y ∷ xs) zero x is = ap (λ (z : SlotState). z ∷ xs) (sym (same_some y x is))
+  where
+    same_some : (y x : SlotState) → ◌≡◌ {A = Option SlotState} (Some y) (Some x) → y ≡ x
+    same_some y x is = cc
+set_same (y ∷ xs) (suc i) x is = ap (λ (l : List SlotState). y ∷ l) (set_same xs i x is)
+
+replicate_both : (m n : ℕ) (x : SlotState) → replicate m x ++ replicate n x ≡ replicate (length (replicate m x ++ replicate n x)) x
+replicate_both zero zero x = refl
+replicate_both zero (suc n) x = ap (λ (l : List SlotState). x ∷ l) (replicate_both zero n x)
+replicate_both (suc m) n x = ap (λ (l : List SlotState). x ∷ l) (replicate_both m n x)
+
+pub both_free : (hooks runners : List SlotState) (m n : ℕ) → hooks ≡ replicate m free_slot → runners ≡ replicate n free_slot → AreFree (hooks ++ runners)
+both_free hooks runners m n first second =
+    subst (λ (h : List SlotState). AreFree (h ++ runners)) (sym first)
+    (subst (λ (r : List SlotState). AreFree (replicate m free_slot ++ r)) (sym second) (replicate_both m n free_slot))
+
+-- ---- a change of one slot
+
+abbrev pub both : List SlotState → List SlotState → SlotsState
+both hooks runners = record { hooks = length hooks; all = hooks ++ runners }
+
+is_hook : (i n : ℕ) → i < n → nat_lt i n ≡ true
+is_hook i n less = grind (arith, nat_tests)
+
+is_runner : (i n : ℕ) → n ≤ i → nat_lt i n ≡ false
+is_runner i n least = grind (arith, nat_tests)
+
+pub runner_below : (hooks runners : List SlotState) (o : SlotsState) → both hooks runners ≡ o → (index : ℕ) → index < length o.all → (n : ℕ)
+    → n ≡ length hooks → n ≤ index → index - n < length runners
+runner_below hooks runners o view index below n count least =
+    let longer : length o.all ≡ length hooks + length runners = ap (λ (s : SlotsState). length s.all) (sym view) ∙ length-append hooks runners in
+    omega (arith, below, longer, count, least)
+
+module _ {F G : Type 0} (R : (Conversation → Type 0) → SlotState → SlotState → Type 0) (p : Rules F) (q : Rules G) (index : ℕ)
+    (hooks runners : List SlotState) (now : SlotState) where
+  hook : index < length hooks → (was : SlotState) → slice_get hooks index ≡ Some was → R (Follows p) was now
+      → ChangesSlot (R (by_port (length hooks) p q index)) index (both hooks runners) (both (slice_set hooks index now) runners)
+  hook less was at so = record {
+    was = was;
+    now = now;
+    at = get_left hooks runners index was at;
+    so = subst (λ (b : Bool). R (FollowsAt p q b) was now) (sym (is_hook index (length hooks) less)) so;
+    is = ap (λ (n : ℕ). record { hooks = n; all = slice_set hooks index now ++ runners }) (length-set hooks index now)
+        ∙ ap (λ (l : List SlotState). record { hooks = length hooks; all = l }) (sym (set-append_left hooks runners index now less));
+  }
+
+  runner : length hooks ≤ index → (was : SlotState) → slice_get runners (index - length hooks) ≡ Some was → R (Follows q) was now
+      → ChangesSlot (R (by_port (length hooks) p q index)) index (both hooks runners) (both hooks (slice_set runners (index - length hooks) now))
+  runner least was at so = record {
+    was = was;
+    now = now;
+    at = get_right hooks runners index (index - length hooks) was (omega (arith, least)) at;
+    so = subst (λ (b : Bool). R (FollowsAt p q b) was now) (sym (is_runner index (length hooks) least)) so;
+    is = ap (λ (l : List SlotState). record { hooks = length hooks; all = l }) (sym (set-append_right hooks runners (length hooks) index now refl least));
+  }
+
+  pub changes_hook : (o : SlotsState) → both hooks runners ≡ o → index < length hooks → (was : SlotState) → was ≡ get_or hooks index was
+      → R (Follows p) was now → ChangesSlot (R (by_port o.hooks p q index)) index o (both (slice_set hooks index now) runners)
+  changes_hook o view less was read so =
+      subst (λ (s : SlotsState). ChangesSlot (R (by_port s.hooks p q index)) index s (both (slice_set hooks index now) runners)) view
+      (hook less was (slice_get_read hooks (length hooks) index was refl less read) so)
+
+  pub changes_runner : (o : SlotsState) → both hooks runners ≡ o → index < length o.all → (n : ℕ) → n ≡ length hooks → n ≤ index
+      → (was : SlotState) → was ≡ get_or runners (index - n) was → R (Follows q) was now
+      → ChangesSlot (R (by_port o.hooks p q index)) index o (both hooks (slice_set runners (index - n) now))
+  changes_runner o view below n count least was read so =
+      let same : length hooks ≡ n = sym count in
+      let least_hooks : length hooks ≤ index = omega (arith, least, count) in
+      let at : slice_get runners (index - n) ≡ Some was =
+      slice_get_read runners (length runners) (index - n) was refl (runner_below hooks runners o view index below n count least) read in
+      subst (λ (s : SlotsState). ChangesSlot (R (by_port s.hooks p q index)) index s (both hooks (slice_set runners (index - n) now))) view
+      (subst (λ (k : ℕ). ChangesSlot (R (by_port (length hooks) p q index)) index (both hooks runners) (both hooks (slice_set runners (index - k) now))) same
+      (runner least_hooks was (subst (λ (k : ℕ). slice_get runners (index - k) ≡ Some was) count at) so))
+
+-- ---- no change
+
+pub same_hook : (hooks runners : List SlotState) (o : SlotsState) → both hooks runners ≡ o → (index : ℕ) → index < length hooks → (was now : SlotState)
+    → was ≡ get_or hooks index was → now ≡ was → both (slice_set hooks index now) runners ≡ o
+same_hook hooks runners o view index less was now read same =
+    ap (λ (l : List SlotState). both l runners) (ap (λ (x : SlotState). slice_set hooks index x) same
+    ∙ set_same hooks index was (slice_get_read hooks (length hooks) index was refl less read)) ∙ view
+
+pub same_runner : (hooks runners : List SlotState) (o : SlotsState) → both hooks runners ≡ o → (k : ℕ) → k < length runners → (was now : SlotState)
+    → was ≡ get_or runners k was → now ≡ was → both hooks (slice_set runners k now) ≡ o
+same_runner hooks runners o view k less was now read same =
+    ap (λ (l : List SlotState). both hooks l) (ap (λ (x : SlotState). slice_set runners k x) same
+    ∙ set_same runners k was (slice_get_read runners (length runners) k was refl less read)) ∙ view
+
+-- ---- a client that has just come
+
+pub nobody_follows : {F G : Type 0} (hooks : ℕ) (p : Rules F) (q : Rules G) (index : ℕ) → 0 < p.most → 0 < q.most
+    → by_port hooks p q index no_conversation
+nobody_follows {F} {G} hooks p q index some_p some_q = at (nat_lt index hooks)
+  where
+    at : (b : Bool) → FollowsAt p q b no_conversation
+    at true = (at_first p [] [] [] [] [] some_p refl refl refl refl refl).follows
+    at false = (at_first q [] [] [] [] [] some_q refl refl refl refl refl).follows

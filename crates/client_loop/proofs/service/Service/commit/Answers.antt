@@ -1,0 +1,44 @@
+use Rattle.std.proofs.Common.{subst}
+use Rattle.client_loop.specs.Events.{IsQuiet, Survives}
+use Rattle.client_loop.proofs.Happening.{commits, commits_survive}
+use Rattle.client_loop.proofs.Machine.{commit_keeps, service_covers}
+use Rattle.client_loop.specs.Service.{ServiceState}
+use Rattle.client_loop.specs.Slots.{by_port}
+use Rattle.client_loop.proofs.service.Service.commit.Goals as goal
+
+pub invariant_of-self : goal.invariant_of-self
+invariant_of-self g c =
+    let f = c.self.inside in
+    let p = by_port f.slots.hooks g.P.Protocol.rules g.Q.Protocol.rules in
+    let s : ServiceState g.row.D.Denot = record { store = f.store; origin = f.first.value.base; past = f.past; slots = f.slots } in
+    let k = c.commit.ensures in
+    let keeps = commit_keeps f.store c.commit.new.self c.commit.result c.covered-covered.ensures.within k.all k.some k.failed k.broken in
+    service_covers p s c.self.invariant c.covered-covered.ensures.within c.commit.new.self keeps.0 keeps.1 k.grows
+
+pub returns-clause-quiet : goal.returns-clause-quiet
+returns-clause-quiet g c =
+    let f = c.self.inside in
+    let p = by_port f.slots.hooks g.P.Protocol.rules g.Q.Protocol.rules in
+    let s : ServiceState g.row.D.Denot = record { store = f.store; origin = f.first.value.base; past = f.past; slots = f.slots } in
+    let disk = g.D.Disk in
+    let now = c.covered-covered.ensures in
+    let k = c.commit.ensures in
+    let keeps = commit_keeps f.store c.commit.new.self c.commit.result now.within k.all k.some k.failed k.broken in
+    let new : ServiceState g.row.D.Denot = record s { store = c.commit.new.self } in
+    subst (λ (o : ServiceState g.row.D.Denot). IsQuiet o new) c.self.view_is
+    (commits p disk.honest disk.moment disk.images_since disk.images g.met.D.Disk.only_now s c.self.invariant now.within now.legal now.promise
+    c.commit.new.self keeps.0 keeps.1 k.grows (λ failed. (k.failed failed).1))
+
+pub returns-clause-survives : goal.returns-clause-survives
+returns-clause-survives g c =
+    let f = c.self.inside in
+    let p = by_port f.slots.hooks g.P.Protocol.rules g.Q.Protocol.rules in
+    let s : ServiceState g.row.D.Denot = record { store = f.store; origin = f.first.value.base; past = f.past; slots = f.slots } in
+    let disk = g.D.Disk in
+    let now = c.covered-covered.ensures in
+    let k = c.commit.ensures in
+    let keeps = commit_keeps f.store c.commit.new.self c.commit.result now.within k.all k.some k.failed k.broken in
+    let new : ServiceState g.row.D.Denot = record s { store = c.commit.new.self } in
+    subst (λ (o : ServiceState g.row.D.Denot). Survives disk.honest disk.moment disk.images_since o new) c.self.view_is
+    (commits_survive p disk.honest disk.moment disk.images_since disk.images g.met.D.Disk.only_now s c.self.invariant now.within now.legal now.promise
+    c.commit.new.self keeps.0 keeps.1 k.grows (λ failed. (k.failed failed).1) k.any_moment k.honest)

@@ -1,0 +1,159 @@
+-- What a call that shows a table has written, run by run.
+use Rattle.std.proofs.Common.{◌≡◌, ◌⊎◌, ◌∙◌, inl, inr, ℕ, suc, ◌+◌, ◌-◌, ◌<◌, ◌≤◌, List, [], ◌++◌, length, Option, Some, None}
+use Rattle.std.proofs.Common.{Result, Ok, Err, IfErr, refl, sym, ap, subst, append-nil, arith}
+use Rattle.std.specs.Io.KnownBytes.{Appends, Keeps}
+use Rattle.std.specs.Option.{option_map_or}
+use Rattle.std.specs.Prelude.{IsErrAnd, ok_or, option_map}
+use Rattle.std.proofs.KnownBytes.{Appends-nil}
+use Rattle.std.proofs.lemmas.Option.{slice_get_cases}
+use Rattle.wf_value.specs.Gives.{no_memory}
+use Rattle.wf_value.specs.declared.code.Code.TheVariants.{NoRun}
+use Rattle.wf_value.specs.declared.refusal.Refusal.{Refusal}
+use Rattle.wf_value.specs.declared.refusal.Refusal.TheVariants.{Numbered}
+use Rattle.table_model.specs.LegContext.{events, run_number}
+use Rattle.table_model.specs.Step.{seen}
+use Rattle.table_model.specs.TableState.{TableState}
+use Rattle.table_model.specs.Runs.{RunState}
+use Rattle.table_model.specs.ViewText.{Seen}
+use Rattle.act_store.specs.Entries.{table_after}
+use Rattle.act_store.specs.Images.{HasNoArea, RecoversTo}
+use Rattle.act_store.specs.StoreState.{StoreState, table_of}
+use Rattle.act_store.specs.declared.entry.Entry.{Entry}
+use Rattle.table_views.specs.RunLines.{run_line}
+use Rattle.table_views.specs.declared.form.Form.{Form}
+use Rattle.act_disk.specs.Failed.{device_failed, stream_failed}
+use Rattle.act_store.specs.FaultCauses.{TellsFault}
+use Rattle.program_commands.specs.Show.{Shows, WritesWhat, lines_from, run_lines, shown}
+use Rattle.program_commands.specs.declared.shown.Shown.{Shown}
+use Rattle.program_commands.specs.declared.shown.Shown.TheVariants as what
+use Rattle.program_commands.proofs.Writing.{flushed, written_faults}
+
+-- the lines of the runs from an index on
+abbrev pub lines_after : Form → TableState → ℕ → List ℕ
+lines_after form t index = lines_from form t (index + 1) (length t.runs - index)
+
+-- the view of a run with an id
+abbrev shown_of : TableState → ℕ → RunState → Seen
+shown_of t id run = record { id = id; number = run_number (events t.runs) (id - 1) run.admitted; run = run }
+
+abbrev seen_by : TableState → ℕ → Option RunState → Option Seen
+seen_by t id found = option_map (shown_of t id) found
+
+all_after : (form : Form) (t : TableState) → lines_after form t 0 ≡ run_lines form t
+all_after form t = ap (λ n. lines_from form t 1 n) (let same : length t.runs - 0 ≡ length t.runs = omega arith in same)
+
+pub before_all : (form : Form) (t : TableState) → [] ++ lines_after form t 0 ≡ run_lines form t
+before_all form t = all_after form t
+
+-- ---- a run that exists
+
+there : (t : TableState) (index : ℕ) (run : Seen) → seen t (index + 1) ≡ Some run → index < length t.runs
+there t index run is =
+    let same : index + 1 - 1 ≡ index = omega arith in
+    let cases = slice_get_cases t.runs (index + 1 - 1) in
+    elim cases.1 [
+      | inl found ↦ omega (arith, found.1)
+      | inr past ↦ absurd (let clash : None ≡ Some run = sym (ap (seen_by t (index + 1)) past.1) ∙ is in cc)
+    ]
+
+-- its line comes before those of the later ones
+pub after_run : (form : Form) (t : TableState) (out : List ℕ) (index id : ℕ) (run : Seen) → Some run ≡ seen t id → id ≡ index + 1
+    → out ++ lines_after form t index ≡ run_lines form t
+    → out ++ (run_line form run ++ lines_after form t (index + 1)) ≡ run_lines form t
+after_run form t out index id run looked id_is h =
+    let is : seen t (index + 1) ≡ Some run = sym (looked ∙ ap (seen t) id_is) in
+    let below : index < length t.runs = there t index run is in
+    let left : length t.runs - index ≡ suc (length t.runs - (index + 1)) = omega arith in
+    ap (λ x. out ++ x) (sym (ap (λ n. lines_from form t (index + 1) n) left
+    ∙ ap (λ o. option_map_or (run_line form) o [] ++ lines_from form t (index + 1 + 1) (length t.runs - (index + 1))) is)) ∙ h
+
+-- ---- the end
+
+pub past_last : (form : Form) (t : TableState) (out all : List ℕ) (index : ℕ) → length t.runs ≤ index
+    → out ++ lines_after form t index ≡ all → out ≡ all
+past_last form t out all index past h =
+    let none : length t.runs - index ≡ 0 = omega arith in
+    sym (append-nil out) ∙ ap (λ n. out ++ lines_from form t (index + 1) n) (sym none) ∙ h
+
+-- the table of a store that was just opened is its base
+pub opened_table : {D : Type 0} (s : StoreState D) → s.history ≡ [] → s.base ≡ table_of s
+opened_table s begun = ap (λ (h : List Entry). table_after s.base h) (sym begun)
+
+-- if an image recovers to a table, an area is open
+pub recovers_somewhere : (t : TableState) (image : List ℕ) → RecoversTo t image → HasNoArea image → ⊥
+recovers_somewhere t image recovers none =
+    let clash : None ≡ Some recovers.side = sym (none recovers.len recovers.long recovers.size) ∙ recovers.encodes.recovers in cc
+
+-- ---- what is written of the lines
+
+given : (x y : List ℕ) → x ≡ y → ◌≡◌ {A = Result (List ℕ) Refusal} (Ok x) (Ok y)
+given x y is = ap Ok is
+
+refused : (e f : Refusal) → e ≡ f → ◌≡◌ {A = Result (List ℕ) Refusal} (Err e) (Err f)
+refused e f is = ap Err is
+
+same_Err : (e f : Refusal) → ◌≡◌ {A = Result (List ℕ) Refusal} (Err e) (Err f) → e ≡ f
+same_Err e f is = cc
+
+-- how a call ended
+abbrev pub with_error : {V : Type 0} → Refusal → Result V Refusal
+with_error e = Err e
+
+abbrev pub well : {V : Type 0} → V → Result V Refusal
+well v = Ok v
+
+-- a call that was refused returns that error
+pub passed_what : {U : Type 0} (V : Type 0) (old new : Option (List ℕ)) (lines : Result (List ℕ) Refusal) (r : Result U Refusal) (e : Refusal)
+    → IsErrAnd r (λ f. f ≡ e) → WritesWhat old new lines (with_error {V = V} e) → WritesWhat old new lines r
+passed_what V old new (Ok all) (Ok u) e is writes = absurd is
+passed_what V old new (Ok all) (Err f) e is writes =
+    (subst (λ x. (x ≡ stream_failed) ⊎ (x ≡ no_memory)) (sym is) writes.0, writes.1)
+passed_what V old new (Err why) (Ok u) e is writes = absurd is
+passed_what V old new (Err why) (Err f) e is writes = (writes.0, is ∙ writes.1)
+
+-- what is fully written is flushed
+pub flushed_what : {U V : Type 0} (old mid new : Option (List ℕ)) (lines : Result (List ℕ) Refusal) (u : V) (r : Result U Refusal)
+    → WritesWhat old mid lines (well u) → Keeps mid new → IfErr r (λ e. e ≡ stream_failed) → WritesWhat old new lines r
+flushed_what old mid new (Ok all) u r writes kept why = flushed old mid new all r writes kept why
+flushed_what old mid new (Err e) u r writes kept why = absurd writes.1
+
+-- what was written of a table, all or a prefix
+pub shows_told : {U : Type 0} (lines : TableState → Result (List ℕ) Refusal) (image : List ℕ) (t : TableState) (old new : Option (List ℕ))
+    (r : Result U Refusal) → RecoversTo t image → WritesWhat old new (lines t) r → (out : List ℕ) × Appends old new out × Shows lines image out r
+shows_told {U} lines image t old new r recovers writes = by (lines t) r refl writes
+  where
+    by : (defined : Result (List ℕ) Refusal) (ended : Result U Refusal) → lines t ≡ defined → WritesWhat old new defined ended
+        → (out : List ℕ) × Appends old new out × Shows lines image out ended
+    by (Ok all) (Ok u) is all_written = (all, all_written, (t, recovers, is))
+    by (Ok all) (Err e) is part =
+        (part.1.0, part.1.2, inr (inr (part.0, (t, recovers, part.1.1, is ∙ given _ _ (sym part.1.3)))))
+    by (Err why) (Ok u) is none = absurd none.1
+    by (Err why) (Err e) is none = ([], none.0, inr (inl (refl, (t, recovers, is ∙ refused _ _ (sym none.1)))))
+
+-- a missing run is no failure of the device
+not_there : (o : Option (List ℕ)) (e : Refusal) → ok_or o (Numbered NoRun) ≡ Err e → e ≡ device_failed → ⊥
+not_there None e is device = let clash : Numbered NoRun ≡ device_failed = same_Err _ _ is ∙ device in cc
+not_there (Some text) e is device = cc
+
+no_device : (form : Form) (requested : Shown) (t : TableState) (e : Refusal) → shown form requested t ≡ Err e → e ≡ device_failed → ⊥
+no_device form what.Runs t e is device = cc
+no_device form (what.Run id) t e is device = not_there (option_map (run_line form) (seen t id)) e is device
+no_device form what.Runners t e is device = cc
+no_device form what.Queue t e is device = cc
+
+-- a missing run, with nothing written
+pub missing : {U : Type 0} (old : Option (List ℕ)) (found : Option Seen) (form : Form) (r : Result U Refusal) → None ≡ found
+    → IsErrAnd r (λ f. f ≡ Numbered NoRun) → WritesWhat old old (ok_or (option_map (run_line form) found) (Numbered NoRun)) r
+missing old None form r is refused_so = (Appends-nil old, refused_so)
+missing old (Some run) form r is refused_so = absurd cc
+
+pub shown_faults : {U : Type 0} (form : Form) (requested : Shown) (t : TableState) (old new : Option (List ℕ)) (r : Result U Refusal)
+    (before after : ℕ) → WritesWhat old new (shown form requested t) r → after ≡ before → TellsFault r before after
+shown_faults {U} form requested t old new r before after writes same = by (shown form requested t) r refl writes
+  where
+    by : (defined : Result (List ℕ) Refusal) (ended : Result U Refusal) → shown form requested t ≡ defined → WritesWhat old new defined ended
+        → TellsFault ended before after
+    by (Ok lines) ended is all = written_faults old new lines ended before after all same
+    by (Err why) (Ok u) is none = absurd none.1
+    by (Err why) (Err e) is none =
+        inr (no_device form requested t e (is ∙ refused _ _ (sym none.1)), same)

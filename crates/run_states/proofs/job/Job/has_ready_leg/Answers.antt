@@ -1,5 +1,0 @@
-use Rattle.run_states.proofs.LegCounts.{ready_counted}
-use Rattle.run_states.proofs.job.Job.has_ready_leg.Goals as goal
-
-pub returns : goal.returns
-returns c = ready_counted c.args.self.now.state.legs c.counts.result c.counts.ensures

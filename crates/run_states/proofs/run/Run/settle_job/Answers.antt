@@ -1,8 +1,0 @@
-use Rattle.std.proofs.Common.{subst, sym}
-use Rattle.run_plan.specs.PlanOf.{needs_listed}
-use Rattle.run_states.specs.inner.NeedsLeft.{NamedOnce}
-use Rattle.run_states.proofs.NamedOnce.{named_once}
-use Rattle.run_states.proofs.run.Run.settle_job.Goals as goal
-
-pub settle_among-requires-clause-once : goal.settle_among-requires-clause-once
-settle_among-requires-clause-once c = subst NamedOnce (sym c.graph.ensures.needs) (named_once (needs_listed c.plan.result.now))

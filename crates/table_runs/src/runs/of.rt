@@ -1,0 +1,221 @@
+//! Builds the runs of a table from the parts in which they are stored, and the book of groups from the table.
+
+ghost use Rattle.std.specs.Prelude.{◌≡◌, ◌≤◌, ◌<◌, ℕ, [], IfOk, IfSome, MatchOption, None, Some, length, option_and_then, true};
+ghost use Rattle.definitions.specs.Limits.{max_runs};
+ghost use Rattle.wf_value.specs.Gives.{ErrsOnlyByMemory};
+ghost use Rattle.group_name.specs.Group.{Group as GroupInWords};
+ghost use Rattle.group_book.specs.Books.{slot_in};
+ghost use Rattle.run_marks.specs.Marked.{Covers, is_marked};
+ghost use Rattle.table_model.specs.AsPlanned.{AreAsPlanned};
+ghost use Rattle.table_model.specs.Groups.{group_at, HasOneEach};
+ghost use Rattle.table_model.specs.GroupLaw.{same_holder};
+ghost use Rattle.table_model.specs.declared.holder.Holder.{Holder as HolderInWords};
+ghost use Rattle.table_bindings.specs.GroupKeys.{ticket_in};
+ghost use Rattle.table_runs.specs.inner.RowsKept.{holder_key_at, key_at};
+ghost use Rattle.table_runs.specs.declared.runs.of.GroupSlot.TheVariants.{InProgress};
+ghost use Rattle.table_runs.specs.inner.Seating.{AreSeatedOrTaken, AreStored, BeginsIf, HasSeats, HaveKeys, SitsDown, in_job, in_slot, is_of, legs_of_run};
+
+use crate::rows::Rows;
+use crate::runs::Runs;
+use crate::runs::changes::begin_in_group;
+use group_book::Book;
+use group_name::GroupKey;
+use run_marks::RunBitmap;
+use std::alloc::Global;
+use table_model::{Holder, LegSite, MAX_RUNS, Run, RunParts};
+use wf_value::Refusal;
+
+/// One of the two slots of a group.
+#[derive(Clone, Copy)]
+enum GroupSlot {
+    InProgress,
+    Pending,
+}
+
+impl Runs {
+    /// The runs of these parts. `None` if there are more than 100,000, if a run does not have the jobs and legs of its plan, or if a group
+    /// has two holders in progress or two pending ones.
+    pub fn of_parts(alloc: Global, parts: &[RunParts]) -> Result<Option<Self>, Refusal>
+        ensures err { ErrsOnlyByMemory result }
+        ensures of { IfOk result (λ found. MatchOption found (AreAsPlanned parts.now → HasOneEach parts.now → ⊥)
+            (λ runs. (runs ≡ parts.now) × AreAsPlanned parts.now × HasOneEach parts.now)) }
+    {
+        if parts.len() > MAX_RUNS as usize {
+            return Ok(None);
+        }
+        let mut book = Book::new(alloc);
+        let Some(mut rows) = rows_of(alloc, parts, &mut book)? else {
+            return Ok(None);
+        };
+        if !seat_all(&mut rows, &mut book, GroupSlot::InProgress) {
+            return Ok(None);
+        }
+        if !seat_all(&mut rows, &mut book, GroupSlot::Pending) {
+            return Ok(None);
+        }
+        Ok(Some(Runs {
+            rows,
+            book,
+            due: all_marked(alloc, parts.len())?,
+        }))
+    }
+}
+
+/// The runs with what is kept of each. Nobody has arrived in a group yet.
+fn rows_of(
+    alloc: Global,
+    parts: &[RunParts],
+    book: &mut Book<Holder>,
+) -> Result<Option<Rows>, Refusal>
+    requires few { length parts.now ≤ max_runs }
+    requires empty { book.old.entries ≡ [] }
+    ensures err { ErrsOnlyByMemory result }
+    ensures entries { book.new.entries ≡ [] }
+    ensures planned { IfOk result (λ found. MatchOption found (AreAsPlanned parts.now → ⊥) (λ rows. AreAsPlanned parts.now)) }
+    ensures stored { IfOk result (λ found. IfSome found (λ rows. AreStored parts.now rows book.new)) }
+{
+    let mut rows = Rows::new(alloc);
+    for r in 0..parts.len() {
+        let Some(run) = Run::of_parts(alloc, &parts[r])? else {
+            return Ok(None);
+        };
+        rows.add(alloc, run, book)?;
+    }
+    Ok(Some(rows))
+}
+
+fn all_marked(alloc: Global, count: usize) -> Result<RunBitmap, Refusal>
+    ensures err { ErrsOnlyByMemory result }
+    ensures covers { IfOk result (λ marks. Covers marks count) }
+    ensures marks { IfOk result (λ marks. (i : ℕ) → i < count → is_marked marks i ≡ true) }
+{
+    let mut marks = RunBitmap::new(alloc);
+    marks.reserve_up_to(count)?;
+    for r in 0..count {
+        marks.mark(r);
+    }
+    Ok(marks)
+}
+
+// ---- the slots of groups. Each function returns whether no slot was taken already.
+
+fn seat_all(rows: &mut Rows, book: &mut Book<Holder>, slot: GroupSlot) -> bool
+    requires seats { HasSeats slot rows.old.runs rows.old.bindings book.old }
+    requires keys { HaveKeys slot (λ h. true) rows.old.runs rows.old.bindings }
+    ensures runs { rows.new.runs ≡ rows.old.runs }
+    ensures seats { HasSeats slot rows.new.runs rows.new.bindings book.new }
+    ensures taken { AreSeatedOrTaken result slot (λ h. true) rows.old.runs rows.old.bindings rows.new.bindings book.old.entries book.new.entries }
+{
+    for r in 0..rows.runs.len() {
+        if !seat(rows, book, slot, &Holder::Run(r)) {
+            return false;
+        }
+        if !seat_jobs(rows, book, slot, r) {
+            return false;
+        }
+    }
+    true
+}
+
+fn seat_jobs(rows: &mut Rows, book: &mut Book<Holder>, slot: GroupSlot, r: usize) -> bool
+    requires seats { HasSeats slot rows.old.runs rows.old.bindings book.old }
+    requires keys { HaveKeys slot (legs_of_run r) rows.old.runs rows.old.bindings }
+    ensures runs { rows.new.runs ≡ rows.old.runs }
+    ensures seats { HasSeats slot rows.new.runs rows.new.bindings book.new }
+    ensures taken { AreSeatedOrTaken result slot (legs_of_run r) rows.old.runs rows.old.bindings rows.new.bindings book.old.entries book.new.entries }
+{
+    for j in 0..rows.job_count(r) {
+        if !seat_legs(rows, book, slot, r, j) {
+            return false;
+        }
+    }
+    true
+}
+
+fn seat_legs(rows: &mut Rows, book: &mut Book<Holder>, slot: GroupSlot, r: usize, j: usize) -> bool
+    requires seats { HasSeats slot rows.old.runs rows.old.bindings book.old }
+    requires keys { HaveKeys slot (in_job r j) rows.old.runs rows.old.bindings }
+    ensures runs { rows.new.runs ≡ rows.old.runs }
+    ensures seats { HasSeats slot rows.new.runs rows.new.bindings book.new }
+    ensures taken { AreSeatedOrTaken result slot (in_job r j) rows.old.runs rows.old.bindings rows.new.bindings book.old.entries book.new.entries }
+{
+    for l in 0..rows.leg_count(r, j) {
+        if !seat(rows, book, slot, &Holder::Leg(LegSite::new(r, j, l))) {
+            return false;
+        }
+    }
+    true
+}
+
+/// Enters a holder in the book if it has the slot.
+fn seat(rows: &mut Rows, book: &mut Book<Holder>, slot: GroupSlot, holder: &Holder) -> bool
+    requires seats { HasSeats slot rows.old.runs rows.old.bindings book.old }
+    requires keys { HaveKeys slot (λ h. same_holder h holder.now) rows.old.runs rows.old.bindings }
+    ensures runs { rows.new.runs ≡ rows.old.runs }
+    ensures seats { HasSeats slot rows.new.runs rows.new.bindings book.new }
+    ensures taken { AreSeatedOrTaken result slot (λ h. same_holder h holder.now) rows.old.runs rows.old.bindings rows.new.bindings book.old.entries book.new.entries }
+{
+    if !is_of(rows, slot, holder) {
+        return true;
+    }
+    let Some(group) = rows.key(holder) else {
+        return true;
+    };
+    if in_slot(book, slot, group).is_some() {
+        return false;
+    }
+    arrive(rows, book, slot, holder);
+    true
+}
+
+/// Whether the holder has this slot of its group, by the table.
+fn is_of(rows: &Rows, slot: GroupSlot, holder: &Holder) -> bool
+    ensures { result ≡ is_of slot rows.now.runs holder.now }
+{
+    match slot {
+        GroupSlot::InProgress => rows.holds(holder),
+        GroupSlot::Pending => rows.waits(holder),
+    }
+}
+
+/// The holder that has this slot of a group, by the book.
+fn in_slot(book: &Book<Holder>, slot: GroupSlot, group: &GroupKey) -> Option<Holder>
+    ensures { result ≡ in_slot slot (slot_in book.now.entries group.now) }
+{
+    match slot {
+        GroupSlot::InProgress => book.running(group),
+        GroupSlot::Pending => book.pending(group),
+    }
+}
+
+/// A holder takes its slot, which is free.
+fn arrive(rows: &mut Rows, book: &mut Book<Holder>, slot: GroupSlot, holder: &Holder)
+    requires seats { HasSeats slot rows.old.runs rows.old.bindings book.old }
+    requires has { is_of slot rows.old.runs holder.now ≡ true }
+    requires key { option_and_then ticket_in (holder_key_at rows.old.bindings holder.now) ≡ group_at rows.old.runs holder.now }
+    requires free { (g : GroupInWords) → group_at rows.old.runs holder.now ≡ Some g → in_slot slot (slot_in book.old.entries g) ≡ None }
+    ensures runs { rows.new.runs ≡ rows.old.runs }
+    ensures seats { HasSeats slot rows.new.runs rows.new.bindings book.new }
+    ensures keys { (h : HolderInWords) → (h ≡ holder.now → ⊥) → holder_key_at rows.new.bindings h ≡ holder_key_at rows.old.bindings h }
+    ensures sits { (g : GroupInWords) → group_at rows.old.runs holder.now ≡ Some g
+        → SitsDown slot holder.now g book.old.entries book.new.entries }
+{
+    let Some(group) = rows.spend(holder) else {
+        return;
+    };
+    book.arrive(group, *holder, false);
+    begin_at_once(rows, book, slot, holder);
+}
+
+/// A holder that is in progress begins as soon as it has arrived.
+fn begin_at_once(rows: &Rows, book: &mut Book<Holder>, slot: GroupSlot, holder: &Holder)
+    requires { (g : GroupInWords) → slot ≡ InProgress → key_at rows.now.bindings holder.now ≡ Some g
+        → (slot_in book.old.entries g).in_progress ≡ None }
+    ensures begins { BeginsIf slot (key_at rows.now.bindings holder.now) book.old.entries book.new.entries }
+    ensures expected { book.new.expected ≡ book.old.expected }
+{
+    match slot {
+        GroupSlot::InProgress => begin_in_group(rows, book, holder),
+        GroupSlot::Pending => {}
+    }
+}

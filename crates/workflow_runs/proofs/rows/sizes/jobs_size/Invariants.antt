@@ -1,5 +1,0 @@
-use Rattle.workflow_runs.proofs.StoredSizes.{AreSizedBelow, counts_of}
-use Rattle.workflow_runs.proofs.rows.sizes.jobs_size.Given as goal
-
-abbrev pub invariant-loop-job : goal.invariant-loop-job
-invariant-loop-job l = AreSizedBelow l.size (counts_of l.jobs) l.job-index
