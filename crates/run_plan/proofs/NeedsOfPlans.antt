@@ -5,7 +5,7 @@ use Rattle.std.proofs.Common.{sym, ap, ◌∙◌}
 use Rattle.std.proofs.lemmas.Simd.{map-map}
 use Rattle.wf_value.proofs.Rising.{rises_over}
 use Rattle.wf_reader.specs.Faults.{unless_faulty}
-use Rattle.wf_reader.specs.JobCode as read
+use Rattle.wf_reader.specs.JobOrder as read
 use Rattle.wf_reader.specs.declared.job.Job.{Job}
 use Rattle.wf_reader.proofs.InOrder.{no_fault, same_value}
 use Rattle.definitions.specs.Rising.{JobNeeds}

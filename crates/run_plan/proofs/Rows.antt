@@ -9,7 +9,7 @@ use Rattle.wf_value.specs.declared.condition.Condition.TheVariants.{Success, Alw
 use Rattle.wf_value.specs.declared.refusal.Refusal.TheVariants.{Numbered, Cycle, Turn}
 use Rattle.wf_value.specs.declared.scalar.Scalar.TheVariants.{Null, Truth, Whole, Text}
 use lib.Utf8.{encode}
-use Rattle.wf_expr.specs.Parsing.{run}
+use Rattle.wf_expr.specs.inner.Parsing.{run}
 use Rattle.wf_expr.specs.declared.piece.Piece.TheVariants.{Plain}
 use Rattle.wf_reader.specs.declared.flag.Flag.TheVariants.{Fixed}
 use Rattle.wf_reader.specs.declared.job.Job.{Job}

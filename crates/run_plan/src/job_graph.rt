@@ -1,6 +1,6 @@
 ghost use Rattle.std.specs.Prelude.{IsTrue, map};
 ghost use Rattle.wf_value.specs.Gives.{Gives};
-ghost use Rattle.wf_reader.specs.JobCode.{ids_rise};
+ghost use Rattle.wf_reader.specs.JobOrder.{ids_rise};
 ghost use Rattle.needs_graph.specs.Needs.{graph_of};
 ghost use Rattle.run_plan.specs.PlanOf.{needs_of_job};
 

@@ -2,7 +2,7 @@
 use Rattle.std.proofs.Common.{◌≡◌, ℕ, List, [], ap}
 use Rattle.std.specs.Prelude.{Option, Some, None, Ok}
 use Rattle.std.specs.Str.{chars}
-use Rattle.wf_expr.specs.Parsing.{needed, pieces_of}
+use Rattle.wf_expr.specs.inner.Parsing.{needed, pieces_of}
 use Rattle.wf_expr.specs.Profile.{Encodes, IsInProfile}
 use Rattle.wf_expr.specs.declared.piece.Piece.{Piece}
 use Rattle.wf_expr.proofs.Complete.{pieces-read}

@@ -3,6 +3,7 @@ mod BoundRows
 pub mod ComparisonLemmas
 pub mod Complete
 pub mod FlagLemmas
+pub mod Found
 pub mod NameLemmas
 pub mod OpeningLemmas
 pub mod OutcomeLemmas

@@ -9,7 +9,7 @@ use Rattle.std.proofs.lemmas.Str.{chars-append, encode_ascii, encodes-append, en
 use Rattle.std.proofs.lemmas.Str.Pattern.{split_text_parts}
 use Rattle.std.proofs.Math.Seq.{drop-append_seam, get_or-append_seam}
 use Rattle.wf_expr.specs.Grammar.{HoldsNoOpening}
-use Rattle.wf_expr.specs.Parsing.{run, plain_piece, pieces_of}
+use Rattle.wf_expr.specs.inner.Parsing.{run, plain_piece, pieces_of}
 use Rattle.wf_expr.specs.declared.reader.Reader.TheVariants.{InText, OperandDue}
 use Rattle.wf_expr.proofs.Complete.{opening-read, plain-read}
 

@@ -1,17 +1,18 @@
 -- Parsing gives the outcome that the grammar defines, and no other.
-use Rattle.std.proofs.Common.{◌≡◌, ◌↔◌, ◌⊎◌, ℕ, Bool, true, false, cond, List, refl, ap, sym, ◌∙◌, inl, inr, subst}
+use Rattle.std.proofs.Common.{◌≡◌, ◌⊎◌, ℕ, Bool, true, false, cond, List, refl, ap, sym, ◌∙◌, inl, inr, subst}
 use Rattle.std.specs.Bool.{Decides}
 use Rattle.std.specs.Prelude.{Option, Some, None, Result, Ok, Err, IfOk, IfErr}
 use Rattle.wf_value.specs.declared.refusal.Refusal.{Refusal}
 use Rattle.wf_value.specs.Gives.{Gives, no_memory}
 use Rattle.wf_expr.specs.Faults.{wrong_expression, wrong_place}
 use Rattle.wf_expr.specs.Outcome.{IsOutcome, EncodesNone, EncodesElsewhere}
-use Rattle.wf_expr.specs.Parsing.{is_in_profile, is_allowed_in, judged, template_of, needed, pieces_of}
+use Rattle.wf_expr.specs.inner.Parsing.{is_in_profile, is_allowed_in, judged, needed, outcome_of, pieces_of}
 use Rattle.wf_expr.specs.Profile.{Encodes, IsInProfile, AllowedIn}
 use Rattle.wf_expr.specs.declared.piece.Piece.{Piece}
 use Rattle.wf_expr.specs.declared.context_site.ContextSite.{ContextSite}
 use Rattle.wf_expr.proofs.ProfileLemmas.{Decides-profile, Decides-allowed_in}
 use Rattle.wf_expr.proofs.EncodeLemmas.{spelled-read, read-spelled}
+use Rattle.wf_expr.proofs.Found.{found}
 
 -- ---- deciding the outcome of a parsed text
 off : {P : Type 0} (b : Bool) → Decides b P → ¬ P → b ≡ false
@@ -44,24 +45,6 @@ pub read-none : (site : ContextSite) (o : Option (List Piece)) (e : Refusal) →
 read-none site None e h = cc
 read-none site (Some t) e h = cc
 
--- each answer of the function is an outcome by the grammar
-judged-outcome : (text : List ℕ) (site : ContextSite) (t : List Piece) → needed (pieces_of text) ≡ Ok t → (p a : Bool) → is_in_profile t ≡ p
-    → is_allowed_in site t ≡ a → IsOutcome text site (cond p (cond a (Ok t) (Err wrong_place)) (Err wrong_expression))
-judged-outcome text site t read false a e f =
-    let P : List Piece → Type 0 = IsInProfile in
-    inl (
-      refl,
-      λ u s. let ok = spelled-read text u s in let same : u ≡ t = cc in let yes =
-          (Decides-profile t).1 (subst P same s.profile) in cc,
-    )
-judged-outcome text site t read true true e f = (read-spelled text t read ((Decides-profile t).0 e), (Decides-allowed_in site t).0 f)
-judged-outcome text site t read true false e f =
-    inr (refl, (t, read-spelled text t read ((Decides-profile t).0 e), λ a. let yes = (Decides-allowed_in site t).1 a in cc))
-
-given : (text : List ℕ) (site : ContextSite) (o : Option (List Piece)) → pieces_of text ≡ o → IsOutcome text site (judged site o)
-given text site None e = inl (refl, λ t s. let ok = spelled-read text t s in cc)
-given text site (Some t) e = judged-outcome text site t (ap needed e) (is_in_profile t) (is_allowed_in site t) refl refl
-
 -- each outcome by the grammar is the function's answer
 read-of : (text : List ℕ) (t : List Piece) → Encodes text t → pieces_of text ≡ Some t
 read-of text t s = read-some (pieces_of text) t (spelled-read text t s)
@@ -72,25 +55,25 @@ unspelled text site None e n = refl
 unspelled text site (Some t) e n = judged-off site t (λ p. n t (read-spelled text t (ap needed e) p))
 
 computed : (text : List ℕ) (site : ContextSite) (outcome : Result (List Piece) Refusal) → IsOutcome text site outcome
-    → template_of text site ≡ outcome
+    → outcome_of text site ≡ outcome
 computed text site (Ok t) o = ap (judged site) (read-of text t o.0) ∙ judged-ok site t o.0.profile o.1
 computed text site (Err e) (inl p) = unspelled text site (pieces_of text) refl p.1 ∙ ap Err (sym p.0)
 computed text site (Err e) (inr p) =
     ap (judged site) (read-of text p.1.0 p.1.1) ∙ (judged-elsewhere site p.1.0 p.1.1.profile p.1.2 ∙ ap Err (sym p.0))
 
-outcome-of : (text : List ℕ) (site : ContextSite) (outcome : Result (List Piece) Refusal) → template_of text site ≡ outcome
+outcome-of : (text : List ℕ) (site : ContextSite) (outcome : Result (List Piece) Refusal) → outcome_of text site ≡ outcome
     → IsOutcome text site outcome
 outcome-of text site outcome e =
     let P : Result (List Piece) Refusal → Type 0 = IsOutcome text site in
-    subst P e (given text site (pieces_of text) refl)
+    subst P e (found text site).is_outcome
 
-pub grammars-answer : (text : List ℕ) (site : ContextSite) (outcome : Result (List Piece) Refusal) → IsOutcome text site outcome
-    ↔ (template_of text site ≡ outcome)
-grammars-answer text site outcome = (computed text site outcome, outcome-of text site outcome)
+pub only-one : (text : List ℕ) (site : ContextSite) (outcome other : Result (List Piece) Refusal) → IsOutcome text site outcome
+    → IsOutcome text site other → outcome ≡ other
+only-one text site outcome other o p = sym (computed text site outcome o) ∙ computed text site other p
 
 -- ---- the clauses of `parse`, from the result
 abbrev GivesIt : List ℕ → ContextSite → Result (List Piece) Refusal → Type 0
-GivesIt text site r = Gives (λ p. p) r (template_of text site)
+GivesIt text site r = Gives (λ p. p) r (outcome_of text site)
 
 pub when-outcome : (text : List ℕ) (site : ContextSite) (r : Result (List Piece) Refusal) → GivesIt text site r
     → (outcome : Result (List Piece) Refusal) → IsOutcome text site outcome → Gives (λ p. p) r outcome

@@ -8,8 +8,8 @@ use Rattle.std.proofs.lemmas.Slice.Eq.{bytes_eq-Decides}
 use Rattle.definitions.specs.Limits.{max_references}
 use Rattle.wf_expr.specs.Profile.{IsShared, IsInContext, InProfile, IsAllowed, OfReference, OfReferences, IsInProfile, AllowedIn}
 use Rattle.wf_expr.specs.Profile.{reference_count}
-use Rattle.wf_expr.specs.Parsing.{is_result, is_shared, is_in_context, is_path, is_allowed, of_reference, of_references, is_in_profile}
-use Rattle.wf_expr.specs.Parsing.{is_allowed_in}
+use Rattle.wf_expr.specs.inner.Parsing.{is_result, is_shared, is_in_context, is_path, is_allowed, of_reference, of_references, is_in_profile}
+use Rattle.wf_expr.specs.inner.Parsing.{is_allowed_in}
 use Rattle.wf_expr.specs.declared.context_site.ContextSite.{ContextSite}
 use Rattle.wf_expr.specs.declared.context_site.ContextSite.TheVariants.{Workflow, Job}
 use Rattle.wf_expr.specs.declared.piece.Operand.{Operand}

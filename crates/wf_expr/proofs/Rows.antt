@@ -11,7 +11,7 @@ use Rattle.wf_value.specs.declared.scalar.Scalar.TheVariants.{Null, Truth, Text}
 use Rattle.wf_expr.specs.TemplateValue.{Values, template_value}
 use Rattle.wf_expr.specs.Faults.{wrong_expression, wrong_place}
 use Rattle.wf_expr.specs.Grammar.{begins_name, continues_name}
-use Rattle.wf_expr.specs.Parsing.{template_of, run}
+use Rattle.wf_expr.specs.inner.Parsing.{outcome_of, run}
 use Rattle.wf_expr.specs.declared.context_site.ContextSite.{ContextSite}
 use Rattle.wf_expr.specs.declared.context_site.ContextSite.TheVariants.{Workflow, Job}
 use Rattle.wf_expr.specs.declared.piece.Operand.TheVariants.{Quoted, Reference}
@@ -42,7 +42,7 @@ texts =
     ∷ (codes "${{ matrix.x }}${{", Workflow, Err wrong_expression)
     ∷ []
 
-rows-read : map (λ row. template_of row.0 row.1) texts ≡ map (λ row. row.2) texts
+rows-read : map (λ row. outcome_of row.0 row.1) texts ≡ map (λ row. row.2) texts
 unfolding run chars encode begins_name continues_name
 rows-read = refl
 

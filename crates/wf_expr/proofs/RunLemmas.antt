@@ -8,7 +8,7 @@ use Rattle.wf_value.specs.declared.refusal.Refusal.{Refusal}
 use Rattle.wf_value.specs.declared.refusal.Refusal.TheVariants.{Numbered}
 use Rattle.wf_expr.specs.declared.piece.Piece.{Piece}
 use Rattle.wf_expr.specs.declared.reader.Reader.{Reader}
-use Rattle.wf_expr.specs.Parsing.{needed, taken, ended, run}
+use Rattle.wf_expr.specs.inner.Parsing.{needed, taken, ended, run}
 use Rattle.wf_expr.proofs.EncodeLemmas.{needed-ok}
 
 needed-none : {X : Type 0} (o : Option X) (e : Refusal) → needed o ≡ Err e → (o ≡ None) × (Numbered Expression ≡ e)

@@ -8,7 +8,7 @@ use Rattle.std.specs.Char.{encode_utf8}
 use Rattle.std.proofs.lemmas.Str.{encode_ascii}
 use Rattle.wf_expr.specs.Grammar.{begins_name, continues_name, EncodesPlain, EncodesPieces, BeginsBraced}
 use Rattle.wf_expr.specs.Grammar.{AreSpaces, EncodesDotted, EncodesNames, doubled, EncodesJoined, EncodesMore, EncodesBraced, HoldsNoOpening}
-use Rattle.wf_expr.specs.Parsing.{taken, ended, run, plain_piece, after_name, after_operand, in_text}
+use Rattle.wf_expr.specs.inner.Parsing.{taken, ended, run, plain_piece, after_name, after_operand, in_text}
 use Rattle.wf_expr.specs.declared.piece.Operand.{Operand}
 use Rattle.wf_expr.specs.declared.piece.Operand.TheVariants.{Quoted, Reference}
 use Rattle.wf_expr.specs.declared.piece.Piece.{Piece}

@@ -9,7 +9,7 @@ use Rattle.std.specs.Char.{encode_utf8}
 use Rattle.std.proofs.lemmas.Str.{encode_ascii}
 use Rattle.wf_expr.specs.Grammar.{continues_name, BeginsBraced}
 use Rattle.wf_expr.specs.Grammar.{AreSpaces, IsName, EncodesNames, doubled, EncodesOperand, EncodesMore, HoldsNoOpening, EncodesPieces}
-use Rattle.wf_expr.specs.Parsing.{run, plain_piece, in_text}
+use Rattle.wf_expr.specs.inner.Parsing.{run, plain_piece, in_text}
 use Rattle.wf_expr.specs.declared.piece.Operand.{Operand}
 use Rattle.wf_expr.specs.declared.piece.Operand.TheVariants.{Quoted, Reference}
 use Rattle.wf_expr.specs.declared.piece.Piece.{Piece}

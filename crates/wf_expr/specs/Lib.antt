@@ -3,8 +3,8 @@ pub mod Comparison
 pub mod Faults
 pub mod Grammar
 pub mod Outcome
-pub mod Parsing
 pub mod Profile
 pub mod Properties
 pub mod ScalarView
 pub mod TemplateValue
+pub mod inner

@@ -19,3 +19,8 @@ EncodesElsewhere text site = (t : List Piece) × Encodes text t × (¬ (AllowedI
 abbrev pub IsOutcome : List ℕ → ContextSite → Result (List Piece) Refusal → Type 0
 IsOutcome text site (Ok t) = Encodes text t × AllowedIn site t
 IsOutcome text site (Err e) = ((e ≡ wrong_expression) × EncodesNone text) ⊎ ((e ≡ wrong_place) × EncodesElsewhere text site)
+
+-- an outcome of a text in a site, with the proof that it is one
+pub record Parsed (text : List ℕ) (site : ContextSite) : Type 0 where
+  pub outcome : Result (List Piece) Refusal
+  pub is_outcome : IsOutcome text site outcome

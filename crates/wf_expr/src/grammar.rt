@@ -1,7 +1,6 @@
-ghost use Rattle.std.specs.Prelude.{◌≡◌, ◌↔◌, ℕ, List, Result};
+ghost use Rattle.std.specs.Prelude.{◌≡◌, ℕ, List, Result};
 ghost use Rattle.wf_value.specs.declared.refusal.Refusal.{Refusal};
-ghost use Rattle.wf_expr.specs.Outcome.{IsOutcome};
-ghost use Rattle.wf_expr.specs.Parsing.{template_of};
+ghost use Rattle.wf_expr.specs.Outcome.{IsOutcome, Parsed};
 ghost use Rattle.wf_expr.specs.Profile.{Encodes};
 ghost use Rattle.wf_expr.specs.declared.piece.Piece.{Piece};
 ghost use Rattle.wf_expr.specs.declared.context_site.ContextSite.{ContextSite};
@@ -11,10 +10,10 @@ pub fn spells_one_template()
     ensures { (text : List ℕ) (t u : List Piece) → Encodes text t → Encodes text u → t ≡ u }
 {}
 
-/// Every text has exactly one outcome in each site, and `template_of` computes it: the template, if the text is one and the site
-/// allows its contexts; 17 if and only if the text is not a template; and 18 if and only if it is a template with a context that
-/// the site does not allow.
-pub fn template_of_is_the_grammars()
-    ensures { (text : List ℕ) (site : ContextSite) (outcome : Result (List Piece) Refusal) →
-        IsOutcome text site outcome ↔ (template_of text site ≡ outcome) }
+/// Every text has exactly one outcome in each site: the template, if the text is one and the site allows its contexts; 17 if and only
+/// if the text is not a template; and 18 if and only if it is a template with a context that the site does not allow.
+pub fn a_text_has_one_outcome()
+    ensures one { (text : List ℕ) (site : ContextSite) → Parsed text site }
+    ensures only { (text : List ℕ) (site : ContextSite) (outcome other : Result (List Piece) Refusal) →
+        IsOutcome text site outcome → IsOutcome text site other → outcome ≡ other }
 {}

@@ -25,7 +25,7 @@ pub use bind::flag_is_set_by_the_text_true;
 pub use bound::{BoundPiece, BoundTemplate};
 pub use context::Context;
 pub use context_site::ContextSite;
-pub use grammar::{spells_one_template, template_of_is_the_grammars};
+pub use grammar::{a_text_has_one_outcome, spells_one_template};
 pub use piece::{Operand, Piece};
 pub use properties::Properties;
 pub use results::{NeedResults, Needs};

@@ -3,7 +3,7 @@ ghost use Rattle.std.specs.Char.{encode_utf8};
 ghost use Rattle.std.specs.Str.{chars};
 ghost use Rattle.wf_value.specs.Gives.{Gives};
 ghost use Rattle.wf_expr.specs.Grammar.{begins_name};
-ghost use Rattle.wf_expr.specs.Parsing.{needed, taken, ended, plain_piece, in_text, after_name, after_operand, run, pieces_of};
+ghost use Rattle.wf_expr.specs.inner.Parsing.{needed, taken, ended, plain_piece, in_text, after_name, after_operand, run, pieces_of};
 
 use crate::letters::{begins_name, continues_name};
 use crate::piece::{Operand, Piece};

@@ -7,7 +7,7 @@ ghost use Rattle.wf_value.specs.declared.refusal.Refusal.{Refusal};
 ghost use Rattle.wf_expr.specs.Faults.{wrong_expression, wrong_place};
 ghost use Rattle.wf_expr.specs.TemplateValue.{SetsFlag, sets_flag, template_value};
 ghost use Rattle.wf_expr.specs.Outcome.{IsOutcome, EncodesNone, EncodesElsewhere};
-ghost use Rattle.wf_expr.specs.Parsing.{template_of};
+ghost use Rattle.wf_expr.specs.inner.Parsing.{outcome_of};
 ghost use Rattle.wf_expr.specs.Profile.{Encodes, AllowedIn};
 
 use crate::case::Case;
@@ -43,13 +43,12 @@ impl Template {
     /// reference, and 50 when out of memory.
     /// Promise (Needs, matrices, templates and values): Parsing answers the grammar's outcome, in both directions: the template, 17 or 18; a
     ///   text has one outcome
-    /// By: `wf_expr::Template::parse`, `ok`, `grammar`, `exact`; `wf_expr::template_of_is_the_grammars`; `wf_expr::spells_one_template`
+    /// By: `wf_expr::Template::parse`, `ok`, `grammar`; `wf_expr::{a_text_has_one_outcome, spells_one_template}`
     /// Refusal (The layers below): `wf_expr`: `Template::parse`
     /// When: 17, then 18: exactly, with memory. 50: else
     /// Afterwards: nothing is made
     /// By: `grammar`, `expression`, `site`, `errors`
     pub fn parse(alloc: Global, text: &str, site: ContextSite) -> Result<Template, Refusal>
-        ensures exact { Gives (λ p. p) result (template_of text.now site) }
         ensures grammar { (outcome : Result (List Piece) Refusal) → IsOutcome text.now site outcome → Gives (λ p. p) result outcome }
         ensures ok { IfOk result (λ t. Encodes text.now t × AllowedIn site t) }
         ensures expression { result ≡ Err wrong_expression → EncodesNone text.now }
@@ -118,7 +117,7 @@ impl TryCopy for Template {
 }
 
 fn parsed(alloc: Global, text: &str, site: ContextSite) -> Result<Template, Refusal>
-    ensures { Gives (λ p. p) result (template_of text.now site) }
+    ensures { Gives (λ p. p) result (outcome_of text.now site) }
 {
     let pieces = read(alloc, text)?;
     if !are_in_profile(pieces.as_slice()) {

@@ -12,6 +12,7 @@ pub mod Members
 pub mod NeedsListed
 pub mod RunsOn
 pub mod StrategyParts
+mod TextsRead
 pub mod WorkflowParts
 mod ConcurrencyRows
 mod ConditionRows

@@ -8,7 +8,7 @@ use Rattle.wf_value.specs.declared.refusal.Refusal.{Refusal}
 use Rattle.wf_value.specs.declared.refusal.Refusal.TheVariants.{Numbered}
 use lib.Utf8.{encode}
 use Rattle.wf_expr.specs.Grammar.{begins_name, continues_name}
-use Rattle.wf_expr.specs.Parsing.{run}
+use Rattle.wf_expr.specs.inner.Parsing.{run}
 
 -- with `unfolding wf_reader_on_literals`, `refl` computes the event of a body
 unfoldable pub wf_reader_on_literals : ⊤

@@ -3,7 +3,6 @@ use Rattle.std.specs.Prelude.{ℕ, List, [], Result, Ok, Err, false, map, flat_m
 use Rattle.std.specs.Prelude.{Bool, is_some, if◌then◌else◌, Option, Some, None, option_map, option_and_then, unwrap_or, true, ◌&&◌, ◌||◌}
 use Rattle.std.specs.Prelude.{◌++◌, nat_le}
 use Rattle.wf_value.specs.declared.refusal.Refusal.{Refusal}
-use Rattle.wf_expr.specs.Parsing.{template_of}
 use Rattle.wf_expr.specs.declared.piece.Piece.{Piece}
 use Rattle.wf_expr.specs.declared.context_site.ContextSite.{ContextSite}
 use Rattle.wf_reader.specs.Faults.{outcome_faults, fault, text_faults, fault_unless, faults_in_order, optional, required, left_out}
@@ -25,12 +24,13 @@ use Rattle.std.specs.Char.{is_ascii_alphabetic, is_ascii_digit}
 use Rattle.definitions.specs.Limits.{max_job_id}
 use Rattle.wf_expr.specs.declared.context_site.ContextSite.TheVariants as context_site
 use Rattle.wf_reader.specs.Strategy.{strategy_faults, strategy_of}
+use Rattle.wf_reader.specs.Templates.{template_of}
 use Rattle.wf_reader.specs.declared.job.Job.{Job}
 
 -- ---- members whose texts are templates: the faults of such a text, and its template. GitHub Docs, "Evaluate expressions in workflows
 -- and actions" and "Contexts reference" (Context availability).
 
-abbrev outcome_pieces : Result (List Piece) Refusal → List Piece
+abbrev pub outcome_pieces : Result (List Piece) Refusal → List Piece
 outcome_pieces (Ok t) = t
 outcome_pieces (Err e) = []
 

@@ -3,8 +3,9 @@ pub mod Contexts
 pub mod Event
 pub mod Faults
 pub mod Job
-pub mod JobCode
+pub mod JobOrder
 pub mod Json
 pub mod Strategy
+pub mod Templates
 pub mod Workflow
 pub mod inner

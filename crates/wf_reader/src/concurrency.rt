@@ -9,6 +9,7 @@ ghost use Rattle.wf_reader.specs.Faults.{unless_faulty, optional};
 
 use crate::fields::wrong_kind;
 use crate::flag::{Flag, read_flag};
+use crate::templates::read_template;
 use serde_json::{Map, Value};
 use std::alloc::Global;
 use wf_expr::{ContextSite, Template};
@@ -86,7 +87,7 @@ pub fn read_group(alloc: Global, value: &Value, site: ContextSite) -> Result<Tem
         (unless_faulty (template_faults site (unwrap_or (group_text (view value.now)) []))
         (template_in site (unwrap_or (group_text (view value.now)) []))) }
 {
-    Template::parse(alloc, group_text(value).unwrap_or(""), site)
+    read_template(alloc, group_text(value).unwrap_or(""), site)
 }
 
 /// The concurrency of a value: 11 if it or one of its members has a wrong kind, then the faults of its templates.

@@ -6,6 +6,7 @@ ghost use Rattle.wf_reader.specs.Job.{flag_faults, flag_in};
 ghost use Rattle.wf_reader.specs.Json.{member_at};
 
 use crate::fields::wrong_kind;
+use crate::templates::read_template;
 use serde_json::Value;
 use std::alloc::Global;
 use wf_expr::{ContextSite, Template};
@@ -25,7 +26,7 @@ pub fn flag_of(alloc: Global, value: &Value, site: ContextSite) -> Result<Flag, 
 {
     match value {
         Value::Bool(truth) => Ok(Flag::Fixed(*truth)),
-        Value::String(text) => Ok(Flag::Template(Template::parse(alloc, text.as_str(), site)?)),
+        Value::String(text) => Ok(Flag::Template(read_template(alloc, text.as_str(), site)?)),
         _ => Err(wrong_kind()),
     }
 }

@@ -1,5 +1,5 @@
 ghost use Rattle.std.specs.Prelude.{◌≡◌, IsTrue};
-ghost use Rattle.wf_reader.specs.JobCode.{ids_rise};
+ghost use Rattle.wf_reader.specs.JobOrder.{ids_rise};
 
 use crate::job::Job;
 use std::marker::Model;
@@ -15,7 +15,7 @@ pub struct Jobs {
 impl Model for Jobs {
     ghost use Rattle.std.specs.Prelude.{List, IsTrue};
     ghost use Rattle.wf_reader.specs.declared.job.Job.{Job};
-    ghost use Rattle.wf_reader.specs.JobCode.{ids_rise};
+    ghost use Rattle.wf_reader.specs.JobOrder.{ids_rise};
 
     ghost Value = { List Job };
 

@@ -11,7 +11,7 @@ use crate::fields::wrong_kind;
 use crate::templates::read_template;
 use serde_json::Value;
 use std::alloc::Global;
-use wf_expr::Template;
+use wf_expr::{ContextSite, Template};
 use wf_value::{Code, Refusal, Sequence};
 
 /// One label: a text that is a template.
@@ -19,7 +19,7 @@ pub fn read_label(alloc: Global, value: &Value) -> Result<Template, Refusal>
     ensures { Gives (λ t. t) result (unless_faulty (label_faults (view value.now)) (label_in (view value.now))) }
 {
     match value.as_str() {
-        Some(text) => read_template(alloc, text),
+        Some(text) => read_template(alloc, text, ContextSite::Job),
         None => Err(wrong_kind()),
     }
 }

@@ -4,11 +4,11 @@ use Rattle.std.specs.Prelude.{IfOk, IsErr, is_some, option_map, option_to_list, 
 use Rattle.serde_json.specs.Data.{Data, null, boolean, number, string, array, object}
 use Rattle.wf_value.specs.Gives.{Gives, no_memory}
 use Rattle.wf_value.specs.declared.refusal.Refusal.{Refusal}
-use Rattle.wf_expr.specs.Parsing.{template_of}
 use Rattle.wf_expr.specs.declared.context_site.ContextSite.{ContextSite}
 use Rattle.wf_expr.specs.declared.context_site.ContextSite.TheVariants as context_site
 use Rattle.wf_reader.specs.Faults.{outcome_faults, unless_faulty}
 use Rattle.wf_reader.specs.Job.{flag_faults, label_faults}
+use Rattle.wf_reader.specs.Templates.{template_of}
 
 -- ---- one fault at most: the first is all
 

@@ -2,7 +2,7 @@
 
 ghost use Rattle.std.specs.Prelude.{◌≡◌, ◌++◌, IfOk, IsTrue, OnOk, map, option_to_list, string_bytes};
 ghost use Rattle.wf_reader.specs.Faults.{outcome_faults};
-ghost use Rattle.wf_reader.specs.JobCode.{ids_rise};
+ghost use Rattle.wf_reader.specs.JobOrder.{ids_rise};
 ghost use Rattle.std.specs.List.{list_any};
 ghost use Rattle.std.specs.Str.{bytes_eq};
 ghost use Rattle.needs_graph.specs.Needs.{graph_of};

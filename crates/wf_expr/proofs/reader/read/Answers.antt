@@ -1,7 +1,7 @@
 use Rattle.std.proofs.Common.{◌≡◌, ap₂, sym, ◌∙◌}
 use Rattle.std.specs.Prelude.{Some, None}
 use Rattle.std.specs.Str.{chars}
-use Rattle.wf_expr.specs.Parsing.{run, plain_piece}
+use Rattle.wf_expr.specs.inner.Parsing.{run, plain_piece}
 use Rattle.wf_expr.specs.declared.reader.Reader.TheVariants.{OperandDue}
 use Rattle.wf_expr.proofs.OpeningLemmas.{split-pieces}
 use Rattle.wf_expr.proofs.reader.read.Goals as goal

@@ -1,6 +1,6 @@
 use Rattle.std.proofs.Common.{refl, ap, ◌∙◌, inr}
 use Rattle.wf_value.proofs.PassedOn.{passed_on}
-use Rattle.wf_expr.specs.Parsing.{judged, pieces_of}
+use Rattle.wf_expr.specs.inner.Parsing.{judged, pieces_of}
 use Rattle.wf_expr.proofs.OutcomeLemmas.{judged-off, judged-ok, judged-elsewhere, read-some, read-none}
 use Rattle.wf_expr.proofs.template.parsed.Goals as goal
 

@@ -1,5 +1,5 @@
 use Rattle.std.proofs.Common.{IsTrue, refl, sym, subst}
-use Rattle.wf_reader.specs.JobCode.{ids_rise}
+use Rattle.wf_reader.specs.JobOrder.{ids_rise}
 use Rattle.wf_value.proofs.PassedOn.{passed_on}
 use Rattle.wf_reader.specs.Job.{job_faults, job_of}
 use Rattle.wf_reader.proofs.Entries.{check_fails, check_left, check_done, all_done, rises-sorted}

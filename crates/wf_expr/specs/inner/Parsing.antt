@@ -140,5 +140,5 @@ abbrev pub judged : ContextSite → Option (List Piece) → Result (List Piece) 
 judged site None = Err wrong_expression
 judged site (Some t) = if is_in_profile t then (if is_allowed_in site t then Ok t else Err wrong_place) else Err wrong_expression
 
-abbrev pub template_of : List ℕ → ContextSite → Result (List Piece) Refusal
-template_of text site = judged site (pieces_of text)
+abbrev pub outcome_of : List ℕ → ContextSite → Result (List Piece) Refusal
+outcome_of text site = judged site (pieces_of text)

@@ -1,0 +1,2 @@
+-- Definitions that follow the code, or that proofs alone need. No promise names them.
+pub mod Parsing
