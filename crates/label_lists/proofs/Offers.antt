@@ -5,9 +5,8 @@ use Rattle.std.proofs.lemmas.Bool.{cases_eq, cases_lt, true≢false}
 use Rattle.std.proofs.lemmas.Bool.Decides.{nat_tests}
 use Rattle.std.proofs.lemmas.Grind.{common_steps}
 use Rattle.std.proofs.lemmas.List.{get_or_default}
-use Rattle.run_marks.specs.Bits.{Puts}
 use Rattle.run_marks.specs.First.{IsFirstFrom}
-use Rattle.run_marks.specs.Marked.{Covers, SameMarks, is_marked}
+use Rattle.run_marks.specs.Marked.{Covers, Puts, SameMarks, is_marked}
 use Rattle.label_lists.specs.Requesting.{RequestingState, may_offer_in, index_of}
 use Rattle.label_lists.specs.inner.Requesting.{Begins, IsOrdered, PutsRun}
 use Rattle.label_lists.proofs.Places.{Rises, StandsAt, no_less, place_found, place_there, rises_pushed}

@@ -5,7 +5,8 @@ use Rattle.std.proofs.Common.{arith, ap, sym, ◌∙◌, inl, inr}
 use Rattle.std.proofs.lemmas.Bool.{cases_eq, cases_lt}
 use Rattle.std.proofs.lemmas.Bool.Decides.{nat_tests}
 use Rattle.std.proofs.lemmas.List.{get_or_past}
-use Rattle.run_marks.specs.Bits.{Puts, row_has, word_has}
+use Rattle.run_marks.specs.Bits.{row_has, word_has}
+use Rattle.run_marks.specs.Marked.{Puts}
 use Rattle.run_marks.specs.inner.Bits.{SameWords, SameWordsBut}
 use Rattle.run_marks.specs.First.{IsFirstFrom}
 use Rattle.run_marks.proofs.Words.{none_of_zero}

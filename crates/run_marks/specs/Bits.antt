@@ -1,5 +1,5 @@
 -- 64-bit words, and rows of them.
-use Rattle.std.specs.Prelude.{◌≡◌, ℕ, ◌/◌, ◌%◌, List, Bool, nat_eq, slice_index, if◌then◌else◌}
+use Rattle.std.specs.Prelude.{ℕ, ◌/◌, ◌%◌, List, Bool, nat_eq, slice_index}
 use Rattle.std.specs.Int.{bit_at}
 
 -- whether a bit of a word is set
@@ -9,7 +9,3 @@ word_has word i = nat_eq (bit_at word i) 1
 -- whether a bit of a row is set; the bits of all words are counted together
 unfoldable pub row_has : List ℕ → ℕ → Bool
 row_has words i = word_has (slice_index words (i / 64)) (i % 64)
-
--- one bit has the given value, and all others are unchanged
-abbrev pub Puts : Bool → ℕ → List ℕ → List ℕ → Type 0
-Puts to k old new = (i : ℕ) → row_has new i ≡ (if nat_eq i k then to else row_has old i)

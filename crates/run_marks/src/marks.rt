@@ -1,7 +1,6 @@
 ghost use Rattle.std.specs.Prelude.{◌≡◌, ◌≤◌, ◌+◌, ℕ, length, true, false, IfOk, OnOk};
-ghost use Rattle.run_marks.specs.Bits.{Puts};
 ghost use Rattle.run_marks.specs.First.{IsFirstFrom};
-ghost use Rattle.run_marks.specs.Marked.{Covers, SameMarks, is_marked};
+ghost use Rattle.run_marks.specs.Marked.{Covers, Puts, SameMarks, is_marked};
 
 use crate::levels::first_marked;
 use crate::row::{clear_bit, grow, set_bit};

@@ -2,7 +2,8 @@
 
 ghost use Rattle.std.specs.Prelude.{◌≡◌, ◌≢◌, ◌*◌, ◌/◌, ◌≤◌, ◌<◌, true, false, length, max, nat_eq, slice_index, OnOk};
 ghost use Rattle.run_marks.specs.inner.Bits.{AreFew, SameWords, SameWordsBut};
-ghost use Rattle.run_marks.specs.Bits.{Puts, row_has};
+ghost use Rattle.run_marks.specs.Bits.{row_has};
+ghost use Rattle.run_marks.specs.Marked.{Puts};
 ghost use Rattle.run_marks.specs.First.{IsFirstFrom};
 
 use crate::word::{first_bit, with_bit, without_bit};

@@ -12,7 +12,7 @@ use Rattle.table_model.specs.Groups.{HasOneBeside, HasOneEach, waits}
 use Rattle.table_model.specs.Runs.{run_at, with_leg, with_run, leg_has_ended, again, leased_leg, new_run, RunState}
 use Rattle.table_model.specs.declared.sites.LegSite.{LegSite}
 use Rattle.table_model.specs.Sound.{IsSound, RunsAreSound}
-use Rattle.table_model.specs.Step.{entered, entered_again, report_answer, rerun_answer}
+use Rattle.table_model.specs.Step.{entered_again, report_answer, rerun_answer}
 use Rattle.table_model.specs.Stops.{with_ended, outcome_of_loss, stopped_run}
 use Rattle.table_model.specs.declared.phases.RunPhase.TheVariants as run
 use Rattle.table_model.specs.TableState.{RunnerState, TableState, runner_named}
@@ -21,7 +21,6 @@ use Rattle.run_table.proofs.AdmitKeeps.{all_fit}
 use Rattle.run_table.proofs.BeginsAgain.{BeginsAgain, begins_again}
 use Rattle.run_table.proofs.ClaimKeeps.{fitting_leg}
 use Rattle.run_table.proofs.CommandsOneEach.{ended_one_each, leased_one_each, stopped_one_each}
-use Rattle.run_table.proofs.Entered.{beside_new_run, entered_one_each, entered_settles, new_run_waits}
 use Rattle.run_table.proofs.EnteredAgain.{again_fits, again_waits, beside_again, entered_again_one_each, entered_again_settles}
 use Rattle.table_model.proofs.JobKeeps.{leg_in, leg_stays}
 use Rattle.settling_laws.proofs.HoldersKeep.{run_stop_settles}
@@ -46,56 +45,20 @@ so_settles runs new is may = subst MaySettle (sym is) may
 
 -- ---- a run is entered
 
+pub sound_with_it : (t : TableState) (event : Admitted) (runs : List RunState) (run : RunState) → IsSound t → runs ≡ t.runs
+    → run ≡ new_run event → RunsAreSound (runs ++ run ∷ [])
+sound_with_it t event runs run s runs_are run_is =
+    subst (λ (xs : List RunState). RunsAreSound (xs ++ run ∷ [])) (sym runs_are)
+    (subst (λ (x : RunState). RunsAreSound (t.runs ++ x ∷ [])) (sym run_is)
+    (sound_runs (t.runs ++ new_run event ∷ []) (all_fit t.runs event (table_fits t s))))
+
+-- ---- a run begins again
+
 -- the newcomer may arrive
 pub record MayArrive (runs : List RunState) (newcomer : Holder) : Type 0 where
   pub is_pending : waits runs newcomer ≡ true
   pub sound : RunsAreSound runs
   pub one_beside : HasOneBeside runs newcomer
-
-pub new_run_arrives : (t : TableState) (event : Admitted) → IsSound t
-    → MayArrive (t.runs ++ new_run event ∷ []) (Run (length t.runs))
-new_run_arrives t event s = record {
-  is_pending = new_run_waits t.runs event;
-  sound = sound_runs (t.runs ++ new_run event ∷ []) (all_fit t.runs event (table_fits t s));
-  one_beside = beside_new_run t.runs event (table_fits t s) s.one_of_each_group;
-}
-
-pub entered_may_settle : (t : TableState) (event : Admitted) → IsSound t → MaySettle (entered t event).runs
-entered_may_settle t event s = record {
-  sound = sound_runs (entered t event).runs (entered_settles t event (table_fits t s)).stay.fit;
-  one_each = entered_one_each t event (table_fits t s) s.one_of_each_group;
-}
-
--- runs with the event's run added, at its index
-pub record Enters (t : TableState) (event : Admitted) (added : List RunState) (index : ℕ) : Type 0 where
-  pub sound : IsSound t
-  pub added_is : added ≡ t.runs ++ new_run event ∷ []
-  pub at_end : index ≡ length t.runs
-
--- the same for the values that the code has
-pub enters : (t : TableState) (event : Admitted) (runs added : List RunState) (run : RunState) (index : ℕ) → IsSound t
-    → runs ≡ t.runs → added ≡ runs ++ run ∷ [] → run ≡ new_run event → index ≡ length runs → Enters t event added index
-enters t event runs added run index s runs_are added_is run_is place_is = record {
-  sound = s;
-  added_is = added_is ∙ ap (λ v. runs ++ v ∷ []) run_is ∙ ap (λ xs. xs ++ new_run event ∷ []) runs_are;
-  at_end = place_is ∙ ap (λ (xs : List RunState). length xs) runs_are;
-}
-
-pub entering_arrives : {t : TableState} {event : Admitted} {added : List RunState} {index : ℕ} → Enters t event added index
-    → MayArrive added (Run index)
-entering_arrives {t} {event} {added} {index} e =
-    subst (λ (xs : List RunState). MayArrive xs (Run index)) (sym e.added_is)
-    (subst (λ (n : ℕ). MayArrive (t.runs ++ new_run event ∷ []) (Run n)) (sym e.at_end) (new_run_arrives t event e.sound))
-
-pub entering_settles : {t : TableState} {event : Admitted} {added : List RunState} {index : ℕ} → Enters t event added index
-    → (new : List RunState) → new ≡ (arrived (Run index) added).runs → MaySettle new
-entering_settles {t} {event} {added} {index} e new new_is =
-    let is : new ≡ (entered t event).runs =
-    new_is ∙ ap (λ n. (arrived (Run n) added).runs) e.at_end
-    ∙ ap (λ xs. (arrived (Run (length t.runs)) xs).runs) e.added_is in
-    subst MaySettle (sym is) (entered_may_settle t event e.sound)
-
--- ---- a run begins again
 
 pub again_arrives : (t : TableState) (r attempt : ℕ) → IsSound t → BeginsAgain t.runs r attempt
     → MayArrive (with_run r again t.runs) (Run r)

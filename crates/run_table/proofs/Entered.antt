@@ -1,9 +1,9 @@
 -- A new run that arrives in its group preserves the invariants of a table.
-use Rattle.std.specs.Prelude.{◌≡◌, ◌⊎◌, ℕ, ◌<◌, List, [], ◌∷◌, ◌++◌, length, Bool, true, false, Option, Some, None, option_map}
-use Rattle.std.specs.Prelude.{option_and_then, slice_get, refl}
-use Rattle.std.proofs.Common.{arith, ap, inl, inr, sym, ◌∙◌}
+use Rattle.std.specs.Prelude.{◌≡◌, ◌⊎◌, ℕ, List, [], ◌∷◌, ◌++◌, length, Bool, true, false, Option, Some, None, option_map}
+use Rattle.std.specs.Prelude.{slice_get, refl}
+use Rattle.std.proofs.Common.{ap, inl, inr, sym, ◌∙◌}
 use Rattle.std.proofs.lemmas.Bool.{cases_eq, false≢true}
-use Rattle.std.proofs.lemmas.Option.{slice_get-map, slice_get_within}
+use Rattle.std.proofs.lemmas.Option.{slice_get-map}
 use Rattle.definitions.specs.SmallText.{Admitted}
 use Rattle.run_plan.specs.PlanOf.{plan_of}
 use Rattle.run_plan.specs.declared.planned.PlannedJob.{PlannedJob}
@@ -11,23 +11,19 @@ use Rattle.table_model.specs.Settling.{arrived}
 use Rattle.table_model.specs.Groups.{HasOneBeside, HasOneEach, holds, leg_holds, leg_waits, run_waits, waits}
 use Rattle.table_model.specs.Runs.{leg_at, is_live, blocked_job, new_run, RunState}
 use Rattle.table_model.specs.declared.sites.LegSite.{LegSite}
-use Rattle.table_model.specs.LegContext.{events}
 use Rattle.table_model.specs.Step.{admission_answer, entered}
 use Rattle.table_model.specs.TableState.{TableState}
 use Rattle.table_model.specs.declared.phases.LegPhase.{LegPhase}
 use Rattle.run_table.proofs.AdmitKeeps.{admit_keeps, all_fit}
 use Rattle.table_model.proofs.Found.{at_the_end, before_the_end}
-use Rattle.table_model.proofs.JobKeeps.{leg_in}
+use Rattle.settling_laws.proofs.AddedRun.{groups_before}
 use Rattle.settling_laws.proofs.ArrivalKeeps.{arrival_one_each}
-use Rattle.settling_laws.proofs.GroupStays.{leg_group_same, leg_needs_finished, run_group_stays}
 use Rattle.settling_laws.proofs.HoldersFade.{by_run, job_passes, leg_passes, passes, run_passes}
 use Rattle.settling_laws.proofs.HoldersKeep.{arrival_settles}
 use Rattle.run_table.proofs.Kept.{IsKept, kept_settles}
-use Rattle.table_model.proofs.LegFacts.{SameUpTo, facts_stay}
-use Rattle.table_model.proofs.NeedsSettled.{result_in}
 use Rattle.table_model.proofs.RunFits.{RunsFit}
-use Rattle.table_model.proofs.Settles.{Settles, same_events}
-use Rattle.settling_laws.proofs.OneEach.{Comes, GroupsStay, newcomer_besides}
+use Rattle.table_model.proofs.Settles.{Settles}
+use Rattle.settling_laws.proofs.OneEach.{Comes, newcomer_besides}
 use Rattle.table_model.specs.declared.holder.Holder.{Holder}
 use Rattle.table_model.specs.declared.holder.Holder.TheVariants.{Run, Leg}
 
@@ -79,33 +75,11 @@ module _ (runs : List RunState) (event : Admitted) where
   pub new_run_waits : waits (runs ++ new_run event ∷ []) (Run (length runs)) ≡ true
   new_run_waits = ap (passes (λ (x : RunState). run_waits x.phase)) (at_the_end runs (new_run event))
 
-  -- ---- groups stay
-
-  same_up_to : (r : ℕ) → r < length runs → SameUpTo r (events (runs ++ new_run event ∷ [])) (events runs)
-  same_up_to r within =
-      same_events runs (runs ++ new_run event ∷ []) r
-      (λ s le. ap (option_map (λ (v : RunState). v.admitted))
-      (before_the_end runs (new_run event) s (λ m. absurd (omega (arith, le, within, m)))))
-
-  pub groups_before : RunsFit runs → GroupsStay runs (runs ++ new_run event ∷ [])
-  groups_before fit (Run r) there =
-      let within = slice_get_within runs r there.0 there.1 in
-      run_group_stays runs (runs ++ new_run event ∷ []) r (same_up_to r within)
-      (ap (option_map (λ (v : RunState). v.attempt)) (before_the_end runs (new_run event) r (λ m. absurd (omega (arith, within, m)))))
-  groups_before fit (Leg p) there =
-      let next = runs ++ new_run event ∷ [] in
-      let at = leg_in runs p there.0 there.1 in
-      let within = slice_get_within runs p.run at.place.run at.place.run_is in
-      let before = before_the_end runs (new_run event) p.run (λ m. absurd (omega (arith, within, m))) in
-      leg_group_same runs next p
-      (facts_stay runs next p (same_up_to p.run within) (ap (option_map (λ (v : RunState). v.attempt)) before) (leg_needs_finished runs fit p there.0 there.1)
-      (λ j a had. ap (option_and_then (λ (v : RunState). result_in v j)) before ∙ had))
-
   pub beside_new_run : RunsFit runs → HasOneEach runs → HasOneBeside (runs ++ new_run event ∷ []) (Run (length runs))
   beside_new_run fit each =
       let next = runs ++ new_run event ∷ [] in
       let comes : Comes runs next (Run (length runs)) = record { waited = waited; held = held } in
-      newcomer_besides runs next (Run (length runs)) (groups_before fit) comes each
+      newcomer_besides runs next (Run (length runs)) (groups_before runs (new_run event) fit) comes each
 
   new_run_one_each : RunsFit runs → HasOneEach runs → HasOneEach (arrived (Run (length runs)) (runs ++ new_run event ∷ [])).runs
   new_run_one_each fit each =

@@ -11,7 +11,6 @@ mod ContextRows
 pub mod Copied
 pub mod Entered
 pub mod EnteredAgain
-pub mod EnteredRests
 pub mod HeldAtWork
 pub mod JobsText
 pub mod JoinedLegs
@@ -19,7 +18,6 @@ pub mod KeepsSound
 pub mod Kept
 pub mod Leased
 pub mod LegHeld
-pub mod NoAnswer
 pub mod OnTables
 pub mod ReportKeeps
 mod RerunRows

@@ -8,7 +8,7 @@ use Rattle.std.proofs.lemmas.Option.{slice_get-get_or, slice_get-map}
 use Rattle.std.proofs.lemmas.List.Folds.{find-append}
 use Rattle.table_model.specs.inner.Cells.{JobCells, states}
 use Rattle.table_model.specs.Runs.{first_some, placed, JobState}
-use Rattle.table_model.specs.Resuming.{apply_at, NoneBefore}
+use Rattle.table_model.specs.inner.Resuming.{apply_at, NoneBefore}
 use Rattle.table_model.proofs.Found.{all_weaken, placed_get}
 use Rattle.table_model.proofs.Optional.{and_then-option_map}
 

@@ -1,3 +1,4 @@
+pub mod AddedRun
 pub mod ArrivalKeeps
 pub mod Arrives
 pub mod EachRule

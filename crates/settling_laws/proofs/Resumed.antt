@@ -12,14 +12,12 @@ use Rattle.wf_value.proofs.OptionOr.{or_nothing}
 use Rattle.needs_graph.specs.Needs.{dependents_of, needs_at}
 use Rattle.table_model.specs.Runs.{changed_at, first_some, placed, needs_in, results_so_far, finished_result, leg_at, run_at}
 use Rattle.table_model.specs.Groups.{leg_waits, run_waits}
-use Rattle.table_model.specs.Resuming.{NoneBefore, RestBefore}
-use Rattle.table_model.specs.inner.Resuming.{may_invalidate_others, has_finished, job_again, resume_point, resume_near}
+use Rattle.table_model.specs.inner.Resuming.{NoneBefore, RestBefore, may_invalidate_others, has_finished, job_again, resume_point, resume_near}
 use Rattle.table_model.specs.GroupLaw.{Transition}
 use Rattle.table_model.specs.Settling.{rule_at, first_site}
 use Rattle.table_model.specs.Runs.{LegState, JobState, RunState, is_blocked, is_done, is_live}
-use Rattle.table_model.specs.WithinRun.{first_in_job, first_in_jobs, first_in_run, first_of_legs, first_of_open, first_of_whole, goes_on}
-use Rattle.table_model.specs.WithinRun.{goes_on_in, whole_goes_on_in}
-use Rattle.table_model.specs.inner.WithinRun.{leg_site, needs_finished_in}
+use Rattle.table_model.specs.inner.WithinRun.{first_in_job, first_in_jobs, first_in_run, first_of_legs, first_of_open, first_of_whole, goes_on}
+use Rattle.table_model.specs.inner.WithinRun.{goes_on_in, whole_goes_on_in, leg_site, needs_finished_in}
 use Rattle.table_model.specs.LegContext.{all_have_results}
 use Rattle.table_model.specs.declared.phases.LegPhase.{LegPhase}
 use Rattle.table_model.specs.declared.phases.LegPhase.TheVariants as leg

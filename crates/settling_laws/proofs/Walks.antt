@@ -11,10 +11,8 @@ use Rattle.table_model.specs.declared.sites.LegSite.{LegSite}
 use Rattle.table_model.specs.Settling.{job_sites, run_sites, opening_rule, leg_rule, leg_rule_in, closing_rule, whole_rule, whole_rule_in}
 use Rattle.table_model.specs.Settling.{applies, first_site}
 use Rattle.table_model.specs.Runs.{is_live, is_blocked, is_done, is_finished}
-use Rattle.table_model.specs.WithinRun.{goes_on, goes_on_in, first_in_job, first_in_jobs, first_in_run, first_of_legs}
-use Rattle.table_model.specs.inner.WithinRun.{leg_site}
-use Rattle.table_model.specs.inner.WithinRun.{needs_finished_in}
-use Rattle.table_model.specs.WithinRun.{whole_goes_on_in}
+use Rattle.table_model.specs.inner.WithinRun.{goes_on, goes_on_in, first_in_job, first_in_jobs, first_in_run, first_of_legs, leg_site}
+use Rattle.table_model.specs.inner.WithinRun.{needs_finished_in, whole_goes_on_in}
 use Rattle.table_model.specs.LegContext.{needs_have_finished}
 use Rattle.table_model.specs.declared.phases.LegPhase.{LegPhase}
 use Rattle.table_model.specs.declared.phases.LegPhase.TheVariants as leg

@@ -41,9 +41,10 @@ use Rattle.run_table.proofs.AdmitKeeps.{all_fit}
 use Rattle.run_table.proofs.BeginsAgain.{BeginsAgain, begins_again}
 use Rattle.run_table.proofs.ClaimKeeps.{fitting_leg}
 use Rattle.run_table.proofs.CommandsOneEach.{ended_one_each, leased_fades, leased_one_each, stopped_one_each}
-use Rattle.run_table.proofs.Entered.{entered_keeps, entered_one_each, entered_settles, groups_before, held, new_run_waits, waited}
+use Rattle.run_table.proofs.Entered.{entered_keeps, entered_one_each, entered_settles, held, new_run_waits, waited}
 use Rattle.table_model.proofs.Found.{at_the_end, before_the_end, find_passes}
 use Rattle.table_model.proofs.JobKeeps.{leg_elsewhere, leg_in, leg_now, leg_stays}
+use Rattle.settling_laws.proofs.AddedRun.{groups_before}
 use Rattle.settling_laws.proofs.HoldersFade.{leg_fades, leg_passes, legs_stop_fades, passes}
 use Rattle.settling_laws.proofs.HoldersKeep.{run_stop_settles}
 use Rattle.run_table.proofs.Kept.{kept_from_sound}
@@ -272,7 +273,7 @@ module _ (g : Group) where
       (grows_on t.runs now u.runs (new_run_grows t.runs event) entry)
       (λ cancels requests. first_arrival_keeps (settled u.runs) g cancels requests t.runs now n (all_fit t.runs event kept.fit)
       (new_run_tells t.runs event)
-      (new_is_unseen t.runs event) comes (new_run_waits t.runs event) (groups_before t.runs event kept.fit) s.one_of_each_group
+      (new_is_unseen t.runs event) comes (new_run_waits t.runs event) (groups_before t.runs (new_run event) kept.fit) s.one_of_each_group
       (new_run_still t.runs event (all_fit t.runs event kept.fit) (new_run_waits t.runs event))
       (stays_grows u.runs (settled u.runs) (settling_settles u.runs fit_u).stay)))
 

@@ -12,7 +12,7 @@ use Rattle.table_model.specs.Runs.{first_some, leg_site, LegState, RunState, is_
 use Rattle.table_model.specs.Fitting.{is_ready, is_at_work}
 use Rattle.table_model.specs.Groups.{leg_holds, leg_waits}
 use Rattle.table_model.specs.inner.LegCounts.{AreCounted, is_unready_leg, legs_in}
-use Rattle.table_model.specs.WithinRun.{first_of_legs, goes_on, goes_on_in}
+use Rattle.table_model.specs.inner.WithinRun.{first_of_legs, goes_on, goes_on_in}
 use Rattle.table_model.specs.declared.leg_counts.LegCounts.{LegCounts}
 use Rattle.table_model.specs.declared.phases.LegPhase.{LegPhase}
 use Rattle.table_model.specs.declared.phases.LegPhase.TheVariants as leg

@@ -5,7 +5,6 @@ pub mod GroupLaw
 pub mod Groups
 pub mod Holders
 pub mod LegContext
-pub mod Resuming
 pub mod Runs
 pub mod Settling
 pub mod Sound
@@ -13,5 +12,4 @@ pub mod Step
 pub mod Stops
 pub mod TableState
 pub mod ViewText
-pub mod WithinRun
 pub mod inner

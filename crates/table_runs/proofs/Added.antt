@@ -4,8 +4,7 @@ use Rattle.std.specs.Option.{option_map_or}
 use Rattle.std.proofs.Common.{arith, ap, inl, inr, subst, sym, ◌∙◌}
 use Rattle.std.proofs.lemmas.Option.{slice_get_cases}
 use Rattle.group_book.specs.Books.{BookState}
-use Rattle.run_marks.specs.Bits.{Puts}
-use Rattle.run_marks.specs.Marked.{Covers, SameMarks}
+use Rattle.run_marks.specs.Marked.{Covers, Puts, SameMarks}
 use Rattle.table_model.specs.Groups.{run_waits, waits}
 use Rattle.table_model.specs.Runs.{again, run_at, with_run, RunState}
 use Rattle.table_model.specs.Sound.{RunsAreSound}

@@ -2,10 +2,10 @@
 use Rattle.std.specs.Prelude.{◌≡◌, ℕ, ◌<◌, ◌≤◌, List, length, true, Option, Some, None, is_some}
 use Rattle.std.proofs.Common.{arith, sym, ◌∙◌, inl, inr}
 use Rattle.std.proofs.lemmas.Bool.{cases_lt, true≢false}
-use Rattle.table_model.specs.Resuming.{NoneBefore, apply_at}
+use Rattle.table_model.specs.inner.Resuming.{NoneBefore, apply_at}
 use Rattle.table_model.specs.Runs.{RunState}
 use Rattle.table_model.specs.Settling.{first_site}
-use Rattle.table_model.specs.WithinRun.{first_in_run}
+use Rattle.table_model.specs.inner.WithinRun.{first_in_run}
 use Rattle.table_model.specs.declared.sites.RuleSite.{RuleSite}
 use Rattle.settling_laws.proofs.Firsts.{found_at, none_found}
 use Rattle.settling_laws.proofs.Walks.{first_place_by_run}

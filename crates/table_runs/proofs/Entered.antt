@@ -8,7 +8,7 @@ use Rattle.group_name.specs.Group.{Group}
 use Rattle.table_model.specs.Settling.{arrived}
 use Rattle.table_model.specs.Groups.{cancels_in_progress, group_at, all_holders, is_in_progress_in, waits}
 use Rattle.table_model.specs.inner.Holders.{first_conflicting, is_conflicting}
-use Rattle.table_model.specs.Resuming.{resume_at_arrival}
+use Rattle.table_model.specs.inner.Resuming.{resume_at_arrival}
 use Rattle.table_model.specs.Runs.{RunState}
 use Rattle.table_model.specs.Sound.{RunsAreSound}
 use Rattle.table_model.specs.Stops.{stopped, stopped_run}

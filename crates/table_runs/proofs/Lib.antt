@@ -1,6 +1,7 @@
 mod Added
 mod AllSeated
 mod ArrivalEnds
+mod ArrivalRests
 mod ArrivalsToCome
 mod Arriving
 mod ArrivingLegs
@@ -31,6 +32,7 @@ mod LegsOffered
 mod LegsThere
 pub mod MarkedRuns
 pub mod NextAttempt
+mod NoAnswer
 mod NobodyYet
 mod NoneActive
 mod NoneOffered

@@ -6,14 +6,13 @@ use Rattle.std.proofs.Common.{arith, ap, sym, subst, ◌∙◌, inl, inr, length
 use Rattle.std.proofs.lemmas.Bool.{and_parts, cases_Bool, cases_eq, true≢false}
 use Rattle.std.proofs.lemmas.Bool.Decides.{Decides-eqb}
 use Rattle.std.proofs.lemmas.Option.{slice_get-map, slice_get_past, slice_get_within}
-use Rattle.run_marks.specs.Bits.{Puts}
-use Rattle.run_marks.specs.Marked.{Covers, SameMarks, is_marked}
+use Rattle.run_marks.specs.Marked.{Covers, Puts, SameMarks, is_marked}
 use Rattle.table_model.specs.Groups.{holds, is_in}
 use Rattle.table_model.specs.Holders.{run_of}
-use Rattle.table_model.specs.Resuming.{apply_at}
+use Rattle.table_model.specs.inner.Resuming.{apply_at}
 use Rattle.table_model.specs.Runs.{run_at, RunState}
 use Rattle.table_model.specs.LegContext.{events}
-use Rattle.table_model.specs.WithinRun.{first_in_run}
+use Rattle.table_model.specs.inner.WithinRun.{first_in_run}
 use Rattle.table_model.specs.declared.sites.RuleSite.{RuleSite}
 use Rattle.table_model.proofs.Found.{before_the_end}
 use Rattle.table_model.proofs.LegFacts.{SameUpTo}

@@ -12,7 +12,7 @@ use Rattle.table_model.specs.Runs.{first_some, placed, leg_at, leg_site, JobStat
 use Rattle.table_model.specs.Fitting.{OnlyAtWork, has_lease, is_at_work}
 use Rattle.table_model.specs.GroupLaw.{same_holder}
 use Rattle.table_model.specs.Groups.{is_in, is_pending_in, leg_holds, leg_waits, run_waits, waits}
-use Rattle.table_model.specs.Resuming.{apply_at}
+use Rattle.table_model.specs.inner.Resuming.{apply_at}
 use Rattle.table_model.specs.inner.PlacedLegs.{PlacedLeg, placed_legs_of_run}
 use Rattle.table_model.specs.declared.sites.LegSite.{LegSite}
 use Rattle.table_model.specs.inner.WithinRun.{lease_in_run}

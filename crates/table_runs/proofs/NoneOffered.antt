@@ -10,7 +10,7 @@ use Rattle.label_lists.specs.Lists.{ListsState, labels_of, may_offer}
 use Rattle.run_plan.specs.declared.planned.PlannedJob.{PlannedJob}
 use Rattle.table_model.specs.Fitting.{has_labels, is_ready, is_served, has_room}
 use Rattle.table_model.specs.LegContext.{context_at, label_texts, labels_at}
-use Rattle.table_model.specs.Resuming.{NoneBefore, apply_at}
+use Rattle.table_model.specs.inner.Resuming.{NoneBefore, apply_at}
 use Rattle.table_model.specs.Runs.{leg_at, leg_site, plan_at, run_at, JobState, LegState, RunState}
 use Rattle.table_model.specs.declared.sites.LegSite.{LegSite}
 use Rattle.table_model.specs.inner.WithinRun.{fit_in_job, fit_in_run, served_in_job}

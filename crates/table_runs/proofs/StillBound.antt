@@ -8,8 +8,7 @@ use Rattle.std.proofs.lemmas.List.{length-append, length-map, length-set, map-ap
 use Rattle.std.proofs.lemmas.Option.{same_Some, slice_get_within}
 use Rattle.definitions.specs.SmallText.{Admitted}
 use Rattle.label_lists.specs.Lists.{ListsState, OnlyGrows}
-use Rattle.run_marks.specs.Bits.{Puts}
-use Rattle.run_marks.specs.Marked.{SameMarks}
+use Rattle.run_marks.specs.Marked.{Puts, SameMarks}
 use Rattle.table_model.specs.inner.ActiveRuns.{is_active}
 use Rattle.table_model.specs.Runs.{changed_at, RunState}
 use Rattle.table_model.specs.Groups.{RunFacts, run_facts_at}

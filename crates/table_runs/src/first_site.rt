@@ -3,10 +3,10 @@
 ghost use Rattle.std.specs.Prelude.{◌≡◌, Some, option_map};
 ghost use Rattle.std.specs.List.{list_all};
 ghost use Rattle.table_model.specs.inner.Cells.{states};
-ghost use Rattle.table_model.specs.Resuming.{JobsRestBefore, NoneBefore, apply_at};
+ghost use Rattle.table_model.specs.inner.Resuming.{JobsRestBefore, NoneBefore, apply_at};
 ghost use Rattle.table_model.specs.Runs.{job_at, leg_at, run_at, RunState, is_finished};
-ghost use Rattle.table_model.specs.WithinRun.{first_in_job, first_in_jobs, first_in_run, first_of_legs, first_of_open, first_of_whole};
-ghost use Rattle.table_model.specs.WithinRun.{goes_on};
+ghost use Rattle.table_model.specs.inner.WithinRun.{first_in_job, first_in_jobs, first_in_run, first_of_legs, first_of_open, first_of_whole};
+ghost use Rattle.table_model.specs.inner.WithinRun.{goes_on};
 
 use crate::runs::Runs;
 use crate::walk::Legs;

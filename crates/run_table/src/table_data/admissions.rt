@@ -56,8 +56,7 @@ impl TableData {
     {
         let index = self.runs.len();
         let run = Run::of_event(alloc, prepared)?;
-        let start = self.runs.admit(alloc, run)?;
-        self.runs.settle_from(start);
+        self.runs.admit(alloc, run)?;
         Ok(Reply::Created(id_of(index)))
     }
 }

@@ -3,7 +3,7 @@
 use Rattle.std.specs.Prelude.{◌≡◌, ℕ, List, length, Bool, true, slice_get, Some, is_some}
 use Rattle.run_marks.specs.Marked.{Covers, is_marked}
 use Rattle.table_model.specs.Runs.{RunState}
-use Rattle.table_model.specs.WithinRun.{first_in_run}
+use Rattle.table_model.specs.inner.WithinRun.{first_in_run}
 
 -- whether a rule applies in the run
 abbrev pub is_due : List RunState → ℕ → RunState → Bool

@@ -5,13 +5,12 @@ ghost use Rattle.std.specs.Prelude.{◌≡◌, ◌<◌, ◌∷◌, ◌++◌, ℕ
 ghost use Rattle.definitions.specs.Limits.{last_attempt, max_runs};
 ghost use Rattle.wf_value.specs.Gives.{Gives};
 ghost use Rattle.run_marks.specs.Marked.{Covers, is_marked};
-ghost use Rattle.table_model.specs.Settling.{arrived, newcomer_rule};
+ghost use Rattle.table_model.specs.Settling.{arrived, first_site, newcomer_rule, settled};
 ghost use Rattle.table_model.specs.Groups.{cancels_in_progress, group_at, run_waits, waits};
 ghost use Rattle.table_model.specs.inner.Holders.{first_conflicting};
 ghost use Rattle.table_model.specs.Holders.{run_of};
 ghost use Rattle.table_model.specs.Runs.{again, run_at, with_run};
-ghost use Rattle.table_model.specs.inner.Resuming.{is_new_at};
-ghost use Rattle.table_model.specs.Resuming.{resume_at_arrival};
+ghost use Rattle.table_model.specs.inner.Resuming.{is_new_at, resume_at_arrival};
 ghost use Rattle.table_model.specs.Sound.{RunsAreSound};
 ghost use Rattle.table_model.specs.Stops.{stop_holder};
 ghost use Rattle.table_model.specs.declared.holder.Holder.{Holder as HolderInWords};
@@ -31,7 +30,7 @@ use table_model::{Change, Holder, JobSite, Leg, LegPhase, LegSite, Run};
 use wf_value::{Outcome, Refusal};
 
 impl Runs {
-    /// Adds a run at the end, which waits and arrives in its group. Returns where settling begins to search. On an `Err` nothing has
+    /// Adds a run at the end, which waits and arrives in its group, and settles. No rule applies before it comes. On an `Err` nothing has
     /// changed.
     /// Promise (Runs, and how they are found): The runs of a table, their numbers and deliveries, and what an end, a stop, an arrival and a
     ///   re-run change, are the definition's
@@ -40,7 +39,22 @@ impl Runs {
     /// When: 50
     /// Afterwards: as it was; lists of labels only grow
     /// By: one clause each (`Gives`); `Runs::{admit, rerun}`, `err`
-    pub fn admit(&mut self, alloc: Global, run: Run) -> Result<JobSite, Refusal>
+    pub fn admit(&mut self, alloc: Global, run: Run) -> Result<(), Refusal>
+        requires few { length self.old < max_runs }
+        requires waits { run_waits run.phase ≡ true }
+        requires sound { RunsAreSound self.old }
+        requires rests { first_site self.old ≡ None }
+        requires added { RunsAreSound (self.old ++ run ∷ []) }
+        ensures admitted { Gives (λ _. self.new) result (Ok (settled (arrived (held.Run (length self.old)) (self.old ++ run ∷ [])).runs)) }
+        ensures err { OnErr result (self.new ≡ self.old) }
+    {
+        let start = self.arrive(alloc, run)?;
+        self.settle_from(start);
+        Ok(())
+    }
+
+    /// Adds a run at the end, which waits and arrives in its group. Returns where settling begins to search.
+    fn arrive(&mut self, alloc: Global, run: Run) -> Result<JobSite, Refusal>
         requires few { length self.old < max_runs }
         requires waits { run_waits run.phase ≡ true }
         requires sound { RunsAreSound (self.old ++ run ∷ []) }

@@ -5,10 +5,9 @@ ghost use Rattle.std.specs.Bool.{Decides};
 ghost use Rattle.definitions.specs.Limits.{max_runs};
 ghost use Rattle.run_marks.specs.Marked.{is_marked};
 ghost use Rattle.table_model.specs.inner.ActiveRuns.{is_active};
-ghost use Rattle.table_model.specs.Resuming.{RestBefore, apply_at};
+ghost use Rattle.table_model.specs.inner.Resuming.{RestBefore, apply_at};
 ghost use Rattle.table_model.specs.Settling.{first_site};
-ghost use Rattle.table_model.specs.WithinRun.{first_in_run};
-ghost use Rattle.table_model.specs.inner.WithinRun.{fit_in_run};
+ghost use Rattle.table_model.specs.inner.WithinRun.{first_in_run, fit_in_run};
 ghost use Rattle.settling_laws.specs.inner.RunFacts.{is_so_at};
 
 use crate::first_site::first_in_run_at;

@@ -6,8 +6,7 @@ ghost use Rattle.std.specs.List.{list_any};
 ghost use Rattle.std.specs.Option.{option_map_or};
 ghost use Rattle.needs_graph.specs.Needs.{fails_job, gathered, is_cancelled};
 ghost use Rattle.table_model.specs.Runs.{first_some, placed, job_at, leg_at, run_at, with_job, outcome_of};
-ghost use Rattle.table_model.specs.Resuming.{RestBefore};
-ghost use Rattle.table_model.specs.inner.Resuming.{at_job_again, may_invalidate_others, is_new_at, resume_point};
+ghost use Rattle.table_model.specs.inner.Resuming.{RestBefore, at_job_again, may_invalidate_others, is_new_at, resume_point};
 ghost use Rattle.table_model.specs.Settling.{closing_rule, decided, leg_end, leg_rule, may_run, rule_at, whole_rule};
 ghost use Rattle.table_model.specs.Settling.{first_site, first_rule, settled};
 ghost use Rattle.table_model.specs.Sound.{RunsAreSound};
@@ -22,6 +21,8 @@ use wf_value::JobResult;
 
 impl Runs {
     /// Applies one rule after another, until none applies.
+    /// Promise (Runs, and how they are found): Settling goes to a fixpoint, without memory
+    /// By: `table_runs::Runs::{settle, are_at_rest}`
     pub fn settle(&mut self)
         requires { RunsAreSound self.old }
         ensures { self.new ≡ settled self.old }
@@ -30,9 +31,7 @@ impl Runs {
     }
 
     /// Settles. The search for rules begins at `start`, and no rule applies before it.
-    /// Promise (Runs, and how they are found): Settling goes to a fixpoint, without memory
-    /// By: `table_runs::Runs::{settle_from, settle}`
-    pub fn settle_from(&mut self, start: JobSite)
+    pub(super) fn settle_from(&mut self, start: JobSite)
         requires sound { RunsAreSound self.old }
         requires rest { RestBefore self.old start }
         ensures { self.new ≡ settled self.old }

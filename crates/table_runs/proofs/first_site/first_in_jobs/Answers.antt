@@ -1,6 +1,6 @@
 use Rattle.std.proofs.Common.{arith, rules}
 use Rattle.table_model.specs.inner.Cells.{JobCells}
-use Rattle.table_model.specs.WithinRun.{first_in_job}
+use Rattle.table_model.specs.inner.WithinRun.{first_in_job}
 use Rattle.settling_laws.proofs.Firsts.{job_answers, job_passed, no_job_answers, none_before-map}
 use Rattle.table_runs.proofs.first_site.first_in_jobs.Goals as goal
 

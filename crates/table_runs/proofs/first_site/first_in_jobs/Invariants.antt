@@ -1,5 +1,5 @@
-use Rattle.table_model.specs.WithinRun.{first_in_job}
-use Rattle.table_model.specs.Resuming.{NoneBefore}
+use Rattle.table_model.specs.inner.WithinRun.{first_in_job}
+use Rattle.table_model.specs.inner.Resuming.{NoneBefore}
 use Rattle.table_runs.proofs.first_site.first_in_jobs.Given as goal
 
 -- no job so far has a site where a rule applies

@@ -1,7 +1,7 @@
 use Rattle.std.proofs.Common.{List, ap, sym, subst, ◌∙◌}
 use Rattle.std.specs.List.{AllByRecursion}
 use Rattle.table_model.specs.inner.PlacedLegs.{PlacedLeg}
-use Rattle.table_model.specs.WithinRun.{goes_on}
+use Rattle.table_model.specs.inner.WithinRun.{goes_on}
 use Rattle.table_model.specs.declared.sites.RuleSite.TheVariants.{AtLeg}
 use Rattle.settling_laws.proofs.PlacedLegs.{first_passing, first_passing_in_job}
 use Rattle.table_runs.proofs.LegsThere.{IsThere, legs_there}

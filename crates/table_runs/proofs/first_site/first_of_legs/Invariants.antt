@@ -1,6 +1,6 @@
 use Rattle.std.specs.Prelude.{◌≡◌}
 use Rattle.std.specs.List.{AllByRecursion}
-use Rattle.table_model.specs.WithinRun.{first_of_legs, goes_on}
+use Rattle.table_model.specs.inner.WithinRun.{first_of_legs, goes_on}
 use Rattle.table_model.specs.declared.sites.RuleSite.TheVariants.{AtLeg}
 use Rattle.settling_laws.proofs.PlacedLegs.{first_passing}
 use Rattle.table_runs.proofs.LegsThere.{IsThere}

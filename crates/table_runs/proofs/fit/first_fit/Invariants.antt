@@ -1,6 +1,6 @@
 use Rattle.std.proofs.Common.{◌-◌, length}
 use Rattle.table_model.specs.inner.WithinRun.{fit_in_run}
-use Rattle.table_model.specs.Resuming.{NoneBefore}
+use Rattle.table_model.specs.inner.Resuming.{NoneBefore}
 use Rattle.table_runs.proofs.fit.first_fit.Given as goal
 
 -- no run so far has a leg that fits

@@ -1,5 +1,5 @@
 use Rattle.table_model.specs.inner.WithinRun.{fit_in_job}
-use Rattle.table_model.specs.Resuming.{NoneBefore}
+use Rattle.table_model.specs.inner.Resuming.{NoneBefore}
 use Rattle.table_runs.proofs.fit.fit_in_jobs.Given as goal
 
 -- no job so far has a leg that fits

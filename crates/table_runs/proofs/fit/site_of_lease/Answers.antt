@@ -1,7 +1,7 @@
 use Rattle.std.proofs.Common.{arith, sym, ◌∙◌, below_more, ◌≡◌, length, true, false, rules}
 use Rattle.std.specs.Prelude.{None, is_some}
 use Rattle.table_model.specs.inner.ActiveRuns.{is_active}
-use Rattle.table_model.specs.Resuming.{apply_at}
+use Rattle.table_model.specs.inner.Resuming.{apply_at}
 use Rattle.table_model.specs.inner.WithinRun.{lease_in_run}
 use Rattle.settling_laws.specs.inner.RunFacts.{is_so_at}
 use Rattle.settling_laws.proofs.Firsts.{answer_found, answer_passed, none_found}

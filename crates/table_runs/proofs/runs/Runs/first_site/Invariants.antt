@@ -1,6 +1,6 @@
 use Rattle.std.proofs.Common.{◌≡◌, ◌-◌, length}
-use Rattle.table_model.specs.Resuming.{NoneBefore}
-use Rattle.table_model.specs.WithinRun.{first_in_run}
+use Rattle.table_model.specs.inner.Resuming.{NoneBefore}
+use Rattle.table_model.specs.inner.WithinRun.{first_in_run}
 use Rattle.table_runs.proofs.runs.Runs.first_site.Given as goal
 
 -- the runs stay as they are, and no rule applies in those that were passed

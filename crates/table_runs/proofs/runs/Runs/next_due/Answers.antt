@@ -1,9 +1,9 @@
 use Rattle.std.specs.Prelude.{List}
 use Rattle.std.proofs.Common.{arith, ap, sym, ◌∙◌, inl, inr}
 use Rattle.std.proofs.lemmas.Bool.{cases_lt}
-use Rattle.table_model.specs.Resuming.{apply_at}
+use Rattle.table_model.specs.inner.Resuming.{apply_at}
 use Rattle.table_model.specs.Runs.{RunState}
-use Rattle.table_model.specs.WithinRun.{first_in_run}
+use Rattle.table_model.specs.inner.WithinRun.{first_in_run}
 use Rattle.table_runs.proofs.MarkedRuns.{if_none, if_some, past_rests, unmarked_rests}
 use Rattle.table_runs.proofs.runs.Runs.next_due.Goals as goal
 

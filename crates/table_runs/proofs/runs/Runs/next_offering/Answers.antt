@@ -1,6 +1,6 @@
 use Rattle.std.specs.Prelude.{◌≡◌, ◌≤◌, ◌<◌, ℕ, List, IfNone, IfSome, None, length}
 use Rattle.std.proofs.Common.{ap, subst, sym, ◌∙◌}
-use Rattle.table_model.specs.Resuming.{apply_at}
+use Rattle.table_model.specs.inner.Resuming.{apply_at}
 use Rattle.table_model.specs.Runs.{RunState}
 use Rattle.table_model.specs.inner.WithinRun.{fit_in_run}
 use Rattle.table_runs.specs.declared.runs.Runs.TheInside.{Inside}

@@ -1,6 +1,6 @@
 use Rattle.std.specs.Prelude.{◌≡◌, ◌<◌, List, Option, Some, None, IfSome, is_some, option_map, if◌then◌else◌}
 use Rattle.std.proofs.Common.{ap, subst, sym, refl, ◌∙◌}
-use Rattle.table_model.specs.Resuming.{RestBefore}
+use Rattle.table_model.specs.inner.Resuming.{RestBefore}
 use Rattle.table_model.specs.GroupLaw.{Transition}
 use Rattle.table_model.specs.Runs.{RunState}
 use Rattle.table_model.specs.Settling.{first_rule, remaining_phases, settled}

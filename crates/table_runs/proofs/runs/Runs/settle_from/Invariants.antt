@@ -1,5 +1,5 @@
 use Rattle.std.proofs.Common.{◌≡◌, List}
-use Rattle.table_model.specs.Resuming.{RestBefore}
+use Rattle.table_model.specs.inner.Resuming.{RestBefore}
 use Rattle.table_model.specs.Runs.{RunState}
 use Rattle.table_model.specs.Settling.{settled, remaining_phases}
 use Rattle.table_model.specs.Sound.{RunsAreSound}

@@ -1,7 +1,6 @@
 use Rattle.std.specs.Prelude.{◌≡◌, List, Some, IfSome, Bool, option_and_then}
 use Rattle.std.proofs.Common.{ap, subst, sym, ◌∙◌}
-use Rattle.table_model.specs.Resuming.{RestBefore}
-use Rattle.table_model.specs.inner.Resuming.{may_invalidate_others, resume_point}
+use Rattle.table_model.specs.inner.Resuming.{RestBefore, may_invalidate_others, resume_point}
 use Rattle.table_model.specs.GroupLaw.{Transition}
 use Rattle.table_model.specs.Settling.{rule_at, first_site, first_rule}
 use Rattle.table_model.specs.Runs.{RunState}
