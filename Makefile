@@ -1,27 +1,17 @@
 # The two commands of a new machine: `make first-run` and `make test`. Both need `rt` on the PATH.
 
 ACTS := crates/acts/out/acts
-FIRST := crates/first_run
 
-.PHONY: first-run test names build install example serve-example bench bench-all gate sweep hostile compared crashes-over-a-file wrong-bodies tested-bodies definitions
+.PHONY: first-run test prove names build install example serve-example bench bench-all gate sweep hostile compared crashes-over-a-file wrong-bodies tested-bodies definitions
 .PHONY: engine
 
-# Plays the example by a trial run, and prints each line of the script with its answer. A trial interprets the program before it compiles it,
-# and the interpreter can't answer here, since the program reads its input; with `--steps 1` that costs one step instead of some seconds.
+# Plays the example by a trial, and prints each line of the script with its answer.
 first-run:
-	@mkdir -p $(FIRST)/out
-	@cd $(FIRST) && rt try --steps 1 < stdin > out/answers 2> out/log || { cat out/log >&2; exit 1; }
-	@sed 's/^/> /' $(FIRST)/stdin | paste -d '\n' - $(FIRST)/out/answers
-	@echo 'This was a trial run, which proves nothing; `make build` makes the proved program.' >&2
+	@tests/first_run
 
-# Proves and builds `acts` and the crates below it. During the build, a line of the source names the commit, for `acts --version`.
-COMMIT_LINE := crates/command_words/src/commit.rt
-COMMIT_KEPT := crates/command_words/commit.kept
-COMMIT := $(shell git describe --always --dirty --exclude '*' 2> /dev/null)
-
+# Proves and builds `acts` and the crates below it, with the name of the commit for `acts --version`, in a copy of the sources: the tree stays as it is.
 build:
-	@cp $(COMMIT_LINE) $(COMMIT_KEPT); trap 'mv $(CURDIR)/$(COMMIT_KEPT) $(CURDIR)/$(COMMIT_LINE)' EXIT; trap 'exit 130' INT TERM; \
-		$(if $(COMMIT),sed -i 's/no commit named/commit $(COMMIT)/' $(COMMIT_LINE);) cd crates/acts && rt run -- play < /dev/null
+	bench/build
 
 # Installs below PREFIX, with DESTDIR before all paths: the program of `make build`, a manual page made from its help texts, the runner, the bridge and the watchdog
 # in lib/acts, and their units for systemd. `make install PREFIX=$HOME/.local` installs elsewhere, `make install ACTS=PATH` another program, and UNITS=FOLDER the
@@ -59,11 +49,15 @@ serve-example:
 names:
 	@if command -v python3 > /dev/null; then docs/check_names; else echo 'names: python3 is not here, so the names in docs/ were not checked'; fi
 
-# The merge gate: the names in docs/; every proof, except what an earlier run on this machine has passed; the must-fail edits, the tests and
-# the stored runs; and then, with the proved program, the quick start and its checks from outside (`sweeps/program`). It says at its start about
-# how long it takes, and at its end what took longest. LANES=N checks so many crates at a time, by default as many as there are processors and
-# 5 GB of memory for each. CRATES="NAME .." checks only these crates and those below them.
-test: names
+# All that can be tested without proving, in minutes, over trials of the programs: the names on the pages, the tests, the rows, the stored runs, the quick start, the program
+# from outside and the view port. PARTS="NAME .." plays some of these.
+test:
+	tests/run $(PARTS)
+
+# The gate of proofs: every proof, except what an earlier run on this machine has passed; every edit of the gate, which has to be refused; and the proved program over its
+# stored runs, the quick start and the checks from outside. It says at its start about how long it takes, at its end what took longest. LANES=N checks so many crates at a
+# time, one processor each. CRATES="NAME .." proves only these crates and those below them, and tries their edits.
+prove:
 	LANES='$(LANES)' bench/prove $(CRATES)
 
 # Commands per second over growing tables. The figures go into bench/measured.csv, from which the tables of docs/PERFORMANCE.md are made.

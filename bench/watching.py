@@ -7,7 +7,7 @@ import threading
 import time
 
 TICKS = os.sysconf("SC_CLK_TCK")
-KINDS = ("proof", "tests", "edits", "runs")
+KINDS = ("proof", "edits", "runs")
 
 
 def text_of(path):
@@ -38,10 +38,10 @@ def work_of(pid, crates):
     folder = link_of(f"/proc/{pid}/cwd")
     if "--crate-name" in words:
         crate = words[words.index("--crate-name") + 1]
-        return crate, "edits" if "/rt-edit-" in folder else "tests" if "--test" in words else "proof"
+        return crate, "edits" if "/edit-" in folder else "proof"
     run = next(filter(None, (re.search(r"/rt-run-[^/]+/bin/(\w+)$", it) for it in words)), None)
     if run:
-        return (run[1] if run[1] in crates else run[1].removesuffix("_tests")), "runs"
+        return run[1], "runs"
     return None
 
 
@@ -114,15 +114,12 @@ def put_below(name, below, order):
 
 
 def longest_chain(libraries, sums):
-    """The chain of crates that takes longest, each with its part. A crate waits for the proofs of its libraries; tests of the last one are
-    proved beside it, and its edits are tried after both."""
+    """The chain of crates that takes longest, each with its part. A crate waits for the proofs of its libraries."""
     until, before = {}, {}
     for name, below in libraries.items():
         before[name] = max(below, key=until.get, default=None)
         until[name] = until.get(before[name], 0) + sums[name, "proof"]
-    ends = {it: until[it] + max(0, sums[it, "tests"] - sums[it, "proof"]) + sums[it, "edits"] for it in libraries}
-    last = max(ends, key=ends.get)
-    parts, at = [(last, ends[last] - until.get(before[last], 0))], before[last]
+    parts, at = [], max(libraries, key=until.get)
     while at:
         parts.append((at, sums[at, "proof"]))
         at = before[at]

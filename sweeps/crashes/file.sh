@@ -4,7 +4,7 @@
 # Usage: sweeps/crashes/file.sh [SCRIPT [AREA [FOLDER]]]
 set -eu
 . "$(dirname "$0")/../../bench/copy.sh"
-script=$(realpath "${1:-$top/crates/acts_rows/data/store/checkpoint_among_sixteen_runs.script}")
+script=$(realpath "${1:-$top/tests/rows/store/checkpoint_among_sixteen_runs.script}")
 area=${2:-4096}
 copy_for crashes_over_a_file file.rt.txt act_disk act_store command_lines run_plan wf_value anyhow
 cp "$here/lines.rt.txt" "$scratch/crates/crashes_over_a_file/src/lines.rt"

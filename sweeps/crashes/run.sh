@@ -10,7 +10,7 @@
 # Usage: sweeps/crashes/run.sh [SCRIPT [AREA]]
 set -eu
 . "$(dirname "$0")/../../bench/copy.sh"
-script=$(realpath "${1:-$top/crates/acts_rows/data/store/checkpoint_among_sixteen_runs.script}")
+script=$(realpath "${1:-$top/tests/rows/store/checkpoint_among_sixteen_runs.script}")
 area=${2:-4096}
 copy_for crash_sweep main.rt.txt act_disk act_store command_lines run_plan wf_value tests_common anyhow
 for part in lines script crashes faults; do cp "$here/$part.rt.txt" "$scratch/crates/crash_sweep/src/$part.rt"; done

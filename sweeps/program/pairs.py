@@ -1,6 +1,6 @@
 """Inputs of sessions one after another, all in one session, beside the plain model.
 
-The inputs are those of the rows in `crates/acts_rows/data`, of both protocols: HTTP on one port, and runner lines on the other. Each two of one
+The inputs are those of the rows in `tests/rows`, of both protocols: HTTP on one port, and runner lines on the other. Each two of one
 protocol are sent to one session, in pieces; the session has to write what the model does, over the same table of runs and runners. The longest
 inputs come first, each with what it has to be answered.
 """
@@ -12,7 +12,7 @@ import random
 from checking import expect, module, opened, served, stopped
 
 HERE = os.path.dirname(os.path.abspath(__file__))
-ROWS = os.path.join(HERE, '../../crates/acts_rows/data')
+ROWS = os.path.join(HERE, '../../tests/rows')
 plain = module('plain', '../compared/plain.py')
 streams = module('streams', '../compared/streams.py')
 COUNT = 1500
