@@ -5,8 +5,8 @@ import re
 from dataclasses import dataclass
 from typing import Callable, Iterator, Mapping, Union
 
-from .values import (NUMBER, Each, Fault, Known, Unknown, Value, bounded, compare, from_json, is_true, number, text_of, to_json,
-                     truth)
+from .values import (NUMBER, Each, Fault, Known, Unknown, Value, bounded, compare, from_json, is_true, number, text_of,
+                     to_json, truth)
 
 LONGEST = 21_000  # characters of an expression: GitHub's limit
 DEEPEST = 50  # expressions within one another: GitHub's limit
@@ -15,7 +15,8 @@ TOKEN = re.compile(r"\s*('(?:[^']|'')*'|-?(?:0x[0-9A-Fa-f]+|0o[0-7]+|\d+(?:\.\d+
                    r"|[A-Za-z_][\w-]*|&&|\|\||[=!<>]=|[][!<>().,*])", re.ASCII)
 QUOTED_OR_END = re.compile(r"'[^']*'?|\}\}")
 LEVELS = ('||',), ('&&',), ('==', '!='), ('<', '<=', '>', '>=')
-NEGATED = {'true': 'false', 'always()': 'false', 'false': 'true', 'cancelled()': '!cancelled()', '!cancelled()': 'cancelled()'}
+NEGATED = {'true': 'false', 'always()': 'false', 'false': 'true', 'cancelled()': '!cancelled()',
+           '!cancelled()': 'cancelled()'}
 
 
 @dataclass(frozen=True)
@@ -204,8 +205,8 @@ def asks_status(node: Node) -> bool:
 
 
 class Scope:
-    """What the names of an expression stand for. Here what is not given is not known; a runner, for which all is known, has a scope of its own
-    in which it is a fault."""
+    """What the names of an expression stand for. Here what is not given is not known; a runner, for which all is known,
+    has a scope of its own in which it is a fault."""
 
     def __init__(self, contexts: Mapping[str, Known]) -> None:
         self.contexts = contexts
@@ -410,7 +411,7 @@ def has_open_braces(text: str) -> bool:
 
 
 def evaluate(text: str, contexts: Mapping[str, Known]) -> Value:
-    """The value of an expression, without braces, as far as it is known. A fault makes it unknown: who comes to it says so."""
+    """The value of an expression, without braces, as far as it is known. One with a fault is not known."""
     try:
         return evaluated(read(text), Scope(contexts))
     except Fault:

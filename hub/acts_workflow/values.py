@@ -14,14 +14,20 @@ LONGEST_NUMBER = 400  # characters: the largest number has 309 digits
 
 
 class Fault(ValueError):
-    """An expression, a filter or an input is not as the documentation wants it."""
+    """What is wrong with a workflow, or with what it is given: words, the place, its line, and the service's number."""
+
+    def __init__(self, words: str, place: str = '', line: int | None = None, number: int | None = None) -> None:
+        super().__init__(f'{place}: {words}' if place else words)
+        self.words, self.place, self.line, self.number = words, place, line, number
 
 
 @dataclass(frozen=True)
 class Unknown:
-    """A value that is not known here. `truth` is what is known of its truth: `true`, `false`, a condition of the service, or `?` for nothing."""
+    """A value that is not known here. `truth` is what is known of its truth: `true`, `false`, a condition of the
+    service, or `?` for nothing. `text` is the expression for it, where there is one."""
 
     truth: str = '?'
+    text: str | None = None
 
 
 Value = Union[Known, Unknown]
@@ -48,7 +54,7 @@ def number(value: Known) -> int | float:
 
 
 def text_of(value: Known) -> str:
-    """The text as which GitHub prints a value: a number with 15 digits at most, a list or an object by its kind alone."""
+    """The text as which GitHub prints a value: a number with 15 digits at most, a list or an object by its kind."""
     if value is None:
         return ''
     if isinstance(value, str):
@@ -88,7 +94,9 @@ def ordered(op: str, left: Any, right: Any) -> bool:
     """The comparison of two texts or of two numbers."""
     if op in ('==', '!='):
         return bool((left == right) == (op == '=='))
-    return bool(left < right or op == '<=' and left == right) if op[0] == '<' else bool(left > right or op == '>=' and left == right)
+    if op[-1] == '=' and left == right:
+        return True
+    return bool(left < right) if op[0] == '<' else bool(left > right)
 
 
 def bounded(pieces: Iterable[str]) -> str:

@@ -34,7 +34,8 @@ def test_there_are_rows() -> None:
 
 @pytest.mark.parametrize('text', ["fromJSON('')", "fromJSON('{')", "fromJSON('NaN')", "fromJSON('" + '[' * 20000 + "')", "format('{1}', 1)",
                                   "format('{', 1)", 'contains(1)', 'nothing(1)', '(' * 60 + '1' + ')' * 60, '!' * 60 + '1', "'" + 'a' * 21000 + "'",
-                                  'github.', '1 +', 'a b', '٣', "format('{99999999999}', 1)", 'case(true, 1)'])
+                                  'github.', '1 +', 'a b', '٣', "format('{99999999999}', 1)", 'case(true, 1)'],
+                         ids=range(17))
 def test_a_fault_is_said(text: str) -> None:
     with pytest.raises(Fault):
         evaluated(read(text), Scope(CONTEXTS))
@@ -78,7 +79,7 @@ def test_whole_and_open() -> None:
     assert has_open_braces('a ${{ b') and not has_open_braces('a ${{ b }} }}')
 
 
-@pytest.mark.parametrize('text', ['${{' * 300000, "${{ " + "''" * 400000, "${{ " + "'a' " * 300000 + '}}', '}}' * 300000])
+@pytest.mark.parametrize('text', ['${{' * 100000, "${{ " + "''" * 100000, "${{ " + "'a' " * 100000 + '}}', '}}' * 100000], ids='abcd')
 def test_braces_of_a_huge_text_take_no_time(text: str) -> None:
     began = time.monotonic()
     parts(text)
