@@ -5,10 +5,22 @@ from typing import TYPE_CHECKING
 
 from aiohttp import web
 
+from .api import Api
+from .artifacts import ArtifactRequests
+from .checks import CheckRequests
+from .jobs import JobRequests
+from .repos import RepositoryRequests
+from .runners import RunnerRequests
+from .runs import RunRequests
+from .workflows import WorkflowRequests
+
 if TYPE_CHECKING:
     from ..hub import Hub
 
 
 def routes(hub: Hub) -> list[web.RouteDef]:
     """The routes of this part."""
-    return []
+    api = Api(hub)
+    repositories = RepositoryRequests(api)
+    return [*RunRequests(api).routes(), *JobRequests(api).routes(), *WorkflowRequests(api).routes(), *CheckRequests(api).routes(),
+            *ArtifactRequests(api).routes(), *RunnerRequests(api).routes(), *repositories.routes(), *repositories.last()]
