@@ -8,7 +8,7 @@ import sys
 
 from . import __version__
 
-COMMANDS = 'serve', 'token', 'up', 'check', 'doors'
+COMMANDS = 'serve', 'token', 'up', 'check', 'doors', 'watchdog'
 
 
 def main() -> int:

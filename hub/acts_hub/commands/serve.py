@@ -14,6 +14,7 @@ from aiohttp import web
 
 from ..app import make_app
 from ..config import Config, ConfigError, address_of, read_config
+from ..doors.exposure import check_exposure
 from ..hub import make_hub
 from ..log import say
 
@@ -29,6 +30,7 @@ def run(given: argparse.Namespace) -> int:
     """Serves."""
     try:
         config = read_config(given.config)
+        check_exposure(config)
         context = tls_of(config)
         asyncio.run(serve(config, context))
     except (ConfigError, OSError, ssl.SSLError) as fault:

@@ -52,8 +52,8 @@ class HookPort:
         """Closes its connections."""
         await self.client.close()
 
-    async def _post(self, path: str, repeat: bool = True) -> Reply:
-        return reply_of(*await self.client.request('POST', path, repeat=repeat))
+    async def _post(self, path: str) -> Reply:
+        return reply_of(*await self.client.request('POST', path))
 
     async def admit(self, delivery: str, event: str, body: bytes) -> Reply:
         """Admits an event. The same delivery again makes no other run, so the request may be repeated."""
@@ -68,9 +68,9 @@ class HookPort:
         """Runs a completed run again, as this attempt. The same request again begins no other attempt."""
         return await self._post(f'/runs/{run:d}/attempts/{attempt:d}')
 
-    async def lost(self, runner: str) -> Reply:
-        """Reports a runner lost. Not repeated by itself: the runner may hold another lease by then."""
-        return await self._post(f'/runners/{quote(runner, safe="")}/lost', repeat=False)
+    async def lost(self, runner: str, seconds: float | None = 30) -> Reply:
+        """Reports a runner lost. Not repeated by itself: the runner may hold another lease by then. A limit may leave one behind, carried out later."""
+        return reply_of(*await self.client.request('POST', f'/runners/{quote(runner, safe="")}/lost', seconds=seconds, repeat=False))
 
     async def retry(self, run: int, attempt: int) -> Reply:
         """Runs the failed jobs of a completed run again, as this attempt."""

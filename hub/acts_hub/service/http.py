@@ -48,7 +48,7 @@ class ServiceClient:
         return f'http://[{host}]:{port}{path}' if ':' in host else f'http://{host}:{port}{path}'
 
     async def request(self, method: str, path: str, data: bytes | None = None, headers: Mapping[str, str] | None = None,
-                      seconds: float = 30, repeat: bool = True) -> tuple[int, bytes]:
+                      seconds: float | None = 30, repeat: bool = True) -> tuple[int, bytes]:
         """The status and body of an answer. With `repeat` a request that met the end of a session is sent again: it has to be one that may be."""
         timeout = aiohttp.ClientTimeout(total=seconds, sock_connect=10)
         sent = dict(headers or {}) if repeat else {**(headers or {}), 'Connection': 'close'}
