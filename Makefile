@@ -38,7 +38,7 @@ install:
 	install -m 755 $(filter-out examples/runner_cases_% %_trials.py examples/chromium.py,$(wildcard examples/*.py)) $(DESTDIR)$(PREFIX)/lib/acts
 	install -m 644 examples/runners.haproxy $(DESTDIR)$(PREFIX)/share/acts
 	install -D -t $(DESTDIR)$(PREFIX)/share/acts/board -m 644 $(wildcard examples/board/*)
-	install -D -t $(DESTDIR)$(PREFIX)/share/acts/prometheus -m 644 $(wildcard examples/prometheus/*)
+	install -D -t $(DESTDIR)$(PREFIX)/share/acts/prometheus -m 644 $(wildcard hub/prometheus/*)
 	for unit in examples/*.service; do sed 's,/usr/local/,$(PREFIX)/,g' $$unit > $(DESTDIR)$(UNITS)/$${unit##*/} || exit 1; done
 	@$(if $(filter $(UNITS),$(SYSTEMD_UNITS)),,echo 'systemd does not look in $(UNITS): `systemctl link $(UNITS)/acts.service` lets it find this unit')
 

@@ -5,7 +5,7 @@ from typing import TYPE_CHECKING
 
 from aiohttp import web
 
-from . import events, gateway, graphql, pages, rest
+from . import events, gateway, graphql, metrics, pages, rest
 from .access.middleware import HEADERS, identify
 from .service.http import Away
 
@@ -56,6 +56,7 @@ def make_app(hub: Hub) -> web.Application:
     app['hub'] = hub
     app.on_response_prepare.append(secure)
     app.add_routes([web.get('/healthz', healthz)])
+    metrics.add(app)
     for part in events, gateway, graphql, rest, pages:
         app.add_routes(part.routes(hub))
     return app

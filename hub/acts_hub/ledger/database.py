@@ -54,9 +54,8 @@ def statements_of(script: str) -> list[str]:
 
 def connect(path: pathlib.Path | None, seconds: float = 1) -> sqlite3.Connection:
     """A connection to the file, migrated; to one in memory without a path."""
-    if path is not None:
-        descriptor = os.open(path, os.O_CREAT | os.O_RDWR | os.O_CLOEXEC, 0o600)
-        os.close(descriptor)
+    if path is not None and not path.exists():  # of a file that is there, closing a descriptor would take the locks of this process's other connections
+        os.close(os.open(path, os.O_CREAT | os.O_RDWR | os.O_CLOEXEC, 0o600))
     connection = sqlite3.connect(':memory:' if path is None else str(path), timeout=seconds, isolation_level=None, check_same_thread=False)
     try:
         connection.execute('pragma journal_mode = wal')

@@ -196,18 +196,20 @@ def _call(*words: str) -> None:
 
 
 def _make_tokens(folder: Folder, config: Config, labels: str) -> None:
-    """Makes the tokens of whom the files are not there yet."""
-    if folder.token.exists() and folder.runner_token.exists():
-        return
+    """Makes tokens where a file has none that the ledger knows."""
     config.hub.folder.mkdir(mode=0o700, parents=True, exist_ok=True)
     database = Database(config.hub.folder / 'ledger.sqlite')
     database.open()
     try:
         tokens = Tokens(database)
-        if not folder.token.exists():
+        if not _is_valid(tokens, folder.token):
             _write(folder.token, tokens.create('admin', Right.ADMIN) + '\n')
-        if not folder.runner_token.exists():
+        if not _is_valid(tokens, folder.runner_token):
             made = tokens.create('runner', Right.RUNNER, prefix='up', labels=tuple(labels.split(',')))
             _write(folder.runner_token, made + '\n')
     finally:
         database.close()
+
+
+def _is_valid(tokens: Tokens, path: pathlib.Path) -> bool:
+    return path.exists() and tokens.verify(path.read_text(encoding='utf-8').strip()) is not None
