@@ -14,6 +14,7 @@ _ESCAPES = (('%0D', '\r'), ('%0A', '\n'), ('%3A', ':'), ('%2C', ','), ('%25', '%
 @dataclasses.dataclass(frozen=True)
 class Line:
     """A line of a step: its number in the step from 1, its time, and what it is."""
+
     number: int
     at: str
     kind: str  # plain, group, endgroup, error, warning, notice, debug, command
@@ -26,6 +27,7 @@ class Line:
 @dataclasses.dataclass
 class Group:
     """Lines that fold below the line that names them; the outermost has none."""
+
     head: Line | None
     lines: list[Line | Group]
 

@@ -4,8 +4,10 @@ from __future__ import annotations
 import dataclasses
 from collections.abc import Mapping, Sequence
 
-WIDTH, ROW, HEAD, PAD = 232, 26, 34, 8  # of a node: its width, the height of a leg and of its head, and the space inside
-GAP_ACROSS, GAP_DOWN, MARGIN = 64, 20, 6
+ROW, HEAD, PAD = 26, 34, 8  # of a node: the height of a leg and of its head, and the space inside
+WIDTHS = {1: (300, 0), 2: (260, 90), 3: (250, 70)}  # of a node and of the gap to the next, by the number of columns
+WIDTH, GAP = 200, 44  # the same for more columns
+GAP_DOWN, MARGIN = 20, 6
 MOST_LEGS = 10  # legs of a job that are drawn; the others are counted
 LANE, STEP = 14, 38  # of the narrow graph: between two lanes, and between two rows
 
@@ -13,6 +15,7 @@ LANE, STEP = 14, 38  # of the narrow graph: between two lanes, and between two r
 @dataclasses.dataclass(frozen=True)
 class Leg:
     """A leg of a job, or the job itself, as it is drawn."""
+
     name: str
     state: str
     link: str
@@ -22,6 +25,7 @@ class Leg:
 @dataclasses.dataclass(frozen=True)
 class Node:
     """A job: its legs, and the jobs it needs."""
+
     id: str
     name: str
     state: str
@@ -33,9 +37,11 @@ class Node:
 @dataclasses.dataclass(frozen=True)
 class Place:
     """Where a node stands, and which of its legs are drawn."""
+
     node: Node
     x: int
     y: int
+    width: int
     height: int
     legs: tuple[Leg, ...]
     more: int
@@ -44,6 +50,7 @@ class Place:
 @dataclasses.dataclass(frozen=True)
 class Edge:
     """A line from a job to one that needs it."""
+
     path: str
     source: str
     target: str
@@ -53,6 +60,7 @@ class Edge:
 @dataclasses.dataclass(frozen=True)
 class Drawing:
     """A graph that is laid out."""
+
     width: int
     height: int
     places: tuple[Place, ...]
@@ -102,17 +110,18 @@ def drawing(nodes: Sequence[Node]) -> Drawing:
     places: dict[str, Place] = {}
     bottom = 0
     columns = _columns(nodes)
+    wide, gap = WIDTHS.get(len(columns), (WIDTH, GAP))
     for across, column in enumerate(columns):
-        x, y = MARGIN + across * (WIDTH + GAP_ACROSS), MARGIN
+        x, y = MARGIN + across * (wide + gap), MARGIN
         for node in column:
             legs = _chosen(node.legs) if node.is_matrix else ()
             more = len(node.legs) - len(legs) if node.is_matrix else 0
-            places[node.id] = Place(node, x, y, _height(node, len(legs), more), legs, more)
+            places[node.id] = Place(node, x, y, wide, _height(node, len(legs), more), legs, more)
             y += places[node.id].height + GAP_DOWN
         bottom = max(bottom, y - GAP_DOWN)
-    edges = tuple(_edge(places[need], place) for place in places.values()
+    edges = tuple(_edge(places[need], place, gap) for place in places.values()
                   for need in direct(place.node, nodes) if need in places)
-    width = MARGIN * 2 + len(columns) * WIDTH + (len(columns) - 1) * GAP_ACROSS
+    width = MARGIN * 2 + len(columns) * wide + (len(columns) - 1) * gap
     return Drawing(width, bottom + MARGIN, tuple(places.values()), edges)
 
 
@@ -138,10 +147,10 @@ def direct(node: Node, nodes: Sequence[Node]) -> tuple[str, ...]:
     return tuple(need for need in dict.fromkeys(node.needs) if need not in farther)
 
 
-def _edge(source: Place, target: Place) -> Edge:
-    x1, y1 = source.x + WIDTH, source.y + HEAD // 2 + 2
+def _edge(source: Place, target: Place, gap: int) -> Edge:
+    x1, y1 = source.x + source.width, source.y + HEAD // 2 + 2
     x2, y2 = target.x, target.y + HEAD // 2 + 2
-    bend = x2 - GAP_ACROSS // 2
+    bend = x2 - gap // 2
     if y1 == y2:
         path = f'M{x1} {y1}H{x2}'
     else:
@@ -157,7 +166,7 @@ def narrow(nodes: Sequence[Node]) -> Drawing:
     needed = {need for node in nodes for need in direct(node, nodes)}
     lanes = {node.id: place for place, node in enumerate(node for node in order if node.id in needed)}
     left = MARGIN + LANE * min(len(lanes), 8) + 6
-    places = {node.id: Place(node, left, MARGIN + place * STEP, STEP - 8, (), len(node.legs) if node.is_matrix else 0)
+    places = {node.id: Place(node, left, MARGIN + place * STEP, 334 - left, STEP - 8, (), len(node.legs) if node.is_matrix else 0)
               for place, node in enumerate(order)}
     edges = []
     for node in order:

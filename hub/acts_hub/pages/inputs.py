@@ -11,6 +11,7 @@ KINDS = ('string', 'boolean', 'choice', 'number', 'environment')
 @dataclasses.dataclass(frozen=True)
 class Input:
     """An input as a workflow declares it."""
+
     name: str
     kind: str
     label: str

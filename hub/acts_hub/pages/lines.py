@@ -37,9 +37,9 @@ class LogFile:
         self._seen = self._seen_lines = 0
 
     def size(self) -> int:
-        """How many bytes it has."""
+        """How many bytes of it can be read."""
         key = self.key
-        return self.store.size(key.run, key.attempt, key.job, key.leg, key.lease)
+        return self.store.length(key.run, key.attempt, key.job, key.leg, key.lease)
 
     def read(self, offset: int, limit: int) -> bytes:
         """A piece of it."""

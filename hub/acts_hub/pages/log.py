@@ -10,6 +10,7 @@ from typing import Any
 from aiohttp import web
 from markupsafe import Markup
 
+from ..ledger.logs import LogError
 from ..rest.numbers import JobNumber
 from ..times import now
 from . import folding, states, steps
@@ -94,7 +95,10 @@ async def leg_shown(site: Site, request: web.Request) -> tuple[Shown, LegRow]:
 
 def file_of(site: Site, found: Shown, row: LegRow) -> LogFile | None:
     """The log of a leg; None if it has none."""
-    return site.logs.newest(found.run.row.run, found.attempt, row.job.id, row.index)
+    try:
+        return site.logs.newest(found.run.row.run, found.attempt, row.job.id, row.index)
+    except LogError:
+        return None
 
 
 def steps_in(site: Site, file: LogFile, is_over: bool) -> list[steps.Step]:

@@ -2,7 +2,7 @@
 from __future__ import annotations
 
 import asyncio
-from dataclasses import dataclass
+from dataclasses import dataclass, replace
 
 from aiohttp import web
 
@@ -71,7 +71,8 @@ async def waits_of(site: Site, found: Shown) -> list[Waits]:
         return [Waits('This run', why)] if why else []
     waiting = [Waits(one.name, one.why) for one in found.legs if one.why is not None and one.leg is not None]
     if len({one.why for one in waiting}) == 1 and len(waiting) > 1:
-        return [Waits(f'{len(waiting)} legs', waiting[0].why)]
+        why = waiting[0].why
+        return [Waits(f'{len(waiting)} legs', replace(why, words=why.words.replace('waits', 'wait', 1)))]
     return waiting[:MOST_WAITS]
 
 

@@ -9,6 +9,7 @@ from ..service.models import Job, Row
 @dataclasses.dataclass(frozen=True)
 class Sign:
     """A state on a page: its class (colour and shape) and its words."""
+
     kind: str
     words: str
 

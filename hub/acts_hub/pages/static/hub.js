@@ -190,7 +190,7 @@ function prepare(step) {
 
 // ---- begin
 
-document.documentElement.classList.add('scripted');
+if (innerWidth > 900) for (const fold of document.querySelectorAll('.side-fold')) fold.open = true;
 for (const box of document.querySelectorAll('[data-toggles]')) {
   const set = () => document.getElementById(box.dataset.for).classList.toggle(box.dataset.toggles, box.checked);
   box.addEventListener('change', set);
