@@ -1,7 +1,6 @@
 """Checks and statuses of commits."""
 from __future__ import annotations
 
-import re
 from collections.abc import Sequence
 from typing import Any
 
@@ -9,14 +8,12 @@ from aiohttp import web
 
 from ..service.mirror import Run
 from .api import Api
+from .commits import commit_of, latest_at
 from .conclusions import combined_state
 from .errors import Fault
 from .legs import JobView
 from .pages import Page
 
-SHA = re.compile(r'[0-9a-f]{40}|[0-9a-f]{64}')
-MAX_REF = 1024
-MAX_RUNS = 200
 NO_COMMIT = 'No run of this commit is known.'
 
 
@@ -38,20 +35,11 @@ class CheckRequests:
 
     def runs_at(self, repository: str, ref: str) -> tuple[str, list[Run]]:
         """A commit, and the latest run of each workflow and event at it; of a branch or tag at the commit of its latest run."""
-        if len(ref) > MAX_REF:
-            raise Fault(404)
-        ref = ref.removeprefix('refs/').removeprefix('heads/').removeprefix('tags/')
-        sha: str | None = ref
-        if not SHA.fullmatch(ref):
-            on_branch = self.hub.mirror.select(repository, branch=ref)
-            sha = on_branch[-1].facts.sha if on_branch else None
-        runs = self.hub.mirror.select(repository, sha=sha) if sha else []
+        sha = commit_of(self.hub.mirror, repository, ref)
+        runs = latest_at(self.hub.mirror, repository, sha) if sha else []
         if not sha or not runs:
             raise Fault(404, NO_COMMIT)
-        found: dict[tuple[str, str], Run] = {}
-        for run in reversed(list(runs)):
-            found.setdefault((run.row.path, run.row.event), run)
-        return sha, list(found.values())[:MAX_RUNS]
+        return sha, runs
 
     async def checks(self, request: web.Request) -> web.Response:
         """The check runs of a commit."""
