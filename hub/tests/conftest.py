@@ -7,6 +7,7 @@ from typing import Any
 
 import pytest
 from harness import HubProcess, Service
+from rest_stand import Stand, standing
 
 
 @pytest.fixture
@@ -52,3 +53,18 @@ def shared(tmp_path_factory: pytest.TempPathFactory) -> Iterator[HubProcess]:
     finally:
         hub.kill()
         service.kill()
+
+
+@pytest.fixture(scope='session')
+def standing_hub(tmp_path_factory: pytest.TempPathFactory) -> Iterator[Stand]:
+    """A hub in this process whose runs are filled in by hand, which the tests share."""
+    with standing(tmp_path_factory.mktemp('stand')) as made:
+        yield made
+
+
+@pytest.fixture
+def stand(standing_hub: Stand) -> Iterator[Stand]:
+    """The same without any runs."""
+    standing_hub.clear()
+    yield standing_hub
+    standing_hub.clear()
