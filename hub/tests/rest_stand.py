@@ -192,6 +192,7 @@ def standing(folder: pathlib.Path) -> Iterator[Stand]:
     config = Config(hub=HubConfig(url='https://hub.example:8443', folder=folder), repositories=(RepositoryConfig('octo/empty'),))
     hub, mirror, hooks = Hub(config), MirrorByHand(), HooksByHand()
     hub.mirror, hub.hooks, hub.view = mirror, hooks, ViewByHand()  # type: ignore[assignment]
+    hub.artifacts, hub.caches = ArtifactsByHand(folder), CachesByHand()  # type: ignore[assignment]
     hub.database.open()
     create = hub.access.tokens.create
     tokens = {'read': create('reader', Right.READ), 'write': create('mona', Right.WRITE), 'admin': create('boss', Right.ADMIN),
@@ -232,7 +233,7 @@ class ArtifactsByHand:
     def __init__(self, folder: pathlib.Path) -> None:
         self.folder, self.kept = folder, dict[int, Artifact]()
 
-    def add(self, run: int, name: str, data: bytes, expires_at: int = 1 << 50) -> int:
+    def add(self, run: int, name: str, data: bytes, expires_at: int = 4_000_000_000_000) -> int:
         """Keeps one."""
         number = len(self.kept) + 1
         (self.folder / f'{number}.zip').write_bytes(data)
