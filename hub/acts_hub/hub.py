@@ -34,13 +34,14 @@ class Hub:
         self.view = ViewPort(config.service.view)
         self.hooks = HookPort(config.service.hook)
         self.runner_port = RunnerPort(config.service.runner)
-        self.mirror = Mirror(self.view, self.hooks)
+        self.mirror = Mirror(self.view, self.hooks, self.database)
         self.logs = LogStore(self.folder / 'logs', kept.log_bytes_a_leg)
         self.artifacts = ArtifactStore(self.folder / 'artifacts', self.database, kept.artifact_bytes, kept.artifacts_bytes_a_run, kept.artifacts_days)
         self.caches = CacheStore(self.folder / 'caches', self.database, kept.caches_bytes, kept.cache_days)
         self.refused = RefusedStore(self.database)
         self.notes = NoteStore(self.database)
         self.access = Access(config, self.database)
+        self.mirror.dropped += [self.logs.drop, self.artifacts.drop, self.notes.drop]
         self.events: Part | None = events.make(self)
         self.gateway: Part | None = gateway.make(self)
         self._tasks: list[asyncio.Task[None]] = []

@@ -8,11 +8,11 @@ STEPS = (
         run integer primary key, repository text not null, delivery text not null, digest text, facts text, created_at integer not null, created_source text not null);
     create table attempts (
         run integer not null, attempt integer not null, started_at integer, updated_at integer, completed_at integer, status text, conclusion text,
-        triggering_actor text, whole text, primary key (run, attempt)) without rowid;
+        triggering_actor text, skipped integer, whole text, primary key (run, attempt)) without rowid;
     create table legs (
         run integer not null, attempt integer not null, job text not null, leg integer not null, lease integer, runner text, state text,
         started_at integer, ended_at integer, combination text, labels text, primary key (run, attempt, job, leg)) without rowid;
-    create index legs_open on legs (lease) where ended_at is null and lease is not null;
+    create index legs_lease on legs (lease) where lease is not null;
     create table runners (name text primary key, labels text not null, seen_at integer not null) without rowid;
     create table refused (
         id integer primary key autoincrement, at integer not null, repository text not null collate nocase, event text not null, delivery text not null,
