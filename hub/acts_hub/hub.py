@@ -8,6 +8,7 @@ import secrets
 from . import events, gateway
 from .access.guard import Access
 from .config import Config
+from .events.intake import Events
 from .ledger.artifacts import ArtifactStore
 from .ledger.caches import CacheStore
 from .ledger.database import Database
@@ -42,7 +43,7 @@ class Hub:
         self.notes = NoteStore(self.database)
         self.access = Access(config, self.database)
         self.mirror.dropped += [self.logs.drop, self.artifacts.drop, self.notes.drop]
-        self.events: Part | None = events.make(self)
+        self.events: Events = events.make(self)
         self.gateway: Part | None = gateway.make(self)
         self._tasks: list[asyncio.Task[None]] = []
 

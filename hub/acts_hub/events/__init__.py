@@ -5,16 +5,17 @@ from typing import TYPE_CHECKING
 
 from aiohttp import web
 
+from .intake import Events
+
 if TYPE_CHECKING:
     from ..hub import Hub
-    from ..part import Part
 
 
 def routes(hub: Hub) -> list[web.RouteDef]:
     """The routes of this part."""
-    return []
+    return [web.post('/webhooks/github', hub.events.receiver.post)]
 
 
-def make(hub: Hub) -> Part | None:
-    """This part, with `start` and `stop`; None while there is nothing to start."""
-    return None
+def make(hub: Hub) -> Events:
+    """This part."""
+    return Events(hub)

@@ -1,4 +1,4 @@
-"""Puts local reusable workflows in place: the jobs of `uses: ./.github/workflows/NAME` become jobs of the workflow that calls it."""
+"""Puts local reusable workflows in place: their jobs become jobs of the workflow that calls them."""
 from __future__ import annotations
 
 import json

@@ -1,4 +1,4 @@
-"""What the inputs of a called workflow are, also where the run alone knows them, or each combination gives another value."""
+"""What the inputs of a called workflow are, also where only the run or a combination knows them."""
 from __future__ import annotations
 
 import json
@@ -22,7 +22,7 @@ Inputs = dict[str, Value]
 
 
 def passed_on(text: str, job: Tree, place: str) -> Unknown:
-    """The expression that the jobs of a called workflow get for a value that only the run knows, or each combination gives."""
+    """The expression that the jobs of a called workflow get for what only the run or a combination knows."""
     expression = whole(text)
     if expression is not None and 'strategy' in job and MATRIX.fullmatch(expression):
         return Unknown('?', expression.strip())

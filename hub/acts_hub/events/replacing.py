@@ -1,4 +1,4 @@
-"""Texts of a called workflow in the one that calls it: its inputs are constants, its secrets the caller's, its jobs have other ids."""
+"""Texts of a called workflow in the one that calls it: inputs become constants, and jobs get other ids."""
 from __future__ import annotations
 
 import json
@@ -44,9 +44,12 @@ class Replaced:
         if 'needs' in job:
             made['needs'] = [self.ids.get(need, need) for need in as_list(job['needs'])]
         if isinstance(made.get('steps'), list):
-            made['steps'] = [{**step, 'if': self.condition(step['if'])} if isinstance(step, dict) and 'if' in step else step
-                             for step in made['steps']]
+            made['steps'] = [self.step(step) for step in made['steps']]
         return made
+
+    def step(self, step: Any) -> Any:
+        """A step, whose `if` may be an expression without braces."""
+        return {**step, 'if': self.condition(step['if'])} if isinstance(step, dict) and 'if' in step else step
 
     def condition(self, text: Any) -> Any:
         """The `if` of a step, which needs no braces."""

@@ -80,8 +80,9 @@ class Limits:
 
 
 class Folding:
-    """Replaces with constants what the contexts give. `notes` lists what the service does not take. `environments` are
-    those that jobs may name; `read_file` gives the text of a file of the repository. What must not be sent is a `Fault`."""
+    """Replaces with constants what the contexts give. `notes` lists what the service does not take. `environments`
+    are those that jobs may name; `read_file` gives the text of a file of the repository. What must not be sent is a
+    `Fault`."""
 
     def __init__(self, contexts: Mapping[str, Known], environments: Environments | None = None,
                  read_file: Callable[[str], str | None] | None = None, depth: int = 0,

@@ -1,0 +1,188 @@
+"""Follows the runs: tells others how they are, and starts workflows that ask for `workflow_run`."""
+from __future__ import annotations
+
+import asyncio
+import hashlib
+import json
+from typing import TYPE_CHECKING, Any
+
+from acts_workflow import reading
+from acts_workflow.filters import triggers_of
+from acts_workflow.values import Fault
+
+from ..log import say
+from ..service.http import Away
+from ..service.mirror import Run
+from ..times import iso, iso_or_none
+from .deliveries import Delivery
+from .mirrors import GitFault, Mirror, NoCommit, TooSlow
+from .occasions import at, default_ref
+from .settings import Repository
+from .spool import name_of
+from .statuses import is_skipped, row_of, status_of
+
+if TYPE_CHECKING:
+    from ..hub import Hub
+    from .intake import Events
+
+KIND, BASE = 'told', 'base'
+ACTIONS = {'queued': 'requested', 'pending': 'requested', 'in_progress': 'in_progress', 'completed': 'completed'}
+ORDER = {'requested': 1, 'in_progress': 2, 'completed': 3}
+DEEPEST = 3  # workflows that `workflow_run` starts one after the other: GitHub's limit
+
+
+class Follower:
+    """Tells of each run once for each of its attempts and states, also over restarts: at least once."""
+
+    def __init__(self, events: Events) -> None:
+        self.events: Events = events
+        self.hub: Hub = events.hub
+        self.listeners: dict[str, tuple[str, bool]] = {}  # the commit of a default branch, and whether it asks for runs
+
+    async def follow(self) -> None:
+        """Follows without end."""
+        async with self.hub.mirror.watch() as watcher:
+            while not self.hub.mirror.is_whole:
+                await asyncio.wait({asyncio.ensure_future(watcher.next())}, timeout=0.5)
+            await self.take_up()
+            while True:
+                for number in sorted(await watcher.next()):
+                    await self.tell(number)
+
+    async def take_up(self) -> None:
+        """At the first start what is there counts as told; later what was missed is told."""
+        base = self.hub.notes.get(0, 0, KIND, BASE)
+        newest = max(self.hub.mirror.runs, default=0)
+        run = self.hub.mirror.runs.get(base['run']) if base and base['run'] else None
+        if base is None or base['run'] and (run is None or run.row.delivery != base['delivery']):
+            if base is not None:
+                say('events: this is another store, or an older copy: what has completed there is not told of')
+            self.note_base(newest)
+            for number, run in self.hub.mirror.runs.items():
+                if run.row.status != 'completed' or run.row.attempt > 1:
+                    self.note(run)
+            return
+        for number in sorted(self.hub.mirror.runs):
+            await self.tell(number)
+
+    def note_base(self, newest: int) -> None:
+        """Notes the newest run that was told of, by which another store is known."""
+        run = self.hub.mirror.runs.get(newest)
+        self.hub.notes.set(0, 0, KIND, BASE, {'run': newest, 'delivery': run.row.delivery if run else ''})
+
+    def note(self, run: Run) -> None:
+        """Notes that the present state of a run was told."""
+        self.hub.notes.set(run.id, run.row.attempt, KIND, 'state', ACTIONS.get(run.row.status, 'requested'))
+
+    def told(self, run: Run) -> str | None:
+        """The state of a run's attempt that was told."""
+        found = self.hub.notes.get(run.id, run.row.attempt, KIND, 'state')
+        base = self.hub.notes.get(0, 0, KIND, BASE) or {'run': 0}
+        if found is None and run.id <= base['run'] and run.row.attempt == 1:
+            return 'completed'
+        return str(found) if found else None
+
+    async def tell(self, number: int) -> None:
+        """Tells of a run, if it is not as it was told."""
+        run = self.hub.mirror.runs.get(number)
+        if run is None:
+            return
+        told, action = self.told(run), ACTIONS.get(run.row.status, 'requested')
+        if told is not None and ORDER[told] >= ORDER[action]:
+            return
+        try:
+            await self.tell_status(run, told, action)
+            await self.start_listeners(run, told, action)
+        except (Away, OSError) as fault:
+            say(f'events: run {number} is told later: {fault}')
+            return
+        self.note(run)
+        base = self.hub.notes.get(0, 0, KIND, BASE) or {'run': 0}
+        if number > base['run'] and all(self.told(self.hub.mirror.runs[each]) for each in range(base['run'] + 1, number)
+                                        if each in self.hub.mirror.runs):
+            self.note_base(number)
+
+    async def tell_status(self, run: Run, told: str | None, action: str) -> None:
+        """Sets the status of the commit when an attempt begins and when it ends, and posts a notice of its end."""
+        settings = self.events.settings
+        if not settings.statuses and not settings.post or told is not None and action != 'completed':
+            return
+        conclusion = run.row.conclusion
+        if conclusion == 'success' and is_skipped(await self.hub.mirror.whole(run.id, run.row.attempt)):
+            conclusion = 'skipped'
+        await self.events.statuses.add(status_of(self.hub.config.url, run, conclusion))
+        if action == 'completed':
+            id = f'{run.row.delivery}-{run.row.attempt}'
+            await self.events.statuses.add_notice('run_completed', id, {'run': row_of(run, conclusion)})
+
+    async def start_listeners(self, run: Run, told: str | None, action: str) -> None:
+        """Keeps an event `workflow_run` for each state that the run has come to."""
+        repository = self.events.settings.repository(run.row.repository)
+        mirror = self.events.handler.mirror(repository) if repository else None
+        if repository is None or mirror is None or not await self.is_listened(repository, mirror):
+            return
+        if await self.depth(run) >= DEEPEST:
+            return
+        for each, order in ORDER.items():
+            if (ORDER[told] if told else 0) < order <= ORDER[action] and (each != 'in_progress' or action == each):
+                await self.events.keep(self.delivery(run, each, repository))
+
+    async def is_listened(self, repository: Repository, mirror: Mirror) -> bool:
+        """Whether a workflow of the default branch asks for runs."""
+        try:
+            commit = await mirror.commit(await default_ref(mirror, self.hub.config.default_branch(repository.name)))
+            if self.listeners.get(repository.name, ('',))[0] != commit:
+                texts = await mirror.texts(commit)
+                self.listeners[repository.name] = commit, await asyncio.to_thread(asks_for_runs, texts)
+        except (NoCommit, GitFault, TooSlow):
+            return False
+        return self.listeners[repository.name][1]
+
+    async def depth(self, run: Run) -> int:
+        """How many workflows started one another by `workflow_run`, up to this one; too many if that is not known."""
+        depth, number = 0, run.id
+        while depth < DEEPEST:
+            known = self.hub.mirror.runs.get(number)
+            if known is None:
+                return DEEPEST
+            if known.row.event != 'workflow_run':
+                return depth
+            body = json.loads(await self.hub.mirror.body(number) or b'null')
+            before = at(body, 'github', 'event', 'workflow_run', 'id')
+            if not isinstance(before, int) or before >= number:
+                return DEEPEST
+            depth, number = depth + 1, before
+        return depth
+
+    def delivery(self, run: Run, action: str, repository: Repository) -> Delivery:
+        """The event of a run's state. The same state of the same run has the same key."""
+        key = hashlib.sha256(f'workflow_run {run.row.delivery} {run.row.attempt} {action}'.encode()).hexdigest()
+        payload = {'action': action, 'workflow_run': self.object_of(run, action),
+                   'workflow': {'name': run.row.workflow or run.row.path, 'path': run.row.path},
+                   'repository': self.events.facts.of(repository.name), 'sender': {'login': run.facts.actor or ''}}
+        return Delivery(name_of(key[:36]), 'workflow_run', key[:36], key, payload)
+
+    def object_of(self, run: Run, action: str) -> dict[str, Any]:
+        """A run as the payload of `workflow_run` has it."""
+        row, facts = run.row, run.facts
+        return {
+            'id': row.run, 'name': row.workflow or row.path, 'path': row.path, 'event': row.event, 'run_number': row.number,
+            'run_attempt': row.attempt, 'status': 'completed' if action == 'completed' else row.status,
+            'conclusion': row.conclusion if action == 'completed' else None, 'head_branch': facts.branch or '', 'head_sha': facts.sha,
+            'display_title': facts.run_name or facts.title, 'html_url': f'{self.hub.config.url}/{row.repository}/actions/runs/{row.run}',
+            'created_at': iso(run.created_at), 'run_started_at': iso(run.started_at), 'updated_at': iso_or_none(run.updated_at),
+            'actor': {'login': facts.actor or ''}, 'triggering_actor': {'login': run.triggering_actor or facts.actor or ''},
+            'repository': {'full_name': row.repository},
+            'head_repository': {'full_name': facts.head_repository or row.repository},
+            'pull_requests': [{'number': facts.pull_number}] if facts.pull_number else []}
+
+
+def asks_for_runs(texts: dict[str, str]) -> bool:
+    """Whether one of the workflows asks for `workflow_run`."""
+    for text in texts.values():
+        try:
+            if 'workflow_run' in text and 'workflow_run' in triggers_of(reading.read(text).get('on')):
+                return True
+        except Fault:
+            continue
+    return False
