@@ -35,7 +35,12 @@ class Refused(Exception):
 def answer(status: int, lines: list[str]) -> web.Response:
     """An answer of lines, which GitHub shows with the delivery."""
     headers = {'Retry-After': '10'} if status == 503 else {}
-    return web.Response(status=status, text=''.join(line + '\n' for line in lines), headers=headers)
+    return web.Response(status=status, text=''.join(shown(line) + '\n' for line in lines), headers=headers)
+
+
+def shown(line: str) -> str:
+    """A line with escapes in place of what is not printed."""
+    return ''.join(char if char.isprintable() else char.encode('unicode_escape', 'replace').decode() for char in line)
 
 
 class Receiver:
