@@ -52,6 +52,7 @@ def run_with_hub(options: Options) -> None:
         runner.run()
     finally:
         sender.finish()
+        hub.close()
 
 
 def tell_of(options: Options) -> Callable[[str], None]:

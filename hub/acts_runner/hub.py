@@ -344,6 +344,10 @@ class HubStorage:
             made.extractall(folder)
         os.remove(archive)
 
+    def close(self) -> None:
+        """Closes connections."""
+        self.hub.close()
+
     # Caches. What goes wrong here is as if there were none.
 
     def restore(self, keys: list[str], version: str, path: str) -> str | None:

@@ -95,7 +95,6 @@ class Job:
         self.github = self.context_github()
         is_fork = is_of_a_fork(self.github, self.body['repo'])
         self.secrets = {} if is_fork else secrets_in(self.options.secrets, environment_of(self.job))
-        self.environment_is_free = bool(self.facts.get('environment_is_free'))
         self.log = self.make_log()
         self.storage, self.caches = self.stores()
         self.needs = self.needs_of(self.facts.get('results') or {})
@@ -580,6 +579,8 @@ def run(order: dict[str, Any], asked: Sequence[float]) -> str:
         job.log.write(f'the runner fails: {fault!r}')
         raise
     finally:
+        if job.storage:
+            job.storage.close()
         if job.container:
             job.container.empty(job.workspace)
         container.remove_left()

@@ -95,7 +95,9 @@ class Plan:
     def of_environment(self, environment: Any, place: str) -> None:
         """The environment of a job, which the operator or an approval has to free."""
         name = self.value(place, environment.get('name') if isinstance(environment, dict) else environment)
-        if environment and not self.job.environment_is_free and name not in self.job.options.environment:
+        if not environment or self.job.facts.get('is_approved') or name in self.job.options.environment:
+            return
+        if not isinstance(name, str) or name.lower() not in (self.job.facts.get('free_environments') or ()):
             self.fault(place, f'nobody has said by --environment that {name} is free of approvals')
 
     def of_containers(self, job: Mapping[str, Any], place: str) -> None:

@@ -49,6 +49,13 @@ class Sender(threading.Thread):
         self.join(SECONDS_AT_END)
 
     def run(self) -> None:
+        """Sends till the runner ends."""
+        try:
+            self.look()
+        finally:
+            self.hub.close()
+
+    def look(self) -> None:
         """Looks again and again."""
         pause, late = PAUSE, float('inf')
         while True:

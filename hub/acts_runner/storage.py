@@ -34,6 +34,9 @@ class Storage(Protocol):
     def download(self, name: str, folder: str) -> None:
         """Puts the files of an artifact into a folder."""
 
+    def close(self) -> None:
+        """Closes what is open."""
+
 
 @dataclass(frozen=True)
 class FolderStorage:
@@ -102,3 +105,6 @@ class FolderStorage:
     def download(self, name: str, folder: str) -> None:
         """Puts the files of an artifact into a folder."""
         shutil.copytree(os.path.join(self.root, name), folder, dirs_exist_ok=True)
+
+    def close(self) -> None:
+        """Nothing is open."""

@@ -514,7 +514,8 @@ def test_old_logs_are_removed(case: Case) -> None:
         case.post('true')
     case.start('--logs-kept', '2')
     until(case.has_ended)
-    assert sorted(os.listdir(os.path.join(case.home(), 'logs'))) == ['run-3-build-0-lease-3.log', 'run-4-build-0-lease-4.log']
+    names = sorted(os.listdir(os.path.join(case.home(), 'logs')))
+    assert names == [f'run-{run}-build-0-lease-{run}.{ending}' for run in (3, 4) for ending in ('log', 'marks')], names
 
 
 def test_long_log_is_cut(case: Case) -> None:

@@ -249,6 +249,13 @@ class LogStore:
             return []
         return sorted(int(match[1]) for match in map(pattern.fullmatch, names) if match)
 
+    def forget(self, run: int, attempt: int, job: str, leg: int, lease: int) -> None:
+        """Removes the log of a lease that stands for something else by now, as after a restore of the service's file."""
+        path = self._path(run, attempt, job, leg, lease)
+        path.unlink(missing_ok=True)
+        path.with_suffix('.steps').unlink(missing_ok=True)
+        self._cut.pop(path, None)
+
     def drop(self, run: int) -> None:
         """Removes all of a run."""
         folder = self._of_run(run)
