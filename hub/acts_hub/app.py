@@ -1,12 +1,14 @@
 """The web application: routes of all parts, and what holds for each request."""
 from __future__ import annotations
 
+import traceback
 from typing import TYPE_CHECKING
 
 from aiohttp import web
 
 from . import events, gateway, graphql, metrics, pages, rest
-from .access.middleware import HEADERS, identify
+from .access.middleware import identify, secure
+from .log import say
 from .service.http import Away
 
 if TYPE_CHECKING:
@@ -28,26 +30,35 @@ async def faults(request: web.Request, handler: Handler) -> web.StreamResponse:
         return fault_answer(request, fault.status, fault.text or fault.reason, dict(fault.headers))
     except Away as fault:
         return fault_answer(request, 503, str(fault), {'Retry-After': '2'})
+    except ConnectionError:
+        raise
+    except Exception as fault:
+        say(f'{request.method} {request.path} fails: {fault!r} {traceback.format_exc(limit=-3)}')
+        return fault_answer(request, 500, 'The hub has a fault. Its log says more.', {})
 
 
 def fault_answer(request: web.Request, status: int, words: str, headers: dict[str, str]) -> web.Response:
-    """JSON below /api, else text."""
+    """JSON below /api, a page for a browser, else text."""
     kept = {name: value for name, value in headers.items() if name.lower() not in ('content-type', 'content-length')}
     if request.path.startswith('/api'):
         return web.json_response({'message': words, 'documentation_url': DOCS}, status=status, headers=kept)
+    page = request.app['hub'].fault_page
+    if page is not None and request.method in ('GET', 'POST') and 'text/html' in request.headers.get('Accept', '') and not request.path.startswith('/runner/'):
+        made: web.Response = page(request, status, words)
+        made.headers.update(kept)
+        return made
     return web.Response(text=words + '\n', status=status, headers=kept)
 
 
-async def secure(request: web.Request, response: web.StreamResponse) -> None:
-    """Adds the security headers."""
-    for name, value in HEADERS.items():
-        response.headers.setdefault(name, value)
-
-
 async def healthz(request: web.Request) -> web.Response:
-    """Whether the hub is well."""
+    """Whether the hub is well: `ok` on the first line; the others say what it goes on without."""
     hub: Hub = request.app['hub']
-    return web.Response(text='ok\n' if hub.database.fault is None else f'ok, but {hub.database.fault}\n')
+    lines = ['ok', *(words for words in (hub.database.fault, hub.mirror.fault) if words is not None)]
+    if hub.database.dropped:
+        lines.append(f'{hub.database.dropped} writes to the ledger were left out')
+    if not hub.mirror.is_whole:
+        lines.append('the runs are being listed')
+    return web.Response(text=''.join(f'{line}\n' for line in lines), headers={'Cache-Control': 'no-store'})
 
 
 def make_app(hub: Hub) -> web.Application:

@@ -4,6 +4,9 @@ from __future__ import annotations
 import asyncio
 import pathlib
 import secrets
+from collections.abc import Callable
+
+from aiohttp import web
 
 from . import events, gateway
 from .access.guard import Access
@@ -29,7 +32,7 @@ class Hub:
     def __init__(self, config: Config) -> None:
         self.config = config
         self.folder = pathlib.Path(config.hub.folder)
-        self.secret = secrets.token_bytes(32)
+        self.secret = secrets.token_bytes(32)               # of this life of the hub
         kept = config.retention
         self.database = Database(self.folder / 'ledger.sqlite')
         self.view = ViewPort(config.service.view)
@@ -43,6 +46,7 @@ class Hub:
         self.notes = NoteStore(self.database)
         self.access = Access(config, self.database)
         self.mirror.dropped += [self.logs.drop, self.artifacts.drop, self.notes.drop]
+        self.fault_page: Callable[[web.Request, int, str], web.Response] | None = None      # set by the pages
         self.events: Events = events.make(self)
         self.gateway: Part | None = gateway.make(self)
         self._tasks: list[asyncio.Task[None]] = []

@@ -340,7 +340,9 @@ class HubProcess:
         assert self.process is not None
         if not self.process.is_running():
             raise AssertionError(f'the hub has ended: {self.process.said()[-4000:]}')
-        return self.get('/healthz').status == 200
+        answer = self.get('/healthz')
+        has_service = self.service is not None and self.service.process is not None and self.service.process.is_running()
+        return answer.status == 200 and not (has_service and 'being listed' in answer.text)
 
     def stop(self) -> int:
         """SIGTERM; gives the status."""

@@ -69,7 +69,8 @@ def require(request: web.Request, right: Right, repository: str | None = None) -
     """Who asks, if they may: else 401 without a token, 404 for what they may not read, 403 for what they may not do."""
     found = identity_of(request)
     if found is None:
-        raise web.HTTPUnauthorized(text='Requires authentication', headers={'WWW-Authenticate': 'Basic realm="acts-hub"'})
+        words = 'Bad credentials' if 'Authorization' in request.headers else 'Requires authentication'
+        raise web.HTTPUnauthorized(text=words, headers={'WWW-Authenticate': 'Basic realm="acts-hub"'})
     if found.may(right, repository):
         return found
     if repository is not None and not matches(found.repositories, repository):

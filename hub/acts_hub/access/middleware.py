@@ -1,4 +1,4 @@
-"""What holds for each request: who asks, security headers, and how faults are answered."""
+"""What holds for each request: who asks, forms, and security headers."""
 from __future__ import annotations
 
 from collections.abc import Awaitable, Callable
@@ -16,10 +16,23 @@ HEADERS = {
     'Cross-Origin-Opener-Policy': 'same-origin',
     'Cross-Origin-Resource-Policy': 'same-origin',
 }
+TLS = {'Strict-Transport-Security': 'max-age=31536000'}
 
 
 @web.middleware
 async def identify(request: web.Request, handler: Handler) -> web.StreamResponse:
-    """Says whose request it is: `request['identity']` is an Identity or None."""
-    request['identity'] = request.app['hub'].access.identify(request)
+    """Says whose request it is: `request['identity']` is an Identity or None. A browser's request to act has to carry its form's token."""
+    access = request.app['hub'].access
+    request['identity'] = access.identify(request)
+    await access.check(request)
     return await handler(request)
+
+
+async def secure(request: web.Request, response: web.StreamResponse) -> None:
+    """Adds the security headers."""
+    for name, value in HEADERS.items():
+        response.headers.setdefault(name, value)
+    if request.app['hub'].config.is_secure:
+        response.headers.setdefault('Strict-Transport-Security', TLS['Strict-Transport-Security'])
+    if request.get('identity') is not None:
+        response.headers.setdefault('Cache-Control', 'private, no-cache')

@@ -14,6 +14,7 @@ from aiohttp import web
 
 from ..app import make_app
 from ..config import Config, ConfigError, address_of, read_config
+from ..connections import Connections, raise_limit
 from ..doors.exposure import check_exposure
 from ..hub import make_hub
 from ..log import say
@@ -56,8 +57,10 @@ async def serve(config: Config, context: ssl.SSLContext | None) -> None:
         asyncio.get_running_loop().add_signal_handler(number, ended.set)
     hub = make_hub(config)
     runner = web.AppRunner(make_app(hub), access_log=None, keepalive_timeout=75)
+    raise_limit()
     await runner.setup()
     await hub.start()
+    watch = asyncio.create_task(Connections(runner).watch())
     try:
         address = address_of(config.hub.listen)
         if isinstance(address, pathlib.Path):
@@ -70,6 +73,7 @@ async def serve(config: Config, context: ssl.SSLContext | None) -> None:
         print('ready', flush=True)
         await ended.wait()
     finally:
+        watch.cancel()
         await runner.cleanup()
         await hub.stop()
 

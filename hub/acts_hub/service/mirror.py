@@ -18,11 +18,11 @@ from .hooks import HookPort
 from .http import Away
 from .index import Index
 from .models import Json, Row, Runner, Whole
-from .runs import Run, Runs, Watcher, filled, values_of
+from .runs import Run, Runs, Watcher, filled, value_of, values_of
 from .view import ViewPort
 from .whole import rebuilt, whole_of
 
-__all__ = ['Mirror', 'Run', 'Runs', 'Watcher']
+__all__ = ['Mirror', 'Run', 'Runs', 'Watcher', 'value_of']
 MAX_BODIES = 64
 MAX_SNAPSHOTS = 2000
 

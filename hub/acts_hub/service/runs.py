@@ -84,6 +84,11 @@ def values_of(run: Run) -> dict[str, str | None]:
         'conclusion': row.conclusion, 'sha': facts.sha.lower() if facts.sha else None}
 
 
+def value_of(run: Run, name: str) -> str | None:
+    """The value of one of these names."""
+    return values_of(run)[name]
+
+
 def filled(row: Row, facts: Facts | None) -> tuple[Row, Facts]:
     """The row with what the facts know, and the facts with what the row knows, each where the other says nothing."""
     if facts is None:
