@@ -11,6 +11,6 @@ if TYPE_CHECKING:
 
 def routes(hub: Hub) -> list[web.RouteDef]:
     """The routes of this part."""
-    from . import actions, groups, live, log, queue, refused, run, runners, runs, site
+    from . import actions, groups, live, log, queue, refused, run, runners, runs, signin, site
     pages = site.Site(hub)
-    return [route for part in (site, live, queue, runners, groups, refused, actions, log, run, runs) for route in part.routes(pages)]
+    return [route for part in (site, signin, live, queue, runners, groups, refused, actions, log, run, runs) for route in part.routes(pages)]

@@ -6,6 +6,7 @@ from collections.abc import Awaitable, Callable
 from aiohttp import web
 
 from ..access.identity import Identity, Right, require
+from ..gateway.environments import Environments
 from ..service.hooks import Reply
 from ..service.http import Unsupported
 from ..service.mirror import Run
@@ -71,20 +72,23 @@ async def _again(site: Site, request: web.Request, name: str, command: Callable[
     before = run_of(site, request).row.attempt
 
     async def act(site: Site, run: Run, identity: Identity) -> Reply:
-        site.hub.mirror.note_actor(run.row.run, before + 1, identity.name)
-        return await command(run.row.run, before + 1)
+        await site.hub.mirror.keep(run.id)
+        reply = await command(run.id, before + 1)
+        if reply.ok:
+            site.hub.mirror.note_actor(run.id, before + 1, identity.name)
+        return reply
     return await acted(site, request, name, act, lambda run: run.row.attempt > before)
 
 
 async def approve(site: Site, request: web.Request) -> web.StreamResponse:
-    """Approves an environment for a run."""
+    """Approves the environments of a run's present attempt."""
     run = run_of(site, request)
     identity = require(request, Right.WRITE, run.row.repository)
-    sent = await site.check_form(request)
-    environment = str(sent.get('environment', ''))
-    if environment not in site.environments(run):
-        return site.fault(request, 422, 'This run does not wait for that environment.')
-    await site.approve(run, environment, identity)
+    await site.check_form(request)
+    whole = await site.hub.mirror.whole(run.id)
+    if site.gateway is None or whole is None or whole.row.attempt != run.row.attempt or not Environments.waiting(whole):
+        return site.fault(request, 422, 'This run has no job that waits for an approval.')
+    site.gateway.environments.approve(run.id, run.row.attempt, identity)
     raise web.HTTPSeeOther(f'{run_link(run)}?did=approve')
 
 

@@ -5,11 +5,11 @@ import bisect
 import itertools
 import re
 from collections.abc import Callable, Iterable, Mapping, Sequence
-from dataclasses import dataclass, replace
+from dataclasses import dataclass, field, replace
 from typing import Any
 from urllib.parse import urlencode
 
-from ..service.mirror import Run
+from ..service.mirror import Run, Runs
 from .names import title_of, workflow_of
 
 PAGE = 25
@@ -32,7 +32,7 @@ class Wanted:
     status: str = ''
     actor: str = ''
     words: tuple[str, ...] = ()
-    is_by_fields: bool = False
+    fields: Mapping[str, str] = field(default_factory=dict)  # those of the form alone, without those of the search
 
     @property
     def is_empty(self) -> bool:
@@ -41,8 +41,7 @@ class Wanted:
 
     def query(self, **more: object) -> str:
         """The address of a list with these filters, from `?` on; empty without any."""
-        fields = {name: getattr(self, name) for name in FIELDS} if self.is_by_fields else {}
-        given: dict[str, object] = {'q': self.q, **fields, **more}
+        given: dict[str, object] = {'q': self.q, **self.fields, **more}
         text = urlencode({name: value for name, value in given.items() if value})
         return f'?{text}' if text else ''
 
@@ -51,7 +50,7 @@ def wanted_of(query: Mapping[str, str]) -> Wanted:
     """The filters of an address. Those in the search are as good as those in fields."""
     q = query.get('q', '')[:MOST_TEXT].strip()
     fields: dict[str, Any] = {name: query.get(name, '')[:MOST_TEXT].strip() for name in FIELDS}
-    is_by_fields = any(fields.values())
+    of_form = {name: value for name, value in fields.items() if value}
     words = []
     for name, quoted, bare in itertools.islice(_TOKEN.findall(q), MOST_WORDS):
         value = quoted or bare
@@ -62,7 +61,7 @@ def wanted_of(query: Mapping[str, str]) -> Wanted:
             words.append(value.casefold())
     status = fields['status'].lower().replace(' ', '_')
     fields['status'] = _ALIASES.get(status, status)
-    return Wanted(q=q, **fields, words=tuple(words), is_by_fields=is_by_fields)
+    return Wanted(q=q, **fields, words=tuple(words), fields=of_form)
 
 
 def tests_of(wanted: Wanted, state_of: Callable[[Run], str]) -> list[Callable[[Run], bool]]:
@@ -107,12 +106,12 @@ class Page:
     newer: int | None
 
 
-def page_of(runs: Sequence[Run], tests: Sequence[Callable[[Run], bool]], before: int | None, after: int | None, size: int = PAGE) -> Page:
+def page_of(runs: Runs, tests: Sequence[Callable[[Run], bool]], before: int | None, after: int | None, size: int = PAGE) -> Page:
     """The newest runs that pass, those below the id `before`, or those above the id `after`. Runs come with ids that ascend."""
     def passes(run: Run) -> bool:
         return all(test(run) for test in tests)
 
-    ids = _Ids(runs)
+    ids = runs.ids
     if after is not None:
         first = bisect.bisect_right(ids, after)
         found = list(itertools.islice(filter(passes, itertools.islice(runs, first, None)), size + 1))
@@ -129,19 +128,6 @@ def page_of(runs: Sequence[Run], tests: Sequence[Callable[[Run], bool]], before:
 
 def _downwards(runs: Sequence[Run], last: int, first: int = 0) -> Iterable[Run]:
     return (runs[at] for at in range(last - 1, first - 1, -1))
-
-
-class _Ids(Sequence[int]):
-    """The ids of runs, without a list of them."""
-
-    def __init__(self, runs: Sequence[Run]) -> None:
-        self.runs = runs
-
-    def __len__(self) -> int:
-        return len(self.runs)
-
-    def __getitem__(self, at):  # type: ignore[no-untyped-def]
-        return self.runs[at].row.run
 
 
 def only_of(wanted: Wanted, path: str) -> Wanted:

@@ -19,7 +19,7 @@ from .lines import LogFile
 from .live import BEAT, Stream, stream_of
 from .site import HEADERS, Site, number_of
 from .waiting import Why
-from .whole import LegRow, Shown, buttons_of, crumbs_of, leg_of, nodes_of, shown
+from .whole import LegRow, Shown, awaited_jobs, buttons_of, crumbs_of, leg_of, nodes_of, shown
 
 PAUSE = 0.15  # seconds between two looks at a log that grows
 GRACE = 1.5  # seconds in which the last lines come after the end of the leg
@@ -128,7 +128,7 @@ async def log_page(site: Site, request: web.Request) -> web.StreamResponse:
     head = found.head
     return site.page(
         request, 'log.html', title=f'{row.name} · {head.title}', active='repositories', crumbs=[*crumbs_of(found), (row.name, '')], run=head,
-        can=buttons_of(site, request, found), approvals=[], nodes=nodes_of(found, now()), job_link=base, job=job, steps=read.steps, q=q, hits=read.hits,
+        can=buttons_of(site, request, found), approvals=awaited_jobs(site, found), nodes=nodes_of(found, now()), job_link=base, job=job, steps=read.steps, q=q, hits=read.hits,
         hits_left=read.has_more_hits, no_log=_no_log(row), is_log=not is_over, changes='' if not is_over and file else f'/-/changes?run={head.id}')
 
 

@@ -2,8 +2,7 @@
 from __future__ import annotations
 
 from collections import Counter
-from collections.abc import Sequence
-from dataclasses import dataclass
+from dataclasses import dataclass, replace
 
 from aiohttp import web
 
@@ -11,7 +10,7 @@ from ..access.identity import Right
 from ..service.mirror import Run
 from .names import leg_link, leg_name, run_link, title_of, workflow_of
 from .site import Site, signed_in
-from .waiting import Why, holders_of, of_group, of_runner, of_wait
+from .waiting import Why, able, of_group, of_wait, own_labels
 
 MOST_ROWS, MOST_LABELS, MOST_RUNS = 100, 50, 50
 
@@ -51,21 +50,22 @@ async def queue(site: Site, request: web.Request) -> web.StreamResponse:
     identity = signed_in(request)
     runs = site.hub.mirror.runs
     ready = [one for one in await site.hub.view.queue() if one.run in runs and identity.may(Right.READ, runs[one.run].row.repository)]
-    runners, holders = await site.runners(), holders_of(await site.holders())
-    counts = Counter(one.labels for one in ready)
-    labels = [Labels(asked, count, of_runner(asked, runners)) for asked, count in counts.most_common(MOST_LABELS)]
+    facts = await site.facts(('group', 'runner'))
+    counts = Counter((own_labels(one.labels), runs[one.run].row.repository) for one in ready)
+    labels = [Labels(asked, count, able(asked, repository, facts)) for (asked, repository), count in counts.most_common(MOST_LABELS)]
     rows: list[Waiting] = []
     for number in list(dict.fromkeys(one.run for one in ready))[:MOST_RUNS]:
         whole = await site.hub.mirror.whole(number)
         for index, job in enumerate(whole.jobs if whole else ()):
             for leg in job.legs:
-                why = of_wait(leg.waits_for, leg.labels, runs[number].row.repository, holders, runs, runners)
+                run = runs[number]
+                approved = site.is_approved(number, run.row.attempt)
+                why = of_wait(leg.waits_for, leg.labels, run.row.repository, replace(facts, is_approved=approved))
                 if why is not None:
-                    run = runs[number]
                     rows.append(_waiting(run, leg_name(job, leg), leg_link(run, run.row.attempt, index, leg.index), why))
     pending = [run for run in runs.values() if run.row.status == 'pending' and identity.may(Right.READ, run.row.repository)]
     for run in pending[:MOST_ROWS]:
-        rows.append(_waiting(run, 'the whole run', run_link(run), of_group(run.row.group or '', run.row.repository, holders, runs)))
+        rows.append(_waiting(run, 'the whole run', run_link(run), of_group(run.row.group or '', run.row.repository, facts)))
     rows.sort(key=lambda row: row.since)
     count = len(ready) + len(pending)
     return site.page(request, 'queue.html', title='Queue', active='queue', labels=labels, rows=rows[:MOST_ROWS], left=max(0, count - MOST_ROWS), count=count,

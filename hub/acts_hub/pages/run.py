@@ -11,8 +11,8 @@ from . import graph, steps
 from .log import file_of, steps_in
 from .notes import annotations_of, summaries_of
 from .site import HEADERS, Site, number_of
-from .waiting import Why, displaced_by, holders_of, of_wait
-from .whole import LegRow, Shown, buttons_of, crumbs_of, environments_of, nodes_of, shown
+from .waiting import Why, displaced_by, of_wait
+from .whole import LegRow, Shown, awaited_jobs, buttons_of, crumbs_of, nodes_of, shown
 
 MOST_REASONS, MOST_WAITS, MOST_LEGS = 5, 10, 300
 PIECE = 1 << 18
@@ -67,7 +67,7 @@ async def waits_of(site: Site, found: Shown) -> list[Waits]:
     if whole is None or found.attempt != row.attempt or row.status == 'completed':
         return []
     if whole.waits_for is not None:
-        why = of_wait(whole.waits_for, (), found.repository, holders_of(await site.holders(found.repository)), site.hub.mirror.runs, ())
+        why = of_wait(whole.waits_for, (), found.repository, await site.facts(('group',)))
         return [Waits('This run', why)] if why else []
     waiting = [Waits(one.name, one.why) for one in found.legs if one.why is not None and one.leg is not None]
     if len({one.why for one in waiting}) == 1 and len(waiting) > 1:
@@ -91,17 +91,22 @@ async def run_page(site: Site, request: web.Request) -> web.StreamResponse:
     artifacts = [ArtifactRow(one.name, f'{found.head.base}/artifacts/{one.id}', one.size, one.created_at) for one in kept]
     return site.page(
         request, 'run.html', title=f'{found.head.title} #{found.head.number} · {found.repository}', active='repositories', crumbs=crumbs_of(found),
-        run=found.head, can=buttons_of(site, request, found), approvals=environments_of(site, found), nodes=nodes, job_link='', reasons=reasons,
+        run=found.head, can=buttons_of(site, request, found), approvals=awaited_jobs(site, found), nodes=nodes, job_link='', reasons=reasons,
         reasons_left=max(0, len(failed) - MOST_REASONS), waits=await waits_of(site, found), displaced=displaced(site, found),
         wide=graph.drawing(nodes), narrow=graph.narrow(nodes), legs=legs[:MOST_LEGS], legs_left=max(0, len(legs) - MOST_LEGS),
         annotations=annotations_of(site, found), summaries=summaries_of(site, found), artifacts=artifacts, changes=f'/-/changes?run={found.head.id}')
 
 
 def displaced(site: Site, found: Shown) -> Why | None:
-    """Which run took the place of this one."""
-    if found.attempt != found.run.row.attempt:
+    """Why the run was cancelled: who asked, or which run took its place."""
+    if found.attempt != found.run.row.attempt or found.run.row.conclusion != 'cancelled':
         return None
-    return displaced_by(found.run, site.hub.mirror.of(found.repository), site.cancelled_by(found.run))
+    noted = site.cancelled(found.run)
+    if 'by' in noted:
+        return Why(f'Cancelled by {noted["by"]}.')
+    if noted:
+        return Why(f'Cancelled: {"; ".join(noted.values())}.')
+    return displaced_by(found.run, site.hub.mirror.of(found.repository))
 
 
 async def artifact(site: Site, request: web.Request) -> web.StreamResponse:

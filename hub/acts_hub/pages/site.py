@@ -1,10 +1,11 @@
 """What all pages share: templates, static files, faults as pages, and who looks."""
 from __future__ import annotations
 
+import bisect
 import functools
 import hashlib
 import pathlib
-from collections.abc import Awaitable, Callable, Mapping
+from collections.abc import Awaitable, Callable, Iterable, Mapping, Sequence
 from typing import TYPE_CHECKING, Any
 from urllib.parse import quote
 
@@ -12,13 +13,17 @@ import jinja2
 from aiohttp import web
 
 from ..access.identity import Identity, Right, identity_of, require
+from ..events.waits import unclaimable_labels
+from ..gateway import Gateway
 from ..service.http import Away
 from ..service.mirror import Run
 from ..service.models import Holder, Runner
 from ..times import now
-from . import inputs, moments, states, texts
+from . import moments, states, texts
+from .files import WorkflowFiles
 from .lately import Lately
 from .lines import LogFiles
+from .waiting import Facts, holders_of
 
 if TYPE_CHECKING:
     from ..hub import Hub
@@ -45,12 +50,14 @@ class Site:
 
     def __init__(self, hub: Hub) -> None:
         self.hub = hub
-        self.files = {name: (HERE / 'static' / name).read_bytes() for name in STATIC}
-        self.digests = {name: hashlib.sha256(data).hexdigest()[:12] for name, data in self.files.items()}
+        self.statics = {name: (HERE / 'static' / name).read_bytes() for name in STATIC}
+        self.digests = {name: hashlib.sha256(data).hexdigest()[:12] for name, data in self.statics.items()}
         self.streams = 0
         self.logs = LogFiles(hub.logs)
+        self.files = WorkflowFiles(hub)
+        self.seen_paths: dict[str, tuple[int, dict[str, None]]] = {}
         self.holders_lately = Lately(hub.view.groups)
-        self.runners_lately = Lately(hub.view.runners)
+        self.runners_lately = Lately(hub.mirror.runners)
         self.env = self._environment()
 
     def _environment(self) -> jinja2.Environment:
@@ -86,15 +93,15 @@ class Site:
 
     def token(self, request: web.Request) -> str:
         """The token that the forms of this page carry."""
-        return ''
+        return self.hub.access.form_token(request)
 
     def has_session(self, request: web.Request) -> bool:
         """Whether who asks has signed in by a cookie."""
-        return False
+        return self.hub.access.has_session(request)
 
     async def check_form(self, request: web.Request) -> Mapping[str, Any]:
         """What a form sent, once its token was found to be of this session."""
-        return await request.post()
+        return await self.hub.access.check_form(request)
 
     def fault(self, request: web.Request, status: int, words: str = '', title: str = '') -> web.Response:
         """A page that says why there is no other."""
@@ -117,11 +124,24 @@ class Site:
 
     def state_of(self, run: Run) -> str:
         """The state of a run as lists show it."""
-        return states.of_run(run.row)
+        return states.of_run(run)
 
     def knows(self, repository: str) -> bool:
         """Whether a repository without runs is one of this hub."""
         return any(one.name.lower() == repository.lower() for one in self.hub.config.repositories)
+
+    def paths(self, repository: str) -> list[str]:
+        """The workflows that have runs. Only runs that are new since the last time are looked at."""
+        runs, name = self.hub.mirror.of(repository), repository.lower()
+        seen, paths = self.seen_paths.get(name, (0, {}))
+        if not runs:
+            return []
+        if runs.ids[-1] < seen:  # the service was restored
+            seen, paths = 0, {}
+        for at in range(bisect.bisect_right(runs.ids, seen), len(runs)):
+            paths.setdefault(runs[at].row.path)
+        self.seen_paths[name] = runs.ids[-1], paths
+        return list(paths)
 
     def supports(self, command: str) -> bool:
         """Whether the service has a command that not every version has."""
@@ -136,33 +156,43 @@ class Site:
         """The runners that have ever claimed."""
         return await self.runners_lately.get()
 
+    async def facts(self, waits: Iterable[str], run: int = 0, attempt: int = 0) -> Facts:
+        """What reasons of these kinds are made of, such as `group` and `runner`."""
+        kinds = set(waits)
+        holders = holders_of(await self.holders()) if 'group' in kinds else {}
+        runners = await self.runners() if 'runner' in kinds else []
+        return Facts(holders, self.hub.mirror.runs, runners, self.missing, self.is_approved(run, attempt))
+
     def note_cancel(self, run: Run, identity: Identity) -> None:
         """Notes who cancelled a run."""
-        self.hub.notes.set(run.row.run, run.row.attempt, 'cancel', 'by', identity.name)
+        self.hub.notes.set(run.id, run.row.attempt, 'cancelled', 'by', identity.name)
 
-    def cancelled_by(self, run: Run) -> str | None:
-        """Who cancelled a run by a button."""
-        found = self.hub.notes.get(run.row.run, run.row.attempt, 'cancel', 'by')
-        return found if isinstance(found, str) else None
+    def cancelled(self, run: Run) -> dict[str, str]:
+        """What is noted of why a run was cancelled: `by` somebody, or since a leg waited for too long."""
+        found = self.hub.notes.list(run.id, run.row.attempt, 'cancelled')
+        return {name: value for name, value in found.items() if isinstance(value, str)}
 
-    def environments(self, run: Run) -> list[str]:
-        """The environments of a run that wait for an approval."""
-        return []
+    @property
+    def gateway(self) -> Gateway | None:
+        """Where runners are reached."""
+        found = self.hub.gateway
+        return found if isinstance(found, Gateway) else None
 
-    async def approve(self, run: Run, environment: str, identity: Identity) -> None:
-        """Approves an environment for a run."""
+    def is_approved(self, run: int, attempt: int) -> bool:
+        """Whether the environments of an attempt were approved."""
+        return self.gateway is not None and self.gateway.environments.is_approved(run, attempt)
 
     def annotations(self, run: int, attempt: int, job: str, leg: int) -> list[dict[str, Any]]:
         """What the steps of a leg said of files, or of the run, with GitHub's names."""
-        return []
+        return self.gateway.findings.annotations(run, attempt, job, leg) if self.gateway else []
 
     def summary(self, run: int, attempt: int, job: str, leg: int) -> str:
         """The summary that the steps of a leg wrote."""
-        return ''
+        return self.gateway.findings.summary(run, attempt, job, leg) if self.gateway else ''
 
-    async def declared(self, repository: str, path: str) -> tuple[inputs.Input, ...] | None:
-        """The inputs of a workflow that can be started by hand; None for another."""
-        return None
+    def missing(self, labels: Sequence[str], repository: str) -> tuple[str, ...]:
+        """The labels that no token of a runner has."""
+        return unclaimable_labels(labels, repository, self.hub.access.tokens.all())
 
     def get(self, path: str, handler: Handler) -> web.RouteDef:
         """A route of a page."""
@@ -199,7 +229,7 @@ async def static(site: Site, request: web.Request) -> web.StreamResponse:
     if name not in STATIC:
         raise web.HTTPNotFound
     kept = 'public, max-age=31536000, immutable' if request.query_string == site.digests[name] else 'no-cache'
-    return web.Response(body=site.files[name], content_type=STATIC[name], charset='utf-8', headers={**HEADERS, 'Cache-Control': kept})
+    return web.Response(body=site.statics[name], content_type=STATIC[name], charset='utf-8', headers={**HEADERS, 'Cache-Control': kept})
 
 
 async def theme(site: Site, request: web.Request) -> web.StreamResponse:

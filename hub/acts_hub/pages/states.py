@@ -3,7 +3,8 @@ from __future__ import annotations
 
 import dataclasses
 
-from ..service.models import Job, Row
+from ..service.mirror import Run
+from ..service.models import Job
 
 
 @dataclasses.dataclass(frozen=True)
@@ -45,6 +46,9 @@ def of_job(job: Job) -> str:
     return 'running'
 
 
-def of_run(row: Row) -> str:
-    """The state of a run: its conclusion once it has completed."""
-    return (row.conclusion or 'completed') if row.status == 'completed' else row.status
+def of_run(run: Run) -> str:
+    """The state of a run: its conclusion once it has completed; a run of which every job was skipped is skipped."""
+    row = run.row
+    if row.status != 'completed':
+        return row.status
+    return 'skipped' if run.skipped and row.conclusion == 'success' else row.conclusion or 'unknown'

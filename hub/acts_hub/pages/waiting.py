@@ -1,18 +1,18 @@
 """Why something waits, in words and with a link, and who displaced a run."""
 from __future__ import annotations
 
-from collections.abc import Iterable, Mapping, Sequence
-from dataclasses import dataclass
+import bisect
+from collections.abc import Callable, Iterable, Mapping, Sequence
+from dataclasses import dataclass, field, replace
 from urllib.parse import urlencode
 
-from ..service.mirror import Run
-from ..service.models import Holder, Job, Leg, Runner, Wait
+from ..service.mirror import Run, Runs
+from ..service.models import Holder, Job, Runner, Wait
 from . import states
 from .names import run_link, title_of, workflow_of
 
 AWAY = 120  # seconds of silence after which a runner does not count as there
 APPROVED = 'approved-'  # what begins the label of a leg whose environment has to be approved
-Groups = Mapping[tuple[str, str], Holder]
 
 
 @dataclass(frozen=True)
@@ -23,6 +23,22 @@ class Why:
     link: str = ''
     of: str = ''
     rest: str = ''
+
+    @property
+    def what(self) -> Why:
+        """What it is that is waited for."""
+        return replace(self, words=self.words.removeprefix('waits for '))
+
+
+@dataclass(frozen=True)
+class Facts:
+    """What reasons are made of: who holds groups, the runs, the runners, and which labels no token of a runner has."""
+
+    holders: Mapping[tuple[str, str], Holder] = field(default_factory=dict)
+    runs: Mapping[int, Run] = field(default_factory=dict)
+    runners: Sequence[Runner] = ()
+    missing: Callable[[Sequence[str], str], tuple[str, ...]] = lambda labels, repository: tuple(labels)
+    is_approved: bool = False
 
 
 def is_there(runner: Runner) -> bool:
@@ -41,49 +57,55 @@ def holders_of(holders: Iterable[Holder]) -> dict[tuple[str, str], Holder]:
     return {(holder.repository.lower(), holder.group): holder for holder in holders if holder.state == 'in_progress'}
 
 
-def of_group(group: str, repository: str, holders: Groups, runs: Mapping[int, Run]) -> Why:
+def of_group(group: str, repository: str, facts: Facts) -> Why:
     """Why a run or leg waits for its concurrency group."""
     words = f'waits for the concurrency group {group}'
-    holder = holders.get((repository.lower(), group))
-    run = runs.get(holder.run) if holder else None
+    holder = facts.holders.get((repository.lower(), group))
+    run = facts.runs.get(holder.run) if holder else None
     if holder is None or run is None:
         return Why(words, f'/groups?{urlencode({"q": group})}', ' (who holds it)')
     return Why(f'{words}, held by', run_link(run), f'{workflow_of(run)} #{run.row.number}', f' ({holder.job})' if holder.job else '')
 
 
-def of_runner(labels: Sequence[str], runners: Sequence[Runner]) -> Why:
+def of_runner(labels: Sequence[str], repository: str, facts: Facts) -> Why:
     """Why a leg has no runner yet."""
-    if approval := [label for label in labels if label.startswith(APPROVED)]:
-        if not any(has_labels(runner, approval) for runner in runners):
-            return Why('waits until its environment is approved')
-    wanted = [label for label in labels if not label.startswith(APPROVED)]
+    wanted = own_labels(labels)
+    if len(wanted) < len(labels) and not facts.is_approved:
+        return Why('waits until somebody approves it')
     named = ', '.join(wanted) or 'any labels'
-    fitting = [runner for runner in runners if has_labels(runner, wanted)]
-    link = f'/runners?{urlencode({"q": wanted[0]})}' if wanted else '/runners'
-    if not fitting:
-        return Why(f'waits for a runner: no runner has {named}', '/runners', '(all runners)')
+    found = able(wanted, repository, facts)
+    return replace(found, words=f'waits for a runner: {found.words}' if found.words else f'waits for a runner with {named}:')
+
+
+def able(labels: Sequence[str], repository: str, facts: Facts) -> Why:
+    """Which runners could take a leg with these labels."""
+    fitting = [runner for runner in facts.runners if has_labels(runner, labels)]
+    link = f'/runners?{urlencode({"q": labels[0]})}' if labels else '/runners'
     there = [runner for runner in fitting if is_there(runner)]
-    if not there:
-        return Why(f'waits for a runner with {named}:', link, f'{_counted(len(fitting), "runner")} with these labels', ' not heard of lately')
     busy = sum(runner.lease is not None for runner in there)
+    if not fitting:
+        missing = facts.missing(labels, repository)
+        return Why(f'no runner has {", ".join(missing or labels)}' if missing else 'none has asked for work yet', '/runners', '(all runners)')
+    if not there:
+        return Why('', link, f'{_counted(len(fitting), "runner")} with these labels', ', not heard of lately')
     if busy == len(there):
-        return Why(f'waits for a runner with {named}:', link, 'its runner is at work' if busy == 1 else f'all {busy} are at work')
-    return Why(f'waits for a runner with {named}:', link, f'{len(there) - busy} idle')
+        return Why('', link, '1 runner, at work' if busy == 1 else f'{busy} runners, all at work')
+    return Why('', link, f'{_counted(len(there) - busy, "runner")} idle')
 
 
 def _counted(count: int, what: str) -> str:
     return f'{count} {what}' if count == 1 else f'{count} {what}s'
 
 
-def of_wait(wait: Wait | None, labels: Sequence[str], repository: str, holders: Groups, runs: Mapping[int, Run], runners: Sequence[Runner]) -> Why | None:
+def of_wait(wait: Wait | None, labels: Sequence[str], repository: str, facts: Facts) -> Why | None:
     """Why a run or leg waits; None if it does not."""
     if wait is None:
         return None
     if wait.kind == 'group':
-        return of_group(wait.group or '', repository, holders, runs)
+        return of_group(wait.group or '', repository, facts)
     if wait.kind == 'max_parallel':
         return Why(f'waits for another leg of its job: max-parallel lets {wait.max_parallel} run at a time')
-    return of_runner(labels, runners)
+    return of_runner(labels, repository, facts)
 
 
 def of_blocked(job: Job, jobs: Sequence[Job], names: Mapping[str, str]) -> Why | None:
@@ -95,17 +117,20 @@ def of_blocked(job: Job, jobs: Sequence[Job], names: Mapping[str, str]) -> Why |
     return Why(f'waits for {", ".join(needed)}') if needed else Why('waits for its run to begin')
 
 
-def displaced_by(run: Run, runs: Sequence[Run], cancelled_by: str | None) -> Why | None:
+def displaced_by(run: Run, runs: Runs) -> Why | None:
     """The run that took the place of a cancelled one in its concurrency group: the first later one that came before it ended."""
     row = run.row
-    if row.conclusion != 'cancelled' or row.group is None or cancelled_by or run.completed_at is None:
+    if row.conclusion != 'cancelled' or row.group is None or run.completed_at is None:
         return None
-    for other in runs:
-        if other.row.run > row.run and other.row.group == row.group and run.created_at <= other.created_at <= run.completed_at + 1:
+    for at in range(bisect.bisect_right(runs.ids, row.run), len(runs)):
+        other = runs[at]
+        if other.created_at > run.completed_at + 1:
+            break
+        if other.row.group == row.group and run.created_at <= other.created_at <= run.completed_at + 1:
             return Why(f'A newer run of the concurrency group {row.group} took its place:', run_link(other), f'{title_of(other)} #{other.row.number}')
     return None
 
 
-def leg_labels(leg: Leg) -> tuple[str, ...]:
+def own_labels(labels: Iterable[str]) -> tuple[str, ...]:
     """The labels of a leg that say what it runs on."""
-    return tuple(label for label in leg.labels if not label.startswith(APPROVED))
+    return tuple(label for label in labels if not label.startswith(APPROVED))

@@ -1,20 +1,21 @@
 """A run with its jobs as its pages show it: its head, its buttons, its legs by name, why they wait."""
 from __future__ import annotations
 
-from collections.abc import Mapping, Sequence
+from collections.abc import Sequence
 from dataclasses import dataclass
 from urllib.parse import urlencode
 
 from aiohttp import web
 
 from ..access.identity import Right
+from ..gateway.environments import Environments
 from ..rest.numbers import JobNumber
 from ..service.mirror import Run
-from ..service.models import Holder, Job, Leg, Runner, Whole
+from ..service.models import Job, Leg, Whole
 from . import graph, moments, states
 from .names import is_matrix, job_name, leg_link, leg_name, repository_link, run_link, title_of, workflow_link, workflow_of
 from .site import Site, number_of
-from .waiting import APPROVED, Why, holders_of, leg_labels, of_blocked, of_wait
+from .waiting import Facts, Why, of_blocked, of_wait, own_labels
 
 
 @dataclass(frozen=True)
@@ -109,23 +110,20 @@ async def shown(site: Site, request: web.Request, attempt: int | None = None) ->
         raise web.HTTPNotFound(text=f'The run has no attempt {chosen}.')
     whole = await site.hub.mirror.whole(run.row.run, None if chosen == run.row.attempt else chosen)
     legs = await _legs(site, run, chosen, whole)
-    return Shown(run, whole, chosen, _head(site, run, chosen, whole, legs), legs)
+    return Shown(run, whole, chosen, _head(site, run, chosen, whole), legs)
 
 
-def _head(site: Site, run: Run, attempt: int, whole: Whole | None, legs: Sequence[LegRow]) -> RunHead:
-    row, facts, is_now = run.row, run.facts, attempt == run.row.attempt
+def _head(site: Site, now_run: Run, attempt: int, whole: Whole | None) -> RunHead:
+    run = site.hub.mirror.attempt(now_run.id, attempt) or now_run
+    row, facts, is_now = run.row, run.facts, attempt == now_run.row.attempt
     link, base = run_link(run), repository_link(row.repository)
-    state = site.state_of(run) if is_now else (whole.row.conclusion or 'unknown') if whole else 'unknown'
-    begun = [leg.begun for leg in legs if leg.begun is not None]
-    ended = [leg.ended for leg in legs if leg.ended is not None]
-    branch, pull = facts.branch or '', facts.pull_number
-    here = link if is_now else f'{link}/attempts/{attempt}'
+    branch, pull, is_over = facts.branch or '', facts.pull_number, row.status == 'completed'
     return RunHead(
-        row.run, link, here, title_of(run), row.number, states.sign(state), bool(whole and whole.stopping and row.status != 'completed' and is_now),
-        attempt, row.attempt, not is_now, row.event, (run.triggering_actor if is_now else None) or facts.actor or '', run.created_at,
-        (None if row.status == 'pending' else run.started_at) if is_now else min(begun, default=None),
-        (run.completed_at if row.status == 'completed' else None) if is_now else max(ended, default=min(begun, default=0)),
-        pull, facts.pull_title or '', f'{base}?{urlencode({"q": f"#{pull}"})}' if pull else '', branch, f'{base}?{urlencode({"branch": branch})}',
+        row.run, link, link if is_now else f'{link}/attempts/{attempt}', title_of(run), row.number, states.sign(states.of_run(run)),
+        bool(is_now and whole and whole.stopping and not is_over), attempt, now_run.row.attempt, not is_now, row.event,
+        run.triggering_actor or facts.actor or '', run.created_at, None if row.status == 'pending' else run.started_at,
+        (run.completed_at or run.updated_at) if is_over else None, pull, facts.pull_title or '',
+        f'{base}?{urlencode({"q": f"#{pull}"})}' if pull else '', branch, f'{base}?{urlencode({"branch": branch})}',
         (row.ref or '').startswith('refs/tags/'), facts.base_ref or '', facts.sha or '', workflow_of(run), workflow_link(row.repository, row.path),
         row.path, row.group or '', f'/groups?{urlencode({"q": row.group or ""})}')
 
@@ -133,32 +131,25 @@ def _head(site: Site, run: Run, attempt: int, whole: Whole | None, legs: Sequenc
 async def _legs(site: Site, run: Run, attempt: int, whole: Whole | None) -> tuple[LegRow, ...]:
     if whole is None:
         return ()
-    is_now, runners = attempt == run.row.attempt, list[Runner]()
-    holders: Mapping[tuple[str, str], Holder] = {}
-    waits = {leg.waits_for.kind for job in whole.jobs for leg in job.legs if leg.waits_for} if is_now else set()
-    if 'group' in waits:
-        holders = holders_of(await site.holders(run.row.repository))
-    if 'runner' in waits:
-        runners = await site.runners()
-    rows = []
-    for index, job in enumerate(whole.jobs):
-        rows += _rows(site, run, attempt, whole, job, index, holders, runners)
-    return tuple(rows)
+    is_now = attempt == run.row.attempt
+    waits = {leg.waits_for.kind for job in whole.jobs for leg in job.legs if leg.waits_for} if is_now else set[str]()
+    facts = await site.facts(waits, run.id, attempt)
+    return tuple(row for index, job in enumerate(whole.jobs) for row in _rows(run, attempt, whole, job, index, facts))
 
 
-def _rows(site: Site, run: Run, attempt: int, whole: Whole, job: Job, index: int, holders: Mapping[tuple[str, str], Holder],
-          runners: Sequence[Runner]) -> list[LegRow]:
+def _rows(run: Run, attempt: int, whole: Whole, job: Job, index: int, facts: Facts) -> list[LegRow]:
+    is_now = attempt == run.row.attempt
     if not job.legs:
         state = job.state or 'unknown'
-        why = of_blocked(job, whole.jobs, {one.id: job_name(one) for one in whole.jobs}) if attempt == run.row.attempt else None
+        why = of_blocked(job, whole.jobs, {one.id: job_name(one) for one in whole.jobs}) if is_now else None
         return [LegRow(job, None, index, 0, job_name(job), leg_link(run, attempt, index, 0), state, states.sign(state), '', (), None, None, why)]
     rows = []
     for leg in job.legs:
         state = leg.state or 'unknown'
-        why = of_wait(leg.waits_for, leg.labels, run.row.repository, holders, site.hub.mirror.runs, runners) if attempt == run.row.attempt else None
+        why = of_wait(leg.waits_for, leg.labels, run.row.repository, facts) if is_now else None
         rows.append(LegRow(
             job, leg, index, leg.index, leg_name(job, leg), leg_link(run, attempt, index, leg.index), state, states.sign(state), leg.runner or '',
-            leg_labels(leg), leg.started_at, leg.ended_at, why))
+            own_labels(leg.labels), leg.started_at, leg.ended_at, why))
     return rows
 
 
@@ -192,18 +183,15 @@ def buttons_of(site: Site, request: web.Request, found: Shown) -> Buttons:
     failed = row.conclusion in ('failure', 'cancelled')
     return Buttons(
         cancel=not is_over and not stopping, force=not is_over and stopping and site.supports('force'), rerun=is_over,
-        rerun_failed=is_over and failed and site.supports('retry'), approve=bool(awaited_labels(found)))
+        rerun_failed=is_over and failed and site.supports('retry'), approve=bool(awaited_jobs(site, found)))
 
 
-def awaited_labels(found: Shown) -> tuple[str, ...]:
-    """The labels of legs whose environment was not approved yet."""
-    labels = [label for row in found.legs if row.leg and row.state == 'ready' for label in row.leg.labels if label.startswith(APPROVED)]
-    return tuple(dict.fromkeys(labels))
-
-
-def environments_of(site: Site, found: Shown) -> list[str]:
-    """The environments that wait for an approval."""
-    return site.environments(found.run) if awaited_labels(found) else []
+def awaited_jobs(site: Site, found: Shown) -> list[str]:
+    """The names of the jobs whose environment was not approved yet."""
+    if found.whole is None or found.attempt != found.run.row.attempt or site.is_approved(found.run.id, found.attempt):
+        return []
+    ids = Environments.waiting(found.whole)
+    return [job_name(job) for job in found.whole.jobs if job.id in ids]
 
 
 def crumbs_of(found: Shown) -> list[tuple[str, str]]:

@@ -198,6 +198,7 @@ for (const box of document.querySelectorAll('[data-toggles]')) {
 }
 for (const form of document.querySelectorAll('form[data-sure]')) form.addEventListener('submit', event => { if (!confirm(form.dataset.sure)) event.preventDefault(); });
 if (document.body.dataset.changes) follow(document.body.dataset.changes);
+if (document.body.dataset.every) setInterval(() => { if (!document.hidden) renew(); }, 1000 * document.body.dataset.every);
 if (log) {
   for (const step of log.querySelectorAll('.step')) prepare(step);
   addEventListener('hashchange', showHash);
