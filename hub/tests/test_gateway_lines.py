@@ -3,12 +3,15 @@ from __future__ import annotations
 
 import contextlib
 import json
+import resource
+import socket
 import time
+import uuid
 from collections.abc import Callable, Iterator
 
 import pytest
 from aiohttp import WSMsgType, WSServerHandshakeError
-from harness import HubProcess, Service, body_of, until
+from harness import HubProcess, Service, body_of, request, until
 from wires import Wire
 
 WINDOWS = {'build': {'runs-on': 'windows', 'steps': [{'run': 'true'}]}}
@@ -16,19 +19,36 @@ Open = Callable[..., Wire]
 
 
 @pytest.fixture
+def hub(shared: HubProcess) -> HubProcess:
+    """The hub of this module."""
+    return shared
+
+
+@pytest.fixture
+def service(shared: HubProcess) -> Iterator[Service]:
+    """The service of this module, without a leg that waits."""
+    assert shared.service
+    yield shared.service
+    for run in request(shared.service.view, 'GET', '/runs').json()['runs']:
+        if run['status'] != 'completed':
+            shared.service.post(f'/runs/{run["run"]}/cancel')
+
+
+@pytest.fixture
 def wire(hub: HubProcess) -> Iterator[Open]:
-    """Opens WebSockets with tokens of runners."""
+    """Opens WebSockets with tokens of runners, whose names are those of this test alone."""
     opened: list[Wire] = []
+    tag = f'-{uuid.uuid4().hex[:8]}'
 
     def make(prefix: str = 'r', labels: tuple[str, ...] = ('linux',), repositories: tuple[str, ...] = ('*',), token: str = '',
              of: HubProcess | None = None) -> Wire:
         there = of or hub
-        secret = token or there.token(f'runners-{len(opened)}', 'runner', prefix=prefix, labels=labels, repositories=repositories)
-        opened.append(Wire(there, secret))
+        secret = token or there.token(f'runners{tag}-{len(opened)}', 'runner', prefix=prefix, labels=labels, repositories=repositories)
+        opened.append(Wire(there, secret, tag))
         return opened[-1]
     yield make
     for one in opened:
-        with contextlib.suppress(Exception):
+        with contextlib.suppress(ConnectionError):
             one.close()
 
 
@@ -61,10 +81,10 @@ def test_another_name_is_refused(wire: Open) -> None:
 @pytest.mark.quick
 def test_another_label_is_refused(wire: Open, service: Service) -> None:
     """The attack of a certificate that is a name and no right: it got the lease, the body, and reported a success."""
-    service.admit(body_of(jobs={'deploy': {'runs-on': 'production', 'steps': [{'run': 'true'}]}}))
+    run = service.admit(body_of(jobs={'deploy': {'runs-on': 'production', 'steps': [{'run': 'true'}]}}))
     words = is_forbidden(wire(), 'CLAIM r1 1 linux,production,life-000000000000')
     assert 'production' in words and 'linux' not in words.partition('labels')[2]
-    assert service.run(1)['status'] == 'queued'
+    assert service.run(run)['status'] == 'queued'
 
 
 def test_a_label_of_an_approval_is_refused(wire: Open) -> None:
@@ -140,12 +160,12 @@ def test_a_narrowed_claim_is_the_same_after_a_restart_of_the_hub(wire: Open, ser
     token = hub.token('limited', 'runner', prefix='r', labels=('linux',), repositories=('octo/hello',))
     one = wire(token=token)
     assert one.claim('r1') == ['nothing']
-    wire().claim('s1')
+    assert wire().claim('r9')[2] == str(foreign)
     hub.restart()
     two = wire(token=token)
     two.life = one.life
     assert two.claim('r1') == ['nothing'], 'the first answer to this number'
-    assert two.claim('r1')[2] == str(own) != str(foreign)
+    assert two.claim('r1')[2] == str(own)
 
 
 def test_what_is_no_line(wire: Open) -> None:
@@ -199,7 +219,7 @@ def test_a_revoked_token_ends_its_streams(hub: HubProcess, wire: Open, service: 
     token = hub.token('gone', 'runner', prefix='r', labels=('linux',))
     one = wire(token=token)
     assert one.claim('r1') == ['nothing']
-    done = hub.command('token', 'revoke', 'gone', '--config', str(hub.config))
+    done = hub.command('token', '--config', str(hub.config), 'revoke', 'gone')
     assert done.returncode == 0, done.stderr
     service.admit()
     assert 'not valid' in is_forbidden(one, 'CLAIM r1 2 linux')
@@ -215,3 +235,54 @@ def test_the_service_is_away(wire: Open, service: Service) -> None:
     assert (frame.type, frame.data) == (WSMsgType.CLOSE, 1013)
     service.start()
     assert wire().ask(f'CLAIM r1 2 linux,{one.life}') == 'nothing'
+
+
+def test_approval_of_an_environment(wire: Open, service: Service, hub: HubProcess) -> None:
+    """A leg with the label of an approval goes to nobody before somebody with the right to write has approved its attempt."""
+    before = service.admit()
+    service.post(f'/runs/{before}/cancel')
+    job = {'runs-on': ['linux', f'approved-{before + 1}'], 'environment': 'production', 'steps': [{'run': 'true'}]}
+    run = service.admit(body_of(jobs={'deploy': job}))
+    assert run == before + 1
+    one = wire()
+    assert one.claim('r1') == ['nothing']
+    place = f'/api/v3/repos/octo/hello/actions/runs/{run}/pending_deployments'
+    said = json.dumps({'environment_ids': [run], 'state': 'approved', 'comment': 'fine'})
+    reader, writer = hub.token('reader', 'read'), hub.token('writer', 'write')
+    assert [each['environment']['name'] for each in hub.get(place, reader).json()] == ['deploy']
+    assert hub.post(place, said, reader).status == 403 and hub.post(place, said).status == 401
+    assert hub.post(place, said, hub.token('other', 'write', repositories=('octo/other',))).status == 404
+    assert one.claim('r1') == ['nothing']
+    for wrong in ('{', '[]', '{"state": "maybe"}', '{"state": "approved", "comment": 7}'):
+        assert hub.post(place, wrong, writer).status in (400, 422)
+    assert hub.post(place, said, writer).status == 200
+    assert hub.get(place, reader).json() == []
+    words = one.claim('r1')
+    assert words[2:4] == [str(run), 'deploy']
+    one.done('r1', words[1])
+    assert service.post(f'/runs/{run}/attempts/2').text == f'again {run} 2\n'
+    assert one.claim('r1') == ['nothing'], 'another attempt needs another approval'
+
+
+def test_a_thousand_slow_clients(hub: HubProcess, service: Service, wire: Open) -> None:
+    """They open streams and say half a frame, or read nothing: others are answered as before."""
+    resource.setrlimit(resource.RLIMIT_NOFILE, (8192, resource.getrlimit(resource.RLIMIT_NOFILE)[1]))
+    token = hub.token('slow', 'runner', prefix='s', labels=('linux',))
+    head = (f'GET /runner/v1/lines HTTP/1.1\r\nHost: x\r\nUpgrade: websocket\r\nConnection: Upgrade\r\nSec-WebSocket-Version: 13\r\n'
+            f'Sec-WebSocket-Key: AAAAAAAAAAAAAAAAAAAAAA==\r\nAuthorization: Bearer {token}\r\n\r\n').encode()
+    with contextlib.ExitStack() as stack:
+        for number in range(1000):
+            stream = stack.enter_context(socket.create_connection(('127.0.0.1', hub.port), 30))
+            stream.sendall(head if number % 2 else head[:-20])
+            if number % 2:
+                assert stream.recv(12) == b'HTTP/1.1 101'
+                stream.sendall(b'\x81\xfe\x01')  # the beginning of a frame
+        service.admit()
+        one, began = wire(), time.monotonic()
+        lease = one.claim('r1')[1]
+        for _ in range(20):
+            assert one.ask(f'BEAT r1 {lease}') == 'go on'
+        took = (time.monotonic() - began) / 21
+        print(f'a line beside 1,000 slow clients took {1000 * took:.1f} ms')
+        assert took < 0.5
+        assert hub.get('/healthz').status == 200

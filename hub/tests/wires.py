@@ -2,6 +2,7 @@
 from __future__ import annotations
 
 import asyncio
+import re
 import uuid
 from typing import Any
 
@@ -12,8 +13,9 @@ from harness import Answer, HubProcess
 class Wire:
     """One WebSocket, with a token."""
 
-    def __init__(self, hub: HubProcess, token: str) -> None:
-        self.hub, self.token, self.loop = hub, token, asyncio.new_event_loop()
+    def __init__(self, hub: HubProcess, token: str, tag: str = '') -> None:
+        """The tag ends all names, so that tests that share a hub have names of their own."""
+        self.hub, self.token, self.tag, self.loop = hub, token, tag, asyncio.new_event_loop()
         self.client: aiohttp.ClientSession | None = None
         self.numbers: dict[str, int] = {}
         self.life = f'life-{uuid.uuid4().hex[:12]}'
@@ -22,7 +24,11 @@ class Wire:
 
     async def _open(self) -> aiohttp.ClientWebSocketResponse:
         self.client = aiohttp.ClientSession(headers={'Authorization': f'Bearer {self.token}'})
-        return await self.client.ws_connect(f'{self.hub.url}/runner/v1/lines', ssl=self.hub.context or False)
+        try:
+            return await self.client.ws_connect(f'{self.hub.url}/runner/v1/lines', ssl=self.hub.context or False)
+        except aiohttp.ClientError:
+            await self.client.close()
+            raise
 
     def frame(self, seconds: float = 20) -> aiohttp.WSMessage:
         """The next frame."""
@@ -30,6 +36,7 @@ class Wire:
 
     def send(self, text: str) -> None:
         """Sends a frame."""
+        text = re.sub(r'^(CLAIM|BEAT|DONE) ([\w.-]+)(?= )', rf'\1 \2{self.tag}', text)
         self.loop.run_until_complete(self.socket.send_str(text))
 
     def ask(self, line: str) -> str:
@@ -44,7 +51,7 @@ class Wire:
         line = f'CLAIM {name} {self.numbers[name]} {labels},{self.life}'
         words = self.ask(line).split(' ', 5)
         if words[0] == 'lease':
-            self.claims[words[1]] = line
+            self.claims[words[1]] = line.replace(f'CLAIM {name} ', f'CLAIM {name}{self.tag} ')
         return words
 
     def done(self, name: str, lease: str, result: str = 'success') -> str:
@@ -67,5 +74,6 @@ class Wire:
             await self.socket.close()
             if self.client:
                 await self.client.close()
-        self.loop.run_until_complete(end())
-        self.loop.close()
+        if not self.loop.is_closed():
+            self.loop.run_until_complete(end())
+            self.loop.close()
