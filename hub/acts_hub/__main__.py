@@ -8,7 +8,7 @@ import sys
 
 from . import __version__
 
-COMMANDS = 'serve', 'token', 'up', 'check', 'doors', 'watchdog'
+COMMANDS = 'serve', 'token', 'up', 'check', 'events', 'doors', 'watchdog'
 
 
 def main() -> int:

@@ -44,7 +44,7 @@ def read(text: str) -> Tree:
         check_nesting(text)
         value = yaml.load(text, Loader)
     except yaml.YAMLError as fault:
-        raise Fault('not YAML: ' + ' '.join(str(fault).split())[:500], line=line_of_fault(fault)) from None
+        raise Fault('not YAML: ' + ' '.join(str(fault).split())[:500], line=line_of_fault(fault, text)) from None
     except (ValueError, TypeError, AttributeError, RecursionError) as fault:
         raise fault if isinstance(fault, Fault) else Fault(f'not YAML: {fault}') from None
     if not isinstance(value, dict):
@@ -129,7 +129,7 @@ def inner(node: yaml.Node, step: str | int) -> tuple[yaml.Node, yaml.Node] | Non
     return None
 
 
-def line_of_fault(fault: yaml.YAMLError) -> int | None:
-    """The line of a fault of YAML."""
+def line_of_fault(fault: yaml.YAMLError, text: str) -> int | None:
+    """The line of a fault of YAML; the last one if it is that the text ends."""
     mark = getattr(fault, 'problem_mark', None)
-    return mark.line + 1 if mark else None
+    return min(mark.line + 1, max(1, len(text.splitlines()))) if mark else None

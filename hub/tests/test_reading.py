@@ -62,7 +62,7 @@ def test_no_workflow(text: str) -> None:
 def test_a_fault_of_yaml_has_its_line() -> None:
     with pytest.raises(Fault) as raised:
         read('on: push\njobs:\n  a: [\n')
-    assert raised.value.line == 4
+    assert raised.value.line == 3
 
 
 def test_the_largest_that_is_read_takes_seconds_at_most() -> None:

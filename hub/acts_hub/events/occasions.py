@@ -55,6 +55,14 @@ def text(payload: Any, *names: str) -> str:
     return found
 
 
+def sha(payload: Any, *names: str) -> str:
+    """A commit that a payload has to name by its hash."""
+    found = text(payload, *names)
+    if not COMMIT.fullmatch(found):
+        raise Malformed(f'{".".join(names)} of the payload is no commit')
+    return found
+
+
 def action_of(payload: Tree) -> str | None:
     """What was done."""
     action = payload.get('action')
@@ -89,7 +97,7 @@ async def pushed(payload: Tree, mirror: Mirror) -> Occasion:
     ref = ref_of(text(payload, 'ref'))
     if not ref.startswith(('refs/heads/', 'refs/tags/')):
         raise NotTaken(f'{ref[:100]} is neither a branch nor a tag')
-    commit = await mirror.commit(text(payload, 'after'))
+    commit = await mirror.commit(sha(payload, 'after'))
     happening = Happening('push', None, 'tags' if ref.startswith('refs/tags/') else 'branches', ref.split('/', 2)[2])
     return Occasion(happening, commit, commit, ref, span=await span_of(payload, commit, mirror))
 
@@ -114,15 +122,14 @@ async def pulled(event: str, payload: Tree, mirror: Mirror) -> Occasion:
     """A pull request: the commit is the merge, if the mirror has it for the newest push, else the head."""
     pull, number = payload.get('pull_request'), pull_number(payload)
     base_ref, head_ref = text(pull, 'base', 'ref'), text(pull, 'head', 'ref')
-    head, base = await mirror.commit(text(pull, 'head', 'sha')), text(pull, 'base', 'sha')
+    head, base = await mirror.commit(sha(pull, 'head', 'sha')), sha(pull, 'base', 'sha')
     ref, commit = f'refs/pull/{number}/merge', head
     if await mirror.has(ref):
         merge = await mirror.commit(ref)
         if (await mirror.parents(merge))[1:] == [head]:  # with another second parent it is the merge of an earlier push
             commit = merge
     happening = Happening(event, action_of(payload), 'branches', base_ref)
-    span = (f'{base}...{head}',) if COMMIT.fullmatch(base) else None
-    return Occasion(happening, commit, head, ref, base_ref, head_ref, span)
+    return Occasion(happening, commit, head, ref, base_ref, head_ref, (f'{base}...{head}',))
 
 
 def pull_number(payload: Tree) -> int:
@@ -164,7 +171,7 @@ async def released(payload: Tree, mirror: Mirror) -> Occasion:
 async def grouped(payload: Tree, mirror: Mirror) -> Occasion:
     """A group of pull requests that is to be merged: the commit is the group's."""
     ref = ref_of(text(payload, 'merge_group', 'head_ref'))
-    commit = await mirror.commit(text(payload, 'merge_group', 'head_sha'))
+    commit = await mirror.commit(sha(payload, 'merge_group', 'head_sha'))
     base = ref_of(text(payload, 'merge_group', 'base_ref')).split('/', 2)[2]
     happening = Happening('merge_group', action_of(payload), 'branches', base)
     return Occasion(happening, commit, commit, ref, base_ref=base)
@@ -188,8 +195,8 @@ async def of_target(made: Occasion, payload: Tree, mirror: Mirror) -> Occasion:
     """A pull request whose workflows are those of the default branch: only its filters are of the pull request."""
     pull = payload.get('pull_request')
     base_ref, head_ref = text(pull, 'base', 'ref'), text(pull, 'head', 'ref')
-    base, head = text(pull, 'base', 'sha'), text(pull, 'head', 'sha')
-    known = COMMIT.fullmatch(base) and COMMIT.fullmatch(head) and await mirror.has(base) and await mirror.has(head)
+    base, head = sha(pull, 'base', 'sha'), sha(pull, 'head', 'sha')
+    known = await mirror.has(base) and await mirror.has(head)
     return replace(made, happening=replace(made.happening, name=base_ref), base_ref=base_ref, head_ref=head_ref,
                    span=(f'{base}...{head}',) if known else None)
 
