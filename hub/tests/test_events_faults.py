@@ -61,7 +61,8 @@ def test_kill_between_the_spool_and_the_post(place: Place) -> None:
     place.hub.start()
     done(place)
     assert runs(place) == [(commit, name) for commit in commits for name in ('one.yml', 'two.yml')]
-    assert created(place.sender.push(pushed, 'k3')) == {'one.yml': 7, 'two.yml': 8}
+    place.sender.send('push', pushed, 'k3')
+    done(place)
     assert place.count() == 8
 
 
@@ -90,17 +91,22 @@ def test_kills_at_any_moment(place: Place) -> None:
 @pytest.mark.quick
 def test_a_full_store_holds_events_back_and_says_so(tmp_path: pathlib.Path) -> None:
     """Over a part of the area new events wait: claims and reports of runs that go on still fit."""
-    place = Place(tmp_path, wait=0.5, pause=0.5, held_over=0.05)
+    place = Place(tmp_path, wait=0.5, pause=0.5, held_over=0.1)
     place.service.area = 32768
     try:
         place.start()
-        pushed = place.repository.only({'one.yml': ONE})
-        place.sender.send('push', pushed, 'f0')
-        until(lambda: place.count() == 1, what='the first run')
-        time.sleep(2.1)
-        status, lines = place.sender.send('push', place.repository.push('refs/heads/main', 'x', {'src/x': ''}), 'f1')
-        assert status == 202 and 'it waits: the file of the service is ' in lines[0], lines
-        assert place.count() == 1 and len(spooled(place)) == 1
+        place.repository.only({'one.yml': ONE})
+        for number in range(30):
+            pushed = place.repository.push('refs/heads/main', str(number), {f'src/{number}': ''})
+            status, lines = place.sender.send('push', pushed, f'f{number}')
+            if 'it waits: the file of the service is ' in lines[0]:
+                break
+        else:
+            raise AssertionError('no event was held back')
+        before = place.count()
+        assert 1 <= before < 30 and spooled(place)
+        time.sleep(3)
+        assert place.count() == before
         runner = place.service.lines()
         assert runner.done('r1', runner.claim('r1')[1]) == 'ok'
     finally:

@@ -6,17 +6,13 @@ import hashlib
 import json
 from typing import TYPE_CHECKING, Any
 
-from acts_workflow import reading
-from acts_workflow.filters import triggers_of
-from acts_workflow.values import Fault
-
 from ..log import say
 from ..service.http import Away
 from ..service.mirror import Run
 from ..times import iso, iso_or_none
 from .deliveries import Delivery
 from .mirrors import GitFault, Mirror, NoCommit, TooSlow
-from .occasions import at, default_ref
+from .occasions import at
 from .settings import Repository
 from .spool import name_of
 from .statuses import is_skipped, row_of, status_of
@@ -37,7 +33,6 @@ class Follower:
     def __init__(self, events: Events) -> None:
         self.events: Events = events
         self.hub: Hub = events.hub
-        self.listeners: dict[str, tuple[str, bool]] = {}  # the commit of a default branch, and whether it asks for runs
 
     async def follow(self) -> None:
         """Follows without end."""
@@ -130,13 +125,9 @@ class Follower:
     async def is_listened(self, repository: Repository, mirror: Mirror) -> bool:
         """Whether a workflow of the default branch asks for runs."""
         try:
-            commit = await mirror.commit(await default_ref(mirror, self.hub.config.default_branch(repository.name)))
-            if self.listeners.get(repository.name, ('',))[0] != commit:
-                texts = await mirror.texts(commit)
-                self.listeners[repository.name] = commit, await asyncio.to_thread(asks_for_runs, texts)
+            return any('workflow_run' in each.on for each in await self.events.listing.read(repository, mirror))
         except (NoCommit, GitFault, TooSlow):
             return False
-        return self.listeners[repository.name][1]
 
     async def depth(self, run: Run) -> int:
         """How many workflows started one another by `workflow_run`, up to this one; too many if that is not known."""
@@ -175,14 +166,3 @@ class Follower:
             'repository': {'full_name': row.repository},
             'head_repository': {'full_name': facts.head_repository or row.repository},
             'pull_requests': [{'number': facts.pull_number}] if facts.pull_number else []}
-
-
-def asks_for_runs(texts: dict[str, str]) -> bool:
-    """Whether one of the workflows asks for `workflow_run`."""
-    for text in texts.values():
-        try:
-            if 'workflow_run' in text and 'workflow_run' in triggers_of(reading.read(text).get('on')):
-                return True
-        except Fault:
-            continue
-    return False

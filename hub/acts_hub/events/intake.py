@@ -14,7 +14,8 @@ from .deliveries import Delivery, Handler, Outcome
 from .dispatch import Dispatched, Dispatcher
 from .facts import RepositoryFacts
 from .following import Follower
-from .mirrors import NoCommit
+from .listing import Listed, Listing
+from .mirrors import GitFault, NoCommit, TooSlow
 from .occasions import Malformed
 from .queues import NotNow, Queues
 from .receive import Receiver
@@ -55,6 +56,7 @@ class Events:
         self.handler: Handler = Handler(self.settings, hub.hooks, self.room, hub.config.url, hub.config.default_branch)
         self.queues: Queues = Queues(self.handle, self.settings.pause)
         self.facts: RepositoryFacts = RepositoryFacts(hub.notes)
+        self.listing: Listing = Listing(hub.config.default_branch)
         self.receiver: Receiver = Receiver(self)
         self.statuses: Statuses = Statuses(self.settings, hub)
         self.schedules: Schedules = Schedules(self)
@@ -72,7 +74,7 @@ class Events:
         except OSError as fault:
             say(f'events: the spool {self.spool.folder} can not be used: {fault}')
         self.facts.begin()
-        for work in self.watch(), self.schedules.follow(), self.follower.follow(), self.waits.follow():
+        for work in self.watch(), self.refresh(), self.schedules.follow(), self.follower.follow(), self.waits.follow():
             self.tasks.append(asyncio.create_task(endless(work)))
         await self.statuses.start()
 
@@ -83,6 +85,17 @@ class Events:
         await asyncio.gather(*self.tasks, return_exceptions=True)
         await self.queues.stop()
         await self.statuses.stop()
+
+    async def refresh(self) -> None:
+        """Fetches each mirror once, so that workflows are known that have had no event yet."""
+        for repository in self.settings.repositories.values():
+            mirror = self.handler.mirror(repository)
+            try:
+                if mirror is not None:
+                    await self.handler.fetch(mirror)
+                    await self.listing.read(repository, mirror)
+            except (GitFault, TooSlow, NoCommit, OSError) as fault:
+                say(f'events: {repository.name}: {fault}')
 
     async def watch(self) -> None:
         """Takes up what waits in the spool and no queue has: of an earlier life, or what is to be tried again."""
@@ -164,7 +177,10 @@ class Events:
         if repository is None:
             return Outcome([f'not taken: {delivery.repository} is not configured'])
         self.facts.note(repository.name, delivery.payload)
-        return await self.handler.handle(delivery, repository)
+        outcome = await self.handler.handle(delivery, repository)
+        if mirror := self.handler.mirror(repository):
+            await self.listing.read(repository, mirror)
+        return outcome
 
     async def tell(self, delivery: Delivery, repository: Repository, outcome: Outcome) -> None:
         """Notes refusals in the ledger, and at the commit."""
@@ -202,6 +218,10 @@ class Events:
                                   actor: str) -> Dispatched:
         """Starts the workflows that ask for `repository_dispatch` of a type."""
         return await self.dispatcher.repository(repository, event_type, client_payload or {}, actor)
+
+    def workflows(self, repository: str) -> tuple[Listed, ...]:
+        """The workflows of a repository's default branch."""
+        return self.listing.of(repository)
 
     def unclaimable(self, whole: Whole) -> str | None:
         """Why a leg of a run can't be claimed by any runner; None if each can."""

@@ -5,17 +5,16 @@ import asyncio
 import hashlib
 import time
 from dataclasses import dataclass
-from typing import TYPE_CHECKING
+from typing import TYPE_CHECKING, Iterable
 
-from acts_workflow import cron, reading
-from acts_workflow.filters import triggers_of
+from acts_workflow import cron
 from acts_workflow.values import Fault
 
 from ..log import say
 from ..times import iso, now
 from .deliveries import Delivery
-from .mirrors import GitFault, Mirror, NoCommit, TooSlow
-from .occasions import default_ref
+from .listing import Listed
+from .mirrors import GitFault, NoCommit, TooSlow
 from .settings import Repository
 from .spool import name_of
 
@@ -42,20 +41,15 @@ class Entry:
         return f'{self.path} {self.text}'
 
 
-def entries_of(texts: dict[str, str]) -> list[Entry]:
+def entries_of(workflows: Iterable[Listed]) -> list[Entry]:
     """The schedules of workflows. One with a fault has none: `acts-hub check` says why."""
     made = []
-    for path, text in texts.items():
-        if 'schedule' not in text:
-            continue
-        try:
-            listed = triggers_of(reading.read(text).get('on')).get('schedule') or []
-        except Fault:
-            continue
-        for item in listed[:MOST] if isinstance(listed, list) else []:
+    for workflow in workflows:
+        items = workflow.on.get('schedule') or []
+        for item in items[:MOST] if isinstance(items, list) else []:
             try:
                 written = item.get('cron') if isinstance(item, dict) else None
-                made.append(Entry(path, ' '.join(str(written).split()), cron.read(written)))
+                made.append(Entry(workflow.path, ' '.join(str(written).split()), cron.read(written)))
             except Fault:
                 continue
     return made
@@ -90,12 +84,9 @@ class Schedules:
 
     def __init__(self, events: Events) -> None:
         self.events: Events = events
-        self.seen: dict[str, tuple[str, list[Entry]]] = {}  # the commit of the default branch, and its schedules
 
     async def follow(self) -> None:
         """Looks at each minute."""
-        if not self.events.settings.schedules:
-            return
         while True:
             for repository in self.events.settings.repositories.values():
                 try:
@@ -104,23 +95,13 @@ class Schedules:
                     say(f'events: schedules of {repository.name}: {fault}')
             await asyncio.sleep(60 - time.time() % 60 + 0.05)
 
-    async def entries(self, repository: Repository, mirror: Mirror) -> list[Entry]:
-        """The schedules of the default branch, which are read again when it moves."""
-        ref = await default_ref(mirror, self.events.hub.config.default_branch(repository.name))
-        if not await mirror.has(ref):
-            return []
-        commit = await mirror.commit(ref)
-        if self.seen.get(repository.name, ('',))[0] != commit:
-            found = await asyncio.to_thread(entries_of, await mirror.texts(commit))
-            self.seen[repository.name] = commit, found
-        return self.seen[repository.name][1]
-
     async def look(self, repository: Repository, minute: int) -> None:
         """Starts what is due in a repository, by what its mirror has now: the delivery fetches it."""
         mirror = self.events.handler.mirror(repository)
         if mirror is None:
             return
-        for entry in await self.entries(repository, mirror):
+        entries = entries_of(await self.events.listing.read(repository, mirror))
+        for entry in entries if self.events.settings.schedules else ():
             name = f'{repository.name} {entry.name}'
             kept = self.events.hub.notes.get(0, 0, KIND, name) or {}
             last, started = int(kept.get('seen', minute - 1)), int(kept.get('started', 0))

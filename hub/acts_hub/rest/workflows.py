@@ -28,6 +28,7 @@ class WorkflowRequests:
         return [get('/actions/workflows', self.of_repository), get('/actions/workflows/{workflow}', self.one),
                 get('/actions/workflows/{workflow}/timing', self.timing), get('/contents/{path:.+}', self.contents),
                 on('POST', '/actions/workflows/{workflow}/dispatches', self.dispatch),
+                on('POST', '/dispatches', self.repository_dispatch),
                 on('PUT', '/actions/workflows/{workflow}/{state:enable|disable}', self.enable)]
 
     async def of_repository(self, request: web.Request) -> web.Response:
@@ -68,7 +69,9 @@ class WorkflowRequests:
             'git_url': None, 'html_url': None, 'download_url': None})
 
     async def file(self, workflow: Workflow) -> bytes | None:
-        """A workflow as its latest run has it: JSON, which is YAML."""
+        """A workflow as it is written, or else as its latest run has it: JSON, which is YAML."""
+        if workflow.text is not None:
+            return workflow.text.encode()
         body = await self.hub.mirror.body(workflow.latest.row.run) if workflow.latest else None
         if body is None:
             return None
@@ -95,4 +98,19 @@ class WorkflowRequests:
 
     async def started(self, repository: str, path: str, ref: str, inputs: dict[str, object], actor: str) -> web.Response:
         """Asks the part that starts runs."""
-        raise Fault(422, 'No events are taken here.')
+        done = await self.hub.events.dispatch(repository, path, ref, inputs, actor)
+        if not done.ok:
+            raise Fault(done.status, done.words)
+        return web.Response(status=204)
+
+    async def repository_dispatch(self, request: web.Request) -> web.Response:
+        """Starts the workflows that ask for an event of a type."""
+        repository, identity = self.api.writable(request)
+        given = await self.api.body(request)
+        event_type, payload = given.get('event_type'), given.get('client_payload') or {}
+        if not isinstance(event_type, str) or not isinstance(payload, dict):
+            raise invalid('RepositoryDispatch', 'event_type', 'event_type is a text, and client_payload an object.')
+        done = await self.hub.events.repository_dispatch(repository, event_type, payload, identity.name)
+        if not done.ok:
+            raise Fault(done.status, done.words)
+        return web.Response(status=204)
