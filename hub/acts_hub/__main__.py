@@ -16,7 +16,8 @@ def main() -> int:
     parser = argparse.ArgumentParser(prog='acts-hub', description='The program around the service acts.')
     parser.add_argument('--version', action='version', version=f'acts-hub {__version__}')
     parsers = parser.add_subparsers(dest='command', required=True, metavar='COMMAND')
-    for name in COMMANDS:
+    asked = sys.argv[1] if len(sys.argv) > 1 else ''
+    for name in [asked] if asked in COMMANDS else COMMANDS:    # one command needs no other's modules
         where = f'{__package__}.commands.{name}'
         if importlib.util.find_spec(where) is not None:
             importlib.import_module(where).add(parsers)

@@ -18,6 +18,7 @@ from .ledger.database import Database
 from .ledger.logs import LogStore
 from .ledger.notes import NoteStore
 from .ledger.refused import RefusedStore
+from .ledger.retention import Retention
 from .log import say
 from .part import Part
 from .service.hooks import HookPort
@@ -58,7 +59,7 @@ class Hub:
         except OSError as fault:
             say(f'the folder {self.folder} can not be made: {fault.strerror}')
         self.database.open()
-        self._tasks.append(asyncio.create_task(self.mirror.follow(), name='mirror'))
+        self._tasks += [asyncio.create_task(self.mirror.follow(), name='mirror'), asyncio.create_task(Retention(self).watch(), name='retention')]
         for part in self.events, self.gateway:
             if part is not None:
                 await part.start()

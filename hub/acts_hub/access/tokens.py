@@ -13,7 +13,7 @@ from typing import Any
 
 from ..ledger.database import Database
 from ..times import now
-from .identity import PATTERN, Identity, Right
+from .rights import PATTERN, Identity, Right
 
 PREFIX = 'acts_'
 LABEL = re.compile(r'[!-+\--~]{1,64}')
@@ -127,7 +127,7 @@ class Tokens:
         secret = PREFIX + secrets.token_urlsafe(32)
         self._database.write_now([(
             'insert into tokens (digest, name, right, repositories, prefix, labels, created_at, expires_at) values (?, ?, ?, ?, ?, ?, ?, ?)',
-            (digest_of(secret), name, right.value, json.dumps(repositories), prefix, json.dumps(labels), now(), expires_at))])
+            (digest_of(secret), name, right.value, json.dumps(repositories), prefix, json.dumps(labels), now(), expires_at))], 5)
         return secret
 
     def revoke(self, which: str) -> list[Token]:
@@ -135,7 +135,7 @@ class Tokens:
         found = [token for token in self.all() if token.revoked_at is None and which in (str(token.id), token.name)]
         self._database.write_now([
             *(('update tokens set revoked_at = ? where id = ?', (now(), token.id)) for token in found),
-            *(('delete from sessions where token = ?', (token.id,)) for token in found)])
+            *(('delete from sessions where token = ?', (token.id,)) for token in found)], 5)
         return found
 
 

@@ -6,7 +6,7 @@ import pathlib
 import sys
 from typing import Any
 
-from ..access.identity import Right
+from ..access.rights import Right
 from ..access.tokens import TokenError, Tokens
 from ..config import ConfigError, read_config
 from ..ledger.database import Database, LedgerError
@@ -43,7 +43,7 @@ def run(given: argparse.Namespace) -> int:
         try:
             return ACTS[given.act](Tokens(database), given)
         finally:
-            database.close()
+            database.close(1)
     except (ConfigError, TokenError, LedgerError, OSError) as fault:
         print(f'acts-hub: {fault}', file=sys.stderr)
         return 1

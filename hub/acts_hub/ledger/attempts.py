@@ -67,9 +67,10 @@ class AttemptStore:
     def keep(self, run: int, attempt: int) -> Statement:
         """Keeps the note of an attempt."""
         note = self.note(run, attempt)
-        return (f'insert into attempts ({COLUMNS}) values (?, ?, ?, ?, ?, ?, ?, ?, ?) on conflict do update set started_at = excluded.started_at,'
-                ' updated_at = excluded.updated_at, completed_at = excluded.completed_at, status = excluded.status, conclusion = excluded.conclusion,'
-                ' triggering_actor = excluded.triggering_actor, skipped = excluded.skipped',
+        return (f'insert into attempts ({COLUMNS}) values (?, ?, ?, ?, ?, ?, ?, ?, ?) on conflict do update set'
+                ' started_at = coalesce(excluded.started_at, attempts.started_at), updated_at = coalesce(excluded.updated_at, attempts.updated_at),'
+                ' completed_at = coalesce(excluded.completed_at, attempts.completed_at), status = excluded.status, conclusion = excluded.conclusion,'
+                ' triggering_actor = coalesce(excluded.triggering_actor, attempts.triggering_actor), skipped = excluded.skipped',
                 (run, attempt, note.started_at, note.updated_at, note.completed_at, note.status, note.conclusion, note.triggering_actor, int(note.skipped)))
 
     def keep_whole(self, run: int, attempt: int, whole: dict[str, Any]) -> int:

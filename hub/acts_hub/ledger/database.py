@@ -47,7 +47,7 @@ def statements_of(script: str) -> list[str]:
     for piece in script.split(';'):
         text += piece + ';'
         if sqlite3.complete_statement(text):
-            found.append(text)
+            found += [text] if text.strip(' \n;') else []
             text = ''
     return found
 
@@ -227,6 +227,11 @@ class Database:
             writer.execute('rollback to unit')
             say(f'the ledger leaves out a write: {fault}')
         writer.execute('release unit')
+
+    @property
+    def is_file(self) -> bool:
+        """Whether the file was opened: else what is read is empty."""
+        return self._writer is not None
 
     @property
     def waiting(self) -> int:

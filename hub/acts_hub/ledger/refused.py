@@ -3,6 +3,7 @@ from __future__ import annotations
 
 from dataclasses import dataclass
 
+from ..times import now
 from .database import Database, Overlay
 
 MAX_TEXT = 4000
@@ -33,15 +34,13 @@ class RefusedStore:
     def __init__(self, database: Database) -> None:
         self._database = database
         self._overlay: Overlay[int, Refused] = Overlay(database)
-        self._next: int | None = None
+        self._last = 0
 
     def add(self, at: int, repository: str, event: str, delivery: str, path: str | None, ref: str | None, sha: str | None,
             code: int | None, line: int | None, words: str, advice: str = '') -> Refused:
         """Keeps one."""
-        if self._next is None:
-            self._next = self._database.read('select coalesce(max(id), 0) + 1 from refused')[0][0] if self._database.read('select 1') else 1
-        made = Refused(self._next, at, repository, event, delivery, path, ref, sha, code, line, words[:MAX_TEXT], advice[:MAX_TEXT])
-        self._next += 1
+        self._last = max(self._last + 1, now() << 10)       # ascending, also over restarts, whether the ledger can be read or not
+        made = Refused(self._last, at, repository, event, delivery, path, ref, sha, code, line, words[:MAX_TEXT], advice[:MAX_TEXT])
         ticket = self._database.write(
             f'insert or replace into refused ({COLUMNS}) values (?, ?, ?, ?, ?, ?, ?, ?, ?, ?, ?, ?)',
             (made.id, at, repository, event, delivery, path, ref, sha, code, line, made.words, made.advice))

@@ -43,7 +43,13 @@ class RunStore:
     def keep(run: int, kept: KeptRun) -> Statement:
         """Keeps a run."""
         facts = None if kept.facts is None else json.dumps(kept.facts, separators=(',', ':'))
-        return ('insert or replace into runs (run, repository, delivery, digest, facts, created_at, created_source) values (?, ?, ?, ?, ?, ?, ?)',
+        same = ("runs.delivery = excluded.delivery and excluded.created_source <> 'seen' and"
+                " (runs.created_source = 'seen' or excluded.created_source = 'listed')")
+        return ('insert into runs (run, repository, delivery, digest, facts, created_at, created_source) values (?, ?, ?, ?, ?, ?, ?) on conflict do update set'
+                f' created_at = case when {same} then runs.created_at else excluded.created_at end,'
+                f' created_source = case when {same} then runs.created_source else excluded.created_source end,'
+                ' repository = excluded.repository, delivery = excluded.delivery, digest = coalesce(excluded.digest, runs.digest),'
+                ' facts = coalesce(excluded.facts, runs.facts)',
                 (run, kept.repository, kept.delivery, kept.digest, facts, kept.created_at, kept.created_source))
 
     @staticmethod
