@@ -16,14 +16,14 @@ from harness import Answer, request
 
 from acts_hub.access.identity import Right
 from acts_hub.app import make_app
-from acts_hub.config import Config, HubConfig, RepositoryConfig
+from acts_hub.config import AccessConfig, Config, HubConfig, RepositoryConfig
 from acts_hub.hub import Hub
 from acts_hub.ledger.artifacts import Artifact
 from acts_hub.ledger.caches import Cache
 from acts_hub.service.facts import Facts
 from acts_hub.service.hooks import Reply
 from acts_hub.service.http import Away, Unsupported
-from acts_hub.service.mirror import Run, Runs, value_of
+from acts_hub.service.mirror import Run, Runs
 from acts_hub.service.models import Job, Lease, Leg, Row, Runner, Wait, Whole
 
 T0 = 1_796_067_000_000  # 2026-11-30T19:30:00Z
@@ -40,10 +40,11 @@ def run_of(number: int, *, status: str = 'completed', conclusion: str | None = '
     """A run."""
     given: dict[str, Any] = {'sha': sha(number), 'branch': 'main', 'actor': 'mona', 'title': f'Change {number}', 'message': f'Change {number}\n\nMore.',
                              'author': 'Mona', 'author_email': 'mona@example.org', **facts}
+    skipped = conclusion == 'skipped'
     row = Row(number, number_of or number, attempt, repository, path, workflow, event, f'd{number}', 'refs/heads/main', status,
-              conclusion if status == 'completed' else None, None)
+              ('success' if skipped else conclusion) if status == 'completed' else None, None)
     at = T0 + number * 1000
-    return Run(row, Facts(**given), at, at + 5000 * (attempt - 1), at + 60_000, at + 60_000 if status == 'completed' else None, None, '')
+    return Run(row, Facts(**given), at, at + 5000 * (attempt - 1), at + 60_000, at + 60_000 if status == 'completed' else None, None, '', skipped=skipped)
 
 
 def leg_of(state: str | None = 'success', index: int = 0, lease: int | None = 7, runner: str | None = 'r1', **more: Any) -> Leg:
@@ -69,11 +70,15 @@ class MirrorByHand:
         self.runs: dict[int, Run] = {}
         self.wholes: dict[tuple[int, int], Whole] = {}
         self.bodies: dict[int, bytes] = {}
+        self.earlier: dict[tuple[int, int], Run] = {}
         self.is_whole, self.is_away, self.version = True, False, 1
         self.actors: list[tuple[int, int, str]] = []
 
     def put(self, run: Run, *jobs: Job) -> Run:
         """Adds a run, or replaces it."""
+        if run.id in self.runs:
+            before = self.runs[run.id]
+            self.earlier[run.id, before.row.attempt] = before
         self.runs[run.id] = run
         self.wholes[run.id, run.row.attempt] = whole_of(run, *(jobs or (job_of('build', leg_of()),)))
         self.version += 1
@@ -83,7 +88,11 @@ class MirrorByHand:
         return Runs([number for number, run in self.runs.items() if run.row.repository.lower() == repository.lower()], self.runs)
 
     def select(self, repository: str, **asked: str | None) -> Runs:
-        return Runs([run.id for run in self.of(repository) if all(value is None or value_of(run, name) == value for name, value in asked.items())], self.runs)
+        return Runs([run.id for run in self.of(repository) if all(value in (None, self._value(run, name)) for name, value in asked.items())], self.runs)
+
+    def _value(self, run: Run, name: str) -> str | None:
+        found: str | None = getattr(run.facts if name in ('branch', 'actor', 'sha') else run.row, name)
+        return found
 
     def repositories(self) -> list[str]:
         return sorted({run.row.repository for run in self.runs.values()})
@@ -92,6 +101,15 @@ class MirrorByHand:
         if self.is_away:
             raise Away('the service does not answer')
         return self.wholes.get((run, attempt or self.runs[run].row.attempt))
+
+    def attempt(self, run: int, attempt: int) -> Run | None:
+        return self.runs[run] if attempt == self.runs[run].row.attempt else self.earlier.get((run, attempt))
+
+    async def keep(self, run: int) -> None:
+        self.actors.append((run, 0, 'keep'))
+
+    async def runners(self) -> list[Runner]:
+        return [Runner('r1', 5, Lease(7, 1, 'build', 0), 3, ('linux', 'x64')), Runner('r2', 1, None, 4000, None)]
 
     async def body(self, run: int) -> bytes | None:
         return self.bodies.get(run)
@@ -125,16 +143,6 @@ class HooksByHand:
         raise Unsupported('this version of the service does not have the command')
 
 
-class ViewByHand:
-    """The view port: its runners."""
-
-    def __init__(self) -> None:
-        self.rows = [Runner('r1', 5, Lease(7, 1, 'build', 0), 3, ('linux', 'x64')), Runner('r2', 1, None, 4000, None)]
-
-    async def runners(self, name: str | None = None) -> list[Runner]:
-        return self.rows
-
-
 @dataclasses.dataclass
 class Stand:
     """The hub, and how to ask it."""
@@ -165,6 +173,7 @@ class Stand:
     def clear(self) -> None:
         """Forgets all runs, commands and what was kept of them."""
         self.mirror.runs.clear()
+        self.mirror.earlier.clear()
         self.mirror.wholes.clear()
         self.mirror.bodies.clear()
         self.mirror.actors.clear()
@@ -189,9 +198,10 @@ class Stand:
 @contextlib.contextmanager
 def standing(folder: pathlib.Path) -> Iterator[Stand]:
     """A hub that serves on a free port of loopback."""
-    config = Config(hub=HubConfig(url='https://hub.example:8443', folder=folder), repositories=(RepositoryConfig('octo/empty'),))
+    config = Config(hub=HubConfig(url='https://hub.example:8443', folder=folder), repositories=(RepositoryConfig('octo/empty'),),
+                    access=AccessConfig(requests_a_second=100_000, requests_burst=1_000_000, wrong_tokens_a_minute=100_000))
     hub, mirror, hooks = Hub(config), MirrorByHand(), HooksByHand()
-    hub.mirror, hub.hooks, hub.view = mirror, hooks, ViewByHand()  # type: ignore[assignment]
+    hub.mirror, hub.hooks = mirror, hooks  # type: ignore[assignment]
     hub.artifacts, hub.caches = ArtifactsByHand(folder), CachesByHand()  # type: ignore[assignment]
     hub.database.open()
     create = hub.access.tokens.create

@@ -1,8 +1,11 @@
 """Statuses and conclusions, as GitHub's documentation has them."""
-import pytest
+from dataclasses import replace
 
-from acts_hub.rest.conclusions import (combined_state, commit_state, leg_state, rollup_state, run_conclusion, status_context,
-                                       suite_status)
+import pytest
+from rest_stand import run_of
+
+from acts_hub.events.statuses import context_of
+from acts_hub.rest.conclusions import combined_state, commit_state, leg_state, rollup_state, run_conclusion, suite_status
 
 pytestmark = pytest.mark.quick
 
@@ -24,16 +27,15 @@ def test_states_of_jobs(state: str, waits_for: str, approval: bool, expected: tu
 
 
 def test_a_run_of_skipped_jobs_alone_is_skipped() -> None:
-    assert run_conclusion('success', ['skipped', 'skipped']) == 'skipped'
-    assert run_conclusion('success', ['skipped', 'success']) == 'success'
-    assert run_conclusion('cancelled', ['skipped']) == 'cancelled'
-    assert run_conclusion('success', []) == 'success'
-    assert run_conclusion(None, ['skipped']) is None
+    assert run_conclusion(run_of(1, conclusion='skipped')) == 'skipped'
+    assert run_conclusion(run_of(1)) == 'success'
+    assert run_conclusion(replace(run_of(1, conclusion='cancelled'), skipped=True)) == 'cancelled'
+    assert run_conclusion(run_of(1, status='queued')) is None
 
 
 def test_states_of_commits() -> None:
-    assert [commit_state(word) for word in ('success', 'skipped', 'neutral', 'failure', 'cancelled', None)] == \
-        ['success', 'success', 'success', 'failure', 'error', 'pending']
+    assert [commit_state(word) for word in ('success', 'skipped', 'failure', 'cancelled', None)] == \
+        ['success', 'success', 'failure', 'error', 'pending']
 
 
 @pytest.mark.parametrize('states, whole', [
@@ -48,8 +50,8 @@ def test_combined_states(states: list[str], whole: str) -> None:
 
 
 def test_contexts_differ_by_event() -> None:
-    assert status_context('Ci', '.github/workflows/ci.yml', 'push') != status_context('Ci', '.github/workflows/ci.yml', 'pull_request')
-    assert status_context('', '.github/workflows/ci.yml', 'push') == '.github/workflows/ci.yml (push)'
+    assert context_of('Ci', '.github/workflows/ci.yml', 'push') != context_of('Ci', '.github/workflows/ci.yml', 'pull_request')
+    assert context_of('', '.github/workflows/ci.yml', 'push') == '.github/workflows/ci.yml (push)'
 
 
 def test_rollups_and_suites() -> None:

@@ -132,11 +132,11 @@ def test_attempts(stand: Stand) -> None:
     assert present['previous_attempt_url'].endswith(f'{RUNS}/9/attempts/1')
     before = stand.json(f'{RUNS}/9/attempts/1')
     assert (before['run_attempt'], before['status'], before['conclusion'], before['previous_attempt_url']) == (1, 'completed', 'failure', None)
-    assert before['run_started_at'] == '2026-11-30T19:30:10Z' and before['updated_at'] == '2026-11-30T19:30:30Z'
+    assert before['run_started_at'] == '2026-11-30T19:30:09Z' and before['updated_at'] == '2026-11-30T19:31:09Z'
     for attempt in ('0', '3', '-1', 'x', '99999999999999999999'):
         assert stand.get(f'{RUNS}/9/attempts/{attempt}').status == 404
     del stand.mirror.wholes[9, 1]
-    answer = stand.get(f'{RUNS}/9/attempts/1')
+    answer = stand.get(f'{RUNS}/9/attempts/1/jobs')
     assert answer.status == 404 and 'not known' in answer.json()['message']
 
 
@@ -162,7 +162,7 @@ def test_cancel(stand: Stand) -> None:
 def test_rerun(stand: Stand) -> None:
     stand.mirror.put(run_of(1))
     assert stand.ask('POST', f'{RUNS}/1/rerun').status == 201
-    assert stand.hooks.commands == [('rerun', 1, 2)] and stand.mirror.actors == [(1, 2, 'mona')]
+    assert stand.hooks.commands == [('rerun', 1, 2)] and stand.mirror.actors == [(1, 0, 'keep'), (1, 2, 'mona')]
     stand.mirror.put(run_of(2, status='queued'))
     answer = stand.ask('POST', f'{RUNS}/2/rerun')
     assert (answer.status, answer.json()['message']) == (403, 'This workflow is already running')

@@ -20,6 +20,10 @@ class Rates:
         level, at = self._levels.get(key, (self.burst, 0.0))
         return min(self.burst, level + (self._clock() - at) * self.a_second)
 
+    def left(self, key: Hashable) -> float:
+        """How many a key may take at once. Nothing is taken."""
+        return self._level(key)
+
     def wait(self, key: Hashable) -> float:
         """The seconds until this key may again; 0 if it may now. Nothing is taken."""
         if self.burst <= 0:

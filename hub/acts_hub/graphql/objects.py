@@ -19,7 +19,6 @@ from .connections import connection
 from .execution import Arguments, Thing, Unanswered
 
 OPEN = 'Whether a pull request is open is not known here: only the runs that it started are.'
-REQUIRED = 'Which checks are required is not known here.'
 COUNT = 'How many commits a pull request has is not known here: only the one that its latest run is of.'
 
 
@@ -126,13 +125,13 @@ class Objects:
             'contexts': lambda given: connection('contexts', [self.check(one, view) for one, view in found], given)})
 
     def check(self, run: Run, view: JobView) -> Thing:
-        """A job as a check run."""
+        """A job as a check run. The hub has no rules of branches, so it requires none."""
         page = self.api.shapes.job_page(run, view)
         return Thing('CheckRun', {
             'id': node_of('CheckRun', view.value), 'databaseId': view.value, 'name': view.name, 'status': view.status.upper(),
             'conclusion': view.conclusion.upper() if view.conclusion else None, 'startedAt': iso(view.started_at),
             'completedAt': iso_or_none(view.completed_at), 'detailsUrl': page, 'url': page, 'permalink': page,
-            'isRequired': Unanswered('UNPROCESSABLE', REQUIRED), 'checkSuite': self.suite(run)}, frozenset({'Node', 'RequirableByPullRequest'}))
+            'isRequired': False, 'checkSuite': self.suite(run)}, frozenset({'Node', 'RequirableByPullRequest'}))
 
     def suite(self, run: Run) -> Thing:
         """A run as a check suite."""

@@ -5,20 +5,20 @@ import hashlib
 import json
 import re
 import secrets
+import time
 from collections.abc import Awaitable, Callable, Mapping, Sequence
-from dataclasses import replace
 from typing import TYPE_CHECKING, Any
 
 from aiohttp import web
 
 from ..access.identity import Identity, Right, identity_of, require
+from ..gateway import Gateway
 from ..service.hooks import Reply
 from ..service.http import Away, Unsupported
 from ..service.mirror import Run
-from ..service.models import Whole
 from .downloads import Downloads
 from .errors import Fault
-from .legs import JobView, jobs_of, times_of
+from .legs import JobView, jobs_of
 from .numbers import JobNumber, decimal
 from .pages import Page, is_known
 from .rows import RowTexts
@@ -53,7 +53,13 @@ class Api:
         self.rows = RowTexts(self.shapes)
         self.workflows = Workflows(hub)
         self._epoch = secrets.token_hex(4)
-        self._downloads = Downloads(hub.secret)
+        self._downloads = Downloads(secrets.token_bytes(32))
+
+    @property
+    def gateway(self) -> Gateway | None:
+        """Where runners are reached."""
+        found = self.hub.gateway
+        return found if isinstance(found, Gateway) else None
 
     # routes, and what every answer has
 
@@ -81,7 +87,7 @@ class Api:
             except web.HTTPException as fault:
                 if fault.status < 400:
                     raise
-                answer = fault_answer(fault_of(fault))
+                answer = fault_answer(fault_of(request, fault))
             self.mark(request, answer)
             return answer
         return handle
@@ -95,6 +101,18 @@ class Api:
         identity = identity_of(request)
         if identity is not None and identity.right in _SCOPES:
             answer.headers['X-OAuth-Scopes'] = _SCOPES[identity.right]
+        if identity is not None and (rate := self.rate(identity)):
+            answer.headers.update({f'X-RateLimit-{name.capitalize()}': str(value) for name, value in rate.items()})
+            answer.headers['X-RateLimit-Resource'] = 'core'
+
+    def rate(self, identity: Identity) -> dict[str, int]:
+        """How many requests one may make at once, how many are left, and when all are again; empty without a limit."""
+        rates = self.hub.access.requests
+        if rates.burst <= 0 or rates.a_second <= 0:
+            return {}
+        left = int(rates.left(identity.token_id))
+        reset = int(time.time() + (rates.burst - left) / rates.a_second) + 1
+        return {'limit': int(rates.burst), 'remaining': left, 'reset': reset, 'used': int(rates.burst) - left}
 
     # who may what
 
@@ -151,24 +169,19 @@ class Api:
 
     async def jobs(self, run: Run, attempt: int | None = None) -> list[JobView]:
         """The jobs of an attempt of a run, of the present one if none is named."""
-        number = run.row.attempt if attempt is None else attempt
-        if not 1 <= number <= run.row.attempt:
-            raise Fault(404)
-        whole = await self.whole(run, number)
-        return jobs_of(whole, times_of(run, whole))
-
-    async def whole(self, run: Run, attempt: int) -> Whole:
-        """An attempt of a run with its jobs."""
-        whole = await self.hub.mirror.whole(run.row.run, attempt)
+        as_it_was = self.attempt(run, run.row.attempt if attempt is None else attempt)
+        whole = await self.hub.mirror.whole(run.row.run, as_it_was.row.attempt)
         if whole is None:
-            raise Fault(404, f'What attempt {attempt} did is not known: it was not seen from here.')
-        return whole
+            raise Fault(404, f'What attempt {as_it_was.row.attempt} did is not known: it was not seen from here.')
+        gateway = self.gateway
+        return jobs_of(as_it_was, whole, gateway is not None and gateway.environments.is_approved(run.row.run, as_it_was.row.attempt))
 
-    async def earlier(self, run: Run, attempt: int) -> Run:
-        """A run as an earlier attempt of it was."""
-        whole = await self.whole(run, attempt)
-        times = times_of(run, whole)
-        return replace(run, row=whole.row, started_at=times.started_at, updated_at=times.updated_at, completed_at=times.updated_at)
+    def attempt(self, run: Run, attempt: int | None) -> Run:
+        """A run as it was in an attempt."""
+        found = self.hub.mirror.attempt(run.row.run, attempt) if attempt is not None else None
+        if found is None:
+            raise Fault(404)
+        return found
 
     async def job(self, request: web.Request, repository: str, name: str = 'job') -> tuple[Run, JobView]:
         """The job of an address, and its run."""
@@ -278,9 +291,11 @@ def fault_answer(fault: Fault) -> web.Response:
     return web.Response(text=dumps(fault.body()), status=fault.status, content_type='application/json', headers=fault.headers)
 
 
-def fault_of(fault: web.HTTPException) -> Fault:
+def fault_of(request: web.Request, fault: web.HTTPException) -> Fault:
     """An error of another part of the hub."""
     words = fault.text or ''
     message = words if words and '\n' not in words and not words.startswith(f'{fault.status}:') else fault.reason
+    if fault.status == 401 and 'Authorization' in request.headers:
+        message = 'Bad credentials'
     kept = {name: fault.headers[name] for name in ('WWW-Authenticate', 'Retry-After') if name in fault.headers}
     return Fault(fault.status, message, headers=kept)

@@ -14,6 +14,7 @@ from .errors import Fault
 from .legs import JobView
 from .pages import Page
 
+MAX_REFUSED = 200
 NO_COMMIT = 'No run of this commit is known.'
 
 
@@ -62,11 +63,12 @@ class CheckRequests:
 
     def shape(self, run: Run, view: JobView) -> dict[str, Any]:
         """A job as a check run."""
-        return self.api.shapes.check_run(run, view, len(self.notes(run, view)))
+        return self.api.shapes.check_run(run, view, len(self.notes(view)))
 
-    def notes(self, run: Run, view: JobView) -> list[dict[str, Any]]:
+    def notes(self, view: JobView) -> list[dict[str, Any]]:
         """The annotations of a job."""
-        return []
+        number, gateway = view.number, self.api.gateway
+        return gateway.findings.annotations(number.run, number.attempt, view.id, number.leg) if gateway else []
 
     async def suites(self, request: web.Request) -> web.Response:
         """The check suites of a commit: its runs."""
@@ -89,17 +91,34 @@ class CheckRequests:
 
     async def annotations(self, request: web.Request) -> web.Response:
         """What the steps of a job said with `::error::` and the like."""
-        run, view = await self.api.job(request, self.api.repository(request))
-        return self.api.listed(request, '', self.notes(run, view))
+        _, view = await self.api.job(request, self.api.repository(request))
+        return self.api.listed(request, '', [self.api.shapes.annotation(one) for one in self.notes(view)])
 
     # statuses
+
+    def states_at(self, repository: str, ref: str) -> tuple[str, list[dict[str, Any]]]:
+        """A commit and its statuses, newest first: of the latest run of each workflow and event, and of what was refused since."""
+        sha = commit_of(self.hub.mirror, repository, ref)
+        if sha is None:
+            raise Fault(404, NO_COMMIT)
+        runs = latest_at(self.hub.mirror, repository, sha)
+        seen = {(run.row.path, run.row.event): run.created_at for run in runs}
+        states = [self.api.shapes.status(run) for run in runs]
+        for one in self.hub.refused.list(repository, MAX_REFUSED):
+            key = one.path or '', one.event
+            if one.sha == sha and one.at >= seen.get(key, -1):
+                seen[key] = one.at + 1
+                states.append(self.api.shapes.refused_status(one))
+        if not states:
+            raise Fault(404, NO_COMMIT)
+        newest = {state['context']: state for state in sorted(states, key=lambda state: str(state['created_at']))}
+        return sha, list(newest.values())[::-1]
 
     async def combined(self, request: web.Request) -> web.Response:
         """The state of a commit."""
         repository = self.api.repository(request)
         page = Page.of(request.query)
-        sha, runs = self.runs_at(repository, request.match_info['ref'])
-        states = [self.api.shapes.status(run) for run in runs]
+        sha, states = self.states_at(repository, request.match_info['ref'])
         return self.api.answer(request, {
             'state': combined_state(state['state'] for state in states), 'statuses': list(page.cut(states)), 'sha': sha,
             'total_count': len(states), 'repository': self.api.shapes.repository(repository),
@@ -107,5 +126,5 @@ class CheckRequests:
 
     async def statuses(self, request: web.Request) -> web.Response:
         """The statuses of a commit, newest first."""
-        _, runs = self.runs_at(self.api.repository(request), request.match_info['ref'])
-        return self.api.listed(request, '', [self.api.shapes.status(run) for run in runs])
+        _, states = self.states_at(self.api.repository(request), request.match_info['ref'])
+        return self.api.listed(request, '', states)

@@ -3,12 +3,13 @@ from __future__ import annotations
 
 from collections.abc import Iterable
 
+from ..events.statuses import STATES
+from ..service.mirror import Run
+
 STATUSES = ('completed', 'in_progress', 'queued', 'requested', 'waiting', 'pending')
 CONCLUSIONS = ('action_required', 'cancelled', 'failure', 'neutral', 'skipped', 'stale', 'success', 'timed_out')
 _LEGS = {'waiting': 'queued', 'ready': 'queued', 'open': 'queued', 'blocked': 'queued', 'running': 'in_progress',
          'stopping': 'in_progress'}
-_STATES = {'success': 'success', 'skipped': 'success', 'neutral': 'success', 'failure': 'failure', 'timed_out': 'failure',
-           'cancelled': 'error', 'action_required': 'pending', None: 'pending'}
 
 
 def leg_state(state: str, waits_for: str | None = None, needs_approval: bool = False) -> tuple[str, str | None]:
@@ -23,15 +24,14 @@ def leg_state(state: str, waits_for: str | None = None, needs_approval: bool = F
     return status, None
 
 
-def run_conclusion(conclusion: str | None, job_states: Iterable[str]) -> str | None:
+def run_conclusion(run: Run) -> str | None:
     """The conclusion of a run: one in which every job was skipped is skipped."""
-    states = tuple(job_states)
-    return 'skipped' if conclusion == 'success' and states and set(states) == {'skipped'} else conclusion
+    return 'skipped' if run.skipped and run.row.conclusion == 'success' else run.row.conclusion
 
 
 def commit_state(conclusion: str | None) -> str:
     """The state of a commit status: success, failure, error or pending."""
-    return _STATES.get(conclusion, 'error')
+    return STATES.get(conclusion, 'error')
 
 
 def combined_state(states: Iterable[str]) -> str:
@@ -45,11 +45,6 @@ def combined_state(states: Iterable[str]) -> str:
 def suite_status(status: str) -> str:
     """The status of a check suite, which knows fewer words than a run."""
     return status if status in ('completed', 'in_progress') else 'queued'
-
-
-def status_context(workflow: str, path: str, event: str) -> str:
-    """The context of a commit status: one for each workflow and event."""
-    return f'{workflow or path} ({event})'
 
 
 def rollup_state(conclusions: Iterable[str | None]) -> str | None:

@@ -65,8 +65,10 @@ class RepositoryRequests:
 
     async def rate_limit(self, request: web.Request) -> web.Response:
         """How many requests one may make."""
-        require(request, Right.READ)
-        raise Fault(404, 'Rate limiting is not enabled.')
+        rate = self.api.rate(require(request, Right.READ))
+        if not rate:
+            raise Fault(404, 'Rate limiting is not enabled.')
+        return self.api.answer(request, {'resources': {'core': rate, 'graphql': rate}, 'rate': rate})
 
     async def of_user(self, request: web.Request) -> web.Response:
         """The repositories that one may read."""

@@ -51,7 +51,7 @@ class RunnerRequests:
 
     async def runners(self) -> list[Runner]:
         """All runners."""
-        return await self.hub.view.runners()
+        return await self.hub.mirror.runners()
 
     def shape(self, one: Runner) -> dict[str, Any]:
         """A runner; one counts as online that was heard within a minute."""

@@ -67,12 +67,10 @@ class RunRequests:
     async def attempt(self, request: web.Request) -> web.Response:
         """A run as an attempt of it was."""
         run = self.api.run(request, self.api.repository(request))
-        number = decimal(request.match_info['attempt'])
-        if number is None or not 1 <= number <= run.row.attempt:
-            raise Fault(404)
-        if number == run.row.attempt:
+        found = self.api.attempt(run, decimal(request.match_info['attempt']))
+        if found.row.attempt == run.row.attempt:
             return self.api.text(request, self.texts(request, [run])[0])
-        return self.api.answer(request, self.api.shapes.run(await self.api.earlier(run, number)))
+        return self.api.answer(request, self.api.shapes.run(found))
 
     async def timing(self, request: web.Request) -> web.Response:
         """How long a run took; nothing is billed here."""
@@ -84,11 +82,12 @@ class RunRequests:
 
     async def cancel(self, request: web.Request) -> web.Response:
         """Cancels a run: its runners are asked to stop."""
-        repository, _ = self.api.writable(request)
+        repository, identity = self.api.writable(request)
         run = self.api.run(request, repository)
         reply = await self.hub.hooks.cancel(run.row.run)
         if not reply.ok:
             raise self.refused(reply, 'Cannot cancel a workflow run that is completed.')
+        self.hub.notes.set(run.row.run, run.row.attempt, 'cancelled', 'by', identity.name)
         return self.api.answer(request, {}, 202)
 
     async def force_cancel(self, request: web.Request) -> web.Response:
@@ -117,6 +116,7 @@ class RunRequests:
         if run.row.status != 'completed':
             raise Fault(403, 'This workflow is already running')
         attempt = run.row.attempt + 1
+        await self.hub.mirror.keep(run.row.run)
         if failed:
             reply = await self.api.newer(self.hub.hooks.retry(run.row.run, attempt), NOT_AGAIN)
         else:

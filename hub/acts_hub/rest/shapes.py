@@ -2,16 +2,20 @@
 from __future__ import annotations
 
 import json
+from collections.abc import Mapping
 from typing import Any
 from urllib.parse import quote
 
+from ..events.statuses import context_of
+from ..ledger.refused import Refused
 from ..service.mirror import Run
 from ..times import iso, iso_or_none
-from .conclusions import commit_state, status_context, suite_status
+from .conclusions import commit_state, run_conclusion, suite_status
 from .legs import JobView
 from .numbers import node_of, number_of
 
 Shape = dict[str, Any]
+MAX_DESCRIPTION = 140
 SYSTEMS = ('linux', 'windows', 'macos')
 
 
@@ -67,7 +71,7 @@ class Shapes:
         return {
             'id': row.run, 'name': row.workflow or row.path, 'node_id': node_of('WorkflowRun', row.run),
             'head_branch': facts.branch, 'head_sha': facts.sha or '', 'path': row.path, 'display_title': title,
-            'run_number': row.number, 'event': row.event, 'status': row.status, 'conclusion': row.conclusion,
+            'run_number': row.number, 'event': row.event, 'status': row.status, 'conclusion': run_conclusion(run),
             'workflow_id': workflow, 'check_suite_id': row.run, 'check_suite_node_id': node_of('CheckSuite', row.run),
             'url': here, 'html_url': self.run_page(run), 'pull_requests': self.pulls(run), 'created_at': iso(run.created_at),
             'updated_at': iso(run.updated_at), 'actor': self.user_or_none(facts.actor), 'run_attempt': row.attempt,
@@ -148,7 +152,7 @@ class Shapes:
         """A run as a check suite."""
         row, here = run.row, self.at(run.row.repository, f'check-suites/{run.row.run}')
         return {'id': row.run, 'node_id': node_of('CheckSuite', row.run), 'head_branch': run.facts.branch,
-                'head_sha': run.facts.sha or '', 'status': suite_status(row.status), 'conclusion': row.conclusion, 'url': here,
+                'head_sha': run.facts.sha or '', 'status': suite_status(row.status), 'conclusion': run_conclusion(run), 'url': here,
                 'before': None, 'after': run.facts.sha, 'pull_requests': self.pulls(run), 'app': self.app,
                 'repository': self.repository(row.repository), 'created_at': iso(run.created_at), 'updated_at': iso(run.updated_at),
                 'head_commit': self.commit(run), 'latest_check_runs_count': jobs, 'check_runs_url': f'{here}/check-runs',
@@ -157,11 +161,26 @@ class Shapes:
     def status(self, run: Run) -> Shape:
         """A run as a status of its commit."""
         row = run.row
-        return {'id': row.run, 'node_id': node_of('StatusContext', row.run), 'avatar_url': None, 'state': commit_state(row.conclusion),
-                'description': row.conclusion or row.status, 'target_url': self.run_page(run),
-                'context': status_context(row.workflow, row.path, row.event), 'created_at': iso(run.created_at),
+        return {'id': row.run, 'node_id': node_of('StatusContext', row.run), 'avatar_url': None, 'state': commit_state(run_conclusion(run)),
+                'description': run_conclusion(run) or row.status, 'target_url': self.run_page(run),
+                'context': context_of(row.workflow, row.path, row.event), 'created_at': iso(run.created_at),
                 'updated_at': iso(run.updated_at), 'url': self.at(row.repository, f'statuses/{run.facts.sha or ""}'),
                 'creator': self.user_or_none(run.facts.actor)}
+
+    def refused_status(self, one: Refused) -> Shape:
+        """An event that made no run as a status of its commit."""
+        where = f'line {one.line}: ' if one.line else ''
+        return {'id': one.id, 'node_id': node_of('Refused', one.id), 'avatar_url': None, 'state': 'error',
+                'description': (where + one.words)[:MAX_DESCRIPTION], 'target_url': f'{self.web}/{one.repository}/actions/refused',
+                'context': context_of('', one.path or '', one.event), 'created_at': iso(one.at), 'updated_at': iso(one.at),
+                'url': self.at(one.repository, f'statuses/{one.sha or ""}'), 'creator': None}
+
+    def annotation(self, given: Mapping[str, Any]) -> Shape:
+        """What a step said of a file, or of the run: then the file is `.github`, as at GitHub."""
+        line = given.get('start_line') or 1
+        return {'path': given.get('path') or '.github', 'blob_href': '', 'start_line': line, 'start_column': given.get('start_column'),
+                'end_line': given.get('end_line') or line, 'end_column': given.get('end_column'), 'raw_details': '',
+                'annotation_level': given.get('annotation_level'), 'title': given.get('title') or '', 'message': given.get('message') or ''}
 
     def workflow(self, repository: str, path: str, name: str, created_at: int | None, updated_at: int | None) -> Shape:
         """A workflow."""

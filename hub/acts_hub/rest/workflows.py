@@ -3,15 +3,15 @@ from __future__ import annotations
 
 import base64
 import hashlib
-import json
 
 from aiohttp import web
 
+from ..events.dispatch import Dispatched
 from .api import Api
 from .errors import Fault, invalid
 from .known import Workflow
 
-NOT_KNOWN = 'Only files of workflows that have runs are shown here.'
+NOT_KNOWN = 'Only files of workflows are shown here, and there is none of this name at this ref.'
 NOT_SET = 'A workflow is there as long as its repository has its file: take the file away, or its events.'
 MAX_INPUTS = 25
 
@@ -27,8 +27,7 @@ class WorkflowRequests:
         get, on = self.api.get, self.api.on
         return [get('/actions/workflows', self.of_repository), get('/actions/workflows/{workflow}', self.one),
                 get('/actions/workflows/{workflow}/timing', self.timing), get('/contents/{path:.+}', self.contents),
-                on('POST', '/actions/workflows/{workflow}/dispatches', self.dispatch),
-                on('POST', '/dispatches', self.repository_dispatch),
+                on('POST', '/actions/workflows/{workflow}/dispatches', self.dispatch), on('POST', '/dispatches', self.repository_dispatch),
                 on('PUT', '/actions/workflows/{workflow}/{state:enable|disable}', self.enable)]
 
     async def of_repository(self, request: web.Request) -> web.Response:
@@ -54,10 +53,7 @@ class WorkflowRequests:
         """The file of a workflow."""
         repository = self.api.repository(request)
         path = request.match_info['path']
-        workflow = next((one for one in self.api.workflows.of(repository) if one.path == path), None)
-        if workflow is None:
-            raise Fault(404, NOT_KNOWN)
-        text = await self.file(workflow)
+        text = await self.api.workflows.text(repository, path, request.query.get('ref', ''))
         if text is None:
             raise Fault(404, NOT_KNOWN)
         if 'raw' in request.headers.get('Accept', ''):
@@ -67,16 +63,6 @@ class WorkflowRequests:
             'type': 'file', 'encoding': 'base64', 'size': len(text), 'name': path.rpartition('/')[2], 'path': path,
             'content': base64.encodebytes(text).decode(), 'sha': sha, 'url': self.api.shapes.at(repository, f'contents/{path}'),
             'git_url': None, 'html_url': None, 'download_url': None})
-
-    async def file(self, workflow: Workflow) -> bytes | None:
-        """A workflow as it is written, or else as its latest run has it: JSON, which is YAML."""
-        if workflow.text is not None:
-            return workflow.text.encode()
-        body = await self.hub.mirror.body(workflow.latest.row.run) if workflow.latest else None
-        if body is None:
-            return None
-        found = json.loads(body).get('workflow')
-        return (json.dumps(found, indent=2, ensure_ascii=False) + '\n').encode()
 
     async def enable(self, request: web.Request) -> web.Response:
         """Says that workflows are not switched on and off here."""
@@ -94,23 +80,20 @@ class WorkflowRequests:
             raise invalid('WorkflowDispatch', 'ref', "For 'properties/ref', nil is not a string.")
         if not isinstance(inputs, dict) or len(inputs) > MAX_INPUTS:
             raise invalid('WorkflowDispatch', 'inputs', f'inputs is an object of at most {MAX_INPUTS} members.')
-        return await self.started(repository, workflow.path, ref, inputs, identity.name)
-
-    async def started(self, repository: str, path: str, ref: str, inputs: dict[str, object], actor: str) -> web.Response:
-        """Asks the part that starts runs."""
-        done = await self.hub.events.dispatch(repository, path, ref, inputs, actor)
-        if not done.ok:
-            raise Fault(done.status, done.words)
-        return web.Response(status=204)
+        return done(await self.hub.events.dispatch(repository, workflow.path, ref, inputs, identity.name))
 
     async def repository_dispatch(self, request: web.Request) -> web.Response:
-        """Starts the workflows that ask for an event of a type."""
+        """Starts the workflows that ask for an event of the sender's own type."""
         repository, identity = self.api.writable(request)
         given = await self.api.body(request)
-        event_type, payload = given.get('event_type'), given.get('client_payload') or {}
-        if not isinstance(event_type, str) or not isinstance(payload, dict):
+        kind, payload = given.get('event_type'), given.get('client_payload') or {}
+        if not isinstance(kind, str) or not isinstance(payload, dict):
             raise invalid('RepositoryDispatch', 'event_type', 'event_type is a text, and client_payload an object.')
-        done = await self.hub.events.repository_dispatch(repository, event_type, payload, identity.name)
-        if not done.ok:
-            raise Fault(done.status, done.words)
-        return web.Response(status=204)
+        return done(await self.hub.events.repository_dispatch(repository, kind, payload, identity.name))
+
+
+def done(reply: Dispatched) -> web.Response:
+    """204 for what was started, else why it was not."""
+    if not reply.ok:
+        raise Fault(reply.status, reply.words)
+    return web.Response(status=204)

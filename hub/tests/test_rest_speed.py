@@ -1,0 +1,73 @@
+"""How fast the REST API is over 20,000 runs: the processor's time of the hub for a request, and requests a second."""
+from __future__ import annotations
+
+import subprocess
+import sys
+import time
+from collections.abc import Iterator
+
+import pytest
+from rest_stand import MirrorByHand, Stand, leg_of, job_of, run_of, whole_of
+
+COUNT, ASKED = 20_000, 1_000
+CLIENT = '''
+import http.client, sys, time
+port, token, count, known, path = int(sys.argv[1]), sys.argv[2], int(sys.argv[3]), sys.argv[4], sys.argv[5]
+made = http.client.HTTPConnection('127.0.0.1', port)
+walls, fields = [], {'Authorization': f'token {token}'}
+for number in range(count):
+    began = time.perf_counter()
+    made.request('GET', path, headers=fields)
+    answer = made.getresponse()
+    answer.read()
+    walls.append(time.perf_counter() - began)
+    assert answer.status in (200, 304), answer.status
+    if known == 'known':
+        fields['If-None-Match'] = answer.headers['ETag']
+walls.sort()
+print(walls[count // 2] * 1000, walls[0] * 1000, sum(walls))
+'''
+
+
+@pytest.fixture(scope='module')
+def full(standing_hub: Stand) -> Iterator[Stand]:
+    standing_hub.clear()
+    mirror = standing_hub.mirror
+    for number in range(1, COUNT + 1):
+        run = run_of(number, branch=('main', 'topic/a', 'release')[number % 3], actor=('mona', 'hubot')[number % 5 == 0],
+                     conclusion=('success', 'success', 'failure')[number % 3], path=f'.github/workflows/{("ci", "deploy", "nightly")[number % 3]}.yml')
+        mirror.put(run)
+        mirror.wholes[number, 1] = whole_of(run, job_of('build', leg_of()))
+    yield standing_hub
+    standing_hub.clear()
+
+
+def measured(stand: Stand, path: str, known: str = '', clients: int = 1) -> tuple[float, float, float]:
+    """Milliseconds of the hub's processor time for a request, the median of the wall clock, and requests a second."""
+    words = [sys.executable, '-c', CLIENT, str(stand.port), stand.tokens['read'], str(ASKED // clients), known, f'/api/v3/repos/octo/hello/{path}']
+    used, began = time.process_time(), time.perf_counter()
+    running = [subprocess.Popen(words, stdout=subprocess.PIPE, text=True) for _ in range(clients)]
+    said = [one.communicate(timeout=300)[0].split() for one in running]
+    used, wall = time.process_time() - used, time.perf_counter() - began
+    assert all(one.returncode == 0 for one in running)
+    median = max(float(words[0]) for words in said)
+    print(f'{path} {known} {clients} clients: {used / ASKED * 1000:.2f} ms of the processor, median {median:.2f} ms, best {min(float(words[1]) for words in said):.2f} ms,'
+          f' {ASKED / wall:.0f}/s with the start of the clients')
+    return used / ASKED * 1000, median, ASKED / wall
+
+
+@pytest.mark.parametrize('path, most', [
+    ('actions/runs?per_page=20', 2.0), ('actions/runs?per_page=100', 4.0), ('actions/runs/777', 2.0), ('actions/runs/777/jobs', 2.0), ('actions/workflows', 2.0)])
+def test_processor_time_of_a_request(full: Stand, path: str, most: float) -> None:
+    if not isinstance(full.mirror, MirrorByHand):
+        pytest.fail('the mirror is filled by hand here')
+    assert measured(full, path)[0] < most
+
+
+def test_what_has_not_changed_costs_less(full: Stand) -> None:
+    assert measured(full, 'actions/runs?per_page=20', 'known')[0] < 2.0
+
+
+def test_five_hundred_lists_of_twenty_a_second(full: Stand) -> None:
+    used, _, _ = measured(full, 'actions/runs?per_page=20', clients=8)
+    assert used < 2.0  # so 500 a second of one processor
