@@ -223,6 +223,11 @@ class Events:
         """The workflows of a repository's default branch."""
         return self.listing.of(repository)
 
+    def free_environments(self, repository: str) -> list[str]:
+        """The environments of a repository whose jobs wait for no approval."""
+        known = self.settings.repository(repository)
+        return [name for name, waits in known.environments.items() if not waits] if known else []
+
     def unclaimable(self, whole: Whole) -> str | None:
         """Why a leg of a run can't be claimed by any runner; None if each can."""
         return unclaimable_of(whole, self.hub.access.tokens.all())
