@@ -37,6 +37,7 @@ class Leg:
     job: str
     leg: int
     attempt: int
+    combination: dict[str, Any]
     length: int = 0
     step: int = 0
 
@@ -100,7 +101,7 @@ class Stage:
         words = self.lines.claim(name, labels)
         assert words[0] == 'lease', words
         run = int(words[2])
-        return Leg(self, name, int(words[1]), run, words[3], int(words[4]), self.service.run(run)['attempt'])
+        return Leg(self, name, int(words[1]), run, words[3], int(words[4]), self.service.run(run)['attempt'], json.loads(words[5]))
 
     def claims(self, job: str, labels: str = 'linux') -> Leg:
         """The leg of a job; others before it end well."""

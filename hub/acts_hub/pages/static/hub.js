@@ -62,7 +62,7 @@ function replaceParts(fresh) {
   }
   const news = fresh.getElementById('summary')?.textContent ?? '';
   if (news && document.body.dataset.summary !== news) {
-    if (document.body.dataset.summary !== undefined) say(news);
+    say(news);
     document.body.dataset.summary = news;
   }
   if (fresh.title) document.title = fresh.title;
@@ -80,7 +80,7 @@ async function renew() {
     tell('off', 'no answer: what is shown may be older');
   }
   took = performance.now() - began;
-  setTimeout(() => { asking = false; if (again) { again = false; renew(); } }, Math.max(50, 3 * took));
+  setTimeout(() => { asking = false; if (again) { again = false; renew(); } }, Math.min(1000, Math.max(50, took)));
 }
 
 function follow(address) {
@@ -190,6 +190,7 @@ function prepare(step) {
 
 // ---- begin
 
+document.body.dataset.summary = document.getElementById('summary')?.textContent ?? '';
 if (innerWidth > 900) for (const fold of document.querySelectorAll('.side-fold')) fold.open = true;
 for (const box of document.querySelectorAll('[data-toggles]')) {
   const set = () => document.getElementById(box.dataset.for).classList.toggle(box.dataset.toggles, box.checked);
