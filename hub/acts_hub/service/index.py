@@ -3,7 +3,7 @@ from __future__ import annotations
 
 import bisect
 from collections import OrderedDict
-from collections.abc import Callable, Mapping, Sequence
+from collections.abc import Mapping, Sequence
 
 Values = Mapping[str, str | None]
 Asked = frozenset[tuple[str, str]]
@@ -13,8 +13,7 @@ MAX_COMBINED = 128
 class Index:
     """Ascending ids: of a repository, of a value of a field, and of several values at once once they were asked for."""
 
-    def __init__(self, values_of: Callable[[int], Values]) -> None:
-        self._values_of = values_of
+    def __init__(self) -> None:
         self._all: dict[str, list[int]] = {}
         self._fields: dict[tuple[str, str, str], list[int]] = {}
         self._combined: OrderedDict[tuple[str, Asked], list[int]] = OrderedDict()
@@ -38,7 +37,7 @@ class Index:
         key = repository, frozenset(asked.items())
         found = self._combined.get(key)
         if found is None:
-            found = [number for number in shortest if fits(self._values_of(number), key[1])]
+            found = sorted(set(shortest).intersection(*lists))
             if len(shortest) > 200:
                 self._combined[key] = found
                 if len(self._combined) > MAX_COMBINED:

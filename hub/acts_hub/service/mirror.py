@@ -40,7 +40,7 @@ class Mirror:
         self.dropped: list[Callable[[int], None]] = []      # called with a run whose ledger was dropped: its logs and artifacts go too
         self.snapshots: OrderedDict[int, Json] = OrderedDict()
         self._bodies: OrderedDict[tuple[int, str], bytes] = OrderedDict()
-        self._index = Index(lambda number: values_of(self.runs[number]))
+        self._index = Index()
         self._watchers: set[Watcher] = set()
         self._moved = asyncio.Event()
         self._follower = Follower(self)
