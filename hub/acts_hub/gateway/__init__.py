@@ -7,6 +7,7 @@ from typing import TYPE_CHECKING
 
 from aiohttp import web
 
+from ..events.settings import settings_of
 from .approvals import Approvals
 from .artifacts import Artifacts
 from .caches import Caches
@@ -54,9 +55,11 @@ class Gateway:
 
 def free_environments(hub: Hub) -> Free:
     """The environments of a repository whose jobs need no approval, as the operator says."""
+    settings = settings_of(hub.config)
+
     def free(repository: str) -> list[str]:
-        given = getattr(hub.events, 'free_environments', None)
-        return list(given(repository)) if given else []
+        found = settings.repository(repository)
+        return [name for name, waits in found.environments.items() if not waits] if found else []
     return free
 
 
