@@ -16,6 +16,7 @@ from io import IOBase
 from typing import TYPE_CHECKING, Any, Callable, Iterator, Mapping, Sequence, TypeVar
 
 import aiohttp
+from aiohttp.http_exceptions import HttpProcessingError
 
 from .lines import ENDS, MAX_ANSWER, Cut, Session
 from .options import Options, token_in
@@ -102,12 +103,14 @@ class Hub:
     async def _ask(self, method: str, path: str, params: Sequence[tuple[str, str]], claim: str, data: bytes | None,
                    file: str | None, to: str | None) -> Answer:
         headers = {'X-Acts-Claim': claim} if claim else {}
+        if file:
+            headers['Connection'] = 'close'  # an answer that comes before all is sent ends the connection
         body = open(file, 'rb') if file else data
         try:
             async with (await self.session()).request(method, self.url + path, params=list(params), headers=headers,
                                                       data=body, allow_redirects=False) as answer:
                 return await self._taken(answer, to)
-        except (aiohttp.ClientError, asyncio.TimeoutError, OSError) as fault:
+        except (aiohttp.ClientError, HttpProcessingError, asyncio.TimeoutError, OSError) as fault:
             raise Away(f'{self.url} does not answer: {fault or type(fault).__name__}') from None
         finally:
             if isinstance(body, IOBase):
@@ -315,6 +318,8 @@ class HubStorage:
 
     def upload(self, name: str, files: Sequence[str], base: str, overwrite: bool) -> str:
         """Keeps files as an artifact: a zip."""
+        if not overwrite and name in self.listed():
+            raise StorageFault(f'the run has an artifact {name} already')
         archive = os.path.join(self.job.step_folder(), 'artifact.zip')
         with zipfile.ZipFile(archive, 'w', zipfile.ZIP_DEFLATED, compresslevel=6, strict_timestamps=False) as made:
             for file in files:

@@ -10,7 +10,7 @@ import time
 from typing import Any, Iterator
 
 from harness import free_ports
-from runner_trials import ROOT, Case, case, lines_of, mirror, until  # noqa: F401
+from runner_trials import ENGINE, ROOT, Case, case, lines_of, mirror, until  # noqa: F401
 
 NEVER = {'run': 'echo never >> "$NOTES"'}
 TOOL = 'mkdir -p tools; printf "#!/bin/sh\\necho tool \\$1" > tools/mine; chmod +x tools/mine; echo "$PWD/tools" >> "$GITHUB_PATH"'
@@ -168,31 +168,6 @@ def test_others_may_not_read_secrets(case: Case) -> None:
     _run(case, [NEVER], 'failure', '--secrets', path)
 
 
-ENGINE = '''#!/usr/bin/env python3
-# Stands in for docker: what runs "in" a container runs here, with the variables that are given alone.
-import glob, os, signal, sys
-word, *rest = sys.argv[1:]
-with open(os.environ['NOTES'] + '.engine', 'a') as file:
-    print(word, *rest, file=file)
-if word == 'exec':
-    env = {'PATH': '/usr/bin:/bin', 'STANDS_IN': 'for a container'}
-    while rest[0].startswith('--'):
-        name, value, *rest = rest
-        if name == '--workdir':
-            os.chdir(value)
-        else:
-            env[value] = os.environ[value]
-    os.execvpe(rest[1], rest[1:], env)
-if word == 'restart':
-    for path in glob.glob('/proc/[0-9]*/environ'):
-        try:
-            if 'STANDS_IN=for a container' in open(path).read() and os.environ['NOTES'] in open(path).read():
-                os.kill(int(path.split('/')[2]), signal.SIGKILL)
-        except OSError:
-            pass
-'''
-
-
 def test_in_a_container(case: Case) -> None:
     """With docker or podman itself, and an image with a shell, if TRY_IMAGE names one; else with a stand-in. A cancel reaches what runs in it."""
     image = os.environ.get('TRY_IMAGE')
@@ -241,10 +216,6 @@ def test_container_is_refused(case: Case) -> None:
     case.start(PATH=folder)
     case.says('not run: jobs.build.container: neither docker nor podman answers here', 'r1: run 1 build 0 failure: ok', 'r1: nothing')
     assert case.noted() == [], case.noted()
-
-
-def test_services_are_refused(case: Case) -> None:
-    _refused(case, 'jobs.build.services', services={'db': {'image': 'postgres'}})
 
 
 def test_environment_is_refused(case: Case) -> None:
