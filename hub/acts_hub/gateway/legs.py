@@ -21,6 +21,7 @@ from .leases import Lease, Leases
 from .lines import Claim, read_line
 
 DIGITS = re.compile('[1-9][0-9]{0,8}|0')
+ID = re.compile('[1-9][0-9]{0,14}')  # of an artifact or a cache
 OUTPUTS = 'outputs'
 PATH = '/{run}/{attempt}/{job}/{leg}/{lease}'
 
@@ -28,7 +29,7 @@ PATH = '/{run}/{attempt}/{job}/{leg}/{lease}'
 def number_in(request: web.Request, name: str) -> int:
     """A number of an address."""
     text = request.match_info[name]
-    if not DIGITS.fullmatch(text):
+    if not (ID if name == 'id' else DIGITS).fullmatch(text):
         raise web.HTTPNotFound(text=f'no {name}')
     return int(text)
 
