@@ -61,7 +61,7 @@ def run(wishes: Wishes) -> int:
         config = prepare(folder, os.path.abspath(acts), wishes.listen, LABELS, owner)
         if user is None:
             say('The steps of the runner run as you: a trial alone. On a host of its own, or as another user, it can use nothing of this folder.')
-        return asyncio.run(_live(folder, config, _children(folder, config, os.path.abspath(acts), wishes, user), wishes.once))
+        return asyncio.run(_live(folder, config, os.path.abspath(acts), wishes, user))
     except (Unfit, Failed, OSError) as fault:
         print(f'acts-hub up: {fault}', file=sys.stderr, flush=True)
         return 1
@@ -99,9 +99,8 @@ def _environment() -> dict[str, str]:
     return {**os.environ, 'PYTHONPATH': str(PACKAGES), 'PYTHONDONTWRITEBYTECODE': '1'}
 
 
-def _children(folder: Folder, config: Config, acts: str, wishes: Wishes, user: str | None) -> Sequence[Child]:
+def _children(folder: Folder, config: Config, acts: str, wishes: Wishes, user: str | None, view: ViewPort) -> Sequence[Child]:
     """The service behind its doors, the hub, and the runner, in the order of their starts."""
-    view = ViewPort(config.service.view)
     python = sys.executable, '-m'
     hook, lines, shown = _free_ports() if wishes.open_loopback else INSIDE
     serve = (acts, 'serve', str(folder.store), '--hook-port', str(hook), '--runner-port', str(lines), '--view-port', str(shown),
@@ -140,13 +139,15 @@ async def _has_runner(view: ViewPort) -> bool:
     return any(row.name.startswith(NAME) and row.heard_seconds_ago is not None and row.heard_seconds_ago < 10 for row in rows)
 
 
-async def _live(folder: Folder, config: Config, children: Sequence[Child], once: bool) -> int:
+async def _live(folder: Folder, config: Config, acts: str, wishes: Wishes, user: str | None) -> int:
     """Starts the children one after the other, plays the example, and ends them in the other order."""
+    view = ViewPort(config.service.view)
+    children = _children(folder, config, acts, wishes, user, view)
     loop, asked = asyncio.get_running_loop(), asyncio.Event()
     for number in signal.SIGINT, signal.SIGTERM, signal.SIGHUP:
         loop.add_signal_handler(number, asked.set)
     kept: list[asyncio.Task[None]] = []
-    work = loop.create_task(_work(folder, config, children, kept, once))
+    work = loop.create_task(_work(folder, config, children, kept, view, wishes.once))
     stopped = loop.create_task(asked.wait())
     try:
         await _first(work, stopped, kept)
@@ -159,6 +160,7 @@ async def _live(folder: Folder, config: Config, children: Sequence[Child], once:
         for task in kept:
             task.cancel()
         await asyncio.gather(work, stopped, *kept, return_exceptions=True)
+        await view.close()
 
 
 async def _first(work: asyncio.Task[int], stopped: asyncio.Task[bool], kept: list[asyncio.Task[None]]) -> None:
@@ -171,13 +173,13 @@ async def _first(work: asyncio.Task[int], stopped: asyncio.Task[bool], kept: lis
                 task.result()
 
 
-async def _work(folder: Folder, config: Config, children: Sequence[Child], kept: list[asyncio.Task[None]], once: bool) -> int:
+async def _work(folder: Folder, config: Config, children: Sequence[Child], kept: list[asyncio.Task[None]], view: ViewPort, once: bool) -> int:
     """What is done between the start and a signal; the exit status."""
     for child in children:
         kept.append(asyncio.get_running_loop().create_task(child.keep(say)))
         await child.ready()
     _greet(folder, config)
-    hooks, view = HookPort(config.service.hook), ViewPort(config.service.view)
+    hooks = HookPort(config.service.hook)
     try:
         run = await example.play(folder, hooks)
         say(f'Run {run}: {config.url}/{REPOSITORY}/actions/runs/{run}')
@@ -185,7 +187,6 @@ async def _work(folder: Folder, config: Config, children: Sequence[Child], kept:
         say(f'Run {run} has ended: {outcome.conclusion}')
     finally:
         await hooks.close()
-        await view.close()
     if not once:
         say('Ctrl-C ends all of this; the same command goes on with it.')
         await asyncio.Event().wait()
