@@ -1,22 +1,34 @@
 """The real `gh` over TLS against the hub and the service: what people type."""
 from __future__ import annotations
 
+import hashlib
+import io
 import json
 import os
 import pathlib
 import subprocess
+import zipfile
 from collections.abc import Iterator, Mapping
 from dataclasses import dataclass, field
 from typing import Any
 
 import pytest
-from harness import HubProcess, RunnerLines, Service, body_of, until
+from harness import HubProcess, Service, body_of, until
+from repositories import Repository, tables
+from wires import Wire
 
-from acts_hub.ledger.logs import LogStore
 from acts_hub.rest.numbers import JobNumber
 from acts_hub.times import now
 
 REPO = 'octo/hello'
+BY_HAND = '''name: By hand
+on:
+  workflow_dispatch:
+    inputs:
+      where: {type: choice, options: [staging, production], default: staging}
+jobs:
+  go: {runs-on: linux, steps: [{run: 'echo ${{ inputs.where }}'}]}
+'''
 BUILD = {'build': {'runs-on': 'linux', 'steps': [{'name': 'Compile', 'run': 'echo compiled'}, {'name': 'Test', 'run': 'exit 3'}]}}
 
 
@@ -26,7 +38,7 @@ class Desk:
 
     service: Service
     hub: HubProcess
-    lines: RunnerLines
+    wire: Wire
     home: pathlib.Path
     tokens: dict[str, str] = field(default_factory=dict)
 
@@ -68,28 +80,36 @@ class Desk:
         until(lambda: (self.api(f'actions/runs/{number}') or {}).get('head_sha'), what=f'run {number}')
         return number
 
-    def claim(self, run: int) -> int:
-        """Claims the leg of a run, past those of others; gives the lease."""
-        words = self.lines.claim('by-hand')
+    def claim(self, run: int) -> str:
+        """Claims the leg of a run; gives the lease."""
+        words = self.wire.claim('by-hand')
         assert words[0] == 'lease' and int(words[2]) == run, words
-        return int(words[1])
+        return words[1]
 
-    def log(self, run: int, attempt: int, lease: int, outcome: str) -> None:
-        """Writes the log that a runner sends: two steps, of which the second ends as it is said."""
-        logs, where = LogStore(self.hub.state / 'logs', 1 << 20), (run, attempt, 'build', 0, lease)
+    def log(self, run: int, attempt: int, lease: str, outcome: str) -> None:
+        """Sends the log of two steps, of which the second ends as it is said, with an annotation."""
+        place, claim = f'{run}/{attempt}/build/0/{lease}', self.wire.claims[lease]
         first, second = b'2026-11-30T19:30:11.000Z compiled\n', b'2026-11-30T19:30:12.000Z a lot went on\n'
-        logs.append(*where, 0, first + second)
-        for number, name, start, end, how in ((1, 'Compile', 0, len(first), 'success'), (2, 'Test', len(first), len(first + second), outcome)):
-            logs.step(*where, number, name, start, now())
-            logs.step_end(*where, number, how, end, now())
+        ends = len(first), len(first + second)
+        marks = [{'step': 1, 'begins': True, 'name': 'Compile', 'bytes': 0}, {'step': 1, 'ends': True, 'conclusion': 'success', 'bytes': ends[0]},
+                 {'step': 2, 'begins': True, 'name': 'Test', 'bytes': ends[0]},
+                 {'step': 2, 'bytes': ends[0], 'annotation': {'annotation_level': 'failure', 'message': 'wrong by one', 'path': 'src/a.py', 'start_line': 7}},
+                 {'step': 2, 'ends': True, 'conclusion': outcome, 'bytes': ends[1]}, {'complete': True, 'bytes': ends[1]}]
+        assert self.wire.put('logs', place, first + second, claim, offset=0).status == 200
+        text = ''.join(json.dumps({**mark, 'at': now()}) + '\n' for mark in marks)
+        assert self.wire.put('marks', place, text.encode(), claim, offset=0).status == 200
 
-    def finish(self, run: int, outcome: str = 'success', attempt: int = 1) -> int:
+    def finish(self, run: int, outcome: str = 'success', attempt: int = 1) -> str:
         """Runs the one leg of a run to its end."""
         lease = self.claim(run)
         self.log(run, attempt, lease, outcome)
-        assert self.lines.done('by-hand', lease, outcome) == 'ok'
-        self.wait(run, 'completed', attempt)
+        self.done(run, lease, outcome, attempt)
         return lease
+
+    def done(self, run: int, lease: str, outcome: str = 'success', attempt: int = 1) -> None:
+        """Reports a leg, and waits till the hub shows it."""
+        assert self.wire.done('by-hand', lease, outcome) == 'ok'
+        self.wait(run, 'completed', attempt)
 
     def wait(self, run: int, status: str, attempt: int = 1) -> None:
         """Waits till the hub shows a run so."""
@@ -109,15 +129,19 @@ class Desk:
 def made(tmp_path_factory: pytest.TempPathFactory) -> Iterator[Desk]:
     folder = tmp_path_factory.mktemp('gh')
     service = Service(folder / 'service')
-    hub = HubProcess(folder / 'hub', service, tls=True)
+    repository = Repository(folder, folder / 'mirrors')
+    repository.only({'by_hand.yml': BY_HAND})
+    given, lines = tables(folder, folder / 'mirrors', {REPO: {}})
+    hub = HubProcess(folder / 'hub', service, tls=True, tables=given, more=lines)
+    (folder / 'home').mkdir()
     try:
         service.start()
         hub.start()
-        (folder / 'home').mkdir()
-        desk = Desk(service, hub, service.lines(), folder / 'home')
-        desk.tokens = {'write': hub.token('mona', 'write'), 'read': hub.token('reader', 'read', repositories=('octo/*',)),
-                       'other': hub.token('other', 'write', repositories=('other/*',))}
-        yield desk
+        wire = Wire(hub, hub.token('host', 'runner', prefix='by-hand', labels=('linux',)))
+        tokens = {'write': hub.token('mona', 'write'), 'read': hub.token('reader', 'read', repositories=('octo/*',)),
+                  'other': hub.token('other', 'write', repositories=('other/*',))}
+        yield Desk(service, hub, wire, folder / 'home', tokens)
+        wire.close()
     finally:
         hub.kill()
         service.kill()
@@ -162,6 +186,7 @@ def test_run_view_log_and_job(desk: Desk) -> None:
     job = JobNumber(run, 1, 0, 0).value
     said = desk.says('run', 'view', run)
     assert f'X main CI · {run}' in said and f'X build in' in said and f'(ID {job})' in said
+    assert 'X wrong by one' in said and 'build: src/a.py#7' in said
     assert 'X Test' in desk.says('run', 'view', '--job', job) and 'X Test' in desk.says('run', 'view', run, '--verbose')
     desk.says('run', 'view', run, '--exit-status', status=1)
     lines = desk.says('run', 'view', run, '--log').splitlines()
@@ -182,12 +207,12 @@ def test_run_watch(desk: Desk) -> None:
         watching = subprocess.Popen(['gh', 'run', 'watch', str(run), '-i', '1', '--exit-status'], cwd=desk.home, env=desk.env(), stdout=file, stderr=file)
     try:
         until(lambda: 'build' in output.read_text(), what='the first look')
-        assert desk.lines.done('by-hand', lease) == 'ok'
+        desk.done(run, lease)
         status = watching.wait(60)
     finally:
         watching.kill()
     said = output.read_text()
-    assert status == 0 and '* build' in said and '✓ build in' in said and '✓ Compile' in said and "completed with 'success'" in said
+    assert status == 0 and '* build' in said and '✓ build in' in said and '✓ Compile' in said
 
 
 def test_run_cancel(desk: Desk) -> None:
@@ -207,8 +232,7 @@ def test_run_rerun(desk: Desk) -> None:
     desk.wait(run, 'queued', 2)
     lease = desk.claim(run)
     desk.log(run, 2, lease, 'success')
-    assert desk.lines.done('by-hand', lease) == 'ok'
-    desk.wait(run, 'completed', 2)
+    desk.done(run, lease, 'success', 2)
     found = desk.api(f'actions/runs/{run}')
     assert (found['run_attempt'], found['conclusion'], found['triggering_actor']['login']) == (2, 'success', 'mona')
     after = desk.api(f'actions/runs/{run}/attempts/1/jobs')['jobs']
@@ -231,8 +255,44 @@ def test_workflows(desk: Desk) -> None:
     until(lambda: 'Deploy\tactive\t' in desk.says('workflow', 'list'), what='the workflow')
     assert f'\t{run}' in desk.says('workflow', 'view', 'deploy.yml') and 'Deploy' in desk.says('workflow', 'view', 'Deploy')
     assert '"runs-on": "linux"' in desk.says('workflow', 'view', 'deploy.yml', '--yaml')
-    said = desk.gh('workflow', 'disable', 'deploy.yml')
-    assert said.returncode == 1 and 'as long as' in said.stderr
+    assert 'as long as' in desk.says('workflow', 'disable', 'deploy.yml', status=1)
+    assert desk.says('workflow', 'view', 'by_hand.yml', '--yaml') == BY_HAND  # of the mirror, without a run
+    assert 'workflow_dispatch' in desk.says('workflow', 'view', 'by_hand.yml', '--yaml', '--ref', 'main')
+    desk.says('workflow', 'view', 'by_hand.yml', '--yaml', '--ref', 'none', status=1)
+
+
+def test_workflow_run(desk: Desk) -> None:
+    before = desk.api('actions/runs?event=workflow_dispatch')['total_count']
+    desk.says('workflow', 'run', 'by_hand.yml', '-f', 'where=production')
+    until(lambda: desk.api('actions/runs?event=workflow_dispatch')['total_count'] == before + 1, what='the run')
+    run = desk.api('actions/runs?event=workflow_dispatch')['workflow_runs'][0]
+    assert (run['name'], run['head_branch'], run['actor']['login'], run['path']) == ('By hand', 'main', 'mona', '.github/workflows/by_hand.yml')
+    admitted = json.loads(desk.service.lines().ask(f'FETCH {run["id"]}'))
+    assert admitted['inputs'] == {'where': 'production'}
+    assert f'\tworkflow_dispatch\t{run["id"]}\t' in desk.says('run', 'list', '--workflow', 'By hand')
+    for words, said in ((('-f', 'where=nowhere'), 'no option nowhere'), (('--ref', 'none'), 'No ref found for'), (('-f', 'other=1'), 'no input other')):
+        assert said in desk.says('workflow', 'run', 'by_hand.yml', *words, status=1)
+    assert 'HTTP 403' in desk.says('workflow', 'run', 'by_hand.yml', token='read', status=1)
+    assert desk.api('actions/runs?event=workflow_dispatch')['total_count'] == before + 1
+
+
+def test_run_download(desk: Desk) -> None:
+    run = desk.admit()
+    lease = desk.claim(run)
+    file = io.BytesIO()
+    with zipfile.ZipFile(file, 'w') as packed:
+        packed.writestr('out/a.txt', 'made\n')
+    data = file.getvalue()
+    kept = desk.wire.put('artifacts', f'{run}/1/build/0/{lease}', data, desk.wire.claims[lease], name='things', digest=hashlib.sha256(data).hexdigest())
+    assert kept.status == 201, kept
+    desk.done(run, lease)
+    assert 'things' in desk.says('run', 'view', run)
+    desk.says('run', 'download', run, '--name', 'things', '--dir', 'got')
+    assert (desk.home / 'got' / 'out' / 'a.txt').read_text() == 'made\n'
+    desk.says('run', 'download', run, '--dir', 'every')
+    assert (desk.home / 'every' / 'things' / 'out' / 'a.txt').read_text() == 'made\n'
+    assert 'no artifact matches' in desk.says('run', 'download', run, '--name', 'none', status=1)
+    assert 'HTTP 404' in desk.says('run', 'download', run, token='other', status=1)
 
 
 def test_pr_checks(desk: Desk) -> None:
