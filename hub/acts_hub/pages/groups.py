@@ -42,7 +42,7 @@ async def _member(site: Site, holder: Holder) -> Member:
     for index, job in enumerate(whole.jobs if whole else ()):
         for leg in job.legs:
             if (job.id, leg.index) == (holder.job, holder.leg):
-                return Member(title_of(run), leg_link(run, run.row.attempt, index, leg.index), f'{leg_name(job, leg)}, {about}', run.started_at)
+                return Member(title_of(run), leg_link(run, run.row.attempt, index, leg.index), f'{leg_name(run, job, leg)}, {about}', run.started_at)
     return Member(title_of(run), run_link(run), f'{holder.job}, {about}', run.started_at)
 
 

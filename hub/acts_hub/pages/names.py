@@ -4,14 +4,15 @@ from __future__ import annotations
 import re
 from urllib.parse import quote
 
+from ..rest.legs import ordered
 from ..rest.names import leg_name as rest_name
 from ..rest.numbers import JobNumber
 from ..service.mirror import Run
 from ..service.models import Job, Leg
 
-def leg_name(job: Job, leg: Leg) -> str:
+def leg_name(run: Run, job: Job, leg: Leg) -> str:
     """The name of a leg: `test (20, linux)`, or what the name of the job says of its matrix."""
-    return rest_name(job.name, leg.combination)
+    return rest_name(job.name, ordered(leg.combination, run.facts.matrix_names.get(job.id, ())))
 
 
 def job_name(job: Job) -> str:

@@ -62,7 +62,7 @@ async def queue(site: Site, request: web.Request) -> web.StreamResponse:
                 approved = site.is_approved(number, run.row.attempt)
                 why = of_wait(leg.waits_for, leg.labels, run.row.repository, replace(facts, is_approved=approved))
                 if why is not None:
-                    rows.append(_waiting(run, leg_name(job, leg), leg_link(run, run.row.attempt, index, leg.index), why))
+                    rows.append(_waiting(run, leg_name(run, job, leg), leg_link(run, run.row.attempt, index, leg.index), why))
     pending = [run for run in runs.values() if run.row.status == 'pending' and identity.may(Right.READ, run.row.repository)]
     for run in pending[:MOST_ROWS]:
         rows.append(_waiting(run, 'the whole run', run_link(run), of_group(run.row.group or '', run.row.repository, facts)))

@@ -39,7 +39,7 @@ async def _row(site: Site, request: web.Request, runner: Runner) -> RunnerRow:
         for index, job in enumerate(whole.jobs if whole else ()):
             for one in job.legs:
                 if (job.id, one.index) == (lease.job, lease.leg):
-                    link, leg, repository = leg_link(run, run.row.attempt, index, one.index), leg_name(job, one), run.row.repository
+                    link, leg, repository = leg_link(run, run.row.attempt, index, one.index), leg_name(run, job, one), run.row.repository
     return RunnerRow(runner.name, sign, runner.labels or (), link, leg, repository, moments.seconds_ago(runner.heard_seconds_ago))
 
 

@@ -148,7 +148,7 @@ def _rows(run: Run, attempt: int, whole: Whole, job: Job, index: int, facts: Fac
         state = leg.state or 'unknown'
         why = of_wait(leg.waits_for, leg.labels, run.row.repository, facts) if is_now else None
         rows.append(LegRow(
-            job, leg, index, leg.index, leg_name(job, leg), leg_link(run, attempt, index, leg.index), state, states.sign(state), leg.runner or '',
+            job, leg, index, leg.index, leg_name(run, job, leg), leg_link(run, attempt, index, leg.index), state, states.sign(state), leg.runner or '',
             own_labels(leg.labels), leg.started_at, leg.ended_at, why))
     return rows
 

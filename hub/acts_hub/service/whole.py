@@ -1,7 +1,7 @@
 """Whole runs in any attempt, put together from what the service shows and what the ledger keeps."""
 from __future__ import annotations
 
-from collections.abc import Mapping, Sequence
+from collections.abc import Mapping
 from typing import Any
 
 from ..ledger.attempts import AttemptNote, LegKey, LegNote
@@ -16,16 +16,10 @@ def whole_of(json: Json, legs: Mapping[LegKey, LegNote], facts: Facts) -> Whole:
     """A run as the service shows it, with the times of its legs and the names of its jobs."""
     jobs = []
     for job in json['jobs']:
-        order = facts.matrix_names.get(job['id'], ())
-        timed = [{**leg, 'combination': _ordered(leg['combination'], order), **_noted(legs.get((job['id'], leg['leg'])), leg)} for leg in job['legs']]
+        timed = [{**leg, **_noted(legs.get((job['id'], leg['leg'])), leg)} for leg in job['legs']]
         jobs.append({**job, 'legs': timed, 'name': facts.job_names.get(job['id'])})
     shown = {'sha': facts.sha, 'actor': facts.actor, 'title': facts.title, 'ref_name': facts.branch}
     return Whole.of({**json, **{name: json.get(name) or value for name, value in shown.items()}, 'jobs': jobs})
-
-
-def _ordered(combination: Json, names: Sequence[str]) -> Json:
-    """A combination in the order of the workflow's file, as the names of GitHub's jobs have it; the service knows the order of bytes."""
-    return {**{name: combination[name] for name in names if name in combination}, **combination}
 
 
 def _noted(note: LegNote | None, leg: Json) -> Json:
