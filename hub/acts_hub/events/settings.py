@@ -170,6 +170,8 @@ def settings_of(config: Config) -> Settings:
     found.setdefault('folder', pathlib.Path(config.hub.folder) / 'events')
     repositories = {}
     for each in config.repositories:
+        if {'.', '..'} & set(each.name.split('/')):
+            raise ConfigError(f'[[repository]] name: {each.name!r} is no OWNER/NAME')
         own = {**shared, **read(f'[repository]] of {each.name}', each.more, OF_REPOSITORY)}
         own['environments'] = {**shared['environments'], **own['environments']}
         repositories[each.name.lower()] = Repository(each.name, each.secret_file, **own)
