@@ -64,6 +64,7 @@ class AccessConfig:
     requests_a_second: int = 100
     requests_burst: int = 1000
     session_days: int = 14
+    silence_seconds: int = 60
     trusted_forwarders: tuple[str, ...] = ()
 
 
@@ -173,7 +174,7 @@ HUB: Readers = {'listen': _address, 'url': _text, 'certificate': _path, 'key': _
 RETENTION: Readers = {one.name: _count for one in dataclasses.fields(Retention)}
 ACCESS: Readers = {
     'proxy_header': _text, 'proxy_addresses': _peers, 'wrong_tokens_a_minute': _count, 'requests_a_second': _count, 'requests_burst': _count,
-    'session_days': _count, 'trusted_forwarders': _peers}
+    'session_days': _count, 'silence_seconds': _count, 'trusted_forwarders': _peers}
 EVENTS: Readers = {'mirrors': _path, 'default_branch': _text}
 REPOSITORIES: Readers = {'name': _text, 'secret_file': _path, 'default_branch': _text}
 

@@ -17,7 +17,7 @@ from ..config import Config, ConfigError, address_of, read_config
 from ..connections import Connections, raise_limit
 from ..doors.exposure import check_exposure
 from ..hub import make_hub
-from ..log import say
+from ..log import say, take_over
 
 
 def add(parsers: Any) -> None:
@@ -29,6 +29,7 @@ def add(parsers: Any) -> None:
 
 def run(given: argparse.Namespace) -> int:
     """Serves."""
+    take_over()
     try:
         config = read_config(given.config)
         check_exposure(config)
@@ -60,7 +61,7 @@ async def serve(config: Config, context: ssl.SSLContext | None) -> None:
     raise_limit()
     await runner.setup()
     await hub.start()
-    watch = asyncio.create_task(Connections(runner).watch())
+    watch = asyncio.create_task(Connections(runner, max(1, config.access.silence_seconds)).watch())
     try:
         address = address_of(config.hub.listen)
         if isinstance(address, pathlib.Path):
