@@ -28,6 +28,7 @@ from acts_hub.service.models import Job, Lease, Leg, Row, Runner, Wait, Whole
 
 T0 = 1_796_067_000_000  # 2026-11-30T19:30:00Z
 PATH = '.github/workflows/ci.yml'
+UNLIMITED = AccessConfig(requests_a_second=100_000, requests_burst=1_000_000, wrong_tokens_a_minute=100_000)
 
 
 def sha(text: object) -> str:
@@ -91,7 +92,7 @@ class MirrorByHand:
         return Runs([run.id for run in self.of(repository) if all(value in (None, self._value(run, name)) for name, value in asked.items())], self.runs)
 
     def _value(self, run: Run, name: str) -> str | None:
-        found: str | None = getattr(run.facts if name in ('branch', 'actor', 'sha') else run.row, name)
+        found: str | None = getattr(run.facts if name in ('branch', 'actor', 'sha') else run if name == 'conclusion' else run.row, name)
         return found
 
     def repositories(self) -> list[str]:
@@ -196,10 +197,10 @@ class Stand:
 
 
 @contextlib.contextmanager
-def standing(folder: pathlib.Path) -> Iterator[Stand]:
+def standing(folder: pathlib.Path, access: AccessConfig = UNLIMITED) -> Iterator[Stand]:
     """A hub that serves on a free port of loopback."""
     config = Config(hub=HubConfig(url='https://hub.example:8443', folder=folder), repositories=(RepositoryConfig('octo/empty'),),
-                    access=AccessConfig(requests_a_second=100_000, requests_burst=1_000_000, wrong_tokens_a_minute=100_000))
+                    access=access)
     hub, mirror, hooks = Hub(config), MirrorByHand(), HooksByHand()
     hub.mirror, hub.hooks = mirror, hooks  # type: ignore[assignment]
     hub.artifacts, hub.caches = ArtifactsByHand(folder), CachesByHand()  # type: ignore[assignment]

@@ -4,9 +4,12 @@ from __future__ import annotations
 import base64
 import json
 import pathlib
+import time
 
 import pytest
-from rest_stand import ArtifactsByHand, CachesByHand, Stand, run_of, sha
+from rest_stand import ArtifactsByHand, CachesByHand, Stand, run_of, sha, standing
+
+from acts_hub.config import AccessConfig
 
 pytestmark = pytest.mark.quick
 REPO = '/repos/octo/hello'
@@ -190,3 +193,34 @@ def test_what_is_not_here_is_404_with_words(stand: Stand, path: str) -> None:
     assert answer.status == 404 and answer.json()['message'] not in ('', 'Not Found')
     assert stand.get(f'{REPO}/{path}', None).status == 401
     assert stand.get('/zen').status == 404 and stand.ask('PATCH', REPO).status == 404
+
+
+def test_rates(tmp_path: pathlib.Path) -> None:
+    """GitHub Docs, "Rate limits for the REST API": the fields, and GET /rate_limit."""
+    with standing(tmp_path, AccessConfig(requests_a_second=1, requests_burst=5)) as stand:
+        stand.mirror.put(run_of(1))
+        for used in range(1, 4):
+            fields = stand.get(REPO).headers
+            assert (fields['X-RateLimit-Limit'], fields['X-RateLimit-Resource']) == ('5', 'core')
+            assert int(fields['X-RateLimit-Used']) + int(fields['X-RateLimit-Remaining']) == 5 and int(fields['X-RateLimit-Used']) <= used
+            assert 0 < int(fields['X-RateLimit-Reset']) - time.time() < 10
+        assert stand.json('/rate_limit')['rate'].keys() == {'limit', 'remaining', 'reset', 'used'}
+        answers = [stand.get(REPO) for _ in range(12)]
+        late = [answer for answer in answers if answer.status == 429]
+        assert late and int(late[0].headers['Retry-After']) >= 1 and late[0].json()['message']
+        assert stand.get(REPO, 'write').status == 200  # another token has its own
+
+
+def test_without_a_limit_there_are_no_rates(tmp_path: pathlib.Path) -> None:
+    with standing(tmp_path, AccessConfig(requests_a_second=0)) as stand:
+        stand.mirror.put(run_of(1))
+        assert 'X-RateLimit-Limit' not in stand.get(REPO).headers
+        answer = stand.get('/rate_limit')
+        assert (answer.status, answer.json()['message']) == (404, 'Rate limiting is not enabled.')
+
+
+def test_the_words_of_401(stand: Stand) -> None:
+    for token, words in ((None, 'Requires authentication'), ('wrong', 'Bad credentials')):
+        for path in ('/user', REPO, f'{REPO}/actions/runs', '/nothing'):
+            answer = stand.get(path, token)
+            assert (answer.status, answer.json()['message']) == (401, words)

@@ -4,7 +4,10 @@ from __future__ import annotations
 from typing import Any
 
 import pytest
-from rest_stand import Stand, job_of, leg_of, run_of, sha
+from rest_stand import T0, Stand, job_of, leg_of, run_of, sha
+
+from acts_hub.gateway import Gateway
+from acts_hub.gateway.findings import KIND
 
 pytestmark = pytest.mark.quick
 HEAD, MERGE = sha('head'), sha('merge')
@@ -81,3 +84,41 @@ def test_check_suites(stand: Stand) -> None:
         (2, 'in_progress', None, 1), (1, 'completed', 'success', 1)]
     assert stand.json('/repos/octo/hello/check-suites/1') == found['check_suites'][1]
     assert stand.get('/repos/octo/hello/check-suites/9').status == 404
+
+
+def test_annotations_are_those_of_the_steps(stand: Stand) -> None:
+    put(stand, 1, 'failure')
+    note = {'annotation_level': 'failure', 'message': '<b>wrong</b>', 'title': None, 'path': 'src/a.py', 'start_line': 7, 'end_line': 9, 'start_column': None,
+            'end_column': None, 'step': 2}
+    bare = {'annotation_level': 'notice', 'message': 'said', 'title': 'T', 'path': None, 'start_line': None, 'end_line': None, 'start_column': None, 'end_column': None}
+    gateway = stand.hub.gateway
+    assert isinstance(gateway, Gateway)
+    stand.hub.notes.set(1, 1, KIND, 'build/0', {'annotations': [note, bare]})
+    check, = stand.json(f'{COMMIT}/check-runs')['check_runs']
+    assert check['output']['annotations_count'] == 2
+    first, second = stand.json(f'/repos/octo/hello/check-runs/{check["id"]}/annotations')
+    # the members that GitHub's documentation lists
+    assert first == {'path': 'src/a.py', 'blob_href': '', 'start_line': 7, 'end_line': 9, 'start_column': None, 'end_column': None, 'annotation_level': 'failure',
+                     'title': '', 'message': '<b>wrong</b>', 'raw_details': ''}
+    assert (second['path'], second['start_line'], second['title']) == ('.github', 1, 'T')
+    assert len(stand.json(f'/repos/octo/hello/check-runs/{check["id"]}/annotations?per_page=1')) == 1
+    stand.hub.notes.drop(1)
+
+
+def test_a_workflow_that_is_refused_is_an_error_of_its_commit(stand: Stand) -> None:
+    commit = sha('refused')
+    add = stand.hub.refused.add
+    add(T0, 'octo/hello', 'push', 'd1', '.github/workflows/bad.yml', 'refs/heads/main', commit, 26, 7, 'the condition reads an output')
+    add(T0, 'octo/other', 'push', 'd2', '.github/workflows/other.yml', 'refs/heads/main', commit, 26, 7, 'of another repository')
+    put(stand, 5, sha=commit)
+    found = stand.json(f'/repos/octo/hello/commits/{commit}/status')
+    assert {one['context']: (one['state'], one['description']) for one in found['statuses']} == {
+        'CI (push)': ('success', 'success'), '.github/workflows/bad.yml (push)': ('error', 'line 7: the condition reads an output')}
+    assert found['state'] == 'failure'
+    put(stand, 6, sha=commit, path='.github/workflows/bad.yml', workflow='')  # it was admitted since
+    found = stand.json(f'/repos/octo/hello/commits/{commit}/status')
+    assert found['state'] == 'success' and found['total_count'] == 2
+    alone = sha('refused alone')
+    add(T0, 'octo/hello', 'push', 'd3', '.github/workflows/bad.yml', 'refs/heads/main', alone, 26, None, 'x' * 1000)
+    one, = stand.json(f'/repos/octo/hello/commits/{alone}/statuses')
+    assert (one['state'], len(one['description'])) == ('error', 140)

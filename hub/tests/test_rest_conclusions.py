@@ -5,7 +5,7 @@ import pytest
 from rest_stand import run_of
 
 from acts_hub.events.statuses import context_of
-from acts_hub.rest.conclusions import combined_state, commit_state, leg_state, rollup_state, run_conclusion, suite_status
+from acts_hub.rest.conclusions import combined_state, commit_state, leg_state, rollup_state, suite_status
 
 pytestmark = pytest.mark.quick
 
@@ -27,10 +27,10 @@ def test_states_of_jobs(state: str, waits_for: str, approval: bool, expected: tu
 
 
 def test_a_run_of_skipped_jobs_alone_is_skipped() -> None:
-    assert run_conclusion(run_of(1, conclusion='skipped')) == 'skipped'
-    assert run_conclusion(run_of(1)) == 'success'
-    assert run_conclusion(replace(run_of(1, conclusion='cancelled'), skipped=True)) == 'cancelled'
-    assert run_conclusion(run_of(1, status='queued')) is None
+    assert run_of(1, conclusion='skipped').conclusion == 'skipped'
+    assert run_of(1).conclusion == 'success'
+    assert replace(run_of(1, conclusion='cancelled'), skipped=True).conclusion == 'cancelled'
+    assert run_of(1, status='queued').conclusion is None
 
 
 def test_states_of_commits() -> None:

@@ -7,6 +7,7 @@ import zipfile
 import pytest
 from rest_stand import Stand, job_of, leg_of, run_of
 
+from acts_hub.gateway import Gateway
 from acts_hub.rest.archives import folders_of, safe_name
 from acts_hub.rest.downloads import Downloads
 from acts_hub.rest.names import leg_name
@@ -182,3 +183,21 @@ def test_signed_addresses_hold_for_a_minute_and_for_one_path(stand: Stand) -> No
     for kind in (f'jobs/{JobNumber(1, 1, 0, 0).value}', 'runs/1/1', 'artifacts/1'):
         assert stand.get(f'/acts/downloads/{kind}', 'admin').status == 404
         assert stand.get(f'/acts/downloads/{kind}?until=9999999999&signature=00', 'admin').status == 404
+
+
+def test_a_matrix_is_named_in_the_order_of_its_file(stand: Stand) -> None:
+    stand.mirror.put(run_of(1, matrix_names={'test': ('os', 'node')}), job_of('test', leg_of(combination={'extra': 'x', 'node': 20, 'os': 'linux'})))
+    assert jobs(stand)[0]['name'] == 'test (linux, 20, x)'
+
+
+def test_a_job_that_waits_for_its_environment_is_queued_once_approved(stand: Stand) -> None:
+    leg = leg_of('ready', waits_for=Wait('runner'), started_at=None, ended_at=None, lease=None, runner=None, labels=('linux', 'approved-1'))
+    stand.mirror.put(run_of(1, status='in_progress'), job_of('deploy', leg, state='open'))
+    assert jobs(stand)[0]['status'] == 'waiting'
+    gateway = stand.hub.gateway
+    assert isinstance(gateway, Gateway)
+    gateway.environments.approved[1] = 1
+    try:
+        assert jobs(stand)[0]['status'] == 'queued'
+    finally:
+        gateway.environments.approved.clear()

@@ -28,7 +28,7 @@ def test_links_of_the_first_a_middle_and_the_last_page() -> None:
         return {rel: link for link, rel in (part.split('; ') for part in text.split(', '))}
 
     def link(page: int) -> str:
-        return f'<{URL}?branch=a+b&page={page}&per_page=20>'
+        return f'<{URL}?branch=a+b&per_page=20&page={page}>'
 
     assert rels(1) == {'rel="next"': link(2), 'rel="last"': link(3)}
     assert rels(2) == {'rel="prev"': link(1), 'rel="next"': link(3), 'rel="last"': link(3), 'rel="first"': link(1)}

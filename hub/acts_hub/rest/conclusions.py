@@ -4,7 +4,6 @@ from __future__ import annotations
 from collections.abc import Iterable
 
 from ..events.statuses import STATES
-from ..service.mirror import Run
 
 STATUSES = ('completed', 'in_progress', 'queued', 'requested', 'waiting', 'pending')
 CONCLUSIONS = ('action_required', 'cancelled', 'failure', 'neutral', 'skipped', 'stale', 'success', 'timed_out')
@@ -22,11 +21,6 @@ def leg_state(state: str, waits_for: str | None = None, needs_approval: bool = F
     if status == 'queued' and waits_for == 'group':
         return 'pending', None
     return status, None
-
-
-def run_conclusion(run: Run) -> str | None:
-    """The conclusion of a run: one in which every job was skipped is skipped."""
-    return 'skipped' if run.skipped and run.row.conclusion == 'success' else run.row.conclusion
 
 
 def commit_state(conclusion: str | None) -> str:

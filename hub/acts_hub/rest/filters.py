@@ -5,7 +5,7 @@ from collections.abc import Mapping, Sequence
 from datetime import date, datetime, time, timedelta, timezone
 
 from ..service.mirror import Mirror, Run
-from .conclusions import CONCLUSIONS, STATUSES, run_conclusion
+from .conclusions import CONCLUSIONS, STATUSES
 from .errors import Fault, invalid
 from .numbers import decimal
 
@@ -25,8 +25,6 @@ def runs_of(mirror: Mirror, repository: str, query: Mapping[str, str], path: str
                'status': status, 'conclusion': conclusion, 'sha': asked.get('head_sha')}
     given = {name: value for name, value in indexed.items() if value is not None}
     runs: Sequence[Run] = mirror.select(repository, **given) if given else mirror.of(repository)
-    if conclusion == 'success':
-        runs = [run for run in runs if run_conclusion(run) == asked['status']]
     if 'check_suite_id' in asked:
         number = decimal(asked['check_suite_id'])
         if number is None:
@@ -39,12 +37,12 @@ def runs_of(mirror: Mirror, repository: str, query: Mapping[str, str], path: str
 
 
 def status_of(text: str | None) -> tuple[str | None, str | None]:
-    """The status, or the conclusion of the service, that the filter `status` means: it takes both. A skipped run is a success there."""
+    """The status, or the conclusion, that the filter `status` means: it takes both."""
     if text is None or text in STATUSES:
         return text, None
     if text not in CONCLUSIONS:
         raise invalid('WorkflowRun', 'status', f'status is one of {", ".join(STATUSES + CONCLUSIONS)}.')
-    return None, 'success' if text == 'skipped' else text
+    return None, text
 
 
 def span_of(text: str) -> tuple[int, int]:

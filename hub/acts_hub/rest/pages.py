@@ -53,7 +53,10 @@ class Page:
             pages += [(self.number + 1, 'next'), (last, 'last')]
         if self.number > 1:
             pages.append((1, 'first'))
-        return ', '.join(f'<{url}?{urlencode({**query, "page": page})}>; rel="{rel}"' for page, rel in pages)
+        if not pages:
+            return ''
+        words = urlencode([(name, value) for name, value in query.items() if name != 'page'])
+        return ', '.join(f'<{url}?{words}{"&" if words else ""}page={page}>; rel="{rel}"' for page, rel in pages)
 
 
 def is_known(tag: str, if_none_match: str) -> bool:

@@ -10,7 +10,7 @@ from ..events.statuses import context_of
 from ..ledger.refused import Refused
 from ..service.mirror import Run
 from ..times import iso, iso_or_none
-from .conclusions import commit_state, run_conclusion, suite_status
+from .conclusions import commit_state, suite_status
 from .legs import JobView
 from .numbers import node_of, number_of
 
@@ -71,7 +71,7 @@ class Shapes:
         return {
             'id': row.run, 'name': row.workflow or row.path, 'node_id': node_of('WorkflowRun', row.run),
             'head_branch': facts.branch, 'head_sha': facts.sha or '', 'path': row.path, 'display_title': title,
-            'run_number': row.number, 'event': row.event, 'status': row.status, 'conclusion': run_conclusion(run),
+            'run_number': row.number, 'event': row.event, 'status': row.status, 'conclusion': run.conclusion,
             'workflow_id': workflow, 'check_suite_id': row.run, 'check_suite_node_id': node_of('CheckSuite', row.run),
             'url': here, 'html_url': self.run_page(run), 'pull_requests': self.pulls(run), 'created_at': iso(run.created_at),
             'updated_at': iso(run.updated_at), 'actor': self.user_or_none(facts.actor), 'run_attempt': row.attempt,
@@ -152,7 +152,7 @@ class Shapes:
         """A run as a check suite."""
         row, here = run.row, self.at(run.row.repository, f'check-suites/{run.row.run}')
         return {'id': row.run, 'node_id': node_of('CheckSuite', row.run), 'head_branch': run.facts.branch,
-                'head_sha': run.facts.sha or '', 'status': suite_status(row.status), 'conclusion': run_conclusion(run), 'url': here,
+                'head_sha': run.facts.sha or '', 'status': suite_status(row.status), 'conclusion': run.conclusion, 'url': here,
                 'before': None, 'after': run.facts.sha, 'pull_requests': self.pulls(run), 'app': self.app,
                 'repository': self.repository(row.repository), 'created_at': iso(run.created_at), 'updated_at': iso(run.updated_at),
                 'head_commit': self.commit(run), 'latest_check_runs_count': jobs, 'check_runs_url': f'{here}/check-runs',
@@ -161,8 +161,8 @@ class Shapes:
     def status(self, run: Run) -> Shape:
         """A run as a status of its commit."""
         row = run.row
-        return {'id': row.run, 'node_id': node_of('StatusContext', row.run), 'avatar_url': None, 'state': commit_state(run_conclusion(run)),
-                'description': run_conclusion(run) or row.status, 'target_url': self.run_page(run),
+        return {'id': row.run, 'node_id': node_of('StatusContext', row.run), 'avatar_url': None, 'state': commit_state(run.conclusion),
+                'description': run.conclusion or row.status, 'target_url': self.run_page(run),
                 'context': context_of(row.workflow, row.path, row.event), 'created_at': iso(run.created_at),
                 'updated_at': iso(run.updated_at), 'url': self.at(row.repository, f'statuses/{run.facts.sha or ""}'),
                 'creator': self.user_or_none(run.facts.actor)}

@@ -31,6 +31,11 @@ class Run:
         """Its id."""
         return self.row.run
 
+    @property
+    def conclusion(self) -> str | None:
+        """Its conclusion as GitHub has it: a run of which every job was skipped is skipped."""
+        return 'skipped' if self.skipped and self.row.conclusion == 'success' else self.row.conclusion
+
 
 class Runs(Sequence[Run]):
     """Runs by a list of their ids; the newest comes last."""
@@ -81,7 +86,7 @@ def values_of(run: Run) -> dict[str, str | None]:
     row, facts = run.row, run.facts
     return {
         'path': row.path, 'branch': facts.branch, 'event': row.event, 'actor': facts.actor.lower() if facts.actor else None, 'status': row.status,
-        'conclusion': row.conclusion, 'sha': facts.sha.lower() if facts.sha else None}
+        'conclusion': run.conclusion, 'sha': facts.sha.lower() if facts.sha else None}
 
 
 def value_of(run: Run, name: str) -> str | None:
