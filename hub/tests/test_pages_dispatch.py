@@ -56,7 +56,7 @@ def place(tmp_path_factory: pytest.TempPathFactory) -> Iterator[Place]:
     folder = tmp_path_factory.mktemp('dispatch')
     repository = Repository(folder, folder / 'mirrors')
     pushed = repository.only({'release.yml': BY_HAND, 'ci.yml': PUSHED, 'refused.yml': REFUSED, 'deploy.yml': DEPLOY})
-    made, more = tables(folder / 'hub', folder / 'mirrors', {'octo/hello': {}})
+    made, more = tables(folder / 'hub', folder / 'mirrors', {'octo/hello': {'environments': {'production': 'approval'}}})
     service = Service(folder / 'service')
     hub = HubProcess(folder / 'hub', service, tables=made, more=more)
     try:

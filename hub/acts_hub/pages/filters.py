@@ -11,6 +11,7 @@ from urllib.parse import urlencode
 
 from ..service.mirror import Run, Runs
 from .names import title_of, workflow_of
+from .texts import cleaned
 
 PAGE = 25
 MOST_WORDS, MOST_TEXT = 20, 300
@@ -46,10 +47,15 @@ class Wanted:
         return f'?{text}' if text else ''
 
 
+def words_of(query: Mapping[str, str], name: str = 'q') -> str:
+    """What a person typed into a field."""
+    return cleaned(query.get(name, '')[:MOST_TEXT]).strip()
+
+
 def wanted_of(query: Mapping[str, str]) -> Wanted:
     """The filters of an address. Those in the search are as good as those in fields."""
-    q = query.get('q', '')[:MOST_TEXT].strip()
-    fields: dict[str, Any] = {name: query.get(name, '')[:MOST_TEXT].strip() for name in FIELDS}
+    q = words_of(query)
+    fields: dict[str, Any] = {name: words_of(query, name) for name in FIELDS}
     of_form = {name: value for name, value in fields.items() if value}
     words = []
     for name, quoted, bare in itertools.islice(_TOKEN.findall(q), MOST_WORDS):

@@ -7,6 +7,7 @@ from aiohttp import web
 
 from ..access.identity import Right
 from ..service.models import Holder
+from .filters import words_of
 from .names import leg_link, leg_name, run_link, title_of, workflow_of
 from .site import Site, signed_in
 
@@ -48,7 +49,7 @@ async def _member(site: Site, holder: Holder) -> Member:
 
 async def groups(site: Site, request: web.Request) -> web.StreamResponse:
     """The page of groups."""
-    identity, q, runs = signed_in(request), request.query.get('q', '')[:200].strip(), site.hub.mirror.runs
+    identity, q, runs = signed_in(request), words_of(request.query), site.hub.mirror.runs
     part = q.casefold()
     found: dict[tuple[str, str], list[Holder]] = {}
     for holder in await site.holders():

@@ -10,7 +10,7 @@ from dataclasses import dataclass
 from ..ledger.logs import LogStore
 
 LINES_A_MARK, BYTES_A_MARK = 1_000, 1 << 20  # a mark is kept after so many lines, or bytes
-PIECE = 1 << 18  # bytes that are read at once
+PIECE, COUNTED = 1 << 18, 1 << 22  # bytes that are read at once: of a window, and where lines are counted
 MOST_READ = 8 << 20  # bytes that are looked at for one window
 MOST_KEPT = 1 << 14  # bytes of a line that are kept; folding cuts it again for the page
 MOST_LOGS = 128
@@ -46,9 +46,9 @@ class LogFile:
         key = self.key
         return self.store.read(key.run, key.attempt, key.job, key.leg, key.lease, offset, limit)
 
-    def _pieces(self, offset: int, end: int) -> Iterator[bytes]:
+    def _pieces(self, offset: int, end: int, most: int = PIECE) -> Iterator[bytes]:
         while offset < end:
-            piece = self.read(offset, min(PIECE, end - offset))
+            piece = self.read(offset, min(most, end - offset))
             if not piece:
                 return
             yield piece
@@ -58,8 +58,9 @@ class LogFile:
         size = self.size()
         if size < self._seen:  # it was dropped, and begins anew
             self._lines, self._offsets, self._seen, self._seen_lines = [0], [0], 0, 0
-        for piece in self._pieces(self._seen, size):
-            self._take(piece)
+        for many in self._pieces(self._seen, size, COUNTED):
+            for at in range(0, len(many), PIECE):
+                self._take(many[at:at + PIECE])
 
     def _take(self, piece: bytes) -> None:
         """Counts the lines of a piece; a mark is set behind a line end where one is due."""

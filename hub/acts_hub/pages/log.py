@@ -15,6 +15,7 @@ from ..rest.numbers import JobNumber
 from ..times import now
 from . import folding, states, steps
 from .ansi import html
+from .filters import words_of
 from .lines import LogFile
 from .live import BEAT, Stream, stream_of
 from .site import HEADERS, Site, number_of
@@ -120,7 +121,7 @@ async def log_page(site: Site, request: web.Request) -> web.StreamResponse:
     """The page of a log."""
     found, row = await leg_shown(site, request)
     file, is_over = file_of(site, found, row), states.is_over(row.state)
-    asked, line, q = number_of(request.query, 'step'), number_of(request.query, 'line'), request.query.get('q', '')[:200]
+    asked, line, q = number_of(request.query, 'step'), number_of(request.query, 'line'), words_of(request.query)
     read = await asyncio.to_thread(_read, site, file, is_over, asked, line, q) if file else Read((), Position(), (), False)
     base = row.link
     events = '' if is_over else f'{base}/events?from={read.position}'

@@ -8,6 +8,7 @@ from aiohttp import web
 from ..access.identity import Right
 from ..service.models import Runner
 from . import moments, states
+from .filters import words_of
 from .names import leg_link, leg_name
 from .site import Site, signed_in
 from .waiting import AWAY, is_there
@@ -50,7 +51,7 @@ def _fits(runner: Runner, q: str) -> bool:
 async def runners(site: Site, request: web.Request) -> web.StreamResponse:
     """The page of runners."""
     signed_in(request)
-    q = request.query.get('q', '')[:200].strip()
+    q = words_of(request.query)
     every = [one for one in await site.runners() if _fits(one, q.casefold())]
     order = sorted(every, key=lambda one: (one.heard_seconds_ago is None, one.heard_seconds_ago, one.name))
     kinds = {'At work': [one for one in order if one.lease], 'Idle': [one for one in order if not one.lease and is_there(one)],

@@ -95,7 +95,7 @@ async def workflows_of(site: Site, repository: str) -> list[WorkflowRow]:
 
 async def repositories(site: Site, request: web.Request) -> web.StreamResponse:
     """The first page: the repositories that one may read."""
-    identity, q, mirror = signed_in(request), request.query.get('q', '')[:200].strip(), site.hub.mirror
+    identity, q, mirror = signed_in(request), filters.words_of(request.query), site.hub.mirror
     rows = []
     for name in mirror.repositories():
         if not identity.may(Right.READ, name) or q.casefold() not in name.casefold():

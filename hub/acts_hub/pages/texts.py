@@ -16,6 +16,11 @@ def has_unseen(text: str) -> bool:
     return _UNSEEN.search(text) is not None
 
 
+def cleaned(text: str) -> str:
+    """A text that a person typed, without characters that are not seen."""
+    return _UNSEEN.sub('', text)
+
+
 def _mark(found: re.Match[str]) -> str:
     character = found[0]
     name = unicodedata.name(character, 'control character').lower()

@@ -12,6 +12,7 @@ from . import states
 from .names import run_link, title_of, workflow_of
 
 AWAY = 120  # seconds of silence after which a runner does not count as there
+CLOCK = 1_000  # milliseconds by which times of runs that came together may differ
 APPROVED = 'approved-'  # what begins the label of a leg whose environment has to be approved
 
 
@@ -119,14 +120,14 @@ def of_blocked(job: Job, jobs: Sequence[Job], names: Mapping[str, str]) -> Why |
 
 def displaced_by(run: Run, runs: Runs) -> Why | None:
     """The run that took the place of a cancelled one in its concurrency group: the first later one that came before it ended."""
-    row = run.row
-    if row.conclusion != 'cancelled' or row.group is None or run.completed_at is None:
+    row, ended = run.row, (run.completed_at or run.updated_at) + CLOCK
+    if row.conclusion != 'cancelled' or row.group is None:
         return None
     for at in range(bisect.bisect_right(runs.ids, row.run), len(runs)):
         other = runs[at]
-        if other.created_at > run.completed_at + 1:
+        if other.created_at > ended:
             break
-        if other.row.group == row.group and run.created_at <= other.created_at <= run.completed_at + 1:
+        if other.row.group == row.group and run.created_at <= other.created_at:
             return Why(f'A newer run of the concurrency group {row.group} took its place:', run_link(other), f'{title_of(other)} #{other.row.number}')
     return None
 
