@@ -8,6 +8,7 @@ ROW, HEAD, PAD = 26, 34, 8  # of a node: the height of a leg and of its head, an
 WIDTHS = {1: (300, 0), 2: (260, 90), 3: (250, 70)}  # of a node and of the gap to the next, by the number of columns
 WIDTH, GAP = 200, 44  # the same for more columns
 GAP_DOWN, MARGIN = 20, 6
+LONG = 4  # columns beyond which a graph keeps its size
 MOST_LEGS = 10  # legs of a job that are drawn; the others are counted
 LANE, STEP = 14, 38  # of the narrow graph: between two lanes, and between two rows
 
@@ -59,10 +60,11 @@ class Edge:
 
 @dataclasses.dataclass(frozen=True)
 class Drawing:
-    """A graph that is laid out."""
+    """A graph that is laid out. One that is long keeps its size, and its frame scrolls; another one shrinks into its frame."""
 
     width: int
     height: int
+    is_long: bool
     places: tuple[Place, ...]
     edges: tuple[Edge, ...]
 
@@ -122,7 +124,7 @@ def drawing(nodes: Sequence[Node]) -> Drawing:
     edges = tuple(_edge(places[need], place, gap) for place in places.values()
                   for need in direct(place.node, nodes) if need in places)
     width = MARGIN * 2 + len(columns) * wide + (len(columns) - 1) * gap
-    return Drawing(width, bottom + MARGIN, tuple(places.values()), edges)
+    return Drawing(width, bottom + MARGIN, len(columns) > LONG, tuple(places.values()), edges)
 
 
 def _chosen(legs: Sequence[Leg]) -> tuple[Leg, ...]:
@@ -173,7 +175,7 @@ def narrow(nodes: Sequence[Node]) -> Drawing:
         for need in direct(node, nodes):
             if need in places and need != node.id:
                 edges.append(_lane(places[need], places[node.id], MARGIN + LANE * (lanes[need] % 8) + LANE // 2))
-    return Drawing(340, MARGIN + len(order) * STEP, tuple(places.values()), tuple(edges))
+    return Drawing(340, MARGIN + len(order) * STEP, False, tuple(places.values()), tuple(edges))
 
 
 def _lane(source: Place, target: Place, x: int) -> Edge:

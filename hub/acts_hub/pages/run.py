@@ -56,9 +56,9 @@ def reason_of(site: Site, found: Shown, row: LegRow) -> Reason:
     every = steps_in(site, file, True)
     step = next((one for one in every if one.state == 'failure'), None)
     if step is None:
-        return Reason(row.name, row.link, '', '', 'failed outside of a step', tuple(steps.tail_of(file, file.size())))
+        return Reason(row.name, row.link, '', '', 'failed outside of a step', tuple(steps.tail_of(file, 0, file.size())))
     link = f'{row.link}?step={step.number}#step:{step.number}'
-    return Reason(row.name, row.link, step.name, link, '', tuple(steps.tail_of(file, step.end)))
+    return Reason(row.name, row.link, step.name, link, '', tuple(steps.tail_of(file, step.offset, step.end)))
 
 
 async def waits_of(site: Site, found: Shown) -> list[Waits]:

@@ -77,15 +77,15 @@ def window_of(file: LogFile, step: Step, line: int | None = None) -> Window:
     return Window(step.number, first, lines, total)
 
 
-def tail_of(file: LogFile, end: int) -> list[str]:
-    """The last lines before an offset, as plain text."""
-    begin = max(0, end - TAIL_BYTES)
+def tail_of(file: LogFile, first: int, end: int) -> list[str]:
+    """The last lines between two offsets, as plain text."""
+    begin = max(first, end - TAIL_BYTES)
     data = file.read(begin, end - begin)
-    if begin:
+    if begin > first:
         data = data.partition(b'\n')[2] or data
     lines = [line for line in folding.lines_of(data, 1) if line.kind not in ('endgroup', 'debug')]
-    texts = [f'{_WORDS.get(line.kind, "")} {ansi.without(line.text)}'.strip() for line in lines]
-    return [text[:500] for text in texts if text][-TAIL_LINES:]
+    texts = [(f'{_WORDS[line.kind]} ' if _WORDS.get(line.kind) else '') + ansi.without(line.text).rstrip() for line in lines]
+    return [text[:500] for text in texts if text.strip()][-TAIL_LINES:]
 
 
 def line_html(step: int, line: folding.Line, group: int | None = None) -> str:

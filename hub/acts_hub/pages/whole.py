@@ -150,7 +150,20 @@ def _rows(run: Run, attempt: int, whole: Whole, job: Job, index: int, facts: Fac
         rows.append(LegRow(
             job, leg, index, leg.index, leg_name(run, job, leg), leg_link(run, attempt, index, leg.index), state, states.sign(state), leg.runner or '',
             own_labels(leg.labels), leg.started_at, leg.ended_at, why))
-    return rows
+    return in_order(rows, run.facts.matrix_names.get(job.id, ()))
+
+
+def in_order(rows: Sequence[LegRow], names: Sequence[str]) -> list[LegRow]:
+    """Legs in the order in which GitHub lists them: the first variable of the file's matrix changes last."""
+    ranks: dict[str, dict[str, int]] = {name: {} for name in names}
+    for row in rows:
+        for name, value in row.leg.combination.items() if row.leg else ():
+            ranks.setdefault(name, {}).setdefault(repr(value), len(ranks[name]))
+
+    def key(row: LegRow) -> list[int]:
+        combination = row.leg.combination if row.leg else {}
+        return [ranks[name].get(repr(combination.get(name)), len(rows)) for name in ranks]
+    return sorted(rows, key=key)
 
 
 def nodes_of(found: Shown, now: int) -> tuple[graph.Node, ...]:
