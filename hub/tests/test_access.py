@@ -15,7 +15,7 @@ from aiohttp import ClientSession, CookieJar, web
 from aiohttp.test_utils import TestServer
 
 from acts_hub.access.identity import Identity, Right, identity_of, matches, require
-from acts_hub.access.peers import is_among
+from acts_hub.access.peers import is_among, peer_of
 from acts_hub.access.rates import Rates
 from acts_hub.access.tokens import TokenError, Tokens, check, secret_of
 from acts_hub.app import make_app
@@ -105,6 +105,16 @@ def test_another_process_revokes_at_once(database: Database, tmp_path: pathlib.P
 def test_a_token_ends_with_its_days(database: Database) -> None:
     tokens = Tokens(database)
     assert tokens.verify(tokens.create('mona', Right.READ, expires_at=1)) is None
+
+
+class Gone:
+    """A request whose connection is gone."""
+    transport = None
+
+
+def test_a_connection_that_is_gone_comes_from_nowhere() -> None:
+    found: Any = Gone()
+    assert peer_of(found) == '' and not is_among('', ('unix', '127.0.0.1', '0.0.0.0/0', '::/0'))
 
 
 def test_rates_fill_up_again() -> None:
@@ -318,6 +328,20 @@ def test_requests_of_a_client_are_limited(tmp_path: pathlib.Path) -> None:
             token = one.hub.access.tokens.create('mona', Right.READ)
             assert [(await one.ask('GET', '/try/it/now/who', token))[0] for _ in range(12)] == [200] * 10 + [429] * 2
             assert (await one.ask('GET', '/healthz'))[0] == 200                   # another client is not meant
+    play(test())
+
+
+def test_another_site_can_not_use_what_a_browser_was_told(tmp_path: pathlib.Path) -> None:
+    async def test() -> None:
+        async with served(tmp_path) as one:
+            token = one.hub.access.tokens.create('mona', Right.WRITE)
+            basic = 'Basic ' + base64.b64encode(f'mona:{token}'.encode()).decode()
+            for headers, status in (({}, 200), ({'Origin': 'https://evil.example'}, 403), ({'Origin': 'null'}, 403), ({'Origin': 'http://['}, 403),
+                                    ({'Sec-Fetch-Site': 'cross-site'}, 403), ({'Sec-Fetch-Site': 'same-site'}, 403), ({'Sec-Fetch-Site': 'same-origin'}, 200)):
+                assert (await one.ask('POST', '/try/it/now/octo/hello', headers={'Authorization': basic, **headers}))[0] == status, headers
+            own = str(one.server.make_url('')).rstrip('/')
+            assert (await one.ask('POST', '/try/it/now/octo/hello', token, headers={'Origin': own}))[0] == 200
+            assert 'Basic' not in (await one.ask('GET', '/try/it/now/who'))[2]['WWW-Authenticate']       # no browser asks for a password
     play(test())
 
 

@@ -124,6 +124,18 @@ def test_a_broken_file_is_kept_aside(tmp_path: pathlib.Path, capfd: pytest.Captu
 
 
 @pytest.mark.quick
+@pytest.mark.skipif(os.geteuid() != 0, reason='needs root')
+def test_what_root_makes_is_the_folders_owners(tmp_path: pathlib.Path) -> None:
+    os.chown(tmp_path, 12345, 12346)
+    one = Database(tmp_path / 'ledger.sqlite')
+    one.open()
+    one.write(ADD, ('a', '1'))
+    assert one.flushed()
+    assert {(path.stat().st_uid, path.stat().st_gid) for path in tmp_path.iterdir()} == {(12345, 12346)} and len(list(tmp_path.iterdir())) == 3
+    one.close()
+
+
+@pytest.mark.quick
 def test_what_waits_is_read_from_memory(made: Database) -> None:
     overlay: Overlay[str, int] = Overlay(made)
     with contextlib.closing(sqlite3.connect(made.path, isolation_level=None)) as other:

@@ -172,7 +172,13 @@ def test_a_cursor_that_is_not_known_any_more_lists_again(tmp_path: pathlib.Path)
                 stand.more.set()
                 await until(lambda: 3 in mirror.runs)
                 assert sorted(mirror.runs) == [2, 3] and [run.id for run in mirror.of('octo/hello')] == [2, 3]
-                assert mirror.kept.of(1) is not None       # what was kept of it stays till its days are over
+                assert mirror.database.flushed() and mirror.kept.of(1) is not None       # what was kept of it stays till its days are over
+                dropped: list[int] = []
+                mirror.dropped.append(dropped.append)
+                mirror.expire(mirror.runs[2].created_at - 1000 * 86_400_000)
+                assert dropped == []
+                mirror.expire(mirror.runs[2].created_at + 1000 * 86_400_000)
+                assert dropped == [1] and mirror.database.flushed() and mirror.kept.of(1) is None and mirror.kept.of(2) is not None
     play(test())
 
 

@@ -1,7 +1,7 @@
 """Logs of legs: idempotent by offset, bounded, readable while they grow."""
 from __future__ import annotations
 
-import asyncio
+import concurrent.futures
 import errno
 import os
 import pathlib
@@ -108,15 +108,16 @@ def test_search_finds_lines_whatever_their_case(store: LogStore) -> None:
     assert store.search(*LEG, '.*') == [] and store.search(*LEG, '') == []
 
 
-def test_a_reader_waits_for_more(store: LogStore) -> None:
-    async def play() -> tuple[int, int]:
-        store.append(*LEG, 0, b'one\n')
-        waiting = asyncio.create_task(store.grown(*LEG, 4, 5))
-        await asyncio.sleep(0.05)
-        assert not waiting.done()
-        store.append(*LEG, 4, b'two\n')
-        return await waiting, await store.grown(*LEG, 8, 0.05)
-    assert asyncio.run(play()) == (8, 8)
+def test_pieces_that_come_at_once_are_kept_once(store: LogStore) -> None:
+    store.bytes_a_leg = 1 << 20
+    lines = [f'{number:07d}\n'.encode() for number in range(1000)]
+    with concurrent.futures.ThreadPoolExecutor(8) as pool:
+        for number in range(0, 1000, 10):
+            data = b''.join(lines[number:number + 10])
+            sizes = [each.result() for each in [pool.submit(store.append, *LEG, number * 8, data) for _ in range(8)]]
+            assert sizes == [number * 8 + 80] * 8
+            assert store.read(*LEG, number * 8) == data            # readable while it grows
+    assert store.read(*LEG) == b''.join(lines)
 
 
 def test_a_full_disk_loses_nothing_that_was_acknowledged(store: LogStore, monkeypatch: pytest.MonkeyPatch) -> None:

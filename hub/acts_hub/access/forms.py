@@ -35,5 +35,6 @@ def is_own_origin(request: web.Request, url: str) -> bool:
     """Whether a request comes from a page of the hub, as far as the browser says. One that says nothing is no browser of today."""
     origin = request.headers.get('Origin')
     if origin is not None:
-        return origin != 'null' and urlsplit(origin)[:2] in (urlsplit(url)[:2], (urlsplit(url).scheme, request.host))
+        own = urlsplit(url)
+        return origin in (f'{own.scheme}://{own.netloc}', f'{own.scheme}://{request.host}')
     return request.headers.get('Sec-Fetch-Site', 'none') in ('same-origin', 'none')

@@ -105,12 +105,15 @@ class Access:
         return form_token(self._secret(), f'name {found.name}') if found is not None and found.is_browser else ''
 
     async def check(self, request: web.Request) -> None:
-        """Refuses what a browser was made to send by another site: 403."""
+        """Refuses what a browser was made to send by another site: 403. Credentials that a browser was told once are sent by it anywhere."""
         found = identity_of(request)
-        if request.method in SAFE or found is None or not found.is_browser:
+        if request.method in SAFE or found is None:
             return
-        wanted = self.form_token(request)
-        if not wanted or not is_own_origin(request, self.config.url) or not is_same(await sent_token(request), wanted):
+        is_forged = not is_own_origin(request, self.config.url)
+        if not is_forged and found.is_browser:
+            wanted = self.form_token(request)
+            is_forged = not wanted or not is_same(await sent_token(request), wanted)
+        if is_forged:
             raise web.HTTPForbidden(text='The form was not sent by a page of this hub, or is of another sign-in. Open the page again.')
 
     async def check_form(self, request: web.Request) -> Mapping[str, Any]:

@@ -19,7 +19,7 @@ def require(request: web.Request, right: Right, repository: str | None = None) -
     found = identity_of(request)
     if found is None:
         words = 'Bad credentials' if 'Authorization' in request.headers else 'Requires authentication'
-        raise web.HTTPUnauthorized(text=words, headers={'WWW-Authenticate': 'Basic realm="acts-hub"'})
+        raise web.HTTPUnauthorized(text=words, headers={'WWW-Authenticate': 'Bearer realm="acts-hub"'})
     if found.may(right, repository):
         return found
     if repository is not None and not matches(found.repositories, repository):

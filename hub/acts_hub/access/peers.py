@@ -3,6 +3,7 @@ from __future__ import annotations
 
 import functools
 import ipaddress
+import socket
 
 from aiohttp import web
 
@@ -10,9 +11,14 @@ Network = ipaddress.IPv4Network | ipaddress.IPv6Network
 
 
 def peer_of(request: web.Request) -> str:
-    """The address of the other end of the connection; `unix` for a socket of the file system."""
-    peer = request.transport.get_extra_info('peername') if request.transport is not None else None
-    return str(peer[0]) if isinstance(peer, tuple) and peer else 'unix'
+    """The address of the other end of the connection; `unix` for a socket of the file system; nothing once it is gone."""
+    transport = request.transport
+    if transport is None:
+        return ''
+    peer, own = transport.get_extra_info('peername'), transport.get_extra_info('socket')
+    if own is not None and own.family == socket.AF_UNIX:
+        return 'unix'
+    return str(peer[0]) if isinstance(peer, tuple) and peer else ''
 
 
 @functools.lru_cache(maxsize=4096)

@@ -52,10 +52,21 @@ def statements_of(script: str) -> list[str]:
     return found
 
 
+def create(path: pathlib.Path) -> None:
+    """Makes the file for its user alone; made by root, it is the folder's owner's, so that the hub can write what `acts-hub token` made."""
+    descriptor = os.open(path, os.O_CREAT | os.O_RDWR | os.O_CLOEXEC, 0o600)
+    try:
+        folder = path.parent.stat()
+        if os.geteuid() == 0 and folder.st_uid != 0:
+            os.fchown(descriptor, folder.st_uid, folder.st_gid)
+    finally:
+        os.close(descriptor)
+
+
 def connect(path: pathlib.Path | None, seconds: float = 1) -> sqlite3.Connection:
     """A connection to the file, migrated; to one in memory without a path."""
     if path is not None and not path.exists():  # of a file that is there, closing a descriptor would take the locks of this process's other connections
-        os.close(os.open(path, os.O_CREAT | os.O_RDWR | os.O_CLOEXEC, 0o600))
+        create(path)
     connection = sqlite3.connect(':memory:' if path is None else str(path), timeout=seconds, isolation_level=None, check_same_thread=False)
     try:
         connection.execute('pragma journal_mode = wal')

@@ -1,12 +1,12 @@
 """Logs of legs: files below a folder, by run, attempt, job, leg and lease. All calls may be made from any thread."""
 from __future__ import annotations
 
-import asyncio
 import json
 import os
 import pathlib
 import re
 import shutil
+import threading
 from collections.abc import Callable, Iterator
 from dataclasses import dataclass, replace
 from typing import Any
@@ -52,7 +52,7 @@ class LogStore:
 
     def __init__(self, folder: pathlib.Path, bytes_a_leg: int) -> None:
         self.folder, self.bytes_a_leg = folder, bytes_a_leg
-        self._growing: dict[pathlib.Path, asyncio.Event] = {}
+        self._locks = [threading.Lock() for _ in range(64)]
         self._cut: dict[pathlib.Path, int | None] = {}
 
     def _of_run(self, run: int) -> pathlib.Path:
@@ -69,19 +69,21 @@ class LogStore:
     def append(self, run: int, attempt: int, job: str, leg: int, lease: int, offset: int, data: bytes) -> int:
         """Appends at an offset, and gives how much is there. What is there already is left as it is; behind a gap nothing is appended."""
         path = self._path(run, attempt, job, leg, lease)
-        cut = self._cut_at(path)
-        if cut is not None:
-            self._cut[path] = max(cut, offset + len(data))
-            return max(cut, offset + len(data))
-        try:
-            path.parent.mkdir(mode=0o700, parents=True, exist_ok=True)
-            size = self._append(path, offset, data)
-        except OSError as fault:
-            raise LogError(f'the log can not be written: {fault.strerror}') from None
-        event = self._growing.pop(path, None)
-        if event is not None:
-            event.set()
+        with self._lock(path):
+            cut = self._cut_at(path)
+            if cut is not None:
+                self._cut[path] = max(cut, offset + len(data))
+                return max(cut, offset + len(data))
+            try:
+                path.parent.mkdir(mode=0o700, parents=True, exist_ok=True)
+                size = self._append(path, offset, data)
+            except OSError as fault:
+                raise LogError(f'the log can not be written: {fault.strerror}') from None
         return size
+
+    def _lock(self, path: pathlib.Path) -> threading.Lock:
+        """Of two pieces of one log that come at once, one waits."""
+        return self._locks[hash(path) % len(self._locks)]
 
     def _append(self, path: pathlib.Path, offset: int, data: bytes) -> int:
         descriptor = os.open(path, os.O_WRONLY | os.O_APPEND | os.O_CREAT | os.O_CLOEXEC | os.O_NOFOLLOW, 0o600)
@@ -146,24 +148,13 @@ class LogStore:
         found = self._path(run, attempt, job, leg, lease)
         return found if found.is_file() else None
 
-    async def grown(self, run: int, attempt: int, job: str, leg: int, lease: int, length: int, seconds: float = 25) -> int:
-        """Waits, for some seconds at most, till the text is longer than `length`, and gives its length. In the loop that appends."""
-        path = self._path(run, attempt, job, leg, lease)
-        if _size(path) <= length:
-            event = self._growing.setdefault(path, asyncio.Event())
-            try:
-                await asyncio.wait_for(event.wait(), seconds)
-            except asyncio.TimeoutError:
-                if self._growing.get(path) is event:
-                    del self._growing[path]
-        return _size(path)
-
     def step(self, run: int, attempt: int, job: str, leg: int, lease: int, number: int, name: str, offset: int, at: int) -> None:
         """Marks that a step has begun at an offset of the text. A mark that is there already is left as it is."""
         path = self._path(run, attempt, job, leg, lease)
         _numbers(number, offset, most=1 << 53)
-        if not any(mark.number == number for mark in self._steps(path)):
-            self._mark_checked(path, {'step': number, 'name': name[:MAX_NAME], 'offset': offset, 'at': at})
+        with self._lock(path):
+            if not any(mark.number == number for mark in self._steps(path)):
+                self._mark_checked(path, {'step': number, 'name': name[:MAX_NAME], 'offset': offset, 'at': at})
 
     def step_end(self, run: int, attempt: int, job: str, leg: int, lease: int, number: int, outcome: str, offset: int, at: int) -> None:
         """Marks how a step has ended, at an offset of the text: `success`, `failure`, `cancelled` or `skipped`."""
@@ -171,8 +162,9 @@ class LogStore:
         _numbers(number, offset, most=1 << 53)
         if outcome not in OUTCOMES:
             raise LogError('no outcome of a step')
-        if any(mark.number == number and mark.outcome is None for mark in self._steps(path)):
-            self._mark_checked(path, {'end': number, 'outcome': outcome, 'offset': offset, 'at': at})
+        with self._lock(path):
+            if any(mark.number == number and mark.outcome is None for mark in self._steps(path)):
+                self._mark_checked(path, {'end': number, 'outcome': outcome, 'offset': offset, 'at': at})
 
     def steps(self, run: int, attempt: int, job: str, leg: int, lease: int) -> list[StepMark]:
         """The steps that were marked, in the order in which they began."""

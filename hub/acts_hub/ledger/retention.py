@@ -26,6 +26,7 @@ class Retention:
         await asyncio.sleep(FIRST_SECONDS)
         while True:
             try:
+                self._hub.mirror.expire(now() - self._hub.config.retention.logs_days * DAY)
                 await asyncio.to_thread(self.expire, now(), {run.id for run in self._hub.mirror.runs.values() if run.row.status != 'completed'})
             except Exception as fault:  # a disk that fails is no reason to stop
                 say(f'what is too old can not be removed: {fault!r}')

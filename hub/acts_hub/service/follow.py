@@ -141,6 +141,8 @@ class Follower:
         note = mirror.attempts.note(row.run, row.attempt)
         is_changed = (note.status, note.conclusion) != (row.status, row.conclusion)
         note.status, note.conclusion = row.status, row.conclusion
+        if note.started_at is None and note.updated_at is None and row.attempt > 1:
+            note.updated_at = at                            # it had begun by then
         facts = Facts.of(kept.facts) if kept is not None and kept.facts is not None else None
         mirror.put_row(row, facts, kept.digest if kept else None, kept.created_at if kept else at, kept.created_source if kept else 'listed')
         if kept is None:

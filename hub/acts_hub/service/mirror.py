@@ -8,7 +8,7 @@ from collections import OrderedDict
 from collections.abc import AsyncIterator, Callable
 from contextlib import asynccontextmanager
 
-from ..ledger.attempts import AttemptStore
+from ..ledger.attempts import AttemptNote, AttemptStore
 from ..ledger.database import Database, Statement
 from ..ledger.runners import RunnerStore
 from ..ledger.runs import Meta, RunStore
@@ -69,8 +69,8 @@ class Mirror:
             return None
         if attempt == known.row.attempt:
             return known
-        note = self.attempts.note(run, attempt)
-        started = note.started_at or (known.created_at if attempt == 1 else known.started_at)
+        note = self.attempts.notes.get((run, attempt), AttemptNote())
+        started = note.started_at or (known.created_at if attempt == 1 else note.updated_at or known.created_at)
         return dataclasses.replace(
             known, row=dataclasses.replace(known.row, attempt=attempt, status='completed', conclusion=note.conclusion), started_at=started,
             updated_at=note.completed_at or note.updated_at or started, completed_at=note.completed_at, triggering_actor=note.triggering_actor, skipped=note.skipped)
@@ -154,7 +154,7 @@ class Mirror:
         """A run with this row, and with the times that are noted of its attempt."""
         row, facts = filled(row, facts)
         note = self.attempts.note(row.run, row.attempt)
-        started = note.started_at or created_at
+        started = note.started_at or (created_at if row.attempt == 1 else note.updated_at or created_at)
         ended = row.status == 'completed'
         run = Run(row, facts, created_at, started, (note.completed_at if ended else None) or note.updated_at or started,
                   note.completed_at if ended else None, note.triggering_actor or facts.actor, digest or '', source, note.skipped)
@@ -177,6 +177,12 @@ class Mirror:
         for call in self.dropped:
             call(run)
         return self.kept.drop(run)
+
+    def expire(self, before: int) -> None:
+        """Drops what is kept of runs that the service has no more and that are older than this."""
+        if self.is_whole and self.fault is None:
+            for run in [run for run, kept in self.kept.all().items() if run not in self.runs and kept.created_at < before]:
+                self.database.write_all(self.forget(run))
 
     def snapshot(self, run: int, json: Json) -> None:
         """Keeps the last look at a run that goes on."""
