@@ -127,7 +127,7 @@ class HooksByHand:
 
     def __init__(self) -> None:
         self.commands: list[tuple[Any, ...]] = []
-        self.reply = Reply(True, None, 'ok', 202)
+        self.reply, self.is_newer = Reply(True, None, 'ok', 202), False
 
     async def cancel(self, run: int) -> Reply:
         self.commands.append(('cancel', run))
@@ -138,10 +138,17 @@ class HooksByHand:
         return self.reply
 
     async def retry(self, run: int, attempt: int) -> Reply:
-        raise Unsupported('this version of the service does not have the command')
+        return self.newer('retry', run, attempt)
 
     async def force(self, run: int) -> Reply:
-        raise Unsupported('this version of the service does not have the command')
+        return self.newer('force', run)
+
+    def newer(self, *command: Any) -> Reply:
+        """A command that services of today do not have."""
+        if not self.is_newer:
+            raise Unsupported('this version of the service does not have the command')
+        self.commands.append(command)
+        return self.reply
 
 
 @dataclasses.dataclass
@@ -179,7 +186,7 @@ class Stand:
         self.mirror.bodies.clear()
         self.mirror.actors.clear()
         self.hooks.commands.clear()
-        self.hooks.reply = Reply(True, None, 'ok', 202)
+        self.hooks.reply, self.hooks.is_newer = Reply(True, None, 'ok', 202), False
         self.mirror.is_whole, self.mirror.is_away = True, False
         self.mirror.version += 1
 

@@ -197,6 +197,19 @@ def test_run_view_log_and_job(desk: Desk) -> None:
     assert [(one['name'], one['conclusion'], [step['name'] for step in one['steps']]) for one in found['jobs']] == [('build', 'failure', ['Compile', 'Test'])]
 
 
+def test_a_run_of_skipped_jobs_is_skipped(desk: Desk) -> None:
+    """GitHub Docs, "Using conditions to control job execution": a job whose condition is false is skipped."""
+    run = desk.admit(body_of('Skipped', {'a': {'runs-on': 'linux', 'if': False}, 'b': {'runs-on': 'linux', 'needs': 'a'}}))
+    until(lambda: desk.api(f'actions/runs/{run}')['conclusion'] == 'skipped', what='the conclusion')
+    assert f'completed\tskipped\tSay hello\tSkipped\tmain\tpush\t{run}\t' in desk.says('run', 'list')
+    assert run in [one['id'] for one in desk.api('actions/runs?status=skipped')['workflow_runs']]
+    assert run not in [one['id'] for one in desk.api('actions/runs?status=success&per_page=100')['workflow_runs']]
+    assert [one['conclusion'] for one in desk.api(f'actions/runs/{run}/jobs')['jobs']] == ['skipped', 'skipped']
+    sha = desk.api(f'actions/runs/{run}')['head_sha']
+    assert desk.api(f'commits/{sha}/status')['state'] == 'success'
+    assert [one['conclusion'] for one in desk.api(f'commits/{sha}/check-runs')['check_runs']] == ['skipped', 'skipped']
+
+
 def test_run_watch(desk: Desk) -> None:
     run = desk.admit()
     lease = desk.claim(run)

@@ -180,6 +180,8 @@ def test_signed_addresses_hold_for_a_minute_and_for_one_path(stand: Stand) -> No
     assert not downloads.holds(path, until, 'é', 1000)
     stand.mirror.put(run_of(1))
     write_log(stand)
+    signed = stand.get(f'/repos/octo/hello/actions/jobs/{JobNumber(1, 1, 0, 0).value}/logs').headers['Location'].removeprefix(stand.hub.config.url)
+    assert stand.ask('HEAD', signed, None).status in (401, 404) and stand.ask('GET', signed, None).status == 200
     for kind in (f'jobs/{JobNumber(1, 1, 0, 0).value}', 'runs/1/1', 'artifacts/1'):
         assert stand.get(f'/acts/downloads/{kind}', 'admin').status == 404
         assert stand.get(f'/acts/downloads/{kind}?until=9999999999&signature=00', 'admin').status == 404

@@ -178,6 +178,20 @@ def test_what_the_service_can_t_is_422_with_a_sentence(stand: Stand, path: str) 
     assert answer.status == 422 and answer.json()['message'].startswith('The service ')
 
 
+def test_what_a_newer_service_can(stand: Stand) -> None:
+    stand.hooks.is_newer = True
+    stand.mirror.put(run_of(1, conclusion='failure'))
+    assert stand.ask('POST', f'{RUNS}/1/rerun-failed-jobs').status == 201 and stand.ask('POST', f'{RUNS}/1/force-cancel').status == 202
+    assert stand.hooks.commands == [('retry', 1, 2), ('force', 1)] and stand.mirror.actors[-1] == (1, 2, 'mona')
+    stand.hooks.reply = Reply(False, 49, 'refused 49', 409)
+    assert stand.ask('POST', f'{RUNS}/1/rerun-failed-jobs').status == 403
+    stand.hooks.reply = Reply(False, 48, 'refused 48', 409)
+    answer = stand.ask('POST', f'{RUNS}/1/rerun')
+    assert answer.status == 422 and 'counter' in answer.json()['message']
+    stand.hooks.reply = Reply(False, 40, 'refused 40', 404)
+    assert stand.ask('POST', f'{RUNS}/1/cancel').status == 404
+
+
 def test_a_run_is_not_deleted(stand: Stand) -> None:
     stand.mirror.put(run_of(1))
     assert stand.ask('DELETE', f'{RUNS}/1').status == 422 and stand.json(f'{RUNS}/1')['id'] == 1

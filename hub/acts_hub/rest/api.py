@@ -75,6 +75,10 @@ class Api:
         """A route that reads, of no repository."""
         return web.get(PREFIX + path, self.guarded(handler))
 
+    def download(self, path: str, handler: Handler) -> web.RouteDef:
+        """A route that sends a file to who has a signed address; without HEAD."""
+        return web.get(f'{PREFIX}/acts/downloads{path}', self.guarded(handler), allow_head=False)
+
     def guarded(self, handler: Handler) -> Handler:
         """A handler whose faults are answered as GitHub does, and whose answers have GitHub's fields."""
         async def handle(request: web.Request) -> web.StreamResponse:
@@ -256,7 +260,7 @@ class Api:
 
     def redirect(self, path: str) -> web.Response:
         """302 to an address that holds for a minute."""
-        return web.Response(status=302, headers={'Location': self.shapes.web + self._downloads.address(path)})
+        return web.Response(status=302, headers={'Location': self.shapes.web + self._downloads.address(f'{PREFIX}/acts/downloads{path}')})
 
     def signed(self, request: web.Request) -> None:
         """404 unless the address was signed here, less than a minute ago."""

@@ -55,6 +55,19 @@ def folders_of(name: str) -> list[str]:
 def archive_of(logs: LogStore, views: Sequence[JobView]) -> IO[bytes] | None:
     """A file with the ZIP; None if there is no log."""
     file = tempfile.TemporaryFile()
+    try:
+        has_some = _fill(file, logs, views)
+    except BaseException:
+        file.close()
+        raise
+    if not has_some:
+        file.close()
+        return None
+    file.seek(0)
+    return file
+
+
+def _fill(file: IO[bytes], logs: LogStore, views: Sequence[JobView]) -> bool:
     count = 0
     with zipfile.ZipFile(file, 'w', zipfile.ZIP_DEFLATED, compresslevel=1) as made:
         for index, view in enumerate(views):
@@ -68,11 +81,7 @@ def archive_of(logs: LogStore, views: Sequence[JobView]) -> IO[bytes] | None:
                 title = safe_name(mark.name)[:MAX_TITLE]
                 for folder in folders_of(view.name):
                     _write(made, f'{folder}/{mark.number}_{title}.txt', log_of(logs, view, mark.offset, mark.end))
-    if not count:
-        file.close()
-        return None
-    file.seek(0)
-    return file
+    return count > 0
 
 
 def _write(made: zipfile.ZipFile, name: str, pieces: Iterator[bytes]) -> None:

@@ -11,7 +11,7 @@ from ..ledger.artifacts import Artifact
 from ..ledger.caches import Cache
 from ..service.mirror import Run
 from ..times import iso, now
-from .api import PREFIX, Api
+from .api import Api
 from .errors import Fault, invalid
 from .numbers import decimal
 from .pages import Page
@@ -31,7 +31,7 @@ class ArtifactRequests:
         get, on = self.api.get, self.api.on
         return [get('/actions/runs/{run}/artifacts', self.of_run), get('/actions/artifacts', self.of_repository),
                 get('/actions/artifacts/{artifact}', self.one), get('/actions/artifacts/{artifact}/zip', self.zip),
-                on('DELETE', '/actions/artifacts/{artifact}', self.delete), self.api.top('/acts/downloads/artifacts/{artifact}', self.download),
+                on('DELETE', '/actions/artifacts/{artifact}', self.delete), self.api.download('/artifacts/{artifact}', self.download),
                 get('/actions/caches', self.caches), on('DELETE', '/actions/caches', self.delete_caches),
                 on('DELETE', '/actions/caches/{cache}', self.delete_cache), get('/actions/cache/usage', self.usage)]
 
@@ -79,7 +79,7 @@ class ArtifactRequests:
         _, found = self.artifact(request, self.api.repository(request))
         if found.expires_at <= now() or self.hub.artifacts.open(found.id) is None:
             raise Fault(410, GONE)
-        return self.api.redirect(f'{PREFIX}/acts/downloads/artifacts/{found.id}')
+        return self.api.redirect(f'/artifacts/{found.id}')
 
     async def download(self, request: web.Request) -> web.StreamResponse:
         """The ZIP of an artifact."""

@@ -8,13 +8,14 @@ from typing import Any
 from aiohttp import web
 
 from ..service.mirror import Run
-from .api import PREFIX, Api
+from .api import Api
 from .archives import PIECE, archive_of, has_log, log_of, next_piece
 from .errors import Fault
 from .legs import JobView
 from .numbers import decimal
 from .pages import Page
 
+MAX_ARCHIVES = 4  # that are made at a time
 NO_LOG = 'There is no log of it: nothing was sent, or it was kept for its time.'
 
 
@@ -23,6 +24,7 @@ class JobRequests:
 
     def __init__(self, api: Api) -> None:
         self.api, self.hub = api, api.hub
+        self.archives = asyncio.Semaphore(MAX_ARCHIVES)
 
     def routes(self) -> list[web.RouteDef]:
         """Their routes."""
@@ -31,8 +33,8 @@ class JobRequests:
                 get('/actions/jobs/{job}', self.one), get('/actions/jobs/{job}/logs', self.log),
                 get('/actions/runs/{run}/logs', self.logs), get('/actions/runs/{run}/attempts/{attempt}/logs', self.logs),
                 self.api.on('DELETE', '/actions/runs/{run}/logs', self.drop_logs),
-                self.api.top('/acts/downloads/jobs/{job}', self.download_log),
-                self.api.top('/acts/downloads/runs/{run}/{attempt}', self.download_logs)]
+                self.api.download('/jobs/{job}', self.download_log),
+                self.api.download('/runs/{run}/{attempt}', self.download_logs)]
 
     # objects
 
@@ -43,7 +45,7 @@ class JobRequests:
         if chosen not in ('latest', 'all'):
             raise Fault(422, 'filter is latest or all.')
         views = await self.api.jobs(run) if chosen == 'latest' else await self.all(run)
-        return self.listed(request, run, views)
+        return await self.listed(request, run, views)
 
     async def all(self, run: Run) -> list[JobView]:
         """The jobs of all attempts that are known."""
@@ -53,12 +55,13 @@ class JobRequests:
                 views += await self.api.jobs(run, attempt)
             except Fault:
                 continue
+            await asyncio.sleep(0)
         return views + await self.api.jobs(run)
 
     async def of_attempt(self, request: web.Request) -> web.Response:
         """The jobs of an attempt."""
         run = self.api.run(request, self.api.repository(request))
-        return self.listed(request, run, await self.api.jobs(run, self.attempt_of(request)))
+        return await self.listed(request, run, await self.api.jobs(run, self.attempt_of(request)))
 
     def attempt_of(self, request: web.Request) -> int | None:
         """The attempt of an address; None if it names none."""
@@ -70,10 +73,10 @@ class JobRequests:
             raise Fault(404)
         return number
 
-    def listed(self, request: web.Request, run: Run, views: Sequence[JobView]) -> web.Response:
-        """A page of jobs."""
+    async def listed(self, request: web.Request, run: Run, views: Sequence[JobView]) -> web.Response:
+        """A page of jobs; the steps of each are in a file."""
         page = Page.of(request.query)
-        cut = [self.shape(run, view) for view in page.cut(views)]
+        cut = await asyncio.to_thread(lambda: [self.shape(run, view) for view in page.cut(views)])
         return self.api.some(request, page, 'jobs', cut, len(views))
 
     async def one(self, request: web.Request) -> web.Response:
@@ -99,15 +102,16 @@ class JobRequests:
         _, view = await self.api.job(request, self.api.repository(request))
         if not has_log(self.hub.logs, view):
             raise Fault(404, NO_LOG)
-        return self.api.redirect(f'{PREFIX}/acts/downloads/jobs/{view.value}')
+        return self.api.redirect(f'/jobs/{view.value}')
 
     async def logs(self, request: web.Request) -> web.StreamResponse:
         """The ZIP of a run's logs: a redirect to an address that holds for a minute."""
         run = self.api.run(request, self.api.repository(request))
         attempt = self.attempt_of(request)
-        if not any(has_log(self.hub.logs, view) for view in await self.api.jobs(run, attempt)):
+        views = await self.api.jobs(run, attempt)
+        if not await asyncio.to_thread(lambda: any(has_log(self.hub.logs, view) for view in views)):
             raise Fault(404, NO_LOG)
-        return self.api.redirect(f'{PREFIX}/acts/downloads/runs/{run.row.run}/{attempt or run.row.attempt}')
+        return self.api.redirect(f'/runs/{run.row.run}/{attempt or run.row.attempt}')
 
     async def download_log(self, request: web.Request) -> web.StreamResponse:
         """The text of a job's log."""
@@ -128,7 +132,12 @@ class JobRequests:
         run = self.hub.mirror.runs.get(decimal(request.match_info['run']) or 0)
         if run is None:
             raise Fault(404)
-        file = await asyncio.to_thread(archive_of, self.hub.logs, await self.api.jobs(run, self.attempt_of(request)))
+        views = await self.api.jobs(run, self.attempt_of(request))
+        async with self.archives:
+            try:
+                file = await asyncio.to_thread(archive_of, self.hub.logs, views)
+            except OSError as fault:
+                raise Fault(503, f'The logs can not be put together: {fault.strerror}.') from None
         if file is None:
             raise Fault(404, NO_LOG)
         with file:

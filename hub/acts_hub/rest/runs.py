@@ -14,6 +14,7 @@ from .filters import runs_of
 from .numbers import decimal
 from .pages import Page
 
+FAILED = (46, 47, 50, 51, 52, 60)  # refusals that are of no request
 NOT_AGAIN = 'The service runs a whole run again; it can not yet run its failed jobs alone.'
 NOT_ONE = 'The service runs a whole run again; it can not run one job again.'
 NOT_FORCED = 'The service can not yet end a run whatever its runners do; cancel asks them to stop.'
@@ -153,4 +154,4 @@ class RunRequests:
         if reply.refusal in (43, 49):
             return Fault(403, completed)
         words = f'The service refuses: {reply.sentence}.'
-        return Fault(422 if reply.refusal in (44, 45, 48, 57) else 503, words)
+        return Fault(503 if reply.refusal in FAILED or reply.status >= 500 else 422, words)
