@@ -39,7 +39,7 @@ hub-install:
 	install -d $(DESTDIR)$(PREFIX)/lib/acts-hub $(DESTDIR)$(PREFIX)/bin $(DESTDIR)$(UNITS) $(DESTDIR)$(PREFIX)/share/acts/prometheus
 	cd $(HUB_ROOT)/hub && tar -c --exclude=__pycache__ --exclude=.mypy_cache acts_hub acts_runner acts_workflow | tar -x --no-same-owner -C $(DESTDIR)$(PREFIX)/lib/acts-hub
 	for name in acts-hub:acts_hub acts-runner:acts_runner; do \
-		printf '#!/bin/sh\nPYTHONPATH=%s exec /usr/bin/python3 -m %s "$$@"\n' $(PREFIX)/lib/acts-hub $${name#*:} > $(DESTDIR)$(PREFIX)/bin/$${name%:*} && \
-		chmod 755 $(DESTDIR)$(PREFIX)/bin/$${name%:*} || exit 1; done
+		printf '#!/usr/bin/python3 -P\nimport sys\n\nsys.path.insert(0, "%s")\nfrom %s.__main__ import main\nsys.exit(main())\n' $(PREFIX)/lib/acts-hub $${name#*:} \
+			> $(DESTDIR)$(PREFIX)/bin/$${name%:*} && chmod 755 $(DESTDIR)$(PREFIX)/bin/$${name%:*} || exit 1; done
 	for unit in $(HUB_ROOT)/hub/units/*; do sed 's,/usr/local/,$(PREFIX)/,g' "$$unit" > $(DESTDIR)$(UNITS)/$${unit##*/} || exit 1; done
 	install -m 644 $(HUB_ROOT)/hub/prometheus/* $(DESTDIR)$(PREFIX)/share/acts/prometheus

@@ -83,7 +83,7 @@ class Up:
         found = {}
         for number in pathlib.Path(f'/proc/{self.process.id}/task/{self.process.id}/children').read_text().split():
             words = pathlib.Path(f'/proc/{number}/cmdline').read_bytes().split(b'\0')
-            name = {b'doors': 'service', b'serve': 'hub', b'--hub': 'runner'}.get(words[3] if len(words) > 3 else b'')
+            name = {b'doors': 'service', b'serve': 'hub', b'--hub': 'runner'}.get(words[4] if len(words) > 4 else b'')
             if name:
                 found[name] = int(number)
         return found

@@ -76,11 +76,10 @@ def _runner_user(wishes: Wishes, folder: Folder) -> str | None:
     name = wishes.runner_user or 'nobody'
     folder.path.mkdir(parents=True, exist_ok=True)
     folder.path.chmod(0o711)
-    script = 'import acts_runner, os, sys; sys.exit(not os.access(sys.argv[1], os.X_OK))'
+    script = 'import os, sys; sys.path.insert(0, sys.argv[1]); import acts_runner.runner; sys.exit(not os.access(sys.argv[2], os.X_OK))'
     try:
-        tried = subprocess.run(
-            [sys.executable, '-c', script, str(folder.path)], user=name, extra_groups=[], cwd='/', env=_environment(),
-            stdin=subprocess.DEVNULL, capture_output=True)
+        tried = subprocess.run([sys.executable, '-P', '-c', script, str(PACKAGES), str(folder.path)], user=name, extra_groups=[], cwd='/',
+                               stdin=subprocess.DEVNULL, capture_output=True)
     except (KeyError, ValueError):
         raise Unfit(f'there is no user {name}') from None
     if tried.returncode == 0:
@@ -95,25 +94,26 @@ def _numbers(user: str | None) -> tuple[int, int] | None:
     return (entry.pw_uid, entry.pw_gid) if entry else None
 
 
-def _environment() -> dict[str, str]:
-    return {**os.environ, 'PYTHONPATH': str(PACKAGES), 'PYTHONDONTWRITEBYTECODE': '1'}
+def _program(package: str) -> tuple[str, ...]:
+    """A program of these packages, without a variable that steps would inherit."""
+    script = f'import sys; sys.path.insert(0, {str(PACKAGES)!r}); from {package}.__main__ import main; sys.exit(main())'
+    return sys.executable, '-P', '-c', script
 
 
 def _children(folder: Folder, config: Config, acts: str, wishes: Wishes, user: str | None, view: ViewPort) -> Sequence[Child]:
     """The service behind its doors, the hub, and the runner, in the order of their starts."""
-    python = sys.executable, '-m'
     hook, lines, shown = _free_ports() if wishes.open_loopback else INSIDE
     serve = (acts, 'serve', str(folder.store), '--hook-port', str(hook), '--runner-port', str(lines), '--view-port', str(shown),
              '--sessions', '32', '--forever')
-    doors = (*python, 'acts_hub', 'doors', '--folder', str(folder.doors), *(['--open-loopback'] if wishes.open_loopback else []), '--')
-    runner = (*python, 'acts_runner', '--hub', config.url, '--token-file', str(folder.runner_token), '--ca', str(folder.certificate),
+    doors = (*_program('acts_hub'), 'doors', '--folder', str(folder.doors), *(['--open-loopback'] if wishes.open_loopback else []), '--')
+    runner = (*_program('acts_runner'), '--hub', config.url, '--token-file', str(folder.runner_token), '--ca', str(folder.certificate),
               '--name', NAME, '--labels', LABELS, '--state', str(folder.runner / 'state'), '--mirrors', str(folder.mirrors), '--pause', '1')
-    home = {**_environment(), 'HOME': str(folder.runner)}
+    home = {'HOME': str(folder.runner)} if user else {}
     return (
-        Child('service', (*doors, *serve), folder.log('service'), view.healthy, environment=_environment()),
-        Child('hub', (*python, 'acts_hub', 'serve', '--config', str(folder.config)), folder.log('hub'),
-              lambda: _answers(config), environment=_environment()),
-        Child('runner', runner, folder.log('runner'), lambda: _has_runner(view), user=user, environment=home if user else _environment()))
+        Child('service', (*doors, *serve), folder.log('service'), view.healthy),
+        Child('hub', (*_program('acts_hub'), 'serve', '--config', str(folder.config)), folder.log('hub'),
+              lambda: _answers(config)),
+        Child('runner', runner, folder.log('runner'), lambda: _has_runner(view), user=user, environment=home))
 
 
 def _free_ports() -> tuple[int, int, int]:
