@@ -68,10 +68,24 @@ def metrics_of(hub: Hub, answers: Counter[int], is_up: bool) -> Iterator[Metric]
     yield 'acts_hub_answers_total', 'counter', 'Answers to requests, by status.', by_status
     yield 'acts_hub_ledger_fault', 'gauge', 'Whether the ledger can not be read or written.', [('', hub.database.fault is not None)]
     yield 'acts_hub_ledger_dropped_total', 'counter', 'Writes of the ledger that were given up.', [('', hub.database.dropped)]
+    yield from events_of(hub)
     if room := room_of(hub.folder):
         yield 'acts_hub_disk_free_bytes', 'gauge', 'What the file system of the folder has left.', [('', room)]
     yield 'process_resident_memory_bytes', 'gauge', 'Resident memory of the hub.', [('', resident())]
     yield 'process_open_fds', 'gauge', 'Open descriptors of the hub.', [('', len(os.listdir('/proc/self/fd')))]
+
+
+def events_of(hub: Hub) -> Iterator[Metric]:
+    """Of events: those that wait, those that were put aside, and those that start nothing here."""
+    state = hub.events.state()
+    yield 'acts_hub_events_held', 'gauge', 'Whether events wait since the file of the service is too full.', [('', state.held is not None)]
+    yield 'acts_hub_events_waiting', 'gauge', 'Deliveries that wait.', [('', sum(count for count, _ in state.waiting.values()))]
+    yield 'acts_hub_events_aside', 'gauge', 'Deliveries that were put aside.', [('', state.aside)]
+    untaken = Counter[str]()
+    for (_, event), count in state.untaken.items():
+        untaken[event] += count
+    values = [(f'{{event={json.dumps(event)}}}', float(number)) for event, number in sorted(untaken.items())]
+    yield 'acts_hub_events_untaken_total', 'counter', 'Events that no rule takes, by name.', values
 
 
 def room_of(folder: pathlib.Path) -> int | None:

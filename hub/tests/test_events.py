@@ -310,3 +310,58 @@ def test_variables_are_read_again_and_wait_till_they_are_whole(place: Place) -> 
     (place.folder / 'vars').write_text('{"octo/hello": {"LABEL": "linux"}}')
     waiting.join(30)
     assert list(created(answers[0])) == ['ci.yml']
+
+
+TARGET = '''
+name: Greet
+on: {pull_request_target: {branches: [main]}, pull_request: {}}
+jobs: {greet: {runs-on: linux, steps: [{run: 'true'}]}}
+'''
+
+
+def test_pull_request_target_of_a_fork_runs_what_the_default_branch_says_where_the_operator_allows_it(place: Place) -> None:
+    """`octo/other` allows it, `octo/hello` does not; the pull request's own workflow says something else."""
+    def ends(repository: Repository) -> dict[str, Any]:
+        base = repository.only({'greet.yml': TARGET})['after']
+        head = repository.commit('evil', {'.github/workflows/greet.yml': TARGET.replace("'true'", "'evil'")})
+        repository.git('push', '-q', 'origin', 'HEAD:refs/pull/4/head')
+        return {'action': 'opened', 'number': 4, 'pull_request': {
+            'base': {'ref': 'main', 'sha': base}, 'head': {'ref': 'evil', 'sha': head, 'repo': {'full_name': 'mallory/other'}}}}
+    payload = ends(place.other)
+    status, lines = place.of_other.send('pull_request', payload)
+    assert status == 202 and lines[0] == 'not taken: the pull request is of a fork' and list(created(lines)) == ['greet.yml']
+    body = place.body(created(lines)['greet.yml'])
+    github = body['github']
+    assert (github['event_name'], github['ref'], github['sha']) == ('pull_request_target', 'refs/heads/main', payload['pull_request']['base']['sha'])
+    assert (github['base_ref'], github['head_ref'], github['event']['pull_request']['head']['ref']) == ('main', 'evil', 'evil')
+    assert body['workflow']['jobs']['greet']['steps'] == [{'run': 'true'}]
+    assert place.of_other.send('pull_request', payload)[1] == lines
+    assert place.sender.send('pull_request', ends(place.repository)) == (202, ['not taken: the pull request is of a fork'])
+
+
+def test_both_events_of_an_own_pull_request_make_a_run_each(place: Place) -> None:
+    base = place.other.only({'greet.yml': TARGET})['after']
+    head = place.other.commit('own', {'src/own': ''})
+    place.other.git('push', '-q', 'origin', 'HEAD:refs/pull/6/head')
+    before = place.count()
+    lines = place.of_other.send('pull_request', {'action': 'opened', 'number': 6, 'pull_request': {
+        'base': {'ref': 'main', 'sha': base}, 'head': {'ref': 'own', 'sha': head, 'repo': {'full_name': 'octo/other'}}}})[1]
+    assert lines == [f'greet.yml: created {before + 1}', f'greet.yml: created {before + 2}']
+    assert [place.body(run)['github']['event_name'] for run in (before + 1, before + 2)] == ['pull_request', 'pull_request_target']
+
+
+def test_the_page_and_the_metrics_say_what_starts_nothing(place: Place) -> None:
+    place.sender.send('star', {})
+    admin, other = place.hub.token('page', 'admin'), place.hub.token('of-other', 'read', repositories=('octo/other',))
+    page = place.hub.get('/octo/hello/actions/refused', admin)
+    assert page.status == 200 and 'Events that start nothing here' in page.text and 'star' in page.text
+    assert 'star' not in place.hub.get('/refused', other).text
+    assert 'acts_hub_events_untaken_total{event="star"}' in place.hub.get('/metrics', admin).text
+
+
+def test_what_a_workflow_says_is_escaped_on_the_page(place: Place) -> None:
+    """Markup in the name of a file, and in a text that is refused."""
+    place.sender.push(place.repository.only({'<img src=x onerror=alert(1)>.yml': 'on: push\njobs: {a: {runs-on: x, if: "needs.b.outputs[\'<script>alert(1)</script>\']"}}'}))
+    until(lambda: any('<script>' in row[4] for row in place.refused()), what='the ledger')
+    page = place.hub.get('/octo/hello/actions/refused', place.hub.token('markup', 'read')).text
+    assert '<script>alert' not in page and '<img src=x' not in page and '&lt;script&gt;alert(1)' in page

@@ -272,3 +272,33 @@ def test_unclaimable_by_tokens() -> None:
     assert unclaimable_labels(('linux', 'gpu'), 'octo/hello', [linux]) == ('gpu',)
     assert unclaimable_labels(('linux', 'windows'), 'octo/hello', [linux, windows]) == ('linux', 'windows')
     assert unclaimable_labels(('linux',), 'octo/hello', [token(('linux',), right=Right.ADMIN), token(('linux',), revoked=1)]) == ('linux',)
+
+
+def test_another_store_is_taken_up_without_a_word(tmp_path: pathlib.Path) -> None:
+    """A hub that finds another store in place of its own tells nothing of what is there, and of what comes then."""
+    told = Told(tmp_path / 'x')
+    try:
+        told.start()
+        told.repository.only({'one.yml': ONE})
+        first = created(told.sender.push(told.repository.push('refs/heads/main', 'x', {'src/1': ''})))['one.yml']
+        told.work()
+        told.status_of(first, 'success')
+        told.hub.kill()
+        told.service.kill()
+        told.service.store.unlink()
+        told.service.start()
+        told.number = 0
+        for _ in range(3):
+            told.service.admit()
+        told.work()
+        before = len(told.receiver.received)
+        told.hub.start()
+        until(lambda: told.hub.process and 'this is another store' in told.hub.process.said(), what='what it says')
+        run = created(told.sender.push(told.repository.push('refs/heads/main', 'y', {'src/2': ''})))['one.yml']
+        told.status_of(run, 'pending')
+        assert run == 4
+        later = [json.loads(body) for path, _, body in told.receiver.received[before:] if path.startswith('/api')]
+        ends = {each['target_url'].rpartition('/')[2] for each in later if each['description'] != f'Run {first}: success'}  # sent again
+        assert ends == {'4'}
+    finally:
+        told.end()

@@ -105,13 +105,13 @@ class Handler:
         async with self.locks.setdefault(str(mirror.folder), asyncio.Lock()):
             await mirror.fetch(self.settings.fetch_limit)
 
-    async def handle(self, delivery: Delivery, repository: Repository) -> Outcome:
+    async def handle(self, delivery: Delivery, repository: Repository, is_fetched: bool = False) -> Outcome:
         """What becomes of a delivery. `NotNow` and `NoCommit` say that it is to be tried again."""
         mirror, outcome = self.mirror(repository), Outcome()
         if mirror is None:
             return Outcome(['not taken: there is no mirror of the repository'])
         try:
-            if delivery.event != 'workflow_run':  # of a run here: what it was made from has been fetched
+            if not is_fetched and delivery.event != 'workflow_run':  # what a run here was made from has been fetched
                 await self.fetch(mirror)
             if isinstance(branch := at(delivery.payload, 'repository', 'default_branch'), str):
                 await mirror.note_default(branch)
@@ -130,9 +130,9 @@ class Handler:
                 raise NotTaken('the commit asks to be skipped')
         except (NotTaken, Malformed) as fault:
             return Outcome([f'not taken: {fault}'])
-        outcome = Outcome(occasion=occasion)
-        texts = await mirror.texts(occasion.commit)
-        for entry in await mirror.workflows(occasion.commit):
+        outcome, entries = Outcome(occasion=occasion), await mirror.workflows(occasion.commit)
+        texts = await mirror.read(entries)
+        for entry in entries:
             if entry.fault and delivery.path in (None, entry.path):
                 outcome.lines.append(f'{entry.path}: not read: {entry.fault}')
         source = Source(repository, occasion, delivery.payload, texts, await self.variables(repository), self.server)

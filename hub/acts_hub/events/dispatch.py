@@ -67,7 +67,7 @@ class Dispatcher:
             if fault := await self.fault(mirror, full, path):
                 return refused(fault)
             payload = self.payload(repository, actor) | {'ref': full, 'workflow': path, 'inputs': dict(inputs)}
-            return self.answer(await self.started('workflow_dispatch', payload, repository, path))
+            return self.answer(await self.started('workflow_dispatch', payload, repository, path, True))
         except (NoCommit, Malformed):
             return refused(f'No ref found for: {ref[:200]}')
         except (NotNow, GitFault, TooSlow) as fault_of_others:
@@ -113,11 +113,12 @@ class Dispatcher:
         """What the payloads have in common."""
         return {'repository': self.events.facts.of(repository.name), 'sender': {'login': actor}}
 
-    async def started(self, event: str, payload: dict[str, Any], repository: Repository, path: str | None) -> Outcome:
+    async def started(self, event: str, payload: dict[str, Any], repository: Repository, path: str | None,
+                      is_fetched: bool = False) -> Outcome:
         """What becomes of an event, which is posted at once: who asked is told if it can't be."""
         id = str(uuid.uuid4())
         delivery = Delivery(name_of(id), event, id, id, payload, path)
-        outcome = await self.events.handler.handle(delivery, repository)
+        outcome = await self.events.handler.handle(delivery, repository, is_fetched)
         await self.events.tell(delivery, repository, outcome)
         return outcome
 

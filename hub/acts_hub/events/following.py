@@ -38,7 +38,7 @@ class Follower:
         """Follows without end."""
         async with self.hub.mirror.watch() as watcher:
             while not self.hub.mirror.is_whole:
-                await asyncio.wait({asyncio.ensure_future(watcher.next())}, timeout=0.5)
+                await asyncio.sleep(0.1)
             await self.take_up()
             while True:
                 for number in sorted(await watcher.next()):

@@ -18,6 +18,7 @@ from .listing import Listed, Listing
 from .mirrors import GitFault, NoCommit, TooSlow
 from .occasions import Malformed
 from .queues import NotNow, Queues
+from .refusals import Refusal
 from .receive import Receiver
 from .room import Room
 from .schedules import Schedules
@@ -163,10 +164,12 @@ class Events:
         except NoCommit as fault:
             if age(name) < self.settings.keep:
                 return False
-            reasons = outcome.lines = [f'put aside: {fault}']
+            outcome = put_aside(str(fault))
+            reasons = outcome.lines
         except Exception as fault:
             traceback.print_exc()
-            reasons = outcome.lines = [f'put aside: {fault!r}']
+            outcome = put_aside(repr(fault))
+            reasons = outcome.lines
         if delivery is not None and repository is not None:
             await self.tell(delivery, repository, outcome)
         await self.finish(name, title, outcome, reasons)
@@ -187,15 +190,13 @@ class Events:
         occasion = outcome.occasion
         known = {(one.delivery, one.path) for one in self.hub.refused.list(repository.name, 100)}
         for refusal in outcome.refused:
-            if (delivery.id, refusal.path) in known:
+            if (delivery.id, refusal.path or None) in known:
                 continue
             event = occasion.happening.event if occasion else delivery.event
-            self.hub.refused.add(now(), repository.name, event, delivery.id, refusal.path, occasion.ref if occasion else None,
+            self.hub.refused.add(now(), repository.name, event, delivery.id, refusal.path or None, occasion.ref if occasion else None,
                                  occasion.head if occasion else None, refusal.code, refusal.line, refusal.words, refusal.advice)
             if occasion:
                 await self.statuses.add(refused_status(self.hub.config.url, repository.name, occasion.head, event, refusal))
-        if outcome.refused and not occasion:
-            say(f'events: {delivery.name}: refused')
 
     async def finish(self, name: str, title: str, outcome: Outcome, reasons: list[str]) -> None:
         """Removes a delivery from the spool, or puts it aside, and tells who waits."""
@@ -240,6 +241,11 @@ class Events:
         except OSError:
             aside = 0
         return State(self.room.reason, waiting, aside, dict(self.counts))
+
+
+def put_aside(words: str) -> Outcome:
+    """What becomes of a delivery that can't be handled."""
+    return Outcome([f'put aside: {words}'], refused=[Refusal('', f'put aside: {words}')])
 
 
 async def endless(work: Coroutine[Any, Any, None]) -> None:

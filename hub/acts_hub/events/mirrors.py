@@ -153,7 +153,11 @@ class Mirror:
 
     async def texts(self, commit: str) -> dict[str, str]:
         """The texts of all workflows of a commit that can be read."""
-        entries = [entry for entry in await self.workflows(commit) if entry.fault is None]
+        return await self.read(await self.workflows(commit))
+
+    async def read(self, listed: list[Entry]) -> dict[str, str]:
+        """The texts of those workflows that can be read."""
+        entries = [entry for entry in listed if entry.fault is None]
         blobs = await self.blobs([entry.blob for entry in entries]) if entries else []
         return {entry.path: text for entry, text in zip(entries, blobs) if text is not None}
 

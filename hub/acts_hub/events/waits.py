@@ -2,6 +2,7 @@
 from __future__ import annotations
 
 import asyncio
+import time
 from typing import TYPE_CHECKING, Iterable
 
 from ..access.identity import Right, matches
@@ -56,11 +57,12 @@ class Waits:
     async def follow(self) -> None:
         """Looks again and again."""
         while True:
+            began = time.monotonic()
             try:
                 await self.look(await self.hub.view.queue())
             except Away:
                 pass
-            await asyncio.sleep(SECONDS)
+            await asyncio.sleep(max(SECONDS, 10 * (time.monotonic() - began)))  # a long queue is looked at less often
 
     async def look(self, queue: list[Ready]) -> None:
         """Looks at the legs that wait."""

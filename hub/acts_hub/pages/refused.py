@@ -60,10 +60,31 @@ async def refused(site: Site, request: web.Request) -> web.StreamResponse:
     return _page(site, request, found, '/refused', [('Refused', '')], '')
 
 
+@dataclass(frozen=True)
+class Waiting:
+    """Events of a repository that wait, and why."""
+
+    repository: str
+    count: int
+    why: str
+
+
+def waiting_of(site: Site, request: web.Request, repository: str) -> tuple[str, list[Waiting], list[tuple[str, str, int]]]:
+    """Why all events wait; those that wait in a repository, or in all that one may read; and those that start nothing there."""
+    identity, state, wanted = signed_in(request), site.hub.events.state(), repository.lower()
+
+    def shown(name: str) -> bool:
+        return name == wanted if wanted else identity.may(Right.READ, name or None)
+    waiting = [Waiting(name, count, why) for name, (count, why) in sorted(state.waiting.items()) if shown(name)]
+    untaken = [(name, event, count) for (name, event), count in sorted(state.untaken.items()) if shown(name)]
+    return state.held or '', waiting, untaken
+
+
 def _page(site: Site, request: web.Request, found: list[Refused], here: str, crumbs: list[tuple[str, str]], repository: str) -> web.Response:
+    held, waiting, untaken = waiting_of(site, request, repository)
     older = f'{here}?before={found[PAGE - 1].id}' if len(found) > PAGE else ''
     return site.page(request, 'refused.html', title=f'Refused events{" · " + repository if repository else ""}', active='refused', crumbs=crumbs,
-                     rows=[_row(one) for one in found[:PAGE]], older=older, every=10)
+                     rows=[_row(one) for one in found[:PAGE]], older=older, every=10, held=held, waiting=waiting, untaken=untaken)
 
 
 def routes(site: Site) -> list[web.RouteDef]:
