@@ -30,6 +30,7 @@ from .storage import FolderStorage, Storage, StorageFault
 
 MINUTES = 360  # of a job that names none
 ARCHITECTURES = {'x86_64': 'X64', 'aarch64': 'ARM64', 'armv7l': 'ARM'}
+HIDDEN = {'CREDENTIALS_DIRECTORY'}  # of systemd, in which the token of the runner is
 Step = dict[str, Any]
 
 
@@ -95,7 +96,7 @@ class Job:
         self.github = self.context_github()
         is_fork = is_of_a_fork(self.github, self.body['repo'])
         self.secrets = {} if is_fork else secrets_in(self.options.secrets, environment_of(self.job))
-        self.log = self.make_log()
+        self.log = log_of(self.options, self.leg, self.facts, self.secrets.values())
         self.storage, self.caches = self.stores()
         self.needs = self.needs_of(self.facts.get('results') or {})
         if 'GITHUB_TOKEN' in self.secrets:
@@ -117,15 +118,6 @@ class Job:
                 'workflow': self.workflow.get('name') or self.body['path'], 'run_id': self.leg.run, 'job': self.name,
                 'workspace': self.workspace, 'event_path': os.path.join(self.temp, 'event.json'),
                 **(self.facts.get('github') or {})}
-
-    def make_log(self) -> Log:
-        """The log of this leg."""
-        leg = self.leg
-        path = unused(self.options.logs or os.path.abspath('logs'), f'run-{leg.run}-{self.name}-{leg.leg}-lease-{leg.lease}',
-                      self.options.logs_kept)
-        whose = {'run': leg.run, 'attempt': self.facts.get('attempt'), 'job': leg.job, 'leg': leg.leg, 'lease': leg.lease,
-                 'claim': leg.claim} if self.options.hub else None
-        return Log(path, self.options.log_bytes, self.secrets.values(), whose)
 
     def stores(self) -> tuple[Storage | None, Caches | None]:
         """Where artifacts, outputs and caches are."""
@@ -207,7 +199,7 @@ class Job:
 
     def environment(self, frame: Frame, env: Mapping[str, str], files: Files) -> dict[str, str]:
         """All variables of a step. In a container those of this machine have no place."""
-        outside: Mapping[str, str] = {} if self.container else os.environ
+        outside = {} if self.container else {name: value for name, value in os.environ.items() if name not in HIDDEN}
         made: dict[str, str] = {**outside, **env, **self.given(frame), **files.paths, **({'CI': env['CI']} if 'CI' in env else {})}
         if self.path or not self.container:
             made['PATH'] = ':'.join([*reversed(self.path), made.get('PATH') or (self.container.path if self.container else '')])
@@ -566,13 +558,34 @@ def secrets_in(path: str | None, environment: str) -> dict[str, str]:
     return found
 
 
+def log_of(options: Options, leg: Held, facts: Mapping[str, Any], secrets_of_it: Iterable[str] = ()) -> Log:
+    """The log of a leg."""
+    name = f'run-{leg.run}-{leg.job}-{leg.leg}-lease-{leg.lease}'
+    whose = {'run': leg.run, 'attempt': facts.get('attempt'), 'job': leg.job, 'leg': leg.leg, 'lease': leg.lease,
+             'claim': leg.claim} if options.hub else None
+    return Log(unused(options.logs or os.path.abspath('logs'), name, options.logs_kept), options.log_bytes, secrets_of_it, whose)
+
+
+def refused(order: dict[str, Any], fault: Exception) -> str:
+    """A leg that can't even be looked at: it says why in its log."""
+    words = str(fault) if isinstance(fault, (ValueError, OSError)) else f'not of the form of a job ({fault!r})'
+    try:
+        log = log_of(Options.of(order['options']), Held(**order['leg']), order.get('facts') or {})
+        log.mark(step=1, name='Set up job', begins=True)
+        log.refuse(words)
+        log.mark(step=1, ends=True, outcome='failure')
+        log.mark(complete=True, result='failure')
+    except OSError as full:
+        print(f'not run: {words}; and there is no log: {full}', file=sys.stderr, flush=True)
+    return 'failure'
+
+
 def run(order: dict[str, Any], asked: Sequence[float]) -> str:
     """How the leg ended."""
     try:
         job = Job(order, asked)
     except (ValueError, KeyError, TypeError, AttributeError, OSError) as fault:
-        print(f'not run: {fault!r}', file=sys.stderr, flush=True)
-        return 'failure'
+        return refused(order, fault)
     try:
         return job.run()
     except Exception as fault:

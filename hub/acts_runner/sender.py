@@ -146,12 +146,15 @@ class Sender(threading.Thread):
 
     @staticmethod
     def close_marks(path: str) -> None:
-        """Marks the end of a log whose process was killed."""
+        """Marks the end of a log whose process was killed, and says so."""
         at = os.stat(path + '.log').st_size if os.path.exists(path + '.log') else 0
+        words = 'The process of the steps has ended, and nobody knows how the step ended.'
+        end: dict[str, Any] = {'at': milliseconds(), 'bytes': at}
+        marks = [{'annotation': {'annotation_level': 'failure', 'message': words}, **end},
+                 {'complete': True, 'result': 'failure', 'lost': True, **end}]
         whole = read_text(path + '.marks')
         with open(path + '.marks', 'a', encoding='utf-8') as file:
-            mark = {'complete': True, 'result': 'failure', 'lost': True, 'at': milliseconds(), 'bytes': at}
-            file.write(('' if whole.endswith('\n') or not whole else '\n') + json.dumps(mark) + '\n')
+            file.write(('' if whole.endswith('\n') or not whole else '\n') + ''.join(json.dumps(mark) + '\n' for mark in marks))
 
     def note_sent(self, path: str, words: str) -> None:
         """Notes that nothing is to be sent any more."""

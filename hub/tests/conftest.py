@@ -8,6 +8,7 @@ from typing import Any
 import pytest
 from harness import HubProcess, Service
 from rest_stand import Stand, standing
+from runner_trials import Case
 
 
 @pytest.fixture
@@ -68,3 +69,13 @@ def stand(standing_hub: Stand) -> Iterator[Stand]:
     standing_hub.clear()
     yield standing_hub
     standing_hub.clear()
+
+
+@pytest.fixture
+def case(tmp_path: pathlib.Path) -> Iterator[Case]:
+    """A service, and a runner between which and the service something stands."""
+    made = Case(tmp_path)
+    try:
+        yield made
+    finally:
+        made.close()

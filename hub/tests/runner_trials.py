@@ -13,9 +13,8 @@ import socket
 import subprocess
 import threading
 import time
-from typing import Any, Callable, Iterator
+from typing import Any, Callable
 
-import pytest
 from harness import HUB, PYTHON, Service, request
 
 ROOT = str(HUB)
@@ -270,16 +269,6 @@ class Case(Host):
                 host.kill()
         self.service.kill()
         self.kill_all()
-
-
-@pytest.fixture
-def case(tmp_path: pathlib.Path) -> Iterator[Case]:
-    """A case, which ends with its test."""
-    made = Case(tmp_path)
-    try:
-        yield made
-    finally:
-        made.close()
 
 
 def git(folder: str, *words: str) -> str:

@@ -7,7 +7,7 @@ import pathlib
 import subprocess
 from typing import Any
 
-from runner_trials import ENGINE, Case, case, git, lines_of, mirror, until  # noqa: F401
+from runner_trials import ENGINE, Case, git, lines_of, mirror, until
 
 CHECKOUT: dict[str, Any] = {'uses': 'actions/checkout@v4'}
 NEVER = {'run': 'echo never >> "$NOTES"'}

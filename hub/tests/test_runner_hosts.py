@@ -5,7 +5,7 @@ import os
 import shutil
 import time
 
-from runner_trials import NOTED, TAGGED, Case, Host, case, is_first_claim, until  # noqa: F401
+from runner_trials import NOTED, TAGGED, Case, Host, is_first_claim, until
 
 
 def _deploy(case: Case, count: int = 3) -> list[str]:

@@ -200,6 +200,29 @@ def test_a_refusal_is_in_the_log(site: Site) -> None:
     assert [(one['annotation_level'], one['message']) for one in site.annotations(run)] == [('failure', words)]
 
 
+def test_a_secrets_file_that_others_may_read_is_in_the_log(site: Site) -> None:
+    path = site.folder / 'secrets'
+    path.write_text('{}')
+    path.chmod(0o644)
+    run = site.admit({'run': 'echo never >> "$NOTES"'})
+    site.run('--secrets', str(path))
+    assert site.noted() == [] and f'not run: others may read {path}: chmod 600' in site.said(run)
+    assert site.steps(run) == [(1, 'Set up job', 'failure')]
+
+
+def test_secrets_of_an_environment_go_to_its_jobs(site: Site) -> None:
+    """And a job whose environment is neither approved nor free does not run."""
+    path = site.folder / 'secrets'
+    path.write_text(json.dumps({'A': 'all', 'B': 'all', 'environments': {'staging': {'B': 'staging alone'}}}))
+    path.chmod(0o600)
+    step = {'run': 'echo "$A $B" >> "$NOTES"', 'env': {'A': '${{ secrets.A }}', 'B': '${{ secrets.B }}'}}
+    run = site.admit(jobs={'a': {'steps': [step]}, 'b': {'needs': 'a', 'environment': 'staging', 'steps': [step]},
+                           'c': {'needs': 'b', 'environment': 'production', 'steps': [step]}})
+    site.run('--secrets', str(path), '--environment', 'staging')
+    assert site.noted() == ['all all', 'all staging alone']
+    assert 'not run: jobs.c.environment: nobody has said by --environment that production is free of approvals' in site.said(run, job='c')
+
+
 def test_annotations_and_summaries(site: Site) -> None:
     """With GitHub's names, as `::error::` and the like give them."""
     run = site.admit({'run': 'echo "::error file=src/a.c,line=3,endLine=4,col=2,title=Bad%2C very::no%0Away"; echo "::warning::careful"\n'
@@ -362,3 +385,125 @@ def test_pieces_are_bounded_and_idempotent(site: Site) -> None:
             assert one.put('marks', place, marks, claim, offset=size).json()['size'] == size + len(marks)
         assert site.steps(run) == []
         one.done('p2', lease)
+
+
+# What is killed, full or restored.
+
+PRINTS = 'for n in $(seq 300); do echo "line $n"; [ $n = 100 ] && touch {0}/half && until [ -e {0}/go ]; do sleep 0.1; done; done; true'
+ALL = [f'line {number}' for number in range(1, 301)]
+
+
+def numbered(site: Site, run: int) -> list[str]:
+    """The numbered lines that the hub has."""
+    return [line for line in site.said(run) if line.startswith('line ')]
+
+
+def test_the_hub_is_killed_while_a_leg_runs(alone: Site) -> None:
+    run = alone.admit({'run': 'echo began >> "$NOTES"; ' + PRINTS.format(alone.folder)})
+    host = alone.host().start(pause=0.5, beat=0.5)
+    until(lambda: (alone.folder / 'half').exists() and len(numbered(alone, run)) == 100)
+    alone.hub.kill()
+    (alone.folder / 'go').touch()
+    time.sleep(2)
+    alone.hub.start()
+    until(lambda: alone.service.run(run)['status'] == 'completed')
+    assert alone.service.run(run)['conclusion'] == 'success', host.complained()
+    until(lambda: numbered(alone, run) == ALL, 60)
+    until(lambda: alone.steps(run)[-1:] == [(3, 'Complete job', 'success')], 60)
+    assert alone.noted() == ['began']
+
+
+def test_the_hub_is_away_for_the_rest_of_a_leg(alone: Site) -> None:
+    """Its log, and what it marked, come when the hub is there again: no run waits for that."""
+    run = alone.admit({'run': 'until [ -e "$NOTES.go" ]; do sleep 0.1; done; ' + PRINTS.format(alone.folder) + '; echo "::error::late"'})
+    host = alone.host().start(pause=0.5)
+    until(lambda: alone.service.run(run)['status'] == 'in_progress' and alone.said(run))
+    alone.hub.kill()
+    pathlib.Path(alone.notes + '.go').touch()
+    (alone.folder / 'go').touch()
+    log = pathlib.Path(host.home(), 'logs', f'run-{run}-build-0-lease-1.log')
+    until(lambda: 'line 300' in log.read_text())
+    alone.hub.start()
+    until(lambda: alone.service.run(run)['conclusion'] == 'success')
+    until(lambda: numbered(alone, run) == ALL, 60)
+    until(lambda: [one['message'] for one in alone.annotations(run)] == ['late'], 60)
+
+
+def test_the_runner_is_killed_and_its_next_life_sends_the_rest(alone: Site) -> None:
+    run = alone.admit({'run': 'echo began >> "$NOTES"; ' + PRINTS.format(alone.folder)})
+    host = alone.host().start(pause=0.5)
+    until(lambda: (alone.folder / 'half').exists())
+    host.kill()
+    (alone.folder / 'go').touch()
+    time.sleep(1.5)
+    alone.run(host=host)
+    assert alone.service.run(run)['conclusion'] == 'success' and alone.noted() == ['began'], host.complained()
+    assert numbered(alone, run) == ALL
+
+
+def test_steps_that_are_killed_leave_their_log(alone: Site) -> None:
+    """As by a crash of the machine: the log has what they wrote, and no step stays open."""
+    run = alone.admit({'name': 'Count', 'run': PRINTS.format(alone.folder)})
+    host = alone.host().start(pause=0.5)
+    until(lambda: (alone.folder / 'half').exists())
+    kill_all(alone.notes)
+    alone.run(host=host)
+    assert alone.service.run(run)['conclusion'] == 'failure'
+    assert numbered(alone, run) == ALL[:100]
+    assert alone.steps(run) == [(1, 'Set up job', 'success'), (2, 'Count', 'failure')]
+    assert 'nobody knows how the step ended' in alone.annotations(run)[0]['message']
+
+
+def test_a_full_disk_of_the_hub_stops_no_run(make_hub: Callable[..., HubProcess], tmp_path: pathlib.Path) -> None:
+    small = tmp_path / 'small'
+    small.mkdir()
+    if subprocess.run(['mount', '-t', 'tmpfs', '-o', 'size=3m', 'tmpfs', str(small)], capture_output=True, check=False).returncode:
+        pytest.skip('no mount is allowed here')
+    try:
+        hub = make_hub(tables={'hub': {'folder': str(small)}})
+        site = Site(tmp_path, hub)
+        site.token = hub.token('x', 'runner', prefix='', labels=(site.label,))
+        run = site.admit({'run': PRINTS.format(site.folder)})
+        (site.folder / 'go').touch()
+        with contextlib.suppress(OSError), open(small / 'filler', 'wb') as filler:
+            while True:
+                filler.write(bytes(1 << 16))
+        host = site.host().start(pause=0.5)
+        until(lambda: site.service.run(run)['conclusion'] == 'success')
+        os.remove(small / 'filler')
+
+        def lines() -> list[str]:
+            return [line for file in small.glob(f'logs/*/{run}/1/build.0.*.log') for line in text_of_log(str(file)) if line.startswith('line ')]
+        until(lambda: lines() == ALL, 90)
+        host.kill()
+        hub.kill()
+    finally:
+        subprocess.run(['umount', '-l', str(small)], check=True)
+
+
+def test_a_lease_that_stands_for_something_else(alone: Site) -> None:
+    """The service's file is restored: the same run, lease and leg come again for another event, and its log has nothing of the first one."""
+    store = alone.service.store
+    alone.service.kill()
+    empty = store.read_bytes()
+    alone.service.start()
+    alone.admit({'run': 'echo of the first'})
+    host = alone.run()
+    until(lambda: 'of the first' in alone.said(1))
+    alone.service.kill()
+    store.write_bytes(empty)
+    alone.service.start()
+    alone.admit({'run': 'echo of the second'})
+    alone.run(host=host)
+    assert alone.service.run(1)['conclusion'] == 'success', host.complained()
+    until(lambda: 'of the second' in alone.said(1), 60)
+    assert 'of the first' not in alone.said(1)
+
+
+def test_a_log_is_bounded_at_the_hub(make_hub: Callable[..., HubProcess], tmp_path: pathlib.Path) -> None:
+    site = Site(tmp_path, make_hub(tables={'retention': {'log_bytes_a_leg': 20000}}))
+    run = site.admit({'run': 'yes "a line of some length" | head -n 100000; echo last'})
+    site.run()
+    assert site.service.run(run)['conclusion'] == 'success'
+    size = sum(file.stat().st_size for file in (site.hub.state / 'logs').rglob('*.log'))
+    assert 19000 < size < 21000 and 'longer than 20000 bytes' in site.log(run)[-1]

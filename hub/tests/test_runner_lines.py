@@ -6,9 +6,8 @@ import shutil
 import time
 from typing import Any
 
-import pytest
 from acts_runner.files import Slots
-from runner_trials import NOTED, Case, case, is_first_claim, until  # noqa: F401
+from runner_trials import NOTED, Case, is_first_claim, until
 
 
 def test_first_poll_finds_nothing(case: Case) -> None:

@@ -9,7 +9,7 @@ import shutil
 import pytest
 from acts_hub.events.templates import Folding
 from acts_workflow.reading import read
-from runner_trials import ENGINE, Case, case, mirror, until  # noqa: F401
+from runner_trials import ENGINE, Case, mirror, until
 
 FOLDER = pathlib.Path(__file__).resolve().parents[2] / 'examples' / 'starters'
 FILES = {'hello.py': '', 'deep/other.py': '', 'requirements.txt': '', 'package-lock.json': '{}', 'configure': '#!/bin/sh\necho "configure" >> "$NOTES"\n',
@@ -69,7 +69,7 @@ def stand_in(tool: str, engine: bool) -> str:
 
 
 @pytest.mark.parametrize('path', sorted(FOLDER.glob('*.yml')), ids=lambda path: path.stem)
-def test_starter(case: Case, path: pathlib.Path) -> None:  # noqa: F811
+def test_starter(case: Case, path: pathlib.Path) -> None:
     text, folder = path.read_text(), case.folder
     head = [line for line in text.splitlines() if line.startswith('#')]
     sha = mirror(folder, 'octo/hello', FILES, 3, ('v1.1', 'v1.2'))

@@ -10,7 +10,7 @@ import time
 from typing import Any, Iterator
 
 from harness import free_ports
-from runner_trials import ENGINE, ROOT, Case, case, lines_of, mirror, until  # noqa: F401
+from runner_trials import ENGINE, ROOT, Case, lines_of, mirror, until
 
 NEVER = {'run': 'echo never >> "$NOTES"'}
 TOOL = 'mkdir -p tools; printf "#!/bin/sh\\necho tool \\$1" > tools/mine; chmod +x tools/mine; echo "$PWD/tools" >> "$GITHUB_PATH"'

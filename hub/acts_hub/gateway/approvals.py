@@ -56,6 +56,8 @@ class Approvals:
     async def review(self, request: web.Request) -> web.Response:
         """Approves the present attempt, or rejects it, which cancels the run."""
         identity, whole = await self.run(request, Right.WRITE)
+        if identity.is_browser:
+            raise web.HTTPForbidden(text='This needs a token in the field Authorization: the page has a button.')
         try:
             said: Any = await request.json()
         except (ValueError, RecursionError):

@@ -4,6 +4,7 @@ from __future__ import annotations
 
 import asyncio
 from collections import Counter
+from typing import TYPE_CHECKING
 
 from aiohttp import WSMsgType, web
 
@@ -12,6 +13,9 @@ from ..log import say
 from ..service.http import Away
 from ..service.lines import Answer, Lines, RunnerPort
 from .passing import Forbidden, Passing, TryAgain
+
+if TYPE_CHECKING:
+    from ..hub import Hub
 
 MAX_FRAME = 1024  # bytes: a line has 512 at most
 FORBIDDEN, AGAIN, SILENT = 4403, 1013, 1001
@@ -92,8 +96,8 @@ class Sockets:
 
 def require_again(request: web.Request, identity: Identity) -> None:
     """A token that was revoked meanwhile ends its streams."""
-    found = request.app['hub'].access.identify(request)
-    if found is None or found.token_id != identity.token_id:
+    hub: Hub = request.app['hub']
+    if hub.access.tokens.by_id(identity.token_id) is None:
         raise Forbidden('the token is not valid any more')
 
 
@@ -107,7 +111,7 @@ async def send(socket: web.WebSocketResponse, answer: Answer) -> None:
 def ends(answer: Answer) -> bool:
     """Whether the service ends the session with this answer."""
     words = answer.text.split(' ')
-    return words[0] == 'refused' and words[1:] and words[1] in ('46', '47', '48', '50', '51', '52', '57', '60') or False
+    return words[0] == 'refused' and len(words) == 2 and words[1] in ('46', '47', '48', '50', '51', '52', '57', '60')
 
 
 async def close(socket: web.WebSocketResponse, code: int, words: str) -> None:
