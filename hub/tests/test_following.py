@@ -212,6 +212,30 @@ def test_a_body_that_is_no_object_hides_no_run(tmp_path: pathlib.Path) -> None:
 
 
 @pytest.mark.quick
+def test_a_run_with_many_legs_is_not_read_at_each_of_its_changes(tmp_path: pathlib.Path) -> None:
+    async def test() -> None:
+        async with StandIn() as stand:
+            stand.add(1, status='in_progress')
+            leg = {'combination': {}, 'state': 'ready', 'lease': None, 'runner': None, 'labels': ['linux'], 'group': None, 'waits_for': None}
+            stand.wholes[1] = {'jobs': [{'id': 'build', 'state': 'open', 'needs': [], 'max_parallel': None, 'legs': [{'leg': number, **leg} for number in range(600)]}]}
+            async with mirrored(stand, tmp_path) as mirror:
+                await until(lambda: 1 in mirror.snapshots)
+                before = stand.asked['/runs/']
+                for number in range(40):
+                    stand.say({'entry': number, 'command': {'name': 'claim', 'runner': f'r{number}', 'number': 1, 'labels': ['linux']},
+                               'reply': f'lease {number + 1} 1 build {number} {{}}', 'at': 1000 + number})
+                    await until(lambda: len(mirror.attempts.legs(1, 1)) > number)
+                assert stand.asked['/runs/'] - before <= 1
+                stand.rows[1].update(status='completed', conclusion='failure')
+                stand.say({'after': 41, 'run': 1, 'attempt': 1, 'status': 'completed', 'conclusion': 'failure', 'at': 9000})
+                began = time.monotonic()
+                await until(lambda: mirror.attempts.has_whole(1, 1))       # its end does not wait
+                assert time.monotonic() - began < 1.1 and 1 not in mirror.snapshots
+                assert mirror.attempts.legs(1, 1)['build', 39].started_at == 1039
+    play(test())
+
+
+@pytest.mark.quick
 def test_an_index_says_what_a_look_at_each_run_would() -> None:
     dice = random.Random(7)
     runs: dict[int, tuple[str, dict[str, str | None]]] = {}

@@ -9,7 +9,7 @@ from typing import Any
 
 from .database import Database, Overlay, Statement
 
-MAX_CACHED = 2000
+MAX_CACHED = 100_000
 COLUMNS = 'run, attempt, started_at, updated_at, completed_at, status, conclusion, triggering_actor, skipped'
 LEGS = 'job, leg, lease, runner, state, started_at, ended_at, combination, labels'
 Attempt = tuple[int, int]
@@ -114,9 +114,14 @@ class AttemptStore:
 
     def _shrink(self) -> None:
         """Forgets what was not used for long and is in the file."""
-        for key in list(self._legs)[:max(0, len(self._legs) - MAX_CACHED)]:
+        if len(self._legs) % 32:
+            return
+        left = len(self._legs) + sum(map(len, self._legs.values()))
+        for key in list(self._legs)[:-1]:
+            if left <= MAX_CACHED:
+                return
             if self._tickets.get(key, 0) <= self._database.written:
-                del self._legs[key]
+                left -= 1 + len(self._legs.pop(key))
                 self._tickets.pop(key, None)
 
     def keep_legs(self, run: int, attempt: int, notes: Iterable[LegNote]) -> list[Statement]:

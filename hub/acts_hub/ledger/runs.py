@@ -39,6 +39,10 @@ class RunStore:
         rows = self._database.read('select repository, delivery, digest, facts, created_at, created_source from runs where run = ?', (run,))
         return _kept(rows[0]) if rows else None
 
+    def older(self, before: int) -> list[int]:
+        """The runs that were made before a time."""
+        return [run for run, in self._database.read('select run from runs where created_at < ?', (before,))]
+
     @staticmethod
     def keep(run: int, kept: KeptRun) -> Statement:
         """Keeps a run."""

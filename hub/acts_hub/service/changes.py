@@ -226,4 +226,4 @@ class Changes:
         """A run has changed: it is looked at soon, unless lines of its legs say all."""
         self._changed.add(run)
         if is_end or not self.has_leg_lines:
-            self.looks.at_run(run, at)
+            self.looks.at_run(run, at, is_end)

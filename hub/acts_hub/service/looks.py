@@ -16,12 +16,13 @@ from .facts import Facts, facts_of
 from .http import Away
 from .leases import Leases, Place
 from .models import Json, Row
-from .whole import ENDS, is_skipped, leg_states
+from .whole import ENDS, is_skipped, leg_count, leg_states
 
 if TYPE_CHECKING:
     from .mirror import Mirror
 
 AT_ONCE = 6
+LEGS_A_SECOND = 500
 
 
 class Looks:
@@ -31,12 +32,26 @@ class Looks:
         self.mirror, self.leases = mirror, leases
         self._runs: OrderedDict[int, int | None] = OrderedDict()    # run -> when what is to be seen happened, if that is known
         self._bodies: OrderedDict[int, None] = OrderedDict()
+        self._rests: dict[int, tuple[int | None] | None] = {}       # large runs that rest, and since when they are to be looked at again
         self._work = asyncio.Event()
 
-    def at_run(self, run: int, at: int | None) -> None:
-        """A run is to be looked at."""
+    def at_run(self, run: int, at: int | None, is_end: bool = False) -> None:
+        """A run is to be looked at. One with many legs rests between two looks, but for its end."""
+        if run in self._rests and not is_end:
+            self._rests[run] = (at,)
+            return
         self._runs[run] = at
         self._work.set()
+
+    def _rest(self, run: int, legs: int) -> None:
+        if legs >= LEGS_A_SECOND and run not in self._rests:
+            self._rests[run] = None
+            asyncio.get_running_loop().call_later(legs / LEGS_A_SECOND, self._wake, run)
+
+    def _wake(self, run: int) -> None:
+        waiting = self._rests.pop(run, None)
+        if waiting is not None:
+            self.at_run(run, waiting[0])
 
     def at_body(self, run: int) -> None:
         """A body is to be read."""
@@ -98,11 +113,12 @@ class Looks:
             note.skipped = is_skipped(found)
             if not mirror.attempts.has_whole(run, attempt):
                 mirror.attempts.keep_whole(run, attempt, found)
-            mirror.snapshots.pop(run, None)
+            mirror.drop_snapshot(run)
             if known.row.attempt == attempt and known.skipped != note.skipped:
                 mirror.put(dataclasses.replace(known, skipped=note.skipped))
         else:
             mirror.snapshot(run, found)
+            self._rest(run, leg_count(found))
         batch.write()
         if before != found:
             mirror.moved({run})
@@ -145,7 +161,7 @@ class Looks:
             return
         if not mirror.attempts.has_whole(run, attempt):
             mirror.attempts.keep_whole(run, attempt, mirror.rebuilt({**seen, 'attempt': attempt + 1}, attempt))
-        del mirror.snapshots[run]
+        mirror.drop_snapshot(run)
 
     async def learn(self, run: int) -> None:
         """Reads the body of a run."""

@@ -20,11 +20,11 @@ from .index import Index
 from .models import Json, Row, Runner, Whole
 from .runs import Run, Runs, Watcher, filled, value_of, values_of
 from .view import ViewPort
-from .whole import rebuilt, whole_of
+from .whole import leg_count, rebuilt, whole_of
 
 __all__ = ['Mirror', 'Run', 'Runs', 'Watcher', 'value_of']
 MAX_BODIES = 64
-MAX_SNAPSHOTS = 2000
+MAX_SNAPSHOT_LEGS = 100_000
 
 
 class Mirror:
@@ -39,6 +39,7 @@ class Mirror:
         self.fault: str | None = None
         self.dropped: list[Callable[[int], None]] = []      # called with a run whose ledger was dropped: its logs and artifacts go too
         self.snapshots: OrderedDict[int, Json] = OrderedDict()
+        self._snapshot_legs: dict[int, int] = {}
         self._bodies: OrderedDict[tuple[int, str], bytes] = OrderedDict()
         self._index = Index()
         self._watchers: set[Watcher] = set()
@@ -164,7 +165,7 @@ class Mirror:
     def gone(self, run: int) -> None:
         """The service has the run no more. What the ledger keeps of it stays till its days are over, or another run has its id."""
         known = self.runs.pop(run, None)
-        self.snapshots.pop(run, None)
+        self.drop_snapshot(run)
         if known is not None:
             self._index.drop(run, known.row.repository.lower(), values_of(known))
 
@@ -181,15 +182,23 @@ class Mirror:
     def expire(self, before: int) -> None:
         """Drops what is kept of runs that the service has no more and that are older than this."""
         if self.is_whole and self.fault is None:
-            for run in [run for run, kept in self.kept.all().items() if run not in self.runs and kept.created_at < before]:
+            for run in [run for run in self.kept.older(before) if run not in self.runs]:
                 self.database.write_all(self.forget(run))
 
     def snapshot(self, run: int, json: Json) -> None:
-        """Keeps the last look at a run that goes on."""
-        self.snapshots[run] = json
-        self.snapshots.move_to_end(run)
-        if len(self.snapshots) > MAX_SNAPSHOTS:
-            self.snapshots.popitem(last=False)
+        """Keeps the last look at a run that goes on; of all such runs so many that their legs are bounded."""
+        self.drop_snapshot(run)
+        self.snapshots[run], self._snapshot_legs[run] = json, 1 + leg_count(json)
+        total = sum(self._snapshot_legs.values()) if len(self.snapshots) % 16 == 0 or self._snapshot_legs[run] > 1000 else 0
+        while total > MAX_SNAPSHOT_LEGS and len(self.snapshots) > 1:
+            oldest = next(iter(self.snapshots))
+            total -= self._snapshot_legs[oldest]
+            self.drop_snapshot(oldest)
+
+    def drop_snapshot(self, run: int) -> None:
+        """Forgets the last look at a run."""
+        self.snapshots.pop(run, None)
+        self._snapshot_legs.pop(run, None)
 
     def moved(self, runs: set[int]) -> None:
         """Tells all who wait for changes."""

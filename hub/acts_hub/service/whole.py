@@ -67,3 +67,8 @@ def is_skipped(json: Json) -> bool:
 def leg_states(json: Json) -> dict[LegKey, dict[str, Any]]:
     """The legs of a run as the service shows it, by job and number."""
     return {(job['id'], leg['leg']): leg for job in json['jobs'] for leg in job['legs']}
+
+
+def leg_count(json: Json) -> int:
+    """How many legs a run has so far."""
+    return sum(len(job['legs']) for job in json['jobs'])
