@@ -2,12 +2,20 @@
 from __future__ import annotations
 
 import html
+import io
 import re
+import zipfile
 from collections.abc import Iterator
+from urllib.parse import urlencode
 
 import pytest
 from harness import HubProcess, until
 from pages_stage import Stage
+
+from acts_hub.config import Retention
+from acts_hub.ledger.artifacts import ArtifactStore
+from acts_hub.ledger.database import Database
+from acts_hub.ledger.notes import NoteStore
 
 FORM = {'Content-Type': 'application/x-www-form-urlencoded'}
 GROUP = {'concurrency': {'group': 'deploy'}}
@@ -114,7 +122,6 @@ def test_queries_of_any_form_are_answered(stage: Stage, query: str) -> None:
 
 @pytest.mark.parametrize('back', ['//evil.example', 'https://evil.example/', '/\\evil.example', 'javascript:alert(1)', '/a\r\nX: y', '', '/' + 'x' * 5000])
 def test_no_form_leads_to_another_site(stage: Stage, back: str) -> None:
-    from urllib.parse import urlencode
     answer = stage.hub.post('/-/theme', urlencode({'back': back, 'theme': 'dark'}), None, FORM)
     assert (answer.status, answer.headers['Location']) == (303, '/')
     assert 'theme=dark' in answer.headers['Set-Cookie'] and 'HttpOnly' in answer.headers['Set-Cookie']
@@ -137,3 +144,36 @@ def test_static_files_may_be_kept_once_their_address_says_their_content(stage: S
         answer = stage.hub.get(found[0])
         assert answer.status == 200 and 'immutable' in answer.headers['Cache-Control'] and answer.headers['X-Content-Type-Options'] == 'nosniff'
         assert 'immutable' not in stage.hub.get(f'/-/static/{name}?old').headers['Cache-Control']
+
+
+def test_annotations_summaries_and_artifacts_of_a_run(stage: Stage) -> None:
+    run = stage.admit('Say more', jobs={'build': {'runs-on': 'says-more', 'steps': [{'run': 'x'}]}})
+    leg = stage.claim('says-more')
+    leg.begin('Run it').say('it works').end().done()
+    other = stage.admit('Another', jobs=NOBODY)
+    token = stage.hub.token('reader', 'read')
+    stage.seen(run, 'completed')
+    made = io.BytesIO()
+    with zipfile.ZipFile(made, 'w') as archive:
+        archive.writestr('report.txt', 'fine')
+    stage.hub.kill()     # what the gateway keeps is written while nobody else writes
+    database = Database(stage.hub.state / 'ledger.sqlite')
+    database.open()
+    marks = {'annotations': [{'annotation_level': level, 'message': f'{level} <b>x</b>', 'title': None, 'path': 'a.py', 'start_line': 7} for level in ('notice', 'failure', 'warning')],
+             'summaries': ['# All <script>well</script>']}
+    NoteStore(database).set(run, 1, 'marks', 'build/0', marks)
+    kept = Retention()
+    upload = ArtifactStore(stage.hub.state / 'artifacts', database, kept.artifact_bytes, kept.artifacts_bytes_a_run, kept.artifacts_days).begin(run, 1, 'report 1; é')
+    upload.write(made.getvalue())
+    artifact = upload.finish()
+    database.close()
+    stage.hub.start()
+    stage.seen(other)
+    text = shown(stage, stage.page(run), token)
+    assert text.index('failure <b>x</b>') < text.index('warning <b>x</b>') < text.index('notice <b>x</b>') and 'a.py :7' in text
+    assert '# All <script>well</script>' in text and 'report 1; é' in text
+    assert '<script>well' not in stage.hub.get(stage.page(run), token).text
+    found = stage.hub.get(f'{stage.page(run)}/artifacts/{artifact.id}', token)
+    assert found.body == made.getvalue() and found.headers['Content-Disposition'] == 'attachment; filename="report_1___.zip"'
+    assert stage.hub.get(f'{stage.page(run)}/artifacts/{artifact.id}', stage.hub.token('other', 'read', repositories=('octo/other',))).status == 404
+    assert stage.hub.get(f'{stage.page(other)}/artifacts/{artifact.id}', token).status == 404

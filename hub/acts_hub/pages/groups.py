@@ -1,12 +1,13 @@
 """Concurrency groups: who holds each, and who waits behind whom."""
 from __future__ import annotations
 
+from collections.abc import Mapping
 from dataclasses import dataclass, field
 
 from aiohttp import web
 
 from ..access.identity import Right
-from ..service.models import Holder
+from ..service.models import Holder, Whole
 from .filters import words_of
 from .names import leg_link, leg_name, run_link, title_of, workflow_of
 from .site import Site, signed_in
@@ -34,12 +35,12 @@ class GroupRow:
     waiting: list[Member] = field(default_factory=list)
 
 
-async def _member(site: Site, holder: Holder) -> Member:
+def _member(site: Site, holder: Holder, wholes: Mapping[int, Whole]) -> Member:
     run = site.hub.mirror.runs[holder.run]
     about = f'{workflow_of(run)} #{run.row.number}'
     if holder.job is None:
         return Member(title_of(run), run_link(run), about, run.created_at)
-    whole = await site.hub.mirror.whole(holder.run)
+    whole = wholes.get(holder.run)
     for index, job in enumerate(whole.jobs if whole else ()):
         for leg in job.legs:
             if (job.id, leg.index) == (holder.job, holder.leg):
@@ -58,11 +59,12 @@ async def groups(site: Site, request: web.Request) -> web.StreamResponse:
         if part not in holder.group.casefold() and part not in holder.repository.casefold():
             continue
         found.setdefault((holder.repository.lower(), holder.group), []).append(holder)
-    rows = []
-    for members in list(found.values())[:MOST_GROUPS]:
+    rows, shown = [], list(found.values())[:MOST_GROUPS]
+    wholes = await site.wholes(one.run for members in shown for one in members if one.job is not None)
+    for members in shown:
         row = GroupRow(members[0].repository, members[0].group)
         for one in members:
-            (row.holders if one.state == 'in_progress' else row.waiting).append(await _member(site, one))
+            (row.holders if one.state == 'in_progress' else row.waiting).append(_member(site, one, wholes))
         rows.append(row)
     rows.sort(key=lambda row: (not row.waiting, row.repository.casefold(), row.group))
     return site.page(request, 'groups.html', title='Concurrency groups', active='groups', q=q, rows=rows, count=len(found),

@@ -3,6 +3,7 @@ from __future__ import annotations
 
 import asyncio
 import json
+from collections import Counter
 from collections.abc import AsyncIterator, Callable
 from contextlib import asynccontextmanager
 
@@ -11,7 +12,7 @@ from aiohttp import web
 from ..access.identity import Right, require
 from .site import HEADERS, Site, number_of
 
-MOST_STREAMS = 2_000
+MOST_STREAMS, MOST_OF_A_TOKEN = 2_000, 200
 BEAT, LIFE, SLOW = 15, 600, 20  # seconds: between two signs of life, of one stream, and that a client may take for one message
 MOST_IDS = 100
 
@@ -41,16 +42,18 @@ class Stream:
 @asynccontextmanager
 async def stream_of(site: Site, request: web.Request) -> AsyncIterator[Stream]:
     """A stream that has begun. When it ends for whatever reason, the client connects again by itself."""
-    if site.streams >= MOST_STREAMS:
-        raise web.HTTPServiceUnavailable(text='too many open pages')
-    site.streams += 1
+    identity = require(request, Right.READ)
+    if site.streams.total() >= MOST_STREAMS or site.streams[identity.token_id] >= MOST_OF_A_TOKEN:
+        raise web.HTTPServiceUnavailable(text='Too many pages are open.')
+    site.streams[identity.token_id] += 1
     try:
         response = web.StreamResponse(headers={**HEADERS, 'Content-Type': 'text/event-stream; charset=utf-8', 'X-Accel-Buffering': 'no'})
         await response.prepare(request)
         await response.write(b'retry: 1000\n\n')
         yield Stream(response)
     finally:
-        site.streams -= 1
+        site.streams[identity.token_id] -= 1
+        site.streams += Counter()  # forgets those without streams
 
 
 def wanted_of(site: Site, request: web.Request) -> Callable[[int], bool]:
@@ -95,4 +98,4 @@ async def changes(site: Site, request: web.Request) -> web.StreamResponse:
 
 def routes(site: Site) -> list[web.RouteDef]:
     """Where pages listen."""
-    return [site.get('/-/changes', changes)]
+    return [site.stream('/-/changes', changes)]

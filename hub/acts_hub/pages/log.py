@@ -129,7 +129,7 @@ async def log_page(site: Site, request: web.Request) -> web.StreamResponse:
     head = found.head
     return site.page(
         request, 'log.html', title=f'{row.name} · {head.title}', active='repositories', crumbs=[*crumbs_of(found), (row.name, '')], run=head,
-        can=buttons_of(site, request, found), approvals=awaited_jobs(site, found), nodes=nodes_of(found, now()), job_link=base, job=job, steps=read.steps, q=q, hits=read.hits,
+        can=await buttons_of(site, request, found), approvals=awaited_jobs(site, found), nodes=nodes_of(found, now()), job_link=base, job=job, steps=read.steps, q=q, hits=read.hits,
         hits_left=read.has_more_hits, no_log=_no_log(row), is_log=not is_over, changes='' if not is_over and file else f'/-/changes?run={head.id}')
 
 
@@ -238,7 +238,7 @@ class Follower:
 
     def __init__(self, site: Site, found: Shown, row: LegRow, stream: Stream, position: Position) -> None:
         self.site, self.found, self.row, self.stream, self.position = site, found, row, stream, position
-        self.marks: tuple[Any, ...] | None = None
+        self.marks: tuple[Any, ...] | None = None if position.offset else ()
         self.is_over = False
 
     async def look(self) -> bool:
@@ -330,4 +330,4 @@ async def events(site: Site, request: web.Request) -> web.StreamResponse:
 def routes(site: Site) -> list[web.RouteDef]:
     """Logs of legs."""
     base = '/{owner}/{repo}/actions/runs/{run}/job/{job}'
-    return [site.get(base, log_page), site.get(f'{base}/lines', lines), site.get(f'{base}/raw', raw), site.get(f'{base}/events', events)]
+    return [site.get(base, log_page), site.get(f'{base}/lines', lines), site.get(f'{base}/raw', raw), site.stream(f'{base}/events', events)]

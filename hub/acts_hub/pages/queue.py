@@ -12,7 +12,7 @@ from .names import leg_link, leg_name, run_link, title_of, workflow_of
 from .site import Site, signed_in
 from .waiting import Why, able, of_group, of_wait, own_labels
 
-MOST_ROWS, MOST_LABELS, MOST_RUNS = 100, 50, 50
+MOST_ROWS, MOST_LABELS, MOST_RUNS = 100, 50, 30
 
 
 @dataclass(frozen=True)
@@ -54,9 +54,9 @@ async def queue(site: Site, request: web.Request) -> web.StreamResponse:
     counts = Counter((own_labels(one.labels), runs[one.run].row.repository) for one in ready)
     labels = [Labels(asked, count, able(asked, repository, facts)) for (asked, repository), count in counts.most_common(MOST_LABELS)]
     rows: list[Waiting] = []
-    for number in list(dict.fromkeys(one.run for one in ready))[:MOST_RUNS]:
-        whole = await site.hub.mirror.whole(number)
-        for index, job in enumerate(whole.jobs if whole else ()):
+    wholes = await site.wholes(list(dict.fromkeys(one.run for one in ready))[:MOST_RUNS])
+    for number, whole in wholes.items():
+        for index, job in enumerate(whole.jobs):
             for leg in job.legs:
                 run = runs[number]
                 approved = site.is_approved(number, run.row.attempt)

@@ -91,7 +91,7 @@ async def run_page(site: Site, request: web.Request) -> web.StreamResponse:
     artifacts = [ArtifactRow(one.name, f'{found.head.base}/artifacts/{one.id}', one.size, one.created_at) for one in kept]
     return site.page(
         request, 'run.html', title=f'{found.head.title} #{found.head.number} · {found.repository}', active='repositories', crumbs=crumbs_of(found),
-        run=found.head, can=buttons_of(site, request, found), approvals=awaited_jobs(site, found), nodes=nodes, job_link='', reasons=reasons,
+        run=found.head, can=await buttons_of(site, request, found), approvals=awaited_jobs(site, found), nodes=nodes, job_link='', reasons=reasons,
         reasons_left=max(0, len(failed) - MOST_REASONS), waits=await waits_of(site, found), displaced=displaced(site, found),
         wide=graph.drawing(nodes), narrow=graph.narrow(nodes), legs=legs[:MOST_LEGS], legs_left=max(0, len(legs) - MOST_LEGS),
         annotations=annotations_of(site, found), summaries=summaries_of(site, found), artifacts=artifacts, changes=f'/-/changes?run={found.head.id}')

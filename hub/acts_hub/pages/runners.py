@@ -1,12 +1,13 @@
 """Runners: those at work and those that are there before those of which nobody has heard for long."""
 from __future__ import annotations
 
+from collections.abc import Mapping
 from dataclasses import dataclass
 
 from aiohttp import web
 
 from ..access.identity import Right
-from ..service.models import Runner
+from ..service.models import Runner, Whole
 from . import moments, states
 from .filters import words_of
 from .names import leg_link, leg_name
@@ -30,13 +31,13 @@ class RunnerRow:
     heard: str
 
 
-async def _row(site: Site, request: web.Request, runner: Runner) -> RunnerRow:
+def _row(site: Site, request: web.Request, runner: Runner, wholes: Mapping[int, Whole]) -> RunnerRow:
     sign = BUSY if runner.lease else IDLE if is_there(runner) else GONE
     link = leg = repository = ''
     lease = runner.lease
     run = site.hub.mirror.runs.get(lease.run) if lease else None
     if lease is not None and run is not None and site.may(request, Right.READ, run.row.repository):
-        whole = await site.hub.mirror.whole(lease.run)
+        whole = wholes.get(lease.run)
         for index, job in enumerate(whole.jobs if whole else ()):
             for one in job.legs:
                 if (job.id, one.index) == (lease.job, lease.leg):
@@ -56,10 +57,11 @@ async def runners(site: Site, request: web.Request) -> web.StreamResponse:
     order = sorted(every, key=lambda one: (one.heard_seconds_ago is None, one.heard_seconds_ago, one.name))
     kinds = {'At work': [one for one in order if one.lease], 'Idle': [one for one in order if not one.lease and is_there(one)],
              'Away': [one for one in order if not is_there(one)]}
+    wholes = await site.wholes(one.lease.run for one in kinds['At work'][:MOST_SHOWN] if one.lease and one.lease.run in site.hub.mirror.runs)
     sections = []
     for title, found in kinds.items():
         most = MOST_AWAY if title == 'Away' else MOST_SHOWN
-        sections.append((title, [await _row(site, request, one) for one in found[:most]], max(0, len(found) - most)))
+        sections.append((title, [_row(site, request, one, wholes) for one in found[:most]], max(0, len(found) - most)))
     counts = {'busy': len(kinds['At work']), 'idle': len(kinds['Idle']), 'away': len(kinds['Away']), 'all': len(every)}
     return site.page(request, 'runners.html', title='Runners', active='runners', q=q, counts=counts, sections=sections,
                      away_words=moments.lasted(AWAY * 1000), changes='/-/changes', every=10)

@@ -1,10 +1,12 @@
 """What all pages share: templates, static files, faults as pages, and who looks."""
 from __future__ import annotations
 
+import asyncio
 import bisect
 import functools
 import hashlib
 import pathlib
+from collections import Counter
 from collections.abc import Awaitable, Callable, Iterable, Mapping, Sequence
 from typing import TYPE_CHECKING, Any
 from urllib.parse import quote
@@ -17,7 +19,7 @@ from ..events.waits import unclaimable_labels
 from ..gateway import Gateway
 from ..service.http import Away
 from ..service.mirror import Run
-from ..service.models import Holder, Runner
+from ..service.models import Holder, Runner, Whole
 from ..times import now
 from . import moments, states, texts
 from .files import WorkflowFiles
@@ -29,6 +31,7 @@ if TYPE_CHECKING:
     from ..hub import Hub
 
 HERE = pathlib.Path(__file__).parent
+AT_ONCE = 8  # requests to the service for one page
 THEMES = ('system', 'light', 'dark')
 STATIC = {'hub.css': 'text/css', 'hub.js': 'text/javascript', 'mark.svg': 'image/svg+xml'}
 HEADERS = {
@@ -52,7 +55,7 @@ class Site:
         self.hub = hub
         self.statics = {name: (HERE / 'static' / name).read_bytes() for name in STATIC}
         self.digests = {name: hashlib.sha256(data).hexdigest()[:12] for name, data in self.statics.items()}
-        self.streams = 0
+        self.streams: Counter[int] = Counter()  # open streams of events, by the token of who looks
         self.logs = LogFiles(hub.logs)
         self.files = WorkflowFiles(hub)
         self.seen_paths: dict[str, tuple[int, dict[str, None]]] = {}
@@ -143,9 +146,12 @@ class Site:
         self.seen_paths[name] = runs.ids[-1], paths
         return list(paths)
 
-    def supports(self, command: str) -> bool:
+    async def supports(self, command: str) -> bool:
         """Whether the service has a command that not every version has."""
-        return bool(getattr(self.hub.hooks, 'supports', lambda _: False)(command))
+        try:
+            return await self.hub.hooks.supports(command)
+        except Away:
+            return False
 
     async def holders(self, repository: str | None = None) -> list[Holder]:
         """Who holds concurrency groups, or waits for them."""
@@ -155,6 +161,16 @@ class Site:
     async def runners(self) -> list[Runner]:
         """The runners that have ever claimed."""
         return await self.runners_lately.get()
+
+    async def wholes(self, runs: Iterable[int]) -> dict[int, Whole]:
+        """These runs with their jobs, as far as they are known."""
+        gate = asyncio.Semaphore(AT_ONCE)
+
+        async def one(run: int) -> tuple[int, Whole | None]:
+            async with gate:
+                return run, await self.hub.mirror.whole(run)
+        found = await asyncio.gather(*(one(run) for run in dict.fromkeys(runs)))
+        return {run: whole for run, whole in found if whole is not None}
 
     async def facts(self, waits: Iterable[str], run: int = 0, attempt: int = 0) -> Facts:
         """What reasons of these kinds are made of, such as `group` and `runner`."""
@@ -197,6 +213,10 @@ class Site:
     def get(self, path: str, handler: Handler) -> web.RouteDef:
         """A route of a page."""
         return web.get(path, functools.partial(_guarded, self, handler))
+
+    def stream(self, path: str, handler: Handler) -> web.RouteDef:
+        """A route of events, which HEAD does not have."""
+        return web.get(path, functools.partial(_guarded, self, handler), allow_head=False)
 
     def post(self, path: str, handler: Handler) -> web.RouteDef:
         """A route of a button."""

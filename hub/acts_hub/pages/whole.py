@@ -187,7 +187,7 @@ def leg_of(found: Shown, number: JobNumber) -> LegRow:
     raise web.HTTPNotFound(text='The run has no such job in this attempt.')
 
 
-def buttons_of(site: Site, request: web.Request, found: Shown) -> Buttons:
+async def buttons_of(site: Site, request: web.Request, found: Shown) -> Buttons:
     """The buttons that who looks may press, and the service can do."""
     row = found.run.row
     if not site.may(request, Right.WRITE, found.repository) or found.attempt != row.attempt:
@@ -195,8 +195,8 @@ def buttons_of(site: Site, request: web.Request, found: Shown) -> Buttons:
     is_over, stopping = row.status == 'completed', bool(found.whole and found.whole.stopping)
     failed = row.conclusion in ('failure', 'cancelled')
     return Buttons(
-        cancel=not is_over and not stopping, force=not is_over and stopping and site.supports('force'), rerun=is_over,
-        rerun_failed=is_over and failed and site.supports('retry'), approve=bool(awaited_jobs(site, found)))
+        cancel=not is_over and not stopping, force=not is_over and stopping and await site.supports('force'), rerun=is_over,
+        rerun_failed=is_over and failed and await site.supports('retry'), approve=bool(awaited_jobs(site, found)))
 
 
 def awaited_jobs(site: Site, found: Shown) -> list[str]:

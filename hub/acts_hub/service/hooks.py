@@ -2,11 +2,14 @@
 from __future__ import annotations
 
 import re
+import time
 from dataclasses import dataclass
 from urllib.parse import quote
 
 from .http import Away, ServiceClient, Unsupported
 
+NEWER = {'retry': '/runs/1/attempts/2/failed-jobs', 'force': '/runs/1/force-cancel'}
+SUPPORTED_SECONDS = 60
 REASONS = {
     40: 'there is no such run', 41: 'the run has completed', 43: 'the run is at another attempt', 44: 'the runner does not hold a lease',
     45: 'there is no such runner', 46: 'the history of the service is full', 47: 'the file of the service is full', 48: 'a counter of the service is at its last value',
@@ -47,6 +50,7 @@ class HookPort:
 
     def __init__(self, address: str) -> None:
         self.client = ServiceClient(address)
+        self._supported: dict[str, tuple[float, bool]] = {}
 
     async def close(self) -> None:
         """Closes its connections."""
@@ -79,6 +83,15 @@ class HookPort:
     async def force(self, run: int) -> Reply:
         """Ends a run that was asked to stop, whatever its runners do."""
         return await self._newer(f'/runs/{run:d}/force-cancel')
+
+    async def supports(self, command: str) -> bool:
+        """Whether the service has `retry` or `force`, which not every version has. GET shows it, which is no entry of the history: a path that is known answers 405."""
+        late, found = self._supported.get(command, (0.0, False))
+        if time.monotonic() >= late:
+            status, _ = await self.client.request('GET', NEWER[command])
+            found = status == 405
+            self._supported[command] = time.monotonic() + SUPPORTED_SECONDS, found
+        return found
 
     async def _newer(self, path: str) -> Reply:
         reply = await self._post(path)

@@ -80,7 +80,7 @@ async function renew() {
     tell('off', 'no answer: what is shown may be older');
   }
   took = performance.now() - began;
-  setTimeout(() => { asking = false; if (again) { again = false; renew(); } }, Math.min(1000, Math.max(50, took)));
+  setTimeout(() => { asking = false; if (again) { again = false; renew(); } }, Math.min(3000, Math.max(400, 4 * took)));
 }
 
 function follow(address) {
@@ -159,7 +159,7 @@ function followLog(address) {
   source.addEventListener('open', () => tell('on', 'live'));
   source.addEventListener('lines', event => {
     const told = JSON.parse(event.data), step = stepOf(told.step);
-    if (!step) { renew(); return; }
+    if (!step) { renewSteps(); return; }
     if (told.skipped) fill(step, '');
     else if (step.dataset.filled === 'yes') takeLines(step, new DOMParser().parseFromString(told.html, 'text/html'));
   });
